@@ -1,0 +1,33 @@
+-- Where a byte first stands, and what stands before and behind it.
+use Rattle.std.proofs.Common.{◌≡◌, ℕ, zero, suc, ◌<◌, Bool, true, false, List, [], ◌∷◌, Some, None, Option, MatchOption, length, refl, ap, arith, add-one}
+use Rattle.std.specs.Prelude.{◌==◌, slice_index}
+use Rattle.std.proofs.lemmas.Bool.Decides.{nat_tests}
+use Rattle.memchr.specs.Find.{is_byte, IsFirstByte}
+use Rattle.iri_grammar.specs.Cut.{CutAt, NoCut}
+
+false-where : (b : Bool) → (b ≡ true → ⊥) → b ≡ false
+false-where true n = absurd (n refl)
+false-where false n = refl
+
+equal-where : (x c : ℕ) → (x == c) ≡ true → x ≡ c
+equal-where x c h = grind (arith, nat_tests)
+
+cut_at : (c : ℕ) (bs : List ℕ) (k : ℕ) → k < length bs → ((j : ℕ) → j < k → (slice_index bs j == c) ≡ true → ⊥) → (slice_index bs k == c) ≡ true → CutAt c bs k
+cut_at c [] k l n p = absurd (omega arith)
+cut_at c (x ∷ xs) zero l n p = record { inside = l; byte = equal-where x c p; front = rw p refl; rest = rw p refl; tail = rw p refl; has = rw p refl }
+cut_at c (x ∷ xs) (suc k) l n p =
+    let miss : (x == c) ≡ false = false-where (x == c) (n 0 (omega arith)) in
+    let h = cut_at c xs k (omega arith) (λ j b. n (suc j) (omega arith)) p in
+    record { inside = l; byte = h.byte; front = rw miss (ap (λ ys. x ∷ ys) h.front); rest = rw miss h.rest; tail = rw (miss, add-one) (rw add-one at h.tail); has = rw miss h.has }
+
+none_at : (c : ℕ) (bs : List ℕ) → ((j : ℕ) → j < length bs → (slice_index bs j == c) ≡ true → ⊥) → NoCut c bs
+none_at c [] n = record { front = refl; rest = refl; tail = refl; has = refl }
+none_at c (x ∷ xs) n =
+    let miss : (x == c) ≡ false = false-where (x == c) (n 0 (omega arith)) in
+    let h = none_at c xs (λ j b. n (suc j) (omega arith)) in
+    record { front = rw miss (ap (λ ys. x ∷ ys) h.front); rest = rw miss h.rest; tail = rw miss h.tail; has = rw miss h.has }
+
+-- what `memchr` says, in these words
+pub found : (c : ℕ) (bs : List ℕ) (r : Option ℕ) → IsFirstByte (is_byte c) bs r → MatchOption r (NoCut c bs) (λ k. CutAt c bs k)
+found c bs None h = none_at c bs (λ j b. h j (omega arith) b)
+found c bs (Some k) h = cut_at c bs k h.0.high (λ j b. h.0.before j (omega arith) b) h.1

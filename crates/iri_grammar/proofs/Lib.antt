@@ -1,0 +1,9 @@
+pub mod CutLemmas
+pub mod Tables
+pub mod Units
+pub mod MarkLemmas
+pub mod Octets
+pub mod Marks
+pub mod Groups
+pub mod Doubles
+pub mod Ports

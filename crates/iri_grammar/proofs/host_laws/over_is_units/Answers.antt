@@ -1,0 +1,5 @@
+use Rattle.iri_grammar.specs.OverLaws.{over-from_units, units-from_over}
+use Rattle.iri_grammar.proofs.host_laws.over_is_units.Goals as goal
+
+pub returns : goal.returns
+returns c = λ p cs n. (λ h. units-from_over p cs h, λ u. over-from_units p cs n u)

@@ -1,0 +1,16 @@
+use Rattle.std.proofs.Common.{◌≡◌, length}
+use denote.Text.{Utf8}
+use denote.Shadow.{shadow}
+use Rattle.iri_grammar.specs.Pieces.{pieces}
+use Rattle.iri_grammar.specs.Ipv4.{is_ipv4}
+use Rattle.iri_grammar.proofs.Octets.{octets_left}
+use Rattle.iri_grammar.proofs.ipv4.is_ipv4.Given as goal
+
+abbrev pub invariant-octets : goal.invariant-octets
+invariant-octets l = record {
+  utf8 : shadow (Utf8 l.rest);
+  same : octets_left l.left (pieces 46 l.rest) ≡ is_ipv4 l.s;
+}
+
+abbrev pub decreases-octets : goal.decreases-octets
+decreases-octets l = length l.rest

@@ -1,0 +1,9 @@
+use Rattle.std.proofs.Common.{arith, subst}
+use Rattle.std.proofs.lemmas.Str.{lead_after_ascii}
+use Rattle.iri_grammar.specs.Marks.{SchemeAt}
+use Rattle.iri_grammar.proofs.splitter.cut_scheme.Goals as goal
+
+pub range_from-requires : goal.range_from-requires
+range_from-requires c _ =
+    let at = subst (λ bs. SchemeAt bs c.in-Some.i) c.as_bytes.ensures.value c.in-Some.ensures in
+    (omega (arith, at.inside), λ l h. lead_after_ascii c.args.s.now c.in-Some.i c.utf8.s (omega (arith, at.byte)) l h)

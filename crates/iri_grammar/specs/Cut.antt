@@ -1,0 +1,43 @@
+-- A text cut at its first mark c. A text is the list of its bytes.
+use Rattle.std.specs.Prelude.{◌≡◌, ℕ, Bool, true, false, cond, not, ◌&&◌, ◌==◌, List, [], ◌∷◌, Option, Some, None, ◌+◌, ◌<◌, length, take, drop, slice_index}
+
+-- what stands before the first c, or all
+abbrev pub before : ℕ → List ℕ → List ℕ
+before c [] = []
+before c (x ∷ xs) = cond (x == c) [] (x ∷ before c xs)
+
+-- the rest from the first c on, or nothing
+abbrev pub from : ℕ → List ℕ → List ℕ
+from c [] = []
+from c (x ∷ xs) = cond (x == c) (x ∷ xs) (from c xs)
+
+-- what stands behind the first c, where there is one
+abbrev pub behind : ℕ → List ℕ → Option (List ℕ)
+behind c [] = None
+behind c (x ∷ xs) = cond (x == c) (Some xs) (behind c xs)
+
+-- there is no c
+abbrev pub lacks : ℕ → List ℕ → Bool
+lacks c [] = true
+lacks c (x ∷ xs) = not (x == c) && lacks c xs
+
+-- a mark and the part behind it, where the part stands
+abbrev pub marked : ℕ → Option (List ℕ) → List ℕ
+marked c None = []
+marked c (Some xs) = c ∷ xs
+
+-- the first c stands at k
+pub record CutAt (c : ℕ) (bs : List ℕ) (k : ℕ) : Type 0 where
+  pub inside : k < length bs
+  pub byte : slice_index bs k ≡ c
+  pub front : take k bs ≡ before c bs
+  pub rest : drop k bs ≡ from c bs
+  pub tail : Some (drop (k + 1) bs) ≡ behind c bs
+  pub has : lacks c bs ≡ false
+
+-- no c stands in the text
+pub record NoCut (c : ℕ) (bs : List ℕ) : Type 0 where
+  pub front : bs ≡ before c bs
+  pub rest : [] ≡ from c bs
+  pub tail : None ≡ behind c bs
+  pub has : lacks c bs ≡ true

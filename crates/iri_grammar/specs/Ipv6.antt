@@ -1,0 +1,45 @@
+-- IPv6 texts (RFC 3986 section 3.2.2).
+use Rattle.std.specs.Prelude.{◌≡◌, ℕ, ◌+◌, ◌≤◌, ◌⊎◌, Bool, true, cond, ◌&&◌, ◌||◌, List, [], ◌∷◌, ◌++◌, length, nat_lt}
+use Rattle.std.specs.Char.{is_ascii_hexdigit}
+use Rattle.std.specs.List.{list_all}
+use Rattle.iri_grammar.specs.Pieces.{joined}
+use Rattle.iri_grammar.specs.Ipv4.{is_ipv4}
+
+-- `h16`, a group: one to four hex digits
+unfoldable pub is_group : List ℕ → Bool
+is_group p = list_all is_ascii_hexdigit p && nat_lt 0 (length p) && nat_lt (length p) 5
+
+-- each part is a group
+abbrev pub are_groups : List (List ℕ) → Bool
+are_groups ps = list_all is_group ps
+
+-- each part is a group, and the last one may be an IPv4 text instead
+abbrev pub are_groups_or_ipv4 : List (List ℕ) → Bool
+are_groups_or_ipv4 [] = true
+are_groups_or_ipv4 (p ∷ []) = is_group p || is_ipv4 p
+are_groups_or_ipv4 (p ∷ q ∷ ps) = is_group p && are_groups_or_ipv4 (q ∷ ps)
+
+-- how many groups the parts are; an IPv4 text counts as two
+abbrev pub units : List (List ℕ) → ℕ
+units [] = 0
+units (p ∷ ps) = cond (is_ipv4 p) 2 1 + units ps
+
+-- eight groups with colons between them, and no `::`
+pub record IsFullIpv6 (t : List ℕ) : Type 0 where
+  pub parts : List (List ℕ)
+  pub groups : are_groups_or_ipv4 parts ≡ true
+  pub text : t ≡ joined 58 parts
+  pub count : units parts ≡ 8
+
+-- one `::` and at most seven groups; an IPv4 text may stand at the end alone
+pub record IsShortenedIpv6 (t : List ℕ) : Type 0 where
+  pub front : List (List ℕ)
+  pub back : List (List ℕ)
+  pub front_groups : are_groups front ≡ true
+  pub back_groups : are_groups_or_ipv4 back ≡ true
+  pub text : t ≡ joined 58 front ++ (58 ∷ 58 ∷ joined 58 back)
+  pub count : units front + units back ≤ 7
+
+-- `IPv6address`
+abbrev pub IsIpv6 : List ℕ → Type 0
+IsIpv6 t = IsFullIpv6 t ⊎ IsShortenedIpv6 t

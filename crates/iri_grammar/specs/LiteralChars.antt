@@ -1,0 +1,215 @@
+-- The characters of an IP literal.
+use Rattle.std.proofs.Common.{◌≡◌, ℕ, Bool, true, false, cond, ◌&&◌, ◌||◌, List, [], ◌∷◌, ◌++◌, Option, Some, None, refl, ◌∙◌, subst, arith}
+use Rattle.std.specs.Prelude.{◌==◌}
+use Rattle.std.specs.Char.{is_ascii_hexdigit, is_ascii_digit}
+use Rattle.std.specs.List.{list_all}
+use Rattle.std.proofs.lemmas.List.Folds.{list_all-append}
+use Rattle.std.proofs.lemmas.Bool.Decides.{nat_tests}
+use Rattle.iri_grammar.specs.Classes.{is_ascii_userinfo, is_ascii_reg_name, is_ascii_unreserved, is_sub_delim}
+use Rattle.iri_grammar.specs.Pieces.{pieces, onto}
+use Rattle.iri_grammar.specs.Ipv4.{is_ipv4, is_dec_octet, is_hundreds, are_four_octets}
+use Rattle.iri_grammar.specs.Ipv6.{is_group, are_groups, are_groups_or_ipv4, units}
+use Rattle.iri_grammar.specs.Ipv6Test.{begins, tail, before_double, behind_double, parts_of, is_ipv6_around, is_ipv6}
+use Rattle.iri_grammar.specs.IpLiteral.{some_of, is_future_address, is_ipvfuture, is_end, is_ip_literal}
+use Rattle.iri_grammar.specs.Cut.{before, behind, marked}
+use Rattle.iri_grammar.specs.CutLaws.{by_test, both, joined}
+
+-- brackets, and what stands in them: hex digits, `.`, `:` and the other ASCII characters of a userinfo
+unfoldable pub is_literal_char : ℕ → Bool
+is_literal_char c = is_ascii_userinfo c || (c == 91 || c == 93)
+
+pub all-weaken : (p q : ℕ → Bool) → ((c : ℕ) → p c ≡ true → q c ≡ true) → (xs : List ℕ) → list_all p xs ≡ true → list_all q xs ≡ true
+all-weaken p q w [] h = refl
+all-weaken p q w (x ∷ xs) h = let k = both (p x) (list_all p xs) h in rw (w x k.0) (all-weaken p q w xs k.1)
+
+pub all-join : (p : ℕ → Bool) (xs ys : List ℕ) → list_all p xs ≡ true → list_all p ys ≡ true → list_all p (xs ++ ys) ≡ true
+all-join p xs ys h k = list_all-append p xs ys ∙ rw (h, k) refl
+
+hex-literal : (c : ℕ) → is_ascii_hexdigit c ≡ true → is_literal_char c ≡ true
+unfolding is_literal_char is_ascii_userinfo is_ascii_reg_name is_ascii_unreserved is_sub_delim
+hex-literal c h = grind (arith, nat_tests)
+
+digit-literal : (c : ℕ) → is_ascii_digit c ≡ true → is_literal_char c ≡ true
+unfolding is_literal_char is_ascii_userinfo is_ascii_reg_name is_ascii_unreserved is_sub_delim
+digit-literal c h = grind (arith, nat_tests)
+
+userinfo-literal : (c : ℕ) → is_ascii_userinfo c ≡ true → is_literal_char c ≡ true
+unfolding is_literal_char
+userinfo-literal c h = rw h refl
+
+dot-literal : is_literal_char 46 ≡ true
+unfolding is_literal_char is_ascii_userinfo is_ascii_reg_name is_ascii_unreserved is_sub_delim
+dot-literal = refl
+
+colon-literal : is_literal_char 58 ≡ true
+unfolding is_literal_char is_ascii_userinfo is_ascii_reg_name is_ascii_unreserved is_sub_delim
+colon-literal = refl
+
+-- ---- pieces
+onto-all : (p : ℕ → Bool) (x : ℕ) (ps : List (List ℕ)) → list_all (list_all p) (onto x ps) ≡ true → (p x ≡ true) × (list_all (list_all p) ps ≡ true)
+onto-all p x [] h = let k = both (p x && true) true h in let m = both (p x) true k.0 in (m.0, refl)
+onto-all p x (q ∷ ps) h =
+    let k = both (p x && list_all p q) (list_all (list_all p) ps) h in
+    let m = both (p x) (list_all p q) k.0 in
+    (m.0, rw (m.1, k.1) refl)
+
+pieces-all : (p : ℕ → Bool) (d : ℕ) (xs : List ℕ) → p d ≡ true → list_all (list_all p) (pieces d xs) ≡ true → list_all p xs ≡ true
+pieces-all p d [] m h = refl
+pieces-all p d (x ∷ xs) m h =
+    by_test x d (λ b. list_all (list_all p) (cond b ([] ∷ pieces d xs) (onto x (pieces d xs))) ≡ true → (p x && list_all p xs) ≡ true)
+    (λ e k. rw (e, m) (pieces-all p d xs m k))
+    (λ _ k. let o = onto-all p x (pieces d xs) k in rw o.0 (pieces-all p d xs m o.1))
+    h
+
+-- ---- IPv4
+hundreds-digits : (a b c : ℕ) → is_hundreds a b c ≡ true → (is_ascii_digit a ≡ true) × (is_ascii_digit b ≡ true) × (is_ascii_digit c ≡ true)
+unfolding is_hundreds
+hundreds-digits a b c h = (grind (arith, nat_tests), grind (arith, nat_tests), grind (arith, nat_tests))
+
+pub octet-digits : (xs : List ℕ) → is_dec_octet xs ≡ true → list_all is_ascii_digit xs ≡ true
+octet-digits [] h = refl
+octet-digits (a ∷ []) h = rw h refl
+octet-digits (a ∷ b ∷ []) h = grind (arith, nat_tests)
+octet-digits (a ∷ b ∷ c ∷ []) h = let k = hundreds-digits a b c h in rw (k.0, k.1, k.2) refl
+octet-digits (a ∷ b ∷ c ∷ d ∷ ds) h = cc
+
+octet-literal : (xs : List ℕ) → is_dec_octet xs ≡ true → list_all is_literal_char xs ≡ true
+octet-literal xs h = all-weaken is_ascii_digit is_literal_char digit-literal xs (octet-digits xs h)
+
+octets-literal : (ps : List (List ℕ)) → are_four_octets ps ≡ true → list_all (list_all is_literal_char) ps ≡ true
+octets-literal [] h = refl
+octets-literal (a ∷ []) h = cc
+octets-literal (a ∷ b ∷ []) h = cc
+octets-literal (a ∷ b ∷ c ∷ []) h = cc
+octets-literal (a ∷ b ∷ c ∷ d ∷ []) h =
+    let k : (is_dec_octet a ≡ true) × (is_dec_octet b ≡ true) × (is_dec_octet c ≡ true) × (is_dec_octet d ≡ true) = four (is_dec_octet a) (is_dec_octet b) (is_dec_octet c) (is_dec_octet d) h in
+    rw (octet-literal a k.0, octet-literal b k.1, octet-literal c k.2, octet-literal d k.3) refl
+  where
+    four : (a b c d : Bool) → (a && b && c && d) ≡ true → (a ≡ true) × (b ≡ true) × (c ≡ true) × (d ≡ true)
+    four true true true d h = (refl, refl, refl, h)
+    four true true false d h = cc
+    four true false c d h = cc
+    four false b c d h = cc
+octets-literal (a ∷ b ∷ c ∷ d ∷ e ∷ ps) h = cc
+
+pub ipv4-literal : (xs : List ℕ) → is_ipv4 xs ≡ true → list_all is_literal_char xs ≡ true
+ipv4-literal xs h = pieces-all is_literal_char 46 xs dot-literal (octets-literal (pieces 46 xs) h)
+
+-- ---- IPv6
+group-literal : (xs : List ℕ) → is_group xs ≡ true → list_all is_literal_char xs ≡ true
+unfolding is_group
+group-literal xs h = all-weaken is_ascii_hexdigit is_literal_char hex-literal xs (one (list_all is_ascii_hexdigit xs) _ _ h)
+  where
+    one : (a b c : Bool) → (a && b && c) ≡ true → a ≡ true
+    one true b c h = refl
+    one false b c h = cc
+
+groups-literal : (ps : List (List ℕ)) → are_groups ps ≡ true → list_all (list_all is_literal_char) ps ≡ true
+groups-literal [] h = refl
+groups-literal (p ∷ ps) h = let k = both (is_group p) (are_groups ps) h in rw (group-literal p k.0) (groups-literal ps k.1)
+
+last-literal : (p : List ℕ) → (is_group p || is_ipv4 p) ≡ true → list_all is_literal_char p ≡ true
+last-literal p h =
+    elim (is_group p) as (λ b. is_group p ≡ b → (b || is_ipv4 p) ≡ true → list_all is_literal_char p ≡ true) [
+      | true ↦ λ e _. group-literal p e
+      | false ↦ λ _ k. ipv4-literal p k
+    ] refl h
+
+mixed-literal : (ps : List (List ℕ)) → are_groups_or_ipv4 ps ≡ true → list_all (list_all is_literal_char) ps ≡ true
+mixed-literal [] h = refl
+mixed-literal (p ∷ []) h = rw (last-literal p h) refl
+mixed-literal (p ∷ q ∷ ps) h = let k = both (is_group p) (are_groups_or_ipv4 (q ∷ ps)) h in rw (group-literal p k.0) (mixed-literal (q ∷ ps) k.1)
+
+parts-literal : (xs : List ℕ) → list_all (list_all is_literal_char) (parts_of xs) ≡ true → list_all is_literal_char xs ≡ true
+parts-literal [] h = refl
+parts-literal (x ∷ xs) h = pieces-all is_literal_char 58 (x ∷ xs) colon-literal h
+
+abbrev all_there : Option (List ℕ) → Bool
+all_there None = true
+all_there (Some xs) = list_all is_literal_char xs
+
+begun : (xs : List ℕ) → begins 58 xs ≡ true → list_all is_literal_char (tail xs) ≡ true → list_all is_literal_char xs ≡ true
+begun [] h k = refl
+begun (x ∷ xs) h k = by_test x 58 (λ b. b ≡ true → (is_literal_char x && list_all is_literal_char xs) ≡ true) (λ e _. rw (e, colon-literal) k) (λ _ n. cc) h
+
+double-literal : (xs : List ℕ) → list_all is_literal_char (before_double xs) ≡ true → all_there (behind_double xs) ≡ true → list_all is_literal_char xs ≡ true
+double-literal [] h k = refl
+double-literal (x ∷ xs) h k =
+    elim (x == 58 && begins 58 xs) as (λ b. (x == 58 && begins 58 xs) ≡ b
+    → list_all is_literal_char (cond b [] (x ∷ before_double xs)) ≡ true
+    → all_there (cond b (Some (tail xs)) (behind_double xs)) ≡ true
+    → (is_literal_char x && list_all is_literal_char xs) ≡ true) [
+      | true ↦ λ e _ m. let t = both (x == 58) (begins 58 xs) e in begun (x ∷ xs) t.0 (begun xs t.1 m)
+      | false ↦ λ _ l m. let t = both (is_literal_char x) (list_all is_literal_char (before_double xs)) l in rw t.0 (double-literal xs t.1 m)
+    ] refl h k
+
+around-literal : (front : List ℕ) (back : Option (List ℕ)) → is_ipv6_around front back ≡ true → (list_all is_literal_char front ≡ true) × (all_there back ≡ true)
+around-literal front None h = (parts-literal front (mixed-literal (parts_of front) (both (are_groups_or_ipv4 (parts_of front)) (units (parts_of front) == 8) h).0), refl)
+around-literal front (Some back) h =
+    let k = three (are_groups (parts_of front)) (are_groups_or_ipv4 (parts_of back)) _ h in
+    (parts-literal front (groups-literal (parts_of front) k.0), parts-literal back (mixed-literal (parts_of back) k.1))
+  where
+    three : (a b c : Bool) → (a && b && c) ≡ true → (a ≡ true) × (b ≡ true)
+    three true true c h = (refl, refl)
+    three true false c h = cc
+    three false b c h = cc
+
+ipv6-literal : (xs : List ℕ) → is_ipv6 xs ≡ true → list_all is_literal_char xs ≡ true
+ipv6-literal xs h = let k = around-literal (before_double xs) (behind_double xs) h in double-literal xs k.0 k.1
+
+-- ---- IPvFuture
+some-all : (p : ℕ → Bool) (xs : List ℕ) → some_of p xs ≡ true → list_all p xs ≡ true
+some-all p [] h = refl
+some-all p (x ∷ xs) h = h
+
+address-literal : (o : Option (List ℕ)) → is_future_address o ≡ true → list_all is_literal_char (marked 46 o) ≡ true
+address-literal None h = refl
+address-literal (Some xs) h = rw dot-literal (all-weaken is_ascii_userinfo is_literal_char userinfo-literal xs (some-all is_ascii_userinfo xs h))
+
+version-literal : (v : ℕ) → (v == 118 || v == 86) ≡ true → is_literal_char v ≡ true
+unfolding is_literal_char is_ascii_userinfo is_ascii_reg_name is_ascii_unreserved is_sub_delim
+version-literal v h = grind (arith, nat_tests)
+
+future-literal : (xs : List ℕ) → is_ipvfuture xs ≡ true → list_all is_literal_char xs ≡ true
+future-literal [] h = refl
+future-literal (v ∷ xs) h =
+    let k = three (v == 118 || v == 86) (some_of is_ascii_hexdigit (before 46 xs)) (is_future_address (behind 46 xs)) h in
+    let digits = all-weaken is_ascii_hexdigit is_literal_char hex-literal (before 46 xs) (some-all is_ascii_hexdigit (before 46 xs) k.1) in
+    rw (version-literal v k.0) (subst (λ ys. list_all is_literal_char ys ≡ true) (joined 46 xs) (all-join is_literal_char (before 46 xs) (marked 46 (behind 46 xs)) digits (address-literal (behind 46 xs) k.2)))
+  where
+    three : (a b c : Bool) → (a && b && c) ≡ true → (a ≡ true) × (b ≡ true) × (c ≡ true)
+    three true true c h = (refl, refl, h)
+    three true false c h = cc
+    three false b c h = cc
+
+-- ---- IP literals
+open-literal : (b : ℕ) → (b == 91) ≡ true → is_literal_char b ≡ true
+unfolding is_literal_char is_ascii_userinfo is_ascii_reg_name is_ascii_unreserved is_sub_delim
+open-literal b h = grind (arith, nat_tests)
+
+close-literal : is_literal_char 93 ≡ true
+unfolding is_literal_char is_ascii_userinfo is_ascii_reg_name is_ascii_unreserved is_sub_delim
+close-literal = refl
+
+end-literal : (o : Option (List ℕ)) → is_end o ≡ true → list_all is_literal_char (marked 93 o) ≡ true
+end-literal None h = refl
+end-literal (Some []) h = rw close-literal refl
+end-literal (Some (x ∷ xs)) h = cc
+
+address : (xs : List ℕ) → (is_ipv6 xs || is_ipvfuture xs) ≡ true → list_all is_literal_char xs ≡ true
+address xs h =
+    elim (is_ipv6 xs) as (λ b. is_ipv6 xs ≡ b → (b || is_ipvfuture xs) ≡ true → list_all is_literal_char xs ≡ true) [
+      | true ↦ λ e _. ipv6-literal xs e
+      | false ↦ λ _ k. future-literal xs k
+    ] refl h
+
+pub ip_literal-chars : (xs : List ℕ) → is_ip_literal xs ≡ true → list_all is_literal_char xs ≡ true
+ip_literal-chars [] h = refl
+ip_literal-chars (b ∷ xs) h =
+    let k = three (b == 91) (is_end (behind 93 xs)) (is_ipv6 (before 93 xs) || is_ipvfuture (before 93 xs)) h in
+    rw (open-literal b k.0) (subst (λ ys. list_all is_literal_char ys ≡ true) (joined 93 xs) (all-join is_literal_char (before 93 xs) (marked 93 (behind 93 xs)) (address (before 93 xs) k.2) (end-literal (behind 93 xs) k.1)))
+  where
+    three : (a b c : Bool) → (a && b && c) ≡ true → (a ≡ true) × (b ≡ true) × (c ≡ true)
+    three true true c h = (refl, refl, h)
+    three true false c h = cc
+    three false b c h = cc

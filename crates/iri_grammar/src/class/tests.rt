@@ -1,0 +1,105 @@
+use super::*;
+use crate::spec::{IriSpec, UriSpec};
+
+// The answers of the eight tests.
+fn answers<S: Spec>(c: char) -> [bool; 8] {
+    [
+        is_unreserved::<S>(c),
+        is_reg_name_char::<S>(c),
+        is_userinfo_char::<S>(c),
+        is_pchar::<S>(c),
+        is_path_char::<S>(c),
+        is_query_char::<S>(c),
+        is_fragment_char::<S>(c),
+        is_any_char::<S>(c),
+    ]
+}
+
+#[test]
+fn delimiters_are_in_their_classes(rt: HostRuntime) {
+    let all = [true, true, true, true, true, true, true, true];
+    let reg_name = [false, true, true, true, true, true, true, true];
+    let userinfo = [false, false, true, true, true, true, true, true];
+    let segment = [false, false, false, true, true, true, true, true];
+    let path = [false, false, false, false, true, true, true, true];
+    let query = [false, false, false, false, false, true, true, true];
+    let any = [false, false, false, false, false, false, false, true];
+    let none = [false, false, false, false, false, false, false, false];
+    for (text, want) in [
+        ("azAZ09-._~", all),
+        ("!$&'()*+,;=", reg_name),
+        (":", userinfo),
+        ("@", segment),
+        ("/", path),
+        ("?", query),
+        ("#[]", any),
+        ("%\"<>\\^`{|} \u{0}\u{7F}", none),
+    ] {
+        for c in text.chars() {
+            assert!(rt; answers::<UriSpec>(c) == want, "at {c}");
+            assert!(rt; answers::<IriSpec>(c) == want, "at {c}");
+        }
+    }
+}
+
+#[test]
+fn borders_of_ucschar(rt: HostRuntime) {
+    for (c, want) in [
+        ('\u{80}', false),
+        ('\u{9F}', false),
+        ('\u{A0}', true),
+        ('\u{D7FF}', true),
+        ('\u{E000}', false),
+        ('\u{F8FF}', false),
+        ('\u{F900}', true),
+        ('\u{FDCF}', true),
+        ('\u{FDD0}', false),
+        ('\u{FDEF}', false),
+        ('\u{FDF0}', true),
+        ('\u{FFEF}', true),
+        ('\u{FFF0}', false),
+        ('\u{FFFF}', false),
+        ('\u{10000}', true),
+        ('\u{1FFFD}', true),
+        ('\u{1FFFE}', false),
+        ('\u{20000}', true),
+        ('\u{DFFFD}', true),
+        ('\u{DFFFE}', false),
+        ('\u{DFFFF}', false),
+        ('\u{E0000}', false),
+        ('\u{E0FFF}', false),
+        ('\u{E1000}', true),
+        ('\u{EFFFD}', true),
+        ('\u{EFFFE}', false),
+        ('\u{F0000}', false),
+        ('\u{10FFFF}', false),
+    ] {
+        assert!(rt; is_unreserved::<IriSpec>(c) == want, "at {c}");
+        assert!(rt; is_fragment_char::<IriSpec>(c) == want, "at {c}");
+        assert!(rt; !is_unreserved::<UriSpec>(c), "at {c}");
+    }
+}
+
+#[test]
+fn borders_of_iprivate(rt: HostRuntime) {
+    for (c, want) in [
+        ('\u{D7FF}', false),
+        ('\u{E000}', true),
+        ('\u{F8FF}', true),
+        ('\u{F900}', false),
+        ('\u{EFFFD}', false),
+        ('\u{F0000}', true),
+        ('\u{FFFFD}', true),
+        ('\u{FFFFE}', false),
+        ('\u{100000}', true),
+        ('\u{10FFFD}', true),
+        ('\u{10FFFE}', false),
+        ('\u{10FFFF}', false),
+    ] {
+        assert!(rt; IriSpec::is_nonascii_char_private(c) == want, "at {c}");
+        assert!(rt; !want || is_query_char::<IriSpec>(c), "at {c}");
+        assert!(rt; !want || is_any_char::<IriSpec>(c), "at {c}");
+        assert!(rt; !want || !is_path_char::<IriSpec>(c), "at {c}");
+        assert!(rt; !is_query_char::<UriSpec>(c), "at {c}");
+    }
+}

@@ -1,0 +1,44 @@
+//! A text cut at a mark: an ASCII character that parts a text from what follows, as `?` or `#`.
+ghost use Rattle.std.specs.Prelude.{◌≡◌, ◌<◌, MatchOption};
+ghost use Rattle.iri_grammar.specs.Cut.{before, behind, from, lacks, CutAt, NoCut};
+ghost use Rattle.iri_grammar.specs.Views.{now_of};
+
+use memchr::memchr;
+
+/// Where the mark first stands, in bytes.
+pub fn find(s: &str, mark: u8) -> Option<usize>
+    ensures { MatchOption result (NoCut mark s.now) (λ k. CutAt mark s.now k) }
+{
+    memchr(mark, s.as_bytes())
+}
+
+/// What stands before the first mark, or all, and what stands behind it. The mark must be ASCII.
+pub fn cut(s: &str, mark: u8) -> (&str, Option<&str>)
+    requires { mark < 128 }
+    ensures before { result.0.now ≡ before mark s.now }
+    ensures behind { now_of result.1 ≡ behind mark s.now }
+{
+    match find(s, mark) {
+        Some(i) => (&s[..i], Some(&s[i + 1..])),
+        None => (s, None),
+    }
+}
+
+/// What stands before the first mark, or all, and the rest from it on. The mark must be ASCII.
+pub fn cut_before(s: &str, mark: u8) -> (&str, &str)
+    requires { mark < 128 }
+    ensures before { result.0.now ≡ before mark s.now }
+    ensures from { result.1.now ≡ from mark s.now }
+{
+    match find(s, mark) {
+        Some(i) => (&s[..i], &s[i..]),
+        None => (s, ""),
+    }
+}
+
+/// Whether the mark stands nowhere.
+pub fn lacks(s: &str, mark: u8) -> bool
+    ensures { result ≡ lacks mark s.now }
+{
+    find(s, mark).is_none()
+}

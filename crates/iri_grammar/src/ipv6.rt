@@ -1,0 +1,112 @@
+//! IPv6 texts (RFC 3986 section 3.2.2).
+ghost use Rattle.std.specs.Prelude.{◌≡◌, MatchOption};
+ghost use Rattle.iri_grammar.specs.Ipv6.{is_group};
+ghost use Rattle.iri_grammar.specs.Pieces.{pieces};
+ghost use Rattle.iri_grammar.specs.Ipv6Test.{before_double, behind_double, parts_of, is_full, is_shortened, is_ipv6};
+ghost use Rattle.iri_grammar.specs.Ipv6Counts.{count, NoDouble, DoubleAt};
+ghost use Rattle.iri_grammar.specs.Views.{now_of};
+
+use crate::cutting::cut;
+use crate::digits::all_hex;
+use crate::ipv4::is_ipv4;
+
+/// Whether the text is one to four hex digits.
+#[tactic(auto, unfolding(crate::specs::Ipv6::is_group))]
+fn is_group(s: &str) -> bool
+    ensures { result ≡ is_group s.now }
+{
+    all_hex(s.as_bytes()) && 0 < s.len() && s.len() < 5
+}
+
+/// How many groups stand between the colons; an IPv4 text counts as two, and may be the last part
+/// where that is said.
+fn count_parts(s: &str, ipv4: bool) -> Option<usize>
+    ensures { result ≡ count ipv4 (pieces 58 s.now) }
+{
+    let mut rest = s;
+    let mut n = 0usize;
+    'groups: loop {
+        let (piece, more) = cut(rest, b':');
+        match more {
+            Some(next) => {
+                if !is_group(piece) {
+                    return None;
+                }
+                n += 1;
+                rest = next;
+            }
+            None => {
+                return if is_group(piece) {
+                    Some(n + 1)
+                } else if ipv4 && is_ipv4(piece) {
+                    Some(n + 2)
+                } else {
+                    None
+                };
+            }
+        }
+    }
+}
+
+/// The same, where the text may have no part.
+fn count_groups(s: &str, ipv4: bool) -> Option<usize>
+    ensures { result ≡ count ipv4 (parts_of s.now) }
+{
+    if s.is_empty() {
+        Some(0)
+    } else {
+        count_parts(s, ipv4)
+    }
+}
+
+/// Where the first `::` stands.
+fn find_double(bytes: &[u8]) -> Option<usize>
+    ensures { MatchOption result (NoDouble bytes.now) (λ k. DoubleAt bytes.now k) }
+{
+    for (i, b) in bytes.iter().enumerate() {
+        if *b == b':' && i + 1 < bytes.len() && bytes[i + 1] == b':' {
+            return Some(i);
+        }
+    }
+    None
+}
+
+/// What stands before the first `::`, or all, and what stands behind it.
+fn cut_double(s: &str) -> (&str, Option<&str>)
+    ensures before { result.0.now ≡ before_double s.now }
+    ensures behind { now_of result.1 ≡ behind_double s.now }
+{
+    match find_double(s.as_bytes()) {
+        Some(i) => (&s[..i], Some(&s[i + 2..])),
+        None => (s, None),
+    }
+}
+
+fn is_full(s: &str) -> bool
+    ensures { result ≡ is_full (parts_of s.now) }
+{
+    match count_groups(s, true) {
+        Some(n) => n == 8,
+        None => false,
+    }
+}
+
+fn is_shortened(front: &str, back: &str) -> bool
+    ensures { result ≡ is_shortened (parts_of front.now) (parts_of back.now) }
+{
+    match (count_groups(front, false), count_groups(back, true)) {
+        (Some(m), Some(n)) => m < 8 && n < 8 - m,
+        _ => false,
+    }
+}
+
+/// Whether the text is eight groups parted by colons, or at most seven around one `::`, an IPv4 text
+/// at the end counting as two.
+pub(crate) fn is_ipv6(s: &str) -> bool
+    ensures { result ≡ is_ipv6 s.now }
+{
+    match cut_double(s) {
+        (front, Some(back)) => is_shortened(front, back),
+        (front, None) => is_full(front),
+    }
+}

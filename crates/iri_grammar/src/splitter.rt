@@ -1,0 +1,261 @@
+//! The split of a reference into its five parts (RFC 3986 section 3).
+ghost use Rattle.std.specs.Prelude.{◌≡◌, None, IfOk, MatchOption};
+ghost use Rattle.std.specs.List.{list_all};
+ghost use Rattle.iri_grammar.specs.Components.{is_scheme, is_scheme_char};
+ghost use Rattle.iri_grammar.specs.Cut.{before, behind};
+ghost use Rattle.iri_grammar.specs.Fault.{Answers};
+ghost use Rattle.iri_grammar.specs.Marks.{ends_scheme, SchemeAt, NoScheme, ends_authority, before_any, from_any, AuthorityEndAt, NoAuthorityEnd, IsPastAuthority, TailAt, NoTail};
+ghost use Rattle.iri_grammar.specs.Parts.{Splits};
+ghost use Rattle.iri_grammar.specs.Runs.{run_of};
+ghost use Rattle.iri_grammar.specs.Split.{split_of, relative_split_of, parts_of, scheme_of, after_scheme, authority_of, hier_of};
+ghost use Rattle.iri_grammar.specs.Splitters.{parts};
+ghost use Rattle.iri_grammar.specs.Views.{now_of};
+ghost use Rattle.iri_grammar.specs.WholeFault.{reference_fault};
+
+use crate::cutting::cut;
+use crate::error::Error;
+use crate::spec::Spec;
+use crate::validate::front_and_fragment;
+use memchr::{memchr2, memchr3};
+
+/// The five parts of a reference, as slices of its text.
+#[derive(Clone, Copy)]
+pub struct Splitter<'a> {
+    scheme: Option<&'a str>,
+    authority: Option<&'a str>,
+    path: &'a str,
+    query: Option<&'a str>,
+    fragment: Option<&'a str>,
+}
+
+// For each byte an `s` where it may stand in a scheme: letters, digits, `+`, `-` and `.`.
+static SCHEME_BYTES: [u8; 256] = *b"\
+    ................................\
+    ...........s.ss.ssssssssss......\
+    .ssssssssssssssssssssssssss.....\
+    .ssssssssssssssssssssssssss.....\
+    ................................\
+    ................................\
+    ................................\
+    ................................";
+
+fn is_scheme_byte(b: u8) -> bool
+    ensures { result ≡ is_scheme_char b }
+{
+    SCHEME_BYTES[usize::from(b)] == b's'
+}
+
+/// How many bytes at the front may stand in a scheme.
+fn scheme_run(bytes: &[u8]) -> usize
+    ensures { result ≡ run_of is_scheme_char bytes.now }
+{
+    for (i, b) in bytes.iter().enumerate() {
+        if !is_scheme_byte(*b) {
+            return i;
+        }
+    }
+    bytes.len()
+}
+
+/// Whether each byte may stand in a scheme.
+#[tactic(auto, using(crate::proofs::MarkLemmas::run_of_all))]
+fn all_scheme_bytes(bytes: &[u8]) -> bool
+    ensures { result ≡ list_all is_scheme_char bytes.now }
+{
+    scheme_run(bytes) == bytes.len()
+}
+
+/// Whether the text is a scheme.
+#[tactic(auto, unfolding(crate::specs::Components::is_letter))]
+pub(crate) fn is_scheme(s: &str) -> bool
+    ensures { result ≡ is_scheme s.now }
+{
+    match s.as_bytes() {
+        [] => false,
+        [first, rest @ ..] => first.is_ascii_alphabetic() && all_scheme_bytes(rest),
+    }
+}
+
+/// Whether the colon behind a scheme stands here.
+#[tactic(auto, unfolding(crate::specs::Marks::ends_scheme))]
+fn ends_scheme(bytes: &[u8], end: usize) -> bool
+    ensures { result ≡ ends_scheme bytes.now end }
+{
+    end < bytes.len() && bytes[end] == b':' && bytes[0].is_ascii_alphabetic()
+}
+
+/// Where the colon behind the scheme stands.
+#[tactic(auto, using(crate::proofs::MarkLemmas::scheme_at, crate::proofs::MarkLemmas::no_scheme))]
+fn scheme_end(bytes: &[u8]) -> Option<usize>
+    ensures { MatchOption result (NoScheme bytes.now) (λ k. SchemeAt bytes.now k) }
+{
+    let end = scheme_run(bytes);
+    if ends_scheme(bytes, end) {
+        Some(end)
+    } else {
+        None
+    }
+}
+
+/// The scheme, and what follows it and its colon, or all.
+fn cut_scheme(s: &str) -> (Option<&str>, &str)
+    ensures scheme { now_of result.0 ≡ scheme_of s.now }
+    ensures rest { result.1.now ≡ after_scheme s.now }
+{
+    match scheme_end(s.as_bytes()) {
+        Some(i) => (Some(&s[..i]), &s[i + 1..]),
+        None => (None, s),
+    }
+}
+
+/// Where the first slash, question mark or number sign stands.
+#[tactic(auto, using(crate::proofs::MarkLemmas::authority_end))]
+fn authority_end(bytes: &[u8]) -> Option<usize>
+    ensures { MatchOption result (NoAuthorityEnd bytes.now) (λ k. AuthorityEndAt bytes.now k) }
+{
+    memchr3(b'/', b'?', b'#', bytes)
+}
+
+/// What stands before the end of an authority, and the rest from it on.
+fn cut_before_end(s: &str) -> (&str, &str)
+    ensures front { result.0.now ≡ before_any ends_authority s.now }
+    ensures rest { result.1.now ≡ from_any ends_authority s.now }
+{
+    match authority_end(s.as_bytes()) {
+        Some(i) => (&s[..i], &s[i..]),
+        None => (s, ""),
+    }
+}
+
+/// The authority, and what follows it, or all.
+fn cut_authority(s: &str) -> (Option<&str>, &str)
+    ensures authority { now_of result.0 ≡ authority_of (hier_of s.now) }
+    ensures past { IsPastAuthority s.now result.1.now }
+{
+    match s.strip_prefix("//") {
+        Some(rest) => {
+            let (authority, path) = cut_before_end(rest);
+            (Some(authority), path)
+        }
+        None => (None, s),
+    }
+}
+
+/// Where the first question mark or number sign stands.
+#[tactic(auto, using(crate::proofs::MarkLemmas::tail_found))]
+fn find_tail(bytes: &[u8]) -> Option<usize>
+    ensures { MatchOption result (NoTail bytes.now) (λ k. TailAt bytes.now k) }
+{
+    memchr2(b'?', b'#', bytes)
+}
+
+/// Path, query and fragment.
+fn cut_tail(s: &str) -> (&str, Option<&str>, Option<&str>)
+    ensures path { result.0.now ≡ hier_of s.now }
+    ensures query { now_of result.1 ≡ behind 63 (before 35 s.now) }
+    ensures fragment { now_of result.2 ≡ behind 35 s.now }
+{
+    match find_tail(s.as_bytes()) {
+        Some(i) => {
+            let rest = &s[i + 1..];
+            if s.as_bytes()[i] == b'?' {
+                let (query, fragment) = cut(rest, b'#');
+                (&s[..i], Some(query), fragment)
+            } else {
+                (&s[..i], None, Some(rest))
+            }
+        }
+        None => (s, None, None),
+    }
+}
+
+impl<'a> Splitter<'a> {
+    /// The split of a text, where it is a reference of `S`: otherwise the kind of its first fault. The same as
+    /// `validate::iri_reference` and `of`, in one look at the text.
+    pub fn new<S: Spec>(text: &'a str) -> Result<Splitter<'a>, Error>
+        ensures fault { Answers result (reference_fault S.tests text.now) }
+        ensures value { IfOk result (λ p. parts p ≡ split_of text.now) }
+    {
+        let parts = Splitter::cut(text);
+        match front_and_fragment::<S>(&parts) {
+            Ok(()) => Ok(parts),
+            Err(error) => Err(error),
+        }
+    }
+
+    /// The split of a reference of `S`. The text must be one: `validate::iri_reference` tells.
+    pub fn of<S: Spec>(text: &'a str) -> Splitter<'a>
+        requires { reference_fault S.tests text.now ≡ None }
+        ensures split { Splits S.tests text.now (parts result) }
+        ensures value { parts result ≡ split_of text.now }
+    {
+        Splitter::cut(text)
+    }
+
+    /// The parts of any text read as a reference.
+    #[tactic(auto, unfolding(crate::specs::Split::split_of))]
+    pub(crate) fn cut(text: &'a str) -> Splitter<'a>
+        ensures { parts result ≡ split_of text.now }
+    {
+        let (scheme, rest) = cut_scheme(text);
+        Splitter::behind(scheme, rest)
+    }
+
+    /// The parts of any text read as a relative reference.
+    #[tactic(auto, unfolding(crate::specs::Split::relative_split_of))]
+    pub(crate) fn cut_relative(text: &'a str) -> Splitter<'a>
+        ensures { parts result ≡ relative_split_of text.now }
+    {
+        Splitter::behind(None, text)
+    }
+
+    /// A scheme, and the parts of what follows it.
+    fn behind(scheme: Option<&'a str>, rest: &'a str) -> Splitter<'a>
+        ensures { parts result ≡ parts_of (now_of scheme.entry) rest.now }
+    {
+        let (authority, rest) = cut_authority(rest);
+        let (path, query, fragment) = cut_tail(rest);
+        Splitter {
+            scheme,
+            authority,
+            path,
+            query,
+            fragment,
+        }
+    }
+
+    /// The scheme, without its colon.
+    pub fn scheme(&self) -> Option<&'a str>
+        ensures { now_of result ≡ (parts self.now).scheme }
+    {
+        self.scheme
+    }
+
+    /// The authority, without the slashes before it.
+    pub fn authority(&self) -> Option<&'a str>
+        ensures { now_of result ≡ (parts self.now).authority }
+    {
+        self.authority
+    }
+
+    /// The path, which may be empty.
+    pub fn path(&self) -> &'a str
+        ensures { result.now ≡ (parts self.now).path }
+    {
+        self.path
+    }
+
+    /// The query, without its question mark.
+    pub fn query(&self) -> Option<&'a str>
+        ensures { now_of result ≡ (parts self.now).query }
+    {
+        self.query
+    }
+
+    /// The fragment, without its number sign.
+    pub fn fragment(&self) -> Option<&'a str>
+        ensures { now_of result ≡ (parts self.now).fragment }
+    {
+        self.fragment
+    }
+}

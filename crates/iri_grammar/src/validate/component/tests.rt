@@ -1,0 +1,201 @@
+use super::*;
+use crate::host::host_is_reg_name;
+use crate::spec::{IriSpec, UriSpec};
+
+fn kind(answer: Result<(), Error>) -> Option<ErrorKind> {
+    match answer {
+        Ok(()) => None,
+        Err(e) => Some(e.kind()),
+    }
+}
+
+// RFC 3986 section 3.2.2, with the examples of section 1.1.2 and of RFC 4291 section 2.2.
+#[test]
+fn literals_that_are_hosts(rt: HostRuntime) {
+    for text in [
+        "[::]",
+        "[::1]",
+        "[1::]",
+        "[1::8]",
+        "[1:2::7:8]",
+        "[1:2:3:4:5:6:7::]",
+        "[1:2:3:4:5:6:7:8]",
+        "[::2:3:4:5:6:7:8]",
+        "[2001:db8::7]",
+        "[2001:DB8:0:0:8:800:200C:417A]",
+        "[2001:0db8:0000:cd30:0000:0000:0000:0000]",
+        "[FF01::101]",
+        "[::13.1.68.3]",
+        "[::FFFF:129.144.52.38]",
+        "[0:0:0:0:0:FFFF:129.144.52.38]",
+        "[1:2:3:4:5::1.2.3.4]",
+        "[::1:2:3:4:5:1.2.3.4]",
+        "[::0.10.99.255]",
+        "[v1.a]",
+        "[V1F.:]",
+        "[vABCDEF.a-b!:]",
+    ] {
+        assert_eq!(rt; kind(host::<UriSpec>(text)), None, "at {text}");
+        assert_eq!(rt; kind(host::<IriSpec>(text)), None, "at {text}");
+    }
+}
+
+#[test]
+fn literals_that_are_no_hosts(rt: HostRuntime) {
+    for text in [
+        "[]",
+        "[:]",
+        "[:::]",
+        "[1]",
+        "[:1]",
+        "[1:]",
+        "[1::2:]",
+        "[:1::2]",
+        "[1::2::3]",
+        "[1:2:3:4:5:6:7]",
+        "[1:2:3:4:5:6:7:8::]",
+        "[1:2:3:4:5:6:7:8:9]",
+        "[::2:3:4:5:6:7:8:9]",
+        "[12345::]",
+        "[g::]",
+        "[1.2.3.4]",
+        "[1.2.3.4::]",
+        "[::1.2.3.4:5]",
+        "[::1.2.3]",
+        "[::1.2.3.4.5]",
+        "[::01.2.3.4]",
+        "[::1.2.3.256]",
+        "[1:2:3:4:5:6:7:1.2.3.4]",
+        "[1:2:3:4:5:6::1.2.3.4]",
+        "[::%31]",
+        "[fe80::1%25en0]",
+        "[v.a]",
+        "[v1.]",
+        "[v1a]",
+        "[vg.a]",
+        "[v1.a/]",
+        "[v1.%41]",
+        "[v1.\u{E9}]",
+        "[::1",
+        "[::1]x",
+        "[[::1]]",
+        "::1",
+    ] {
+        assert_eq!(rt;
+            kind(host::<UriSpec>(text)),
+            Some(ErrorKind::InvalidHost),
+            "at {text}"
+        );
+        assert_eq!(rt;
+            kind(host::<IriSpec>(text)),
+            Some(ErrorKind::InvalidHost),
+            "at {text}"
+        );
+    }
+}
+
+fn reg_name_told<S: Spec>(text: &str) -> Option<bool> {
+    match host::<S>(text) {
+        Ok(()) => Some(host_is_reg_name::<S>(text)),
+        Err(_) => None,
+    }
+}
+
+#[test]
+fn hosts_that_are_registered_names(rt: HostRuntime) {
+    for (text, want) in [
+        ("255.255.255.256", true),
+        ("255.255.255.255", false),
+        ("127.0.0.01", true),
+        ("127.0.0.1", false),
+        ("1.2.3", true),
+        ("1.2.3.4.5", true),
+        ("", true),
+        ("[::1]", false),
+        ("example.com", true),
+    ] {
+        assert_eq!(rt; reg_name_told::<UriSpec>(text), Some(want), "at {text}");
+        let fault = if want {
+            None
+        } else {
+            Some(ErrorKind::InvalidRegName)
+        };
+        assert_eq!(rt; kind(reg_name::<UriSpec>(text)), fault, "at {text}");
+    }
+}
+
+#[test]
+fn authorities(rt: HostRuntime) {
+    for (text, want) in [
+        ("", None),
+        ("example.com:8042", None),
+        ("user:pw@[2001:db8::7]:80", None),
+        ("192.0.2.16:80", None),
+        ("a%4", Some(ErrorKind::InvalidHost)),
+        ("a%4g", Some(ErrorKind::InvalidHost)),
+        ("a b@c", Some(ErrorKind::InvalidUserInfo)),
+        ("a b@c d", Some(ErrorKind::InvalidUserInfo)),
+        ("a@b@c", Some(ErrorKind::InvalidHost)),
+        ("host:80a", Some(ErrorKind::InvalidHost)),
+        ("[1::2::3]", Some(ErrorKind::InvalidHost)),
+    ] {
+        assert_eq!(rt; kind(authority::<UriSpec>(text)), want, "at {text}");
+    }
+}
+
+fn has_parts<S: Spec>(text: &str, userinfo: Option<&str>, host: &str, port: Option<&str>) -> bool {
+    match authority::<S>(text) {
+        Ok(()) => {
+            let parts = AuthoritySpan::of::<S>(text);
+            parts.userinfo() == userinfo && parts.host() == host && parts.port() == port
+        }
+        Err(_) => false,
+    }
+}
+
+#[test]
+fn parts_of_authorities(rt: HostRuntime) {
+    for (text, userinfo, host, port) in [
+        ("", None, "", None),
+        ("example.com:8042", None, "example.com", Some("8042")),
+        ("example.com:", None, "example.com", Some("")),
+        ("u:p:@[2001:db8::7]", Some("u:p:"), "[2001:db8::7]", None),
+        ("@[v1.a:1]:80", Some(""), "[v1.a:1]", Some("80")),
+    ] {
+        assert!(rt;
+            has_parts::<UriSpec>(text, userinfo, host, port),
+            "at {text}"
+        );
+    }
+}
+
+#[test]
+fn other_components(rt: HostRuntime) {
+    assert_eq!(rt; kind(scheme("svn+ssh")), None);
+    assert_eq!(rt; kind(scheme("1a")), Some(ErrorKind::InvalidScheme));
+    assert_eq!(rt; kind(userinfo::<UriSpec>("a:%C3%A9")), None);
+    assert_eq!(rt;
+        kind(userinfo::<UriSpec>("a@")),
+        Some(ErrorKind::InvalidUserInfo)
+    );
+    assert_eq!(rt; kind(port("")), None);
+    assert_eq!(rt; kind(port("99999999999999999999999")), None);
+    assert_eq!(rt; kind(port("8a")), Some(ErrorKind::InvalidPort));
+    assert_eq!(rt; kind(path::<UriSpec>("//a:b/")), None);
+    assert_eq!(rt; kind(path::<UriSpec>("/?")), Some(ErrorKind::InvalidPath));
+    assert_eq!(rt; kind(path_segment::<UriSpec>("a:@")), None);
+    assert_eq!(rt;
+        kind(path_segment::<UriSpec>("/")),
+        Some(ErrorKind::InvalidPath)
+    );
+    assert_eq!(rt; kind(query::<IriSpec>("\u{E000}\u{E9}%C3%a9/?")), None);
+    assert_eq!(rt;
+        kind(query::<UriSpec>("\u{E9}")),
+        Some(ErrorKind::InvalidQuery)
+    );
+    assert_eq!(rt; kind(fragment::<IriSpec>("\u{E9}/?")), None);
+    assert_eq!(rt;
+        kind(fragment::<IriSpec>("\u{E000}")),
+        Some(ErrorKind::InvalidFragment)
+    );
+}

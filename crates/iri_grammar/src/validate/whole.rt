@@ -1,0 +1,110 @@
+//! The validators of whole texts (RFC 3986 section 4).
+ghost use Rattle.std.specs.Prelude.{◌≡◌, ◌&&◌};
+ghost use Rattle.iri_grammar.specs.Components.{is_path};
+ghost use Rattle.iri_grammar.specs.Fault.{Answers, unless, fragment_fault};
+ghost use Rattle.iri_grammar.specs.WholeFault.{colon_allowed, front_fault, parts_fault, missing_scheme_fault, reference_fault, iri_fault, absolute_fault, relative_fault};
+ghost use Rattle.iri_grammar.specs.Splitters.{parts};
+
+use crate::cutting::{cut_before, lacks};
+use crate::error::{Error, ErrorKind};
+use crate::spec::Spec;
+use crate::splitter::Splitter;
+use crate::validate::component::{authority, fragment, path, query, scheme};
+
+fn colon_allowed(p: &Splitter<'_>) -> bool
+    ensures { result ≡ colon_allowed (parts p.now) }
+{
+    p.scheme().is_some() || p.authority().is_some() || lacks(cut_before(p.path(), b'/').0, b':')
+}
+
+/// The path over its characters, and its first segment without a colon where it has to.
+fn path_in_place<S: Spec>(p: &Splitter<'_>) -> Result<(), Error>
+    ensures { Answers result (unless (is_path S.tests (parts p.now).path && colon_allowed (parts p.now)) ErrorKind.InvalidPath) }
+{
+    path::<S>(p.path())?;
+    if colon_allowed(p) {
+        Ok(())
+    } else {
+        Err(Error::new(ErrorKind::InvalidPath))
+    }
+}
+
+/// Authority, path and query.
+#[tactic(auto, unfolding(crate::specs::WholeFault::front_fault))]
+fn front<S: Spec>(p: &Splitter<'_>) -> Result<(), Error>
+    ensures { Answers result (front_fault S.tests (parts p.now)) }
+{
+    if let Some(a) = p.authority() {
+        authority::<S>(a)?;
+    }
+    path_in_place::<S>(p)?;
+    if let Some(q) = p.query() {
+        query::<S>(q)?;
+    }
+    Ok(())
+}
+
+/// Authority, path, query and fragment.
+#[tactic(auto, unfolding(crate::specs::WholeFault::parts_fault))]
+pub(crate) fn front_and_fragment<S: Spec>(p: &Splitter<'_>) -> Result<(), Error>
+    ensures { Answers result (parts_fault S.tests (fragment_fault S.tests) (parts p.now)) }
+{
+    front::<S>(p)?;
+    if let Some(f) = p.fragment() {
+        fragment::<S>(f)?;
+    }
+    Ok(())
+}
+
+/// The scheme and its colon.
+fn leading_scheme(s: &str) -> Result<(), Error>
+    ensures { Answers result (missing_scheme_fault s.now) }
+{
+    if lacks(s, b':') {
+        return Err(Error::new(ErrorKind::UnexpectedRelative));
+    }
+    scheme(cut_before(s, b':').0)
+}
+
+/// Whether the text is a `URI-reference` (RFC 3986 section 4.1; of IRIs RFC 3987 section 2.2):
+/// otherwise the kind of its first fault.
+pub fn iri_reference<S: Spec>(s: &str) -> Result<(), Error>
+    ensures { Answers result (reference_fault S.tests s.now) }
+{
+    front_and_fragment::<S>(&Splitter::cut(s))
+}
+
+/// Whether the text is a `URI`, with a scheme (RFC 3986 section 3): otherwise the kind of its first fault.
+pub fn iri<S: Spec>(s: &str) -> Result<(), Error>
+    ensures { Answers result (iri_fault S.tests s.now) }
+{
+    leading_scheme(s)?;
+    let p = Splitter::cut(s);
+    front_and_fragment::<S>(&p)
+}
+
+/// Whether the text is an `absolute-URI`, with a scheme and without a fragment (RFC 3986 section 4.3):
+/// otherwise the kind of its first fault.
+#[tactic(auto, unfolding(crate::specs::WholeFault::parts_fault))]
+pub fn absolute_iri<S: Spec>(s: &str) -> Result<(), Error>
+    ensures { Answers result (absolute_fault S.tests s.now) }
+{
+    leading_scheme(s)?;
+    let p = Splitter::cut(s);
+    front::<S>(&p)?;
+    match p.fragment() {
+        Some(_) => Err(Error::new(ErrorKind::UnexpectedFragment)),
+        None => Ok(()),
+    }
+}
+
+/// Whether the text is a `relative-ref`, without a scheme (RFC 3986 section 4.2): otherwise the kind of
+/// its first fault. A text with a scheme is told by its colon: its first segment has one.
+pub fn relative_ref<S: Spec>(s: &str) -> Result<(), Error>
+    ensures { Answers result (relative_fault S.tests s.now) }
+{
+    front_and_fragment::<S>(&Splitter::cut_relative(s))
+}
+
+#[cfg(test)]
+mod tests;

@@ -1,0 +1,186 @@
+use super::*;
+use crate::laws;
+use crate::spec::{IriSpec, UriSpec};
+
+fn fault(answer: Result<(), Error>) -> Option<ErrorKind> {
+    match answer {
+        Ok(()) => None,
+        Err(e) => Some(e.kind()),
+    }
+}
+
+// RFC 3986 section 1.1.2.
+const URIS: [&str; 8] = [
+    "ftp://ftp.is.co.za/rfc/rfc1808.txt",
+    "http://www.ietf.org/rfc/rfc2396.txt",
+    "ldap://[2001:db8::7]/c=GB?objectClass?one",
+    "mailto:John.Doe@example.com",
+    "news:comp.infosystems.www.servers.unix",
+    "tel:+1-816-555-1212",
+    "telnet://192.0.2.16:80/",
+    "urn:oasis:names:specification:docbook:dtd:xml:4.1.2",
+];
+
+// RFC 3986 sections 5.4.1 and 5.4.2, and each kind of host of section 3.2.2.
+const RELATIVES: [&str; 36] = [
+    "g",
+    "./g",
+    "g/",
+    "/g",
+    "//g",
+    "?y",
+    "g?y",
+    "#s",
+    "g#s",
+    "g?y#s",
+    ";x",
+    "g;x",
+    "g;x?y#s",
+    "",
+    ".",
+    "./",
+    "..",
+    "../",
+    "../g",
+    "../..",
+    "../../",
+    "../../g",
+    "/./g",
+    "/../g",
+    "g..",
+    "..g",
+    "./g/.",
+    "g;x=1/../y",
+    "g?y/../x",
+    "g#s/../x",
+    "//",
+    "//[2001:db8::7]",
+    "//[v7.a:b]",
+    "//192.0.2.16",
+    "//a%2Fb",
+    "//u:p@h:",
+];
+
+#[test]
+fn takes_the_examples(rt: HostRuntime) {
+    for text in URIS {
+        assert_eq!(rt; fault(iri_reference::<UriSpec>(text)), None, "{text}");
+        assert_eq!(rt; fault(iri::<UriSpec>(text)), None, "{text}");
+        assert_eq!(rt; fault(absolute_iri::<UriSpec>(text)), None, "{text}");
+        assert_eq!(rt; fault(iri::<IriSpec>(text)), None, "{text}");
+    }
+    for text in RELATIVES {
+        assert_eq!(rt; fault(iri_reference::<UriSpec>(text)), None, "{text}");
+        assert_eq!(rt; fault(relative_ref::<UriSpec>(text)), None, "{text}");
+        assert_eq!(rt; fault(relative_ref::<IriSpec>(text)), None, "{text}");
+    }
+}
+
+#[test]
+fn tells_the_first_fault_of_a_reference(rt: HostRuntime) {
+    let rows = [
+        ("http:g", None),
+        ("1a:b", Some(ErrorKind::InvalidPath)),
+        (":", Some(ErrorKind::InvalidPath)),
+        ("##", Some(ErrorKind::InvalidFragment)),
+        ("%4", Some(ErrorKind::InvalidPath)),
+        ("?%", Some(ErrorKind::InvalidQuery)),
+        ("//a b@c", Some(ErrorKind::InvalidUserInfo)),
+        ("//a@b@c", Some(ErrorKind::InvalidHost)),
+        ("//[1::2::3]", Some(ErrorKind::InvalidHost)),
+        ("//[1::2]:080", None),
+        ("//a:b:1", Some(ErrorKind::InvalidHost)),
+        ("http://a/ b?%#%", Some(ErrorKind::InvalidPath)),
+        ("http://a/?%#%", Some(ErrorKind::InvalidQuery)),
+        ("http://a/?b#%", Some(ErrorKind::InvalidFragment)),
+    ];
+    for (text, want) in rows {
+        assert_eq!(rt; fault(iri_reference::<UriSpec>(text)), want, "{text}");
+        assert_eq!(rt; fault(iri_reference::<IriSpec>(text)), want, "{text}");
+    }
+}
+
+#[test]
+fn tells_what_the_kind_of_text_asks(rt: HostRuntime) {
+    let relative = Some(ErrorKind::UnexpectedRelative);
+    for text in ["a/b", "", "//a/", "?y", "a%"] {
+        assert_eq!(rt; fault(iri::<UriSpec>(text)), relative, "{text}");
+        assert_eq!(rt; fault(absolute_iri::<UriSpec>(text)), relative, "{text}");
+    }
+    for text in ["1a:b", ":", "//a?b:c", "./a:b"] {
+        assert_eq!(rt;
+            fault(iri::<UriSpec>(text)),
+            Some(ErrorKind::InvalidScheme),
+            "{text}"
+        );
+    }
+    let unexpected = Some(ErrorKind::UnexpectedFragment);
+    assert_eq!(rt; fault(iri::<UriSpec>("http://a/#f")), None);
+    assert_eq!(rt; fault(absolute_iri::<UriSpec>("http://a/#f")), unexpected);
+    assert_eq!(rt; fault(absolute_iri::<UriSpec>("http://a/#%")), unexpected);
+    assert_eq!(rt;
+        fault(relative_ref::<UriSpec>("http:g")),
+        Some(ErrorKind::InvalidPath)
+    );
+}
+
+#[test]
+fn takes_characters_past_ascii_in_iris_alone(rt: HostRuntime) {
+    let path = Some(ErrorKind::InvalidPath);
+    let query = Some(ErrorKind::InvalidQuery);
+    assert_eq!(rt;
+        fault(iri::<IriSpec>("http://\u{E9}/\u{E9}?\u{E9}#\u{E9}")),
+        None
+    );
+    assert_eq!(rt; fault(iri::<UriSpec>("http:\u{E9}")), path);
+    assert_eq!(rt; fault(iri_reference::<IriSpec>("?\u{E000}")), None);
+    assert_eq!(rt; fault(iri_reference::<UriSpec>("?\u{E000}")), query);
+    assert_eq!(rt; fault(iri_reference::<IriSpec>("\u{E000}")), path);
+    assert_eq!(rt;
+        fault(iri_reference::<IriSpec>("#\u{E000}")),
+        Some(ErrorKind::InvalidFragment)
+    );
+}
+
+#[test]
+fn splits_what_was_validated(rt: HostRuntime) {
+    let text = "foo://example.com:8042/over/there?name=ferret#nose";
+    match iri_reference::<IriSpec>(text) {
+        Ok(()) => {
+            let parts = Splitter::of::<IriSpec>(text);
+            assert_eq!(rt; parts.scheme(), Some("foo"));
+            assert_eq!(rt; parts.authority(), Some("example.com:8042"));
+            assert_eq!(rt; parts.path(), "/over/there");
+            assert_eq!(rt; parts.query(), Some("name=ferret"));
+            assert_eq!(rt; parts.fragment(), Some("nose"));
+        }
+        Err(e) => assert_eq!(rt; Some(e.kind()), None),
+    }
+    let parts = Splitter::cut("a#b?c");
+    assert_eq!(rt; parts.query(), None);
+    assert_eq!(rt; parts.fragment(), Some("b?c"));
+}
+
+#[test]
+fn prints_the_kind(rt: HostRuntime) -> Result<(), std::test::Fail> {
+    let e = Error::new(ErrorKind::UnexpectedRelative);
+    let text = format!(in rt.alloc(); "{e}")?;
+    assert_eq!(rt;
+        text.as_str(),
+        "invalid IRI: expected an absolute IRI but got a relative IRI"
+    );
+    Ok(())
+}
+
+// The laws at each of the two specs.
+#[test]
+fn laws_hold() {
+    laws::one_split::<UriSpec>();
+    laws::iri_or_relative::<IriSpec>();
+    laws::no_fault_of_wholes::<UriSpec>();
+    laws::no_fault_of_authorities::<IriSpec>();
+    laws::no_fault_of_components::<UriSpec>();
+    laws::uri_wholes_within::<IriSpec>();
+    laws::uri_components_within::<IriSpec>();
+    laws::utf8_and_chars();
+}
