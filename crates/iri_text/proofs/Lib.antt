@@ -1,0 +1,9 @@
+pub mod Parts
+pub mod LinesLemmas
+pub mod LimitsLemmas
+mod Answered
+pub mod Moved
+mod Steps
+mod Writes
+pub mod Puts
+pub mod Digits

@@ -1,0 +1,83 @@
+-- Parts of a list, and lines in them.
+use Rattle.std.proofs.Common.{◌≡◌, ◌≢◌, ℕ, zero, suc, ◌+◌, ◌-◌, ◌<◌, ◌≤◌, List, [], ◌∷◌, ◌++◌, length, get_or, take, drop, slice_range, Option, None, Some, MatchOption, refl, sym, ◌∙◌, ap, subst, arith, take-add, drop-drop, drop-cons, eq-eqb, eqb-true}
+use Rattle.std.proofs.Math.Seq.{take-suc, take-length}
+use Rattle.std.proofs.lemmas.Bool.Decides.{nat_tests}
+use Rattle.std.proofs.lemmas.Grind.{common_steps}
+use Rattle.memchr.specs.Find.{IsFirstByte, is_byte}
+use Rattle.iri_text.specs.Lines.{NoLf, no_cr}
+
+pub length-part : (xs : List ℕ) (a b : ℕ) → b ≤ length xs → length (slice_range xs a b) ≡ b - a
+length-part xs a b h = grind (arith, common_steps)
+
+pub get_or-part : (xs : List ℕ) (a b i : ℕ) → i < b - a → get_or (slice_range xs a b) i 0 ≡ get_or xs (a + i) 0
+get_or-part xs a b i h = grind (arith, common_steps)
+
+pub part-split : (xs : List ℕ) (a m b : ℕ) → a ≤ m → m ≤ b → slice_range xs a b ≡ slice_range xs a m ++ slice_range xs m b
+part-split xs a m b h k =
+    let whole : b - a ≡ (m - a) + (b - m) = omega arith in
+    let back : a + (m - a) ≡ m = omega arith in
+    ap (λ (n : ℕ). take n (drop a xs)) whole ∙ take-add (m - a) (b - m) (drop a xs) ∙ ap (λ (l : List ℕ). slice_range xs a m ++ take (b - m) l) (drop-drop (m - a) a xs ∙ ap (λ (n : ℕ). drop n xs) back)
+
+pub part-last : (xs : List ℕ) (a m : ℕ) → a ≤ m → m < length xs → slice_range xs a (m + 1) ≡ slice_range xs a m ++ get_or xs m 0 ∷ []
+part-last xs a m h k =
+    let one : (m + 1) - m ≡ 1 = omega arith in
+    part-split xs a m (m + 1) h (omega arith) ∙ ap (λ (l : List ℕ). slice_range xs a m ++ l) (rw (one, drop-cons xs m 0) refl)
+
+pub NoLf-append : (xs ys : List ℕ) → NoLf xs → NoLf ys → NoLf (xs ++ ys)
+NoLf-append [] ys p q = q
+NoLf-append (x ∷ xs) ys p q = (p.0, NoLf-append xs ys p.1 q)
+
+pub NoLf-nowhere : (xs : List ℕ) → ((k : ℕ) → k < length xs → get_or xs k 0 ≢ 10) → NoLf xs
+NoLf-nowhere [] f = tt
+NoLf-nowhere (x ∷ xs) f = (f 0 (omega arith), NoLf-nowhere xs (λ k h. f (suc k) (omega arith)))
+
+pub no_cr-cr : (xs : List ℕ) → no_cr (xs ++ 13 ∷ []) ≡ xs
+no_cr-cr [] = refl
+no_cr-cr (x ∷ []) = refl
+no_cr-cr (x ∷ y ∷ xs) = ap (λ l. x ∷ l) (no_cr-cr (y ∷ xs))
+
+pub no_cr-other : (xs : List ℕ) (b : ℕ) → b ≢ 13 → no_cr (xs ++ b ∷ []) ≡ xs ++ b ∷ []
+no_cr-other [] b h = grind (arith, nat_tests)
+no_cr-other (x ∷ []) b h = ap (λ l. x ∷ l) (no_cr-other [] b h)
+no_cr-other (x ∷ y ∷ xs) b h = ap (λ l. x ∷ l) (no_cr-other (y ∷ xs) b h)
+
+-- what a search of a part says
+pub found : (xs : List ℕ) (a b : ℕ) (r : Option ℕ) → a ≤ b → b ≤ length xs → IsFirstByte (is_byte 10) (slice_range xs a b) r
+    → MatchOption r (NoLf (slice_range xs a b)) (λ i. (i < b - a) × NoLf (slice_range xs a (a + i)) × (get_or xs (a + i) 0 ≡ 10))
+found xs a b None h k is = NoLf-nowhere (slice_range xs a b) (λ i l e. is i (omega arith) l (eq-eqb _ _ e))
+found xs a b (Some i) h k is =
+    let long = length-part xs a b k in
+    let low : i < b - a = omega (arith, is.0.high, long) in
+    let none : (j : ℕ) → j < length (slice_range xs a (a + i)) → get_or (slice_range xs a (a + i)) j 0 ≢ 10 = (λ j l e.
+    let short = length-part xs a (a + i) (omega (arith, low, k, h)) in
+    let l' : j < (a + i) - a = omega (arith, l, short) in
+    let l'' : j < i = omega arith in
+    is.0.before j (omega arith) l'' (eq-eqb _ _ (get_or-part xs a b j (omega (arith, l'', low)) ∙ sym (get_or-part xs a (a + i) j l') ∙ e))) in
+    (low, NoLf-nowhere _ none, sym (get_or-part xs a b i low) ∙ eqb-true _ _ is.1)
+
+pub NoLf-take : (xs : List ℕ) (m n : ℕ) → m ≤ n → NoLf (take n xs) → NoLf (take m xs)
+NoLf-take xs zero n h p = tt
+NoLf-take [] (suc m) n h p = tt
+NoLf-take (x ∷ xs) (suc m) zero h p = absurd (omega arith)
+NoLf-take (x ∷ xs) (suc m) (suc n) h p = (p.0, NoLf-take xs m n (omega arith) p.1)
+
+-- what was seen and what was found after it
+pub NoLf-further : (xs : List ℕ) (a b : ℕ) → a ≤ b → NoLf (take a xs) → NoLf (slice_range xs a b) → NoLf (take b xs)
+NoLf-further xs a b h p q =
+    let e : a + (b - a) ≡ b = omega arith in
+    subst NoLf (sym (take-add a (b - a) xs) ∙ ap (λ (n : ℕ). take n xs) e) (NoLf-append (take a xs) (slice_range xs a b) p q)
+
+-- the last byte
+last-is : (xs : List ℕ) → 0 < length xs → take (length xs - 1) xs ++ get_or xs (length xs - 1) 0 ∷ [] ≡ xs
+last-is xs h =
+    let e : suc (length xs - 1) ≡ length xs = omega arith in
+    sym (take-suc xs (length xs - 1) 0 (omega arith)) ∙ ap (λ (n : ℕ). take n xs) e ∙ take-length xs
+
+pub cr-len : (xs : List ℕ) → 0 < length xs → get_or xs (length xs - 1) 0 ≡ 13 → take (length xs - 1) xs ≡ no_cr xs
+cr-len xs h e = sym (ap no_cr (sym (last-is xs h) ∙ ap (λ (c : ℕ). take (length xs - 1) xs ++ c ∷ []) e) ∙ no_cr-cr (take (length xs - 1) xs))
+
+pub other-len : (xs : List ℕ) → 0 < length xs → get_or xs (length xs - 1) 0 ≢ 13 → take (length xs) xs ≡ no_cr xs
+other-len xs h e = take-length xs ∙ sym (last-is xs h) ∙ sym (ap no_cr (sym (last-is xs h)) ∙ no_cr-other (take (length xs - 1) xs) (get_or xs (length xs - 1) 0) e)
+
+pub empty-part : (xs : List ℕ) (a b : ℕ) → b ≤ a → slice_range xs a b ≡ []
+empty-part xs a b h = let e : b - a ≡ 0 = omega arith in rw e refl

@@ -1,0 +1,6 @@
+use Rattle.std.proofs.Common.{arith}
+use Rattle.iri_text.proofs.LimitsLemmas.{long}
+use Rattle.iri_text.proofs.laws.line_past_its_limit.Goals as goal
+
+pub returns : goal.returns
+returns c = λ line input place front rest n l i. long line input place 0 front rest n (omega arith) (omega (arith, l)) i

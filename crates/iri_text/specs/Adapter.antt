@@ -1,0 +1,15 @@
+-- What the source and the sink over std's readers and writers are seen as, and what they do to them.
+use Rattle.std.specs.Prelude.{◌≡◌, ℕ, List, ◌++◌, Option}
+use Rattle.std.specs.Io.KnownBytes.{Appends}
+
+-- the reader or the writer, and how often it failed, at most 2^64 - 1
+pub record Adapter (T : Type 0) : Type 0 where
+  pub inner : T
+  pub faults : ℕ
+
+-- a writer that tells its bytes has a front of these behind them
+pub record WritesFront (old new : Option (List ℕ)) (bytes : List ℕ) : Type 0 where
+  pub front : List ℕ
+  pub rest : List ℕ
+  pub split : front ++ rest ≡ bytes
+  pub appended : Appends old new front

@@ -1,0 +1,9 @@
+-- A text and the front of another.
+use Rattle.std.specs.Prelude.{◌≡◌, ℕ, List, ◌++◌}
+
+-- the new text is the old one, and behind it a front of another
+pub record IsFrontAfter (old t new : List ℕ) : Type 0 where
+  pub front : List ℕ
+  pub rest : List ℕ
+  pub split : front ++ rest ≡ t
+  pub appended : new ≡ old ++ front

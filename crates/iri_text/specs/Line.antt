@@ -1,0 +1,35 @@
+-- What a reader of lines is seen as.
+use Rattle.std.specs.Prelude.{◌≡◌, ◌<◌, ◌≤◌, ◌+◌, ◌^◌, ℕ, Bool, true, List, length, take, slice_range}
+use Rattle.iri_text.specs.Lines.{NoLf}
+
+-- what a reader of lines holds, and what its calls told
+pub record LineState : Type 0 where
+  -- the bytes that were taken and not given out
+  pub held : List ℕ
+  -- the count of all bytes that were taken
+  pub taken : ℕ
+  -- the line, where the last call gave one
+  pub line : List ℕ
+  -- a line was given that had no LF
+  pub ended : Bool
+  -- a call answered that there is no line, or a fault
+  pub done : Bool
+  -- the most bytes of a line before its LF, and of the whole input
+  pub line_limit : ℕ
+  pub input_limit : ℕ
+
+-- where the parts lie in the buffer
+pub record IsLaidOut (buf : List ℕ) (ended : Bool) (start end seen line_start line_end taken line_limit input_limit : ℕ) : Type 0 where
+  pub start_in : start ≤ end
+  pub end_in : end ≤ length buf
+  pub seen_in : start + seen ≤ end
+  pub line_in : line_start ≤ line_end
+  pub line_end_in : line_end ≤ length buf
+  pub room : length buf ≡ line_limit + 65536
+  pub small : line_limit ≤ 1048576
+  pub limit : input_limit < 2 ^ 63
+  pub count : taken ≤ input_limit + 1
+  pub all : end ≤ start + taken
+  pub over : input_limit < taken → start + seen < end
+  pub none_held : ended ≡ true → end ≤ start
+  pub no_lf : NoLf (take seen (slice_range buf start end))

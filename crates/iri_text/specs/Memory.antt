@@ -1,0 +1,29 @@
+-- What the sources and the sink over memory are seen as. Lengths, cuts and room are counts of bytes.
+use Rattle.std.specs.Prelude.{ℕ, ◌-◌, List, length, min, Option, None, Some, slice_get}
+
+-- The bytes that are left, the most bytes that each call gives, the numbers of the calls that fail,
+-- the number of the last call, from 1 and at most 2^64 - 1, and how often it failed.
+pub record SourceState : Type 0 where
+  pub left : List ℕ
+  pub cuts : List ℕ
+  pub fails : List ℕ
+  pub calls : ℕ
+  pub faults : ℕ
+
+-- The bytes that were written, how many there can be, the numbers of the calls that fail,
+-- the number of the last call, from 1 and at most 2^64 - 1, and how often it failed.
+pub record SinkState : Type 0 where
+  pub written : List ℕ
+  pub room : ℕ
+  pub fails : List ℕ
+  pub calls : ℕ
+  pub faults : ℕ
+
+-- the most bytes that a call gives, by its number from 1: the last cut repeats, and with no cuts there is no bound
+abbrev pub cut_of : List ℕ → ℕ → Option ℕ
+cut_of cuts number = slice_get cuts (min (number - 1) (length cuts - 1))
+
+-- at most so many
+abbrev pub capped : Option ℕ → ℕ → ℕ
+capped None n = n
+capped (Some cut) n = min n cut

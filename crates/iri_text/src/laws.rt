@@ -1,0 +1,41 @@
+// What holds of the lines of a text and of the limits.
+ghost use Rattle.std.specs.Prelude.{◌≡◌, ◌≢◌, ◌≤◌, ◌<◌, ◌+◌, ℕ, List, [], ◌∷◌, ◌++◌, length, Some, None};
+ghost use Rattle.iri_text.specs.Lines.{NoLf, no_cr, lines};
+ghost use Rattle.iri_text.specs.Limits.{limit_fault};
+ghost use Rattle.iri_text.specs.declared.reader.LineFault.TheVariants.{LineTooLong, InputTooLong};
+
+/// What comes before the first LF, without one CR at its end, is the first line. The others are the lines of what follows.
+pub fn line_before_lf()
+    ensures { (raw rest : List ℕ) → NoLf raw → lines (raw ++ 10 ∷ rest) ≡ no_cr raw ∷ lines rest }
+{}
+
+/// Bytes with no LF are one line, without one CR at their end.
+pub fn last_line()
+    ensures { (raw : List ℕ) → NoLf raw → raw ≢ [] → lines raw ≡ no_cr raw ∷ [] }
+{}
+
+/// One CR at the end goes, and no other byte.
+pub fn line_without_cr()
+    ensures cr { (bytes : List ℕ) → no_cr (bytes ++ 13 ∷ []) ≡ bytes }
+    ensures other { (bytes : List ℕ) (b : ℕ) → b ≢ 13 → no_cr (bytes ++ b ∷ []) ≡ bytes ++ b ∷ [] }
+{}
+
+/// Behind `place` bytes a line passes its limit where no LF stands among as many bytes as it and one more, and they are within
+/// the limit of the input.
+pub fn line_past_its_limit()
+    ensures { (line input place : ℕ) (front rest : List ℕ) → NoLf front → length front ≡ line + 1 → place + length front ≤ input →
+        limit_fault line input place 0 (front ++ rest) ≡ Some LineTooLong }
+{}
+
+/// Behind `place` bytes a byte passes the limit of the input where it comes behind as many bytes as that, and the line before
+/// it hasn't ended and is within its own limit.
+pub fn input_past_its_limit()
+    ensures { (line input place last : ℕ) (front rest : List ℕ) → NoLf front → length front ≤ line → place + length front ≡ input →
+        limit_fault line input place 0 (front ++ last ∷ rest) ≡ Some InputTooLong }
+{}
+
+/// Behind `place` bytes a line that an LF ends passes no limit where it is within its own and its LF within that of the input.
+pub fn line_within_its_limits()
+    ensures { (line input place : ℕ) (raw rest : List ℕ) → NoLf raw → length raw ≤ line → place + length raw < input →
+        limit_fault line input place 0 (raw ++ 10 ∷ rest) ≡ None }
+{}

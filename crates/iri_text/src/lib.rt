@@ -1,0 +1,94 @@
+//! Sources and sinks of bytes, the lines of a source, and values with a text that they show to a sink.
+//!
+//! - [`Source`] gives bytes, [`Sink`] takes them. Each may tell which bytes, and each counts its faults.
+//! - [`PlainSource`], [`MemorySource`] and [`MemorySink`] work on slices; the last two fail as they are told.
+//! - [`ReadSource`] and [`WriteSink`] work on std's readers and writers.
+//! - [`LineReader`] gives the lines of any source, with a limit for the bytes of a line and one for those of the whole input.
+//! - [`Show`] is a value with a text, and [`TextSink`] takes text in pieces and needn't keep it. [`SliceSink`] keeps it in a
+//!   slice, [`StringSink`] at the end of a string.
+//! - [`write_to_slice`], [`try_append_to_string`], [`ToStringFallible`] and [`ToDedicatedString`] take the text of a value, and
+//!   [`display`] makes a `Display` of a `Show`.
+//! - [`show_two`] to [`show_five`] and [`show_each`] show values in a row: a `show` of several pieces is one call of these.
+//! - [`Text`] and [`Bytes`] own a text and bytes.
+//!
+//! Proved: every source and sink here keeps its trait (`Takes`, `PutsAll`): what was taken or put, that the count of faults
+//! never falls, and that it rose where a call failed. `MemorySource` and `MemorySink` fail exactly where they are told to or
+//! have no room, `PlainSource` never. A `LineReader` gives the next of the `lines` of what is still to come, answers that a
+//! limit is passed exactly where one is and names the one that is passed first, and keeps what it took after every fault.
+//! `show` appends exactly the text of its value, or the sink's count of stops rose and the sink stopped within that text
+//! (`Shows`). The text of an integer is std's decimal. A slice sink stops exactly where a piece is longer than the rest of its
+//! slice, and a string sink only where its string would have to grow; both take nothing of a piece at which they stop.
+//! `write_to_slice` refuses exactly where the text is longer than the slice.
+//!
+//! Not proved: what a real stream does. As a source and a sink, `ReadSource` and `WriteSink` tell no bytes; they are proved to
+//! pass on the bytes of a reader or a writer that tells its own, as one over memory. Which of their calls fail is the
+//! reader's or the writer's matter; that they fail only where it does is tested, and so are that `LineReader::new` gets its
+//! memory, that memory is had where a string grows, and that `display` fails only where the formatter does.
+#![tactic(auto)]
+
+ghost use Rattle.std.specs.Prelude.{ℕ, List, Option};
+ghost use Rattle.iri_text.specs.Source.{Takes};
+ghost use Rattle.iri_text.specs.Sink.{PutsAll};
+
+mod format;
+mod format_sink;
+mod held;
+pub mod laws;
+mod memory_sink;
+mod memory_source;
+mod number;
+mod owned;
+mod place;
+mod plain_source;
+mod read_source;
+mod reader;
+mod row;
+mod show;
+mod slice_sink;
+mod string_sink;
+mod write_sink;
+
+pub use format::display;
+pub use held::{Bytes, Text};
+pub use memory_sink::MemorySink;
+pub use memory_source::MemorySource;
+pub use owned::{ToDedicatedString, ToStringFallible};
+pub use plain_source::PlainSource;
+pub use read_source::ReadSource;
+pub use reader::{LineFault, LineReader};
+pub use row::{show_each, show_five, show_four, show_three, show_two};
+pub use show::{Show, Stop, TextSink};
+pub use slice_sink::{CapacityOverflowError, SliceSink, write_to_slice};
+pub use string_sink::{StringSink, try_append_to_string};
+pub use write_sink::WriteSink;
+
+/// A source or a sink failed.
+#[derive(Clone, Copy, Debug)]
+pub struct Failed;
+
+/// Where bytes come from.
+pub trait Source {
+    /// The bytes still to come, where the source tells them.
+    ghost left: { Self → Option (List ℕ) };
+
+    /// How often it failed, up to 2^64 - 1, where the count stays.
+    ghost faults: { Self → ℕ };
+
+    /// Puts the next bytes at the front of `buf` and answers how many, at most its length. The answer is 0 only where nothing
+    /// is left or `buf` is empty. It fails only where the count of faults rises, and takes nothing then.
+    fn take(&mut self, buf: &mut [u8]) -> Result<usize, Failed>
+        ensures { Takes (left self.old) (left self.new) (faults self.old) (faults self.new) result buf.new };
+}
+
+/// Where bytes go.
+pub trait Sink {
+    /// The bytes that were written, where the sink tells them.
+    ghost written: { Self → Option (List ℕ) };
+
+    /// How often it failed, up to 2^64 - 1, where the count stays.
+    ghost faults: { Self → ℕ };
+
+    /// Writes the whole piece. It fails only where the count of faults rises, and has written a front of the piece then.
+    fn put_all(&mut self, piece: &[u8]) -> Result<(), Failed>
+        ensures { PutsAll (written self.old) (written self.new) (faults self.old) (faults self.new) result piece.now };
+}

@@ -1,0 +1,41 @@
+use super::ReadSource;
+use crate::Source;
+use std::io;
+use std::io::Read;
+
+// Gives at most two bytes a call. The second call fails.
+#[derive(Drop)]
+struct ShortReader {
+    bytes: &'static [u8],
+    calls: u8,
+}
+
+impl Read for ShortReader {
+    fn read(&mut self, buf: &mut [u8]) -> io::Result<usize> {
+        self.calls = self.calls.saturating_add(1);
+        if self.calls == 2 {
+            return Err(io::ErrorKind::Other.into());
+        }
+        let n = self.bytes.len().min(buf.len()).min(2);
+        buf[..n].copy_from_slice(&self.bytes[..n]);
+        self.bytes = &self.bytes[n..];
+        Ok(n)
+    }
+}
+
+#[test]
+fn takes_what_the_reader_gives(rt: HostRuntime) {
+    let mut source = ReadSource::new(ShortReader {
+        bytes: b"abc",
+        calls: 0,
+    });
+    let mut buf = [0; 4];
+    assert_eq!(rt; source.take(&mut buf).ok(), Some(2));
+    assert_eq!(rt; &buf[..2], b"ab".as_slice());
+    assert_eq!(rt; source.take(&mut buf).ok(), None);
+    assert_eq!(rt; source.faults, 1);
+    assert_eq!(rt; source.take(&mut buf).ok(), Some(1));
+    assert_eq!(rt; &buf[..1], b"c".as_slice());
+    assert_eq!(rt; source.take(&mut buf).ok(), Some(0));
+    assert_eq!(rt; source.faults, 1);
+}

@@ -1,0 +1,82 @@
+use crate::{LineFault, LineReader, MemorySource, PlainSource, Source};
+use std::test::Fail;
+
+// These are the lines of the source, and then comes this end or fault.
+fn gives<I: Source>(
+    reader: &mut LineReader,
+    source: &mut I,
+    lines: &[&[u8]],
+    fault: Option<LineFault>,
+) -> bool {
+    for want in lines {
+        if reader.is_done() {
+            return false;
+        }
+        match reader.next_line(source) {
+            Ok(Some(line)) if line == *want => {}
+            _ => return false,
+        }
+    }
+    if reader.is_done() {
+        return false;
+    }
+    let last = match reader.next_line(source) {
+        Ok(Some(_)) => return false,
+        Ok(None) => None,
+        Err(fault) => Some(fault),
+    };
+    last == fault && reader.is_done()
+}
+
+#[test]
+fn lines_and_the_end(rt: HostRuntime) -> Result<(), Fail> {
+    let text = b"ab\r\ncd";
+    let want: [&[u8]; 2] = [b"ab", b"cd"];
+    let mut reader = LineReader::new(rt.alloc(), 8, 20)?;
+    let mut whole = PlainSource::new(text);
+    assert!(rt; gives(&mut reader, &mut whole, &want, None));
+    let mut reader = LineReader::new(rt.alloc(), 8, 20)?;
+    let mut bytes = MemorySource::new(text, &[1], &[]);
+    assert!(rt; gives(&mut reader, &mut bytes, &want, None));
+    Ok(())
+}
+
+#[test]
+fn limits(rt: HostRuntime) -> Result<(), Fail> {
+    let mut reader = LineReader::new(rt.alloc(), 8, 20)?;
+    let mut source = PlainSource::new(b"123456789");
+    assert!(rt; gives(&mut reader, &mut source, &[], Some(LineFault::LineTooLong)));
+    let mut reader = LineReader::new(rt.alloc(), 8, 20)?;
+    let mut source = PlainSource::new(b"1234567\n1234567\n12345");
+    let want: [&[u8]; 2] = [b"1234567", b"1234567"];
+    assert!(rt;
+        gives(
+            &mut reader,
+            &mut source,
+            &want,
+            Some(LineFault::InputTooLong)
+        )
+    );
+    // The ninth byte passes both limits.
+    let mut reader = LineReader::new(rt.alloc(), 8, 8)?;
+    let mut source = PlainSource::new(b"123456789");
+    assert!(rt; gives(&mut reader, &mut source, &[], Some(LineFault::InputTooLong)));
+    Ok(())
+}
+
+#[test]
+fn a_source_that_fails_in_a_line(rt: HostRuntime) -> Result<(), Fail> {
+    let mut reader = LineReader::new(rt.alloc(), 8, 20)?;
+    let mut source = MemorySource::new(b"ab\ncd", &[4], &[2]);
+    let want: [&[u8]; 1] = [b"ab"];
+    assert!(rt; gives(&mut reader, &mut source, &want, Some(LineFault::Source)));
+    Ok(())
+}
+
+#[test]
+fn goes_to_a_line(rt: HostRuntime) -> Result<(), Fail> {
+    let mut reader = LineReader::new(rt.alloc(), 1048576, 268435456)?;
+    assert_eq!(rt; reader.advance(&mut PlainSource::new(b"a\nb")), Ok(true));
+    assert_eq!(rt; reader.line(), b"a".as_slice());
+    Ok(())
+}

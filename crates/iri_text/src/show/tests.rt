@@ -1,0 +1,104 @@
+use crate::{
+    Bytes, CapacityOverflowError, Show, SliceSink, Stop, StringSink, Text, TextSink,
+    ToDedicatedString, ToStringFallible, show_each, show_five, show_four, show_three, show_two,
+    try_append_to_string, write_to_slice,
+};
+use std::alloc::{AllocError, Global};
+use std::test::Fail;
+
+// A word that can be owned.
+struct Word<'a>(&'a str);
+
+impl<'a> Show for Word<'a> {
+    ghost text = { λ w. w.0.now };
+
+    fn show<W: TextSink>(&self, sink: &mut W) -> Result<(), Stop> {
+        sink.put(self.0)
+    }
+}
+
+impl<'a> ToDedicatedString for Word<'a> {
+    type Target = Text;
+
+    fn try_to_dedicated_string(&self, alloc: Global) -> Result<Text, AllocError> {
+        let string = self.try_to_string(alloc)?;
+        Ok(Text::from_string(string))
+    }
+}
+
+fn owned<T: ToDedicatedString>(value: &T, alloc: Global) -> Result<T::Target, AllocError> {
+    value.try_to_dedicated_string(alloc)
+}
+
+#[test]
+fn slices(rt: HostRuntime) -> Result<(), Fail> {
+    let mut five = [0u8; 5];
+    match write_to_slice(&mut five, &"hello") {
+        Ok(text) => assert_eq!(rt; text, "hello"),
+        Err(_) => assert!(rt; false),
+    }
+    let mut four = [0u8; 4];
+    match write_to_slice(&mut four, &"hello") {
+        Ok(_) => assert!(rt; false),
+        Err(error) => {
+            let told = format!(in rt.alloc(); "{error}")?;
+            assert_eq!(rt; told.as_str(), "buffer capacity overflow");
+        }
+    }
+    let copy = CapacityOverflowError.clone()?;
+    let told = format!(in rt.alloc(); "{copy:?}")?;
+    assert_eq!(rt; told.as_str(), "CapacityOverflowError");
+    Ok(())
+}
+
+#[test]
+fn a_slice_stops_where_no_room_is_left(rt: HostRuntime) {
+    let mut buf = [0u8; 4];
+    let mut sink = SliceSink::new(&mut buf);
+    assert!(rt; show_three(&mut sink, &"ab", &"cde", &"f").is_err());
+    assert_eq!(rt; sink.as_str(), "ab");
+    assert!(rt; sink.put("\u{e9}").is_ok());
+    assert_eq!(rt; sink.as_str(), "ab\u{e9}");
+}
+
+#[test]
+fn strings(rt: HostRuntime) -> Result<(), Fail> {
+    let mut text = "a".to_string(rt.alloc())?;
+    try_append_to_string(&mut text, &42u8)?;
+    assert_eq!(rt; text.as_str(), "a42");
+    let shown = 42i32.try_to_string(rt.alloc())?;
+    assert_eq!(rt; shown.as_str(), "42");
+    let mut sink = StringSink::new(&mut text);
+    assert!(rt; sink.put("b").is_ok());
+    assert_eq!(rt; text.as_str(), "a42b");
+    let again = text.try_to_string(rt.alloc())?;
+    assert_eq!(rt; again.as_str(), "a42b");
+    Ok(())
+}
+
+#[test]
+fn rows(rt: HostRuntime) -> Result<(), Fail> {
+    let mut text = String::new(rt.alloc());
+    let mut sink = StringSink::new(&mut text);
+    assert!(rt; show_two(&mut sink, &"a", &1u8).is_ok());
+    assert!(rt; show_four(&mut sink, &"b", &-2i8, &"c", &"d").is_ok());
+    assert!(rt; show_five(&mut sink, &"e", &"f", &3u64, &"g", &"h").is_ok());
+    assert!(rt; show_each(&mut sink, &["i", "", "jk"]).is_ok());
+    assert_eq!(rt; text.as_str(), "a1b-2cdef3ghijk");
+    Ok(())
+}
+
+#[test]
+fn held(rt: HostRuntime) -> Result<(), Fail> {
+    let text = owned(&Word("word"), rt.alloc())?;
+    assert_eq!(rt; text.as_str(), "word");
+    let printed = format!(in rt.alloc(); "<{text}>")?;
+    assert_eq!(rt; printed.as_str(), "<word>");
+    let shown = text.try_to_string(rt.alloc())?;
+    assert_eq!(rt; shown.as_str(), "word");
+    assert_eq!(rt; text.into_string().as_str(), "word");
+    let bytes = Bytes::from_vec(vec![in rt.alloc(); 1, 2]?);
+    assert_eq!(rt; bytes.as_slice(), [1, 2].as_slice());
+    assert_eq!(rt; bytes.into_vec().as_slice(), [1, 2].as_slice());
+    Ok(())
+}

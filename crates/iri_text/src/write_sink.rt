@@ -1,0 +1,69 @@
+// A sink over std's writers. It tells no bytes: what a real stream takes is not known.
+ghost use Rattle.std.specs.Prelude.{◌≡◌, None};
+
+use crate::{Failed, Sink};
+use std::io::Write;
+use std::marker::Model;
+
+/// Puts bytes into a writer.
+#[derive(Drop)]
+pub struct WriteSink<W> {
+    writer: W,
+    faults: u64,
+}
+
+impl<W> Model for WriteSink<W> {
+    ghost use Rattle.iri_text.specs.Adapter.{Adapter};
+
+    ghost Value = { Adapter W };
+
+    ghost view = { λ s. record { inner = s.writer; faults = s.faults } };
+}
+
+impl<W: Write> WriteSink<W> {
+    /// It has not failed yet, and never tells what is written.
+    pub fn new(writer: W) -> WriteSink<W>
+        ensures writer { result.inner ≡ writer }
+        ensures written { ⟦<WriteSink<W> as Sink>⟧.written result ≡ None }
+        ensures faults { ⟦<WriteSink<W> as Sink>⟧.faults result ≡ 0 }
+    {
+        WriteSink { writer, faults: 0 }
+    }
+}
+
+impl<W: Write> Sink for WriteSink<W> {
+    ghost use Rattle.std.specs.Prelude.{◌≡◌, ◌+◌, ◌-◌, ◌^◌, [], min, None, OnOk, OnErr, IsOk};
+    ghost use Rattle.std.specs.Io.KnownBytes.{Appends};
+    ghost use Rattle.iri_text.specs.Adapter.{WritesFront};
+    ghost use Rattle.iri_text.specs.Sink.{PutsAll};
+
+    ghost written = { λ _. None };
+
+    ghost faults = { λ s. s.faults };
+
+    /// Writes until the whole piece is taken. It fails where the writer answers an error or takes nothing,
+    /// which raises the count by one, up to its last value. Where the writer tells its bytes,
+    /// it has the whole piece, or a front of it, behind them. An empty piece is not written at all.
+    fn put_all(&mut self, piece: &[u8]) -> Result<(), Failed>
+        ensures puts { PutsAll None None self.old.faults self.new.faults result piece.now }
+        ensures whole { OnOk result (Appends (W.contents self.old.inner) (W.contents self.new.inner) piece.now) }
+        ensures front { OnErr result (WritesFront (W.contents self.old.inner) (W.contents self.new.inner) piece.now) }
+        ensures raised { OnErr result (self.new.faults ≡ min (self.old.faults + 1) (2 ^ 64 - 1)) }
+        ensures empty { piece.now ≡ [] → IsOk result }
+    {
+        let mut rest = piece;
+        while !rest.is_empty() {
+            match self.writer.write(rest) {
+                Ok(0) | Err(_) => {
+                    self.faults = self.faults.saturating_add(1);
+                    return Err(Failed);
+                }
+                Ok(n) => rest = &rest[n..],
+            }
+        }
+        Ok(())
+    }
+}
+
+#[cfg(test)]
+mod tests;

@@ -1,0 +1,53 @@
+use super::WriteSink;
+use crate::Sink;
+use std::io;
+use std::io::Write;
+use std::test::Fail;
+
+// Takes at most three bytes a call, fails once where it has `failing` bytes, and takes nothing once it has `full`.
+#[derive(Drop)]
+struct ShortWriter {
+    got: Vec<u8>,
+    failing: Option<usize>,
+    full: usize,
+}
+
+impl Write for ShortWriter {
+    fn write(&mut self, buf: &[u8]) -> io::Result<usize> {
+        let len = self.got.len();
+        if self.failing == Some(len) {
+            self.failing = None;
+            return Err(io::ErrorKind::Other.into());
+        }
+        if len >= self.full {
+            return Ok(0);
+        }
+        let n = buf.len().min(3);
+        self.got.extend_from_slice(&buf[..n])?;
+        Ok(n)
+    }
+
+    fn flush(&mut self) -> io::Result<()> {
+        Ok(())
+    }
+}
+
+#[test]
+fn writes_until_all_is_taken(rt: HostRuntime) -> Result<(), Fail> {
+    let mut sink = WriteSink::new(ShortWriter {
+        got: Vec::new(rt.alloc()),
+        failing: Some(7),
+        full: 10,
+    });
+    assert!(rt; sink.put_all(b"abcdefg").is_ok());
+    assert_eq!(rt; sink.faults, 0);
+    // An error, and nothing after it is tried.
+    assert!(rt; sink.put_all(b"hij").is_err());
+    assert_eq!(rt; sink.faults, 1);
+    assert_eq!(rt; sink.writer.got.as_slice(), b"abcdefg".as_slice());
+    // A write of no bytes.
+    assert!(rt; sink.put_all(b"hijk").is_err());
+    assert_eq!(rt; sink.faults, 2);
+    assert_eq!(rt; sink.writer.got.as_slice(), b"abcdefghij".as_slice());
+    Ok(())
+}
