@@ -1,0 +1,83 @@
+-- Texts of one kind that are, or hold, texts of another.
+use Rattle.std.proofs.Common.{◌≡◌, ℕ, true, List, [], ◌∷◌, ◌++◌, Option, Some, None, refl, sym, ◌∙◌, ap, subst, append_assoc}
+use Rattle.std.specs.Prelude.{IsSome, IsNone}
+use Rattle.std.proofs.lemmas.List.{append-nil}
+use Rattle.iri_grammar.specs.Classes.{Tests, IsSpec}
+use Rattle.iri_grammar.specs.Components.{if_there, is_scheme}
+use Rattle.iri_grammar.specs.Cut.{before, behind, lacks, marked}
+use Rattle.iri_grammar.specs.CutLaws.{before-marked, behind-marked, lacks-append, joined}
+use Rattle.iri_grammar.specs.Parts.{Parts, Splits, recompose, scheme_text, authority_text}
+use Rattle.iri_grammar.specs.Split.{split_of}
+use Rattle.iri_grammar.specs.SplitLaws.{Marks, recompose_split, scheme-lacks, hash_ends, authority_text-lacks, marked-lacks}
+use Rattle.iri_grammar.specs.SplitUnique.{fits-marks}
+use Rattle.iri_grammar.specs.WholeFault.{reference_fault, iri_fault, absolute_fault, relative_fault}
+use Rattle.iri_grammar.specs.FaultLaws.{splits_where_no_fault, iri-law, absolute-law, relative-law}
+use Rattle.iri_types.specs.KindLaws.{iri-whole, iri-scheme}
+
+-- ---- a reference is an IRI where a scheme stands, and otherwise a relative reference
+pub reference-iri : (s : Tests) → IsSpec s → (t u : List ℕ) → reference_fault s t ≡ None → t ≡ u → (x : List ℕ) → Some x ≡ (split_of u).scheme → iri_fault s t ≡ None
+reference-iri s k t u h e x i = (iri-law s k t).1 (split_of t, splits_where_no_fault s t h, subst (λ o. IsSome o) (i ∙ ap (λ z. (split_of z).scheme) (sym e)) refl)
+
+pub reference-relative : (s : Tests) → IsSpec s → (t u : List ℕ) → reference_fault s t ≡ None → t ≡ u → None ≡ (split_of u).scheme → relative_fault s t ≡ None
+reference-relative s k t u h e i = (relative-law s k t).1 (split_of t, splits_where_no_fault s t h, subst (λ o. IsNone o) (i ∙ ap (λ z. (split_of z).scheme) (sym e)) refl)
+
+pub absolute-iri : (s : Tests) → IsSpec s → (t : List ℕ) → absolute_fault s t ≡ None → iri_fault s t ≡ None
+absolute-iri s k t h = let r = (absolute-law s k t).0 h in (iri-law s k t).1 (r.0, r.1, r.2)
+
+-- ---- what stands before the fragment
+-- the parts but the fragment, as they stand in the text
+abbrev front_of : Parts → List ℕ
+front_of p = scheme_text p.scheme ++ (authority_text p.authority ++ (p.path ++ marked 63 p.query))
+
+abbrev bare : Parts → Parts
+bare p = record { scheme = p.scheme; authority = p.authority; path = p.path; query = p.query; fragment = None }
+
+recompose-bare : (p : Parts) → recompose (bare p) ≡ front_of p
+unfolding recompose
+recompose-bare p = ap (λ z. scheme_text p.scheme ++ (authority_text p.authority ++ (p.path ++ z))) (append-nil (marked 63 p.query))
+
+recompose-front : (p : Parts) → recompose p ≡ front_of p ++ marked 35 p.fragment
+unfolding recompose
+recompose-front p = regroup (scheme_text p.scheme) (authority_text p.authority) p.path (marked 63 p.query) (marked 35 p.fragment)
+  where
+    regroup : (a b c d e : List ℕ) → a ++ (b ++ (c ++ (d ++ e))) ≡ (a ++ (b ++ (c ++ d))) ++ e
+    regroup a b c d e = simp append_assoc
+
+scheme_text-lacks : (o : Option (List ℕ)) → if_there is_scheme o ≡ true → lacks 35 (scheme_text o) ≡ true
+scheme_text-lacks None h = refl
+scheme_text-lacks (Some x) h = lacks-append 35 x (58 ∷ []) (scheme-lacks 35 x hash_ends h) refl
+
+lacks-front : (p : Parts) → Marks p → lacks 35 (front_of p) ≡ true
+lacks-front p m =
+    lacks-append 35 (scheme_text p.scheme) _ (scheme_text-lacks p.scheme m.scheme)
+    (lacks-append 35 (authority_text p.authority) _ (authority_text-lacks 35 p.authority refl m.authority_hash)
+    (lacks-append 35 p.path (marked 63 p.query) m.path_hash (marked-lacks 35 63 p.query refl m.query_hash)))
+
+lacks-split : (s : Tests) → IsSpec s → (t : List ℕ) → reference_fault s t ≡ None → lacks 35 (front_of (split_of t)) ≡ true
+lacks-split s k t h = lacks-front (split_of t) (fits-marks s (split_of t) k (splits_where_no_fault s t h).fits)
+
+text-front : (t : List ℕ) → t ≡ front_of (split_of t) ++ marked 35 (split_of t).fragment
+text-front t = sym (recompose_split t) ∙ recompose-front (split_of t)
+
+before-front : (s : Tests) → IsSpec s → (t : List ℕ) → reference_fault s t ≡ None → before 35 t ≡ front_of (split_of t)
+before-front s k t h = ap (before 35) (text-front t) ∙ before-marked 35 (front_of (split_of t)) (split_of t).fragment (lacks-split s k t h)
+
+-- what stands behind the `#` is the fragment
+pub fragment-behind : (s : Tests) → IsSpec s → (t : List ℕ) → reference_fault s t ≡ None → behind 35 t ≡ (split_of t).fragment
+fragment-behind s k t h = ap (behind 35) (text-front t) ∙ behind-marked 35 (front_of (split_of t)) (split_of t).fragment (lacks-split s k t h)
+
+front-splits : (s : Tests) → IsSpec s → (t : List ℕ) → reference_fault s t ≡ None → Splits s (before 35 t) (bare (split_of t))
+front-splits s k t h =
+    let f = (splits_where_no_fault s t h).fits in
+    record {
+      fits = record { scheme = f.scheme; authority = f.authority; path = f.path; query = f.query; fragment = refl; rules = f.rules };
+      text = recompose-bare (split_of t) ∙ sym (before-front s k t h);
+    }
+
+-- what stands before the `#` of an IRI is an absolute IRI
+pub front-absolute : (s : Tests) → IsSpec s → (t : List ℕ) → iri_fault s t ≡ None → absolute_fault s (before 35 t) ≡ None
+front-absolute s k t h = (absolute-law s k (before 35 t)).1 (bare (split_of t), front-splits s k t (iri-whole s k t h), iri-scheme s k t h, refl)
+
+-- both joined are the text
+pub front-joined : (s : Tests) → IsSpec s → (t : List ℕ) → iri_fault s t ≡ None → before 35 t ++ marked 35 (split_of t).fragment ≡ t
+front-joined s k t h = ap (λ o. before 35 t ++ marked 35 o) (sym (fragment-behind s k t (iri-whole s k t h))) ∙ joined 35 t

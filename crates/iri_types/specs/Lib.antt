@@ -1,0 +1,6 @@
+pub mod KindLaws
+pub mod Texts
+pub mod Prefixed
+pub mod KindTexts
+pub mod Components
+pub mod ComponentsText
