@@ -1,0 +1,148 @@
+//! Conversions between kinds by value: they keep the text, or cut it at the fragment.
+ghost use Rattle.std.specs.Prelude.{◌≡◌, ◌++◌, IsNone, IsSome, MatchResult, None, Some};
+ghost use Rattle.std.specs.String.{string_bytes};
+ghost use Rattle.iri_grammar.specs.Cut.{before, marked};
+ghost use Rattle.iri_grammar.specs.Split.{split_of};
+ghost use Rattle.iri_grammar.specs.WholeFault.{absolute_fault};
+ghost use Rattle.iri_types.specs.Texts.{text_of};
+
+use crate::error::CreationError;
+use crate::owned::{
+    Owned, RiAbsoluteString, RiFragmentString, RiReferenceString, RiRelativeString, RiString,
+};
+use iri_grammar::cutting::find;
+use iri_grammar::spec::{IriSpec, Spec, UriSpec};
+use iri_types::kind::{Absolute, Iri, Kind, Reference, WholeKind};
+use iri_types::view::RiFragmentStr;
+use std::alloc::{AllocError, Global};
+
+impl<S: Spec> Owned<S, Reference> {
+    /// The text as an IRI, exactly where a scheme stands; otherwise the same text as a relative reference.
+    pub fn into_iri(self) -> Result<RiString<S>, RiRelativeString<S>>
+        ensures text { MatchResult result (λ iri. iri ≡ self) (λ relative. relative ≡ self) }
+        ensures scheme { MatchResult result (λ _. IsSome (split_of self).scheme) (λ _. IsNone (split_of self).scheme) }
+    {
+        match self.as_slice().scheme_str() {
+            Some(_) => Ok(Owned::from_valid(self.into_string())),
+            None => Err(Owned::from_valid(self.into_string())),
+        }
+    }
+
+    /// The text as a relative reference, exactly where no scheme stands; otherwise the same text as an IRI.
+    pub fn into_relative_iri(self) -> Result<RiRelativeString<S>, RiString<S>>
+        ensures text { MatchResult result (λ relative. relative ≡ self) (λ iri. iri ≡ self) }
+        ensures scheme { MatchResult result (λ _. IsNone (split_of self).scheme) (λ _. IsSome (split_of self).scheme) }
+    {
+        match self.into_iri() {
+            Ok(iri) => Err(iri),
+            Err(relative) => Ok(relative),
+        }
+    }
+}
+
+// The text before the number sign, or all. It takes no memory.
+fn cut_at_fragment(text: String) -> String
+    ensures { string_bytes result ≡ before 35 (string_bytes text) }
+{
+    let mut text = text;
+    if let Some(i) = find(text.as_str(), b'#') {
+        text.truncate(i);
+    }
+    text
+}
+
+// A copy of the fragment, where one stands.
+fn copy_of<S: Spec>(
+    alloc: Global,
+    fragment: Option<RiFragmentStr<'_, S>>,
+) -> Result<Option<RiFragmentString<S>>, AllocError>
+    ensures { MatchResult result (λ copy. copy ≡ text_of fragment.entry) (λ _. IsSome (text_of fragment.entry)) }
+{
+    match fragment {
+        Some(fragment) => match Owned::from_view(alloc, fragment) {
+            Ok(copy) => Ok(Some(copy)),
+            Err(error) => Err(error),
+        },
+        None => Ok(None),
+    }
+}
+
+impl<S: Spec> Owned<S, Iri> {
+    /// The text before the number sign, or all where none stands. It takes no memory.
+    pub fn into_absolute(self) -> RiAbsoluteString<S>
+        ensures { result ≡ before 35 self }
+    {
+        Owned::from_valid(cut_at_fragment(self.into_string()))
+    }
+
+    /// The text before the number sign, or all, and the fragment, where one stands. For want of memory, which
+    /// comes only where a fragment stands, the text is handed back.
+    pub fn into_absolute_and_fragment(
+        self,
+        alloc: Global,
+    ) -> Result<(RiAbsoluteString<S>, Option<RiFragmentString<S>>), RiString<S>>
+        ensures cut { MatchResult result (λ r. (r.0 ≡ before 35 self) × (r.1 ≡ (split_of self).fragment)) (λ iri. (iri ≡ self) × IsSome (split_of self).fragment) }
+        ensures joined { MatchResult result (λ r. r.0 ++ marked 35 r.1 ≡ self) (λ _. Unit {0}) }
+    {
+        match copy_of(alloc, self.as_slice().fragment()) {
+            Ok(fragment) => Ok((self.into_absolute(), fragment)),
+            Err(_) => Err(self),
+        }
+    }
+}
+
+impl<S: Spec> Owned<S, Absolute> {
+    /// The text as an IRI.
+    pub fn into_iri(self) -> RiString<S>
+        ensures { result ≡ self }
+    {
+        Owned::from_valid(self.into_string())
+    }
+
+    /// The text of an IRI, where it is absolute: otherwise its first fault, with the IRI handed back.
+    pub fn try_from_iri(s: RiString<S>) -> Result<Self, CreationError<RiString<S>>>
+        ensures { MatchResult result (λ t. t ≡ s) (λ e. (e.source ≡ s) × (absolute_fault S.tests s ≡ Some e.error.kind)) }
+    {
+        downcast(s)
+    }
+}
+
+// The text as one of another kind: otherwise its first fault, with the text handed back.
+fn downcast<S: Spec, J: Kind, K: Kind>(
+    s: Owned<S, J>,
+) -> Result<Owned<S, K>, CreationError<Owned<S, J>>>
+    ensures { MatchResult result (λ t. t ≡ s) (λ e. (e.source ≡ s) × (K.fault S.tests s ≡ Some e.error.kind)) }
+{
+    match K::validate::<S>(s.as_str()) {
+        Ok(()) => Ok(Owned::from_valid(s.into_string())),
+        Err(error) => Err(CreationError { source: s, error }),
+    }
+}
+
+impl<S: Spec, K: WholeKind> Owned<S, K> {
+    /// The text as a reference.
+    pub fn into_reference(self) -> RiReferenceString<S>
+        ensures { result ≡ self }
+    {
+        Owned::from_valid(self.into_string())
+    }
+
+    /// The text of a reference, where it is of the kind: otherwise its first fault, with the reference handed
+    /// back.
+    pub fn try_from_reference(
+        s: RiReferenceString<S>,
+    ) -> Result<Self, CreationError<RiReferenceString<S>>>
+        ensures { MatchResult result (λ t. t ≡ s) (λ e. (e.source ≡ s) × (K.fault S.tests s ≡ Some e.error.kind)) }
+    {
+        downcast(s)
+    }
+}
+
+impl<K: Kind> Owned<UriSpec, K> {
+    /// The text of URIs as one of IRIs.
+    pub fn into_iri_spec(self) -> Owned<IriSpec, K>
+        ensures { result ≡ self }
+    {
+        Owned::from_valid(self.into_string())
+    }
+}

@@ -1,0 +1,24 @@
+//! Owned texts of a kind, that a program keeps without testing them again (RFC 3986 sections 3 and 4,
+//! RFC 3987 section 2.2).
+//!
+//! An [`Owned`](owned::Owned) holds a string that is in the production of its kind, in a grammar `S`, and is
+//! seen as its UTF-8 bytes. Its names are the six of `owned`, as `RiString<S>`, and their aliases for IRIs and
+//! URIs, as `IriString`. The getters are those of its view, by `as_slice`. `conversions` has the ways from
+//! kind to kind by value, `splice` the edits in place, `error` what refused texts answer.
+//!
+//! Proved: an owned text is in its production; texts outside it are refused with their first fault, and
+//! handed back by the calls that took a string or another kind. After want of memory a text is as it was, or
+//! is handed back. `splice` can't want memory where the new text is no longer than the range. Equality, order
+//! and hash are those of the text, and so is what is shown and displayed.
+//!
+//! Not proved: the words of `CreateError`'s `Display`, which tests show; the text of `Debug`; that what else
+//! takes memory gets it, which tests show with ample memory.
+#![tactic(auto)]
+
+pub mod compared;
+pub mod conversions;
+pub mod error;
+pub mod owned;
+pub mod splice;
+#[cfg(test)]
+mod tests;

@@ -1,0 +1,211 @@
+//! Owned texts of a kind.
+ghost use Rattle.std.specs.Prelude.{◌≡◌, ◌≤◌, length, MatchResult, None, Some, IfOk};
+ghost use Rattle.std.specs.String.{string_bytes};
+ghost use Rattle.iri_grammar.specs.Fault.{bytes_fault};
+ghost use Rattle.iri_owned.specs.Refusals.{RefusedFor};
+ghost use Rattle.iri_types.specs.Texts.{text};
+
+use crate::error::{CreateError, CreationError};
+use iri_grammar::spec::{IriSpec, Spec, UriSpec};
+use iri_types::kind::{Absolute, Fragment, Iri, Kind, Query, Reference, Relative};
+use iri_types::view::View;
+use std::alloc::{AllocError, Global};
+use std::marker::{Model, PhantomData};
+use std::mem;
+
+/// A text of the kind `K` in the grammar `S`, owned. It is seen as its UTF-8 bytes.
+/// Owned texts are equal, ordered and hashed as their texts.
+#[derive(Drop)]
+#[derive_where(Debug)]
+pub struct Owned<S: Spec, K: Kind> {
+    pub(crate) text: String,
+    spec: PhantomData<S>,
+    kind: PhantomData<K>,
+}
+
+impl<S: Spec, K: Kind> Model for Owned<S, K> {
+    ghost use Rattle.std.specs.Prelude.{ℕ, List, ◌≡◌, None};
+    ghost use Rattle.std.specs.String.{string_bytes};
+
+    ghost Value = { List ℕ };
+
+    ghost view = { λ t. string_bytes t.text };
+
+    ghost invariant = { λ t. K.fault S.tests (string_bytes t.text) ≡ None };
+}
+
+impl<S: Spec, K: Kind> Owned<S, K> {
+    /// A copy of a text, where it is in its production: otherwise its first fault.
+    pub fn try_from_str(alloc: Global, s: &str) -> Result<Self, CreateError>
+        ensures { MatchResult result (λ t. t ≡ s.now) (λ e. RefusedFor e (K.fault S.tests s.now)) }
+    {
+        match View::<'_, S, K>::new(s) {
+            Ok(view) => Owned::from_view(alloc, view).map_err(CreateError::Memory),
+            Err(error) => Err(CreateError::Invalid(error)),
+        }
+    }
+
+    /// A copy of bytes, where they are the UTF-8 of a text in its production: otherwise `InvalidUtf8`, or the
+    /// text's first fault.
+    pub fn try_from_bytes(alloc: Global, b: &[u8]) -> Result<Self, CreateError>
+        ensures { MatchResult result (λ t. t ≡ b.now) (λ e. RefusedFor e (bytes_fault (K.fault S.tests) b.now)) }
+    {
+        match View::<'_, S, K>::try_from_bytes(b) {
+            Ok(view) => Owned::from_view(alloc, view).map_err(CreateError::Memory),
+            Err(error) => Err(CreateError::Invalid(error)),
+        }
+    }
+
+    /// The text of a string, where it is in its production: otherwise its first fault, with the string handed
+    /// back. It takes no memory.
+    pub fn try_from_string(s: String) -> Result<Self, CreationError<String>>
+        ensures { MatchResult result (λ t. t ≡ string_bytes s) (λ e. (e.source ≡ s) × (K.fault S.tests (string_bytes s) ≡ Some e.error.kind)) }
+    {
+        match K::validate::<S>(s.as_str()) {
+            Ok(()) => Ok(Owned {
+                text: s,
+                spec: PhantomData,
+                kind: PhantomData,
+            }),
+            Err(error) => Err(CreationError { source: s, error }),
+        }
+    }
+
+    /// A copy of a view's text.
+    pub fn from_view(alloc: Global, view: View<'_, S, K>) -> Result<Self, AllocError>
+        ensures { IfOk result (λ t. t ≡ text view.entry) }
+    {
+        let text = String::from_str(alloc, view.as_str())?;
+        Ok(Owned {
+            text,
+            spec: PhantomData,
+            kind: PhantomData,
+        })
+    }
+
+    /// The text of a string that is in its production: `try_from_string` tells whether it is.
+    pub fn from_valid(s: String) -> Self
+        requires { K.fault S.tests (string_bytes s) ≡ None }
+        ensures { result ≡ string_bytes s }
+    {
+        Owned {
+            text: s,
+            spec: PhantomData,
+            kind: PhantomData,
+        }
+    }
+
+    /// The text as a view.
+    pub fn as_slice(&self) -> View<'_, S, K>
+        ensures { text result ≡ self.now }
+    {
+        View::from_valid(self.text.as_str())
+    }
+
+    /// The text.
+    pub fn as_str(&self) -> &str
+        ensures text { result.now ≡ self.now }
+        ensures valid { K.fault S.tests result.now ≡ None }
+    {
+        self.text.as_str()
+    }
+
+    /// The text as a string.
+    pub fn into_string(self) -> String
+        ensures text { string_bytes result ≡ self }
+        ensures valid { K.fault S.tests (string_bytes result) ≡ None }
+    {
+        let Owned {
+            text,
+            spec: _,
+            kind: _,
+        } = self;
+        text
+    }
+
+    /// How many bytes the text can have before it needs more memory.
+    pub fn capacity(&self) -> usize
+        ensures { length self.now ≤ result }
+    {
+        self.text.capacity()
+    }
+
+    /// Gives back memory that the text doesn't need.
+    pub fn shrink_to_fit(&mut self) -> Result<(), AllocError>
+        ensures { self.new ≡ self.old }
+    {
+        self.text.shrink_to_fit();
+        Ok(())
+    }
+
+    /// A copy.
+    pub fn try_clone(&self, alloc: Global) -> Result<Self, AllocError>
+        ensures { IfOk result (λ t. t ≡ self.now) }
+    {
+        Owned::from_view(alloc, self.as_slice())
+    }
+
+    /// Puts a text that is in its production in the old one's place, and gives the old one back. It takes no
+    /// memory.
+    pub fn replace_text(&mut self, text: String) -> String
+        requires { K.fault S.tests (string_bytes text) ≡ None }
+        ensures new { self.new ≡ string_bytes text }
+        ensures old { string_bytes result ≡ self.old }
+    {
+        mem::replace(&mut self.text, text)
+    }
+}
+
+/// A `URI-reference` of `S`.
+pub type RiReferenceString<S> = Owned<S, Reference>;
+
+/// A `URI` of `S`, with a scheme.
+pub type RiString<S> = Owned<S, Iri>;
+
+/// An `absolute-URI` of `S`, with a scheme and without a fragment.
+pub type RiAbsoluteString<S> = Owned<S, Absolute>;
+
+/// A `relative-ref` of `S`, without a scheme.
+pub type RiRelativeString<S> = Owned<S, Relative>;
+
+/// A `query` of `S`, without its question mark.
+pub type RiQueryString<S> = Owned<S, Query>;
+
+/// A `fragment` of `S`, without its number sign.
+pub type RiFragmentString<S> = Owned<S, Fragment>;
+
+/// A reference of IRIs.
+pub type IriReferenceString = RiReferenceString<IriSpec>;
+
+/// An IRI.
+pub type IriString = RiString<IriSpec>;
+
+/// An absolute IRI.
+pub type IriAbsoluteString = RiAbsoluteString<IriSpec>;
+
+/// A relative reference of IRIs.
+pub type IriRelativeString = RiRelativeString<IriSpec>;
+
+/// A query of IRIs.
+pub type IriQueryString = RiQueryString<IriSpec>;
+
+/// A fragment of IRIs.
+pub type IriFragmentString = RiFragmentString<IriSpec>;
+
+/// A reference of URIs.
+pub type UriReferenceString = RiReferenceString<UriSpec>;
+
+/// A URI.
+pub type UriString = RiString<UriSpec>;
+
+/// An absolute URI.
+pub type UriAbsoluteString = RiAbsoluteString<UriSpec>;
+
+/// A relative reference of URIs.
+pub type UriRelativeString = RiRelativeString<UriSpec>;
+
+/// A query of URIs.
+pub type UriQueryString = RiQueryString<UriSpec>;
+
+/// A fragment of URIs.
+pub type UriFragmentString = RiFragmentString<UriSpec>;
