@@ -1,0 +1,20 @@
+use Rattle.std.proofs.Common.{◌≡◌, ℕ, List, ◌++◌, true, length}
+use Rattle.std.specs.Str.{IsUtf8}
+use Rattle.iri_text.specs.Compose.{HasShown}
+use Rattle.iri_percent.specs.Units.{whole_triplets}
+use Rattle.iri_percent.specs.Triplets.{normal}
+use Rattle.iri_percent.specs.Pieces.{case_of}
+use Rattle.iri_percent.proofs.normal.show_normal.Given as goal
+
+-- what went into the sink, and what is left
+abbrev pub invariant-loop-change : goal.invariant-loop-change
+invariant-loop-change g l = record {
+  done : List ℕ;
+  shown : HasShown g.W.TextSink.puts g.W.TextSink.stops l.initial.sink done l.sink;
+  same : normal g.S.Spec.tests (case_of l.lower) l.text ≡ done ++ normal g.S.Spec.tests (case_of l.lower) l.rest;
+  whole : whole_triplets l.rest ≡ true;
+  utf8 : IsUtf8 l.rest;
+}
+
+abbrev pub decreases-loop-change : goal.decreases-loop-change
+decreases-loop-change g l = length l.rest

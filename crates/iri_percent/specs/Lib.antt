@@ -1,0 +1,14 @@
+pub mod Units
+pub mod Triplets
+pub mod NormalHost
+pub mod Examples
+pub mod UnitLaws
+pub mod MarkLaws
+pub mod NormalLaws
+pub mod Reading
+pub mod Stability
+pub mod Pieces
+pub mod WholeLaws
+pub mod CaseLaws
+pub mod ClassLaws
+pub mod UnitTexts

@@ -1,0 +1,40 @@
+-- The normal form of a host and of an authority (RFC 3986 sections 3.2.2, 6.2.2.1 and 6.2.3, RFC 3987 section 5.3.2).
+use Rattle.std.specs.Prelude.{ℕ, Bool, true, cond, ◌&&◌, ◌==◌, List, [], ◌∷◌, Option, Some, None, nat_lt}
+use Rattle.std.specs.Char.{to_ascii_lowercase}
+use Rattle.iri_grammar.specs.Classes.{Tests}
+use Rattle.iri_grammar.specs.Authority.{AuthorityParts, authority_parts, recompose_authority}
+use Rattle.iri_percent.specs.Units.{octet}
+use Rattle.iri_percent.specs.Triplets.{pct, normal}
+
+abbrev pub octet_below_128 : List ℕ → Bool
+octet_below_128 (a ∷ b ∷ xs) = nat_lt (octet a b) 128
+octet_below_128 xs = true
+
+-- each character of the host is below 128, and so is the octet of each triplet
+unfoldable pub is_ascii_host : List ℕ → Bool
+is_ascii_host [] = true
+is_ascii_host (x ∷ xs) = nat_lt x 128 && (cond (x == 37) (octet_below_128 xs) true && is_ascii_host xs)
+
+-- triplet normal form, and each letter outside triplets in lower case
+abbrev pub lowered : Tests → List ℕ → List ℕ
+lowered s h = normal s to_ascii_lowercase h
+
+-- the normal form of a host. One past ASCII keeps its letters
+unfoldable pub normal_host : Tests → List ℕ → List ℕ
+normal_host s h = cond (is_ascii_host h) (lowered s h) (pct s h)
+
+abbrev pub normal_userinfo : Tests → Option (List ℕ) → Option (List ℕ)
+normal_userinfo s None = None
+normal_userinfo s (Some u) = Some (pct s u)
+
+-- an empty port goes with its colon
+abbrev pub normal_port : Option (List ℕ) → Option (List ℕ)
+normal_port (Some (x ∷ xs)) = Some (x ∷ xs)
+normal_port _ = None
+
+abbrev pub normal_authority_parts : Tests → AuthorityParts → AuthorityParts
+normal_authority_parts s a = record { userinfo = normal_userinfo s a.userinfo; host = normal_host s a.host; port = normal_port a.port }
+
+-- the normal form of an authority: of its userinfo, its host and its port
+unfoldable pub normal_authority : Tests → List ℕ → List ℕ
+normal_authority s a = recompose_authority (normal_authority_parts s (authority_parts a))

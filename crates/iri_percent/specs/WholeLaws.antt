@@ -1,0 +1,108 @@
+-- Each part of a reference has whole triplets.
+use Rattle.std.proofs.Common.{◌≡◌, ℕ, ◌<◌, Bool, true, false, not, ◌&&◌, ◌||◌, List, [], ◌∷◌, ◌++◌, refl, sym, ◌∙◌, ap, arith}
+use Rattle.std.specs.Prelude.{◌==◌}
+use Rattle.std.specs.Char.{is_ascii_hexdigit}
+use Rattle.std.specs.Str.{chars, is_utf8}
+use lib.Utf8.{encode, encodes}
+use Rattle.std.proofs.lemmas.Str.{encodes-chars, encode_ascii, IsUtf8-from_is_utf8}
+use Rattle.std.proofs.lemmas.Bool.Decides.{nat_tests}
+use Rattle.iri_grammar.specs.Classes.{Tests, IsSpec, reg_name_char, userinfo_char, pchar, path_char, query_char, fragment_char, is_ascii_reg_name, is_ascii_userinfo, is_ascii_pchar, is_ascii_path, is_ascii_query, is_ascii_unreserved, is_sub_delim}
+use Rattle.iri_grammar.specs.Components.{is_userinfo, is_path, is_path_segment, is_query, is_fragment}
+use Rattle.iri_grammar.specs.Cut.{lacks}
+use Rattle.iri_grammar.specs.CutLaws.{both, by_test, all-lacks}
+use Rattle.iri_grammar.specs.Host.{is_host, is_reg_name}
+use Rattle.iri_grammar.specs.IpLiteral.{is_ip_literal}
+use Rattle.iri_grammar.specs.LiteralChars.{is_literal_char, ip_literal-chars}
+use Rattle.iri_grammar.specs.Over.{over, text_over, IsOver, done, plain, triplet}
+use Rattle.iri_grammar.specs.OverLaws.{units-from_over}
+use Rattle.iri_percent.specs.Units.{whole_triplets}
+use Rattle.iri_percent.specs.Reading.{whole_plain, whole_triplet}
+use Rattle.iri_percent.specs.Stability.{encode_percent}
+
+-- bytes without `%`
+pub whole_plains : (ys xs : List ℕ) → lacks 37 ys ≡ true → whole_triplets (ys ++ xs) ≡ whole_triplets xs
+whole_plains [] xs h = refl
+whole_plains (y ∷ ys) xs h =
+    elim (y == 37) as (λ b. (y == 37) ≡ b → (not b && lacks 37 ys) ≡ true → whole_triplets (y ∷ (ys ++ xs)) ≡ whole_triplets xs) [
+      | true ↦ λ _ l. cc
+      | false ↦ λ e l. whole_plain y (ys ++ xs) e ∙ whole_plains ys xs l
+    ] refl h
+
+whole_nil : whole_triplets [] ≡ true
+unfolding whole_triplets
+whole_nil = refl
+
+pub lacks-whole : (xs : List ℕ) → lacks 37 xs ≡ true → whole_triplets xs ≡ true
+lacks-whole [] h = whole_nil
+lacks-whole (x ∷ xs) h =
+    elim (x == 37) as (λ b. (x == 37) ≡ b → (not b && lacks 37 xs) ≡ true → whole_triplets (x ∷ xs) ≡ true) [ true ↦ λ _ l. cc | false ↦ λ e l. whole_plain x xs e ∙ lacks-whole xs l ] refl h
+
+-- a text over a class without `%`
+over_whole : (p : ℕ → Bool) (cs : List ℕ) → p 37 ≡ false → IsOver p cs → whole_triplets (encodes cs) ≡ true
+over_whole p cs n done = whole_nil
+over_whole p cs n (plain c ds h r) =
+    let other : (c == 37) ≡ false = by_test c 37 (λ b. b ≡ false) (λ e. let no : p c ≡ false = ap p e ∙ n in cc) (λ _. refl) in
+    whole_plains (encode c) (encodes ds) (encode_percent c other) ∙ over_whole p ds n r
+over_whole p cs n (triplet a b ds ha hb r) =
+    let spelled : encodes (37 ∷ a ∷ b ∷ ds) ≡ 37 ∷ a ∷ b ∷ encodes ds = ap (λ l. l ++ (encode a ++ (encode b ++ encodes ds))) (encode_ascii 37 (omega arith)) ∙ ap (λ l. 37 ∷ (l ++ (encode b ++ encodes ds))) (encode_ascii a (digit_below a ha)) ∙ ap (λ l. 37 ∷ a ∷ (l ++ encodes ds)) (encode_ascii b (digit_below b hb)) in
+    ap whole_triplets spelled ∙ whole_triplet a b (encodes ds) ha hb ∙ over_whole p ds n r
+  where
+    digit_below : (x : ℕ) → is_ascii_hexdigit x ≡ true → x < 128
+    digit_below x h = grind (arith, nat_tests)
+
+pub text_over-whole : (p : ℕ → Bool) (xs : List ℕ) → p 37 ≡ false → text_over p xs ≡ true → whole_triplets xs ≡ true
+text_over-whole p xs n h =
+    let k = both (is_utf8 xs) (over p (chars xs)) h in
+    ap whole_triplets (sym (encodes-chars xs (IsUtf8-from_is_utf8 xs k.0))) ∙ over_whole p (chars xs) n (units-from_over p (chars xs) k.1)
+
+-- no class has `%`
+pub reg_name_percent : (s : Tests) → IsSpec s → reg_name_char s 37 ≡ false
+unfolding reg_name_char is_ascii_reg_name is_ascii_unreserved is_sub_delim
+reg_name_percent s k = rw (k.ucs_ascii 37 (omega arith)) refl
+
+pub userinfo_percent : (s : Tests) → IsSpec s → userinfo_char s 37 ≡ false
+unfolding userinfo_char is_ascii_userinfo is_ascii_reg_name is_ascii_unreserved is_sub_delim
+userinfo_percent s k = rw (k.ucs_ascii 37 (omega arith)) refl
+
+pub pchar_percent : (s : Tests) → IsSpec s → pchar s 37 ≡ false
+unfolding pchar is_ascii_pchar is_ascii_reg_name is_ascii_unreserved is_sub_delim
+pchar_percent s k = rw (k.ucs_ascii 37 (omega arith)) refl
+
+pub path_percent : (s : Tests) → IsSpec s → path_char s 37 ≡ false
+unfolding path_char is_ascii_path is_ascii_pchar is_ascii_reg_name is_ascii_unreserved is_sub_delim
+path_percent s k = rw (k.ucs_ascii 37 (omega arith)) refl
+
+pub query_percent : (s : Tests) → IsSpec s → query_char s 37 ≡ false
+unfolding query_char is_ascii_query is_ascii_pchar is_ascii_reg_name is_ascii_unreserved is_sub_delim
+query_percent s k = rw (k.ucs_ascii 37 (omega arith), k.priv_ascii 37 (omega arith)) refl
+
+pub fragment_percent : (s : Tests) → IsSpec s → fragment_char s 37 ≡ false
+unfolding fragment_char is_ascii_query is_ascii_pchar is_ascii_reg_name is_ascii_unreserved is_sub_delim
+fragment_percent s k = rw (k.ucs_ascii 37 (omega arith)) refl
+
+-- ---- the parts
+pub userinfo-whole : (s : Tests) (x : List ℕ) → IsSpec s → is_userinfo s x ≡ true → whole_triplets x ≡ true
+userinfo-whole s x k h = text_over-whole (userinfo_char s) x (userinfo_percent s k) h
+
+pub segment-whole : (s : Tests) (x : List ℕ) → IsSpec s → is_path_segment s x ≡ true → whole_triplets x ≡ true
+segment-whole s x k h = text_over-whole (pchar s) x (pchar_percent s k) h
+
+pub path-whole : (s : Tests) (x : List ℕ) → IsSpec s → is_path s x ≡ true → whole_triplets x ≡ true
+path-whole s x k h = text_over-whole (path_char s) x (path_percent s k) h
+
+pub query-whole : (s : Tests) (x : List ℕ) → IsSpec s → is_query s x ≡ true → whole_triplets x ≡ true
+query-whole s x k h = text_over-whole (query_char s) x (query_percent s k) h
+
+pub fragment-whole : (s : Tests) (x : List ℕ) → IsSpec s → is_fragment s x ≡ true → whole_triplets x ≡ true
+fragment-whole s x k h = text_over-whole (fragment_char s) x (fragment_percent s k) h
+
+pub literal-lacks : (x : List ℕ) → is_ip_literal x ≡ true → lacks 37 x ≡ true
+unfolding is_literal_char is_ascii_userinfo is_ascii_reg_name is_ascii_unreserved is_sub_delim
+literal-lacks x h = all-lacks is_literal_char 37 x refl (ip_literal-chars x h)
+
+pub host-whole : (s : Tests) (x : List ℕ) → IsSpec s → is_host s x ≡ true → whole_triplets x ≡ true
+host-whole s x k h =
+    elim (is_ip_literal x) as (λ b. is_ip_literal x ≡ b → (b || is_reg_name s x) ≡ true → whole_triplets x ≡ true) [
+      | true ↦ λ e _. lacks-whole x (literal-lacks x e)
+      | false ↦ λ _ r. text_over-whole (reg_name_char s) x (reg_name_percent s k) r
+    ] refl h

@@ -1,0 +1,96 @@
+// Hosts in normal form.
+ghost use Rattle.std.specs.Prelude.{◌≡◌, ◌==◌, ◌&&◌, ◌∷◌, true, cond, nat_lt};
+ghost use Rattle.std.specs.List.{list_all};
+ghost use Rattle.iri_grammar.specs.Host.{is_host};
+ghost use Rattle.iri_percent.specs.Units.{two_digits, whole_triplets};
+ghost use Rattle.iri_percent.specs.NormalHost.{is_ascii_host, normal_host, octet_below_128};
+ghost use Rattle.iri_percent.specs.Pieces.{is_plain_byte};
+
+use crate::normal::show_normal;
+use iri_grammar::spec::Spec;
+use iri_text::{Show, Stop, TextSink};
+use std::alloc::AllocError;
+use std::marker::PhantomData;
+
+/// A host that shows itself in normal form (RFC 3986 section 6.2.2.1): where every character of it and the octet of
+/// every triplet is ASCII, triplet normal form with the letters outside triplets in lower case; otherwise triplet
+/// normal form.
+pub struct NormalizedHost<'a, S: Spec> {
+    host: &'a str,
+    spec: PhantomData<S>,
+    pub ghost valid: { is_host S.tests host.now ≡ true },
+}
+
+impl<S: Spec> Clone for NormalizedHost<'_, S> {
+    ghost is_clone = { λ v w. w ≡ v };
+
+    ghost is_infallible = { λ _. Unit {0} };
+
+    fn clone(&self) -> Result<Self, AllocError> {
+        Ok(*self)
+    }
+}
+
+impl<S: Spec> Copy for NormalizedHost<'_, S> {}
+
+impl<'a, S: Spec> NormalizedHost<'a, S> {
+    /// The normal form of a valid host.
+    pub fn new(host: &'a str) -> Self
+        requires { is_host S.tests host.now ≡ true }
+        ensures { result.host.now ≡ host.now }
+    {
+        NormalizedHost {
+            host,
+            spec: PhantomData,
+        }
+    }
+}
+
+// Whether the octet of the triplet of these digits is ASCII.
+fn is_low(digits: &[u8]) -> bool
+    requires { two_digits digits.now ≡ true }
+    ensures { result ≡ octet_below_128 digits.now }
+{
+    digits[0] < b'8'
+}
+
+// Whether the first byte is ASCII, and so is the octet of a triplet that it begins.
+fn is_ascii_front(first: u8, tail: &[u8]) -> bool
+    requires { whole_triplets (first ∷ tail.now) ≡ true }
+    ensures { result ≡ (nat_lt first 128 && cond (first == 37) (octet_below_128 tail.now) true) }
+{
+    first < 128 && (first != b'%' || is_low(tail))
+}
+
+fn is_ascii_host(host: &[u8]) -> bool
+    requires { whole_triplets host.now ≡ true }
+    ensures { result ≡ is_ascii_host host.now }
+{
+    let mut rest = host;
+    while let [first, tail @ ..] = rest {
+        if !is_ascii_front(*first, tail) {
+            return false;
+        }
+        rest = tail;
+    }
+    true
+}
+
+// Whether the host is ASCII and holds no triplet and no capital letter.
+fn is_plain(host: &[u8]) -> bool
+    ensures { result ≡ list_all is_plain_byte host.now }
+{
+    host.iter()
+        .all(|b| *b < 128 && *b != b'%' && !b.is_ascii_uppercase())
+}
+
+impl<S: Spec> Show for NormalizedHost<'_, S> {
+    ghost text = { λ h. normal_host S.tests h.host.now };
+
+    fn show<W: TextSink>(&self, sink: &mut W) -> Result<(), Stop> {
+        if is_plain(self.host.as_bytes()) {
+            return sink.put(self.host);
+        }
+        show_normal::<S, W>(self.host, is_ascii_host(self.host.as_bytes()), sink)
+    }
+}

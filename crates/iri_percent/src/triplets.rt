@@ -1,0 +1,52 @@
+// Texts in triplet normal form.
+ghost use Rattle.std.specs.Prelude.{◌≡◌, true};
+ghost use Rattle.iri_percent.specs.Units.{whole_triplets};
+ghost use Rattle.iri_percent.specs.Triplets.{pct};
+
+use crate::normal::show_normal;
+use iri_grammar::spec::Spec;
+use iri_text::{Show, Stop, TextSink};
+use std::alloc::AllocError;
+use std::marker::PhantomData;
+
+/// A part of a reference that shows itself in triplet normal form (RFC 3986 sections 6.2.2.1 and 6.2.2.2,
+/// RFC 3987 section 5.3.2.3): an unreserved character in triplets is written as itself, every other triplet
+/// has capital hex digits, and the rest stays.
+pub struct PctCaseNormalized<'a, S: Spec> {
+    part: &'a str,
+    spec: PhantomData<S>,
+    pub ghost whole: { whole_triplets part.now ≡ true },
+}
+
+impl<S: Spec> Clone for PctCaseNormalized<'_, S> {
+    ghost is_clone = { λ v w. w ≡ v };
+
+    ghost is_infallible = { λ _. Unit {0} };
+
+    fn clone(&self) -> Result<Self, AllocError> {
+        Ok(*self)
+    }
+}
+
+impl<S: Spec> Copy for PctCaseNormalized<'_, S> {}
+
+impl<'a, S: Spec> PctCaseNormalized<'a, S> {
+    /// The normal form of a text in which each `%` is followed by two hex digits, as in every part of a reference.
+    pub fn new(part: &'a str) -> Self
+        requires { whole_triplets part.now ≡ true }
+        ensures { result.part.now ≡ part.now }
+    {
+        PctCaseNormalized {
+            part,
+            spec: PhantomData,
+        }
+    }
+}
+
+impl<S: Spec> Show for PctCaseNormalized<'_, S> {
+    ghost text = { λ p. pct S.tests p.part.now };
+
+    fn show<W: TextSink>(&self, sink: &mut W) -> Result<(), Stop> {
+        show_normal::<S, W>(self.part, false, sink)
+    }
+}
