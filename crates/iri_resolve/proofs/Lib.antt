@@ -1,0 +1,5 @@
+pub mod SlashLemmas
+pub mod NormalLemmas
+pub mod SegmentLemmas
+pub mod PathLemmas
+pub mod CanonLemmas

@@ -1,0 +1,84 @@
+//! Canonical texts (RFC 3986 sections 5.2 and 6.2.2, RFC 3987 section 5.3.2).
+ghost use Rattle.std.specs.Prelude.{◌≡◌, None, IfOk, MatchResult};
+ghost use Rattle.iri_grammar.specs.Fault.{bytes_fault};
+ghost use Rattle.iri_grammar.specs.WholeFault.{absolute_fault, reference_fault};
+ghost use Rattle.iri_types.specs.Texts.{text};
+ghost use Rattle.iri_resolve.specs.Canonicalized.{CausedBy, IsCanonicalText};
+ghost use Rattle.iri_resolve.specs.NormalForm.{canonical};
+
+use crate::normal::write_normal;
+use crate::resolver::FixedBaseResolver;
+use iri_grammar::error::Error as GrammarError;
+use iri_grammar::spec::Spec;
+use iri_owned::owned::RiString;
+use iri_types::view::{RiAbsoluteStr, RiReferenceStr};
+use std::alloc::{AllocError, Global};
+use thiserror::Error;
+
+/// Why there is no canonical text.
+#[derive(Debug, Drop, Error)]
+pub enum CanonError {
+    /// The base isn't UTF-8 or no absolute URI: its first fault.
+    #[error("bad base: {0}")]
+    BadBase(GrammarError),
+    /// The base is valid; the reference isn't UTF-8 or no reference: its first fault.
+    #[error("bad reference: {0}")]
+    BadReference(GrammarError),
+    /// Memory was refused. Both were found valid.
+    #[error("out of memory")]
+    Memory,
+}
+
+// The canonical text of a reference against a base.
+fn canonical_text<S: Spec>(
+    alloc: Global,
+    base: RiAbsoluteStr<'_, S>,
+    reference: RiReferenceStr<'_, S>,
+) -> Result<RiString<S>, AllocError>
+    ensures { IfOk result (λ t. t ≡ canonical S.tests (text base.entry) (text reference.entry)) }
+{
+    let mut text = String::new(alloc);
+    write_normal::<S>(
+        alloc,
+        &mut text,
+        &FixedBaseResolver::new(base).slices(reference),
+    )?;
+    Ok(RiString::from_valid(text))
+}
+
+// The canonical text of bytes against a base.
+fn canonicalize_against<S: Spec>(
+    alloc: Global,
+    base: RiAbsoluteStr<'_, S>,
+    reference: &[u8],
+) -> Result<RiString<S>, CanonError>
+    ensures { MatchResult result (λ t. (bytes_fault (reference_fault S.tests) reference.now ≡ None) × (t ≡ canonical S.tests (text base.entry) reference.now))
+        (λ e. CausedBy e None (bytes_fault (reference_fault S.tests) reference.now)) }
+{
+    match RiReferenceStr::<S>::try_from_bytes(reference) {
+        Ok(reference) => match canonical_text(alloc, base, reference) {
+            Ok(text) => Ok(text),
+            Err(_) => Err(CanonError::Memory),
+        },
+        Err(error) => Err(CanonError::BadReference(error)),
+    }
+}
+
+/// The canonical text of a reference against a base, both as bytes. The base is judged first.
+pub fn canonicalize<S: Spec>(
+    alloc: Global,
+    base: &[u8],
+    reference: &[u8],
+) -> Result<RiString<S>, CanonError>
+    ensures causes { MatchResult result (λ _. (bytes_fault (absolute_fault S.tests) base.now ≡ None) × (bytes_fault (reference_fault S.tests) reference.now ≡ None))
+        (λ e. CausedBy e (bytes_fault (absolute_fault S.tests) base.now) (bytes_fault (reference_fault S.tests) reference.now)) }
+    ensures text { IfOk result (λ t. IsCanonicalText S.tests base.now reference.now t) }
+{
+    match RiAbsoluteStr::<S>::try_from_bytes(base) {
+        Ok(base) => canonicalize_against(alloc, base, reference),
+        Err(error) => Err(CanonError::BadBase(error)),
+    }
+}
+
+#[cfg(test)]
+mod tests;

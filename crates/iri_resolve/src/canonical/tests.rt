@@ -1,0 +1,49 @@
+use super::{CanonError, canonicalize};
+use crate::resolver::FixedBaseResolver;
+use iri_grammar::error::ErrorKind;
+use iri_grammar::spec::{IriSpec, UriSpec};
+use iri_types::view::{UriAbsoluteStr, UriReferenceStr};
+use std::test::Fail;
+
+// Whether these bytes against these have this canonical URI.
+fn is_canonical(rt: &HostRuntime, base: &[u8], reference: &[u8], text: &str) -> bool {
+    match canonicalize::<UriSpec>(rt.alloc(), base, reference) {
+        Ok(canonical) => canonical.as_str() == text,
+        Err(_) => false,
+    }
+}
+
+#[test]
+fn canonical_texts_and_refusals(rt: HostRuntime) -> Result<(), Fail> {
+    assert!(rt; is_canonical(&rt, b"http://a/b/c/d;p?q", b"../../../g", "http://a/g"));
+    assert!(rt; is_canonical(&rt, b"foo:/a", b"..//b", "foo:/.//b"));
+    let alloc = rt.alloc();
+    let relative = canonicalize::<IriSpec>(alloc, b"a/b", b"\xff");
+    assert!(rt;
+        matches!(relative, Err(CanonError::BadBase(e)) if e.kind() == ErrorKind::UnexpectedRelative)
+    );
+    let bytes = canonicalize::<IriSpec>(alloc, b"http://a/", b"\xff");
+    assert!(rt;
+        matches!(bytes, Err(CanonError::BadReference(e)) if e.kind() == ErrorKind::InvalidUtf8)
+    );
+    Ok(())
+}
+
+#[test]
+fn targets(rt: HostRuntime) -> Result<(), Fail> {
+    let Ok(base) = UriAbsoluteStr::new("http://a/b/?q") else {
+        return Err("a valid base is refused")?;
+    };
+    let Ok(reference) = UriReferenceStr::new("../c#f") else {
+        return Err("a valid reference is refused")?;
+    };
+    let resolver = FixedBaseResolver::<UriSpec>::new(base);
+    assert!(rt; resolver.base().as_str() == "http://a/b/?q");
+    let target = resolver.target(rt.alloc(), reference)?;
+    assert!(rt; target.scheme() == "http");
+    assert!(rt; target.authority() == Some("a"));
+    assert!(rt; target.path() == "/b/../c");
+    assert!(rt; target.query().is_none());
+    assert!(rt; target.fragment() == Some("f"));
+    Ok(())
+}

@@ -1,0 +1,64 @@
+//! References against one base (RFC 3986 section 5.2).
+ghost use Rattle.std.specs.Prelude.{◌≡◌, IfOk, IsSome, None, true};
+ghost use Rattle.iri_grammar.specs.Parts.{Fits};
+ghost use Rattle.iri_grammar.specs.Split.{split_of};
+ghost use Rattle.iri_grammar.specs.WholeFault.{absolute_fault, reference_fault};
+ghost use Rattle.iri_types.specs.Texts.{text};
+ghost use Rattle.iri_resolve.specs.Slices.{slices, is_cut_at_segment};
+ghost use Rattle.iri_resolve.specs.Target.{target};
+
+use crate::owned_target::Target;
+use crate::target::{TargetSlices, target};
+use iri_grammar::spec::Spec;
+use iri_grammar::splitter::Splitter;
+use iri_types::view::{RiAbsoluteStr, RiReferenceStr};
+use std::alloc::{AllocError, Global};
+
+/// A base, against which references are resolved.
+#[derive(Clone, Copy)]
+pub struct FixedBaseResolver<'a, S: Spec> {
+    base: RiAbsoluteStr<'a, S>,
+}
+
+impl<'a, S: Spec> FixedBaseResolver<'a, S> {
+    ghost use Rattle.iri_resolve.specs.Resolver.{base_text};
+
+    /// The resolver of a base.
+    pub fn new(base: RiAbsoluteStr<'a, S>) -> Self
+        ensures { base_text result ≡ text base.entry }
+    {
+        FixedBaseResolver { base }
+    }
+
+    /// The base.
+    pub fn base(&self) -> RiAbsoluteStr<'a, S>
+        ensures { text result ≡ base_text self.now }
+    {
+        self.base
+    }
+
+    // The target of a reference, as slices of the base and the reference.
+    pub(crate) fn slices(&self, reference: RiReferenceStr<'a, S>) -> TargetSlices<'a>
+        ensures cut { is_cut_at_segment result ≡ true }
+        ensures fits { Fits S.tests (slices result) }
+        ensures scheme { IsSome (slices result).scheme }
+        ensures base { absolute_fault S.tests (base_text self.now) ≡ None }
+        ensures reference { reference_fault S.tests (text reference.entry) ≡ None }
+        ensures parts { slices result ≡ target (split_of (base_text self.now)) (split_of (text reference.entry)) }
+    {
+        let base = Splitter::of::<S>(self.base.as_str());
+        let reference = Splitter::of::<S>(reference.as_str());
+        target(&base, &reference)
+    }
+
+    /// The target of a reference (RFC 3986 section 5.2.2), with its dots kept. Want of memory is the only error.
+    pub fn target(
+        &self,
+        alloc: Global,
+        reference: RiReferenceStr<'a, S>,
+    ) -> Result<Target<S>, AllocError>
+        ensures { IfOk result (λ t. t ≡ target (split_of (base_text self.now)) (split_of (text reference.entry))) }
+    {
+        Target::of(alloc, &self.slices(reference))
+    }
+}
