@@ -1,0 +1,52 @@
+-- Why a base line is refused, and the answer to a reference line.
+use Rattle.std.specs.Prelude.{◌≡◌, ℕ, codes, List, [], ◌∷◌, ◌++◌, Option, Some, None}
+use Rattle.iri_grammar.specs.Classes.{Tests}
+use Rattle.iri_grammar.specs.Fault.{bytes_fault}
+use Rattle.iri_grammar.specs.Kinds.{description}
+use Rattle.iri_grammar.specs.Parts.{Parts, IsIri, IsAbsolute, recompose}
+use Rattle.iri_grammar.specs.Split.{split_of}
+use Rattle.iri_grammar.specs.WholeFault.{absolute_fault, reference_fault}
+use Rattle.iri_grammar.specs.declared.error.ErrorKind.{ErrorKind}
+use Rattle.iri_resolve.specs.NormalForm.{canonical, canonical_parts, normal_form}
+use Rattle.iri_resolve.specs.Target.{target}
+
+abbrev pub words_of_fault : Option ErrorKind → Option (List ℕ)
+words_of_fault None = None
+words_of_fault (Some kind) = Some (description kind)
+
+-- a base is to be UTF-8 and an `absolute-URI` (RFC 3986 section 4.3): otherwise the words for its first fault
+unfoldable pub refusal : Tests → List ℕ → Option (List ℕ)
+refusal s line = words_of_fault (bytes_fault (absolute_fault s) line)
+
+abbrev pub good_answer : List ℕ → List ℕ
+good_answer text = codes "ok " ++ (text ++ 10 ∷ [])
+
+abbrev pub bad_answer : ErrorKind → List ℕ
+bad_answer kind = codes "bad " ++ (description kind ++ 10 ∷ [])
+
+abbrev pub answer_by : Option ErrorKind → List ℕ → List ℕ
+answer_by None text = good_answer text
+answer_by (Some kind) text = bad_answer kind
+
+-- the line, with its LF, that answers a reference line against a base: its canonical text (RFC 3986 sections 5.2 and 6.2.2), or
+-- the words for its first fault where it isn't UTF-8 or no `URI-reference`
+unfoldable pub answer : Tests → List ℕ → List ℕ → List ℕ
+answer s base line = answer_by (bytes_fault (reference_fault s) line) (canonical s base line)
+
+-- the same against the parts of a base
+abbrev pub answer_against : Tests → Parts → List ℕ → List ℕ
+answer_against s base line = answer_by (bytes_fault (reference_fault s) line) (recompose (normal_form s (target base (split_of line))))
+
+-- What a good answer says: its text is a URI of the spec, splits into exactly the normal form of the target, and is its own
+-- canonical text against every base.
+pub record IsCanonical (s : Tests) (base line : List ℕ) : Type 0 where
+  pub text : List ℕ
+  pub answer_is : answer s base line ≡ good_answer text
+  pub canonical_is : text ≡ canonical s base line
+  pub valid : IsIri s text
+  pub splits : split_of text ≡ canonical_parts s base line
+  pub own : (other : List ℕ) → IsAbsolute s other → canonical s other text ≡ text
+
+-- What is said of each base that is taken and each line without a fault.
+abbrev pub AnswersAreCanonical : Tests → Type 0
+AnswersAreCanonical s = (base line : List ℕ) → refusal s base ≡ None → bytes_fault (reference_fault s) line ≡ None → IsCanonical s base line

@@ -1,0 +1,9 @@
+pub mod Ending
+pub mod Plain
+pub mod Answer
+pub mod Words
+pub mod Run
+pub mod Notices
+pub mod Puts
+pub mod Steps
+pub mod Examples

@@ -1,0 +1,64 @@
+// What the program tells of itself.
+ghost use Rattle.std.specs.Prelude.{◌≡◌, ◌≢◌, MatchOption};
+ghost use Rattle.iri_cli.specs.Notices.{text_of, PutsText};
+ghost use Rattle.iri_cli.specs.Words.{notice_word};
+ghost use Rattle.iri_cli.specs.declared.notice.Notice.{Notice};
+
+use crate::end::{End, status};
+use iri_text::{Failed, Sink};
+
+/// A text that the program tells of itself.
+#[derive(Clone, Copy)]
+pub enum Notice {
+    /// The commands, their answers and the statuses.
+    Help,
+    /// The program's name and version.
+    Version,
+}
+
+const HELP: &str = "\
+irikit: canonical texts of URI and IRI references (RFC 3986, RFC 3987)
+  irikit canon uri   reads a base line and reference lines, and answers each reference line by one line
+  irikit canon iri   does the same by the grammar of IRIs
+  irikit --help      writes this text
+  irikit --version   writes the version
+Answers: 'ok ' and the canonical text, or 'bad ' and the first fault of the reference;
+  where the base is refused, the one line 'base ' and its first fault
+Statuses: 0 every answer is ok, 1 some answer is bad, 2 the words are no command, 3 the base is refused,
+  4 reading failed, 5 writing failed, 6 memory was refused, 7 a line is too long, 8 the input is too long
+";
+
+const VERSION: &str = "irikit 0.1.0\n";
+
+// The text of a notice.
+fn text(notice: Notice) -> &'static str
+    ensures { result.now ≡ text_of notice }
+{
+    match notice {
+        Notice::Help => HELP,
+        Notice::Version => VERSION,
+    }
+}
+
+/// The notice that is asked for by this word.
+pub fn notice_of(word: &str) -> Option<Notice>
+    ensures { MatchOption result ((notice : Notice) → word.now ≢ notice_word notice) (λ notice. word.now ≡ notice_word notice) }
+{
+    if word == "--help" {
+        Some(Notice::Help)
+    } else if word == "--version" {
+        Some(Notice::Version)
+    } else {
+        None
+    }
+}
+
+/// Writes a notice, and gives the program's status.
+pub fn tell<O: Sink>(notice: Notice, sink: &mut O) -> u8
+    ensures { PutsText (text_of notice) (O.written sink.old) (O.written sink.new) (O.faults sink.old) (O.faults sink.new) result }
+{
+    match sink.put_all(text(notice).as_bytes()) {
+        Ok(()) => status(End::Done),
+        Err(Failed) => status(End::SinkFailed),
+    }
+}
