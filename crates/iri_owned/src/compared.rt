@@ -9,7 +9,7 @@ ghost use Rattle.std.specs.Hash as fed;
 
 use crate::owned::Owned;
 use iri_grammar::spec::Spec;
-use iri_text::{Show, Stop, TextSink, display};
+use iri_text::{FormatSink, Show, Stop, TextSink};
 use iri_types::kind::Kind;
 use std::cmp::Ordering;
 use std::fmt;
@@ -75,6 +75,6 @@ impl<S: Spec, K: Kind> fmt::Display for Owned<S, K> {
     ghost output = { λ t. Some t };
 
     fn fmt<W: fmt::Write>(&self, f: &mut fmt::Formatter<W>) -> fmt::Result {
-        display(self, f)
+        FormatSink::new(f).display(self)
     }
 }

@@ -1,5 +1,6 @@
 // Shown values as displayed ones.
-ghost use Rattle.std.specs.Fmt.{WritesOnOk};
+ghost use Rattle.std.specs.Prelude.{◌≤◌, OnOk, OnErr};
+ghost use Rattle.iri_text.specs.Count.{Rose};
 ghost use Rattle.iri_text.specs.Shown.{Shows};
 ghost use Rattle.iri_text.specs.FormatText.{FormatPuts, FormatHalts};
 ghost use Rattle.iri_text.specs.FormatLaws.{format_none, format_both, format_until, format_within};
@@ -7,7 +8,6 @@ ghost use Rattle.iri_text.specs.FormatLaws.{format_none, format_both, format_unt
 use crate::format_sink::FormatSink;
 use crate::{Show, Stop, TextSink};
 use std::fmt;
-use std::fmt::Formatter;
 
 impl<'f, W: fmt::Write> TextSink for FormatSink<'f, W> {
     ghost puts = { FormatPuts W.write_str_gives };
@@ -30,13 +30,17 @@ impl<'f, W: fmt::Write> TextSink for FormatSink<'f, W> {
     }
 }
 
-/// Writes the text of a value to a formatter: the body of `fmt` in the `Display` of a type that has `Show`.
-pub fn display<T: Show, W: fmt::Write>(value: &T, f: &mut Formatter<W>) -> fmt::Result
-    ensures { WritesOnOk W.write_str_gives f.old result (T.text value.now) f.new }
-{
-    let mut sink = FormatSink::new(f);
-    match value.show(&mut sink) {
-        Ok(()) => Ok(()),
-        Err(_) => Err(fmt::Error),
+impl<'f, W: fmt::Write> FormatSink<'f, W> {
+    /// Writes the text of a value. With `FormatSink::new(f)` before it, this is the body of `fmt` in the `Display` of a type that
+    /// has `Show`. It fails only where the count of pieces that the formatter refused rises.
+    pub fn display<T: Show>(&mut self, value: &T) -> fmt::Result
+        ensures text { OnOk result (FormatPuts W.write_str_gives self.old (T.text value.now) self.new) }
+        ensures rose { OnErr result (Rose self.old.stops self.new.stops) }
+        ensures later { self.old.stops ≤ self.new.stops }
+    {
+        match value.show(self) {
+            Ok(()) => Ok(()),
+            Err(_) => Err(fmt::Error),
+        }
     }
 }

@@ -1,7 +1,7 @@
 // A text and bytes, owned, which clauses see as lists.
 ghost use Rattle.std.specs.Prelude.{◌≡◌, Some, string_bytes};
 
-use crate::{Show, Stop, TextSink, display};
+use crate::{FormatSink, Show, Stop, TextSink};
 use std::fmt;
 use std::marker::Model;
 
@@ -54,7 +54,7 @@ impl fmt::Display for Text {
     ghost output = { λ t. Some t };
 
     fn fmt<W: fmt::Write>(&self, f: &mut fmt::Formatter<W>) -> fmt::Result {
-        display(self, f)
+        FormatSink::new(f).display(self)
     }
 }
 

@@ -7,7 +7,7 @@
 //! - [`Show`] is a value with a text, and [`TextSink`] takes text in pieces and needn't keep it. [`SliceSink`] keeps it in a
 //!   slice, [`StringSink`] at the end of a string.
 //! - [`write_to_slice`], [`try_append_to_string`], [`ToStringFallible`] and [`ToDedicatedString`] take the text of a value, and
-//!   [`display`] makes a `Display` of a `Show`.
+//!   [`FormatSink::display`] makes a `Display` of a `Show`.
 //! - [`show_two`] to [`show_five`] and [`show_each`] show values in a row: a `show` of several pieces is one call of these.
 //! - [`Text`] and [`Bytes`] own a text and bytes.
 //!
@@ -18,12 +18,13 @@
 //! `show` appends exactly the text of its value, or the sink's count of stops rose and the sink stopped within that text
 //! (`Shows`). The text of an integer is std's decimal. A slice sink stops exactly where a piece is longer than the rest of its
 //! slice, and a string sink only where its string would have to grow; both take nothing of a piece at which they stop.
-//! `write_to_slice` refuses exactly where the text is longer than the slice.
+//! `write_to_slice` refuses exactly where the text is longer than the slice. `display` fails only where the count of pieces that
+//! the formatter refused rises.
 //!
 //! Not proved: what a real stream does. As a source and a sink, `ReadSource` and `WriteSink` tell no bytes; they are proved to
 //! pass on the bytes of a reader or a writer that tells its own, as one over memory. Which of their calls fail is the
 //! reader's or the writer's matter; that they fail only where it does is tested, and so are that `LineReader::new` gets its
-//! memory, that memory is had where a string grows, and that `display` fails only where the formatter does.
+//! memory, that memory is had where a string grows, and that a `Display` here fails only where the formatter does.
 #![tactic(auto)]
 
 ghost use Rattle.std.specs.Prelude.{ℕ, List, Option};
@@ -48,7 +49,7 @@ mod slice_sink;
 mod string_sink;
 mod write_sink;
 
-pub use format::display;
+pub use format_sink::FormatSink;
 pub use held::{Bytes, Text};
 pub use memory_sink::MemorySink;
 pub use memory_source::MemorySource;

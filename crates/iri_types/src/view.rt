@@ -5,7 +5,7 @@ ghost use Rattle.iri_grammar.specs.Fault.{Answers, bytes_fault};
 use crate::kind::{Absolute, Fragment, Iri, Kind, Query, Reference, Relative};
 use iri_grammar::error::{Error, ErrorKind};
 use iri_grammar::spec::{IriSpec, Spec, UriSpec};
-use iri_text::{Show, Stop, TextSink, display};
+use iri_text::{FormatSink, Show, Stop, TextSink};
 use std::alloc::AllocError;
 use std::marker::PhantomData;
 use std::{fmt, str};
@@ -113,7 +113,7 @@ impl<S: Spec, K: Kind> fmt::Display for View<'_, S, K> {
     ghost output = { λ v. Some (text v) };
 
     fn fmt<W: fmt::Write>(&self, f: &mut fmt::Formatter<W>) -> fmt::Result {
-        display(self, f)
+        FormatSink::new(f).display(self)
     }
 }
 

@@ -4,6 +4,8 @@ use crate::{
     try_append_to_string, write_to_slice,
 };
 use std::alloc::{AllocError, Global};
+use std::fmt;
+use std::fmt::Write;
 use std::test::Fail;
 
 // A word that can be owned.
@@ -100,5 +102,30 @@ fn held(rt: HostRuntime) -> Result<(), Fail> {
     let bytes = Bytes::from_vec(vec![in rt.alloc(); 1, 2]?);
     assert_eq!(rt; bytes.as_slice(), [1, 2].as_slice());
     assert_eq!(rt; bytes.into_vec().as_slice(), [1, 2].as_slice());
+    Ok(())
+}
+
+// Takes so many pieces, and refuses the others.
+#[derive(Drop)]
+struct Refusing {
+    left: usize,
+}
+
+impl Write for Refusing {
+    fn write_str(&mut self, _piece: &str) -> fmt::Result {
+        if self.left == 0 {
+            return Err(fmt::Error);
+        }
+        self.left -= 1;
+        Ok(())
+    }
+}
+
+#[test]
+fn a_display_fails_where_the_formatter_does(rt: HostRuntime) -> Result<(), Fail> {
+    let text = owned(&Word("word"), rt.alloc())?;
+    let mut takes = Refusing { left: 1 };
+    assert!(rt; write!(takes, "{text}").is_ok());
+    assert!(rt; write!(takes, "{text}").is_err());
     Ok(())
 }
