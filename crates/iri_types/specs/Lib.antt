@@ -4,3 +4,4 @@ pub mod Prefixed
 pub mod KindTexts
 pub mod Components
 pub mod ComponentsText
+pub mod SplitText

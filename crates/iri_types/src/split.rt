@@ -1,0 +1,97 @@
+//! Views of whole texts together with their one split (RFC 3986 section 3).
+ghost use Rattle.std.specs.Prelude.{◌≡◌, IfOk};
+ghost use Rattle.std.proofs.Props.{props};
+ghost use Rattle.iri_grammar.specs.Fault.{Answers, bytes_fault};
+ghost use Rattle.iri_grammar.specs.Parts.{Fits};
+ghost use Rattle.iri_grammar.specs.Split.{split_of};
+ghost use Rattle.iri_grammar.specs.Splitters.{parts};
+ghost use Rattle.iri_grammar.specs.WholeFault.{reference_fault};
+ghost use Rattle.iri_types.specs.Texts.{text};
+
+use crate::kind::{Reference, WholeKind};
+use crate::view::View;
+use iri_grammar::error::{Error, ErrorKind};
+use iri_grammar::spec::Spec;
+use iri_grammar::splitter::Splitter;
+use std::alloc::AllocError;
+use std::str;
+
+/// A view and its five parts, which are cut once. A program that asks for several parts of a text, or resolves many references
+/// against one base, keeps this in place of the view.
+pub struct SplitView<'a, S: Spec, K: WholeKind> {
+    view: View<'a, S, K>,
+    cut: Splitter<'a>,
+    pub ghost is_cut: { parts cut ≡ split_of (text view) } by { Prim.hlevel props },
+}
+
+impl<S: Spec, K: WholeKind> Clone for SplitView<'_, S, K> {
+    ghost is_clone = { λ a b. b ≡ a };
+
+    ghost is_infallible = { λ _. Unit {0} };
+
+    fn clone(&self) -> Result<Self, AllocError> {
+        Ok(*self)
+    }
+}
+
+impl<S: Spec, K: WholeKind> Copy for SplitView<'_, S, K> {}
+
+impl<'a, S: Spec, K: WholeKind> SplitView<'a, S, K> {
+    ghost use Rattle.iri_types.specs.SplitText.{split_text};
+
+    /// A view, cut into its parts.
+    pub fn of(view: View<'a, S, K>) -> Self
+        ensures { split_text result ≡ text view.entry }
+    {
+        let cut = view.parts();
+        SplitView { view, cut }
+    }
+
+    /// The view.
+    pub fn view(&self) -> View<'a, S, K>
+        ensures { text result ≡ split_text self.now }
+    {
+        self.view
+    }
+
+    /// The parts.
+    pub fn parts(&self) -> &Splitter<'a>
+        ensures split { parts result.now ≡ split_of (split_text self.now) }
+        ensures fits { Fits S.tests (parts result.now) }
+    {
+        &self.cut
+    }
+}
+
+impl<'a, S: Spec> SplitView<'a, S, Reference> {
+    ghost use Rattle.iri_types.specs.SplitText.{split_text};
+
+    /// The split view of bytes, where they are the UTF-8 of a reference: otherwise `InvalidUtf8`, or the kind of the text's first
+    /// fault. The same as `View::try_from_bytes` and `of`, in one look at the text.
+    pub fn try_from_bytes(b: &'a [u8]) -> Result<Self, Error>
+        ensures fault { Answers result (bytes_fault (reference_fault S.tests) b.now) }
+        ensures text { IfOk result (λ v. split_text v ≡ b.now) }
+    {
+        match str::from_utf8(b) {
+            Ok(s) => SplitView::new(s),
+            Err(_) => Err(Error::new(ErrorKind::InvalidUtf8)),
+        }
+    }
+
+    /// The split view of a text, where it is a reference: otherwise the kind of its first fault.
+    pub fn new(s: &'a str) -> Result<Self, Error>
+        ensures fault { Answers result (reference_fault S.tests s.now) }
+        ensures text { IfOk result (λ v. split_text v ≡ s.now) }
+    {
+        match Splitter::new::<S>(s) {
+            Ok(cut) => Ok(SplitView {
+                view: View::from_valid(s),
+                cut,
+            }),
+            Err(error) => Err(error),
+        }
+    }
+}
+
+#[cfg(test)]
+mod tests;
