@@ -1,6 +1,6 @@
 -- The canonical text of a valid reference against a valid base.
-use Rattle.std.proofs.Common.{◌≡◌, ℕ, Bool, true, false, cond, List, Option, Some, None, Result, Ok, Err, ap, sym, subst, ◌∙◌, refl}
-use Rattle.std.specs.Prelude.{IfOk, MatchResult, IsSome}
+use Rattle.std.proofs.Common.{◌≡◌, ℕ, true, false, cond, List, Option, Some, None, Result, Ok, Err, ap, sym, subst, ◌∙◌, refl}
+use Rattle.std.specs.Prelude.{IfOk, MatchResult}
 use Rattle.std.specs.Str.{is_utf8}
 use Rattle.iri_grammar.specs.Classes.{Tests, IsSpec}
 use Rattle.iri_grammar.specs.Fault.{bytes_fault}
@@ -12,7 +12,7 @@ use Rattle.iri_grammar.specs.declared.error.ErrorKind.{ErrorKind}
 use Rattle.iri_grammar.specs.declared.error.ErrorKind.TheVariants.{InvalidUtf8}
 use Rattle.iri_resolve.specs.Canonicalized.{IsCanonicalText, CausedBy}
 use Rattle.iri_resolve.specs.FormLaws.{canonical-iri, canonical-split, canonical-own}
-use Rattle.iri_resolve.specs.NormalForm.{normal_form, canonical, canonical_parts}
+use Rattle.iri_resolve.specs.NormalForm.{normal_form, canonical}
 use Rattle.iri_resolve.specs.Target.{target}
 use Rattle.iri_resolve.specs.declared.canonical.CanonError.{CanonError}
 

@@ -1,16 +1,20 @@
 //! Canonical texts (RFC 3986 sections 5.2 and 6.2.2, RFC 3987 section 5.3.2).
-ghost use Rattle.std.specs.Prelude.{◌≡◌, None, IfOk, MatchResult};
+ghost use Rattle.std.specs.Prelude.{◌≡◌, None, IfOk, MatchResult, OnOk, string_bytes};
 ghost use Rattle.iri_grammar.specs.Fault.{bytes_fault};
-ghost use Rattle.iri_grammar.specs.WholeFault.{absolute_fault, reference_fault};
+ghost use Rattle.iri_grammar.specs.WholeFault.{absolute_fault, iri_fault, reference_fault};
+ghost use Rattle.iri_types.specs.SplitText.{split_text};
 ghost use Rattle.iri_types.specs.Texts.{text};
 ghost use Rattle.iri_resolve.specs.Canonicalized.{CausedBy, IsCanonicalText};
 ghost use Rattle.iri_resolve.specs.NormalForm.{canonical};
+ghost use Rattle.iri_resolve.specs.Resolver.{base_text};
 
 use crate::normal::write_normal;
 use crate::resolver::FixedBaseResolver;
 use iri_grammar::error::Error as GrammarError;
 use iri_grammar::spec::Spec;
 use iri_owned::owned::RiString;
+use iri_types::kind::Reference;
+use iri_types::split::SplitView;
 use iri_types::view::{RiAbsoluteStr, RiReferenceStr};
 use std::alloc::{AllocError, Global};
 use thiserror::Error;
@@ -29,6 +33,20 @@ pub enum CanonError {
     Memory,
 }
 
+/// Writes the canonical text of a reference against a resolver's base, a URI of `S`, in place of what the buffer holds. Want of
+/// memory is the only error; the buffer then holds any text.
+pub fn write_canonical<'a, S: Spec>(
+    alloc: Global,
+    buffer: &mut String,
+    resolver: &FixedBaseResolver<'a, S>,
+    reference: &SplitView<'a, S, Reference>,
+) -> Result<(), AllocError>
+    ensures text { OnOk result (string_bytes buffer.new ≡ canonical S.tests (base_text resolver.now) (split_text reference.now)) }
+    ensures valid { OnOk result (iri_fault S.tests (string_bytes buffer.new) ≡ None) }
+{
+    write_normal::<S>(alloc, buffer, &resolver.slices(reference))
+}
+
 // The canonical text of a reference against a base.
 fn canonical_text<S: Spec>(
     alloc: Global,
@@ -38,11 +56,8 @@ fn canonical_text<S: Spec>(
     ensures { IfOk result (λ t. t ≡ canonical S.tests (text base.entry) (text reference.entry)) }
 {
     let mut text = String::new(alloc);
-    write_normal::<S>(
-        alloc,
-        &mut text,
-        &FixedBaseResolver::new(base).slices(reference),
-    )?;
+    let resolver = FixedBaseResolver::new(base);
+    write_canonical(alloc, &mut text, &resolver, &SplitView::of(reference))?;
     Ok(RiString::from_valid(text))
 }
 

@@ -1,8 +1,8 @@
 //! References against one base (RFC 3986 section 5.2).
-ghost use Rattle.std.specs.Prelude.{◌≡◌, IfOk, IsSome, None, true};
+ghost use Rattle.std.specs.Prelude.{◌≡◌, IfOk, IsSome, true};
 ghost use Rattle.iri_grammar.specs.Parts.{Fits};
 ghost use Rattle.iri_grammar.specs.Split.{split_of};
-ghost use Rattle.iri_grammar.specs.WholeFault.{absolute_fault, reference_fault};
+ghost use Rattle.iri_types.specs.SplitText.{split_text};
 ghost use Rattle.iri_types.specs.Texts.{text};
 ghost use Rattle.iri_resolve.specs.Slices.{slices, is_cut_at_segment};
 ghost use Rattle.iri_resolve.specs.Target.{target};
@@ -10,14 +10,15 @@ ghost use Rattle.iri_resolve.specs.Target.{target};
 use crate::owned_target::Target;
 use crate::target::{TargetSlices, target};
 use iri_grammar::spec::Spec;
-use iri_grammar::splitter::Splitter;
+use iri_types::kind::{Absolute, Reference};
+use iri_types::split::SplitView;
 use iri_types::view::{RiAbsoluteStr, RiReferenceStr};
 use std::alloc::{AllocError, Global};
 
-/// A base, against which references are resolved.
+/// A base, against which references are resolved. It is cut into its parts once.
 #[derive(Clone, Copy)]
 pub struct FixedBaseResolver<'a, S: Spec> {
-    base: RiAbsoluteStr<'a, S>,
+    base: SplitView<'a, S, Absolute>,
 }
 
 impl<'a, S: Spec> FixedBaseResolver<'a, S> {
@@ -27,28 +28,26 @@ impl<'a, S: Spec> FixedBaseResolver<'a, S> {
     pub fn new(base: RiAbsoluteStr<'a, S>) -> Self
         ensures { base_text result ≡ text base.entry }
     {
-        FixedBaseResolver { base }
+        FixedBaseResolver {
+            base: SplitView::of(base),
+        }
     }
 
     /// The base.
     pub fn base(&self) -> RiAbsoluteStr<'a, S>
         ensures { text result ≡ base_text self.now }
     {
-        self.base
+        self.base.view()
     }
 
     // The target of a reference, as slices of the base and the reference.
-    pub(crate) fn slices(&self, reference: RiReferenceStr<'a, S>) -> TargetSlices<'a>
+    pub(crate) fn slices(&self, reference: &SplitView<'a, S, Reference>) -> TargetSlices<'a>
         ensures cut { is_cut_at_segment result ≡ true }
         ensures fits { Fits S.tests (slices result) }
         ensures scheme { IsSome (slices result).scheme }
-        ensures base { absolute_fault S.tests (base_text self.now) ≡ None }
-        ensures reference { reference_fault S.tests (text reference.entry) ≡ None }
-        ensures parts { slices result ≡ target (split_of (base_text self.now)) (split_of (text reference.entry)) }
+        ensures parts { slices result ≡ target (split_of (base_text self.now)) (split_of (split_text reference.now)) }
     {
-        let base = Splitter::of::<S>(self.base.as_str());
-        let reference = Splitter::of::<S>(reference.as_str());
-        target(&base, &reference)
+        target(self.base.parts(), reference.parts())
     }
 
     /// The target of a reference (RFC 3986 section 5.2.2), with its dots kept. Want of memory is the only error.
@@ -59,6 +58,9 @@ impl<'a, S: Spec> FixedBaseResolver<'a, S> {
     ) -> Result<Target<S>, AllocError>
         ensures { IfOk result (λ t. t ≡ target (split_of (base_text self.now)) (split_of (text reference.entry))) }
     {
-        Target::of(alloc, &self.slices(reference))
+        Target::of(alloc, &self.slices(&SplitView::of(reference)))
     }
 }
+
+#[cfg(test)]
+mod tests;
