@@ -1,11 +1,11 @@
 -- Pieces that are put as an answer.
-use Rattle.std.proofs.Common.{◌≡◌, ◌≤◌, ℕ, Bool, List, Option, Result, Ok, Err, sym, ap, subst, ◌∙◌, refl}
+use Rattle.std.proofs.Common.{◌≡◌, ℕ, Bool, List, Option, None, Some, Result, Ok, Err, sym, ap, ◌∙◌}
 use Rattle.iri_grammar.specs.Classes.{Tests}
-use Rattle.iri_grammar.specs.Parts.{Parts}
-use Rattle.iri_grammar.specs.Split.{split_of}
-use Rattle.iri_cli.specs.Answer.{answer, answer_against}
+use Rattle.iri_grammar.specs.Fault.{bytes_fault}
+use Rattle.iri_grammar.specs.WholeFault.{reference_fault}
+use Rattle.iri_grammar.specs.declared.error.ErrorKind.{ErrorKind}
 use Rattle.iri_resolve.specs.NormalForm.{canonical}
-use Rattle.iri_cli.specs.declared.answer.AnswerFault.{AnswerFault}
+use Rattle.iri_cli.specs.Answer.{answer, answer_by, good_answer, bad_answer}
 use Rattle.iri_text.specs.Sink.{PutsAll}
 use Rattle.iri_text.specs.declared.Failed.{Failed}
 use Rattle.iri_cli.specs.Ending.{is_good}
@@ -15,12 +15,11 @@ pub puts_answer : {wo wn : Option (List ℕ)} {fo fn : ℕ} (good : Bool) (r : R
 puts_answer good (Ok x) text p e = (p.whole, p.same, e)
 puts_answer good (Err f) text p e = (p.front, p.cause, p.later)
 
-answer_is : (s : Tests) (base line : List ℕ) → answer s base line ≡ answer_against s (split_of base) line
-unfolding answer canonical
-answer_is s base line = refl
+-- the answer to a line that is a reference, and to one that has a fault
+pub answer_of_reference : (s : Tests) (base reference line : List ℕ) → bytes_fault (reference_fault s) line ≡ None → reference ≡ line → good_answer (canonical s base reference) ≡ answer s base line
+unfolding answer
+answer_of_reference s base reference line none is = ap (λ r. good_answer (canonical s base r)) is ∙ ap (λ f. answer_by f (canonical s base line)) (sym none)
 
--- an answer against the parts of a base is the one against the base, at each result
-pub puts_against : (s : Tests) (base : List ℕ) (p : Parts) (line : List ℕ) → p ≡ split_of base → (wo wn : Option (List ℕ)) (fo fn : ℕ) (r q : Result Bool AnswerFault) → r ≡ q
-    → PutsAnswer wo wn fo fn r (answer_against s p line) → PutsAnswer wo wn fo fn q (answer s base line)
-puts_against s base p line e wo wn fo fn r q is h =
-    subst (λ t. PutsAnswer wo wn fo fn q t) (ap (λ b. answer_against s b line) e ∙ sym (answer_is s base line)) (subst (λ x. PutsAnswer wo wn fo fn x (answer_against s p line)) is h)
+pub answer_of_fault : (s : Tests) (base line : List ℕ) (kind : ErrorKind) → bytes_fault (reference_fault s) line ≡ Some kind → bad_answer kind ≡ answer s base line
+unfolding answer
+answer_of_fault s base line kind some = ap (λ f. answer_by f (canonical s base line)) (sym some)

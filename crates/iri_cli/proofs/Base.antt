@@ -1,6 +1,6 @@
 -- The base line.
-use Rattle.std.proofs.Common.{◌≡◌, ◌⊎◌, ℕ, ◌+◌, ◌<◌, ◌≤◌, List, [], ◌∷◌, ◌++◌, length, Option, None, Some, Result, Ok, Err, MatchResult, string_bytes, String, true, false, refl, sym, ◌∙◌, ap, subst, arith, inl, inr, ⊎_elim, append_assoc, length-append}
-use Rattle.std.specs.declared.alloc.Global.{Global}
+use Rattle.std.proofs.Common.{◌≡◌, ◌⊎◌, ℕ, ◌+◌, ◌<◌, ◌≤◌, List, [], ◌∷◌, ◌++◌, length, Option, None, Some, Result, Ok, Err, MatchResult, true, false, refl, sym, ◌∙◌, ap, subst, arith, inl, inr, ⊎_elim, append_assoc, length-append}
+use Rattle.std.specs.declared.alloc.AllocError.{AllocError}
 use Rattle.std.proofs.lemmas.List.{append-nil}
 use Rattle.std.proofs.lemmas.Bool.Decides.{nat_tests}
 use Rattle.iri_text.specs.Lines.{NoLf, no_cr}
@@ -11,7 +11,7 @@ use Rattle.iri_text.specs.Reader.{Advances}
 use Rattle.iri_text.proofs.Puts.{Appends-none}
 use Rattle.iri_cli.specs.Ending.{Rules, Stop, Ended, Ending, base_line, unless_refused, base_from, references_from, run_over}
 use Rattle.iri_cli.specs.Run.{Ran, outside}
-use Rattle.iri_cli.specs.Steps.{end_of_none, ChecksBase, IsNew, TakesBase}
+use Rattle.iri_cli.specs.Steps.{RefusesBase, CopiesBase, ReadsBase, IsNew, TakesBase}
 use Rattle.iri_cli.specs.declared.end.End.{End}
 use Rattle.iri_cli.specs.declared.end.End.TheVariants.{Done, SomeBad, BadBase, SourceFailed, SinkFailed, Memory, LineTooLong, InputTooLong}
 use Rattle.iri_cli.proofs.Scan.{base_scan, along, to_end}
@@ -54,7 +54,7 @@ module _ (rules : Rules) where
 
   module _ (lo ln wo wn : Option (List ℕ)) (fo fn ko kn : ℕ) (later : fo ≤ fn) where
     -- The base line ended the run.
-    ended_run : (line : List ℕ) (end : End) → First lo ln line → ChecksBase (rules.refusal line) line wo wn ko kn (Err end) → Ran (run_over rules) (outside lo wo fo ko) (outside ln wn fn kn) end
+    ended_run : (line : List ℕ) (end : End) → First lo ln line → RefusesBase (rules.refusal line) wo wn ko kn end → Ran (run_over rules) (outside lo wo fo ko) (outside ln wn fn kn) end
     ended_run line BadBase first p = record {
       to = ⊎_elim
           (λ e. inl (record { taken = first.taken; output = base_line p.words; takes = first.takes; writes = p.puts.whole; ends = λ more. e more p.words p.refused; sink = p.puts.same }))
@@ -79,30 +79,12 @@ module _ (rules : Rules) where
             (λ e. written x (ap (run_over rules Ended) l.2 ∙ e l.0 p.words p.refused))
             (λ e. written x (ap (run_over rules Ended) (l.2 ∙ ap (λ (t : List ℕ). first.taken ++ t) (subst IsAtEnd l.1 e.0) ∙ append-nil first.taken) ∙ e.1 p.words p.refused))
             first.ends
-    ended_run line Memory first p = record {
-      to = record {
-        answered = [];
-        rest = first.taken;
-        output = [];
-        takes = first.takes;
-        writes = subst (λ w. Appends wo w []) (sym p.0) (Appends-none wo);
-        ends = refl;
-        sink = p.1;
-      };
-      source_later = later;
-      sink_later = omega (arith, p.1);
-    }
+    ended_run line Memory first p = absurd p
     ended_run line Done first p = absurd p
     ended_run line SomeBad first p = absurd p
     ended_run line SourceFailed first p = absurd p
     ended_run line LineTooLong first p = absurd p
     ended_run line InputTooLong first p = absurd p
-
-    -- what was said of the base line, at both answers
-    abbrev pub Reads : LineState → Result (String Global) End → Type 0
-    Reads new result = MatchResult result
-        (λ base. TakesBase rules lo ln new (string_bytes base) × (wn ≡ wo) × (kn ≡ ko) × (fo ≤ fn))
-        (λ end. Ran (run_over rules) (outside lo wo fo ko) (outside ln wn fn kn) end)
 
     module _ (old new : LineState) (is_new : IsNew rules old) where
       -- nothing was held before
@@ -110,7 +92,8 @@ module _ (rules : Rules) where
       all_moved moved = ap (λ (t : List ℕ). t ++ moved) is_new.held
 
       -- The base line was read.
-      pub reads_line : (line : List ℕ) (result : Result (String Global) End) → Advances old new lo ln fo fn (Ok true) → line ≡ new.line → ChecksBase (rules.refusal line) line wo wn ko kn result → Reads new result
+      pub reads_line : (line : List ℕ) (result : Result (Result (List ℕ) End) AllocError) → Advances old new lo ln fo fn (Ok true) → line ≡ new.line → CopiesBase (rules.refusal line) line wo wn ko kn result
+          → ReadsBase rules (outside lo wo fo ko) (outside ln wn fn kn) new result
       reads_line line result a is checks = by_result result checks
         where
           short : length a.says.raw ≤ rules.line_limit
@@ -147,9 +130,22 @@ module _ (rules : Rules) where
               })
               a.says.rest
 
-          by_result : (r : Result (String Global) End) → ChecksBase (rules.refusal line) line wo wn ko kn r → Reads new r
-          by_result (Err end) p = ended_run line end first p
-          by_result (Ok base) p = (
+          by_result : (r : Result (Result (List ℕ) End) AllocError) → CopiesBase (rules.refusal line) line wo wn ko kn r → ReadsBase rules (outside lo wo fo ko) (outside ln wn fn kn) new r
+          by_result (Err memory) p = record {
+            to = record {
+              answered = [];
+              rest = first.taken;
+              output = [];
+              takes = first.takes;
+              writes = subst (λ w. Appends wo w []) (sym p.0) (Appends-none wo);
+              ends = refl;
+              sink = p.1;
+            };
+            source_later = later;
+            sink_later = omega (arith, p.1);
+          }
+          by_result (Ok (Err end)) p = ended_run line end first p
+          by_result (Ok (Ok base)) p = (
             record {
               raw = a.says.raw;
               whole = a.says.whole;
@@ -171,9 +167,10 @@ module _ (rules : Rules) where
           )
 
       -- There is no line, and the base is the empty text.
-      pub reads_none : (result : Result (String Global) End) (end : End) → end ≡ end_of_none result → Advances old new lo ln fo fn (Ok false) → ChecksBase (rules.refusal []) [] wo wn ko kn result
+      pub reads_none : {X : Type 0} (text : X → List ℕ) (result : Result X End) (end : End) → MatchResult result (λ _. end ≡ Done) (λ e. end ≡ e) → Advances old new lo ln fo fn (Ok false)
+          → MatchResult result (λ base. (text base ≡ []) × (rules.refusal [] ≡ None) × (wn ≡ wo) × (kn ≡ ko)) (λ e. RefusesBase (rules.refusal []) wo wn ko kn e)
           → Ran (run_over rules) (outside lo wo fo ko) (outside ln wn fn kn) end
-      reads_none result end is a checks = subst (Ran (run_over rules) (outside lo wo fo ko) (outside ln wn fn kn)) (sym is) (by_result result checks)
+      reads_none {X} text result end is a checks = by_result result is checks
         where
           takes : Consumes lo ln []
           takes = subst (Consumes lo ln) (sym (all_moved a.moved) ∙ a.says.0) a.moves
@@ -181,21 +178,25 @@ module _ (rules : Rules) where
           at_end : IsAtEnd ln
           at_end = a.says.2 is_new.ended
 
-          by_result : (r : Result (String Global) End) → ChecksBase (rules.refusal []) [] wo wn ko kn r → Ran (run_over rules) (outside lo wo fo ko) (outside ln wn fn kn) (end_of_none r)
-          by_result (Err end) p = ended_run [] end (record { taken = []; takes = takes; ends = inr (at_end, λ words refused. refused_is words (rules.refusal []) (record { status = 0; output = [] }) refused) }) p
-          by_result (Ok base) p = record {
+          by_result : (r : Result X End) → MatchResult r (λ _. end ≡ Done) (λ e. end ≡ e)
+              → MatchResult r (λ base. (text base ≡ []) × (rules.refusal [] ≡ None) × (wn ≡ wo) × (kn ≡ ko)) (λ e. RefusesBase (rules.refusal []) wo wn ko kn e)
+              → Ran (run_over rules) (outside lo wo fo ko) (outside ln wn fn kn) end
+          by_result (Err e) is p =
+              subst (Ran (run_over rules) (outside lo wo fo ko) (outside ln wn fn kn)) (sym is)
+              (ended_run [] e (record { taken = []; takes = takes; ends = inr (at_end, λ words refused. refused_is words (rules.refusal []) (record { status = 0; output = [] }) refused) }) p)
+          by_result (Ok base) is p = subst (Ran (run_over rules) (outside lo wo fo ko) (outside ln wn fn kn)) (sym is) (record {
             to = record {
               taken = [];
               output = [];
               takes = takes;
               writes = subst (λ w. Appends wo w []) (sym p.2) (Appends-none wo);
               at_end = at_end;
-              ends = ap (λ (o : Option (List ℕ)). unless_refused o (record { status = 0; output = [] })) p.0;
+              ends = ap (λ (o : Option (List ℕ)). unless_refused o (record { status = 0; output = [] })) p.1;
               sink = p.3;
             };
             source_later = later;
             sink_later = omega (arith, p.3);
-          }
+          })
 
   -- Before the base line.
   pub start : (lo wo : Option (List ℕ)) (r : LineState) → IsNew rules r → Going rules (base_from rules) (run_over rules) 0 lo lo wo wo r true

@@ -20,17 +20,7 @@ use Rattle.iri_grammar.specs.Laws.{uri_is_spec, iri_is_spec}
 use Rattle.iri_cli.specs.Words.{tests_of}
 use Rattle.iri_cli.specs.declared.command.Grammar.{Grammar}
 use Rattle.iri_cli.specs.declared.command.Grammar.TheVariants.{Uri, Iri}
-use Rattle.iri_cli.specs.Answer.{refusal, words_of_fault, answer, answer_by, answer_against, bad_answer, AnswersAreCanonical}
-
-pub text_fault : (f : List ℕ → Option ErrorKind) (bs : List ℕ) → IsUtf8 bs → bytes_fault f bs ≡ f bs
-text_fault f bs u = rw (is_utf8-from_IsUtf8 bs u) refl
-
-false-where : (b : Bool) → (b ≡ true → ⊥) → b ≡ false
-false-where true n = absurd (n refl)
-false-where false n = refl
-
-pub no_text_fault : (f : List ℕ → Option ErrorKind) (bs : List ℕ) → (IsUtf8 bs → ⊥) → bytes_fault f bs ≡ Some InvalidUtf8
-no_text_fault f bs n = rw (false-where (is_utf8 bs) (λ e. n (IsUtf8-from_is_utf8 bs e))) refl
+use Rattle.iri_cli.specs.Answer.{refusal, words_of_fault, answer, AnswersAreCanonical}
 
 fault_none : (f : List ℕ → Option ErrorKind) (bs : List ℕ) → bytes_fault f bs ≡ None → f bs ≡ None
 fault_none f bs = elim (is_utf8 bs) as (λ b. cond b (f bs) (Some InvalidUtf8) ≡ None → f bs ≡ None) [ true ↦ λ h. h | false ↦ λ h. cc ]
@@ -47,34 +37,6 @@ base_absolute s l bs h = (absolute-law s l bs).0 (fault_none (absolute_fault s) 
 -- a line without a fault is a reference
 pub line_reference : (s : Tests) → IsSpec s → (bs : List ℕ) → bytes_fault (reference_fault s) bs ≡ None → IsReference s bs
 line_reference s l bs h = (reference-law s l bs).0 (fault_none (reference_fault s) bs h)
-
-of_absolute : (s : Tests) → IsSpec s → (bs : List ℕ) → IsAbsolute s bs → reference_fault s bs ≡ None
-of_absolute s l bs a = no_fault_where_splits s l bs a.0 a.1
-
--- so it is a reference, and has a scheme
-pub base_none : (s : Tests) → IsSpec s → (bs : List ℕ) → refusal s bs ≡ None → reference_fault s bs ≡ None
-base_none s l bs h = of_absolute s l bs (base_absolute s l bs h)
-
-pub base_scheme : (s : Tests) → IsSpec s → (bs : List ℕ) → refusal s bs ≡ None → IsSome (split_of bs).scheme
-base_scheme s l bs h = let a = base_absolute s l bs h in subst (λ (p : Parts). IsSome p.scheme) (sym (split_is s bs a.0 l a.1)) a.2
-
--- the answer to a line that is a text, and to one that isn't
-pub answer_of_text : (s : Tests) (b : Parts) (text line : List ℕ) → text ≡ line → IsUtf8 line
-    → answer_by (reference_fault s text) (recompose (normal_form s (target b (split_of text)))) ≡ answer_against s b line
-answer_of_text s b text line e u =
-    ap (λ t. answer_by (reference_fault s t) (recompose (normal_form s (target b (split_of t))))) e
-    ∙ ap (λ f. answer_by f (recompose (normal_form s (target b (split_of line))))) (sym (text_fault (reference_fault s) line u))
-
-pub answer_of_bytes : (s : Tests) (b : Parts) (line : List ℕ) → (IsUtf8 line → ⊥) → bad_answer InvalidUtf8 ≡ answer_against s b line
-answer_of_bytes s b line n = ap (λ f. answer_by f (recompose (normal_form s (target b (split_of line))))) (sym (no_text_fault (reference_fault s) line n))
-
--- the parts of a reference
-pub reference_fits : (s : Tests) (text : List ℕ) (p : Parts) → reference_fault s text ≡ None → p ≡ split_of text → Fits s p
-reference_fits s text p h e = subst (Fits s) (sym e) (splits_where_no_fault s text h).fits
-
--- a target that is given as slices fits
-pub slices_fit : (s : Tests) (base reference t : Parts) → t ≡ target base reference → Fits s base → IsSome base.scheme → Fits s reference → Fits s t
-slices_fit s base reference t e b k r = subst (Fits s) (sym e) (target-fits s base reference b k r).0
 
 -- each good answer is canonical
 pub canonical_answers : (s : Tests) → IsSpec s → AnswersAreCanonical s

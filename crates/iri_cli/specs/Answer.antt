@@ -33,10 +33,6 @@ answer_by (Some kind) text = bad_answer kind
 unfoldable pub answer : Tests → List ℕ → List ℕ → List ℕ
 answer s base line = answer_by (bytes_fault (reference_fault s) line) (canonical s base line)
 
--- the same against the parts of a base
-abbrev pub answer_against : Tests → Parts → List ℕ → List ℕ
-answer_against s base line = answer_by (bytes_fault (reference_fault s) line) (recompose (normal_form s (target base (split_of line))))
-
 -- What a good answer says: its text is a URI of the spec, splits into exactly the normal form of the target, and is its own
 -- canonical text against every base.
 pub record IsCanonical (s : Tests) (base line : List ℕ) : Type 0 where

@@ -1,4 +1,6 @@
 // A reader and a writer over one buffer of output, which is written before more input is read.
+ghost use Rattle.std.specs.Prelude.{◌≡◌};
+
 use std::cell::{Cell, RefCell};
 use std::io;
 use std::io::{BufWriter, Read, Write};
@@ -17,7 +19,9 @@ impl<'a, R: Read, W: Write + Drop> FlushingReader<'a, R, W> {
         reader: R,
         writer: &'a RefCell<BufWriter<W>>,
         write_failed: &'a Cell<bool>,
-    ) -> FlushingReader<'a, R, W> {
+    ) -> FlushingReader<'a, R, W>
+        ensures { result.reader ≡ reader }
+    {
         FlushingReader {
             reader,
             writer,
@@ -27,6 +31,8 @@ impl<'a, R: Read, W: Write + Drop> FlushingReader<'a, R, W> {
 }
 
 impl<'a, R: Read, W: Write + Drop> Read for FlushingReader<'a, R, W> {
+    ghost remaining = { λ r. R.remaining r.reader };
+
     fn read(&mut self, buf: &mut [u8]) -> io::Result<usize> {
         if let Ok(mut writer) = self.writer.try_borrow_mut() {
             if let Err(error) = writer.flush() {

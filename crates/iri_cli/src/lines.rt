@@ -1,18 +1,23 @@
 // A run over the lines of a source: the base line, then the reference lines.
-ghost use Rattle.std.specs.Prelude.{◌≡◌, ◌≤◌, None, MatchResult, string_bytes};
+ghost use Rattle.std.specs.Prelude.{◌≡◌, None, MatchResult};
 ghost use Rattle.iri_text.specs.Sink.{PutsAll};
+ghost use Rattle.iri_types.specs.Texts.{text};
+ghost use Rattle.iri_resolve.specs.Resolver.{base_text};
 ghost use Rattle.iri_cli.specs.Ending.{run_over, base_line};
 ghost use Rattle.iri_cli.specs.Answer.{refusal};
 ghost use Rattle.iri_cli.specs.Words.{canon_rules};
 ghost use Rattle.iri_cli.specs.Run.{Ran, outside};
-ghost use Rattle.iri_cli.specs.Steps.{end_at, end_of_all, end_of_none, ChecksBase, IsNew, TakesBase, IsAtReferences, still_to_come, rest_of};
+ghost use Rattle.iri_cli.specs.Steps.{end_at, end_of_all, RefusesBase, CopiesBase, ReadsBase, IsNew, IsAtReferences, still_to_come, rest_of};
 ghost use Rattle.iri_cli.specs.declared.end.End.{End};
 
-use crate::answer::{AnswerFault, base_parts, base_text, put_answer};
+use crate::answer::{base_of, put_answer};
 use crate::end::End;
 use iri_grammar::spec::Spec;
+use iri_owned::owned::RiAbsoluteString;
+use iri_resolve::resolver::FixedBaseResolver;
 use iri_text::{Failed, LineFault, LineReader, Sink, Source};
-use std::alloc::Global;
+use iri_types::view::RiAbsoluteStr;
+use std::alloc::{AllocError, Global};
 
 // How many bytes a line may have before its LF.
 const LINE: usize = 65536;
@@ -39,8 +44,8 @@ fn last_end(all_good: bool) -> End
 }
 
 // The end of a run over no line at all, where this was said of the empty base.
-fn none_end(base: Result<String, End>) -> End
-    ensures { result ≡ end_of_none base }
+fn none_end<S: Spec>(base: Result<RiAbsoluteStr<'_, S>, End>) -> End
+    ensures { MatchResult base.entry (λ _. result ≡ End.Done) (λ end. result ≡ end) }
 {
     match base {
         Ok(_) => End::Done,
@@ -57,19 +62,35 @@ fn put_refusal<O: Sink>(sink: &mut O, words: &str) -> Result<(), Failed>
     sink.put_all(b"\n")
 }
 
-// A copy of a base line that is taken, or how the run ends.
-fn check_base<S: Spec, O: Sink>(alloc: Global, line: &[u8], sink: &mut O) -> Result<String, End>
-    ensures { ChecksBase (refusal S.tests line.now) line.now (O.written sink.old) (O.written sink.new) (O.faults sink.old) (O.faults sink.new) result }
+// The base of a base line, or how the run ends where it is refused.
+fn check_base<'a, S: Spec, O: Sink>(
+    line: &'a [u8],
+    sink: &mut O,
+) -> Result<RiAbsoluteStr<'a, S>, End>
+    ensures { MatchResult result
+        (λ base. (text base ≡ line.now) × (refusal S.tests line.now ≡ None) × (O.written sink.new ≡ O.written sink.old) × (O.faults sink.new ≡ O.faults sink.old))
+        (λ end. RefusesBase (refusal S.tests line.now) (O.written sink.old) (O.written sink.new) (O.faults sink.old) (O.faults sink.new) end) }
 {
-    match base_text::<S>(line) {
-        Ok(text) => match String::from_str(alloc, text) {
-            Ok(base) => Ok(base),
-            Err(_) => Err(End::Memory),
-        },
+    match base_of::<S>(line) {
+        Ok(base) => Ok(base),
         Err(words) => match put_refusal(sink, words) {
             Ok(()) => Err(End::BadBase),
             Err(Failed) => Err(End::SinkFailed),
         },
+    }
+}
+
+// A copy of the base of a base line, or how the run ends where it is refused.
+fn copy_base<S: Spec, O: Sink>(
+    alloc: Global,
+    line: &[u8],
+    sink: &mut O,
+) -> Result<Result<RiAbsoluteString<S>, End>, AllocError>
+    ensures { CopiesBase (refusal S.tests line.now) line.now (O.written sink.old) (O.written sink.new) (O.faults sink.old) (O.faults sink.new) result }
+{
+    match check_base::<S, O>(line, sink) {
+        Ok(base) => Ok(Ok(RiAbsoluteString::from_view(alloc, base)?)),
+        Err(end) => Ok(Err(end)),
     }
 }
 
@@ -79,43 +100,38 @@ fn read_base<S: Spec, I: Source, O: Sink>(
     reader: &mut LineReader,
     source: &mut I,
     sink: &mut O,
-) -> Result<String, End>
+) -> Result<Result<RiAbsoluteString<S>, End>, AllocError>
     requires { IsNew (canon_rules S.tests) reader.old }
-    ensures { MatchResult result
-        (λ base. TakesBase (canon_rules S.tests) (I.left source.old) (I.left source.new) reader.new (string_bytes base)
-        × (O.written sink.new ≡ O.written sink.old) × (O.faults sink.new ≡ O.faults sink.old) × (I.faults source.old ≤ I.faults source.new))
-        (λ end. Ran (run_over (canon_rules S.tests)) (outside (I.left source.old) (O.written sink.old) (I.faults source.old) (O.faults sink.old))
-        (outside (I.left source.new) (O.written sink.new) (I.faults source.new) (O.faults sink.new)) end) }
+    ensures { ReadsBase (canon_rules S.tests) (outside (I.left source.old) (O.written sink.old) (I.faults source.old) (O.faults sink.old))
+        (outside (I.left source.new) (O.written sink.new) (I.faults source.new) (O.faults sink.new)) reader.new result }
 {
     match reader.next_line(source) {
-        Ok(Some(line)) => check_base::<S, O>(alloc, line, sink),
-        Ok(None) => Err(none_end(check_base::<S, O>(alloc, b"", sink))),
-        Err(fault) => Err(fault_end(fault)),
+        Ok(Some(line)) => copy_base::<S, O>(alloc, line, sink),
+        Ok(None) => Ok(Err(none_end(check_base::<S, O>(b"", sink)))),
+        Err(fault) => Ok(Err(fault_end(fault))),
     }
 }
 
 // Answers the reference lines.
 fn answer_lines<S: Spec, I: Source, O: Sink>(
     alloc: Global,
-    base: &str,
+    resolver: FixedBaseResolver<'_, S>,
     mut reader: LineReader,
     source: &mut I,
     sink: &mut O,
 ) -> End
-    requires base { refusal S.tests base.now ≡ None }
-    requires reader { IsAtReferences (canon_rules S.tests) (I.left source.old) reader }
-    ensures { Ran (rest_of (canon_rules S.tests) base.now reader) (outside (still_to_come reader.held (I.left source.old)) (O.written sink.old) (I.faults source.old) (O.faults sink.old))
+    requires { IsAtReferences (canon_rules S.tests) (I.left source.old) reader }
+    ensures { Ran (rest_of (canon_rules S.tests) (base_text resolver.entry) reader) (outside (still_to_come reader.held (I.left source.old)) (O.written sink.old) (I.faults source.old) (O.faults sink.old))
         (outside (I.left source.new) (O.written sink.new) (I.faults source.new) (O.faults sink.new)) result }
 {
-    let parts = base_parts::<S>(base);
     let mut buffer = String::new(alloc);
     let mut all_good = true;
     loop {
         match reader.next_line(source) {
-            Ok(Some(line)) => match put_answer::<S, O>(alloc, sink, &mut buffer, &parts, line) {
-                Ok(good) => all_good &= good,
-                Err(AnswerFault::Sink) => return End::SinkFailed,
-                Err(AnswerFault::Memory) => return End::Memory,
+            Ok(Some(line)) => match put_answer(alloc, sink, &mut buffer, resolver, line) {
+                Ok(Ok(good)) => all_good &= good,
+                Ok(Err(Failed)) => return End::SinkFailed,
+                Err(_) => return End::Memory,
             },
             Ok(None) => return last_end(all_good),
             Err(fault) => return fault_end(fault),
@@ -132,7 +148,11 @@ pub fn canon_lines<S: Spec, I: Source, O: Sink>(alloc: Global, source: &mut I, s
         return End::Memory;
     };
     match read_base::<S, I, O>(alloc, &mut reader, source, sink) {
-        Ok(base) => answer_lines::<S, I, O>(alloc, base.as_str(), reader, source, sink),
-        Err(end) => end,
+        Ok(Ok(base)) => {
+            let resolver = FixedBaseResolver::new(base.as_slice());
+            answer_lines(alloc, resolver, reader, source, sink)
+        }
+        Ok(Err(end)) => end,
+        Err(_) => End::Memory,
     }
 }

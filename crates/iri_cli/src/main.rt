@@ -6,7 +6,12 @@
 //!
 //! Proved: the contract of `run`, over any source and any sink. Each status comes only by its cause, and where the source
 //! tells its bytes, status and output are those of `ending` in specs/Ending.antt.
-//! Tested: `main`, `run_on_streams` and the words that `env::args` gives. What a real stream gives or takes isn't proved.
+//! Each answer is put whole or up to where the sink fails, and want of memory comes only where memory is taken.
+//!
+//! Not proved, and shown by tests/edges on the built program: `main`, `words`, `run_on_streams`, and of the two ends of the
+//! output's buffer in `flush` that what is written is what comes out. `FlushingReader` gives what its reader gives; what a cell
+//! or a real stream holds no contract can say, so `SharedWriter` has the contract of any writer. That memory is had where
+//! there is some, the rows in `tests` show.
 #![tactic(auto)]
 
 mod answer;

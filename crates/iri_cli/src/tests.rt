@@ -274,7 +274,17 @@ fn answers_of_both_grammars(rt: HostRuntime) -> Result<(), Fail> {
         assert!(rt; row(&rt, "uri", base, reference.as_bytes(), answer)?);
         assert!(rt; row(&rt, "iri", base, reference.as_bytes(), answer)?);
     }
-    assert!(rt; row(&rt, "uri", "http://a/", b"\xff", "bad invalid utf-8 bytes")?);
+    for grammar in ["uri", "iri"] {
+        assert!(rt;
+            row(
+                &rt,
+                grammar,
+                "http://a/",
+                b"\xff",
+                "bad invalid utf-8 bytes"
+            )?
+        );
+    }
     Ok(())
 }
 
@@ -282,35 +292,55 @@ fn answers_of_both_grammars(rt: HostRuntime) -> Result<(), Fail> {
 #[test]
 fn answers_of_each_grammar(rt: HostRuntime) -> Result<(), Fail> {
     let rows = [
-        ("//%C3%89X.COM", "ok http://%C3%89X.COM", "ok http://ÉX.COM"),
         (
+            "http://a/",
+            "//%C3%89X.COM",
+            "ok http://%C3%89X.COM",
+            "ok http://ÉX.COM",
+        ),
+        (
+            "http://a/",
             "%ce%ce%b1%b1",
             "ok http://a/%CE%CE%B1%B1",
             "ok http://a/%CEα%B1",
         ),
         (
-            "?x=%e3%81%82#Sec",
-            "ok http://a/?x=%E3%81%82#Sec",
-            "ok http://a/?x=あ#Sec",
+            "https://www.rfc-editor.org/rfc/rfc3986.html",
+            "../info/rfc6570?x=%e3%81%82#Sec",
+            "ok https://www.rfc-editor.org/info/rfc6570?x=%E3%81%82#Sec",
+            "ok https://www.rfc-editor.org/info/rfc6570?x=あ#Sec",
         ),
         (
+            "http://a/",
             "?\u{E000}%ee%80%80",
             "bad invalid query",
             "ok http://a/?\u{E000}%EE%80%80",
         ),
     ];
-    for (reference, uri, iri) in rows {
-        assert!(rt; row(&rt, "uri", "http://a/", reference.as_bytes(), uri)?);
-        assert!(rt; row(&rt, "iri", "http://a/", reference.as_bytes(), iri)?);
+    for (base, reference, uri, iri) in rows {
+        assert!(rt; row(&rt, "uri", base, reference.as_bytes(), uri)?);
+        assert!(rt; row(&rt, "iri", base, reference.as_bytes(), iri)?);
     }
     Ok(())
+}
+
+// Whether this input ends with a refused base, by both grammars.
+fn base_is_refused(rt: &HostRuntime, input: &[u8], output: &[u8]) -> Result<bool, Fail> {
+    let mut all = true;
+    for grammar in ["uri", "iri"] {
+        let words = ["canon", grammar];
+        let mut source = PlainSource::new(input);
+        all &= answers(rt, &words, &mut source, &[], 3, output)?;
+    }
+    Ok(all)
 }
 
 #[test]
 fn bases_that_are_refused(rt: HostRuntime) -> Result<(), Fail> {
     let relative: &[u8] = b"base expected an absolute IRI but got a relative IRI\n";
-    assert!(rt; canon_uri(&rt, b"a/b\ng\n", 3, relative)?);
-    assert!(rt; canon_uri(&rt, b"", 3, relative)?);
-    assert!(rt; canon_uri(&rt, b"http://a/#f", 3, b"base unexpected fragment\n")?);
+    assert!(rt; base_is_refused(&rt, b"a/b\ng\n", relative)?);
+    assert!(rt; base_is_refused(&rt, b"", relative)?);
+    assert!(rt; base_is_refused(&rt, b"http://a/#f\ng", b"base unexpected fragment\n")?);
+    assert!(rt; base_is_refused(&rt, b"\xff\ng", b"base invalid utf-8 bytes\n")?);
     Ok(())
 }

@@ -1,4 +1,5 @@
 use Rattle.std.proofs.Common.{◌≡◌, ◌+◌, ◌-◌, ◌≤◌, length}
+use Rattle.iri_resolve.specs.Resolver.{base_text}
 use Rattle.iri_cli.specs.Words.{canon_rules}
 use Rattle.iri_cli.specs.Steps.{rest_of, still_to_come}
 use Rattle.iri_cli.proofs.Answered.{Goes}
@@ -6,7 +7,7 @@ use Rattle.iri_cli.proofs.lines.answer_lines.Given as goal
 
 abbrev pub invariant-loop-line : goal.invariant-loop-line
 invariant-loop-line g l = record {
-  going : Goes (canon_rules g.S.Spec.tests) l.base (rest_of (canon_rules g.S.Spec.tests) l.base l.fn.reader) (l.fn.reader.taken - length l.fn.reader.held)
+  going : Goes (canon_rules g.S.Spec.tests) (base_text l.resolver) (rest_of (canon_rules g.S.Spec.tests) (base_text l.resolver) l.fn.reader) (l.fn.reader.taken - length l.fn.reader.held)
       (still_to_come l.fn.reader.held (g.I.Source.left l.fn.source)) (g.I.Source.left l.source) (g.O.Sink.written l.fn.sink) (g.O.Sink.written l.sink) l.reader l.all_good;
   source_faults : g.I.Source.faults l.fn.source ≤ g.I.Source.faults l.source;
   sink_faults : g.O.Sink.faults l.sink ≡ g.O.Sink.faults l.fn.sink;

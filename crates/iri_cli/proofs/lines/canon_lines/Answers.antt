@@ -1,6 +1,6 @@
-use Rattle.std.proofs.Common.{[], refl, ◌∙◌, ap, arith}
+use Rattle.std.proofs.Common.{[], ◌∙◌, refl, arith}
 use Rattle.iri_text.proofs.Puts.{Appends-none}
-use Rattle.iri_cli.specs.Answer.{refusal}
+use Rattle.iri_types.specs.Texts.{text}
 use Rattle.iri_cli.specs.Words.{canon_rules}
 use Rattle.iri_cli.proofs.Base.{consumes_none}
 use Rattle.iri_cli.proofs.Joined.{at_references, behind_base}
@@ -13,14 +13,11 @@ returns-in_default g c = record {
   sink_later = omega arith;
 }
 
-pub answer_lines-requires-clause-base : goal.answer_lines-requires-clause-base
-answer_lines-requires-clause-base g c = ap (refusal g.S.Spec.tests) c.as_str.ensures.value ∙ c.in-Ok-read_base.ensures.0.base_taken
+pub answer_lines-requires : goal.answer_lines-requires
+answer_lines-requires g c = let b = rw c.in-Ok-Ok.field-0-is at c.in-Ok-Ok.ensures in at_references (canon_rules g.S.Spec.tests) _ _ _ _ b.0
 
-pub answer_lines-requires-clause-reader : goal.answer_lines-requires-clause-reader
-answer_lines-requires-clause-reader g c = at_references (canon_rules g.S.Spec.tests) _ _ _ _ c.in-Ok-read_base.ensures.0
-
-pub returns-in-Ok-read_base : goal.returns-in-Ok-read_base
-returns-in-Ok-read_base g c =
-    let b = c.in-Ok-read_base.ensures in
+pub returns-in-Ok-Ok : goal.returns-in-Ok-Ok
+returns-in-Ok-Ok g c =
+    let b = rw c.in-Ok-Ok.field-0-is at c.in-Ok-Ok.ensures in
     behind_base (canon_rules g.S.Spec.tests) _ (g.I.Source.left c.read_base.new.source) _ _ _ _ (g.I.Source.faults c.read_base.new.source) _ _ _ b.3 _ _ b.0 _ (g.O.Sink.written c.read_base.new.sink) (g.O.Sink.faults c.read_base.new.sink) _
-    c.as_str.ensures.value b.1 b.2 c.answer_lines.ensures
+    (c.new-resolver.ensures ∙ c.as_slice.ensures) b.1 b.2 c.answer_lines.ensures
