@@ -7,8 +7,9 @@ use lib.Utf8.{encodes}
 use Rattle.std.proofs.lemmas.Bool.{cases_lt, cases_eq, and_parts as both, eqb-true}
 use Rattle.std.proofs.lemmas.Bool.Decides.{nat_tests}
 use Rattle.std.proofs.lemmas.Str.{chars_past_char, chars-nil, chars_from_encodes, encode_ascii, IsUtf8-past_char, byte_from_char, is_utf8-from_IsUtf8, length-encode, len_utf8_bounds}
+use Rattle.iri_grammar.specs.Cut.{tail}
 use Rattle.iri_grammar.specs.Over.{over, over_from, text_over}
-use Rattle.iri_grammar.specs.Runs.{run_of, begins_with_digit, begins_with_triplet, tail, HasNoUnit}
+use Rattle.iri_grammar.specs.Runs.{run_of, begins_with_digit, begins_with_triplet, HasNoUnit}
 
 -- an ASCII byte is a character
 ascii_front : (b : ℕ) (bs : List ℕ) → b < 128 → b ∷ bs ≡ encode_utf8 b ++ bs

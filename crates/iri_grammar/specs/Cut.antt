@@ -16,6 +16,11 @@ abbrev pub behind : ℕ → List ℕ → Option (List ℕ)
 behind c [] = None
 behind c (x ∷ xs) = cond (x == c) (Some xs) (behind c xs)
 
+-- what follows the first byte
+abbrev pub tail : List ℕ → List ℕ
+tail [] = []
+tail (x ∷ xs) = xs
+
 -- there is no c
 abbrev pub lacks : ℕ → List ℕ → Bool
 lacks c [] = true

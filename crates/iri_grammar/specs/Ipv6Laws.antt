@@ -4,13 +4,13 @@ use Rattle.std.specs.Prelude.{◌==◌, nat_lt}
 use Rattle.std.specs.Char.{is_ascii_digit, is_ascii_hexdigit}
 use Rattle.std.specs.List.{list_all}
 use Rattle.std.proofs.lemmas.Bool.Decides.{nat_tests}
-use Rattle.iri_grammar.specs.Cut.{before, behind, lacks}
+use Rattle.iri_grammar.specs.Cut.{before, behind, lacks, tail}
 use Rattle.iri_grammar.specs.CutLaws.{all-lacks, by_test, both}
 use Rattle.iri_grammar.specs.Pieces.{pieces, onto, joined}
 use Rattle.iri_grammar.specs.PiecesLaws.{pieces_cut, more_pieces}
 use Rattle.iri_grammar.specs.Ipv4.{is_ipv4, is_dec_octet, are_four_octets}
 use Rattle.iri_grammar.specs.Ipv6.{IsFullIpv6, IsShortenedIpv6, IsIpv6, is_group, are_groups, are_groups_or_ipv4, units}
-use Rattle.iri_grammar.specs.Ipv6Test.{begins, tail, before_double, behind_double, parts_of, is_ipv6_around, is_ipv6}
+use Rattle.iri_grammar.specs.Ipv6Test.{begins, before_double, behind_double, parts_of, is_ipv6_around, is_ipv6}
 use Rattle.iri_grammar.specs.LiteralChars.{octet-digits}
 
 -- a text without a mark is one piece

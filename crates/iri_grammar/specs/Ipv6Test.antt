@@ -1,5 +1,6 @@
 -- The test for IPv6 texts. That it tells `IsIpv6` is a law.
 use Rattle.std.specs.Prelude.{ℕ, ◌+◌, Bool, false, cond, ◌&&◌, ◌==◌, List, [], ◌∷◌, Option, Some, None, nat_lt}
+use Rattle.iri_grammar.specs.Cut.{tail}
 use Rattle.iri_grammar.specs.Pieces.{pieces}
 use Rattle.iri_grammar.specs.Ipv6.{are_groups, are_groups_or_ipv4, units}
 
@@ -7,10 +8,6 @@ use Rattle.iri_grammar.specs.Ipv6.{are_groups, are_groups_or_ipv4, units}
 abbrev pub begins : ℕ → List ℕ → Bool
 begins c [] = false
 begins c (x ∷ xs) = x == c
-
-abbrev pub tail : List ℕ → List ℕ
-tail [] = []
-tail (x ∷ xs) = xs
 
 -- what stands before the first `::`, or all
 abbrev pub before_double : List ℕ → List ℕ

@@ -9,9 +9,9 @@ use Rattle.iri_grammar.specs.Classes.{is_ascii_userinfo, is_ascii_reg_name, is_a
 use Rattle.iri_grammar.specs.Pieces.{pieces, onto}
 use Rattle.iri_grammar.specs.Ipv4.{is_ipv4, is_dec_octet, is_hundreds, are_four_octets}
 use Rattle.iri_grammar.specs.Ipv6.{is_group, are_groups, are_groups_or_ipv4, units}
-use Rattle.iri_grammar.specs.Ipv6Test.{begins, tail, before_double, behind_double, parts_of, is_ipv6_around, is_ipv6}
+use Rattle.iri_grammar.specs.Ipv6Test.{begins, before_double, behind_double, parts_of, is_ipv6_around, is_ipv6}
 use Rattle.iri_grammar.specs.IpLiteral.{some_of, is_future_address, is_ipvfuture, is_end, is_ip_literal}
-use Rattle.iri_grammar.specs.Cut.{before, behind, marked}
+use Rattle.iri_grammar.specs.Cut.{before, behind, marked, tail}
 use Rattle.iri_grammar.specs.CutLaws.{by_test, both, joined}
 
 -- brackets, and what stands in them: hex digits, `.`, `:` and the other ASCII characters of a userinfo

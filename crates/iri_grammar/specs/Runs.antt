@@ -2,6 +2,7 @@
 use Rattle.std.specs.Prelude.{◌≡◌, ℕ, suc, ◌<◌, Bool, false, cond, ◌&&◌, ◌==◌, List, [], ◌∷◌, length}
 use Rattle.std.specs.Char.{is_ascii_hexdigit}
 use Rattle.std.specs.Str.{chars, IsUtf8}
+use Rattle.iri_grammar.specs.Cut.{tail}
 use Rattle.iri_grammar.specs.Over.{over}
 
 -- how many at the front pass the test
@@ -13,10 +14,6 @@ run_of p (x ∷ xs) = cond (p x) (suc (run_of p xs)) 0
 abbrev pub begins_with_digit : List ℕ → Bool
 begins_with_digit [] = false
 begins_with_digit (a ∷ cs) = is_ascii_hexdigit a
-
-abbrev pub tail : List ℕ → List ℕ
-tail [] = []
-tail (x ∷ xs) = xs
 
 abbrev pub begins_with_triplet : List ℕ → Bool
 begins_with_triplet [] = false

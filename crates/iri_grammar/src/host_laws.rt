@@ -1,16 +1,19 @@
 //! Laws of texts over a class, of IPv6 texts and of authorities: each function's contract is a law, and
 //! its body is empty.
 ghost use Rattle.std.specs.Prelude.{◌≡◌, ◌↔◌, ℕ, Bool, List, true, false};
+ghost use Rattle.iri_grammar.specs.ClassTests.{class_test};
 ghost use Rattle.iri_grammar.specs.Over.{over, IsOver};
 ghost use Rattle.iri_grammar.specs.Ipv6.{IsIpv6};
 ghost use Rattle.iri_grammar.specs.Ipv6Test.{is_ipv6};
 ghost use Rattle.iri_grammar.specs.Authority.{AuthorityParts, ReadsAuthority, recompose_authority, authority_parts, is_authority};
 
+use crate::class::Class;
 use crate::spec::Spec;
 
 /// Characters are over a class exactly where units of the class spell them; `%` is in no class.
-pub fn over_is_units()
-    ensures { (p : ℕ → Bool) (cs : List ℕ) → p 37 ≡ false → (over p cs ≡ true) ↔ IsOver p cs }
+pub fn over_is_units<S: Spec>()
+    ensures units { (p : ℕ → Bool) (cs : List ℕ) → p 37 ≡ false → (over p cs ≡ true) ↔ IsOver p cs }
+    ensures no_percent { (k : Class) → class_test S.tests k 37 ≡ false }
 {}
 
 /// The test for IPv6 texts passes exactly the lists of groups of RFC 3986 section 3.2.2.

@@ -2,6 +2,7 @@
 mod component;
 mod whole;
 
+pub use crate::error::{Error, ErrorKind};
 pub use component::{
     authority, fragment, host, path, path_segment, port, query, reg_name, scheme, userinfo,
 };

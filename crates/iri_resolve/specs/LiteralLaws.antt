@@ -6,11 +6,11 @@ use Rattle.std.specs.Int.{is_in_range}
 use Rattle.std.specs.List.{list_all}
 use Rattle.std.proofs.lemmas.Bool.Decides.{nat_tests}
 use Rattle.iri_grammar.specs.Classes.{is_ascii_userinfo, is_ascii_reg_name, is_ascii_unreserved, is_sub_delim}
-use Rattle.iri_grammar.specs.Cut.{before, behind}
+use Rattle.iri_grammar.specs.Cut.{before, behind, tail}
 use Rattle.iri_grammar.specs.Pieces.{pieces, onto}
 use Rattle.iri_grammar.specs.Ipv4.{is_ipv4, is_dec_octet, is_hundreds, are_four_octets}
 use Rattle.iri_grammar.specs.Ipv6.{is_group, are_groups, are_groups_or_ipv4, units}
-use Rattle.iri_grammar.specs.Ipv6Test.{begins, tail, before_double, behind_double, parts_of, is_ipv6_around, is_ipv6}
+use Rattle.iri_grammar.specs.Ipv6Test.{begins, before_double, behind_double, parts_of, is_ipv6_around, is_ipv6}
 use Rattle.iri_grammar.specs.IpLiteral.{some_of, is_future_address, is_ipvfuture, is_end, is_ip_literal}
 use Rattle.iri_resolve.specs.Normal.{lowered, where_there}
 

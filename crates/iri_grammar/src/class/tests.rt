@@ -60,11 +60,6 @@ fn borders_of_ucschar(rt: HostRuntime) {
         ('\u{FFF0}', false),
         ('\u{FFFF}', false),
         ('\u{10000}', true),
-        ('\u{1FFFD}', true),
-        ('\u{1FFFE}', false),
-        ('\u{20000}', true),
-        ('\u{DFFFD}', true),
-        ('\u{DFFFE}', false),
         ('\u{DFFFF}', false),
         ('\u{E0000}', false),
         ('\u{E0FFF}', false),
@@ -80,6 +75,22 @@ fn borders_of_ucschar(rt: HostRuntime) {
     }
 }
 
+// Of planes 1 to D the last two characters are out.
+#[test]
+fn borders_of_ucschar_in_each_plane(rt: HostRuntime) {
+    for plane in 1..14u32 {
+        for (last, want) in [(0, true), (0xFFFD, true), (0xFFFE, false), (0xFFFF, false)] {
+            match char::from_u32((plane << 16) | last) {
+                Some(c) => {
+                    assert!(rt; is_unreserved::<IriSpec>(c) == want, "at {c}");
+                    assert!(rt; !is_unreserved::<UriSpec>(c), "at {c}");
+                }
+                None => assert!(rt; false),
+            }
+        }
+    }
+}
+
 #[test]
 fn borders_of_iprivate(rt: HostRuntime) {
     for (c, want) in [
@@ -88,9 +99,11 @@ fn borders_of_iprivate(rt: HostRuntime) {
         ('\u{F8FF}', true),
         ('\u{F900}', false),
         ('\u{EFFFD}', false),
+        ('\u{EFFFF}', false),
         ('\u{F0000}', true),
         ('\u{FFFFD}', true),
         ('\u{FFFFE}', false),
+        ('\u{FFFFF}', false),
         ('\u{100000}', true),
         ('\u{10FFFD}', true),
         ('\u{10FFFE}', false),

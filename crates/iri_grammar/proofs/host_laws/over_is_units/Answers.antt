@@ -1,5 +1,9 @@
+use Rattle.iri_grammar.specs.ClassLaws.{class_has_no_percent}
 use Rattle.iri_grammar.specs.OverLaws.{over-from_units, units-from_over}
 use Rattle.iri_grammar.proofs.host_laws.over_is_units.Goals as goal
 
 pub returns : goal.returns
-returns c = λ p cs n. (λ h. units-from_over p cs h, λ u. over-from_units p cs n u)
+returns g c = record {
+  units = λ p cs n. (λ h. units-from_over p cs h, λ u. over-from_units p cs n u);
+  no_percent = class_has_no_percent g.S.Spec.tests g.met.S.Spec.lawful;
+}

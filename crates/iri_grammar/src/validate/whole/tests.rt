@@ -1,6 +1,6 @@
 use super::*;
-use crate::laws;
 use crate::spec::{IriSpec, UriSpec};
+use crate::{host_laws, laws};
 
 fn fault(answer: Result<(), Error>) -> Option<ErrorKind> {
     match answer {
@@ -183,4 +183,7 @@ fn laws_hold() {
     laws::uri_wholes_within::<IriSpec>();
     laws::uri_components_within::<IriSpec>();
     laws::utf8_and_chars();
+    host_laws::over_is_units::<UriSpec>();
+    host_laws::ipv6_is_groups();
+    host_laws::one_reading::<IriSpec>();
 }
