@@ -25,6 +25,10 @@
 //! pass on the bytes of a reader or a writer that tells its own, as one over memory. Which of their calls fail is the
 //! reader's or the writer's matter; that they fail only where it does is tested, and so are that `LineReader::new` gets its
 //! memory, that memory is had where a string grows, and that a `Display` here fails only where the formatter does.
+//!
+//! No clause sees how many of the bytes that it holds a `LineReader` has looked at (`seen`), and none needs to: behind a line
+//! it is 0, and no call may follow another answer. That lines come out the same in whatever pieces a source gives them is
+//! proved, and `reader/tests.rt` shows it byte by byte.
 #![tactic(auto)]
 
 ghost use Rattle.std.specs.Prelude.{ℕ, List, Option};
