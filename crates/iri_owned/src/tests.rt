@@ -1,11 +1,13 @@
 use crate::error::CreateError;
 use crate::owned::{
-    IriString, UriAbsoluteString, UriFragmentString, UriQueryString, UriReferenceString, UriString,
+    IriString, UriAbsoluteString, UriFragmentString, UriQueryString, UriReferenceString,
+    UriRelativeString, UriString,
 };
 use iri_grammar::error::ErrorKind;
 use iri_text::ToStringFallible;
-use std::alloc::Global;
+use std::alloc::{AllocError, Global};
 use std::cmp::Ordering;
+use std::error::Error;
 use std::hash::{DefaultHasher, Hash, Hasher};
 use std::test::Fail;
 
@@ -14,6 +16,11 @@ fn fault(error: CreateError) -> Option<ErrorKind> {
         CreateError::Invalid(error) => Some(error.kind()),
         CreateError::Memory(_) => None,
     }
+}
+
+// What an error prints.
+fn told<E: Error>(error: &E, alloc: Global) -> Result<String, Fail> {
+    Ok(format!(in alloc; "{error}")?)
 }
 
 #[test]
@@ -32,20 +39,23 @@ fn made_and_refused(rt: HostRuntime) -> Result<(), Fail> {
         Err(error) => {
             let kind = error.validation_error().kind();
             assert_eq!(rt; kind, ErrorKind::UnexpectedRelative);
-            let told = format!(in rt.alloc(); "{error}")?;
             let want = "invalid IRI: expected an absolute IRI but got a relative IRI";
-            assert_eq!(rt; told.as_str(), want);
+            assert_eq!(rt; told(&error, rt.alloc())?.as_str(), want);
             assert_eq!(rt; error.into_source().as_str(), "a");
         }
     }
     match UriString::try_from_str(rt.alloc(), "a") {
         Ok(_) => assert!(rt; false),
         Err(error) => {
-            let told = format!(in rt.alloc(); "{error}")?;
             let want = "invalid IRI: expected an absolute IRI but got a relative IRI";
-            assert_eq!(rt; told.as_str(), want);
+            assert_eq!(rt; told(&error, rt.alloc())?.as_str(), want);
         }
     }
+    let refused = CreateError::Memory(AllocError);
+    assert_eq!(rt;
+        told(&refused, rt.alloc())?.as_str(),
+        "memory allocation failed"
+    );
     Ok(())
 }
 
@@ -60,15 +70,23 @@ fn copies(rt: HostRuntime) -> Result<(), Fail> {
     Ok(())
 }
 
-// The text before the fragment, and the fragment.
-fn cut(alloc: Global, iri: UriString) -> Option<(UriAbsoluteString, Option<UriFragmentString>)> {
-    iri.into_absolute_and_fragment(alloc).ok()
+// The text before the fragment, and the fragment. Where memory is refused, the text is handed back.
+fn cut(
+    alloc: Global,
+    iri: UriString,
+) -> Result<(UriAbsoluteString, Option<UriFragmentString>), Fail> {
+    let copy = iri.try_clone(alloc)?;
+    match iri.into_absolute_and_fragment(alloc) {
+        Ok(both) => Ok(both),
+        Err(iri) if iri == copy => Err(AllocError)?,
+        Err(_) => Err("another text is handed back")?,
+    }
 }
 
 #[test]
 fn cut_at_the_fragment(rt: HostRuntime) -> Result<(), Fail> {
     let iri = UriString::try_from_str(rt.alloc(), "http://a/#f")?;
-    let (absolute, fragment) = cut(rt.alloc(), iri).ok_or("memory")?;
+    let (absolute, fragment) = cut(rt.alloc(), iri)?;
     assert_eq!(rt; absolute.as_str(), "http://a/");
     let fragment = fragment.ok_or("no fragment")?;
     assert_eq!(rt; fragment.into_iri_spec().as_str(), "f");
@@ -95,6 +113,11 @@ fn kinds(rt: HostRuntime) -> Result<(), Fail> {
         ErrorKind::UnexpectedFragment
     );
     assert_eq!(rt; error.into_source().as_str(), "a:#");
+    let reference = UriReferenceString::try_from_str(rt.alloc(), "a")?;
+    let relative = UriRelativeString::try_from_reference(reference)
+        .ok()
+        .ok_or("refused")?;
+    assert_eq!(rt; relative.as_str(), "a");
     Ok(())
 }
 

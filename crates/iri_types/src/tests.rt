@@ -157,6 +157,9 @@ fn kinds(rt: HostRuntime) {
                     None => assert!(rt; false),
                 }
                 assert_eq!(rt; iri.to_iri_spec().as_str(), "http://a/?q#f");
+                let text = iri.as_str();
+                assert_eq!(rt; UriStr::from_valid(text), iri);
+                assert_eq!(rt; UriReferenceStr::from_valid(reference.as_str()).len(), 13);
             }
             Err(_) => assert!(rt; false),
         },
@@ -217,7 +220,7 @@ fn hash_of<T: Hash>(x: &T) -> u64 {
 fn views_as_texts(rt: HostRuntime) -> Result<(), Fail> {
     match (UriStr::new("a:b"), UriStr::new("a:c")) {
         (Ok(a), Ok(b)) => {
-            let again = a;
+            let again = a.clone()?;
             assert_eq!(rt; again, a);
             assert!(rt; !equal_as_texts(a, b));
             assert_eq!(rt; ordered_as_texts(a, b), Ordering::Less);
@@ -227,6 +230,8 @@ fn views_as_texts(rt: HostRuntime) -> Result<(), Fail> {
             assert_eq!(rt; state.finish(), hash_of(&a));
             let told = format!(in rt.alloc(); "<{a}>")?;
             assert_eq!(rt; told.as_str(), "<a:b>");
+            let told = format!(in rt.alloc(); "{a:?}")?;
+            assert!(rt; told.as_str().contains("\"a:b\""));
             let mut three = [0u8; 3];
             match write_to_slice(&mut three, &a) {
                 Ok(text) => assert_eq!(rt; text, "a:b"),
@@ -238,7 +243,7 @@ fn views_as_texts(rt: HostRuntime) -> Result<(), Fail> {
     match (UriStr::new("a://b"), UriStr::new("c://b/d")) {
         (Ok(a), Ok(b)) => match (a.authority_components(), b.authority_components()) {
             (Some(x), Some(y)) => {
-                let copy = x;
+                let copy = x.clone()?;
                 assert!(rt; copy == y);
                 assert_eq!(rt; hash_of(&x), hash_of(&y));
             }

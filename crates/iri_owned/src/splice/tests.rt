@@ -91,6 +91,11 @@ fn within_and_past_the_capacity(rt: HostRuntime) -> Result<(), Fail> {
     assert_eq!(rt; iri.as_str(), "http://b.example/");
     assert_eq!(rt; iri.capacity(), capacity);
     iri.shrink_to_fit()?;
+    assert_eq!(rt; iri.as_str(), "http://b.example/");
+    if iri.capacity() == capacity {
+        // The smaller place was refused.
+        Err(AllocError)?;
+    }
     let capacity = iri.capacity();
     let new = "0123456789012345678901234567890123456789";
     assert!(rt; splices(&mut iri, rt.alloc(), 17..17, new)?);
