@@ -5,3 +5,4 @@ pub mod KindTexts
 pub mod Components
 pub mod ComponentsText
 pub mod SplitText
+pub mod Examples

@@ -1,5 +1,5 @@
 //! Laws of views, as functions whose contracts say them.
-ghost use Rattle.std.specs.Prelude.{◌≡◌, ◌↔◌, IsTrue};
+ghost use Rattle.std.specs.Prelude.{◌≡◌, ◌↔◌, IsTrue, fold};
 ghost use Rattle.std.specs.Ordering.{nat_cmp};
 ghost use Rattle.std.specs.Cmp.Lexicographic.{slice_cmp};
 ghost use Rattle.std.specs.Hash as fed;
@@ -26,8 +26,8 @@ pub fn ordered_as_texts<S: Spec, K: Kind>(a: View<'_, S, K>, b: View<'_, S, K>) 
 }
 
 /// Views are hashed as their texts.
-pub fn hashed_as_texts<'a, S: Spec, K: Kind, H: Hasher>(v: View<'a, S, K>, state: &mut H)
-    ensures { ⟦<View<'a, S, K> as Hash>⟧.hash_input v.entry ≡ fed.str (text v.entry) }
+pub fn hashed_as_texts<S: Spec, K: Kind, H: Hasher>(v: View<'_, S, K>, state: &mut H)
+    ensures { state.new ≡ fold H.write state.old (fed.str (text v.entry)) }
 {
     v.hash(state);
 }
