@@ -11,8 +11,9 @@
 //! is handed back. `splice` can't want memory where the new text is no longer than the range. Equality, order
 //! and hash are those of the text, and so is what is shown and displayed.
 //!
-//! Not proved: the words of `CreateError`'s `Display`, which tests show; the text of `Debug`; that what else
-//! takes memory gets it, which tests show with ample memory.
+//! Not proved: the words of `CreateError`'s `Display`, how far `capacity` is above the length, and that
+//! `shrink_to_fit` gives memory back, which tests show (`made_and_refused`, `within_and_past_the_capacity`);
+//! the text of `Debug`; that what else takes memory gets it, which tests show with ample memory.
 #![tactic(auto)]
 
 pub mod compared;

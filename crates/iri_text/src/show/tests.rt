@@ -71,7 +71,7 @@ fn strings(rt: HostRuntime) -> Result<(), Fail> {
     let shown = 42i32.try_to_string(rt.alloc())?;
     assert_eq!(rt; shown.as_str(), "42");
     let mut sink = StringSink::new(&mut text);
-    assert!(rt; sink.put("b").is_ok());
+    sink.put("b")?;
     assert_eq!(rt; text.as_str(), "a42b");
     let again = text.try_to_string(rt.alloc())?;
     assert_eq!(rt; again.as_str(), "a42b");
@@ -82,10 +82,10 @@ fn strings(rt: HostRuntime) -> Result<(), Fail> {
 fn rows(rt: HostRuntime) -> Result<(), Fail> {
     let mut text = String::new(rt.alloc());
     let mut sink = StringSink::new(&mut text);
-    assert!(rt; show_two(&mut sink, &"a", &1u8).is_ok());
-    assert!(rt; show_four(&mut sink, &"b", &-2i8, &"c", &"d").is_ok());
-    assert!(rt; show_five(&mut sink, &"e", &"f", &3u64, &"g", &"h").is_ok());
-    assert!(rt; show_each(&mut sink, &["i", "", "jk"]).is_ok());
+    show_two(&mut sink, &"a", &1u8)?;
+    show_four(&mut sink, &"b", &-2i8, &"c", &"d")?;
+    show_five(&mut sink, &"e", &"f", &3u64, &"g", &"h")?;
+    show_each(&mut sink, &["i", "", "jk"])?;
     assert_eq!(rt; text.as_str(), "a1b-2cdef3ghijk");
     Ok(())
 }

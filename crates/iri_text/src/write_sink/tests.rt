@@ -35,7 +35,7 @@ impl Write for ShortWriter {
 #[test]
 fn writes_until_all_is_taken(rt: HostRuntime) -> Result<(), Fail> {
     let mut sink = WriteSink::new(ShortWriter {
-        got: Vec::new(rt.alloc()),
+        got: Vec::with_capacity(rt.alloc(), 10)?,
         failing: Some(7),
         full: 10,
     });
