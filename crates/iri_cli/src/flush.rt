@@ -51,7 +51,10 @@ pub struct SharedWriter<'a, W: Write + Drop> {
 }
 
 impl<'a, W: Write + Drop> SharedWriter<'a, W> {
-    pub fn new(writer: &'a RefCell<BufWriter<W>>) -> SharedWriter<'a, W> {
+    /// A writer to this buffer.
+    pub fn new(writer: &'a RefCell<BufWriter<W>>) -> SharedWriter<'a, W>
+        ensures { result.writer.now ≡ writer.now }
+    {
         SharedWriter { writer }
     }
 }
