@@ -55,6 +55,20 @@ found xs a b (Some i) h k is =
     is.0.before j (omega arith) l'' (eq-eqb _ _ (get_or-part xs a b j (omega (arith, l'', low)) ∙ sym (get_or-part xs a (a + i) j l') ∙ e))) in
     (low, NoLf-nowhere _ none, sym (get_or-part xs a b i low) ∙ eqb-true _ _ is.1)
 
+-- where no byte is an LF, this one isn't
+no_lf_at : (xs : List ℕ) (i : ℕ) → NoLf xs → i < length xs → get_or xs i 0 ≢ 10
+no_lf_at [] i n h = absurd (omega arith)
+no_lf_at (x ∷ xs) zero n h = n.0
+no_lf_at (x ∷ xs) (suc i) n h = no_lf_at xs i n.1 (omega arith)
+
+-- whether a part has an LF, by a search of it
+pub lf_or_none : (xs : List ℕ) (a b : ℕ) (r : Option ℕ) → a ≤ b → b ≤ length xs → IsFirstByte (is_byte 10) (slice_range xs a b) r
+    → MatchOption r (NoLf (slice_range xs a b)) (λ _. NoLf (slice_range xs a b) → ⊥)
+lf_or_none xs a b None h k is = found xs a b None h k is
+lf_or_none xs a b (Some i) h k is = λ n.
+    let f = found xs a b (Some i) h k is in
+    no_lf_at (slice_range xs a b) i n (omega (arith, f.0, length-part xs a b k)) (get_or-part xs a b i f.0 ∙ f.2)
+
 pub NoLf-take : (xs : List ℕ) (m n : ℕ) → m ≤ n → NoLf (take n xs) → NoLf (take m xs)
 NoLf-take xs zero n h p = tt
 NoLf-take [] (suc m) n h p = tt

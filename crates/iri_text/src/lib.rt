@@ -1,6 +1,7 @@
 //! Sources and sinks of bytes, the lines of a source, and values with a text that they show to a sink.
 //!
-//! - [`Source`] gives bytes, [`Sink`] takes them. Each may tell which bytes, and each counts its faults.
+//! - [`Source`] gives bytes, [`Sink`] takes them. Each may tell which bytes, and each counts its faults. A sink may hold bytes
+//!   back until it is flushed.
 //! - [`PlainSource`], [`MemorySource`] and [`MemorySink`] work on slices; the last two fail as they are told.
 //! - [`ReadSource`] and [`WriteSink`] work on std's readers and writers.
 //! - [`LineReader`] gives the lines of any source, with a limit for the bytes of a line and one for those of the whole input.
@@ -11,29 +12,32 @@
 //! - [`show_two`] to [`show_five`] and [`show_each`] show values in a row: a `show` of several pieces is one call of these.
 //! - [`Text`] and [`Bytes`] own a text and bytes.
 //!
-//! Proved: every source and sink here keeps its trait (`Takes`, `PutsAll`): what was taken or put, that the count of faults
-//! never falls, and that it rose where a call failed. `MemorySource` and `MemorySink` fail exactly where they are told to or
-//! have no room, `PlainSource` never. A `LineReader` gives the next of the `lines` of what is still to come, answers that a
-//! limit is passed exactly where one is and names the one that is passed first, and keeps what it took after every fault.
+//! Proved: every source and sink here keeps its trait (`Takes`, `PutsAll`, `Flushes`): what was taken or put, that nothing is
+//! held back once a flush is answered Ok, that the count of faults never falls, and that it rose where a call failed.
+//! `MemorySource` and `MemorySink` fail exactly where they are told to or have no room, `PlainSource` never. A `LineReader`
+//! gives the next of the `lines` of what is still to come, answers that a limit is passed exactly where one is and names the
+//! one that is passed first, and keeps what it took after every fault.
 //! `show` appends exactly the text of its value, or the sink's count of stops rose and the sink stopped within that text
 //! (`Shows`). The text of an integer is std's decimal. A slice sink stops exactly where a piece is longer than the rest of its
 //! slice, and a string sink only where its string would have to grow; both take nothing of a piece at which they stop.
 //! `write_to_slice` refuses exactly where the text is longer than the slice. `display` fails only where the count of pieces that
 //! the formatter refused rises.
 //!
-//! Not proved: what a real stream does. As a source and a sink, `ReadSource` and `WriteSink` tell no bytes; they are proved to
-//! pass on the bytes of a reader or a writer that tells its own, as one over memory. Which of their calls fail is the
-//! reader's or the writer's matter; that they fail only where it does is tested, and so are that `LineReader::new` gets its
-//! memory, that memory is had where a string grows, and that a `Display` here fails only where the formatter does.
+//! Not proved: what a real stream does, and what a writer still holds once its `flush` answered Ok, of which std's contract of
+//! writers says nothing. As a source and a sink, `ReadSource` and `WriteSink` tell no bytes; they are proved to pass on the
+//! bytes of a reader or a writer that tells its own, as one over memory. Which of their calls fail is the reader's or the
+//! writer's matter; that they fail only where it does, and that a flush reaches the writer, is tested. So are that
+//! `LineReader::new` gets its memory, that memory is had where a string grows, and that a `Display` here fails only where the
+//! formatter does.
 //!
 //! No clause sees how many of the bytes that it holds a `LineReader` has looked at (`seen`), and none needs to: behind a line
 //! it is 0, and no call may follow another answer. That lines come out the same in whatever pieces a source gives them is
 //! proved, and `reader/tests.rt` shows it byte by byte.
 #![tactic(auto)]
 
-ghost use Rattle.std.specs.Prelude.{ℕ, List, Option};
+ghost use Rattle.std.specs.Prelude.{ℕ, Bool, false, List, Option};
 ghost use Rattle.iri_text.specs.Source.{Takes};
-ghost use Rattle.iri_text.specs.Sink.{PutsAll};
+ghost use Rattle.iri_text.specs.Sink.{PutsAll, Flushes};
 
 mod format;
 mod format_sink;
@@ -85,10 +89,13 @@ pub trait Source {
         ensures { Takes (left self.old) (left self.new) (faults self.old) (faults self.new) result buf.new };
 }
 
-/// Where bytes go.
+/// Where bytes go. A sink may hold back what is put, until it is flushed.
 pub trait Sink {
-    /// The bytes that were written, where the sink tells them.
+    /// The bytes that were written, where the sink tells them. Those that it holds back are among them.
     ghost written: { Self → Option (List ℕ) };
+
+    /// Whether it may hold some of them back. Most sinks never do.
+    ghost unflushed: { Self → Bool } = { λ _. false };
 
     /// How often it failed, up to 2^64 - 1, where the count stays.
     ghost faults: { Self → ℕ };
@@ -96,4 +103,8 @@ pub trait Sink {
     /// Writes the whole piece. It fails only where the count of faults rises, and has written a front of the piece then.
     fn put_all(&mut self, piece: &[u8]) -> Result<(), Failed>
         ensures { PutsAll (written self.old) (written self.new) (faults self.old) (faults self.new) result piece.now };
+
+    /// Hands on what is held back, so that nothing is. It fails only where the count of faults rises. What is written stays as it was.
+    fn flush(&mut self) -> Result<(), Failed>
+        ensures { Flushes (written self.old) (written self.new) (unflushed self.new) (faults self.old) (faults self.new) result };
 }

@@ -53,8 +53,8 @@ impl<'a> MemorySink<'a> {
 }
 
 impl<'a> Sink for MemorySink<'a> {
-    ghost use Rattle.std.specs.Prelude.{◌≡◌, ◌≤◌, ◌<◌, ◌+◌, ◌-◌, ◌^◌, ◌⊎◌, ◌↔◌, min, length, Some, IsErr, OnErr, Contains};
-    ghost use Rattle.iri_text.specs.Sink.{PutsAll};
+    ghost use Rattle.std.specs.Prelude.{◌≡◌, ◌≤◌, ◌<◌, ◌+◌, ◌-◌, ◌^◌, ◌⊎◌, ◌↔◌, false, min, length, Some, IsErr, OnErr, Contains};
+    ghost use Rattle.iri_text.specs.Sink.{PutsAll, Flushes};
 
     ghost written = { λ s. Some s.written };
 
@@ -77,6 +77,14 @@ impl<'a> Sink for MemorySink<'a> {
         let end = self.len + piece.len();
         copy_to(self.buf, self.len, piece);
         self.len = end;
+        Ok(())
+    }
+
+    /// Nothing is ever held back: it never fails, and changes nothing.
+    fn flush(&mut self) -> Result<(), Failed>
+        ensures flushes { Flushes (Some self.old.written) (Some self.new.written) false self.old.faults self.new.faults result }
+        ensures same { self.new ≡ self.old }
+    {
         Ok(())
     }
 }

@@ -13,9 +13,9 @@ pub struct ReadSource<R> {
 }
 
 impl<R> Model for ReadSource<R> {
-    ghost use Rattle.iri_text.specs.Adapter.{Adapter};
+    ghost use Rattle.iri_text.specs.Adapter.{Reading};
 
-    ghost Value = { Adapter R };
+    ghost Value = { Reading R };
 
     ghost view = { λ s. record { inner = s.reader; faults = s.faults } };
 }

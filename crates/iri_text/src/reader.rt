@@ -1,5 +1,5 @@
 // Lines of a source.
-ghost use Rattle.std.specs.Prelude.{◌≡◌, ◌≤◌, ◌<◌, ◌+◌, ◌-◌, ◌^◌, [], ◌++◌, true, false, length, take, slice_range, slice_index, IfOk, OnErr};
+ghost use Rattle.std.specs.Prelude.{◌≡◌, ◌↔◌, ◌≤◌, ◌<◌, ◌+◌, ◌-◌, ◌^◌, [], ◌++◌, true, false, length, take, slice_range, slice_index, IfOk, OnErr};
 ghost use Rattle.iri_text.specs.Lines.{NoLf, no_cr};
 ghost use Rattle.iri_text.specs.Source.{Consumes, IsAtEnd};
 ghost use Rattle.iri_text.specs.Count.{Rose};
@@ -236,6 +236,16 @@ impl LineReader {
                 }
                 Err(Failed) => return Err(LineFault::Source),
             }
+        }
+    }
+
+    /// Whether an LF stands in the bytes that are held. The next call of `advance` or `next_line` takes no bytes then.
+    pub fn holds_lf(&self) -> bool
+        ensures { NoLf self.now.held ↔ (result ≡ false) }
+    {
+        match memchr(b'\n', &self.buf[self.start..self.end]) {
+            Some(_) => true,
+            None => false,
         }
     }
 

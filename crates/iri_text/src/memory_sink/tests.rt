@@ -8,5 +8,6 @@ fn fails_as_told_and_where_a_piece_has_no_room(rt: HostRuntime) {
     for (piece, want) in [(b"ab", true), (b"cd", false), (b"cd", true), (b"ef", false)] {
         assert_eq!(rt; sink.put_all(piece).is_ok(), want);
     }
+    assert!(rt; sink.flush().is_ok());
     assert_eq!(rt; sink.written(), b"abcd".as_slice());
 }

@@ -80,3 +80,31 @@ fn goes_to_a_line(rt: HostRuntime) -> Result<(), Fail> {
     assert_eq!(rt; reader.line(), b"a".as_slice());
     Ok(())
 }
+
+// Whether an LF is held before the next line, and that line.
+fn next_held<'a, I: Source>(
+    reader: &'a mut LineReader,
+    source: &mut I,
+) -> Option<(bool, &'a [u8])> {
+    if reader.is_done() {
+        return None;
+    }
+    let held = reader.holds_lf();
+    match reader.advance(source) {
+        Ok(true) => Some((held, reader.line())),
+        _ => None,
+    }
+}
+
+#[test]
+fn tells_whether_an_lf_is_held(rt: HostRuntime) -> Result<(), Fail> {
+    let mut reader = LineReader::new(rt.alloc(), 8, 20)?;
+    let mut source = MemorySource::new(b"a\nb\nc\n", &[5, 2], &[]);
+    // What is held before each line: nothing, then `b`, LF and `c`, then `c` alone.
+    for (held, line) in [(false, b"a"), (true, b"b"), (false, b"c")] {
+        let want = Some((held, line.as_slice()));
+        assert_eq!(rt; next_held(&mut reader, &mut source), want);
+    }
+    assert!(rt; !reader.holds_lf());
+    Ok(())
+}

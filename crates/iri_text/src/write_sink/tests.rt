@@ -51,3 +51,46 @@ fn writes_until_all_is_taken(rt: HostRuntime) -> Result<(), Fail> {
     assert_eq!(rt; sink.writer.got.as_slice(), b"abcdefghij".as_slice());
     Ok(())
 }
+
+// Holds bytes back until it is flushed, and answers an error to its first flush.
+#[derive(Drop)]
+struct HoldingWriter {
+    held: Vec<u8>,
+    out: Vec<u8>,
+    failing: bool,
+}
+
+impl Write for HoldingWriter {
+    fn write(&mut self, buf: &[u8]) -> io::Result<usize> {
+        self.held.extend_from_slice(buf)?;
+        Ok(buf.len())
+    }
+
+    fn flush(&mut self) -> io::Result<()> {
+        if self.failing {
+            self.failing = false;
+            return Err(io::ErrorKind::Other.into());
+        }
+        self.out.extend_from_slice(self.held.as_slice())?;
+        self.held.clear();
+        Ok(())
+    }
+}
+
+#[test]
+fn flushes_its_writer(rt: HostRuntime) -> Result<(), Fail> {
+    let mut sink = WriteSink::new(HoldingWriter {
+        held: Vec::with_capacity(rt.alloc(), 3)?,
+        out: Vec::with_capacity(rt.alloc(), 3)?,
+        failing: true,
+    });
+    assert!(rt; sink.put_all(b"abc").is_ok());
+    assert!(rt; sink.flush().is_err());
+    assert_eq!(rt; sink.faults, 1);
+    assert!(rt; sink.unflushed);
+    assert!(rt; sink.flush().is_ok());
+    assert_eq!(rt; sink.faults, 1);
+    assert!(rt; !sink.unflushed);
+    assert_eq!(rt; sink.writer.out.as_slice(), b"abc".as_slice());
+    Ok(())
+}
