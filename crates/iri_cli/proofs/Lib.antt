@@ -7,3 +7,4 @@ mod Base
 mod Joined
 mod Next
 mod PlainLemmas
+mod Closed

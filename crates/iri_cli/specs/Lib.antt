@@ -3,6 +3,7 @@ pub mod Plain
 pub mod Answer
 pub mod Words
 pub mod Run
+pub mod Closes
 pub mod Notices
 pub mod Puts
 pub mod Steps

@@ -1,5 +1,5 @@
 -- What the calls of one line do to the sink.
-use Rattle.std.specs.Prelude.{◌≡◌, ◌≤◌, ℕ, Bool, List, Option, Result, Ok, Err}
+use Rattle.std.specs.Prelude.{◌≡◌, ◌≤◌, ℕ, Bool, false, List, Option, Result, Ok, Err}
 use Rattle.std.specs.declared.alloc.AllocError.{AllocError}
 use Rattle.iri_text.specs.Count.{Rose}
 use Rattle.iri_text.specs.Sink.{Appends, AppendsFront}
@@ -15,6 +15,12 @@ PutsAnswer written_old written_new faults_old faults_new (Err failed) answer = A
 abbrev pub PutsAnswerInMemory : Option (List ℕ) → Option (List ℕ) → ℕ → ℕ → Result (Result Bool Failed) AllocError → List ℕ → Type 0
 PutsAnswerInMemory written_old written_new faults_old faults_new (Ok put) answer = PutsAnswer written_old written_new faults_old faults_new put answer
 PutsAnswerInMemory written_old written_new faults_old faults_new (Err memory) answer = (written_new ≡ written_old) × (faults_new ≡ faults_old)
+
+-- the sink holds nothing back, where it didn't fail and memory wasn't refused
+abbrev pub IsHandedOn : Bool → Result (Result Bool Failed) AllocError → Type 0
+IsHandedOn unflushed (Ok (Ok good)) = unflushed ≡ false
+IsHandedOn unflushed (Ok (Err failed)) = Unit {0}
+IsHandedOn unflushed (Err memory) = Unit {0}
 
 -- what is said of an answer that is good or not, where its pieces were put or the sink failed
 abbrev pub told_of : Bool → Result (Unit {0}) Failed → Result Bool Failed

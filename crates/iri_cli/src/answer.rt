@@ -1,18 +1,19 @@
 // The answer to a line.
 ghost use Rattle.std.specs.Prelude.{◌≡◌, Some, None, codes, [], ◌∷◌, ◌++◌, OnOk, MatchResult, string_bytes};
+ghost use Rattle.iri_text.specs.Lines.{NoLf};
 ghost use Rattle.iri_text.specs.Sink.{PutsAll};
 ghost use Rattle.iri_types.specs.SplitText.{split_text};
 ghost use Rattle.iri_types.specs.Texts.{text};
 ghost use Rattle.iri_resolve.specs.NormalForm.{canonical};
 ghost use Rattle.iri_resolve.specs.Resolver.{base_text};
 ghost use Rattle.iri_cli.specs.Answer.{refusal, answer, good_answer, bad_answer};
-ghost use Rattle.iri_cli.specs.Puts.{PutsAnswer, PutsAnswerInMemory, told_of};
+ghost use Rattle.iri_cli.specs.Puts.{PutsAnswer, PutsAnswerInMemory, IsHandedOn, told_of};
 
 use iri_grammar::error::ErrorKind;
 use iri_grammar::spec::Spec;
 use iri_resolve::canonical::write_canonical;
 use iri_resolve::resolver::FixedBaseResolver;
-use iri_text::{Failed, Sink};
+use iri_text::{Failed, LineReader, Sink};
 use iri_types::kind::Reference;
 use iri_types::split::SplitView;
 use iri_types::view::RiAbsoluteStr;
@@ -91,9 +92,9 @@ fn answer_good<'a, S: Spec, O: Sink>(
     Ok(told(true, put_good(sink, buffer.as_bytes())))
 }
 
-/// Puts the answer to a reference line against a base, and says whether it is good. The sink may fail, and memory may be wanted:
-/// then nothing is put. The buffer takes the answer before it is put: what it held goes.
-pub fn put_answer<'a, S: Spec, O: Sink>(
+// Puts the answer to a reference line against a base, and says whether it is good. The sink may fail, and memory may be wanted:
+// then nothing is put. The buffer takes the answer before it is put: what it held goes.
+fn put_answer<'a, S: Spec, O: Sink>(
     alloc: Global,
     sink: &mut O,
     buffer: &mut String,
@@ -105,5 +106,28 @@ pub fn put_answer<'a, S: Spec, O: Sink>(
     match SplitView::<'a, S, Reference>::try_from_bytes(line) {
         Ok(reference) => answer_good(alloc, sink, buffer, &resolver, &reference),
         Err(error) => Ok(answer_bad(sink, error.kind())),
+    }
+}
+
+/// Puts the answer to the line that the reader has, as a reference against a base, and says whether it is good. Where no further
+/// line is held, so that bytes will be taken, the sink then hands on what it holds back. It may fail at either, and memory may be
+/// wanted: then nothing is put. What the buffer held goes.
+pub fn answer_line<'a, S: Spec, O: Sink>(
+    alloc: Global,
+    sink: &mut O,
+    buffer: &mut String,
+    resolver: FixedBaseResolver<'a, S>,
+    reader: &'a LineReader,
+) -> Result<Result<bool, Failed>, AllocError>
+    ensures puts { PutsAnswerInMemory (O.written sink.old) (O.written sink.new) (O.faults sink.old) (O.faults sink.new) result (answer S.tests (base_text resolver.entry) reader.now.line) }
+    ensures handed_on { NoLf reader.now.held → IsHandedOn (O.unflushed sink.new) result }
+{
+    let put = put_answer(alloc, sink, buffer, resolver, reader.line())?;
+    if reader.holds_lf() {
+        return Ok(put);
+    }
+    match put {
+        Ok(good) => Ok(told(good, sink.flush())),
+        Err(Failed) => Ok(Err(Failed)),
     }
 }

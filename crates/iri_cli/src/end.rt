@@ -1,6 +1,9 @@
 // How a run ends.
 ghost use Rattle.std.specs.Prelude.{◌≡◌};
 ghost use Rattle.iri_cli.specs.Run.{status_of};
+ghost use Rattle.iri_cli.specs.Closes.{Closes};
+
+use iri_text::{Failed, Sink};
 
 /// How a run ends: that over the lines of an input, or `Done` and `SinkFailed` of one that writes a text.
 #[derive(Clone, Copy)]
@@ -36,5 +39,18 @@ pub fn status(end: End) -> u8
         End::Memory => 6,
         End::LineTooLong => 7,
         End::InputTooLong => 8,
+    }
+}
+
+/// How a run ends once its sink has handed on what it holds back. A sink that failed isn't asked again.
+pub fn close<O: Sink>(sink: &mut O, end: End) -> End
+    ensures { Closes (O.written sink.old) (O.written sink.new) (O.unflushed sink.new) (O.faults sink.old) (O.faults sink.new) end result }
+{
+    match end {
+        End::SinkFailed => end,
+        _ => match sink.flush() {
+            Ok(()) => end,
+            Err(Failed) => End::SinkFailed,
+        },
     }
 }

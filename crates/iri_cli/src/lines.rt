@@ -10,7 +10,7 @@ ghost use Rattle.iri_cli.specs.Run.{Ran, outside};
 ghost use Rattle.iri_cli.specs.Steps.{end_at, end_of_all, RefusesBase, CopiesBase, ReadsBase, IsNew, IsAtReferences, still_to_come, rest_of};
 ghost use Rattle.iri_cli.specs.declared.end.End.{End};
 
-use crate::answer::{base_of, put_answer};
+use crate::answer::{answer_line, base_of};
 use crate::end::End;
 use iri_grammar::spec::Spec;
 use iri_owned::owned::RiAbsoluteString;
@@ -127,13 +127,13 @@ fn answer_lines<S: Spec, I: Source, O: Sink>(
     let mut buffer = String::new(alloc);
     let mut all_good = true;
     loop {
-        match reader.next_line(source) {
-            Ok(Some(line)) => match put_answer(alloc, sink, &mut buffer, resolver, line) {
+        match reader.advance(source) {
+            Ok(true) => match answer_line(alloc, sink, &mut buffer, resolver, &reader) {
                 Ok(Ok(good)) => all_good &= good,
                 Ok(Err(Failed)) => return End::SinkFailed,
                 Err(_) => return End::Memory,
             },
-            Ok(None) => return last_end(all_good),
+            Ok(false) => return last_end(all_good),
             Err(fault) => return fault_end(fault),
         }
     }

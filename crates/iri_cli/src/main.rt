@@ -5,33 +5,47 @@
 //! write what is told of the program.
 //!
 //! Proved: the contract of `run`, over any source and any sink. Each status comes only by its cause, and where the source
-//! tells its bytes, status and output are those of `ending` in specs/Ending.antt.
-//! Each answer is put whole or up to where the sink fails, and want of memory comes only where memory is taken.
+//! tells its bytes, status and output are those of `ending` in specs/Ending.antt. Each answer is put whole or up to where the
+//! sink fails, and handed on before more bytes are taken; want of memory comes only where memory is taken.
 //!
-//! Not proved, and shown by tests/edges on the built program: `main`, `words`, `run_on_streams`, and of the two ends of the
-//! output's buffer in `flush` that what is written is what comes out. `FlushingReader` gives what its reader gives; what a cell
-//! or a real stream holds no contract can say, so `SharedWriter` has the contract of any writer. That memory is had where
-//! there is some, the rows in `tests` show.
+//! Not proved, and shown by tests/edges on the built program: `main`, which makes a source of standard input and a sink of
+//! standard output. That memory is had where there is some, the rows in `tests` show.
 #![tactic(auto)]
 
 mod answer;
 mod command;
 mod end;
-mod flush;
 mod laws;
 mod lines;
 mod notice;
 mod run;
-mod streams;
 #[cfg(test)]
 mod tests;
 
+use crate::end::{End, status};
+use crate::run::{NO_COMMAND, run};
+use iri_text::{ReadSource, WriteSink};
+use std::alloc::AllocError;
+use std::env;
+use std::io::{BufWriter, ErrorKind};
 use std::process::ExitCode;
 
+// How many bytes of output are written at once.
+const BLOCK: usize = 65536;
+
+// Runs over standard input and standard output. A word that isn't UTF-8 is of no command.
 fn main(rt: HostRuntime) -> ExitCode {
-    let status = match streams::words(&rt) {
-        Ok(words) => streams::run_on_streams(&rt, &words),
-        Err(status) => status,
+    let memory = ExitCode::from(status(End::Memory));
+    let words: Result<Vec<String>, AllocError> = match env::args(&rt) {
+        Ok(args) => args.skip(1).collect(rt.alloc()),
+        Err(error) if error.kind() == ErrorKind::OutOfMemory => return memory,
+        Err(_) => return ExitCode::from(NO_COMMAND),
     };
-    ExitCode::from(status)
+    let writer = BufWriter::with_capacity(rt.alloc(), BLOCK, rt.stdout());
+    let (Ok(words), Ok(writer)) = (words, writer) else {
+        return memory;
+    };
+    let mut source = ReadSource::new(rt.stdin());
+    let mut sink = WriteSink::new(writer);
+    ExitCode::from(run(rt.alloc(), &words, &mut source, &mut sink))
 }

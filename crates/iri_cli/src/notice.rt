@@ -1,10 +1,10 @@
 // What the program tells of itself.
-ghost use Rattle.std.specs.Prelude.{◌≡◌, ◌≢◌, MatchOption};
+ghost use Rattle.std.specs.Prelude.{◌≡◌, ◌≢◌, false, MatchOption};
 ghost use Rattle.iri_cli.specs.Notices.{text_of, PutsText};
 ghost use Rattle.iri_cli.specs.Words.{notice_word};
 ghost use Rattle.iri_cli.specs.declared.notice.Notice.{Notice};
 
-use crate::end::{End, status};
+use crate::end::{End, close, status};
 use iri_text::{Failed, Sink};
 
 /// A text that the program tells of itself.
@@ -53,12 +53,13 @@ pub fn notice_of(word: &str) -> Option<Notice>
     }
 }
 
-/// Writes a notice, and gives the program's status.
+/// Writes a notice, hands it on, and gives the program's status.
 pub fn tell<O: Sink>(notice: Notice, sink: &mut O) -> u8
-    ensures { PutsText (text_of notice) (O.written sink.old) (O.written sink.new) (O.faults sink.old) (O.faults sink.new) result }
+    ensures puts { PutsText (text_of notice) (O.written sink.old) (O.written sink.new) (O.faults sink.old) (O.faults sink.new) result }
+    ensures handed_on { result ≢ 5 → O.unflushed sink.new ≡ false }
 {
     match sink.put_all(text(notice).as_bytes()) {
-        Ok(()) => status(End::Done),
+        Ok(()) => status(close(sink, End::Done)),
         Err(Failed) => status(End::SinkFailed),
     }
 }

@@ -1,5 +1,5 @@
 // The run of the program.
-ghost use Rattle.std.specs.Prelude.{◌≡◌, ◌≢◌, ◌≤◌, map, string_bytes};
+ghost use Rattle.std.specs.Prelude.{◌≡◌, ◌≢◌, ◌≤◌, false, map, string_bytes};
 ghost use Rattle.iri_text.specs.Source.{IsAtEnd};
 ghost use Rattle.iri_cli.specs.Ending.{run_over};
 ghost use Rattle.iri_cli.specs.Words.{words_of, rules_of, tests_of};
@@ -11,7 +11,7 @@ ghost use Rattle.iri_cli.specs.declared.command.Grammar.{Grammar};
 ghost use Rattle.iri_cli.specs.declared.notice.Notice.{Notice};
 
 use crate::command::{Command, Grammar, command_of};
-use crate::end::{End, status};
+use crate::end::{End, close, status};
 use crate::lines::canon_lines;
 use crate::notice::{Notice, tell};
 use iri_grammar::spec::{IriSpec, UriSpec};
@@ -22,7 +22,12 @@ use std::alloc::Global;
 pub const NO_COMMAND: u8 = 2;
 
 // Answers the lines of the source by a grammar.
-fn canon<I: Source, O: Sink>(alloc: Global, grammar: Grammar, source: &mut I, sink: &mut O) -> End
+fn canon_by<I: Source, O: Sink>(
+    alloc: Global,
+    grammar: Grammar,
+    source: &mut I,
+    sink: &mut O,
+) -> End
     ensures { Ran (run_over (rules_of grammar)) (outside (I.left source.old) (O.written sink.old) (I.faults source.old) (O.faults sink.old))
         (outside (I.left source.new) (O.written sink.new) (I.faults source.new) (O.faults sink.new)) result }
 {
@@ -30,6 +35,16 @@ fn canon<I: Source, O: Sink>(alloc: Global, grammar: Grammar, source: &mut I, si
         Grammar::Uri => canon_lines::<UriSpec, I, O>(alloc, source, sink),
         Grammar::Iri => canon_lines::<IriSpec, I, O>(alloc, source, sink),
     }
+}
+
+// The same, and hands on all that the sink holds back.
+fn canon<I: Source, O: Sink>(alloc: Global, grammar: Grammar, source: &mut I, sink: &mut O) -> End
+    ensures ran { Ran (run_over (rules_of grammar)) (outside (I.left source.old) (O.written sink.old) (I.faults source.old) (O.faults sink.old))
+        (outside (I.left source.new) (O.written sink.new) (I.faults source.new) (O.faults sink.new)) result }
+    ensures handed_on { result ≢ End.SinkFailed → O.unflushed sink.new ≡ false }
+{
+    let end = canon_by(alloc, grammar, source, sink);
+    close(sink, end)
 }
 
 /// Does what the words after the program's name say, and gives the program's status:
@@ -42,6 +57,9 @@ fn canon<I: Source, O: Sink>(alloc: Global, grammar: Grammar, source: &mut I, si
 ///
 /// Of 3, 7 and 8 the first in the order of bytes decides, and 8 comes before 7 on one byte. `--help` and `--version`, each as the
 /// only word, read nothing and write their text: 0 where it was written, 5 where the sink failed.
+///
+/// Each answer is handed on before bytes are taken for a line behind it, and at the return the sink holds nothing back, where it
+/// didn't fail.
 pub fn run<I: Source, O: Sink>(alloc: Global, words: &[String], source: &mut I, sink: &mut O) -> u8
     // Words that are no command: nothing is read or written.
     ensures no_command { ((command : Command) → map string_bytes words.now ≢ words_of command) → (result ≡ 2)
@@ -63,6 +81,9 @@ pub fn run<I: Source, O: Sink>(alloc: Global, words: &[String], source: &mut I, 
     ensures completes { (grammar : Grammar) → map string_bytes words.now ≡ words_of (Command.Canon grammar)
         → Completes (rules_of grammar) (outside (I.left source.old) (O.written sink.old) (I.faults source.old) (O.faults sink.old))
         (outside (I.left source.new) (O.written sink.new) (I.faults source.new) (O.faults sink.new)) result }
+
+    // Nothing is held back, where the sink didn't fail.
+    ensures handed_on { (command : Command) → map string_bytes words.now ≡ words_of command → result ≢ 5 → O.unflushed sink.new ≡ false }
 
     // Each good answer is a URI of the spec that splits into exactly the normal form of the target, and is its own canonical text.
     ensures canonical { (grammar : Grammar) → map string_bytes words.now ≡ words_of (Command.Canon grammar) → AnswersAreCanonical (tests_of grammar) }

@@ -5,13 +5,13 @@ use Rattle.iri_cli.specs.Steps.{rest_of, still_to_come}
 use Rattle.iri_cli.proofs.Answered.{Goes}
 use Rattle.iri_cli.proofs.lines.answer_lines.Given as goal
 
-abbrev pub invariant-loop-line : goal.invariant-loop-line
-invariant-loop-line g l = record {
+abbrev pub invariant-loop-sink : goal.invariant-loop-sink
+invariant-loop-sink g l = record {
   going : Goes (canon_rules g.S.Spec.tests) (base_text l.resolver) (rest_of (canon_rules g.S.Spec.tests) (base_text l.resolver) l.fn.reader) (l.fn.reader.taken - length l.fn.reader.held)
       (still_to_come l.fn.reader.held (g.I.Source.left l.fn.source)) (g.I.Source.left l.source) (g.O.Sink.written l.fn.sink) (g.O.Sink.written l.sink) l.reader l.all_good;
   source_faults : g.I.Source.faults l.fn.source ≤ g.I.Source.faults l.source;
   sink_faults : g.O.Sink.faults l.sink ≡ g.O.Sink.faults l.fn.sink;
 }
 
-abbrev pub decreases-loop-line : goal.decreases-loop-line
-decreases-loop-line g l = 268435456 + length l.reader.held - l.reader.taken
+abbrev pub decreases-loop-sink : goal.decreases-loop-sink
+decreases-loop-sink g l = 268435456 + length l.reader.held - l.reader.taken
