@@ -9,6 +9,7 @@ use Rattle.iri_text.specs.Sink.{Appends, AppendsFront}
 use Rattle.iri_text.specs.Line.{LineState}
 use Rattle.iri_text.specs.Reader.{Advances}
 use Rattle.iri_text.proofs.Puts.{Appends-none}
+use Rattle.iri_owned.specs.OwnedText.{OwnedText}
 use Rattle.iri_cli.specs.Ending.{Rules, Stop, Ended, Ending, base_line, unless_refused, base_from, references_from, run_over}
 use Rattle.iri_cli.specs.Run.{Ran, outside}
 use Rattle.iri_cli.specs.Steps.{RefusesBase, CopiesBase, ReadsBase, IsNew, TakesBase}
@@ -92,7 +93,7 @@ module _ (rules : Rules) where
       all_moved moved = ap (λ (t : List ℕ). t ++ moved) is_new.held
 
       -- The base line was read.
-      pub reads_line : (line : List ℕ) (result : Result (Result (List ℕ) End) AllocError) → Advances old new lo ln fo fn (Ok true) → line ≡ new.line → CopiesBase (rules.refusal line) line wo wn ko kn result
+      pub reads_line : (line : List ℕ) (result : Result (Result OwnedText End) AllocError) → Advances old new lo ln fo fn (Ok true) → line ≡ new.line → CopiesBase (rules.refusal line) line wo wn ko kn result
           → ReadsBase rules (outside lo wo fo ko) (outside ln wn fn kn) new result
       reads_line line result a is checks = by_result result checks
         where
@@ -130,7 +131,7 @@ module _ (rules : Rules) where
               })
               a.says.rest
 
-          by_result : (r : Result (Result (List ℕ) End) AllocError) → CopiesBase (rules.refusal line) line wo wn ko kn r → ReadsBase rules (outside lo wo fo ko) (outside ln wn fn kn) new r
+          by_result : (r : Result (Result OwnedText End) AllocError) → CopiesBase (rules.refusal line) line wo wn ko kn r → ReadsBase rules (outside lo wo fo ko) (outside ln wn fn kn) new r
           by_result (Err memory) p = record {
             to = record {
               answered = [];

@@ -8,6 +8,7 @@ use Rattle.iri_text.specs.Lines.{NoLf, no_cr}
 use Rattle.iri_text.specs.declared.Failed.{Failed}
 use Rattle.iri_text.specs.declared.reader.LineFault.{LineFault}
 use Rattle.iri_text.specs.declared.reader.LineFault.TheVariants.{Source, LineTooLong as FaultLineTooLong, InputTooLong as FaultInputTooLong}
+use Rattle.iri_owned.specs.OwnedText.{OwnedText}
 use Rattle.iri_cli.specs.Ending.{Rules, base_line, references_from, run_over}
 use Rattle.iri_cli.specs.Run.{Course, Outside, Ran}
 use Rattle.iri_cli.specs.declared.end.End.{End}
@@ -37,8 +38,8 @@ RefusesBase refusal written_old written_new faults_old faults_new SinkFailed = P
 RefusesBase refusal written_old written_new faults_old faults_new end = ⊥
 
 -- a base line that is taken is copied, and nothing is written, also where memory is refused
-abbrev pub CopiesBase : Option (List ℕ) → List ℕ → Option (List ℕ) → Option (List ℕ) → ℕ → ℕ → Result (Result (List ℕ) End) AllocError → Type 0
-CopiesBase refusal line written_old written_new faults_old faults_new (Ok (Ok base)) = (refusal ≡ None) × (base ≡ line) × (written_new ≡ written_old) × (faults_new ≡ faults_old)
+abbrev pub CopiesBase : Option (List ℕ) → List ℕ → Option (List ℕ) → Option (List ℕ) → ℕ → ℕ → Result (Result OwnedText End) AllocError → Type 0
+CopiesBase refusal line written_old written_new faults_old faults_new (Ok (Ok base)) = (refusal ≡ None) × (base.text ≡ line) × (written_new ≡ written_old) × (faults_new ≡ faults_old)
 CopiesBase refusal line written_old written_new faults_old faults_new (Ok (Err end)) = RefusesBase refusal written_old written_new faults_old faults_new end
 CopiesBase refusal line written_old written_new faults_old faults_new (Err memory) = (written_new ≡ written_old) × (faults_new ≡ faults_old)
 
@@ -72,9 +73,9 @@ pub record TakesBase (rules : Rules) (left_old left_new : Option (List ℕ)) (re
       ⊎ ((reader.ended ≡ true) × Consumes left_old left_new raw × (reader.held ≡ []) × IsAtEnd left_new × (reader.taken ≡ length raw))
 
 -- The base line was read and is taken, and nothing was written; or the run ended.
-abbrev pub ReadsBase : Rules → Outside → Outside → LineState → Result (Result (List ℕ) End) AllocError → Type 0
+abbrev pub ReadsBase : Rules → Outside → Outside → LineState → Result (Result OwnedText End) AllocError → Type 0
 ReadsBase rules old new reader (Ok (Ok base)) =
-    TakesBase rules old.left new.left reader base × (new.written ≡ old.written) × (new.sink_faults ≡ old.sink_faults) × (old.source_faults ≤ new.source_faults)
+    TakesBase rules old.left new.left reader base.text × (new.written ≡ old.written) × (new.sink_faults ≡ old.sink_faults) × (old.source_faults ≤ new.source_faults)
 ReadsBase rules old new reader (Ok (Err end)) = Ran (run_over rules) old new end
 ReadsBase rules old new reader (Err memory) = Ran (run_over rules) old new Memory
 

@@ -1,3 +1,5 @@
+pub mod OwnedText
+pub mod Laws
 pub mod Refusals
 pub mod Spliced
 pub mod Examples

@@ -1,10 +1,11 @@
-//! Conversions between kinds by value: they keep the text, or cut it at the fragment.
+//! Conversions between kinds by value: they keep the text, or cut it at the fragment, and keep the capacity.
 ghost use Rattle.std.specs.Prelude.{◌≡◌, ◌++◌, IsNone, IsSome, MatchResult, None, Some};
-ghost use Rattle.std.specs.String.{string_bytes};
+ghost use Rattle.std.specs.String.{string_bytes, string_capacity};
 ghost use Rattle.iri_grammar.specs.Cut.{before, marked};
 ghost use Rattle.iri_grammar.specs.Split.{split_of};
 ghost use Rattle.iri_grammar.specs.WholeFault.{absolute_fault};
 ghost use Rattle.iri_types.specs.Texts.{text_of};
+ghost use Rattle.iri_owned.specs.OwnedText.{text_within};
 
 use crate::error::CreationError;
 use crate::owned::{
@@ -20,7 +21,7 @@ impl<S: Spec> Owned<S, Reference> {
     /// The text as an IRI, exactly where a scheme stands; otherwise the same text as a relative reference.
     pub fn into_iri(self) -> Result<RiString<S>, RiRelativeString<S>>
         ensures text { MatchResult result (λ iri. iri ≡ self) (λ relative. relative ≡ self) }
-        ensures scheme { MatchResult result (λ _. IsSome (split_of self).scheme) (λ _. IsNone (split_of self).scheme) }
+        ensures scheme { MatchResult result (λ _. IsSome (split_of self.text).scheme) (λ _. IsNone (split_of self.text).scheme) }
     {
         match self.as_slice().scheme_str() {
             Some(_) => Ok(Owned::from_valid(self.into_string())),
@@ -31,7 +32,7 @@ impl<S: Spec> Owned<S, Reference> {
     /// The text as a relative reference, exactly where no scheme stands; otherwise the same text as an IRI.
     pub fn into_relative_iri(self) -> Result<RiRelativeString<S>, RiString<S>>
         ensures text { MatchResult result (λ relative. relative ≡ self) (λ iri. iri ≡ self) }
-        ensures scheme { MatchResult result (λ _. IsNone (split_of self).scheme) (λ _. IsSome (split_of self).scheme) }
+        ensures scheme { MatchResult result (λ _. IsNone (split_of self.text).scheme) (λ _. IsSome (split_of self.text).scheme) }
     {
         match self.into_iri() {
             Ok(iri) => Err(iri),
@@ -42,7 +43,8 @@ impl<S: Spec> Owned<S, Reference> {
 
 // The text before the number sign, or all. It takes no memory.
 fn cut_at_fragment(text: String) -> String
-    ensures { string_bytes result ≡ before 35 (string_bytes text) }
+    ensures text { string_bytes result ≡ before 35 (string_bytes text) }
+    ensures capacity { string_capacity result ≡ string_capacity text }
 {
     let mut text = text;
     if let Some(i) = find(text.as_str(), b'#') {
@@ -56,7 +58,7 @@ fn copy_of<S: Spec>(
     alloc: Global,
     fragment: Option<RiFragmentStr<'_, S>>,
 ) -> Result<Option<RiFragmentString<S>>, AllocError>
-    ensures { MatchResult result (λ copy. copy ≡ text_of fragment.entry) (λ _. IsSome (text_of fragment.entry)) }
+    ensures { MatchResult result (λ copy. text_within copy ≡ text_of fragment.entry) (λ _. IsSome (text_of fragment.entry)) }
 {
     match fragment {
         Some(fragment) => match Owned::from_view(alloc, fragment) {
@@ -70,7 +72,8 @@ fn copy_of<S: Spec>(
 impl<S: Spec> Owned<S, Iri> {
     /// The text before the number sign, or all where none stands. It takes no memory.
     pub fn into_absolute(self) -> RiAbsoluteString<S>
-        ensures { result ≡ before 35 self }
+        ensures text { result.text ≡ before 35 self.text }
+        ensures capacity { result.capacity ≡ self.capacity }
     {
         Owned::from_valid(cut_at_fragment(self.into_string()))
     }
@@ -81,8 +84,9 @@ impl<S: Spec> Owned<S, Iri> {
         self,
         alloc: Global,
     ) -> Result<(RiAbsoluteString<S>, Option<RiFragmentString<S>>), RiString<S>>
-        ensures cut { MatchResult result (λ r. (r.0 ≡ before 35 self) × (r.1 ≡ (split_of self).fragment)) (λ iri. (iri ≡ self) × IsSome (split_of self).fragment) }
-        ensures joined { MatchResult result (λ r. r.0 ++ marked 35 r.1 ≡ self) (λ _. Unit {0}) }
+        ensures cut { MatchResult result (λ r. (r.0.text ≡ before 35 self.text) × (text_within r.1 ≡ (split_of self.text).fragment)) (λ iri. (iri ≡ self) × IsSome (split_of self.text).fragment) }
+        ensures joined { MatchResult result (λ r. r.0.text ++ marked 35 (text_within r.1) ≡ self.text) (λ _. Unit {0}) }
+        ensures capacity { MatchResult result (λ r. r.0.capacity ≡ self.capacity) (λ _. Unit {0}) }
     {
         match copy_of(alloc, self.as_slice().fragment()) {
             Ok(fragment) => Ok((self.into_absolute(), fragment)),
@@ -101,7 +105,7 @@ impl<S: Spec> Owned<S, Absolute> {
 
     /// The text of an IRI, where it is absolute: otherwise its first fault, with the IRI handed back.
     pub fn try_from_iri(s: RiString<S>) -> Result<Self, CreationError<RiString<S>>>
-        ensures { MatchResult result (λ t. t ≡ s) (λ e. (e.source ≡ s) × (absolute_fault S.tests s ≡ Some e.error.kind)) }
+        ensures { MatchResult result (λ t. t ≡ s) (λ e. (e.source ≡ s) × (absolute_fault S.tests s.text ≡ Some e.error.kind)) }
     {
         downcast(s)
     }
@@ -111,7 +115,7 @@ impl<S: Spec> Owned<S, Absolute> {
 fn downcast<S: Spec, J: Kind, K: Kind>(
     s: Owned<S, J>,
 ) -> Result<Owned<S, K>, CreationError<Owned<S, J>>>
-    ensures { MatchResult result (λ t. t ≡ s) (λ e. (e.source ≡ s) × (K.fault S.tests s ≡ Some e.error.kind)) }
+    ensures { MatchResult result (λ t. t ≡ s) (λ e. (e.source ≡ s) × (K.fault S.tests s.text ≡ Some e.error.kind)) }
 {
     match K::validate::<S>(s.as_str()) {
         Ok(()) => Ok(Owned::from_valid(s.into_string())),
@@ -132,7 +136,7 @@ impl<S: Spec, K: WholeKind> Owned<S, K> {
     pub fn try_from_reference(
         s: RiReferenceString<S>,
     ) -> Result<Self, CreationError<RiReferenceString<S>>>
-        ensures { MatchResult result (λ t. t ≡ s) (λ e. (e.source ≡ s) × (K.fault S.tests s ≡ Some e.error.kind)) }
+        ensures { MatchResult result (λ t. t ≡ s) (λ e. (e.source ≡ s) × (K.fault S.tests s.text ≡ Some e.error.kind)) }
     {
         downcast(s)
     }

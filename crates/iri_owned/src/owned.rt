@@ -1,7 +1,8 @@
 //! Owned texts of a kind.
-ghost use Rattle.std.specs.Prelude.{◌≡◌, ◌≤◌, length, MatchResult, None, Some, IfOk};
+ghost use Rattle.std.specs.Prelude.{◌≡◌, ◌≤◌, length, MatchResult, None, Some, IfOk, IsOk};
 ghost use Rattle.std.specs.String.{string_bytes};
 ghost use Rattle.iri_grammar.specs.Fault.{bytes_fault};
+ghost use Rattle.iri_owned.specs.OwnedText.{owned_text};
 ghost use Rattle.iri_owned.specs.Refusals.{RefusedFor};
 ghost use Rattle.iri_types.specs.Texts.{text};
 
@@ -13,7 +14,7 @@ use std::alloc::{AllocError, Global};
 use std::marker::{Model, PhantomData};
 use std::mem;
 
-/// A text of the kind `K` in the grammar `S`, owned. It is seen as its UTF-8 bytes.
+/// A text of the kind `K` in the grammar `S`, owned. It is seen as its UTF-8 bytes and its capacity.
 /// Owned texts are equal, ordered and hashed as their texts.
 #[derive(Drop)]
 #[derive_where(Debug)]
@@ -24,12 +25,13 @@ pub struct Owned<S: Spec, K: Kind> {
 }
 
 impl<S: Spec, K: Kind> Model for Owned<S, K> {
-    ghost use Rattle.std.specs.Prelude.{ℕ, List, ◌≡◌, None};
+    ghost use Rattle.std.specs.Prelude.{◌≡◌, None};
     ghost use Rattle.std.specs.String.{string_bytes};
+    ghost use Rattle.iri_owned.specs.OwnedText.{OwnedText, owned_text};
 
-    ghost Value = { List ℕ };
+    ghost Value = { OwnedText };
 
-    ghost view = { λ t. string_bytes t.text };
+    ghost view = { λ t. owned_text t.text };
 
     ghost invariant = { λ t. K.fault S.tests (string_bytes t.text) ≡ None };
 }
@@ -37,7 +39,7 @@ impl<S: Spec, K: Kind> Model for Owned<S, K> {
 impl<S: Spec, K: Kind> Owned<S, K> {
     /// A copy of a text, where it is in its production: otherwise its first fault.
     pub fn try_from_str(alloc: Global, s: &str) -> Result<Self, CreateError>
-        ensures { MatchResult result (λ t. t ≡ s.now) (λ e. RefusedFor e (K.fault S.tests s.now)) }
+        ensures { MatchResult result (λ t. t.text ≡ s.now) (λ e. RefusedFor e (K.fault S.tests s.now)) }
     {
         match View::<'_, S, K>::new(s) {
             Ok(view) => Owned::from_view(alloc, view).map_err(CreateError::Memory),
@@ -48,7 +50,7 @@ impl<S: Spec, K: Kind> Owned<S, K> {
     /// A copy of bytes, where they are the UTF-8 of a text in its production: otherwise `InvalidUtf8`, or the
     /// text's first fault.
     pub fn try_from_bytes(alloc: Global, b: &[u8]) -> Result<Self, CreateError>
-        ensures { MatchResult result (λ t. t ≡ b.now) (λ e. RefusedFor e (bytes_fault (K.fault S.tests) b.now)) }
+        ensures { MatchResult result (λ t. t.text ≡ b.now) (λ e. RefusedFor e (bytes_fault (K.fault S.tests) b.now)) }
     {
         match View::<'_, S, K>::try_from_bytes(b) {
             Ok(view) => Owned::from_view(alloc, view).map_err(CreateError::Memory),
@@ -59,7 +61,7 @@ impl<S: Spec, K: Kind> Owned<S, K> {
     /// The text of a string, where it is in its production: otherwise its first fault, with the string handed
     /// back. It takes no memory.
     pub fn try_from_string(s: String) -> Result<Self, CreationError<String>>
-        ensures { MatchResult result (λ t. t ≡ string_bytes s) (λ e. (e.source ≡ s) × (K.fault S.tests (string_bytes s) ≡ Some e.error.kind)) }
+        ensures { MatchResult result (λ t. t ≡ owned_text s) (λ e. (e.source ≡ s) × (K.fault S.tests (string_bytes s) ≡ Some e.error.kind)) }
     {
         match K::validate::<S>(s.as_str()) {
             Ok(()) => Ok(Owned {
@@ -73,7 +75,7 @@ impl<S: Spec, K: Kind> Owned<S, K> {
 
     /// A copy of a view's text.
     pub fn from_view(alloc: Global, view: View<'_, S, K>) -> Result<Self, AllocError>
-        ensures { IfOk result (λ t. t ≡ text view.entry) }
+        ensures { IfOk result (λ t. t.text ≡ text view.entry) }
     {
         let text = String::from_str(alloc, view.as_str())?;
         Ok(Owned {
@@ -83,10 +85,11 @@ impl<S: Spec, K: Kind> Owned<S, K> {
         })
     }
 
-    /// The text of a string that is in its production: `try_from_string` tells whether it is.
+    /// The text of a string that is in its production: `try_from_string` tells whether it is. It takes no
+    /// memory.
     pub fn from_valid(s: String) -> Self
         requires { K.fault S.tests (string_bytes s) ≡ None }
-        ensures { result ≡ string_bytes s }
+        ensures { result ≡ owned_text s }
     {
         Owned {
             text: s,
@@ -97,22 +100,22 @@ impl<S: Spec, K: Kind> Owned<S, K> {
 
     /// The text as a view.
     pub fn as_slice(&self) -> View<'_, S, K>
-        ensures { text result ≡ self.now }
+        ensures { text result ≡ self.now.text }
     {
         View::from_valid(self.text.as_str())
     }
 
     /// The text.
     pub fn as_str(&self) -> &str
-        ensures text { result.now ≡ self.now }
+        ensures text { result.now ≡ self.now.text }
         ensures valid { K.fault S.tests result.now ≡ None }
     {
         self.text.as_str()
     }
 
-    /// The text as a string.
+    /// The text as a string. It takes no memory.
     pub fn into_string(self) -> String
-        ensures text { string_bytes result ≡ self }
+        ensures text { owned_text result ≡ self }
         ensures valid { K.fault S.tests (string_bytes result) ≡ None }
     {
         let Owned {
@@ -125,14 +128,19 @@ impl<S: Spec, K: Kind> Owned<S, K> {
 
     /// How many bytes the text can have before it needs more memory.
     pub fn capacity(&self) -> usize
-        ensures { length self.now ≤ result }
+        ensures capacity { result ≡ self.now.capacity }
+        ensures room { length self.now.text ≤ result }
     {
         self.text.capacity()
     }
 
-    /// Gives back memory that the text doesn't need.
+    /// Gives back memory that the text doesn't need, and all of it where the text is empty. It never fails:
+    /// where a smaller place is refused, the text stays in the one that it has.
     pub fn shrink_to_fit(&mut self) -> Result<(), AllocError>
-        ensures { self.new ≡ self.old }
+        ensures succeeds { IsOk result }
+        ensures text { self.new.text ≡ self.old.text }
+        ensures capacity { self.new.capacity ≤ self.old.capacity }
+        ensures frees { length self.old.text ≡ 0 → self.new.capacity ≡ 0 }
     {
         self.text.shrink_to_fit();
         Ok(())
@@ -140,7 +148,7 @@ impl<S: Spec, K: Kind> Owned<S, K> {
 
     /// A copy.
     pub fn try_clone(&self, alloc: Global) -> Result<Self, AllocError>
-        ensures { IfOk result (λ t. t ≡ self.now) }
+        ensures { IfOk result (λ t. t.text ≡ self.now.text) }
     {
         Owned::from_view(alloc, self.as_slice())
     }
@@ -149,8 +157,8 @@ impl<S: Spec, K: Kind> Owned<S, K> {
     /// memory.
     pub fn replace_text(&mut self, text: String) -> String
         requires { K.fault S.tests (string_bytes text) ≡ None }
-        ensures new { self.new ≡ string_bytes text }
-        ensures old { string_bytes result ≡ self.old }
+        ensures new { self.new ≡ owned_text text }
+        ensures old { owned_text result ≡ self.old }
     {
         mem::replace(&mut self.text, text)
     }

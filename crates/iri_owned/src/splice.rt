@@ -1,8 +1,10 @@
 //! Replacing a part of an owned text.
 ghost use Rattle.std.specs.Prelude.{◌≡◌, ◌≤◌, ◌<◌, ◌+◌, length, None, OnErr, OnOk};
 ghost use Rattle.std.specs.Str.{IsCharBoundary};
-ghost use Rattle.std.specs.String.{string_bytes};
+ghost use Rattle.std.specs.String.{string_bytes, string_capacity};
+ghost use Rattle.std.specs.Vec.{vec_capacity};
 ghost use Rattle.std.proofs.Math.Seq.{paste};
+ghost use Rattle.iri_owned.specs.OwnedText.{owned_text};
 ghost use Rattle.iri_owned.specs.Spliced.{spliced};
 
 use crate::owned::Owned;
@@ -26,7 +28,8 @@ fn write_at(bytes: &mut [u8], start: usize, new: &[u8])
 // The same in a vector.
 fn write_into(bytes: &mut Vec<u8>, start: usize, new: &[u8])
     requires { start + length new.now ≤ length bytes.old.items }
-    ensures { bytes.new.items ≡ paste bytes.old.items start new.now (length new.now) }
+    ensures items { bytes.new.items ≡ paste bytes.old.items start new.now (length new.now) }
+    ensures capacity { vec_capacity bytes.new ≡ vec_capacity bytes.old }
 {
     write_at(bytes.as_mut_slice(), start, new);
 }
@@ -35,7 +38,8 @@ fn write_into(bytes: &mut Vec<u8>, start: usize, new: &[u8])
 fn overwrite(bytes: &mut Vec<u8>, start: usize, end: usize, new: &[u8])
     requires fits { start + length new.now ≤ end }
     requires inside { end ≤ length bytes.old.items }
-    ensures { bytes.new.items ≡ spliced bytes.old.items start end new.now }
+    ensures items { bytes.new.items ≡ spliced bytes.old.items start end new.now }
+    ensures capacity { vec_capacity bytes.new ≡ vec_capacity bytes.old }
 {
     let at = start + new.len();
     let tail = bytes.len() - end;
@@ -49,7 +53,8 @@ fn replace_within(text: &mut String, start: usize, end: usize, new: &str)
     requires fits { start + length new.now ≤ end }
     requires low { IsCharBoundary (string_bytes text.old) start }
     requires high { IsCharBoundary (string_bytes text.old) end }
-    ensures { string_bytes text.new ≡ spliced (string_bytes text.old) start end new.now }
+    ensures text { string_bytes text.new ≡ spliced (string_bytes text.old) start end new.now }
+    ensures capacity { string_capacity text.new ≡ string_capacity text.old }
 {
     let empty = String::new(*text.allocator());
     let mut bytes = mem::replace(text, empty).into_bytes();
@@ -57,25 +62,70 @@ fn replace_within(text: &mut String, start: usize, end: usize, new: &str)
     *text = unsafe { String::from_utf8_unchecked(bytes) };
 }
 
+// Puts bytes in the place of the range, which has fewer, where there is room for them.
+fn widen(bytes: &mut Vec<u8>, start: usize, end: usize, new: &[u8])
+    requires ordered { start ≤ end }
+    requires inside { end ≤ length bytes.old.items }
+    requires longer { end ≤ start + length new.now }
+    requires room { length (spliced bytes.old.items start end new.now) ≤ vec_capacity bytes.old }
+    ensures items { bytes.new.items ≡ spliced bytes.old.items start end new.now }
+    ensures capacity { vec_capacity bytes.old ≤ vec_capacity bytes.new }
+{
+    let tail = bytes.len() - end;
+    let more = new.len() - (end - start);
+    match bytes.extend_from_slice(&new[..more]) {
+        Ok(()) => {
+            let len = bytes.len();
+            bytes.copy_within(end..len - more, len - tail);
+            write_into(bytes, start, new);
+        }
+        Err(_) => unreachable!(),
+    }
+}
+
+// Puts a text in the place of the range, which is shorter. Want of memory comes only where what comes out
+// is longer than the capacity; then all stays as it was.
+fn replace_past(text: &mut String, start: usize, end: usize, new: &str) -> Result<(), AllocError>
+    requires ordered { start ≤ end }
+    requires longer { end ≤ start + length new.now }
+    requires low { IsCharBoundary (string_bytes text.old) start }
+    requires high { IsCharBoundary (string_bytes text.old) end }
+    ensures ok { OnOk result (string_bytes text.new ≡ spliced (string_bytes text.old) start end new.now) }
+    ensures err { OnErr result (owned_text text.new ≡ owned_text text.old) }
+    ensures full { OnErr result (string_capacity text.old < length (spliced (string_bytes text.old) start end new.now)) }
+    ensures capacity { string_capacity text.old ≤ string_capacity text.new }
+{
+    text.try_reserve(new.len() - (end - start))?;
+    let empty = String::new(*text.allocator());
+    let mut bytes = mem::replace(text, empty).into_bytes();
+    widen(&mut bytes, start, end, new.as_bytes());
+    *text = unsafe { String::from_utf8_unchecked(bytes) };
+    Ok(())
+}
+
 impl<S: Spec, K: Kind> Owned<S, K> {
     /// Puts a text in the place of a range in bytes. The range must lie in the text on character boundaries,
-    /// and what comes out must be in the production. After want of memory the text is as it was; it can't
-    /// come where the new text is no longer than the range.
+    /// and what comes out must be in the production. Want of memory comes only where what comes out is longer
+    /// than the capacity, so never where the new text is no longer than the range; the text and its capacity
+    /// are then as they were.
     pub fn splice(&mut self, range: Range<usize>, new: &str) -> Result<(), AllocError>
         requires ordered { range.start ≤ range.end }
-        requires low { IsCharBoundary self.old range.start }
-        requires high { IsCharBoundary self.old range.end }
-        requires valid { K.fault S.tests (spliced self.old range.start range.end new.now) ≡ None }
-        ensures ok { OnOk result (self.new ≡ spliced self.old range.start range.end new.now) }
+        requires low { IsCharBoundary self.old.text range.start }
+        requires high { IsCharBoundary self.old.text range.end }
+        requires valid { K.fault S.tests (spliced self.old.text range.start range.end new.now) ≡ None }
+        ensures ok { OnOk result (self.new.text ≡ spliced self.old.text range.start range.end new.now) }
         ensures err { OnErr result (self.new ≡ self.old) }
         ensures memory { OnErr result (range.end < range.start + length new.now) }
+        ensures full { OnErr result (self.old.capacity < length (spliced self.old.text range.start range.end new.now)) }
+        ensures capacity { self.old.capacity ≤ self.new.capacity }
+        ensures within { range.start + length new.now ≤ range.end → self.new.capacity ≡ self.old.capacity }
     {
         let (start, end) = (range.start, range.end);
         if new.len() <= end - start {
             replace_within(&mut self.text, start, end, new);
             Ok(())
         } else {
-            self.text.replace_range(start..end, new)
+            replace_past(&mut self.text, start, end, new)
         }
     }
 }

@@ -10,6 +10,7 @@ use Rattle.iri_grammar.specs.Split.{split_of}
 use Rattle.iri_grammar.specs.WholeFault.{absolute_fault, reference_fault, iri_fault}
 use Rattle.iri_grammar.specs.declared.error.ErrorKind.{ErrorKind}
 use Rattle.iri_grammar.specs.declared.error.ErrorKind.TheVariants.{InvalidUtf8}
+use Rattle.iri_owned.specs.OwnedText.{OwnedText}
 use Rattle.iri_resolve.specs.Canonicalized.{IsCanonicalText, CausedBy}
 use Rattle.iri_resolve.specs.FormLaws.{canonical-iri, canonical-split, canonical-own}
 use Rattle.iri_resolve.specs.NormalForm.{normal_form, canonical}
@@ -42,7 +43,7 @@ is_canonical s l b r t hb hr e =
     (record { canonical_is = refl; valid = canonical-iri s b r l a k; splits = canonical-split s b r l a k; own = λ other _. canonical-own s b r other l a k })
 
 -- the text that an answer holds
-pub all_canonical : (s : Tests) → IsSpec s → (b v r : List ℕ) → v ≡ b → bytes_fault (absolute_fault s) b ≡ None → (x : Result (List ℕ) CanonError)
-    → MatchResult x (λ t. (bytes_fault (reference_fault s) r ≡ None) × (t ≡ canonical s v r)) (λ e. CausedBy e None (bytes_fault (reference_fault s) r)) → IfOk x (λ t. IsCanonicalText s b r t)
-all_canonical s l b v r e hb (Ok t) h = is_canonical s l b r t hb h.0 (h.1 ∙ ap (λ x. canonical s x r) e)
+pub all_canonical : (s : Tests) → IsSpec s → (b v r : List ℕ) → v ≡ b → bytes_fault (absolute_fault s) b ≡ None → (x : Result OwnedText CanonError)
+    → MatchResult x (λ t. (bytes_fault (reference_fault s) r ≡ None) × (t.text ≡ canonical s v r)) (λ e. CausedBy e None (bytes_fault (reference_fault s) r)) → IfOk x (λ t. IsCanonicalText s b r t.text)
+all_canonical s l b v r e hb (Ok t) h = is_canonical s l b r t.text hb h.0 (h.1 ∙ ap (λ x. canonical s x r) e)
 all_canonical s l b v r e hb (Err x) h = tt

@@ -53,7 +53,7 @@ fn canonical_text<S: Spec>(
     base: RiAbsoluteStr<'_, S>,
     reference: RiReferenceStr<'_, S>,
 ) -> Result<RiString<S>, AllocError>
-    ensures { IfOk result (λ t. t ≡ canonical S.tests (text base.entry) (text reference.entry)) }
+    ensures { IfOk result (λ t. t.text ≡ canonical S.tests (text base.entry) (text reference.entry)) }
 {
     let mut text = String::new(alloc);
     let resolver = FixedBaseResolver::new(base);
@@ -67,7 +67,7 @@ fn canonicalize_against<S: Spec>(
     base: RiAbsoluteStr<'_, S>,
     reference: &[u8],
 ) -> Result<RiString<S>, CanonError>
-    ensures { MatchResult result (λ t. (bytes_fault (reference_fault S.tests) reference.now ≡ None) × (t ≡ canonical S.tests (text base.entry) reference.now))
+    ensures { MatchResult result (λ t. (bytes_fault (reference_fault S.tests) reference.now ≡ None) × (t.text ≡ canonical S.tests (text base.entry) reference.now))
         (λ e. CausedBy e None (bytes_fault (reference_fault S.tests) reference.now)) }
 {
     match RiReferenceStr::<S>::try_from_bytes(reference) {
@@ -87,7 +87,7 @@ pub fn canonicalize<S: Spec>(
 ) -> Result<RiString<S>, CanonError>
     ensures causes { MatchResult result (λ _. (bytes_fault (absolute_fault S.tests) base.now ≡ None) × (bytes_fault (reference_fault S.tests) reference.now ≡ None))
         (λ e. CausedBy e (bytes_fault (absolute_fault S.tests) base.now) (bytes_fault (reference_fault S.tests) reference.now)) }
-    ensures text { IfOk result (λ t. IsCanonicalText S.tests base.now reference.now t) }
+    ensures text { IfOk result (λ t. IsCanonicalText S.tests base.now reference.now t.text) }
 {
     match RiAbsoluteStr::<S>::try_from_bytes(base) {
         Ok(base) => canonicalize_against(alloc, base, reference),
