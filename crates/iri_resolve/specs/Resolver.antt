@@ -1,5 +1,5 @@
 -- What a resolver and a target hold.
-use Rattle.std.specs.Prelude.{◌≡◌, ℕ, List, Option, Some, None, String, string_bytes}
+use Rattle.std.specs.Prelude.{ℕ, List, Option, Some, None, String, string_bytes}
 use Rattle.std.specs.declared.alloc.Global.{Global}
 use Rattle.iri_types.specs.SplitText.{split_text}
 use Rattle.iri_resolve.specs.declared.resolver.FixedBaseResolver.{FixedBaseResolver}
