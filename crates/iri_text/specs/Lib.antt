@@ -1,7 +1,7 @@
 pub mod Count
 pub mod Source
 pub mod Sink
-pub mod Adapter
+pub mod Streams
 pub mod Memory
 pub mod Lines
 pub mod Limits

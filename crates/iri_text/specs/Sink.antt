@@ -25,7 +25,7 @@ pub record PutsAll (written_old written_new : Option (List ℕ)) (faults_old fau
   pub cause : OnErr result (Rose faults_old faults_new)
   pub front : OnErr result (AppendsFront written_old written_new piece)
 
--- Nothing is held back any more, and what is written stays as it was. It failed only where the count of faults rose.
+-- What is written stays as it was, and where it is answered Ok nothing is held back. It failed only where the count of faults rose.
 pub record Flushes (written_old written_new : Option (List ℕ)) (unflushed_new : Bool) (faults_old faults_new : ℕ) (result : Result (Unit {0}) Failed) : Type 0 where
   pub kept : written_new ≡ written_old
   pub handed_on : OnOk result (unflushed_new ≡ false)

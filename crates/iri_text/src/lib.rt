@@ -12,8 +12,9 @@
 //! - [`show_two`] to [`show_five`] and [`show_each`] show values in a row: a `show` of several pieces is one call of these.
 //! - [`Text`] and [`Bytes`] own a text and bytes.
 //!
-//! Proved: every source and sink here keeps its trait (`Takes`, `PutsAll`, `Flushes`): what was taken or put, that nothing is
-//! held back once a flush is answered Ok, that the count of faults never falls, and that it rose where a call failed.
+//! Proved: every source and sink here keeps its trait (`Takes`, `PutsAll`, `Flushes`): what was taken or put, that a sink
+//! counts nothing as held back once it answers Ok to a flush, that the count of faults never falls, and that it rose where a
+//! call failed.
 //! `MemorySource` and `MemorySink` fail exactly where they are told to or have no room, `PlainSource` never. A `LineReader`
 //! gives the next of the `lines` of what is still to come, answers that a limit is passed exactly where one is and names the
 //! one that is passed first, and keeps what it took after every fault.
@@ -94,7 +95,7 @@ pub trait Sink {
     /// The bytes that were written, where the sink tells them. Those that it holds back are among them.
     ghost written: { Self → Option (List ℕ) };
 
-    /// Whether it may hold some of them back. Most sinks never do.
+    /// Whether it may hold some of them back. A sink that doesn't say otherwise never does.
     ghost unflushed: { Self → Bool } = { λ _. false };
 
     /// How often it failed, up to 2^64 - 1, where the count stays.
@@ -104,7 +105,8 @@ pub trait Sink {
     fn put_all(&mut self, piece: &[u8]) -> Result<(), Failed>
         ensures { PutsAll (written self.old) (written self.new) (faults self.old) (faults self.new) result piece.now };
 
-    /// Hands on what is held back, so that nothing is. It fails only where the count of faults rises. What is written stays as it was.
+    /// Hands on what is held back: where it answers Ok, nothing is. It fails only where the count of faults rises. What is
+    /// written stays as it was.
     fn flush(&mut self) -> Result<(), Failed>
         ensures { Flushes (written self.old) (written self.new) (unflushed self.new) (faults self.old) (faults self.new) result };
 }

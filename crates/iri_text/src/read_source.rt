@@ -13,7 +13,7 @@ pub struct ReadSource<R> {
 }
 
 impl<R> Model for ReadSource<R> {
-    ghost use Rattle.iri_text.specs.Adapter.{Reading};
+    ghost use Rattle.iri_text.specs.Streams.{Reading};
 
     ghost Value = { Reading R };
 

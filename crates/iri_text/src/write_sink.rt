@@ -15,7 +15,7 @@ pub struct WriteSink<W> {
 }
 
 impl<W> Model for WriteSink<W> {
-    ghost use Rattle.iri_text.specs.Adapter.{Writing};
+    ghost use Rattle.iri_text.specs.Streams.{Writing};
 
     ghost Value = { Writing W };
 
@@ -41,7 +41,7 @@ impl<W: Write> WriteSink<W> {
 impl<W: Write> Sink for WriteSink<W> {
     ghost use Rattle.std.specs.Prelude.{◌≡◌, ◌≢◌, ◌+◌, ◌-◌, ◌^◌, [], true, min, None, OnOk, OnErr, IsOk};
     ghost use Rattle.std.specs.Io.KnownBytes.{Appends, Keeps};
-    ghost use Rattle.iri_text.specs.Adapter.{WritesFront};
+    ghost use Rattle.iri_text.specs.Streams.{WritesFront};
     ghost use Rattle.iri_text.specs.Sink.{PutsAll, Flushes};
 
     ghost written = { λ _. None };
