@@ -1,5 +1,5 @@
 -- A run whose sink was flushed at its end.
-use Rattle.std.proofs.Common.{◌≡◌, ◌≢◌, ◌⊎◌, ℕ, ◌+◌, ◌≤◌, List, [], ◌++◌, Bool, false, Option, Some, sym, ◌∙◌, ap, subst, arith, ⊎_elim, append_assoc}
+use Rattle.std.proofs.Common.{◌≡◌, ◌⊎◌, ℕ, ◌+◌, ◌≤◌, List, [], ◌++◌, Bool, Option, Some, sym, ◌∙◌, ap, subst, arith, ⊎_elim, append_assoc}
 use Rattle.std.proofs.lemmas.List.{append-nil}
 use Rattle.iri_text.specs.Source.{Consumes, IsAtEnd}
 use Rattle.iri_text.specs.Sink.{Appends, AppendsFront}
@@ -63,7 +63,7 @@ module _ (rules : Rules) (lo ln wo wn : Option (List ℕ)) (so sn ko km : ℕ) w
   closed wc kn unflushed end last r c =
       subst (λ (w : Option (List ℕ)). Ran (run_over rules) (outside lo wo so ko) (outside ln w sn kn) last) (sym c.kept) (⊎_elim same broken c.ends)
     where
-      same : (last ≡ end) × (kn ≡ km) × (last ≢ SinkFailed → unflushed ≡ false) → Ran (run_over rules) (outside lo wo so ko) (outside ln wn sn kn) last
+      same : (last ≡ end) × (kn ≡ km) → Ran (run_over rules) (outside lo wo so ko) (outside ln wn sn kn) last
       same p =
           subst (λ (e : End). Ran (run_over rules) (outside lo wo so ko) (outside ln wn sn kn) e) (sym p.0)
           (subst (λ (k : ℕ). Ran (run_over rules) (outside lo wo so ko) (outside ln wn sn k) end) (sym p.1) r)

@@ -109,9 +109,9 @@ fn put_answer<'a, S: Spec, O: Sink>(
     }
 }
 
-/// Puts the answer to the line that the reader has, as a reference against a base, and says whether it is good. Where no further
-/// line is held, so that bytes will be taken, the sink then hands on what it holds back. It may fail at either, and memory may be
-/// wanted: then nothing is put. What the buffer held goes.
+/// Puts the answer to the line that the reader has, as a reference against a base, and says whether it is good. Where no LF is
+/// held behind it, the sink then hands on what it holds back. It may fail at either, and memory may be wanted: then nothing is
+/// put. What the buffer held goes.
 pub fn answer_line<'a, S: Spec, O: Sink>(
     alloc: Global,
     sink: &mut O,

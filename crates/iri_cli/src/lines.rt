@@ -1,5 +1,7 @@
 // A run over the lines of a source: the base line, then the reference lines.
-ghost use Rattle.std.specs.Prelude.{◌≡◌, None, MatchResult};
+ghost use Rattle.std.specs.Prelude.{◌≡◌, false, None, MatchResult};
+ghost use Rattle.iri_text.specs.Lines.{NoLf};
+ghost use Rattle.iri_text.specs.Reader.{Advances};
 ghost use Rattle.iri_text.specs.Sink.{PutsAll};
 ghost use Rattle.iri_types.specs.Texts.{text};
 ghost use Rattle.iri_resolve.specs.Resolver.{base_text};
@@ -112,6 +114,19 @@ fn read_base<S: Spec, I: Source, O: Sink>(
     }
 }
 
+// Goes to the next reference line. The sink holds nothing back where bytes are taken for it.
+fn next_reference<I: Source, O: Sink>(
+    reader: &mut LineReader,
+    source: &mut I,
+    _sink: &O,
+) -> Result<bool, LineFault>
+    requires going { reader.old.done ≡ false }
+    requires handed_on { NoLf reader.old.held → O.unflushed _sink.now ≡ false }
+    ensures { Advances reader.old reader.new (I.left source.old) (I.left source.new) (I.faults source.old) (I.faults source.new) result }
+{
+    reader.advance(source)
+}
+
 // Answers the reference lines.
 fn answer_lines<S: Spec, I: Source, O: Sink>(
     alloc: Global,
@@ -124,10 +139,13 @@ fn answer_lines<S: Spec, I: Source, O: Sink>(
     ensures { Ran (rest_of (canon_rules S.tests) (base_text resolver.entry) reader) (outside (still_to_come reader.held (I.left source.old)) (O.written sink.old) (I.faults source.old) (O.faults sink.old))
         (outside (I.left source.new) (O.written sink.new) (I.faults source.new) (O.faults sink.new)) result }
 {
+    if let Err(Failed) = sink.flush() {
+        return End::SinkFailed;
+    }
     let mut buffer = String::new(alloc);
     let mut all_good = true;
     loop {
-        match reader.advance(source) {
+        match next_reference(&mut reader, source, sink) {
             Ok(true) => match answer_line(alloc, sink, &mut buffer, resolver, &reader) {
                 Ok(Ok(good)) => all_good &= good,
                 Ok(Err(Failed)) => return End::SinkFailed,

@@ -6,7 +6,8 @@
 //!
 //! Proved: the contract of `run`, over any source and any sink. Each status comes only by its cause, and where the source
 //! tells its bytes, status and output are those of `ending` in specs/Ending.antt. Each answer is put whole or up to where the
-//! sink fails, and handed on before more bytes are taken; want of memory comes only where memory is taken.
+//! sink fails; want of memory comes only where memory is taken. Bytes are taken for a reference line only where the sink holds
+//! nothing back, which is the condition of `next_reference` in lines.rt.
 //!
 //! Not proved, and shown by tests/edges on the built program: `main`, which makes a source of standard input and a sink of
 //! standard output. That memory is had where there is some, the rows in `tests` show.

@@ -58,8 +58,7 @@ fn canon<I: Source, O: Sink>(alloc: Global, grammar: Grammar, source: &mut I, si
 /// Of 3, 7 and 8 the first in the order of bytes decides, and 8 comes before 7 on one byte. `--help` and `--version`, each as the
 /// only word, read nothing and write their text: 0 where it was written, 5 where the sink failed.
 ///
-/// Each answer is handed on before bytes are taken for a line behind it, and at the return the sink holds nothing back, where it
-/// didn't fail.
+/// Where the words are a command, the sink holds nothing back at the return, if it didn't fail.
 pub fn run<I: Source, O: Sink>(alloc: Global, words: &[String], source: &mut I, sink: &mut O) -> u8
     // Words that are no command: nothing is read or written.
     ensures no_command { ((command : Command) → map string_bytes words.now ≢ words_of command) → (result ≡ 2)

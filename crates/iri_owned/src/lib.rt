@@ -15,10 +15,11 @@
 //! capacity, and leaves none where the text is empty. Equality, order and hash are those of the text, and so is
 //! what is shown and displayed.
 //!
-//! Not proved: the words of `CreateError`'s `Display`, and how much `shrink_to_fit` gives back of a text that
-//! isn't empty, which tests show (`made_and_refused`, `within_and_past_the_capacity`); how far the capacity of a
-//! copy, or of a text that `splice` made longer, is above its length; the text of `Debug`; that what else takes
-//! memory gets it, which tests show with ample memory.
+//! Not proved: the words of `CreateError`'s `Display`, how much `shrink_to_fit` gives back of a text that isn't
+//! empty, and that `splice` takes no memory for a longer text that fits, which tests show (`made_and_refused`,
+//! `within_and_past_the_capacity`); how far the capacity of a copy, or of a text that `splice` made longer, is
+//! above its length; the text of `Debug`; that what else takes memory gets it, which tests show with ample
+//! memory.
 #![tactic(auto)]
 
 pub mod compared;

@@ -62,7 +62,7 @@ fn replace_within(text: &mut String, start: usize, end: usize, new: &str)
     *text = unsafe { String::from_utf8_unchecked(bytes) };
 }
 
-// Puts bytes in the place of the range, which has fewer, where there is room for them.
+// Puts bytes in the place of the range, which has no more, where there is room for them.
 fn widen(bytes: &mut Vec<u8>, start: usize, end: usize, new: &[u8])
     requires ordered { start ≤ end }
     requires inside { end ≤ length bytes.old.items }
@@ -83,7 +83,7 @@ fn widen(bytes: &mut Vec<u8>, start: usize, end: usize, new: &[u8])
     }
 }
 
-// Puts a text in the place of the range, which is shorter. Want of memory comes only where what comes out
+// Puts a text in the place of the range, which is no longer. Want of memory comes only where what comes out
 // is longer than the capacity; then all stays as it was.
 fn replace_past(text: &mut String, start: usize, end: usize, new: &str) -> Result<(), AllocError>
     requires ordered { start ≤ end }
