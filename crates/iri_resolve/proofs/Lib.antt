@@ -3,3 +3,4 @@ pub mod NormalLemmas
 pub mod SegmentLemmas
 pub mod PathLemmas
 pub mod CanonLemmas
+pub mod DotLemmas

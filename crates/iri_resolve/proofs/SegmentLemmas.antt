@@ -1,22 +1,11 @@
--- The segments of a path, by its first slash.
-use Rattle.std.proofs.Common.{◌≡◌, ℕ, Bool, true, false, ◌||◌, List, [], ◌∷◌, ◌++◌, Some, None, refl, sym, ◌∙◌, ap}
+-- The dot segments of a path in two pieces.
+use Rattle.std.proofs.Common.{◌≡◌, ℕ, Bool, true, false, ◌||◌, List, [], ◌∷◌, ◌++◌, refl, sym, ◌∙◌, ap}
 use Rattle.std.specs.Prelude.{◌==◌}
-use Rattle.iri_grammar.specs.Cut.{before, behind}
 use Rattle.std.proofs.lemmas.List.{append-nil}
 use Rattle.iri_grammar.specs.Parts.{is_empty}
 use Rattle.iri_grammar.specs.Pieces.{pieces, onto}
-use Rattle.iri_grammar.specs.PiecesLaws.{pieces_cut}
 use Rattle.iri_resolve.specs.Target.{ends_at_slash}
 use Rattle.iri_resolve.specs.Dots.{is_dot_segment, any_dot_segment, has_dot_segment}
-
-pub dot_first : (t : List ℕ) → is_dot_segment (before 47 t) ≡ true → has_dot_segment t ≡ true
-dot_first t h = rw (pieces_cut 47 t, h) refl
-
-pub dot_more : (t r : List ℕ) → is_dot_segment (before 47 t) ≡ false → behind 47 t ≡ Some r → has_dot_segment t ≡ has_dot_segment r
-dot_more t r h e = rw (pieces_cut 47 t, h, e) refl
-
-pub dot_last : (t : List ℕ) → is_dot_segment (before 47 t) ≡ false → behind 47 t ≡ None → has_dot_segment t ≡ false
-dot_last t h e = rw (pieces_cut 47 t, h, e) refl
 
 -- ---- a front that ends at a slash
 

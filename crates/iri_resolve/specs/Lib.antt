@@ -1,5 +1,6 @@
 pub mod Target
 pub mod Dots
+pub mod DotSearch
 pub mod Normal
 pub mod Slices
 pub mod DotRemoval

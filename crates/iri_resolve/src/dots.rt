@@ -1,10 +1,13 @@
 // Dot segments.
 ghost use Rattle.std.specs.Prelude.{◌≡◌};
+ghost use Rattle.iri_grammar.specs.Cut.{before, behind};
+ghost use Rattle.iri_grammar.specs.Parts.{is_empty};
 ghost use Rattle.iri_grammar.specs.Views.{now_of};
 ghost use Rattle.iri_resolve.specs.Dots.{behind_dot, is_dot_segment, has_dot_segment};
 ghost use Rattle.iri_resolve.specs.DotRemoval.{is_two_dots};
+ghost use Rattle.iri_resolve.specs.DotSearch.{dots_in_front, slash_and_dots, dots_behind};
 
-use iri_grammar::cutting::cut;
+use memchr::memchr;
 
 // What follows a dot at the front, in any spelling.
 fn behind_dot(s: &[u8]) -> Option<&[u8]>
@@ -39,19 +42,90 @@ pub fn is_two_dots(segment: &str) -> bool
     }
 }
 
+// Whether a segment ends at the front.
+fn ends_segment(path: &[u8]) -> bool
+    ensures { result ≡ is_empty (before 47 path.now) }
+{
+    matches!(path, [] | [b'/', ..])
+}
+
+// Whether the first segment of a path is `.` or `..`, in any spelling.
+fn begins_with_dot_segment(path: &[u8]) -> bool
+    ensures { result ≡ dots_in_front path.now }
+{
+    let Some(rest) = behind_dot(path) else {
+        return false;
+    };
+    if ends_segment(rest) {
+        return true;
+    }
+    match behind_dot(rest) {
+        None => false,
+        Some(rest) => ends_segment(rest),
+    }
+}
+
+// Whether a slash stands at the front, and a dot segment behind it.
+fn begins_with_slash_and_dots(path: &[u8]) -> bool
+    ensures { result ≡ slash_and_dots path.now }
+{
+    match path {
+        [b'/', rest @ ..] => begins_with_dot_segment(rest),
+        _ => false,
+    }
+}
+
+// Whether a dot segment stands behind a slash of the path. A slash and what begins a dot all stand from `%` to `/`; where the
+// second byte is none of them, no dot segment begins behind either of the first two.
+fn has_dots_by_pairs(path: &[u8]) -> bool
+    ensures { result ≡ dots_behind path.now }
+{
+    let mut rest = path;
+    'pairs: while rest.len() >= 2 {
+        let second = rest[1];
+        if second < b'%' || b'/' < second {
+            rest = &rest[2..];
+            continue;
+        }
+        if begins_with_slash_and_dots(rest) {
+            return true;
+        }
+        rest = &rest[1..];
+    }
+    false
+}
+
+// What follows the first slash.
+fn behind_slash(path: &[u8]) -> Option<&[u8]>
+    ensures { now_of result ≡ behind 47 path.now }
+{
+    match memchr(b'/', path) {
+        Some(i) => Some(&path[i + 1..]),
+        None => None,
+    }
+}
+
+// The same; a path that `memchr` takes in blocks, of 32 bytes or more, is searched from slash to slash.
+fn has_dots_behind(path: &[u8]) -> bool
+    ensures { result ≡ dots_behind path.now }
+{
+    let mut rest = path;
+    'slashes: while rest.len() >= 32 {
+        match behind_slash(rest) {
+            Some(next) => rest = next,
+            None => return false,
+        }
+        if begins_with_dot_segment(rest) {
+            return true;
+        }
+    }
+    has_dots_by_pairs(rest)
+}
+
 /// Whether a dot segment stands in the path.
 pub fn has_dot_segment(path: &str) -> bool
     ensures { result ≡ has_dot_segment path.now }
 {
-    let mut rest = path;
-    'segments: loop {
-        let (segment, more) = cut(rest, b'/');
-        if is_dot_segment(segment) {
-            return true;
-        }
-        match more {
-            Some(next) => rest = next,
-            None => return false,
-        }
-    }
+    let bytes = path.as_bytes();
+    begins_with_dot_segment(bytes) || has_dots_behind(bytes)
 }

@@ -1,0 +1,10 @@
+use Rattle.std.proofs.Common.{◌≡◌, length}
+use Rattle.iri_resolve.specs.DotSearch.{dots_behind}
+use Rattle.iri_resolve.proofs.dots.has_dots_behind.Given as goal
+
+-- what is left decides as the whole does
+abbrev pub invariant-slashes : goal.invariant-slashes
+invariant-slashes l = dots_behind l.rest ≡ dots_behind l.path
+
+abbrev pub decreases-slashes : goal.decreases-slashes
+decreases-slashes l = length l.rest
