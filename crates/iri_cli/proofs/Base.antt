@@ -12,7 +12,7 @@ use Rattle.iri_text.proofs.Puts.{Appends-none}
 use Rattle.iri_owned.specs.OwnedText.{OwnedText}
 use Rattle.iri_cli.specs.Ending.{Rules, Stop, Ended, Ending, base_line, unless_refused, base_from, references_from, run_over}
 use Rattle.iri_cli.specs.Run.{Ran, outside}
-use Rattle.iri_cli.specs.Steps.{RefusesBase, CopiesBase, ReadsBase, IsNew, TakesBase}
+use Rattle.iri_cli.specs.Steps.{RefusesBase, CopiesBase, ReadsBase, IsNew}
 use Rattle.iri_cli.specs.declared.end.End.{End}
 use Rattle.iri_cli.specs.declared.end.End.TheVariants.{Done, SomeBad, BadBase, SourceFailed, SinkFailed, Memory, LineTooLong, InputTooLong}
 use Rattle.iri_cli.proofs.Scan.{base_scan, along, to_end}

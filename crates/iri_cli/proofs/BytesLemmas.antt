@@ -1,18 +1,12 @@
 -- The first fault of bytes, and what follows where there is none.
-use Rattle.std.proofs.Common.{◌≡◌, ℕ, Bool, true, false, cond, List, Option, Some, None, refl, sym, ap, subst, ◌∙◌}
-use Rattle.std.specs.Prelude.{IsSome}
-use Rattle.std.specs.Str.{is_utf8, IsUtf8}
-use Rattle.std.proofs.lemmas.Str.{IsUtf8-from_is_utf8, is_utf8-from_IsUtf8}
+use Rattle.std.proofs.Common.{◌≡◌, ℕ, true, false, cond, List, Option, Some, None, refl}
+use Rattle.std.specs.Str.{is_utf8}
 use Rattle.iri_grammar.specs.Classes.{Tests, IsSpec}
 use Rattle.iri_grammar.specs.Fault.{bytes_fault}
-use Rattle.iri_grammar.specs.FaultLaws.{absolute-law, reference-law, no_fault_where_splits, splits_where_no_fault}
-use Rattle.iri_grammar.specs.Parts.{Parts, Fits, IsAbsolute, IsReference, recompose}
-use Rattle.iri_grammar.specs.Split.{split_of}
-use Rattle.iri_grammar.specs.SplitUnique.{split_is}
+use Rattle.iri_grammar.specs.FaultLaws.{absolute-law, reference-law}
+use Rattle.iri_grammar.specs.Parts.{IsAbsolute, IsReference}
 use Rattle.iri_resolve.specs.FormLaws.{canonical-iri, canonical-split, canonical-own}
-use Rattle.iri_resolve.specs.NormalForm.{normal_form, canonical}
-use Rattle.iri_resolve.specs.Target.{target}
-use Rattle.iri_resolve.specs.TargetLaws.{target-fits}
+use Rattle.iri_resolve.specs.NormalForm.{canonical}
 use Rattle.iri_grammar.specs.WholeFault.{absolute_fault, reference_fault}
 use Rattle.iri_grammar.specs.declared.error.ErrorKind.{ErrorKind}
 use Rattle.iri_grammar.specs.declared.error.ErrorKind.TheVariants.{InvalidUtf8}

@@ -1,10 +1,9 @@
 -- The ending of an input, in terms of its lines.
-use Rattle.std.proofs.Common.{◌≡◌, ◌≢◌, ◌⊎◌, ℕ, ◌+◌, ◌<◌, ◌≤◌, List, [], ◌∷◌, ◌++◌, length, Bool, true, false, ◌&&◌, Option, None, Some, nat_le, nat_eq, ◌==◌, if◌then◌else◌, flat_map, refl, sym, ◌∙◌, ap, subst, arith, append_assoc, length-append, true≢false}
+use Rattle.std.proofs.Common.{◌≡◌, ◌≢◌, ℕ, ◌+◌, ◌<◌, ◌≤◌, List, [], ◌∷◌, ◌++◌, length, Bool, true, false, ◌&&◌, Option, None, Some, nat_le, ◌==◌, if◌then◌else◌, flat_map, refl, sym, ◌∙◌, ap, subst, arith, append_assoc, length-append}
 use Rattle.std.specs.List.{list_all}
-use Rattle.std.proofs.lemmas.List.{append-nil}
 use Rattle.std.proofs.lemmas.Bool.Decides.{nat_tests}
-use Rattle.iri_text.specs.Lines.{NoLf, no_cr, last_line, lines, lines_from}
-use Rattle.iri_cli.specs.Ending.{Rules, Stop, Ended, Failed, Ending, is_good, status_after, after, unless_refused, references_end, references_from, base_end, base_from, run_over, ending}
+use Rattle.iri_text.specs.Lines.{NoLf, no_cr, lines, lines_from}
+use Rattle.iri_cli.specs.Ending.{Rules, Ended, Failed, Ending, is_good, status_after, after, unless_refused, references_from, base_from, ending}
 use Rattle.iri_cli.specs.Plain.{IsWithin, ending_of_lines, BeginsWith}
 
 -- the three tests of a byte

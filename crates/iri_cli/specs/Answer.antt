@@ -3,12 +3,11 @@ use Rattle.std.specs.Prelude.{◌≡◌, ℕ, codes, List, [], ◌∷◌, ◌++�
 use Rattle.iri_grammar.specs.Classes.{Tests}
 use Rattle.iri_grammar.specs.Fault.{bytes_fault}
 use Rattle.iri_grammar.specs.Kinds.{description}
-use Rattle.iri_grammar.specs.Parts.{Parts, IsIri, IsAbsolute, recompose}
+use Rattle.iri_grammar.specs.Parts.{IsIri, IsAbsolute}
 use Rattle.iri_grammar.specs.Split.{split_of}
 use Rattle.iri_grammar.specs.WholeFault.{absolute_fault, reference_fault}
 use Rattle.iri_grammar.specs.declared.error.ErrorKind.{ErrorKind}
-use Rattle.iri_resolve.specs.NormalForm.{canonical, canonical_parts, normal_form}
-use Rattle.iri_resolve.specs.Target.{target}
+use Rattle.iri_resolve.specs.NormalForm.{canonical, canonical_parts}
 
 abbrev pub words_of_fault : Option ErrorKind → Option (List ℕ)
 words_of_fault None = None

@@ -1,6 +1,6 @@
 -- The run over lines, worked on small inputs: lines of at most 4 bytes, inputs of at most 12. An answer is the line itself, and an empty base is refused.
 use Rattle.std.specs.Prelude.{◌≡◌, ℕ, codes, List, [], ◌∷◌, ◌++◌, Option, None, Some, refl}
-use Rattle.iri_cli.specs.Ending.{Rules, Ended, Failed, ending, run_over}
+use Rattle.iri_cli.specs.Ending.{Rules, Failed, ending, run_over}
 
 abbrev refusal : List ℕ → Option (List ℕ)
 refusal [] = Some (codes "empty")

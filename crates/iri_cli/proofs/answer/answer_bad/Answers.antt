@@ -1,4 +1,4 @@
-use Rattle.std.proofs.Common.{◌≡◌, ◌++◌, ◌∷◌, [], false, sym, subst, refl}
+use Rattle.std.proofs.Common.{◌++◌, ◌∷◌, [], false, sym, subst, refl}
 use Rattle.std.specs.Prelude.{codes}
 use Rattle.iri_text.specs.Sink.{PutsAll}
 use Rattle.iri_cli.specs.Answer.{bad_answer}

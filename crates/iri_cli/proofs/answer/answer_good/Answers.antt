@@ -1,4 +1,4 @@
-use Rattle.std.proofs.Common.{◌≡◌, ◌++◌, ◌∙◌, true, sym, subst, refl}
+use Rattle.std.proofs.Common.{◌++◌, ◌∙◌, true, sym, subst, refl}
 use Rattle.std.specs.Prelude.{codes}
 use Rattle.iri_text.specs.Sink.{PutsAll}
 use Rattle.iri_types.specs.SplitText.{split_text}

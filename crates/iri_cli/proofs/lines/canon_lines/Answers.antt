@@ -1,6 +1,5 @@
 use Rattle.std.proofs.Common.{[], ◌∙◌, refl, arith}
 use Rattle.iri_text.proofs.Puts.{Appends-none}
-use Rattle.iri_types.specs.Texts.{text}
 use Rattle.iri_cli.specs.Words.{canon_rules}
 use Rattle.iri_cli.proofs.Base.{consumes_none}
 use Rattle.iri_cli.proofs.Joined.{at_references, behind_base}
