@@ -1,5 +1,5 @@
 -- Parts without a stray `%`, and a path in two pieces.
-use Rattle.std.proofs.Common.{◌≡◌, ℕ, Bool, true, false, cond, ◌&&◌, ◌||◌, List, [], ◌∷◌, ◌++◌, Option, Some, None, Result, Ok, Err, OnOk, Bor, refl, sym, ◌∙◌, ap, subst, arith, append_assoc}
+use Rattle.std.proofs.Common.{◌≡◌, ℕ, Bool, true, false, cond, not, ◌&&◌, ◌||◌, List, [], ◌∷◌, ◌++◌, Option, Some, None, Result, Ok, Err, OnOk, Bor, refl, sym, ◌∙◌, ap, subst, arith, append_assoc}
 use Rattle.std.specs.Prelude.{◌==◌, is_some}
 use Rattle.std.specs.Char.{is_ascii_hexdigit}
 use Rattle.std.proofs.lemmas.List.{append-nil}
@@ -13,10 +13,11 @@ use Rattle.iri_grammar.specs.Components.{if_there, is_path}
 use Rattle.iri_grammar.specs.CutLaws.{both}
 use Rattle.iri_grammar.specs.Parts.{is_empty}
 use Rattle.iri_percent.specs.MarkLaws.{pct_mark, slash}
-use Rattle.iri_percent.specs.Triplets.{pct, normal}
+use Rattle.iri_percent.specs.NormalLaws.{normal_plain}
+use Rattle.iri_percent.specs.Triplets.{pct, normal, as_it_is}
 use Rattle.iri_percent.specs.Units.{whole_triplets, two_digits, units_from}
 use Rattle.iri_resolve.specs.DotRemoval.{dots}
-use Rattle.iri_resolve.specs.Guard.{guard}
+use Rattle.iri_resolve.specs.Guard.{guard, begins_plainly}
 use Rattle.iri_resolve.specs.NormalForm.{normal_path}
 use Rattle.iri_resolve.specs.PathLaws.{dots-over}
 use Rattle.iri_resolve.specs.Target.{ends_at_slash}
@@ -82,11 +83,22 @@ unfolding whole_triplets
 whole_parts f [] h w = (subst (λ (l : List ℕ). whole_triplets l ≡ true) (append-nil f) w, refl)
 whole_parts f (x ∷ xs) h w = whole_two f (x ∷ xs) h w
 
--- a path beside an authority and without dot segments, in normal form
-pub path_as_it_is : (s : Tests) (a : Option (List ℕ)) (f p : List ℕ) → (is_empty p || ends_at_slash f) ≡ true → is_some a ≡ true → dots (f ++ p) ≡ f ++ p
+neither : (a b : Bool) → not (a || b) ≡ true → (a ≡ false) × (b ≡ false)
+neither true b h = cc
+neither false true h = cc
+neither false false h = (refl, refl)
+
+-- a path that needs no `/.` before it
+unguarded : (s : Tests) (p : List ℕ) (stands : Bool) → (stands || begins_plainly p) ≡ true → guard (pct s p) stands ≡ pct s p
+unguarded s p true h = refl
+unguarded s [] false h = ap (λ q. guard q false) (pct_nil s) ∙ sym (pct_nil s)
+unguarded s (x ∷ xs) false h = let n = neither (x == 47) (x == 37) h in rw (normal_plain s as_it_is x xs n.1, n.0) refl
+
+-- such a path without dot segments, in normal form
+pub path_as_it_is : (s : Tests) (a : Option (List ℕ)) (f p : List ℕ) → (is_empty p || ends_at_slash f) ≡ true → (is_some a || begins_plainly (f ++ p)) ≡ true → dots (f ++ p) ≡ f ++ p
     → normal_path s a (f ++ p) ≡ pct s f ++ pct s p
 unfolding normal_path
-path_as_it_is s a f p h e d = rw e (ap (pct s) d ∙ pct_parts s f p h)
+path_as_it_is s a f p h e d = ap (λ q. guard (pct s q) (is_some a)) d ∙ (unguarded s (f ++ p) (is_some a) e ∙ pct_parts s f p h)
 
 -- a path without its dot segments has no stray `%`
 pub dots_whole : (s : Tests) → IsSpec s → (p : List ℕ) → is_path s p ≡ true → whole_triplets (dots p) ≡ true

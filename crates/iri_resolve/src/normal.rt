@@ -1,5 +1,5 @@
 // The normal form of a target, written into a text.
-ghost use Rattle.std.specs.Prelude.{◌≡◌, ◌++◌, [], ◌∷◌, false, true, OnOk, is_some, IfOk, string_bytes};
+ghost use Rattle.std.specs.Prelude.{◌≡◌, ◌++◌, ◌||◌, [], ◌∷◌, false, true, OnOk, is_some, IfOk, string_bytes};
 ghost use Rattle.iri_grammar.specs.Authority.{FitsAuthority, is_authority, recompose_authority, userinfo_text};
 ghost use Rattle.iri_grammar.specs.Components.{if_there, is_path};
 ghost use Rattle.iri_grammar.specs.Cut.{marked};
@@ -11,7 +11,7 @@ ghost use Rattle.iri_percent.specs.NormalHost.{normal_host, normal_port, normal_
 ghost use Rattle.iri_percent.specs.Triplets.{pct};
 ghost use Rattle.iri_percent.specs.Units.{whole_triplets};
 ghost use Rattle.iri_resolve.specs.Dots.{has_dot_segment};
-ghost use Rattle.iri_resolve.specs.Guard.{guard};
+ghost use Rattle.iri_resolve.specs.Guard.{guard, begins_plainly};
 ghost use Rattle.iri_resolve.specs.Normal.{lowered, where_there};
 ghost use Rattle.iri_resolve.specs.NormalForm.{normal_form, normal_path};
 ghost use Rattle.iri_resolve.specs.Slices.{slices, is_cut_at_segment};
@@ -151,11 +151,11 @@ fn push_without_dots<S: Spec>(
     push_guarded(text, &path, target.authority.is_some())
 }
 
-// The path of a target without dot segments, beside an authority.
+// The path of a target without dot segments, which needs no `/.` before it.
 fn push_as_it_is<S: Spec>(text: &mut String, target: &TargetSlices<'_>) -> Result<(), AllocError>
     requires path { is_path S.tests (slices target.now).path ≡ true }
     requires cut { is_cut_at_segment target.now ≡ true }
-    requires authority { is_some (slices target.now).authority ≡ true }
+    requires unguarded { (is_some (slices target.now).authority || begins_plainly (slices target.now).path) ≡ true }
     requires no_dots { has_dot_segment (slices target.now).path ≡ false }
     ensures { OnOk result (string_bytes text.new ≡ string_bytes text.old ++ normal_path S.tests (slices target.now).authority (slices target.now).path) }
 {
@@ -172,7 +172,7 @@ fn push_path<S: Spec>(
     requires cut { is_cut_at_segment target.now ≡ true }
     ensures { OnOk result (string_bytes text.new ≡ string_bytes text.old ++ normal_path S.tests (slices target.now).authority (slices target.now).path) }
 {
-    if target.authority.is_some() && !target.has_dot_segment() {
+    if target.is_unguarded() && !target.has_dot_segment() {
         push_as_it_is::<S>(text, target)
     } else {
         push_without_dots::<S>(alloc, text, target)

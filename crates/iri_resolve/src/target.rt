@@ -1,10 +1,11 @@
 // The target of a reference against a base.
-ghost use Rattle.std.specs.Prelude.{◌≡◌, ◌++◌, None, true, MatchOption};
+ghost use Rattle.std.specs.Prelude.{◌≡◌, ◌++◌, ◌||◌, is_some, None, true, MatchOption};
 ghost use Rattle.memchr.specs.Find.{IsLastByte, is_byte};
 ghost use Rattle.iri_grammar.specs.Splitters.{parts};
 ghost use Rattle.iri_grammar.specs.Views.{now_of};
 ghost use Rattle.iri_resolve.specs.Target.{target, target_under, merged, to_last_slash, merge_front, ends_at_slash, LastSlash, NoSlash};
 ghost use Rattle.iri_resolve.specs.Dots.{has_dot_segment};
+ghost use Rattle.iri_resolve.specs.Guard.{begins_plainly};
 ghost use Rattle.iri_resolve.specs.Slices.{slices, is_cut_at_segment};
 
 use crate::dots;
@@ -128,6 +129,13 @@ pub fn target<'a>(base: &Splitter<'a>, reference: &Splitter<'a>) -> TargetSlices
     }
 }
 
+// Whether the path begins neither with a slash nor with a triplet, so that its normal form begins with no slash either.
+fn begins_plainly(path: &str) -> bool
+    ensures { result ≡ begins_plainly path.now }
+{
+    !matches!(path.as_bytes(), [b'/' | b'%', ..])
+}
+
 impl<'a> TargetSlices<'a> {
     /// Whether a dot segment stands in the path.
     pub fn has_dot_segment(&self) -> bool
@@ -135,5 +143,22 @@ impl<'a> TargetSlices<'a> {
         ensures { result ≡ has_dot_segment (slices self.now).path }
     {
         dots::has_dot_segment(self.front) || dots::has_dot_segment(self.path)
+    }
+
+    fn begins_plainly(&self) -> bool
+        ensures { result ≡ begins_plainly (slices self.now).path }
+    {
+        if self.front.is_empty() {
+            begins_plainly(self.path)
+        } else {
+            begins_plainly(self.front)
+        }
+    }
+
+    /// Whether an authority stands, or the path begins so that none is read from its normal form.
+    pub fn is_unguarded(&self) -> bool
+        ensures { result ≡ (is_some (slices self.now).authority || begins_plainly (slices self.now).path) }
+    {
+        self.authority.is_some() || self.begins_plainly()
     }
 }

@@ -21,7 +21,7 @@ pub returns : goal.returns
 returns g c =
     let s = g.S.Spec.tests in
     let t = c.args.target.now in
-    let e = path_as_it_is s (now_of t.authority) t.front.now t.path.now c.requires.cut c.requires.authority (no_dots-same (t.front.now ++ t.path.now) c.requires.no_dots) in
+    let e = path_as_it_is s (now_of t.authority) t.front.now t.path.now c.requires.cut c.requires.unguarded (no_dots-same (t.front.now ++ t.path.now) c.requires.no_dots) in
     subst (λ (l : List ℕ). OnOk c.push_part-2.result (string_bytes c.push_part-2.new.text ≡ string_bytes c.args.text.now ++ l)) (sym e)
     (two_pieces c.push_part-2.result (string_bytes c.args.text.now) (string_bytes c.push_part.new.text) (string_bytes c.push_part-2.new.text) (pct s t.front.now) (pct s t.path.now)
     c.in_ok-push_part.ensures c.push_part-2.ensures)
