@@ -34,6 +34,7 @@ pub mod AuthorityTexts
 pub mod AuthorityLaws
 pub mod SplitUnique
 pub mod FaultLaws
+pub mod MadeLaws
 pub mod UriLaws
 pub mod Splitters
 pub mod Examples

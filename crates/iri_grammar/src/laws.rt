@@ -1,11 +1,11 @@
 //! Laws of the definitions: each function's contract is a law, and its body is empty.
-ghost use Rattle.std.specs.Prelude.{◌≡◌, ◌↔◌, ◌⊎◌, ◌&&◌, ℕ, List, None, not, true};
+ghost use Rattle.std.specs.Prelude.{◌≡◌, ◌↔◌, ◌⊎◌, ◌&&◌, ℕ, IsNone, IsSome, List, None, not, true};
 ghost use Rattle.std.specs.Str.{all_scalars, chars, encode_utf8_all, IsUtf8};
 ghost use Rattle.iri_grammar.specs.Classes.{uri_tests};
 ghost use Rattle.iri_grammar.specs.Components.{is_scheme, is_userinfo, is_port, is_path, is_path_segment, is_query, is_fragment};
 ghost use Rattle.iri_grammar.specs.Ipv4.{is_ipv4};
 ghost use Rattle.iri_grammar.specs.Host.{is_host, is_reg_name};
-ghost use Rattle.iri_grammar.specs.Authority.{is_authority};
+ghost use Rattle.iri_grammar.specs.Authority.{AuthorityParts, FitsAuthority, authority_parts, is_authority, recompose_authority};
 ghost use Rattle.iri_grammar.specs.Parts.{Parts, Fits, Splits, IsReference, IsIri, IsAbsolute, IsRelative, recompose};
 ghost use Rattle.iri_grammar.specs.Split.{split_of};
 ghost use Rattle.iri_grammar.specs.Fault.{bytes_fault, scheme_fault, userinfo_fault, host_fault, reg_name_fault, port_fault, path_fault, path_segment_fault, query_fault, fragment_fault, authority_fault};
@@ -33,6 +33,23 @@ pub fn no_fault_of_wholes<S: Spec>()
     ensures absolute { (bs : List ℕ) → (bytes_fault (absolute_fault S.tests) bs ≡ None) ↔ IsAbsolute S.tests bs }
     ensures relative { (bs : List ℕ) → (bytes_fault (relative_fault S.tests) bs ≡ None) ↔ IsRelative S.tests bs }
     ensures utf8 { (bs : List ℕ) → IsReference S.tests bs → IsUtf8 bs }
+{}
+
+/// Parts that are each in their production, with a path that keeps the rules of its place, make a text without fault, of
+/// each kind that allows what stands; its split is these parts. A reference without fault has such parts.
+pub fn valid_parts_make_wholes<S: Spec>()
+    ensures split { (p : Parts) → Fits S.tests p → split_of (recompose p) ≡ p }
+    ensures reference { (p : Parts) → Fits S.tests p → reference_fault S.tests (recompose p) ≡ None }
+    ensures iri { (p : Parts) → Fits S.tests p → IsSome p.scheme → iri_fault S.tests (recompose p) ≡ None }
+    ensures absolute { (p : Parts) → Fits S.tests p → IsSome p.scheme → IsNone p.fragment → absolute_fault S.tests (recompose p) ≡ None }
+    ensures relative { (p : Parts) → Fits S.tests p → IsNone p.scheme → relative_fault S.tests (recompose p) ≡ None }
+    ensures parts { (t : List ℕ) → reference_fault S.tests t ≡ None → Fits S.tests (split_of t) }
+{}
+
+/// Userinfo, host and port that are each in their production make an authority, and are its reading.
+pub fn valid_parts_make_authorities<S: Spec>()
+    ensures authority { (a : AuthorityParts) → FitsAuthority S.tests a → is_authority S.tests (recompose_authority a) ≡ true }
+    ensures reading { (a : AuthorityParts) → FitsAuthority S.tests a → authority_parts (recompose_authority a) ≡ a }
 {}
 
 /// Bytes have no fault exactly where they are the UTF-8 of a component in the production: of the authority

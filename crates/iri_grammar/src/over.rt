@@ -20,7 +20,7 @@ fn run_len(class: Class, bytes: &[u8]) -> usize
 }
 
 /// What follows the ASCII characters of the class at the front.
-fn past_run(class: Class, s: &str) -> &str
+pub fn past_run(class: Class, s: &str) -> &str
     ensures { result.now ≡ drop (run_of (ascii_test class) s.now) s.now }
 {
     &s[run_len(class, s.as_bytes())..]

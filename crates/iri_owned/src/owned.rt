@@ -1,5 +1,5 @@
 //! Owned texts of a kind.
-ghost use Rattle.std.specs.Prelude.{◌≡◌, ◌≤◌, length, MatchResult, None, Some, IfOk, IsOk};
+ghost use Rattle.std.specs.Prelude.{◌≡◌, ◌≤◌, ◌<◌, ◌+◌, length, MatchResult, None, Some, IfOk, IsOk, OnErr, OnOk};
 ghost use Rattle.std.specs.String.{string_bytes};
 ghost use Rattle.iri_grammar.specs.Fault.{bytes_fault};
 ghost use Rattle.iri_owned.specs.OwnedText.{owned_text};
@@ -144,6 +144,18 @@ impl<S: Spec, K: Kind> Owned<S, K> {
     {
         self.text.shrink_to_fit();
         Ok(())
+    }
+
+    /// Makes room for this many bytes more than the text has. Edits that fit within the capacity then never want memory.
+    /// After want of memory the text and its capacity are as they were; it comes only where the room isn't there yet.
+    pub fn try_reserve(&mut self, additional: usize) -> Result<(), AllocError>
+        ensures text { self.new.text ≡ self.old.text }
+        ensures room { OnOk result (length self.old.text + additional ≤ self.new.capacity) }
+        ensures err { OnErr result (self.new ≡ self.old) }
+        ensures full { OnErr result (self.old.capacity < length self.old.text + additional) }
+        ensures capacity { self.old.capacity ≤ self.new.capacity }
+    {
+        self.text.try_reserve(additional)
     }
 
     /// A copy.

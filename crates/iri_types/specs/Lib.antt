@@ -1,4 +1,6 @@
 pub mod KindLaws
+pub mod Allowed
+pub mod AllowedLaws
 pub mod Texts
 pub mod Prefixed
 pub mod KindTexts

@@ -1,10 +1,13 @@
 //! The kinds of texts (RFC 3986 sections 3 and 4, RFC 3987 section 2.2).
-ghost use Rattle.std.specs.Prelude.{◌≡◌, ℕ, List, Option, None, IsSome};
+ghost use Rattle.std.specs.Prelude.{◌≡◌, ℕ, Bool, List, Option, None, IsSome, is_some, refl, true};
 ghost use Rattle.iri_grammar.specs.Classes.{Tests, IsSpec, uri_tests};
 ghost use Rattle.iri_grammar.specs.Fault.{Answers, query_fault, fragment_fault};
+ghost use Rattle.iri_grammar.specs.Parts.{Parts, Fits, recompose};
 ghost use Rattle.iri_grammar.specs.Split.{split_of};
 ghost use Rattle.iri_grammar.specs.WholeFault.{reference_fault, iri_fault, absolute_fault, relative_fault};
 ghost use Rattle.iri_grammar.specs.declared.error.ErrorKind.{ErrorKind};
+ghost use Rattle.iri_types.specs.Allowed.{allows_reference, allows_iri, allows_absolute, allows_relative};
+ghost use Rattle.iri_types.specs.AllowedLaws.{reference-made, iri-made, absolute-made, relative-made, reference-allowed, iri-allowed, absolute-allowed, relative-allowed};
 ghost use Rattle.iri_types.specs.KindLaws.{reference-within, iri-within, absolute-within, relative-within, query-within, fragment-within, reference-whole, iri-whole, absolute-whole, relative-whole, iri-scheme, absolute-scheme};
 
 use iri_grammar::error::Error;
@@ -28,6 +31,15 @@ pub trait Kind {
 pub trait WholeKind: Kind {
     /// Each text of the kind is a reference.
     ghost whole: { (s : Tests) → IsSpec s → (t : List ℕ) → Self.fault s t ≡ None → reference_fault s t ≡ None };
+
+    /// Whether a text of the kind may have parts of which these stand: a scheme, a fragment.
+    ghost allows: { Bool → Bool → Bool };
+
+    /// Valid parts, with a path that keeps the rules of its place, make a text of the kind where it allows what stands.
+    ghost made: { (s : Tests) → IsSpec s → (p : Parts) → Fits s p → allows (is_some p.scheme) (is_some p.fragment) ≡ true → Self.fault s (recompose p) ≡ None };
+
+    /// The kind allows what stands in each of its texts.
+    ghost allowed: { (s : Tests) → IsSpec s → (t : List ℕ) → Self.fault s t ≡ None → allows (is_some (split_of t).scheme) (is_some (split_of t).fragment) ≡ true };
 }
 
 /// A whole kind whose texts have a scheme.
@@ -37,7 +49,10 @@ pub trait SchemeKind: WholeKind {
 }
 
 /// A whole kind whose texts may have a fragment.
-pub trait FragmentKind: WholeKind {}
+pub trait FragmentKind: WholeKind {
+    /// The kind allows a fragment wherever it allows none, and none wherever it allows one.
+    ghost free_fragment: { (scheme fragment other : Bool) → Self.allows scheme fragment ≡ Self.allows scheme other };
+}
 
 /// `URI-reference` (RFC 3986 section 4.1).
 #[derive(Clone, Copy)]
@@ -125,18 +140,42 @@ impl Kind for Fragment {
 
 impl WholeKind for Reference {
     ghost whole = { reference-whole };
+
+    ghost allows = { allows_reference };
+
+    ghost made = { reference-made };
+
+    ghost allowed = { reference-allowed };
 }
 
 impl WholeKind for Iri {
     ghost whole = { iri-whole };
+
+    ghost allows = { allows_iri };
+
+    ghost made = { iri-made };
+
+    ghost allowed = { iri-allowed };
 }
 
 impl WholeKind for Absolute {
     ghost whole = { absolute-whole };
+
+    ghost allows = { allows_absolute };
+
+    ghost made = { absolute-made };
+
+    ghost allowed = { absolute-allowed };
 }
 
 impl WholeKind for Relative {
     ghost whole = { relative-whole };
+
+    ghost allows = { allows_relative };
+
+    ghost made = { relative-made };
+
+    ghost allowed = { relative-allowed };
 }
 
 impl SchemeKind for Iri {
@@ -147,8 +186,14 @@ impl SchemeKind for Absolute {
     ghost has_scheme = { absolute-scheme };
 }
 
-impl FragmentKind for Reference {}
+impl FragmentKind for Reference {
+    ghost free_fragment = { λ scheme fragment other. refl };
+}
 
-impl FragmentKind for Iri {}
+impl FragmentKind for Iri {
+    ghost free_fragment = { λ scheme fragment other. refl };
+}
 
-impl FragmentKind for Relative {}
+impl FragmentKind for Relative {
+    ghost free_fragment = { λ scheme fragment other. refl };
+}
