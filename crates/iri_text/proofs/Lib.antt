@@ -7,3 +7,7 @@ mod Steps
 mod Writes
 pub mod Puts
 pub mod Digits
+pub mod ThroughLaws
+mod Room
+pub mod ByCharsLaws
+pub mod CharSteps

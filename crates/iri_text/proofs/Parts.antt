@@ -1,10 +1,14 @@
 -- Parts of a list, and lines in them.
-use Rattle.std.proofs.Common.{◌≡◌, ◌≢◌, ℕ, zero, suc, ◌+◌, ◌-◌, ◌<◌, ◌≤◌, List, [], ◌∷◌, ◌++◌, length, get_or, take, drop, slice_range, Option, None, Some, MatchOption, refl, sym, ◌∙◌, ap, subst, arith, take-add, drop-drop, drop-cons, eq-eqb, eqb-true}
+use Rattle.std.proofs.Common.{◌≡◌, ◌≢◌, inl, inr, ℕ, zero, suc, ◌+◌, ◌-◌, ◌<◌, ◌≤◌, List, [], ◌∷◌, ◌++◌, length, get_or, take, drop, slice_range, Option, None, Some, MatchOption, refl, sym, ◌∙◌, ap, subst, arith, take-add, drop-drop, drop-cons, eq-eqb, eqb-true, false}
 use Rattle.std.proofs.Math.Seq.{take-suc, take-length}
+use Rattle.std.proofs.Math.Dec.{ltb}
+use Rattle.std.proofs.lemmas.Bool.{ltb-false, le-ltb, cases_lt}
+use Rattle.std.proofs.lemmas.List.{take_all}
 use Rattle.std.proofs.lemmas.Bool.Decides.{nat_tests}
 use Rattle.std.proofs.lemmas.Grind.{common_steps}
 use Rattle.memchr.specs.Find.{IsFirstByte, is_byte}
 use Rattle.iri_text.specs.Lines.{NoLf, no_cr}
+use Rattle.iri_text.specs.Line.{IsFirstLf}
 
 pub length-part : (xs : List ℕ) (a b : ℕ) → b ≤ length xs → length (slice_range xs a b) ≡ b - a
 length-part xs a b h = grind (arith, common_steps)
@@ -61,13 +65,17 @@ no_lf_at [] i n h = absurd (omega arith)
 no_lf_at (x ∷ xs) zero n h = n.0
 no_lf_at (x ∷ xs) (suc i) n h = no_lf_at xs i n.1 (omega arith)
 
--- whether a part has an LF, by a search of it
-pub lf_or_none : (xs : List ℕ) (a b : ℕ) (r : Option ℕ) → a ≤ b → b ≤ length xs → IsFirstByte (is_byte 10) (slice_range xs a b) r
-    → MatchOption r (NoLf (slice_range xs a b)) (λ _. NoLf (slice_range xs a b) → ⊥)
-lf_or_none xs a b None h k is = found xs a b None h k is
-lf_or_none xs a b (Some i) h k is = λ n.
-    let f = found xs a b (Some i) h k is in
-    no_lf_at (slice_range xs a b) i n (omega (arith, f.0, length-part xs a b k)) (get_or-part xs a b i f.0 ∙ f.2)
+-- whether a part has an LF, by the place of the first one
+pub lf_told : (xs : List ℕ) (a b lf : ℕ) → b ≤ length xs → IsFirstLf (slice_range xs a b) lf
+    → (NoLf (slice_range xs a b) → ltb lf (b - a) ≡ false) × (ltb lf (b - a) ≡ false → NoLf (slice_range xs a b))
+lf_told xs a b lf h is =
+    let long = length-part xs a b h in (
+      λ n. elim (cases_lt lf (b - a)) [
+        | inl l ↦ absurd (no_lf_at (slice_range xs a b) lf n (omega (arith, long, l)) (is.found (omega (arith, long, l))))
+        | inr l ↦ le-ltb lf (b - a) l
+      ],
+      λ t. subst NoLf (take_all lf (slice_range xs a b) (omega (arith, long, ltb-false lf (b - a) t))) is.no_lf,
+    )
 
 pub NoLf-take : (xs : List ℕ) (m n : ℕ) → m ≤ n → NoLf (take n xs) → NoLf (take m xs)
 NoLf-take xs zero n h p = tt

@@ -2,7 +2,7 @@
 use Rattle.std.proofs.Common.{◌≡◌, ℕ, ◌+◌, ◌-◌, ◌<◌, ◌≤◌, Bool, false, List, ◌∷◌, ◌++◌, length, get_or, take, drop, slice_range, Option, Result, refl, sym, ◌∙◌, ap, subst, arith, true≢false, inl, suc, drop-cons, drop-drop, length-append}
 use Rattle.std.proofs.lemmas.List.{take-append-drop, take-take, drop-take, drop_all, length-take-le}
 use Rattle.iri_text.specs.Lines.{NoLf, no_cr}
-use Rattle.iri_text.specs.Line.{LineState, IsLaidOut}
+use Rattle.iri_text.specs.Line.{LineState, IsFirstLf, IsLaidOut}
 use Rattle.iri_text.specs.Reader.{Advances, Says, HasCause, GivesLine, IsTooLong, IsOver, is_final}
 use Rattle.iri_text.specs.declared.reader.LineFault.{LineFault}
 use Rattle.iri_text.proofs.Moved.{Moved}
@@ -27,7 +27,7 @@ around xs i b h e =
     sym (take-append-drop i xs) ∙ ap (λ (l : List ℕ). take i xs ++ l) (drop-cons xs i 0 h ∙ ap (λ (c : ℕ). c ∷ drop (suc i) xs) e) ∙ ap (λ (k : ℕ). take i xs ++ b ∷ drop k xs) (sym one)
 
 -- no more is held than was taken
-pub few : {buf : List ℕ} {b : Bool} {start end seen ls le taken limit input : ℕ} → IsLaidOut buf b start end seen ls le taken limit input → length (slice_range buf start end) ≤ taken
+pub few : {buf : List ℕ} {b : Bool} {start end lf ls le taken limit input : ℕ} → IsLaidOut buf b start end lf ls le taken limit input → length (slice_range buf start end) ≤ taken
 few {buf = buf} {start = start} {end = end} is = omega (arith, length-part buf start end is.end_in, is.all)
 
 -- what was moved and what the answer says
@@ -108,13 +108,12 @@ part-kept xs ys a b h e =
     by_drop xs ∙ ap (λ (l : List ℕ). drop a l) e ∙ sym (by_drop ys)
 
 -- The bytes that are held lie from `at` on, k of them, and n more came.
-module _ (buf old : List ℕ) (b : Bool) (fresh : b ≡ false) (at start end k n seen ls le taken limit input : ℕ) (kept : slice_range buf at (at + k) ≡ slice_range old start end) (len : length buf ≡ length old)
-    (was : IsLaidOut old b start end seen ls le taken limit input) (is_all : k ≡ end - start) (fits : at + k + n ≤ length buf) (no_lf : NoLf (slice_range old start end)) where
-  pub next_sound : taken + n ≤ input + 1 → (input < taken + n → 0 < n) → IsLaidOut buf b at (at + k + n) k ls le (taken + n) limit input
-  next_sound count over = record {
+module _ (buf old : List ℕ) (b : Bool) (fresh : b ≡ false) (at start end k n lf ls le taken limit input : ℕ) (kept : slice_range buf at (at + k) ≡ slice_range old start end) (len : length buf ≡ length old)
+    (was : IsLaidOut old b start end lf ls le taken limit input) (is_all : k ≡ end - start) (fits : at + k + n ≤ length buf) (no_lf : NoLf (slice_range old start end)) where
+  pub next_sound : (m : ℕ) → taken + n ≤ input + 1 → (input < taken + n → 0 < n) → IsFirstLf (slice_range buf at (at + k + n)) m → IsLaidOut buf b at (at + k + n) m ls le (taken + n) limit input
+  next_sound m count over first = record {
     start_in = omega arith;
     end_in = fits;
-    seen_in = omega arith;
     line_in = was.line_in;
     line_end_in = omega (arith, was.line_end_in, len);
     room = omega (arith, was.room, len);
@@ -124,18 +123,21 @@ module _ (buf old : List ℕ) (b : Bool) (fresh : b ≡ false) (at start end k n
     all = omega (arith, was.all, was.start_in, is_all);
     over = λ h. omega (arith, over h);
     none_held = λ h. absurd (true≢false (sym h ∙ fresh));
-    no_lf = subst NoLf (sym kept ∙ part-front buf at (at + k + n) k (omega arith)) no_lf;
+    first = first;
   }
+
+  -- those that were held have no LF
+  pub next_no_lf : NoLf (take k (slice_range buf at (at + k + n)))
+  next_no_lf = subst NoLf (sym kept ∙ part-front buf at (at + k + n) k (omega arith)) no_lf
 
   pub next_held : slice_range buf at (at + k + n) ≡ slice_range old start end ++ slice_range buf (at + k) (at + k + n)
   next_held = part-split buf at (at + k) (at + k + n) (omega arith) (omega arith) ∙ ap (λ (l : List ℕ). l ++ slice_range buf (at + k) (at + k + n)) kept
 
-pub kept_sound : (buf old : List ℕ) (b : Bool) → b ≡ false → (at start end k seen ls le taken limit input : ℕ) → slice_range buf at (at + k) ≡ slice_range old start end → length buf ≡ length old
-    → IsLaidOut old b start end seen ls le taken limit input → k ≡ end - start → at + k ≤ length buf → NoLf (slice_range old start end) → taken ≤ input → IsLaidOut buf b at (at + k) k ls le taken limit input
-kept_sound buf old b fresh at start end k seen ls le taken limit input kept len was is_all fits no_lf in_limit = record {
+pub kept_sound : (buf old : List ℕ) (b : Bool) → b ≡ false → (at start end k lf ls le taken limit input : ℕ) → slice_range buf at (at + k) ≡ slice_range old start end → length buf ≡ length old
+    → IsLaidOut old b start end lf ls le taken limit input → k ≡ end - start → at + k ≤ length buf → taken ≤ input → IsLaidOut buf b at (at + k) lf ls le taken limit input
+kept_sound buf old b fresh at start end k lf ls le taken limit input kept len was is_all fits in_limit = record {
   start_in = omega arith;
   end_in = fits;
-  seen_in = omega arith;
   line_in = was.line_in;
   line_end_in = omega (arith, was.line_end_in, len);
   room = omega (arith, was.room, len);
@@ -145,5 +147,5 @@ kept_sound buf old b fresh at start end k seen ls le taken limit input kept len 
   all = omega (arith, was.all, was.start_in, is_all);
   over = λ h. absurd (omega (arith, h, in_limit));
   none_held = λ h. absurd (true≢false (sym h ∙ fresh));
-  no_lf = subst NoLf (sym kept ∙ part-front buf at (at + k) k (omega arith)) no_lf;
+  first = subst (λ (l : List ℕ). IsFirstLf l lf) (sym kept) was.first;
 }

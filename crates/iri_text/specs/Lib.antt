@@ -8,10 +8,14 @@ pub mod Limits
 pub mod Line
 pub mod Look
 pub mod View
+pub mod Takings
+pub mod MemoryPuts
 pub mod Reader
 pub mod Examples
 pub mod Shown
 pub mod Compose
+pub mod Through
+pub mod ByChars
 pub mod SliceText
 pub mod SliceLaws
 pub mod SliceView

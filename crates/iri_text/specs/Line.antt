@@ -1,5 +1,5 @@
 -- What a reader of lines is seen as.
-use Rattle.std.specs.Prelude.{◌≡◌, ◌<◌, ◌≤◌, ◌+◌, ◌^◌, ℕ, Bool, true, List, length, take, slice_range}
+use Rattle.std.specs.Prelude.{◌≡◌, ◌<◌, ◌≤◌, ◌+◌, ◌^◌, ℕ, Bool, true, List, length, take, slice_range, get_or}
 use Rattle.iri_text.specs.Lines.{NoLf}
 
 -- what a reader of lines holds, and what its calls told
@@ -18,11 +18,16 @@ pub record LineState : Type 0 where
   pub line_limit : ℕ
   pub input_limit : ℕ
 
+-- the first LF stands there, or there is none and this is the length
+pub record IsFirstLf (bytes : List ℕ) (lf : ℕ) : Type 0 where
+  pub within : lf ≤ length bytes
+  pub no_lf : NoLf (take lf bytes)
+  pub found : lf < length bytes → get_or bytes lf 0 ≡ 10
+
 -- where the parts lie in the buffer
-pub record IsLaidOut (buf : List ℕ) (ended : Bool) (start end seen line_start line_end taken line_limit input_limit : ℕ) : Type 0 where
+pub record IsLaidOut (buf : List ℕ) (ended : Bool) (start end lf line_start line_end taken line_limit input_limit : ℕ) : Type 0 where
   pub start_in : start ≤ end
   pub end_in : end ≤ length buf
-  pub seen_in : start + seen ≤ end
   pub line_in : line_start ≤ line_end
   pub line_end_in : line_end ≤ length buf
   pub room : length buf ≡ line_limit + 65536
@@ -30,6 +35,6 @@ pub record IsLaidOut (buf : List ℕ) (ended : Bool) (start end seen line_start 
   pub limit : input_limit < 2 ^ 63
   pub count : taken ≤ input_limit + 1
   pub all : end ≤ start + taken
-  pub over : input_limit < taken → start + seen < end
+  pub over : input_limit < taken → start < end
   pub none_held : ended ≡ true → end ≤ start
-  pub no_lf : NoLf (take seen (slice_range buf start end))
+  pub first : IsFirstLf (slice_range buf start end) lf

@@ -1,5 +1,5 @@
 -- What the sources and the sink over memory are seen as. Lengths, cuts and room are counts of bytes.
-use Rattle.std.specs.Prelude.{ℕ, ◌-◌, List, length, min, Option, None, Some, slice_get}
+use Rattle.std.specs.Prelude.{◌≡◌, ℕ, ◌+◌, ◌-◌, ◌^◌, List, length, min, Option, None, Some, slice_get}
 
 -- The bytes that are left, the most bytes that each call gives, the numbers of the calls that fail,
 -- the number of the last call, from 1 and at most 2^64 - 1, and how often it failed.
@@ -9,6 +9,12 @@ pub record SourceState : Type 0 where
   pub fails : List ℕ
   pub calls : ℕ
   pub faults : ℕ
+
+-- the number of the last call is the next one, and the cuts and the failing calls are the same
+pub record IsNextCall (old new : SourceState) : Type 0 where
+  pub calls : new.calls ≡ min (old.calls + 1) (2 ^ 64 - 1)
+  pub cuts : new.cuts ≡ old.cuts
+  pub fails : new.fails ≡ old.fails
 
 -- The bytes that were written, how many there can be, the numbers of the calls that fail,
 -- the number of the last call, from 1 and at most 2^64 - 1, and how often it failed.

@@ -1,5 +1,5 @@
 -- What a call does to a sink.
-use Rattle.std.specs.Prelude.{◌≡◌, ◌≤◌, ℕ, Bool, false, List, ◌++◌, ⊤, Option, None, Some, Result, OnOk, OnErr}
+use Rattle.std.specs.Prelude.{◌≡◌, ◌≤◌, ℕ, List, ◌++◌, ⊤, Option, None, Some, Result, OnOk, OnErr}
 use Rattle.iri_text.specs.Count.{Rose}
 use Rattle.iri_text.specs.declared.Failed.{Failed}
 
@@ -25,10 +25,9 @@ pub record PutsAll (written_old written_new : Option (List ℕ)) (faults_old fau
   pub cause : OnErr result (Rose faults_old faults_new)
   pub front : OnErr result (AppendsFront written_old written_new piece)
 
--- What is written stays as it was, and where it is answered Ok nothing is held back. It failed only where the count of faults rose.
-pub record Flushes (written_old written_new : Option (List ℕ)) (unflushed_new : Bool) (faults_old faults_new : ℕ) (result : Result (Unit {0}) Failed) : Type 0 where
+-- What is written stays as it was. It failed only where the count of faults rose.
+pub record Flushes (written_old written_new : Option (List ℕ)) (faults_old faults_new : ℕ) (result : Result (Unit {0}) Failed) : Type 0 where
   pub kept : written_new ≡ written_old
-  pub handed_on : OnOk result (unflushed_new ≡ false)
   pub same : OnOk result (faults_new ≡ faults_old)
   pub later : faults_old ≤ faults_new
   pub cause : OnErr result (Rose faults_old faults_new)

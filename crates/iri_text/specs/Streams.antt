@@ -1,5 +1,5 @@
 -- What the source and the sink over std's readers and writers are seen as, and what they do to them.
-use Rattle.std.specs.Prelude.{◌≡◌, ℕ, Bool, List, ◌++◌, Option}
+use Rattle.std.specs.Prelude.{◌≡◌, ℕ, List, ◌++◌, Option}
 use Rattle.std.specs.Io.KnownBytes.{Appends}
 
 -- the reader, and how often it failed, at most 2^64 - 1
@@ -7,10 +7,9 @@ pub record Reading (R : Type 0) : Type 0 where
   pub inner : R
   pub faults : ℕ
 
--- the writer, whether bytes went to it since it was last flushed, and how often it failed, at most 2^64 - 1
+-- the writer, and how often it failed, at most 2^64 - 1
 pub record Writing (W : Type 0) : Type 0 where
   pub inner : W
-  pub unflushed : Bool
   pub faults : ℕ
 
 -- a writer that tells its bytes has a front of these behind them

@@ -15,4 +15,4 @@ line_state a = record {
 }
 
 abbrev pub IsSound : Inside → Type 0
-IsSound a = IsLaidOut a.buf.items a.ended a.start a.end a.seen a.line_start a.line_end a.taken a.line_limit a.input_limit
+IsSound a = IsLaidOut a.buf.items a.ended a.start a.end a.lf a.line_start a.line_end a.taken a.line_limit a.input_limit

@@ -6,7 +6,7 @@ use std::fmt;
 use std::marker::Model;
 
 /// Owns a text, and is seen as its UTF-8 bytes.
-#[derive(Drop)]
+#[derive(Debug, Drop)]
 pub struct Text {
     string: String,
 }
@@ -59,7 +59,7 @@ impl fmt::Display for Text {
 }
 
 /// Owns bytes, and is seen as their list.
-#[derive(Drop)]
+#[derive(Debug, Drop)]
 pub struct Bytes {
     vec: Vec<u8>,
 }

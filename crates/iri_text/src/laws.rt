@@ -1,7 +1,10 @@
-// What holds of the lines of a text and of the limits.
+// What holds of the lines of a text, of the limits, and of a sink over memory.
 ghost use Rattle.std.specs.Prelude.{◌≡◌, ◌≢◌, ◌≤◌, ◌<◌, ◌+◌, ℕ, List, [], ◌∷◌, ◌++◌, length, Some, None};
+ghost use Rattle.std.specs.List.{concat};
 ghost use Rattle.iri_text.specs.Lines.{NoLf, no_cr, lines};
 ghost use Rattle.iri_text.specs.Limits.{limit_fault};
+ghost use Rattle.iri_text.specs.Memory.{SinkState};
+ghost use Rattle.iri_text.specs.MemoryPuts.{PutsEach};
 ghost use Rattle.iri_text.specs.declared.reader.LineFault.TheVariants.{LineTooLong, InputTooLong};
 
 /// What comes before the first LF, without one CR at its end, is the first line. The others are the lines of what follows.
@@ -38,4 +41,10 @@ pub fn input_past_its_limit()
 pub fn line_within_its_limits()
     ensures { (line input place : ℕ) (raw rest : List ℕ) → NoLf raw → length raw ≤ line → place + length raw < input →
         limit_fault line input place 0 (raw ++ 10 ∷ rest) ≡ None }
+{}
+
+/// A sink over memory that is told no failing calls and has room for all the pieces fails at none of them, and has them all.
+pub fn memory_sink_with_room()
+    ensures { (old new : SinkState) (pieces : List (List ℕ)) → PutsEach old pieces new → old.fails ≡ [] → length old.written + length (concat pieces) ≤ old.room →
+        (new.faults ≡ old.faults) × (new.written ≡ old.written ++ concat pieces) }
 {}

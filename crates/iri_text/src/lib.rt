@@ -1,7 +1,7 @@
 //! Sources and sinks of bytes, the lines of a source, and values with a text that they show to a sink.
 //!
-//! - [`Source`] gives bytes, [`Sink`] takes them. Each may tell which bytes, and each counts its faults. A sink may hold bytes
-//!   back until it is flushed.
+//! - [`Source`] gives bytes, [`Sink`] takes them. Each may tell which bytes, and each counts its faults. A sink may buffer bytes
+//!   until it is flushed.
 //! - [`PlainSource`], [`MemorySource`] and [`MemorySink`] work on slices; the last two fail as they are told.
 //! - [`ReadSource`] and [`WriteSink`] work on std's readers and writers.
 //! - [`LineReader`] gives the lines of any source, with a limit for the bytes of a line and one for those of the whole input.
@@ -12,9 +12,8 @@
 //! - [`show_two`] to [`show_five`] and [`show_each`] show values in a row: a `show` of several pieces is one call of these.
 //! - [`Text`] and [`Bytes`] own a text and bytes.
 //!
-//! Proved: every source and sink here keeps its trait (`Takes`, `PutsAll`, `Flushes`): what was taken or put, that a sink
-//! counts nothing as held back once it answers Ok to a flush, that the count of faults never falls, and that it rose where a
-//! call failed.
+//! Proved: every source and sink here keeps its trait (`Takes`, `PutsAll`, `Flushes`): what was taken or put, that a flush
+//! keeps what is written, that the count of faults never falls, and that it rose where a call failed.
 //! `MemorySource` and `MemorySink` fail exactly where they are told to or have no room, `PlainSource` never. A `LineReader`
 //! gives the next of the `lines` of what is still to come, answers that a limit is passed exactly where one is and names the
 //! one that is passed first, and keeps what it took after every fault.
@@ -24,19 +23,18 @@
 //! `write_to_slice` refuses exactly where the text is longer than the slice. `display` fails only where the count of pieces that
 //! the formatter refused rises.
 //!
-//! Not proved: what a real stream does, and what a writer still holds once its `flush` answered Ok, of which std's contract of
+//! Not proved: what a real stream does, and what a writer still buffers once its `flush` answered Ok, of which std's contract of
 //! writers says nothing. As a source and a sink, `ReadSource` and `WriteSink` tell no bytes; they are proved to pass on the
 //! bytes of a reader or a writer that tells its own, as one over memory. Which of their calls fail is the reader's or the
 //! writer's matter; that they fail only where it does, and that a flush reaches the writer, is tested. So are that
 //! `LineReader::new` gets its memory, that memory is had where a string grows, and that a `Display` here fails only where the
 //! formatter does.
 //!
-//! No clause sees how many of the bytes that it holds a `LineReader` has looked at (`seen`), and none needs to: behind a line
-//! it is 0, and no call may follow another answer. That lines come out the same in whatever pieces a source gives them is
-//! proved, and `reader/tests.rt` shows it byte by byte.
+//! A `LineReader` looks at each byte for an LF once, and keeps where the first one stands, so `holds_lf` looks at none. That lines
+//! come out the same in whatever pieces a source gives them is proved, and `reader/tests.rt` shows it byte by byte.
 #![tactic(auto)]
 
-ghost use Rattle.std.specs.Prelude.{ℕ, Bool, false, List, Option};
+ghost use Rattle.std.specs.Prelude.{ℕ, List, Option, ⊤};
 ghost use Rattle.iri_text.specs.Source.{Takes};
 ghost use Rattle.iri_text.specs.Sink.{PutsAll, Flushes};
 
@@ -84,19 +82,20 @@ pub trait Source {
     /// How often it failed, up to 2^64 - 1, where the count stays.
     ghost faults: { Self → ℕ };
 
+    /// One call of `take` leads from this source to that one. A source that says no more of its calls needn't give it.
+    ghost call: { Self → Self → Type 0 } = { λ _ _. ⊤ };
+
     /// Puts the next bytes at the front of `buf` and answers how many, at most its length. The answer is 0 only where nothing
     /// is left or `buf` is empty. It fails only where the count of faults rises, and takes nothing then.
     fn take(&mut self, buf: &mut [u8]) -> Result<usize, Failed>
-        ensures { Takes (left self.old) (left self.new) (faults self.old) (faults self.new) result buf.new };
+        ensures takes { Takes (left self.old) (left self.new) (faults self.old) (faults self.new) result buf.new }
+        ensures call { call self.old self.new };
 }
 
-/// Where bytes go. A sink may hold back what is put, until it is flushed.
+/// Where bytes go. `put_all` alone is to be given.
 pub trait Sink {
-    /// The bytes that were written, where the sink tells them. Those that it holds back are among them.
+    /// The bytes that were written, where the sink tells them. Those that it buffers are among them.
     ghost written: { Self → Option (List ℕ) };
-
-    /// Whether it may hold some of them back. A sink that doesn't say otherwise never does.
-    ghost unflushed: { Self → Bool } = { λ _. false };
 
     /// How often it failed, up to 2^64 - 1, where the count stays.
     ghost faults: { Self → ℕ };
@@ -105,8 +104,11 @@ pub trait Sink {
     fn put_all(&mut self, piece: &[u8]) -> Result<(), Failed>
         ensures { PutsAll (written self.old) (written self.new) (faults self.old) (faults self.new) result piece.now };
 
-    /// Hands on what is held back: where it answers Ok, nothing is. It fails only where the count of faults rises. What is
-    /// written stays as it was.
+    /// Hands on what the sink buffers. It fails only where the count of faults rises, and what is written stays as it was. A sink
+    /// that buffers nothing needn't give it: nothing is done then.
     fn flush(&mut self) -> Result<(), Failed>
-        ensures { Flushes (written self.old) (written self.new) (unflushed self.new) (faults self.old) (faults self.new) result };
+        ensures { Flushes (written self.old) (written self.new) (faults self.old) (faults self.new) result }
+    {
+        Ok(())
+    }
 }

@@ -53,7 +53,7 @@ impl<'a> MemorySink<'a> {
 }
 
 impl<'a> Sink for MemorySink<'a> {
-    ghost use Rattle.std.specs.Prelude.{◌≡◌, ◌≤◌, ◌<◌, ◌+◌, ◌-◌, ◌^◌, ◌⊎◌, ◌↔◌, false, min, length, Some, IsOk, IsErr, OnErr, Contains};
+    ghost use Rattle.std.specs.Prelude.{◌≡◌, ◌≤◌, ◌<◌, ◌+◌, ◌-◌, ◌^◌, ◌⊎◌, ◌↔◌, min, length, Some, IsOk, IsErr, OnErr, Contains};
     ghost use Rattle.iri_text.specs.Sink.{PutsAll, Flushes};
 
     ghost written = { λ s. Some s.written };
@@ -82,7 +82,7 @@ impl<'a> Sink for MemorySink<'a> {
 
     /// Nothing is ever held back: it never fails, and changes nothing.
     fn flush(&mut self) -> Result<(), Failed>
-        ensures flushes { Flushes (Some self.old.written) (Some self.new.written) false self.old.faults self.new.faults result }
+        ensures flushes { Flushes (Some self.old.written) (Some self.new.written) self.old.faults self.new.faults result }
         ensures succeeds { IsOk result }
         ensures same { self.new ≡ self.old }
     {

@@ -64,15 +64,18 @@ fn count_of(len: usize, cuts: &[usize], number: u64) -> usize
 impl<'a> Source for MemorySource<'a> {
     ghost use Rattle.std.specs.Prelude.{◌≡◌, ◌+◌, ◌-◌, ◌^◌, ◌↔◌, Some, min, length, Contains, IsErr, IfOk};
     ghost use Rattle.iri_text.specs.Source.{Takes};
-    ghost use Rattle.iri_text.specs.Memory.{cut_of, capped};
+    ghost use Rattle.iri_text.specs.Memory.{cut_of, capped, IsNextCall};
 
     ghost left = { λ s. Some s.left };
 
     ghost faults = { λ s. s.faults };
 
+    ghost call = { IsNextCall };
+
     /// Fails exactly where the number of the call stands in `fails`.
     fn take(&mut self, buf: &mut [u8]) -> Result<usize, Failed>
         ensures takes { Takes (Some self.old.left) (Some self.new.left) self.old.faults self.new.faults result buf.new }
+        ensures call { IsNextCall self.old self.new }
         ensures calls { self.new.calls ≡ min (self.old.calls + 1) (2 ^ 64 - 1) }
         ensures exact { IsErr result ↔ Contains self.old.fails self.new.calls }
         ensures count { IfOk result (λ n. n ≡ capped (cut_of self.old.cuts self.new.calls) (min (length self.old.left) (length buf.old))) }

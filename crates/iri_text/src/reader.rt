@@ -1,10 +1,12 @@
 // Lines of a source.
 ghost use Rattle.std.specs.Prelude.{◌≡◌, ◌↔◌, ◌≤◌, ◌<◌, ◌+◌, ◌-◌, ◌^◌, [], ◌++◌, true, false, length, take, slice_range, slice_index, IfOk, OnErr};
 ghost use Rattle.iri_text.specs.Lines.{NoLf, no_cr};
+ghost use Rattle.iri_text.specs.Line.{IsFirstLf};
 ghost use Rattle.iri_text.specs.Source.{Consumes, IsAtEnd};
 ghost use Rattle.iri_text.specs.Count.{Rose};
 ghost use Rattle.iri_text.specs.Reader.{Advances, is_final, done_by};
 ghost use Rattle.iri_text.specs.Look.{Looks};
+ghost use Rattle.iri_text.specs.Takings.{TakesAsNeeded};
 
 use crate::{Failed, Source};
 use memchr::memchr;
@@ -28,11 +30,11 @@ pub enum LineFault {
 /// directly before the LF, or before the end of the last line, isn't part of the line.
 #[derive(Drop)]
 pub struct LineReader {
-    // What is held lies from `start` to `end`. Its first `seen` bytes have no LF.
+    // What is held lies from `start` to `end`. Its first LF is the byte `lf`, counted from `start`, or `lf` is its length.
     buf: Vec<u8>,
     start: usize,
     end: usize,
-    seen: usize,
+    lf: usize,
     line_start: usize,
     line_end: usize,
     taken: u64,
@@ -66,19 +68,32 @@ enum Look {
     More,
 }
 
-// Looks for a line. Before `seen` there is no LF, and from `usable` on nothing counts.
-fn look_at(held: &[u8], seen: usize, usable: usize, limit: usize) -> Look
-    requires seen { seen ≤ usable }
+// Where the first LF stands, or the length where there is none. There is none before `from`.
+fn find_lf(held: &[u8], from: usize) -> usize
+    requires from { from ≤ length held.now }
+    requires no_lf { NoLf (take from held.now) }
+    ensures { IsFirstLf held.now result }
+{
+    match memchr(b'\n', &held[from..]) {
+        Some(i) => from + i,
+        None => held.len(),
+    }
+}
+
+// What stands there, by the first LF. From `usable` on nothing counts.
+fn look_at(held: &[u8], lf: usize, usable: usize, limit: usize) -> Look
     requires usable { usable ≤ length held.now }
-    requires no_lf { NoLf (take seen held.now) }
+    requires first { IsFirstLf held.now lf }
     ensures { Looks held.now usable limit result }
 {
-    match memchr(b'\n', &held[seen..usable]) {
-        Some(i) if seen + i <= limit => Look::Line(seen + i),
-        Some(_) => Look::TooLong,
-        None if usable > limit => Look::TooLong,
-        None if usable < held.len() => Look::Over,
-        None => Look::More,
+    if lf.min(usable) > limit {
+        Look::TooLong
+    } else if lf < usable {
+        Look::Line(lf)
+    } else if usable < held.len() {
+        Look::Over
+    } else {
+        Look::More
     }
 }
 
@@ -142,6 +157,7 @@ fn fill<I: Source>(
     ensures later { I.faults source.old ≤ I.faults source.new }
     ensures cause { OnErr result (Rose (I.faults source.old) (I.faults source.new)) }
     ensures nothing { OnErr result (Consumes (I.left source.old) (I.left source.new) []) }
+    ensures call { I.call source.old source.new }
 {
     let to = end + most.min(buf.len() - end);
     source.take(&mut buf[end..to])
@@ -164,7 +180,7 @@ impl LineReader {
             buf,
             start: 0,
             end: 0,
-            seen: 0,
+            lf: 0,
             line_start: 0,
             line_end: 0,
             taken: 0,
@@ -183,10 +199,11 @@ impl LineReader {
     }
 
     /// Goes to the next line, and says whether there is one: `line` gives it. No earlier call may have answered `false` or a
-    /// fault, which `is_done` tells. Bytes are taken only where those that are held have no LF.
+    /// fault, which `is_done` tells. Bytes are taken only while those that are held have no LF.
     pub fn advance<I: Source>(&mut self, source: &mut I) -> Result<bool, LineFault>
         requires { self.old.done ≡ false }
-        ensures { Advances self.old self.new (I.left source.old) (I.left source.new) (I.faults source.old) (I.faults source.new) result }
+        ensures needed { TakesAsNeeded I.call I.left self.old.held source.old source.new }
+        ensures advances { Advances self.old self.new (I.left source.old) (I.left source.new) (I.faults source.old) (I.faults source.new) result }
     {
         let answer = self.find_line(source);
         self.done = is_last(&answer);
@@ -195,7 +212,8 @@ impl LineReader {
 
     // The same, but for `done`.
     fn find_line<I: Source>(&mut self, source: &mut I) -> Result<bool, LineFault>
-        ensures { Advances self.old (done_by result self.new) (I.left source.old) (I.left source.new) (I.faults source.old) (I.faults source.new) result }
+        ensures needed { TakesAsNeeded I.call I.left self.old.held source.old source.new }
+        ensures advances { Advances self.old (done_by result self.new) (I.left source.old) (I.left source.new) (I.faults source.old) (I.faults source.new) result }
     {
         if self.ended {
             return Ok(false);
@@ -203,12 +221,12 @@ impl LineReader {
         loop {
             let held = &self.buf[self.start..self.end];
             let usable = usable_len(held.len(), self.taken, self.input_limit);
-            match look_at(held, self.seen, usable, self.line_limit) {
+            match look_at(held, self.lf, usable, self.line_limit) {
                 Look::Line(i) => {
                     self.line_start = self.start;
                     self.line_end = self.start + line_len(&held[..i]);
                     self.start += i + 1;
-                    self.seen = 0;
+                    self.lf = find_lf(&self.buf[self.start..self.end], 0);
                     return Ok(true);
                 }
                 Look::TooLong => return Err(LineFault::LineTooLong),
@@ -218,7 +236,6 @@ impl LineReader {
             let len = self.end - self.start;
             self.start = make_room(&mut self.buf, self.start, self.end);
             self.end = self.start + len;
-            self.seen = len;
             let most = (self.input_limit - self.taken) as usize + 1;
             match fill(&mut self.buf, self.end, most, source) {
                 Ok(0) if len == 0 => return Ok(false),
@@ -226,13 +243,14 @@ impl LineReader {
                     self.line_start = self.start;
                     self.line_end = self.start + line_len(&self.buf[self.start..self.end]);
                     self.start = self.end;
-                    self.seen = 0;
+                    self.lf = 0;
                     self.ended = true;
                     return Ok(true);
                 }
                 Ok(n) => {
                     self.end += n;
                     self.taken += n as u64;
+                    self.lf = find_lf(&self.buf[self.start..self.end], len);
                 }
                 Err(Failed) => return Err(LineFault::Source),
             }
@@ -243,10 +261,7 @@ impl LineReader {
     pub fn holds_lf(&self) -> bool
         ensures { NoLf self.now.held ↔ (result ≡ false) }
     {
-        match memchr(b'\n', &self.buf[self.start..self.end]) {
-            Some(_) => true,
-            None => false,
-        }
+        self.lf < self.end - self.start
     }
 
     /// Whether a call answered that there is no line, or a fault. No call may follow then.
@@ -259,9 +274,10 @@ impl LineReader {
     /// The next line, or `None` at the end. No earlier call may have answered `None` or a fault, which `is_done` tells.
     pub fn next_line<I: Source>(&mut self, source: &mut I) -> Result<Option<&[u8]>, LineFault>
         requires { self.old.done ≡ false }
+        ensures needed { TakesAsNeeded I.call I.left self.old.held source.old source.new }
 
         // `after` is the reader once the line is let go.
-        ensures* { sem 𝓛 (follows_so the_row the_row self.entry.ghost_name none (λ _ _. ⊤)
+        ensures* next { sem 𝓛 (follows_so the_row the_row self.entry.ghost_name none (λ _ _. ⊤)
             (λ after. NextLine self.old after (I.left source.old) (I.left source.new) (I.faults source.old) (I.faults source.new) result)) }
     {
         match self.advance(source) {

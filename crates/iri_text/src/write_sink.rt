@@ -1,5 +1,5 @@
 // A sink over std's writers. It tells no bytes: what a real stream takes is not known.
-ghost use Rattle.std.specs.Prelude.{◌≡◌, None, false};
+ghost use Rattle.std.specs.Prelude.{◌≡◌, None};
 
 use crate::{Failed, Sink};
 use std::io::Write;
@@ -9,8 +9,6 @@ use std::marker::Model;
 #[derive(Drop)]
 pub struct WriteSink<W> {
     writer: W,
-    // Bytes went to the writer since it was last flushed.
-    unflushed: bool,
     faults: u64,
 }
 
@@ -19,34 +17,27 @@ impl<W> Model for WriteSink<W> {
 
     ghost Value = { Writing W };
 
-    ghost view = { λ s. record { inner = s.writer; unflushed = s.unflushed; faults = s.faults } };
+    ghost view = { λ s. record { inner = s.writer; faults = s.faults } };
 }
 
 impl<W: Write> WriteSink<W> {
-    /// It has not failed yet, and never tells what is written. No byte went to the writer through it.
+    /// It has not failed yet, and never tells what is written.
     pub fn new(writer: W) -> WriteSink<W>
         ensures writer { result.inner ≡ writer }
         ensures written { ⟦<WriteSink<W> as Sink>⟧.written result ≡ None }
-        ensures unflushed { ⟦<WriteSink<W> as Sink>⟧.unflushed result ≡ false }
         ensures faults { ⟦<WriteSink<W> as Sink>⟧.faults result ≡ 0 }
     {
-        WriteSink {
-            writer,
-            unflushed: false,
-            faults: 0,
-        }
+        WriteSink { writer, faults: 0 }
     }
 }
 
 impl<W: Write> Sink for WriteSink<W> {
-    ghost use Rattle.std.specs.Prelude.{◌≡◌, ◌≢◌, ◌+◌, ◌-◌, ◌^◌, [], true, min, None, OnOk, OnErr, IsOk};
+    ghost use Rattle.std.specs.Prelude.{◌≡◌, ◌+◌, ◌-◌, ◌^◌, [], min, None, OnOk, OnErr, IsOk};
     ghost use Rattle.std.specs.Io.KnownBytes.{Appends, Keeps};
     ghost use Rattle.iri_text.specs.Streams.{WritesFront};
     ghost use Rattle.iri_text.specs.Sink.{PutsAll, Flushes};
 
     ghost written = { λ _. None };
-
-    ghost unflushed = { λ s. s.unflushed };
 
     ghost faults = { λ s. s.faults };
 
@@ -58,14 +49,12 @@ impl<W: Write> Sink for WriteSink<W> {
         ensures whole { OnOk result (Appends (W.contents self.old.inner) (W.contents self.new.inner) piece.now) }
         ensures front { OnErr result (WritesFront (W.contents self.old.inner) (W.contents self.new.inner) piece.now) }
         ensures raised { OnErr result (self.new.faults ≡ min (self.old.faults + 1) (2 ^ 64 - 1)) }
-        ensures unflushed { piece.now ≢ [] → self.new.unflushed ≡ true }
         ensures empty { piece.now ≡ [] → IsOk result }
         ensures nothing { piece.now ≡ [] → self.new ≡ self.old }
     {
         if piece.is_empty() {
             return Ok(());
         }
-        self.unflushed = true;
         let mut rest = piece;
         while !rest.is_empty() {
             match self.writer.write(rest) {
@@ -79,19 +68,15 @@ impl<W: Write> Sink for WriteSink<W> {
         Ok(())
     }
 
-    /// Flushes the writer. Where that answers an error the count rises by one, up to its last value, and the writer counts as not
-    /// flushed if it did before. A writer that tells its bytes keeps them.
+    /// Flushes the writer. Where that answers an error the count rises by one, up to its last value. A writer that tells its bytes
+    /// keeps them.
     fn flush(&mut self) -> Result<(), Failed>
-        ensures flushes { Flushes None None self.new.unflushed self.old.faults self.new.faults result }
+        ensures flushes { Flushes None None self.old.faults self.new.faults result }
         ensures kept { Keeps (W.contents self.old.inner) (W.contents self.new.inner) }
         ensures raised { OnErr result (self.new.faults ≡ min (self.old.faults + 1) (2 ^ 64 - 1)) }
-        ensures still { OnErr result (self.new.unflushed ≡ self.old.unflushed) }
     {
         match self.writer.flush() {
-            Ok(()) => {
-                self.unflushed = false;
-                Ok(())
-            }
+            Ok(()) => Ok(()),
             Err(_) => {
                 self.faults = self.faults.saturating_add(1);
                 Err(Failed)

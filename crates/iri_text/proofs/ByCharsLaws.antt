@@ -1,0 +1,35 @@
+-- The laws of sinks whose relations go by characters.
+use Rattle.std.specs.Prelude.{ℕ, List, ◌++◌}
+use Rattle.std.specs.Str.{chars}
+use Rattle.std.proofs.Common.{sym, ◌∙◌, ap, subst, append_assoc}
+use Rattle.std.proofs.lemmas.Str.{IsUtf8-append, IsUtf8-nil, chars-append, chars-nil}
+use Rattle.iri_text.specs.Shown.{AreSinkLaws}
+use Rattle.iri_text.specs.ByChars.{CharsPut, CharsHalt}
+
+module _ {V : Type 0} {puts halts : V → List ℕ → V → Type 0} (laws : AreSinkLaws puts halts) where
+  pub chars_laws : AreSinkLaws (CharsPut puts) (CharsHalt halts)
+  chars_laws = record {
+    none = λ a. record { utf8 = IsUtf8-nil; put = subst (λ l. puts a l a) (sym chars-nil) (laws.none a) };
+    both = λ a b c t u p q. record {
+      utf8 = IsUtf8-append t u p.utf8 q.utf8;
+      put = subst (λ l. puts a l c) (sym (chars-append t u p.utf8)) (laws.both a b c _ _ p.put q.put);
+    };
+    until = λ a b c t u p h. record {
+      front = t ++ h.front;
+      rest = h.rest;
+      split = append_assoc t h.front h.rest ∙ ap (λ l. t ++ l) h.split;
+      utf8 = IsUtf8-append t h.front p.utf8 h.utf8;
+      halt = subst (λ l. halts a l c) (sym (chars-append t h.front p.utf8)) (laws.until a b c _ _ p.put h.halt);
+    };
+    within = λ a b t u h. record {
+      front = h.front;
+      rest = h.rest ++ u;
+      split = sym (append_assoc h.front h.rest u) ∙ ap (λ l. l ++ u) h.split;
+      utf8 = h.utf8;
+      halt = h.halt;
+    };
+  }
+
+  -- it stopped within the characters of the whole
+  pub chars_halt : {a b : V} (t : List ℕ) → CharsHalt halts a t b → halts a (chars t) b
+  chars_halt {a = a} {b = b} t h = subst (λ l. halts a l b) (sym (chars-append h.front h.rest h.utf8) ∙ ap chars h.split) (laws.within a b (chars h.front) (chars h.rest) h.halt)
