@@ -31,7 +31,7 @@ pub record Follows (xs : List ℕ) : Type 0 where
   pub first : is_ascii_hexdigit a ≡ true
   pub second : is_ascii_hexdigit b ≡ true
 
-digits_follow : (xs : List ℕ) → two_digits xs ≡ true → Follows xs
+pub digits_follow : (xs : List ℕ) → two_digits xs ≡ true → Follows xs
 digits_follow [] h = cc
 digits_follow (a ∷ []) h = cc
 digits_follow (a ∷ b ∷ ys) h = let k = both (is_ascii_hexdigit a) (is_ascii_hexdigit b) h in record { a = a; b = b; ys = ys; text = refl; first = k.0; second = k.1 }

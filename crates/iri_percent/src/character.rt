@@ -1,4 +1,4 @@
-// Characters in triplets.
+//! Characters in triplets.
 ghost use Rattle.std.specs.Prelude.{◌≡◌, ◌≤◌, ◌+◌, take};
 ghost use Rattle.std.specs.Str.{continuation_len};
 ghost use Rattle.iri_percent.specs.Units.{octets, first_char};
@@ -67,8 +67,8 @@ fn char_past_ascii<S: Spec>(text: &[u8]) -> Option<char>
     if is_unreserved::<S>(c) { Some(c) } else { None }
 }
 
-// The unreserved character in triplets with which the text begins.
-pub(crate) fn decoded_char<S: Spec>(text: &[u8]) -> Option<char>
+/// The unreserved character in triplets with which the text begins.
+pub fn decoded_char<S: Spec>(text: &[u8]) -> Option<char>
     ensures { result ≡ decoded S.tests (octets text.now) }
 {
     let octet = first_octet(text)?;

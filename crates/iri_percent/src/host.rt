@@ -1,5 +1,5 @@
 // Hosts in normal form.
-ghost use Rattle.std.specs.Prelude.{◌≡◌, ◌==◌, ◌&&◌, ◌∷◌, true, cond, nat_lt};
+ghost use Rattle.std.specs.Prelude.{◌≡◌, ◌==◌, ◌&&◌, ◌∷◌, true, cond, nat_lt, Some};
 ghost use Rattle.std.specs.List.{list_all};
 ghost use Rattle.iri_grammar.specs.Host.{is_host};
 ghost use Rattle.iri_percent.specs.Units.{two_digits, whole_triplets};
@@ -8,8 +8,9 @@ ghost use Rattle.iri_percent.specs.Pieces.{is_plain_byte};
 
 use crate::normal::show_normal;
 use iri_grammar::spec::Spec;
-use iri_text::{Show, Stop, TextSink};
+use iri_text::{FormatSink, Show, Stop, TextSink};
 use std::alloc::AllocError;
+use std::fmt;
 use std::marker::PhantomData;
 
 /// A host that shows itself in normal form (RFC 3986 section 6.2.2.1): where every character of it and the octet of
@@ -62,7 +63,8 @@ fn is_ascii_front(first: u8, tail: &[u8]) -> bool
     first < 128 && (first != b'%' || is_low(tail))
 }
 
-fn is_ascii_host(host: &[u8]) -> bool
+/// Whether each byte of the host is ASCII, and so is the octet of each triplet. Each `%` of it begins a triplet.
+pub fn is_ascii_host(host: &[u8]) -> bool
     requires { whole_triplets host.now ≡ true }
     ensures { result ≡ is_ascii_host host.now }
 {
@@ -92,5 +94,13 @@ impl<S: Spec> Show for NormalizedHost<'_, S> {
             return sink.put(self.host);
         }
         show_normal::<S, W>(self.host, is_ascii_host(self.host.as_bytes()), sink)
+    }
+}
+
+impl<S: Spec> fmt::Display for NormalizedHost<'_, S> {
+    ghost output = { λ h. Some (normal_host S.tests h.host.now) };
+
+    fn fmt<W: fmt::Write>(&self, f: &mut fmt::Formatter<W>) -> fmt::Result {
+        FormatSink::new(f).display(self)
     }
 }

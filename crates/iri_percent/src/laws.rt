@@ -1,12 +1,22 @@
 //! Laws of the definitions: each function's contract is a law, and its body is empty.
-ghost use Rattle.std.specs.Prelude.{◌≡◌, ◌↔◌, ℕ, List, ◌∷◌, ◌++◌, Some, true};
+ghost use Rattle.std.specs.Prelude.{◌≡◌, ◌≢◌, ◌↔◌, ℕ, List, ◌∷◌, ◌++◌, Some, true, false};
+ghost use Rattle.std.specs.List.{All, flat_map};
 ghost use Rattle.std.specs.Char.{IsScalar, encode_utf8};
+ghost use Rattle.iri_grammar.specs.Classes.{uri_tests};
 ghost use Rattle.iri_grammar.specs.Components.{is_userinfo, is_path, is_path_segment, is_query, is_fragment};
 ghost use Rattle.iri_grammar.specs.Host.{is_host, is_reg_name};
 ghost use Rattle.iri_percent.specs.Units.{TextUnit, units, whole_triplets, first_char};
 ghost use Rattle.iri_percent.specs.UnitTexts.{units_text};
+ghost use Rattle.iri_percent.specs.CharUnits.{char_units, char_unit_text, char_unit_normal, byte_units};
 ghost use Rattle.iri_percent.specs.Triplets.{pct, normal_units, as_it_is};
 ghost use Rattle.iri_percent.specs.MarkLaws.{IsMark};
+ghost use Rattle.iri_grammar.specs.Parts.{IsReference, IsIri, IsAbsolute, IsRelative};
+ghost use Rattle.iri_grammar.specs.Split.{split_of};
+ghost use Rattle.iri_percent.specs.Mapping.{mapped, mapped_chars, mapped_parts};
+ghost use Rattle.iri_percent.specs.Decoding.{decoding, has_triplet, fragments, fragment_bytes};
+ghost use Rattle.iri_percent.specs.Encoding.{keeps, encoded};
+ghost use Rattle.iri_percent.specs.declared.context.Context.{Context};
+ghost use Rattle.std.specs.Str.{chars, IsAscii, IsUtf8};
 
 use iri_grammar::spec::Spec;
 
@@ -15,6 +25,20 @@ use iri_grammar::spec::Spec;
 pub fn units_of_texts()
     ensures whole { (t : List ℕ) → units_text (units t) ≡ t }
     ensures character { (os : List ℕ) (c : ℕ) → (first_char os ≡ Some c) ↔ (IsScalar c × ((rest : List ℕ) × (os ≡ encode_utf8 c ++ rest))) }
+{}
+
+/// A text has whole triplets exactly where none of its units is a stray `%`.
+pub fn whole_triplets_have_no_stray_percent()
+    ensures { (t : List ℕ) → (whole_triplets t ≡ true) ↔ All (λ u. u ≢ TextUnit.Stray) (units t) }
+{}
+
+/// The units of a text read character by character, where a plain character past ASCII is one unit, are its units read byte
+/// by byte with the bytes of each such character in one; put together they are the text; and each in normal form, put
+/// together, they are its triplet normal form.
+pub fn units_of_characters<S: Spec>()
+    ensures bytes { (t : List ℕ) → IsUtf8 t → units t ≡ flat_map byte_units (char_units t) }
+    ensures whole { (t : List ℕ) → IsUtf8 t → flat_map char_unit_text (char_units t) ≡ t }
+    ensures normal { (t : List ℕ) → IsUtf8 t → pct S.tests t ≡ flat_map (char_unit_normal S.tests) (char_units t) }
 {}
 
 /// The triplet normal form of a text without stray `%` has no stray `%`, and is its own.
@@ -52,4 +76,34 @@ pub fn triplet_forms_keep_their_class<S: Spec>()
     ensures path_segment { (t : List ℕ) → is_path_segment S.tests t ≡ true → is_path_segment S.tests (pct S.tests t) ≡ true }
     ensures query { (t : List ℕ) → is_query S.tests t ≡ true → is_query S.tests (pct S.tests t) ≡ true }
     ensures fragment { (t : List ℕ) → is_fragment S.tests t ≡ true → is_fragment S.tests (pct S.tests t) ≡ true }
+{}
+
+/// A text is mapped piece by piece, and character by character; what is in ASCII stays, and what comes out is in ASCII.
+pub fn mapping_of_texts()
+    ensures pieces { (t u : List ℕ) → mapped (t ++ u) ≡ mapped t ++ mapped u }
+    ensures ascii { (t : List ℕ) → IsAscii t → mapped t ≡ t }
+    ensures in_ascii { (t : List ℕ) → IsUtf8 t → IsAscii (mapped t) }
+    ensures characters { (t : List ℕ) → IsUtf8 t → mapped t ≡ mapped_chars (chars t) }
+{}
+
+/// What is in a production is, mapped, in the same production of URIs, and its parts are mapped with it.
+pub fn mapped_texts_are_uris<S: Spec>()
+    ensures reference { (t : List ℕ) → IsReference S.tests t → IsReference uri_tests (mapped t) }
+    ensures iri { (t : List ℕ) → IsIri S.tests t → IsIri uri_tests (mapped t) }
+    ensures absolute { (t : List ℕ) → IsAbsolute S.tests t → IsAbsolute uri_tests (mapped t) }
+    ensures relative { (t : List ℕ) → IsRelative S.tests t → IsRelative uri_tests (mapped t) }
+    ensures query { (t : List ℕ) → is_query S.tests t ≡ true → is_query uri_tests (mapped t) ≡ true }
+    ensures fragment { (t : List ℕ) → is_fragment S.tests t ≡ true → is_fragment uri_tests (mapped t) ≡ true }
+    ensures parts { (t : List ℕ) → IsReference S.tests t → split_of (mapped t) ≡ mapped_parts (split_of t) }
+{}
+
+/// The fragments of a text, joined, are what it decodes to. A text decodes to itself exactly where it has no triplet.
+pub fn decoding_of_texts()
+    ensures joined { (t : List ℕ) → flat_map fragment_bytes (fragments t) ≡ decoding t }
+    ensures same { (t : List ℕ) → (decoding t ≡ t) ↔ (has_triplet t ≡ false) }
+{}
+
+/// Decoding undoes encoding, for each place of a reference.
+pub fn decoding_undoes_encoding<S: Spec>()
+    ensures { (k : Context) (t : List ℕ) → IsUtf8 t → decoding (encoded (keeps S.tests k) t) ≡ t }
 {}

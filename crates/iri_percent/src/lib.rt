@@ -1,16 +1,45 @@
-//! Triplets and hosts in normal form.
+//! Triplets: normal forms, encoding, decoding, and the mapping of IRIs to URIs (RFC 3986 sections 2.1 and 6.2.2, RFC 3987
+//! section 3.1, the URL Standard, section 1.3).
+//!
+//! [`PercentEncoded`] shows a raw value encoded for its place in a reference. [`PctCaseNormalized`] and [`NormalizedHost`] show a part
+//! and a host in normal form. [`decode_whatwg_bytes`] decodes bytes.
+//! [`MappedToUri`] shows a view mapped to a URI; [`ToUri`] and [`IntoUri`] have the calls on views and owned texts of IRIs.
+//! `laws` has what holds of all texts.
+//!
+//! Proved: each shows exactly its definition, and takes no memory. A triplet is decoded, a stray `%` stays, and the fragments,
+//! joined, are the decoded bytes. A mapped text is a text of the same kind of URIs; a text that couldn't be mapped for want of
+//! memory is left as it was or handed back.
+//!
+//! Not proved: the words of `DecodeTextError`'s `Display`, which `thiserror` makes; that memory is had, which tests show.
 #![tactic(auto)]
 
-mod character;
+pub mod character;
+mod context;
+mod decode;
+mod encode;
+mod encoder;
+mod encoder_sink;
+mod fragments;
 mod host;
 pub mod laws;
+mod mapped;
+mod mapped_kind;
 mod normal;
 mod octets;
+mod percent_encoded;
 mod piece;
+mod spelling;
 mod triplets;
+mod uris;
 
-pub use host::NormalizedHost;
+pub use decode::{DecodeTextError, PercentDecodedWhatwgBytes, decode_whatwg_bytes};
+pub use fragments::{DecodedFragment, PercentDecodedBytesFragments};
+pub use host::{NormalizedHost, is_ascii_host};
+pub use mapped::MappedToUri;
+pub use mapped_kind::MappedKind;
+pub use percent_encoded::{PercentEncoded, PercentEncodedForIri, PercentEncodedForUri};
 pub use triplets::PctCaseNormalized;
+pub use uris::{IntoUri, ToUri};
 
 #[cfg(test)]
 mod tests;

@@ -2,6 +2,8 @@ use crate::{NormalizedHost, PctCaseNormalized, laws};
 use iri_grammar::spec::{IriSpec, Spec, UriSpec};
 use iri_grammar::validate::{host, query};
 use iri_text::{Show, write_to_slice};
+use std::alloc::{AllocError, Global};
+use std::test::Fail;
 
 // A copy is shown, so that the copying is tested too.
 fn shown<'b, T: Show + Clone>(buf: &'b mut [u8], value: &T) -> &'b str {
@@ -23,6 +25,27 @@ fn normal_host<'b, S: Spec>(buf: &'b mut [u8], text: &str) -> &'b str {
         Ok(()) => shown(buf, &NormalizedHost::<S>::new(text)),
         Err(_) => "no host",
     }
+}
+
+fn displayed_part(alloc: Global, text: &str) -> Result<String, AllocError> {
+    match query::<UriSpec>(text) {
+        Ok(()) => format!(in alloc; "{}", PctCaseNormalized::<UriSpec>::new(text)),
+        Err(_) => format!(in alloc; "no query"),
+    }
+}
+
+fn displayed_host(alloc: Global, text: &str) -> Result<String, AllocError> {
+    match host::<UriSpec>(text) {
+        Ok(()) => format!(in alloc; "{}", NormalizedHost::<UriSpec>::new(text)),
+        Err(_) => format!(in alloc; "no host"),
+    }
+}
+
+#[test]
+fn displayed(rt: HostRuntime) -> Result<(), Fail> {
+    assert_eq!(rt; displayed_part(rt.alloc(), "%7ea%2f")?.as_str(), "~a%2F");
+    assert_eq!(rt; displayed_host(rt.alloc(), "A%2D.B")?.as_str(), "a-.b");
+    Ok(())
 }
 
 #[test]
@@ -159,6 +182,8 @@ fn hosts(rt: HostRuntime) {
 #[test]
 fn called_laws(_rt: HostRuntime) {
     laws::units_of_texts();
+    laws::units_of_characters::<IriSpec>();
+    laws::decoding_undoes_encoding::<IriSpec>();
     laws::triplet_form_is_stable::<IriSpec>();
     laws::decoding_makes_no_new_character::<IriSpec>();
     laws::marks_part_triplet_forms::<IriSpec>();

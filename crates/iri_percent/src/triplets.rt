@@ -1,12 +1,13 @@
 // Texts in triplet normal form.
-ghost use Rattle.std.specs.Prelude.{◌≡◌, true};
+ghost use Rattle.std.specs.Prelude.{◌≡◌, true, Some};
 ghost use Rattle.iri_percent.specs.Units.{whole_triplets};
 ghost use Rattle.iri_percent.specs.Triplets.{pct};
 
 use crate::normal::show_normal;
 use iri_grammar::spec::Spec;
-use iri_text::{Show, Stop, TextSink};
+use iri_text::{FormatSink, Show, Stop, TextSink};
 use std::alloc::AllocError;
+use std::fmt;
 use std::marker::PhantomData;
 
 /// A part of a reference that shows itself in triplet normal form (RFC 3986 sections 6.2.2.1 and 6.2.2.2,
@@ -48,5 +49,13 @@ impl<S: Spec> Show for PctCaseNormalized<'_, S> {
 
     fn show<W: TextSink>(&self, sink: &mut W) -> Result<(), Stop> {
         show_normal::<S, W>(self.part, false, sink)
+    }
+}
+
+impl<S: Spec> fmt::Display for PctCaseNormalized<'_, S> {
+    ghost output = { λ p. Some (pct S.tests p.part.now) };
+
+    fn fmt<W: fmt::Write>(&self, f: &mut fmt::Formatter<W>) -> fmt::Result {
+        FormatSink::new(f).display(self)
     }
 }

@@ -1,0 +1,15 @@
+use Rattle.std.proofs.Common.{◌++◌, ap, ◌∙◌}
+use Rattle.std.specs.List.{flat_map}
+use Rattle.iri_percent.specs.Decoding.{fragment_bytes}
+use Rattle.iri_percent.specs.FragmentViews.{fragments_left}
+use Rattle.iri_percent.proofs.DecodingLemmas.{fragments-joined}
+use Rattle.iri_percent.proofs.decode.PercentDecodedWhatwgBytes.into_bytes.Goals as goal
+
+pub loop-fragment-init : goal.loop-fragment-init
+loop-fragment-init c = record {
+  can = tt;
+  ends = tt;
+  same =
+      ap (λ z. z ++ flat_map fragment_bytes (fragments_left c.into_iter-fragment-iterator.result)) c.in_ok-bytes.ensures.items
+      ∙ (ap (λ it. flat_map fragment_bytes (fragments_left it)) c.into_iter-fragment-iterator.ensures.into_iter_gives ∙ (ap (flat_map fragment_bytes) c.bytes_fragments-fragment-items.ensures ∙ fragments-joined c.args.self.now.source.now));
+}

@@ -1,0 +1,18 @@
+use Rattle.std.proofs.Common.{◌≡◌, ℕ, List, ◌++◌, length}
+use Rattle.std.specs.Str.{IsUtf8}
+use Rattle.iri_grammar.specs.ClassTests.{class_test}
+use Rattle.iri_text.specs.Compose.{HasShown}
+use Rattle.iri_percent.specs.Encoding.{encoded}
+use Rattle.iri_percent.proofs.encode.put_over.Given as goal
+
+-- what went into the sink, and what is left
+abbrev pub invariant-loop-next : goal.invariant-loop-next
+invariant-loop-next g l = record {
+  utf8 : IsUtf8 l.rest;
+  done : List ℕ;
+  shown : HasShown g.W.TextSink.puts g.W.TextSink.stops l.initial.sink done l.sink;
+  same : encoded (class_test g.S.Spec.tests l.class) l.text ≡ done ++ encoded (class_test g.S.Spec.tests l.class) l.rest;
+}
+
+abbrev pub decreases-loop-next : goal.decreases-loop-next
+decreases-loop-next g l = length l.rest

@@ -1,0 +1,7 @@
+use Rattle.iri_percent.specs.MapTexts.{mapped-append}
+use Rattle.iri_percent.proofs.MapForms.{mapped-in_ascii, mapped-by_chars}
+use Rattle.iri_percent.proofs.MappedRuns.{mapped-of_ascii}
+use Rattle.iri_percent.proofs.laws.mapping_of_texts.Goals as goal
+
+pub returns : goal.returns
+returns c = record { pieces = mapped-append; ascii = mapped-of_ascii; in_ascii = mapped-in_ascii; characters = mapped-by_chars }

@@ -1,0 +1,7 @@
+use Rattle.std.proofs.Common.{subst, sym, ◌≤◌, length}
+use Rattle.iri_grammar.proofs.Units.{run_of_le}
+use Rattle.iri_percent.specs.MapRuns.{goes_on}
+use Rattle.iri_percent.proofs.mapped.split_run.Goals as goal
+
+pub split_at-requires : goal.split_at-requires
+split_at-requires c = subst (λ n. n ≤ length c.args.bytes.now) (sym c.run_len.ensures) (run_of_le (goes_on c.args.past) c.args.bytes.now)

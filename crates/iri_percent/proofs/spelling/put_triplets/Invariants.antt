@@ -1,0 +1,15 @@
+use Rattle.std.proofs.Common.{◌≡◌, ℕ, List, ◌++◌, length}
+use Rattle.iri_text.specs.Compose.{HasShown}
+use Rattle.iri_percent.specs.Mapping.{triplets}
+use Rattle.iri_percent.proofs.spelling.put_triplets.Given as goal
+
+-- what went into the sink, and what is left
+abbrev pub invariant-loop-rest : goal.invariant-loop-rest
+invariant-loop-rest g l = record {
+  done : List ℕ;
+  shown : HasShown g.W.TextSink.puts g.W.TextSink.stops l.initial.sink done l.sink;
+  same : triplets l.octets ≡ done ++ triplets l.rest;
+}
+
+abbrev pub decreases-loop-rest : goal.decreases-loop-rest
+decreases-loop-rest g l = length l.rest

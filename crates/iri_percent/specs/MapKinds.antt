@@ -1,0 +1,238 @@
+-- What is in a production is, mapped, in the same production of URIs.
+use Rattle.std.proofs.Common.{◌≡◌, ℕ, Bool, true, false, not, ◌||◌, List, [], ◌∷◌, ◌++◌, Option, Some, None, refl, sym, ◌∙◌, ap, subst, arith}
+use Rattle.std.specs.Prelude.{nat_lt, IsSome, IsNone, option_map}
+use Rattle.std.specs.Char.{is_ascii_digit}
+use Rattle.std.specs.List.{list_all}
+use Rattle.std.proofs.lemmas.Bool.Decides.{nat_tests}
+use Rattle.iri_grammar.specs.Authority.{AuthorityParts, FitsAuthority, authority_parts, recompose_authority, is_authority, userinfo_text}
+use Rattle.iri_grammar.specs.AuthorityLaws.{authority_law, reading_is, passes, authority_recomposed}
+use Rattle.iri_grammar.specs.Classes.{Tests, IsSpec, uri_tests, userinfo_char, reg_name_char, path_char, query_char, fragment_char, is_ascii_userinfo, is_ascii_reg_name, is_ascii_unreserved, is_ascii_path, is_ascii_query, is_sub_delim}
+use Rattle.iri_grammar.specs.Components.{if_there, is_scheme, is_scheme_char, is_port, is_userinfo, is_path, is_query, is_fragment}
+use Rattle.iri_grammar.specs.Cut.{before, marked}
+use Rattle.iri_grammar.specs.CutLaws.{both}
+use Rattle.iri_grammar.specs.Fault.{query_fault, fragment_fault}
+use Rattle.iri_grammar.specs.FaultLaws.{passed, no_fault, reference-law, iri-law, absolute-law, relative-law}
+use Rattle.iri_grammar.specs.Host.{is_host, is_reg_name}
+use Rattle.iri_grammar.specs.IpLiteral.{is_ip_literal}
+use Rattle.iri_grammar.specs.LiteralChars.{is_literal_char, ip_literal-chars}
+use Rattle.iri_grammar.specs.Parts.{Parts, Fits, Splits, IsReference, IsIri, IsAbsolute, IsRelative, path_rules, recompose, scheme_text, authority_text}
+use Rattle.iri_grammar.specs.Split.{split_of}
+use Rattle.iri_grammar.specs.SplitLaws.{scheme-chars}
+use Rattle.iri_grammar.specs.SplitUnique.{split_is}
+use Rattle.iri_grammar.specs.WholeFault.{reference_fault, iri_fault, absolute_fault, relative_fault}
+use Rattle.iri_grammar.specs.declared.error.ErrorKind.TheVariants.{InvalidQuery, InvalidFragment}
+use Rattle.iri_percent.specs.Mapping.{mapped, mapped_parts}
+use Rattle.iri_percent.specs.MapMarks.{slash-apart, colon-apart, mapped-lacks, mapped-before, mapped-empty, mapped-slash, mapped-slashes}
+use Rattle.iri_percent.specs.MapTexts.{mapped-low, mapped-append, mapped-over, uri-spec}
+use Rattle.iri_percent.specs.WholeLaws.{reg_name_percent, userinfo_percent, path_percent, query_percent, fragment_percent}
+
+abbrev pub mapped_authority : AuthorityParts → AuthorityParts
+mapped_authority a = record { userinfo = option_map mapped a.userinfo; host = mapped a.host; port = option_map mapped a.port }
+
+-- ---- put together
+mapped-scheme_text : (o : Option (List ℕ)) → mapped (scheme_text o) ≡ scheme_text (option_map mapped o)
+mapped-scheme_text None = refl
+mapped-scheme_text (Some x) = mapped-append x (58 ∷ [])
+
+mapped-authority_text : (o : Option (List ℕ)) → mapped (authority_text o) ≡ authority_text (option_map mapped o)
+mapped-authority_text None = refl
+mapped-authority_text (Some x) = refl
+
+mapped-query_text : (o : Option (List ℕ)) → mapped (marked 63 o) ≡ marked 63 (option_map mapped o)
+mapped-query_text None = refl
+mapped-query_text (Some x) = refl
+
+mapped-fragment_text : (o : Option (List ℕ)) → mapped (marked 35 o) ≡ marked 35 (option_map mapped o)
+mapped-fragment_text None = refl
+mapped-fragment_text (Some x) = refl
+
+mapped-port_text : (o : Option (List ℕ)) → mapped (marked 58 o) ≡ marked 58 (option_map mapped o)
+mapped-port_text None = refl
+mapped-port_text (Some x) = refl
+
+mapped-userinfo_text : (o : Option (List ℕ)) → mapped (userinfo_text o) ≡ userinfo_text (option_map mapped o)
+mapped-userinfo_text None = refl
+mapped-userinfo_text (Some x) = mapped-append x (64 ∷ [])
+
+pub mapped-recomposed : (t : Parts) → mapped (recompose t) ≡ recompose (mapped_parts t)
+unfolding recompose
+mapped-recomposed t =
+    mapped-append (scheme_text t.scheme) _
+    ∙ rw (mapped-scheme_text t.scheme, mapped-append (authority_text t.authority) (t.path ++ (marked 63 t.query ++ marked 35 t.fragment)), mapped-authority_text t.authority, mapped-append t.path (marked 63 t.query ++ marked 35 t.fragment), mapped-append (marked 63 t.query) (marked 35 t.fragment), mapped-query_text t.query, mapped-fragment_text t.fragment) refl
+
+pub mapped-recomposed_authority : (a : AuthorityParts) → mapped (recompose_authority a) ≡ recompose_authority (mapped_authority a)
+unfolding recompose_authority
+mapped-recomposed_authority a =
+    mapped-append (userinfo_text a.userinfo) (a.host ++ marked 58 a.port)
+    ∙ rw (mapped-userinfo_text a.userinfo, mapped-append a.host (marked 58 a.port), mapped-port_text a.port) refl
+
+-- ---- classes
+low_class : (a u : Bool) → u ≡ false → (a || u) ≡ true → (a || false) ≡ true
+low_class a u e h = ap (λ b. a || b) (sym e) ∙ h
+
+low_query : (a u v : Bool) → u ≡ false → v ≡ false → (a || u || v) ≡ true → (a || false || false) ≡ true
+low_query a u v e f h = ap (λ b. a || b || false) (sym e) ∙ (ap (λ b. a || u || b) (sym f) ∙ h)
+
+pub mapped-userinfo : (s : Tests) (x : List ℕ) → IsSpec s → is_userinfo s x ≡ true → is_userinfo uri_tests (mapped x) ≡ true
+unfolding userinfo_char
+mapped-userinfo s x k h = mapped-over (userinfo_char s) (userinfo_char uri_tests) x (userinfo_percent s k) (userinfo_percent uri_tests uri-spec) (λ c l p. low_class (is_ascii_userinfo c) (s.ucs c) (k.ucs_ascii c l) p) h
+
+mapped-reg_name : (s : Tests) (x : List ℕ) → IsSpec s → is_reg_name s x ≡ true → is_reg_name uri_tests (mapped x) ≡ true
+unfolding reg_name_char
+mapped-reg_name s x k h = mapped-over (reg_name_char s) (reg_name_char uri_tests) x (reg_name_percent s k) (reg_name_percent uri_tests uri-spec) (λ c l p. low_class (is_ascii_reg_name c) (s.ucs c) (k.ucs_ascii c l) p) h
+
+pub mapped-path : (s : Tests) (x : List ℕ) → IsSpec s → is_path s x ≡ true → is_path uri_tests (mapped x) ≡ true
+unfolding path_char
+mapped-path s x k h = mapped-over (path_char s) (path_char uri_tests) x (path_percent s k) (path_percent uri_tests uri-spec) (λ c l p. low_class (is_ascii_path c) (s.ucs c) (k.ucs_ascii c l) p) h
+
+pub mapped-query : (s : Tests) (x : List ℕ) → IsSpec s → is_query s x ≡ true → is_query uri_tests (mapped x) ≡ true
+unfolding query_char
+mapped-query s x k h = mapped-over (query_char s) (query_char uri_tests) x (query_percent s k) (query_percent uri_tests uri-spec) (λ c l p. low_query (is_ascii_query c) (s.ucs c) (s.priv c) (k.ucs_ascii c l) (k.priv_ascii c l) p) h
+
+pub mapped-fragment : (s : Tests) (x : List ℕ) → IsSpec s → is_fragment s x ≡ true → is_fragment uri_tests (mapped x) ≡ true
+unfolding fragment_char
+mapped-fragment s x k h = mapped-over (fragment_char s) (fragment_char uri_tests) x (fragment_percent s k) (fragment_percent uri_tests uri-spec) (λ c l p. low_class (is_ascii_query c) (s.ucs c) (k.ucs_ascii c l) p) h
+
+-- ---- texts in ASCII stay
+pub each-low : (p : ℕ → Bool) → ((c : ℕ) → p c ≡ true → nat_lt c 128 ≡ true) → (xs : List ℕ) → list_all p xs ≡ true → mapped xs ≡ xs
+each-low p l [] h = refl
+each-low p l (x ∷ xs) h = let k = both (p x) (list_all p xs) h in mapped-low x xs (l x k.0) ∙ ap (λ z. x ∷ z) (each-low p l xs k.1)
+
+pub scheme_low : (c : ℕ) → is_scheme_char c ≡ true → nat_lt c 128 ≡ true
+unfolding is_scheme_char
+scheme_low c h = grind (arith, nat_tests)
+
+digit_low : (c : ℕ) → is_ascii_digit c ≡ true → nat_lt c 128 ≡ true
+digit_low c h = grind (arith, nat_tests)
+
+pub literal_low : (c : ℕ) → is_literal_char c ≡ true → nat_lt c 128 ≡ true
+unfolding is_literal_char is_ascii_userinfo is_ascii_reg_name is_ascii_unreserved is_sub_delim
+literal_low c h = grind (arith, nat_tests)
+
+pub mapped-scheme : (x : List ℕ) → is_scheme x ≡ true → mapped x ≡ x
+mapped-scheme x h = each-low is_scheme_char scheme_low x (scheme-chars x h)
+
+pub mapped-port : (x : List ℕ) → is_port x ≡ true → mapped x ≡ x
+mapped-port x h = each-low is_ascii_digit digit_low x h
+
+pub mapped-literal : (x : List ℕ) → is_ip_literal x ≡ true → mapped x ≡ x
+mapped-literal x h = each-low is_literal_char literal_low x (ip_literal-chars x h)
+
+-- ---- hosts
+pub mapped-host : (s : Tests) (x : List ℕ) → IsSpec s → is_host s x ≡ true → is_host uri_tests (mapped x) ≡ true
+mapped-host s x k h =
+    elim (is_ip_literal x) as (λ b. is_ip_literal x ≡ b → (b || is_reg_name s x) ≡ true → is_host uri_tests (mapped x) ≡ true) [
+      | true ↦ λ e _. rw (mapped-literal x e, e) refl
+      | false ↦ λ _ r. rw (mapped-reg_name s x k r) (or_true (is_ip_literal (mapped x)))
+    ] refl h
+  where
+    or_true : (b : Bool) → (b || true) ≡ true
+    or_true true = refl
+    or_true false = refl
+
+-- ---- authorities
+userinfo-fits : (s : Tests) (o : Option (List ℕ)) → IsSpec s → if_there (is_userinfo s) o ≡ true → if_there (is_userinfo uri_tests) (option_map mapped o) ≡ true
+userinfo-fits s None k h = refl
+userinfo-fits s (Some u) k h = mapped-userinfo s u k h
+
+port-fits : (o : Option (List ℕ)) → if_there is_port o ≡ true → if_there is_port (option_map mapped o) ≡ true
+port-fits None h = refl
+port-fits (Some x) h = ap is_port (mapped-port x h) ∙ h
+
+pub authority-reads : (s : Tests) (t : List ℕ) → IsSpec s → is_authority s t ≡ true → FitsAuthority s (authority_parts t)
+authority-reads s t k h = let r = (authority_law s k t).0 h in subst (λ a. FitsAuthority s a) (sym (reading_is s k t r.0 r.1)) r.1.0
+
+authority-fits : (s : Tests) (a : AuthorityParts) → IsSpec s → FitsAuthority s a → FitsAuthority uri_tests (mapped_authority a)
+authority-fits s a k f = record { userinfo = userinfo-fits s a.userinfo k f.userinfo; host = mapped-host s a.host k f.host; port = port-fits a.port f.port }
+
+-- the mapped authority, and how it is read
+pub record MapsAuthority (t : List ℕ) : Type 0 where
+  pub whole : is_authority uri_tests (mapped t) ≡ true
+  pub parts : authority_parts (mapped t) ≡ mapped_authority (authority_parts t)
+
+pub mapped-authority : (s : Tests) (t : List ℕ) → IsSpec s → is_authority s t ≡ true → MapsAuthority t
+mapped-authority s t k h =
+    let a = authority_parts t in
+    let g = authority-fits s a k (authority-reads s t k h) in
+    let text : recompose_authority (mapped_authority a) ≡ mapped t = sym (mapped-recomposed_authority a) ∙ ap mapped (authority_recomposed t) in
+    record { whole = passes uri_tests uri-spec (mapped t) (mapped_authority a) (g, text); parts = reading_is uri_tests uri-spec (mapped t) (mapped_authority a) (g, text) }
+
+-- ---- the other parts, where they stand
+scheme-fits : (o : Option (List ℕ)) → if_there is_scheme o ≡ true → if_there is_scheme (option_map mapped o) ≡ true
+scheme-fits None h = refl
+scheme-fits (Some x) h = ap is_scheme (mapped-scheme x h) ∙ h
+
+authority-there : (s : Tests) (o : Option (List ℕ)) → IsSpec s → if_there (is_authority s) o ≡ true → if_there (is_authority uri_tests) (option_map mapped o) ≡ true
+authority-there s None k h = refl
+authority-there s (Some x) k h = (mapped-authority s x k h).whole
+
+query-fits : (s : Tests) (o : Option (List ℕ)) → IsSpec s → if_there (is_query s) o ≡ true → if_there (is_query uri_tests) (option_map mapped o) ≡ true
+query-fits s None k h = refl
+query-fits s (Some x) k h = mapped-query s x k h
+
+fragment-fits : (s : Tests) (o : Option (List ℕ)) → IsSpec s → if_there (is_fragment s) o ≡ true → if_there (is_fragment uri_tests) (option_map mapped o) ≡ true
+fragment-fits s None k h = refl
+fragment-fits s (Some x) k h = mapped-fragment s x k h
+
+mapped-rules : (o a : Option (List ℕ)) (p : List ℕ) → path_rules (option_map mapped o) (option_map mapped a) (mapped p) ≡ path_rules o a p
+mapped-rules None (Some a) p = rw (mapped-empty p, mapped-slash p) refl
+mapped-rules (Some x) (Some a) p = rw (mapped-empty p, mapped-slash p) refl
+mapped-rules (Some x) None p = ap not (mapped-slashes p)
+mapped-rules None None p = rw (mapped-slashes p, mapped-before 47 p slash-apart, mapped-lacks 58 (before 47 p) colon-apart) refl
+
+pub mapped-fits : (s : Tests) (t : Parts) → IsSpec s → Fits s t → Fits uri_tests (mapped_parts t)
+mapped-fits s t k f = record {
+  scheme = scheme-fits t.scheme f.scheme;
+  authority = authority-there s t.authority k f.authority;
+  path = mapped-path s t.path k f.path;
+  query = query-fits s t.query k f.query;
+  fragment = fragment-fits s t.fragment k f.fragment;
+  rules = mapped-rules t.scheme t.authority t.path ∙ f.rules;
+}
+
+-- ---- whole texts
+pub mapped-splits : (s : Tests) (t : List ℕ) (p : Parts) → IsSpec s → Splits s t p → Splits uri_tests (mapped t) (mapped_parts p)
+mapped-splits s t p k h = record { fits = mapped-fits s p k h.fits; text = sym (mapped-recomposed p) ∙ ap mapped h.text }
+
+still-some : (o : Option (List ℕ)) → IsSome o → IsSome (option_map mapped o)
+still-some None h = h
+still-some (Some x) h = refl
+
+still-none : (o : Option (List ℕ)) → IsNone o → IsNone (option_map mapped o)
+still-none None h = h
+still-none (Some x) h = cc
+
+pub mapped-reference : (s : Tests) (t : List ℕ) → IsSpec s → IsReference s t → IsReference uri_tests (mapped t)
+mapped-reference s t k h = (mapped_parts h.0, mapped-splits s t h.0 k h.1)
+
+pub mapped-iri : (s : Tests) (t : List ℕ) → IsSpec s → IsIri s t → IsIri uri_tests (mapped t)
+mapped-iri s t k h = (mapped_parts h.0, mapped-splits s t h.0 k h.1, still-some h.0.scheme h.2)
+
+pub mapped-absolute : (s : Tests) (t : List ℕ) → IsSpec s → IsAbsolute s t → IsAbsolute uri_tests (mapped t)
+mapped-absolute s t k h = (mapped_parts h.0, mapped-splits s t h.0 k h.1, still-some h.0.scheme h.2, still-none h.0.fragment h.3)
+
+pub mapped-relative : (s : Tests) (t : List ℕ) → IsSpec s → IsRelative s t → IsRelative uri_tests (mapped t)
+mapped-relative s t k h = (mapped_parts h.0, mapped-splits s t h.0 k h.1, still-none h.0.scheme h.2)
+
+-- the split of the mapped text
+pub mapped-split : (s : Tests) (t : List ℕ) → IsSpec s → IsReference s t → split_of (mapped t) ≡ mapped_parts (split_of t)
+mapped-split s t k h = split_is uri_tests (mapped t) (mapped_parts h.0) uri-spec (mapped-splits s t h.0 k h.1) ∙ ap mapped_parts (sym (split_is s t h.0 k h.1))
+
+-- ---- what has no fault has none, mapped
+pub reference-maps : (s : Tests) → IsSpec s → (t : List ℕ) → reference_fault s t ≡ None → reference_fault uri_tests (mapped t) ≡ None
+reference-maps s k t h = (reference-law uri_tests uri-spec (mapped t)).1 (mapped-reference s t k ((reference-law s k t).0 h))
+
+pub iri-maps : (s : Tests) → IsSpec s → (t : List ℕ) → iri_fault s t ≡ None → iri_fault uri_tests (mapped t) ≡ None
+iri-maps s k t h = (iri-law uri_tests uri-spec (mapped t)).1 (mapped-iri s t k ((iri-law s k t).0 h))
+
+pub absolute-maps : (s : Tests) → IsSpec s → (t : List ℕ) → absolute_fault s t ≡ None → absolute_fault uri_tests (mapped t) ≡ None
+absolute-maps s k t h = (absolute-law uri_tests uri-spec (mapped t)).1 (mapped-absolute s t k ((absolute-law s k t).0 h))
+
+pub relative-maps : (s : Tests) → IsSpec s → (t : List ℕ) → relative_fault s t ≡ None → relative_fault uri_tests (mapped t) ≡ None
+relative-maps s k t h = (relative-law uri_tests uri-spec (mapped t)).1 (mapped-relative s t k ((relative-law s k t).0 h))
+
+pub query-maps : (s : Tests) → IsSpec s → (t : List ℕ) → query_fault s t ≡ None → query_fault uri_tests (mapped t) ≡ None
+query-maps s k t h = no_fault (is_query uri_tests (mapped t)) InvalidQuery (mapped-query s t k (passed (is_query s t) InvalidQuery h))
+
+pub fragment-maps : (s : Tests) → IsSpec s → (t : List ℕ) → fragment_fault s t ≡ None → fragment_fault uri_tests (mapped t) ≡ None
+fragment-maps s k t h = no_fault (is_fragment uri_tests (mapped t)) InvalidFragment (mapped-fragment s t k (passed (is_fragment s t) InvalidFragment h))

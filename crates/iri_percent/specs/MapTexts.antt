@@ -1,0 +1,124 @@
+-- The mapping of texts over a class.
+use Rattle.std.proofs.Common.{◌≡◌, ℕ, ◌+◌, ◌*◌, ◌<◌, ◌≤◌, Bool, true, false, cond, List, [], ◌∷◌, ◌++◌, refl, sym, ◌∙◌, ap, subst, arith, append_assoc, ltb-true}
+use Rattle.std.specs.Prelude.{◌/◌, ◌%◌, nat_lt}
+use Rattle.std.specs.Int.{is_in_range}
+use Rattle.std.specs.List.{list_all}
+use Rattle.std.specs.Char.{is_ascii_hexdigit, digit_value}
+use lib.Dec.{ltb}
+use lib.Utf8.{encode, next, scalar}
+use Rattle.std.proofs.lemmas.Str.{encode_ascii}
+use Rattle.std.proofs.lemmas.Bool.Decides.{nat_tests}
+use Rattle.iri_grammar.specs.Classes.{IsSpec, uri_tests}
+use Rattle.iri_grammar.specs.CutLaws.{both}
+use Rattle.iri_grammar.specs.Over.{text_over}
+use Rattle.iri_percent.specs.Units.{octet}
+use Rattle.iri_percent.specs.ClassLaws.{IsText, ended, letter, escape, text-from_over, over-from_text}
+use Rattle.iri_percent.specs.UnitLaws.{Spells, none, more}
+use Rattle.iri_percent.specs.Mapping.{capital_hex, triplet, mapped}
+
+-- ---- bytes
+pub mapped-low : (x : ℕ) (xs : List ℕ) → nat_lt x 128 ≡ true → mapped (x ∷ xs) ≡ x ∷ mapped xs
+mapped-low x xs h = rw h refl
+
+pub mapped-high : (x : ℕ) (xs : List ℕ) → nat_lt x 128 ≡ false → mapped (x ∷ xs) ≡ triplet x ++ mapped xs
+mapped-high x xs h = rw h refl
+
+pub mapped-append : (xs ys : List ℕ) → mapped (xs ++ ys) ≡ mapped xs ++ mapped ys
+mapped-append [] ys = refl
+mapped-append (x ∷ xs) ys = let u = cond (nat_lt x 128) (x ∷ []) (triplet x) in ap (λ z. u ++ z) (mapped-append xs ys) ∙ sym (append_assoc u (mapped xs) (mapped ys))
+
+pub hex_low : (a : ℕ) → is_ascii_hexdigit a ≡ true → nat_lt a 128 ≡ true
+hex_low a h = grind (arith, nat_tests)
+
+pub mapped-triplet : (a b : ℕ) (xs : List ℕ) → is_ascii_hexdigit a ≡ true → is_ascii_hexdigit b ≡ true → mapped (37 ∷ a ∷ b ∷ xs) ≡ 37 ∷ a ∷ b ∷ mapped xs
+mapped-triplet a b xs p q = ap (λ z. 37 ∷ z) (mapped-low a (b ∷ xs) (hex_low a p) ∙ ap (λ z. a ∷ z) (mapped-low b xs (hex_low b q)))
+
+pub mapped-spelled : (sp os xs : List ℕ) → Spells sp os → mapped (sp ++ xs) ≡ sp ++ mapped xs
+mapped-spelled sp os xs none = refl
+mapped-spelled sp os xs (more a b sp' os' p q k) = mapped-triplet a b (sp' ++ xs) p q ∙ ap (λ z. 37 ∷ a ∷ b ∷ z) (mapped-spelled sp' os' xs k)
+
+-- ---- the triplet of an octet
+pub capital_is_hex : (n : ℕ) → n < 16 → is_ascii_hexdigit (capital_hex n) ≡ true
+capital_is_hex n h = grind (arith, nat_tests)
+
+capital_value : (n : ℕ) → n < 16 → digit_value (capital_hex n) ≡ n
+capital_value n h = grind (arith, nat_tests)
+
+abbrev pub is_high : ℕ → Bool
+is_high x = is_in_range 128 255 x
+
+pub high_past : (x : ℕ) → is_high x ≡ true → nat_lt x 128 ≡ false
+high_past x h = grind (arith, nat_tests)
+
+pub high_small : (x : ℕ) → is_high x ≡ true → x < 256
+high_small x h = grind (arith, nat_tests)
+
+pub first_digit : (x : ℕ) → x < 256 → x / 16 < 16
+first_digit x h = omega arith
+
+pub second_digit : (x : ℕ) → x % 16 < 16
+second_digit x = omega arith
+
+pub octet_of : (x : ℕ) → x < 256 → octet (capital_hex (x / 16)) (capital_hex (x % 16)) ≡ x
+octet_of x h = rw (capital_value (x / 16) (first_digit x h), capital_value (x % 16) (second_digit x)) (whole x)
+  where
+    whole : (x : ℕ) → x / 16 * 16 + x % 16 ≡ x
+    whole x = omega arith
+
+-- the triplets of bytes past ASCII spell them
+pub mapped-spells : (os : List ℕ) → list_all is_high os ≡ true → Spells (mapped os) os
+mapped-spells [] h = none
+mapped-spells (x ∷ xs) h =
+    let k = both (is_high x) (list_all is_high xs) h in
+    let l = high_small x k.0 in
+    let h1 = capital_is_hex (x / 16) (first_digit x l) in
+    let h2 = capital_is_hex (x % 16) (second_digit x) in
+    subst (λ z. Spells z (x ∷ xs)) (sym (mapped-high x xs (high_past x k.0)))
+    (subst (λ o. Spells (37 ∷ capital_hex (x / 16) ∷ capital_hex (x % 16) ∷ mapped xs) (o ∷ xs)) (octet_of x l) (more (capital_hex (x / 16)) (capital_hex (x % 16)) (mapped xs) xs h1 h2 (mapped-spells xs k.1)))
+
+-- ---- characters past ASCII
+scalar_small : (c : ℕ) → scalar c ≡ true → c < 1114112
+scalar_small c h = grind (arith, nat_tests)
+
+next_high : (x : ℕ) → is_high (next x) ≡ true
+next_high x = grind (arith, nat_tests)
+
+in_high : (x : ℕ) → 128 ≤ x → x < 256 → is_high x ≡ true
+in_high x h k = grind (arith, nat_tests)
+
+pub encode-high : (c : ℕ) → scalar c ≡ true → nat_lt c 128 ≡ false → list_all is_high (encode c) ≡ true
+unfolding encode
+encode-high c s h =
+    let l = scalar_small c s in
+    rw h (elim (ltb c 2048) as (λ b. ltb c 2048 ≡ b → list_all is_high (cond b ((192 + c / 64) ∷ next c ∷ []) (cond (ltb c 65536) ((224 + c / 4096) ∷ next (c / 64) ∷ next c ∷ []) ((240 + c / 262144) ∷ next (c / 4096) ∷ next (c / 64) ∷ next c ∷ []))) ≡ true) [
+      | true ↦ λ e. let m : c < 2048 = ltb-true c 2048 e in rw (in_high (192 + c / 64) (omega arith) (omega (arith, m)), next_high c) refl
+      | false ↦ λ _. elim (ltb c 65536) as (λ b. ltb c 65536 ≡ b → list_all is_high (cond b ((224 + c / 4096) ∷ next (c / 64) ∷ next c ∷ []) ((240 + c / 262144) ∷ next (c / 4096) ∷ next (c / 64) ∷ next c ∷ [])) ≡ true) [
+        | true ↦ λ e. let m : c < 65536 = ltb-true c 65536 e in rw (in_high (224 + c / 4096) (omega arith) (omega (arith, m)), next_high (c / 64), next_high c) refl
+        | false ↦ λ _. rw (in_high (240 + c / 262144) (omega arith) (omega (arith, l)), next_high (c / 4096), next_high (c / 64), next_high c) refl
+      ] refl
+    ] refl)
+
+pub uri-spec : IsSpec uri_tests
+uri-spec = record { ucs_ascii = λ c l. refl; priv_ascii = λ c l. refl; apart = λ c. refl }
+
+-- ---- the class
+spelled-text : (q : ℕ → Bool) (sp os t : List ℕ) → Spells sp os → IsText q t → IsText q (sp ++ t)
+spelled-text q sp os t none h = h
+spelled-text q sp os t (more a b sp' os' ha hb k) h = escape a b (sp' ++ t) ha hb (spelled-text q sp' os' t k h)
+
+mapped-text : (p q : ℕ → Bool) → ((c : ℕ) → c < 128 → p c ≡ true → q c ≡ true) → (t : List ℕ) → IsText p t → IsText q (mapped t)
+mapped-text p q w t ended = ended
+mapped-text p q w t (escape a b t' ha hb r) = subst (λ z. IsText q z) (sym (mapped-triplet a b t' ha hb)) (escape a b (mapped t') ha hb (mapped-text p q w t' r))
+mapped-text p q w t (letter c t' h m n r) =
+    let rest = mapped-text p q w t' r in
+    elim (nat_lt c 128) as (λ b. nat_lt c 128 ≡ b → IsText q (mapped (encode c ++ t'))) [
+      | true ↦ λ e.
+          let l = ltb-true c 128 e in
+          let one : mapped (encode c ++ t') ≡ encode c ++ mapped t' = ap (λ z. mapped (z ++ t')) (encode_ascii c l) ∙ mapped-low c t' e ∙ ap (λ z. z ++ mapped t') (sym (encode_ascii c l)) in
+          subst (λ z. IsText q z) (sym one) (letter c (mapped t') h (w c l m) n rest)
+      | false ↦ λ e. subst (λ z. IsText q z) (sym (mapped-append (encode c) t')) (spelled-text q (mapped (encode c)) (encode c) (mapped t') (mapped-spells (encode c) (encode-high c h e)) rest)
+    ] refl
+
+-- a text over a class, mapped, is over the same class of URIs
+pub mapped-over : (p q : ℕ → Bool) (t : List ℕ) → p 37 ≡ false → q 37 ≡ false → ((c : ℕ) → c < 128 → p c ≡ true → q c ≡ true) → text_over p t ≡ true → text_over q (mapped t) ≡ true
+mapped-over p q t n m w h = over-from_text q (mapped t) m (mapped-text p q w t (text-from_over p t n h))

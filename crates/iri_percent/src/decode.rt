@@ -1,0 +1,123 @@
+// Decoding of triplets (the URL Standard, section 1.3, "percent-decode").
+ghost use Rattle.std.specs.Prelude.{◌≡◌, ◌++◌, true, false, IfOk, IfSome, MatchOption, MatchResult, OnOk, string_bytes};
+ghost use Rattle.iri_percent.specs.Decoding.{decoding, has_triplet, fragments, fragment_bytes};
+ghost use Rattle.iri_percent.specs.FragmentViews.{fragment, fragments_left};
+ghost use Rattle.iri_percent.specs.TextRefusals.{IsNoText};
+
+use crate::fragments::{DecodedFragment, PercentDecodedBytesFragments};
+use crate::octets::first_octet;
+use iri_text::Bytes;
+use memchr::memchr;
+use std::alloc::{AllocError, Global};
+use thiserror::Error;
+
+#[cfg(test)]
+mod tests;
+
+/// Bytes that are read decoded. They are equal, ordered and hashed as they stand, not as what they decode to.
+#[derive(Clone, Copy, Debug, PartialEq, Eq, PartialOrd, Ord, Hash)]
+pub struct PercentDecodedWhatwgBytes<'a> {
+    source: &'a [u8],
+}
+
+/// Why decoded bytes are no string.
+#[derive(Debug, Drop, Error)]
+pub enum DecodeTextError {
+    /// The decoded bytes, which aren't UTF-8.
+    #[error("the decoded bytes aren't UTF-8")]
+    NotUtf8(Bytes),
+    /// Memory was refused.
+    #[error(transparent)]
+    Memory(AllocError),
+}
+
+/// Bytes to be decoded by the URL Standard (section 1.3, "percent-decode"). Nothing is done yet.
+///
+/// Each `%` that two hex digits follow gives, with them, one byte; every other byte stands for itself. So a stray `%`, one
+/// that no two hex digits follow, stays: `50%` and `%zz` decode to themselves. What a triplet gives isn't decoded again:
+/// `%2541` gives `%41`. Every sequence of bytes can be decoded, and what comes out needn't be UTF-8.
+pub fn decode_whatwg_bytes(bytes: &[u8]) -> PercentDecodedWhatwgBytes<'_>
+    ensures { result.source.now ≡ bytes.now }
+{
+    PercentDecodedWhatwgBytes { source: bytes }
+}
+
+// Whether two hex digits follow some `%`.
+fn has_triplet(text: &[u8]) -> bool
+    ensures { result ≡ has_triplet text.now }
+{
+    let mut rest = text;
+    while let Some(i) = memchr(b'%', rest) {
+        let front = &rest[i..];
+        match first_octet(front) {
+            Some(_) => return true,
+            None => rest = &front[1..],
+        }
+    }
+    false
+}
+
+// Puts the bytes of a fragment at the end.
+fn push_fragment(bytes: &mut Vec<u8>, piece: DecodedFragment<'_>) -> Result<(), AllocError>
+    ensures { OnOk result (bytes.new.items ≡ bytes.old.items ++ fragment_bytes (fragment piece.entry)) }
+{
+    match piece {
+        DecodedFragment::Direct(run) => bytes.extend_from_slice(run)?,
+        DecodedFragment::DecodedByte(octet) => bytes.push(octet)?,
+        DecodedFragment::StrayPercent => bytes.push(b'%')?,
+    }
+    Ok(())
+}
+
+impl<'a> PercentDecodedWhatwgBytes<'a> {
+    /// The bytes as they were given.
+    pub fn not_yet_decoded(&self) -> &'a [u8]
+        ensures { result.now ≡ self.now.source.now }
+    {
+        self.source
+    }
+
+    /// The bytes as they were given, exactly where no `%` is followed by two hex digits: they are then what they decode to.
+    pub fn to_bytes(&self) -> Option<&'a [u8]>
+        ensures triplet { MatchOption result (has_triplet self.now.source.now ≡ true) (λ _. has_triplet self.now.source.now ≡ false) }
+        ensures source { IfSome result (λ bytes. bytes.now ≡ self.now.source.now) }
+        ensures decoded { IfSome result (λ bytes. bytes.now ≡ decoding self.now.source.now) }
+    {
+        if has_triplet(self.source) {
+            None
+        } else {
+            Some(self.source)
+        }
+    }
+
+    /// The decoded bytes, in a vector. It fails for want of memory alone.
+    pub fn into_bytes(&self, alloc: Global) -> Result<Vec<u8>, AllocError>
+        ensures { IfOk result (λ bytes. bytes.items ≡ decoding self.now.source.now) }
+    {
+        let mut bytes = Vec::with_capacity(alloc, self.source.len())?;
+        for fragment in self.bytes_fragments() {
+            push_fragment(&mut bytes, fragment)?;
+        }
+        Ok(bytes)
+    }
+
+    /// The decoded bytes as a string: `NotUtf8` with them exactly where they aren't UTF-8.
+    pub fn into_string(&self, alloc: Global) -> Result<String, DecodeTextError>
+        ensures { MatchResult result (λ s. string_bytes s ≡ decoding self.now.source.now) (λ e. IsNoText e (decoding self.now.source.now)) }
+    {
+        match self.into_bytes(alloc) {
+            Ok(bytes) => match String::from_utf8(bytes) {
+                Ok(s) => Ok(s),
+                Err(e) => Err(DecodeTextError::NotUtf8(Bytes::from_vec(e.into_bytes()))),
+            },
+            Err(e) => Err(DecodeTextError::Memory(e)),
+        }
+    }
+
+    /// The fragments that the decoding is put together from. It takes no memory.
+    pub fn bytes_fragments(&self) -> PercentDecodedBytesFragments<'a>
+        ensures { fragments_left result ≡ fragments self.now.source.now }
+    {
+        PercentDecodedBytesFragments::new(self.source)
+    }
+}

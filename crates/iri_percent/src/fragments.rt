@@ -1,0 +1,101 @@
+// The fragments that a decoding is put together from.
+ghost use Rattle.std.specs.Prelude.{◌≡◌, ◌<◌, ◌∷◌, length, slice_index};
+ghost use Rattle.iri_grammar.specs.Cut.{before, from};
+ghost use Rattle.iri_percent.specs.Decoding.{fragments};
+ghost use Rattle.iri_percent.specs.FragmentViews.{fragment};
+
+use crate::octets::first_octet;
+use memchr::memchr;
+
+/// A fragment of a text that is decoded.
+#[derive(Clone, Copy, Debug, PartialEq, Eq, Hash)]
+pub enum DecodedFragment<'a> {
+    /// A run of bytes without `%`, as long as it can be.
+    Direct(&'a [u8]),
+    /// The byte that a triplet gives.
+    DecodedByte(u8),
+    /// A `%` that no two hex digits follow. It stands for itself.
+    StrayPercent,
+}
+
+/// The fragments of a text, from the left. Joined, they are the decoded bytes: the bytes of each run, the byte of each
+/// triplet, and `%` for each stray one.
+#[derive(Clone, Debug, Drop)]
+pub struct PercentDecodedBytesFragments<'a> {
+    rest: &'a [u8],
+}
+
+impl<'a> PercentDecodedBytesFragments<'a> {
+    /// All fragments of the text.
+    pub(crate) fn new(text: &'a [u8]) -> Self
+        ensures { result.rest.now ≡ text.now }
+    {
+        PercentDecodedBytesFragments { rest: text }
+    }
+
+    /// The bytes that the fragments still to come are read from, not decoded.
+    pub fn not_yet_decoded(&self) -> &'a [u8]
+        ensures { result.now ≡ self.now.rest.now }
+    {
+        self.rest
+    }
+}
+
+// The longest run without `%` at the front, and the rest.
+fn split_run(text: &[u8]) -> (&[u8], &[u8])
+    ensures run { result.0.now ≡ before 37 text.now }
+    ensures rest { result.1.now ≡ from 37 text.now }
+{
+    match memchr(b'%', text) {
+        Some(i) => text.split_at(i),
+        None => text.split_at(text.len()),
+    }
+}
+
+// The fragment that a `%` begins, and the rest.
+fn split_percent(text: &[u8]) -> (DecodedFragment<'_>, &[u8])
+    requires { (0 < length text.now) × (slice_index text.now 0 ≡ 37) }
+    ensures { fragments text.now ≡ fragment result.0 ∷ fragments result.1.now }
+{
+    match first_octet(text) {
+        Some(octet) => (DecodedFragment::DecodedByte(octet), &text[3..]),
+        None => (DecodedFragment::StrayPercent, &text[1..]),
+    }
+}
+
+// The first fragment, and the rest.
+fn split_fragment(text: &[u8]) -> (DecodedFragment<'_>, &[u8])
+    requires { 0 < length text.now }
+    ensures { fragments text.now ≡ fragment result.0 ∷ fragments result.1.now }
+{
+    if text[0] == b'%' {
+        return split_percent(text);
+    }
+    let (run, rest) = split_run(text);
+    (DecodedFragment::Direct(run), rest)
+}
+
+impl<'a> Iterator for PercentDecodedBytesFragments<'a> {
+    ghost use Rattle.std.specs.Iterator.{YieldsFirstBy, item_count};
+    ghost use Rattle.iri_percent.specs.FragmentViews.{fragment, fragments_left};
+
+    type Item = DecodedFragment<'a>;
+
+    ghost next_gives = { YieldsFirstBy fragment fragments_left };
+
+    ghost remaining = { item_count fragments_left };
+
+    fn next(&mut self) -> Option<DecodedFragment<'a>> {
+        if self.rest.is_empty() {
+            return None;
+        }
+        let (fragment, rest) = split_fragment(self.rest);
+        self.rest = rest;
+        Some(fragment)
+    }
+
+    fn size_hint(&self) -> (usize, Option<usize>) {
+        let bytes = self.rest.len();
+        (bytes.min(1), Some(bytes))
+    }
+}

@@ -1,0 +1,126 @@
+// Views that show themselves mapped to URIs.
+ghost use Rattle.std.specs.Prelude.{◌≡◌, drop, take};
+ghost use Rattle.std.specs.Str.{IsAscii};
+ghost use Rattle.iri_grammar.specs.Runs.{run_of};
+ghost use Rattle.iri_text.specs.Shown.{Shows};
+ghost use Rattle.iri_types.specs.Texts.{text};
+ghost use Rattle.iri_percent.specs.Mapping.{mapped};
+ghost use Rattle.iri_percent.specs.MapRuns.{goes_on};
+
+use crate::mapped_kind::MappedKind;
+use crate::spelling::put_triplets;
+use iri_grammar::spec::{Spec, UriSpec};
+use iri_owned::owned::Owned;
+use iri_text::{FormatSink, Show, Stop, TextSink, ToDedicatedString, try_append_to_string};
+use iri_types::view::View;
+use std::alloc::{AllocError, Global};
+use std::fmt;
+use std::marker::PhantomData;
+
+#[cfg(test)]
+mod tests;
+
+/// A view that shows itself mapped to a URI (RFC 3987 section 3.1): each character past ASCII is written as the triplets of
+/// its UTF-8 bytes, with capital hex digits; the rest stays, triplets too. `V` is a view of any kind and any grammar.
+#[derive(Clone, Copy)]
+pub struct MappedToUri<'a, V> {
+    view: V,
+    lifetime: PhantomData<&'a ()>,
+}
+
+impl<'a, S: Spec, K: MappedKind> MappedToUri<'a, View<'a, S, K>> {
+    /// The mapping of a view. Nothing is done yet.
+    pub fn of(view: View<'a, S, K>) -> Self
+        ensures { text result.view ≡ text view.entry }
+    {
+        MappedToUri {
+            view,
+            lifetime: PhantomData,
+        }
+    }
+}
+
+fn goes_on(b: u8, past: bool) -> bool
+    ensures { result ≡ goes_on past b }
+{
+    (b < 128) != past
+}
+
+fn run_len(bytes: &[u8], past: bool) -> usize
+    ensures { result ≡ run_of (goes_on past) bytes.now }
+{
+    for (i, b) in bytes.iter().enumerate() {
+        if !goes_on(*b, past) {
+            return i;
+        }
+    }
+    bytes.len()
+}
+
+// The longest run at the front of ASCII bytes, or of bytes past ASCII, and the rest.
+fn split_run(bytes: &[u8], past: bool) -> (&[u8], &[u8])
+    ensures run { result.0.now ≡ take (run_of (goes_on past) bytes.now) bytes.now }
+    ensures rest { result.1.now ≡ drop (run_of (goes_on past) bytes.now) bytes.now }
+{
+    bytes.split_at(run_len(bytes, past))
+}
+
+fn put_ascii<W: TextSink>(sink: &mut W, bytes: &[u8]) -> Result<(), Stop>
+    requires { IsAscii bytes.now }
+    ensures { Shows W.puts W.halts W.stops sink.old bytes.now sink.new result }
+{
+    sink.put(unsafe { str::from_utf8_unchecked(bytes) })
+}
+
+// Writes a text mapped, run by run.
+fn put_runs<W: TextSink>(sink: &mut W, bytes: &[u8]) -> Result<(), Stop>
+    ensures { Shows W.puts W.halts W.stops sink.old (mapped bytes.now) sink.new result }
+{
+    let mut rest = bytes;
+    while !rest.is_empty() {
+        let (plain, tail) = split_run(rest, false);
+        put_ascii(sink, plain)?;
+        let (octets, tail) = split_run(tail, true);
+        put_triplets(sink, octets)?;
+        rest = tail;
+    }
+    Ok(())
+}
+
+fn show_mapped<W: TextSink>(sink: &mut W, text: &str) -> Result<(), Stop>
+    ensures { Shows W.puts W.halts W.stops sink.old (mapped text.now) sink.new result }
+{
+    if text.is_ascii() {
+        return sink.put(text);
+    }
+    put_runs(sink, text.as_bytes())
+}
+
+impl<'a, S: Spec, K: MappedKind> Show for MappedToUri<'a, View<'a, S, K>> {
+    ghost text = { λ m. mapped (text m.view) };
+
+    fn show<W: TextSink>(&self, sink: &mut W) -> Result<(), Stop> {
+        show_mapped(sink, self.view.as_str())
+    }
+}
+
+impl<'a, S: Spec, K: MappedKind> fmt::Display for MappedToUri<'a, View<'a, S, K>> {
+    ghost use Rattle.std.specs.Prelude.{Some};
+
+    ghost output = { λ m. Some (mapped (text m.view)) };
+
+    fn fmt<W: fmt::Write>(&self, f: &mut fmt::Formatter<W>) -> fmt::Result {
+        FormatSink::new(f).display(self)
+    }
+}
+
+impl<'a, S: Spec, K: MappedKind> ToDedicatedString for MappedToUri<'a, View<'a, S, K>> {
+    type Target = Owned<UriSpec, K>;
+
+    /// The mapped text, as an owned text of the same kind. It fails for want of memory alone.
+    fn try_to_dedicated_string(&self, alloc: Global) -> Result<Owned<UriSpec, K>, AllocError> {
+        let mut text = String::with_capacity(alloc, self.view.as_str().len())?;
+        try_append_to_string(&mut text, self)?;
+        Ok(Owned::from_valid(text))
+    }
+}

@@ -1,0 +1,58 @@
+// Octets spelled as triplets (RFC 3986 section 2.1).
+ghost use Rattle.std.specs.Prelude.{◌≡◌, ◌≤◌, ◌<◌, ◌*◌, take, length};
+ghost use Rattle.iri_text.specs.Shown.{Shows};
+ghost use Rattle.iri_percent.specs.Mapping.{capital_hex, triplets};
+
+use iri_text::{Stop, TextSink};
+
+// So many octets are spelled in one piece.
+const MOST: usize = 8;
+
+fn capital_digit(value: u8) -> u8
+    requires { value < 16 }
+    ensures { result ≡ capital_hex value }
+{
+    if value < 10 {
+        b'0' + value
+    } else {
+        b'A' - 10 + value
+    }
+}
+
+// Spells octets at the front of the buffer, and answers the length of what they are spelled by.
+fn spell(octets: &[u8], buf: &mut [u8; 24]) -> usize
+    requires { length octets.now ≤ 8 }
+    ensures count { result ≤ 24 }
+    ensures text { take result buf.new ≡ triplets octets.now }
+{
+    let mut n = 0;
+    for octet in octets {
+        buf[n] = b'%';
+        buf[n + 1] = capital_digit(*octet / 16);
+        buf[n + 2] = capital_digit(*octet % 16);
+        n += 3;
+    }
+    n
+}
+
+fn put_few<W: TextSink>(sink: &mut W, octets: &[u8]) -> Result<(), Stop>
+    requires { length octets.now ≤ 8 }
+    ensures { Shows W.puts W.halts W.stops sink.old (triplets octets.now) sink.new result }
+{
+    let mut buf = [0u8; 24];
+    let n = spell(octets, &mut buf);
+    sink.put(unsafe { str::from_utf8_unchecked(&buf[..n]) })
+}
+
+/// Writes the triplets of octets, with capital hex digits.
+pub(crate) fn put_triplets<W: TextSink>(sink: &mut W, octets: &[u8]) -> Result<(), Stop>
+    ensures { Shows W.puts W.halts W.stops sink.old (triplets octets.now) sink.new result }
+{
+    let mut rest = octets;
+    while rest.len() > MOST {
+        let (few, more) = rest.split_at(MOST);
+        put_few(sink, few)?;
+        rest = more;
+    }
+    put_few(sink, rest)
+}
