@@ -1,10 +1,9 @@
 -- Parts without a stray `%`, and a path in two pieces.
-use Rattle.std.proofs.Common.{◌≡◌, ℕ, Bool, true, false, cond, not, ◌&&◌, ◌||◌, List, [], ◌∷◌, ◌++◌, Option, Some, None, Result, Ok, Err, OnOk, Bor, refl, sym, ◌∙◌, ap, subst, arith, append_assoc}
+use Rattle.std.proofs.Common.{◌≡◌, ℕ, Bool, true, false, cond, ◌&&◌, ◌||◌, List, [], ◌∷◌, ◌++◌, Option, Some, None, Bor, refl, sym, ◌∙◌, ap, subst, arith, append_assoc}
 use Rattle.std.specs.Prelude.{◌==◌, is_some}
 use Rattle.std.specs.Char.{is_ascii_hexdigit}
 use Rattle.std.proofs.lemmas.List.{append-nil}
 use Rattle.std.proofs.lemmas.Bool.Decides.{nat_tests}
-use Rattle.std.specs.declared.alloc.AllocError.{AllocError}
 use Rattle.iri_grammar.specs.Authority.{AuthorityParts, authority_parts, recompose_authority}
 use Rattle.iri_grammar.specs.Classes.{Tests, IsSpec, path_char}
 use Rattle.iri_grammar.specs.Views.{now_of}
@@ -13,11 +12,10 @@ use Rattle.iri_grammar.specs.Components.{if_there, is_path}
 use Rattle.iri_grammar.specs.CutLaws.{both}
 use Rattle.iri_grammar.specs.Parts.{is_empty}
 use Rattle.iri_percent.specs.MarkLaws.{pct_mark, slash}
-use Rattle.iri_percent.specs.NormalLaws.{normal_plain}
-use Rattle.iri_percent.specs.Triplets.{pct, normal, as_it_is}
+use Rattle.iri_percent.specs.Triplets.{pct, normal}
 use Rattle.iri_percent.specs.Units.{whole_triplets, two_digits, units_from}
 use Rattle.iri_resolve.specs.DotRemoval.{dots}
-use Rattle.iri_resolve.specs.Guard.{guard, begins_plainly}
+use Rattle.iri_resolve.specs.Guard.{guard}
 use Rattle.iri_resolve.specs.NormalForm.{normal_path}
 use Rattle.iri_resolve.specs.PathLaws.{dots-over}
 use Rattle.iri_resolve.specs.Target.{ends_at_slash}
@@ -37,7 +35,7 @@ slash_end : (x : ℕ) (xs : List ℕ) → ends_at_slash (x ∷ xs) ≡ true → 
 slash_end x [] h = ([], ap (λ c. c ∷ []) (equal-where x 47 h))
 slash_end x (y ∷ ys) h = let r = slash_end y ys h in (x ∷ r.0, ap (λ l. x ∷ l) r.1)
 
-pct_nil : (s : Tests) → pct s [] ≡ []
+pub pct_nil : (s : Tests) → pct s [] ≡ []
 unfolding normal units_from
 pct_nil s = refl
 
@@ -47,7 +45,7 @@ pct_at s init p =
     ∙ (pct_mark s 47 init p slash
     ∙ sym (ap (λ l. l ++ pct s p) (pct_mark s 47 init [] slash ∙ ap (λ l. pct s init ++ 47 ∷ l) (pct_nil s)) ∙ append_assoc (pct s init) (47 ∷ []) (pct s p)))
 
-pct_two : (s : Tests) (f p : List ℕ) → ends_at_slash f ≡ true → pct s (f ++ p) ≡ pct s f ++ pct s p
+pub pct_two : (s : Tests) (f p : List ℕ) → ends_at_slash f ≡ true → pct s (f ++ p) ≡ pct s f ++ pct s p
 pct_two s [] p h = sym (ap (λ l. l ++ pct s p) (pct_nil s))
 pct_two s (x ∷ xs) p h =
     let r = slash_end x xs h in subst (λ (f : List ℕ). pct s (f ++ p) ≡ pct s f ++ pct s p) (sym r.1) (pct_at s r.0 p)
@@ -65,7 +63,7 @@ digits_same y [] [] h = refl
 digits_same y [] (q ∷ qs) h = slash_no_digit y q h
 digits_same y (z ∷ zs) p h = refl
 
-whole_two : (f p : List ℕ) → ends_at_slash f ≡ true → whole_triplets (f ++ p) ≡ true → (whole_triplets f ≡ true) × (whole_triplets p ≡ true)
+pub whole_two : (f p : List ℕ) → ends_at_slash f ≡ true → whole_triplets (f ++ p) ≡ true → (whole_triplets f ≡ true) × (whole_triplets p ≡ true)
 unfolding whole_triplets
 whole_two [] p h w = (refl, w)
 whole_two (x ∷ []) p h w =
@@ -83,31 +81,9 @@ unfolding whole_triplets
 whole_parts f [] h w = (subst (λ (l : List ℕ). whole_triplets l ≡ true) (append-nil f) w, refl)
 whole_parts f (x ∷ xs) h w = whole_two f (x ∷ xs) h w
 
-neither : (a b : Bool) → not (a || b) ≡ true → (a ≡ false) × (b ≡ false)
-neither true b h = cc
-neither false true h = cc
-neither false false h = (refl, refl)
-
--- a path that needs no `/.` before it
-unguarded : (s : Tests) (p : List ℕ) (stands : Bool) → (stands || begins_plainly p) ≡ true → guard (pct s p) stands ≡ pct s p
-unguarded s p true h = refl
-unguarded s [] false h = ap (λ q. guard q false) (pct_nil s) ∙ sym (pct_nil s)
-unguarded s (x ∷ xs) false h = let n = neither (x == 47) (x == 37) h in rw (normal_plain s as_it_is x xs n.1, n.0) refl
-
--- such a path without dot segments, in normal form
-pub path_as_it_is : (s : Tests) (a : Option (List ℕ)) (f p : List ℕ) → (is_empty p || ends_at_slash f) ≡ true → (is_some a || begins_plainly (f ++ p)) ≡ true → dots (f ++ p) ≡ f ++ p
-    → normal_path s a (f ++ p) ≡ pct s f ++ pct s p
-unfolding normal_path
-path_as_it_is s a f p h e d = ap (λ q. guard (pct s q) (is_some a)) d ∙ (unguarded s (f ++ p) (is_some a) e ∙ pct_parts s f p h)
-
 -- a path without its dot segments has no stray `%`
 pub dots_whole : (s : Tests) → IsSpec s → (p : List ℕ) → is_path s p ≡ true → whole_triplets (dots p) ≡ true
 dots_whole s l p h = path-whole s (dots p) l (dots-over (path_char s) p (slash_in_path s) h)
-
--- two pieces that were put one behind the other
-pub two_pieces : (r : Result (Unit {0}) AllocError) (old mid new a b : List ℕ) → mid ≡ old ++ a → OnOk r (new ≡ mid ++ b) → OnOk r (new ≡ old ++ (a ++ b))
-two_pieces (Ok x) old mid new a b e h = h ∙ (ap (λ l. l ++ b) e ∙ append_assoc old a b)
-two_pieces (Err x) old mid new a b e h = tt
 
 pub is_some-now_of : (o : Option (Bor (List ℕ))) → is_some (now_of o) ≡ is_some o
 is_some-now_of None = refl

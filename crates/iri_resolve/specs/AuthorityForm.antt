@@ -48,7 +48,7 @@ literal-normal s h e =
     ap (normal s to_ascii_lowercase) (sym (append-nil h)) ∙ (normal_plains s to_ascii_lowercase h [] l ∙ (ap (λ z. map to_ascii_lowercase h ++ z) (normal_nil s to_ascii_lowercase) ∙ append-nil (map to_ascii_lowercase h))) in
     rw (a, n) refl
 
-host-fits : (s : Tests) (h : List ℕ) → IsSpec s → is_host s h ≡ true → is_host s (normal_host s h) ≡ true
+pub host-fits : (s : Tests) (h : List ℕ) → IsSpec s → is_host s h ≡ true → is_host s (normal_host s h) ≡ true
 unfolding normal_host
 host-fits s h k t =
     elim (is_ip_literal h) as (λ b. is_ip_literal h ≡ b → (b || is_reg_name s h) ≡ true → is_host s (normal_host s h) ≡ true) [
@@ -64,7 +64,7 @@ host-fits s h k t =
         ]
 
 -- ---- the parts of an authority
-userinfo-fits : (s : Tests) (o : Option (List ℕ)) → IsSpec s → if_there (is_userinfo s) o ≡ true → if_there (is_userinfo s) (normal_userinfo s o) ≡ true
+pub userinfo-fits : (s : Tests) (o : Option (List ℕ)) → IsSpec s → if_there (is_userinfo s) o ≡ true → if_there (is_userinfo s) (normal_userinfo s o) ≡ true
 userinfo-fits s None k h = refl
 userinfo-fits s (Some u) k h = pct-userinfo s u k h
 

@@ -16,7 +16,7 @@ use Rattle.iri_percent.specs.NormalHost.{normal_authority}
 use Rattle.iri_percent.specs.Stability.{lower-case, pct-stable}
 use Rattle.iri_resolve.specs.Normal.{lowered, where_there}
 use Rattle.iri_resolve.specs.Target.{target, target_under}
-use Rattle.iri_resolve.specs.NormalForm.{normal_path, normal_form, canonical_parts, canonical}
+use Rattle.iri_resolve.specs.NormalForm.{normal_path, normal_form, form, canonical_parts, canonical}
 use Rattle.iri_resolve.specs.TargetLaws.{target-fits}
 use Rattle.iri_percent.specs.ClassLaws.{pct-query, pct-fragment}
 use Rattle.iri_percent.specs.WholeLaws.{query-whole, fragment-whole}
@@ -45,7 +45,7 @@ lowered-twice : (xs : List ℕ) → lowered (lowered xs) ≡ lowered xs
 lowered-twice [] = refl
 lowered-twice (x ∷ xs) = ap (λ y. y ∷ lowered (lowered xs)) (lower-case.twice x) ∙ ap (λ ys. to_ascii_lowercase x ∷ ys) (lowered-twice xs)
 
-scheme-stable : (o : Option (List ℕ)) → where_there lowered (where_there lowered o) ≡ where_there lowered o
+pub scheme-stable : (o : Option (List ℕ)) → where_there lowered (where_there lowered o) ≡ where_there lowered o
 scheme-stable None = refl
 scheme-stable (Some x) = ap Some (lowered-twice x)
 
@@ -54,7 +54,7 @@ authorities-fit : (s : Tests) (o : Option (List ℕ)) → IsSpec s → if_there 
 authorities-fit s None k h = refl
 authorities-fit s (Some x) k h = authority-fits s x k h
 
-authorities-stable : (s : Tests) (o : Option (List ℕ)) → IsSpec s → if_there (is_authority s) o ≡ true → where_there (normal_authority s) (where_there (normal_authority s) o) ≡ where_there (normal_authority s) o
+pub authorities-stable : (s : Tests) (o : Option (List ℕ)) → IsSpec s → if_there (is_authority s) o ≡ true → where_there (normal_authority s) (where_there (normal_authority s) o) ≡ where_there (normal_authority s) o
 authorities-stable s None k h = refl
 authorities-stable s (Some x) k h = ap Some (authority-stable s x k h)
 
@@ -62,7 +62,7 @@ query-fits : (s : Tests) (o : Option (List ℕ)) → IsSpec s → if_there (is_q
 query-fits s None k h = refl
 query-fits s (Some x) k h = pct-query s x k h
 
-query-stable : (s : Tests) (o : Option (List ℕ)) → IsSpec s → if_there (is_query s) o ≡ true → where_there (pct s) (where_there (pct s) o) ≡ where_there (pct s) o
+pub query-stable : (s : Tests) (o : Option (List ℕ)) → IsSpec s → if_there (is_query s) o ≡ true → where_there (pct s) (where_there (pct s) o) ≡ where_there (pct s) o
 query-stable s None k h = refl
 query-stable s (Some x) k h = ap Some (pct-stable s x k (query-whole s x k h))
 
@@ -70,7 +70,7 @@ fragment-fits : (s : Tests) (o : Option (List ℕ)) → IsSpec s → if_there (i
 fragment-fits s None k h = refl
 fragment-fits s (Some x) k h = pct-fragment s x k h
 
-fragment-stable : (s : Tests) (o : Option (List ℕ)) → IsSpec s → if_there (is_fragment s) o ≡ true → where_there (pct s) (where_there (pct s) o) ≡ where_there (pct s) o
+pub fragment-stable : (s : Tests) (o : Option (List ℕ)) → IsSpec s → if_there (is_fragment s) o ≡ true → where_there (pct s) (where_there (pct s) o) ≡ where_there (pct s) o
 fragment-stable s None k h = refl
 fragment-stable s (Some x) k h = ap Some (pct-stable s x k (fragment-whole s x k h))
 
@@ -84,7 +84,7 @@ still-there (Some x) h = refl
 
 -- ---- the normal form
 pub form-fits : (s : Tests) (t : Parts) → IsSpec s → Fits s t → IsSome t.scheme → Fits s (normal_form s t) × IsSome (normal_form s t).scheme
-unfolding normal_form
+unfolding normal_form form
 form-fits s t k f i = (
   record {
     scheme = scheme-fits t.scheme f.scheme;
@@ -98,7 +98,7 @@ form-fits s t k f i = (
 )
 
 pub form-stable : (s : Tests) (t : Parts) → IsSpec s → Fits s t → normal_form s (normal_form s t) ≡ normal_form s t
-unfolding normal_form
+unfolding normal_form form
 form-stable s t k f =
     rw (scheme-stable t.scheme, authorities-stable s t.authority k f.authority, path-stable s (normal_authority s) t.authority t.path k f.path, query-stable s t.query k f.query, fragment-stable s t.fragment k f.fragment)
     refl

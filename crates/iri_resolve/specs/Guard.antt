@@ -1,12 +1,7 @@
 -- A path that begins with `//` where no authority stands (RFC 3986 section 3.3).
-use Rattle.std.specs.Prelude.{ℕ, Bool, true, cond, ◌||◌, ◌==◌, not, List, [], ◌∷◌}
+use Rattle.std.specs.Prelude.{ℕ, Bool, cond, ◌||◌, not, List, ◌∷◌}
 use Rattle.iri_grammar.specs.Parts.{starts_with_slashes}
 
 -- without an authority, such a path is written with `/.` before it, so that no authority is read from it
 abbrev pub guard : List ℕ → Bool → List ℕ
 guard path authority_stands = cond (authority_stands || not (starts_with_slashes path)) path (47 ∷ 46 ∷ path)
-
--- what begins neither with a slash nor with a triplet: its normal form begins as it does, and needs no `/.`
-abbrev pub begins_plainly : List ℕ → Bool
-begins_plainly [] = true
-begins_plainly (x ∷ xs) = not (x == 47 || x == 37)

@@ -29,11 +29,11 @@ ascii-plain : (x : ℕ) (xs : List ℕ) → (x == 37) ≡ false → is_ascii_hos
 unfolding is_ascii_host
 ascii-plain x xs h = rw h refl
 
-ascii-triplet : (a b : ℕ) (xs : List ℕ) → is_ascii_hexdigit a ≡ true → is_ascii_hexdigit b ≡ true → is_ascii_host (37 ∷ a ∷ b ∷ xs) ≡ (is_ascii (octet a b) && is_ascii_host xs)
+pub ascii-triplet : (a b : ℕ) (xs : List ℕ) → is_ascii_hexdigit a ≡ true → is_ascii_hexdigit b ≡ true → is_ascii_host (37 ∷ a ∷ b ∷ xs) ≡ (is_ascii (octet a b) && is_ascii_host xs)
 unfolding is_ascii_host
 ascii-triplet a b xs p q = ap (λ v. is_ascii (octet a b) && v) (ascii-plain a (b ∷ xs) (hex_apart a p) ∙ (rw (hex_ascii a p) (ascii-plain b xs (hex_apart b q) ∙ rw (hex_ascii b q) refl)))
 
-ascii-spelled : (sp os xs : List ℕ) → Spells sp os → is_ascii_host (sp ++ xs) ≡ (list_all is_ascii os && is_ascii_host xs)
+pub ascii-spelled : (sp os xs : List ℕ) → Spells sp os → is_ascii_host (sp ++ xs) ≡ (list_all is_ascii os && is_ascii_host xs)
 ascii-spelled sp os xs none = refl
 ascii-spelled sp os xs (more a b sp' os' p q k) =
     ascii-triplet a b (sp' ++ xs) p q ∙ (ap (λ v. is_ascii (octet a b) && v) (ascii-spelled sp' os' xs k) ∙ sym (and_assoc (is_ascii (octet a b)) (list_all is_ascii os') (is_ascii_host xs)))
@@ -67,7 +67,7 @@ all-case f [] i = refl
 all-case f (x ∷ xs) i = rw (case-ascii f x i, all-case f xs i) refl
 
 -- normal form doesn't change whether a host is ASCII
-ascii-read : (s : Tests) (f : ℕ → ℕ) (t : List ℕ) → IsSpec s → IsCase f → Reading t → is_ascii_host (normal s f t) ≡ is_ascii_host t
+pub ascii-read : (s : Tests) (f : ℕ → ℕ) (t : List ℕ) → IsSpec s → IsCase f → Reading t → is_ascii_host (normal s f t) ≡ is_ascii_host t
 ascii-read s f t k i done = ap is_ascii_host (normal_nil s f)
 ascii-read s f t k i (plain x xs h r) =
     ap is_ascii_host (normal_plain s f x xs h) ∙ (ascii-plain (f x) (normal s f xs) (i.percent x h) ∙ (rw (case-ascii f x i, ascii-read s f xs k i r) (sym (ascii-plain x xs h))))

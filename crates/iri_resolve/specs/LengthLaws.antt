@@ -20,7 +20,7 @@ use Rattle.iri_resolve.specs.Normal.{lowered, where_there}
 use Rattle.iri_resolve.specs.Dots.{is_dot_segment}
 use Rattle.iri_resolve.specs.DotRemoval.{is_two_dots, without_last, dots}
 use Rattle.iri_resolve.specs.Target.{target, target_under, target_path, target_query, merged, merge_front, to_last_slash, or_base}
-use Rattle.iri_resolve.specs.NormalForm.{normal_path, normal_form, canonical}
+use Rattle.iri_resolve.specs.NormalForm.{normal_path, normal_form, form, canonical}
 use Rattle.iri_resolve.specs.OutputLaws.{closed_text, text_behind, text_from, dots-text}
 use Rattle.iri_resolve.specs.StableLaws.{slashed, unsplit, unsplit-pieces}
 use Rattle.iri_resolve.specs.TargetLaws.{target-fits, slash_in_path}
@@ -157,7 +157,7 @@ length-fragment s None k h = omega arith
 length-fragment s (Some x) k h = let l = length-pct s x (fragment-whole s x k h) in omega arith
 
 pub length-form : (s : Tests) (t : Parts) → IsSpec s → Fits s t → length (recompose (normal_form s t)) ≤ length (recompose t) + 2
-unfolding normal_form
+unfolding normal_form form
 length-form s t k f =
     let a = length-scheme t.scheme in
     let b = length-authorities s t.authority k f.authority in

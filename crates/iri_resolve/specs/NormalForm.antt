@@ -1,23 +1,54 @@
--- The normal form of parts, and the canonical text of a reference against a base (RFC 3986 sections 5.2 and 6.2.2, RFC 3987 section 5.3.2).
-use Rattle.std.specs.Prelude.{ℕ, List, Option, is_some}
+-- The forms of parts, the normal one among them, and the canonical text of a reference against a base (RFC 3986 sections 5.2 and 6.2.2, RFC 3987 section 5.3.2).
+use Rattle.std.specs.Prelude.{ℕ, Bool, false, cond, not, ◌&&◌, ◌||◌, List, Option, is_some}
 use Rattle.iri_grammar.specs.Classes.{Tests}
-use Rattle.iri_grammar.specs.Parts.{Parts, recompose}
+use Rattle.iri_grammar.specs.Parts.{Parts, recompose, starts_with_slash, starts_with_slashes}
 use Rattle.iri_grammar.specs.Split.{split_of}
 use Rattle.iri_percent.specs.Triplets.{pct}
 use Rattle.iri_percent.specs.NormalHost.{normal_authority}
 use Rattle.iri_resolve.specs.Target.{target}
 use Rattle.iri_resolve.specs.DotRemoval.{dots}
 use Rattle.iri_resolve.specs.Guard.{guard}
+use Rattle.iri_resolve.specs.Modes.{is_normalizing}
 use Rattle.iri_resolve.specs.Normal.{lowered, where_there}
+use Rattle.iri_resolve.specs.declared.mode.Mode.{Mode}
+use Rattle.iri_resolve.specs.declared.mode.Mode.TheVariants.{Plain, Normal, Preserving}
 
--- the path: its dot segments removed, its triplets in normal form, and `/.` before it where it would be read as an authority
+-- the path in normal form: its dot segments removed, its triplets in normal form, and `/.` before it where it would be read as an authority
 unfoldable pub normal_path : Tests → Option (List ℕ) → List ℕ → List ℕ
 normal_path s authority path = guard (pct s (dots path)) (is_some authority)
 
--- the scheme in lower case, the authority in normal form, the path, and query and fragment with their triplets in normal form
+-- the same, but a path without authority that doesn't begin with a slash keeps its dot segments
+abbrev pub preserved_path : Tests → Option (List ℕ) → List ℕ → List ℕ
+preserved_path s authority path = cond (is_some authority || starts_with_slash path) (normal_path s authority path) (pct s path)
+
+-- the path without its dot segments, guarded, as it stands otherwise; a base's path that is taken whole stays all as it stands
+abbrev pub plain_path : Bool → Option (List ℕ) → List ℕ → List ℕ
+plain_path whole authority path = cond whole path (guard (dots path) (is_some authority))
+
+-- the path in each mode
+abbrev pub path_in : Tests → Mode → Bool → Option (List ℕ) → List ℕ → List ℕ
+path_in s Normal whole authority path = normal_path s authority path
+path_in s Preserving whole authority path = preserved_path s authority path
+path_in s Plain whole authority path = plain_path whole authority path
+
+-- another part, where it stands: with f done to it, or as it is
+abbrev pub part_in : Bool → (List ℕ → List ℕ) → Option (List ℕ) → Option (List ℕ)
+part_in normal f part = cond normal (where_there f part) part
+
+-- parts in a mode: the scheme in lower case, the authority in normal form, query and fragment with their triplets in normal form,
+-- or all of these as they stand; and the path. `whole` says that the path is the base's, taken whole
+unfoldable pub form : Tests → Mode → Bool → Parts → Parts
+form s mode whole t =
+    let normal = is_normalizing mode in
+    record { scheme = part_in normal lowered t.scheme; authority = part_in normal (normal_authority s) t.authority; path = path_in s mode whole t.authority t.path; query = part_in normal (pct s) t.query; fragment = part_in normal (pct s) t.fragment }
+
+-- the normal form
 unfoldable pub normal_form : Tests → Parts → Parts
-normal_form s t =
-    record { scheme = where_there lowered t.scheme; authority = where_there (normal_authority s) t.authority; path = normal_path s t.authority t.path; query = where_there (pct s) t.query; fragment = where_there (pct s) t.fragment }
+normal_form s t = form s Normal false t
+
+-- no authority stands, and without its dot segments the path would be read as one. A base's path taken whole isn't judged
+abbrev pub is_unresolvable : Bool → Parts → Bool
+is_unresolvable whole t = not whole && (not (is_some t.authority) && starts_with_slashes (dots t.path))
 
 -- the parts of the canonical text: the normal form of the target
 abbrev pub canonical_parts : Tests → List ℕ → List ℕ → Parts

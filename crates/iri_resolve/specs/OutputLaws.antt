@@ -51,7 +51,7 @@ lacks_slash : (xs ys : List ℕ) → lacks 47 (xs ++ 47 ∷ ys) ≡ false
 lacks_slash [] ys = refl
 lacks_slash (x ∷ xs) ys = elim (x == 47) as (λ b. (not b && lacks 47 (xs ++ 47 ∷ ys)) ≡ false) [ true ↦ refl | false ↦ lacks_slash xs ys ]
 
-without_last-slash : (xs ys : List ℕ) → lacks 47 ys ≡ true → without_last (xs ++ 47 ∷ ys) ≡ xs
+pub without_last-slash : (xs ys : List ℕ) → lacks 47 ys ≡ true → without_last (xs ++ 47 ∷ ys) ≡ xs
 without_last-slash [] ys h = rw h refl
 without_last-slash (x ∷ xs) ys h = rw (lacks_slash xs ys) (ap (λ zs. x ∷ zs) (without_last-slash xs ys h))
 

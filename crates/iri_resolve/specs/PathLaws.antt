@@ -10,6 +10,7 @@ use Rattle.iri_grammar.specs.Over.{text_over}
 use Rattle.iri_grammar.specs.Parts.{path_rules, is_empty, starts_with_slash, starts_with_slashes}
 use Rattle.iri_grammar.specs.Pieces.{pieces}
 use Rattle.iri_percent.specs.Triplets.{as_it_is, pct}
+use Rattle.iri_percent.specs.Units.{whole_triplets}
 use Rattle.iri_percent.specs.NormalLaws.{normal_nil, normal_plain}
 use Rattle.iri_percent.specs.Stability.{pct-stable}
 use Rattle.iri_resolve.specs.Dots.{is_dot_segment}
@@ -23,6 +24,7 @@ use Rattle.iri_resolve.specs.PieceLaws.{nothing-is_no_dot, pieces-some}
 use Rattle.iri_resolve.specs.OutputLaws.{left, text_behind, dots-text}
 use Rattle.iri_resolve.specs.StableLaws.{unsplit, unsplit-pieces, dots-stable, guard-dots}
 use Rattle.iri_resolve.specs.TripletPaths.{dots-pct}
+use Rattle.iri_resolve.specs.TripletHeads.{pct-head}
 use Rattle.iri_percent.specs.ClassLaws.{pct-path}
 use Rattle.iri_percent.specs.WholeLaws.{path-whole}
 
@@ -158,3 +160,25 @@ path-stable s f a t k h =
     still : (o : Option (List ℕ)) → is_some (where_there f o) ≡ is_some o
     still None = refl
     still (Some x) = refl
+
+-- ---- the path without its dot segments, as it stands otherwise
+pub plain-over : (s : Tests) (a : Option (List ℕ)) (t : List ℕ) → is_path s t ≡ true → is_path s (guard (dots t) (is_some a)) ≡ true
+plain-over s a t h = guard-over (path_char s) (dots t) (is_some a) (slash_in_path s) (point_in_path s) (dots-over (path_char s) t (slash_in_path s) h)
+
+dots-rooted : (t : List ℕ) → rooted t ≡ true → rooted (dots t) ≡ true
+dots-rooted [] h = rw dots-nothing refl
+dots-rooted (x ∷ xs) h = slash-rooted (dots (x ∷ xs)) (dots-slash (x ∷ xs) h)
+
+pub plain-rules : (x : List ℕ) (a : Option (List ℕ)) (t : List ℕ) → path_rules (Some x) a t ≡ true → path_rules (Some x) a (guard (dots t) (is_some a)) ≡ true
+plain-rules x (Some z) t h = dots-rooted t h
+plain-rules x None t h = guarded (dots t)
+
+-- ---- triplets in normal form at the front of a path
+pub pct-unrooted : (s : Tests) (t : List ℕ) → IsSpec s → whole_triplets t ≡ true → starts_with_slash t ≡ false → starts_with_slash (pct s t) ≡ false
+pct-unrooted s t k w h = pct-head s t k w ∙ h
+
+pub normal-rooted : (s : Tests) (t : List ℕ) → starts_with_slash t ≡ true → starts_with_slash (normal_path s None t) ≡ true
+unfolding normal_path
+normal-rooted s t h =
+    let e = pct-slash s (dots t) (dots-slash t h) in
+    elim (starts_with_slashes (pct s (dots t))) as (λ b. starts_with_slash (cond (not b) (pct s (dots t)) (47 ∷ 46 ∷ pct s (dots t))) ≡ true) [ true ↦ refl | false ↦ e ]

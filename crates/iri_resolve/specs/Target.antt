@@ -1,5 +1,5 @@
 -- The target of a reference against a base (RFC 3986 sections 5.2.2 and 5.2.3). No dot is removed.
-use Rattle.std.specs.Prelude.{◌≡◌, ℕ, ◌+◌, ◌<◌, length, take, slice_index, Bool, true, false, cond, ◌&&◌, ◌==◌, List, [], ◌∷◌, ◌++◌, Option, Some, None, is_some}
+use Rattle.std.specs.Prelude.{◌≡◌, ℕ, ◌+◌, ◌<◌, length, take, slice_index, Bool, true, false, cond, ◌&&◌, ◌||◌, not, ◌==◌, List, [], ◌∷◌, ◌++◌, Option, Some, None, is_some}
 use Rattle.iri_grammar.specs.Cut.{lacks}
 use Rattle.iri_grammar.specs.Parts.{Parts, is_empty, starts_with_slash}
 
@@ -55,3 +55,7 @@ target_under base r None None =
 
 unfoldable pub target : Parts → Parts → Parts
 target base reference = target_under base reference reference.scheme reference.authority
+
+-- the third of them: a reference with neither scheme nor authority and with an empty path takes the base's path whole
+abbrev pub takes_base_path : Parts → Bool
+takes_base_path r = not (is_some r.scheme || is_some r.authority) && is_empty r.path

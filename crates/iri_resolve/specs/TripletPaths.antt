@@ -46,7 +46,7 @@ lacks-behind : (m : ℕ) (xs ys : List ℕ) → lacks m (xs ++ ys) ≡ true → 
 lacks-behind m [] ys h = h
 lacks-behind m (x ∷ xs) ys h = lacks-behind m xs ys (both (not (x == m)) (lacks m (xs ++ ys)) h).1
 
-encoded-lacks : (s : Tests) (m c : ℕ) → IsDelimiter s m → unreserved s c ≡ true → lacks m (map as_it_is (encode_utf8 c)) ≡ true
+pub encoded-lacks : (s : Tests) (m c : ℕ) → IsDelimiter s m → unreserved s c ≡ true → lacks m (map as_it_is (encode_utf8 c)) ≡ true
 encoded-lacks s m c k u =
     let apart : (c == m) ≡ false = test_apart (unreserved s) m c k.reserved u in
     rw (map_same (encode_utf8 c)) (ap (lacks m) (sym (append-nil (encode_utf8 c))) ∙ lacks-encodes m (c ∷ []) k.ascii (lacks-other m c [] apart refl))

@@ -2,20 +2,21 @@
 ghost use Rattle.std.specs.Prelude.{◌≡◌, None, IfOk, MatchResult, OnOk, string_bytes};
 ghost use Rattle.iri_grammar.specs.Fault.{bytes_fault};
 ghost use Rattle.iri_grammar.specs.WholeFault.{absolute_fault, iri_fault, reference_fault};
+ghost use Rattle.iri_text.specs.Shown.{Shows};
 ghost use Rattle.iri_types.specs.SplitText.{split_text};
 ghost use Rattle.iri_types.specs.Texts.{text};
 ghost use Rattle.iri_resolve.specs.Canonicalized.{CausedBy, IsCanonicalText};
 ghost use Rattle.iri_resolve.specs.NormalForm.{canonical};
 ghost use Rattle.iri_resolve.specs.Resolver.{base_text};
 
-use crate::normal::write_normal;
 use crate::resolver::FixedBaseResolver;
 use iri_grammar::error::Error as GrammarError;
 use iri_grammar::spec::Spec;
 use iri_owned::owned::RiString;
+use iri_text::{Show, Stop, TextSink, ToDedicatedString, try_append_to_string};
 use iri_types::kind::Reference;
 use iri_types::split::SplitView;
-use iri_types::view::{RiAbsoluteStr, RiReferenceStr};
+use iri_types::view::RiAbsoluteStr;
 use std::alloc::{AllocError, Global};
 use thiserror::Error;
 
@@ -33,10 +34,22 @@ pub enum CanonError {
     Memory,
 }
 
+/// Shows the canonical text of a reference against a resolver's base to a sink. It takes no memory, and where the sink stops, it
+/// stops within the text.
+pub fn show_canonical<'a, S: Spec, W: TextSink>(
+    sink: &mut W,
+    resolver: &FixedBaseResolver<'a, S>,
+    reference: &SplitView<'a, S, Reference>,
+) -> Result<(), Stop>
+    ensures { Shows W.puts W.halts W.stops sink.old (canonical S.tests (base_text resolver.now) (split_text reference.now)) sink.new result }
+{
+    resolver.resolve_split(reference).and_normalize().show(sink)
+}
+
 /// Writes the canonical text of a reference against a resolver's base, a URI of `S`, in place of what the buffer holds. Want of
 /// memory is the only error; the buffer then holds any text.
 pub fn write_canonical<'a, S: Spec>(
-    alloc: Global,
+    _alloc: Global,
     buffer: &mut String,
     resolver: &FixedBaseResolver<'a, S>,
     reference: &SplitView<'a, S, Reference>,
@@ -44,21 +57,8 @@ pub fn write_canonical<'a, S: Spec>(
     ensures text { OnOk result (string_bytes buffer.new ≡ canonical S.tests (base_text resolver.now) (split_text reference.now)) }
     ensures valid { OnOk result (iri_fault S.tests (string_bytes buffer.new) ≡ None) }
 {
-    write_normal::<S>(alloc, buffer, &resolver.slices(reference))
-}
-
-// The canonical text of a reference against a base.
-fn canonical_text<S: Spec>(
-    alloc: Global,
-    base: RiAbsoluteStr<'_, S>,
-    reference: RiReferenceStr<'_, S>,
-) -> Result<RiString<S>, AllocError>
-    ensures { IfOk result (λ t. t.text ≡ canonical S.tests (text base.entry) (text reference.entry)) }
-{
-    let mut text = String::new(alloc);
-    let resolver = FixedBaseResolver::new(base);
-    write_canonical(alloc, &mut text, &resolver, &SplitView::of(reference))?;
-    Ok(RiString::from_valid(text))
+    buffer.clear();
+    try_append_to_string(buffer, &resolver.resolve_split(reference).and_normalize())
 }
 
 // The canonical text of bytes against a base.
@@ -70,11 +70,14 @@ fn canonicalize_against<S: Spec>(
     ensures { MatchResult result (λ t. (bytes_fault (reference_fault S.tests) reference.now ≡ None) × (t.text ≡ canonical S.tests (text base.entry) reference.now))
         (λ e. CausedBy e None (bytes_fault (reference_fault S.tests) reference.now)) }
 {
-    match RiReferenceStr::<S>::try_from_bytes(reference) {
-        Ok(reference) => match canonical_text(alloc, base, reference) {
-            Ok(text) => Ok(text),
-            Err(_) => Err(CanonError::Memory),
-        },
+    match SplitView::<S, Reference>::try_from_bytes(reference) {
+        Ok(reference) => {
+            let target = FixedBaseResolver::new(base).resolve_split(&reference);
+            match target.and_normalize().try_to_dedicated_string(alloc) {
+                Ok(text) => Ok(text),
+                Err(_) => Err(CanonError::Memory),
+            }
+        }
         Err(error) => Err(CanonError::BadReference(error)),
     }
 }

@@ -1,25 +1,56 @@
-//! The target of a reference against a base, its normal form, and canonical texts (RFC 3986 sections 5.2.2, 5.2.3, 5.2.4
-//! and 6.2.2).
+//! References resolved against a base, their normal form, and canonical texts (RFC 3986 sections 5.2.2, 5.2.3, 5.2.4 and 6.2.2).
 //!
-//! [`FixedBaseResolver`](resolver::FixedBaseResolver) has a base, and gives the target of each reference against it as an owned
-//! [`Target`](owned_target::Target). [`canonicalize`](canonical::canonicalize) answers the canonical text of two texts of bytes,
-//! and [`write_canonical`](canonical::write_canonical) writes that of a reference into a buffer that many references share.
-//! `laws` has what holds of all targets, normal forms and canonical texts.
+//! [`FixedBaseResolver`](resolver::FixedBaseResolver) has a base. It gives each reference resolved against it as a
+//! [`Normalized`](normalized::Normalized), which shows its text to any sink without memory, in one of three modes: resolved alone,
+//! in normal form, or in the normal form that preserves relative paths. It also gives the reference's
+//! [`Target`](owned_target::Target), owned, with its dots kept. `views` has the same for views: `normalize` and `resolve_against`.
+//! [`canonicalize`](canonical::canonicalize) answers the canonical text of two texts of bytes, and
+//! [`show_canonical`](canonical::show_canonical) shows that of a reference against a resolver's base.
+//! [`IsNormalized`](is_normalized::IsNormalized) tells whether a text is in normal form. [`Step`](step::Step)s lead a target to its
+//! normal form: [`steps_to_normal`](normal_steps::steps_to_normal) gives them, [`replay`](replay::replay) does them, and
+//! [`join_steps`](join::join_steps) gives those that lead two targets to one. `laws` has what holds of all targets, forms, canonical
+//! texts and steps.
 //!
-//! Proved: a target is that of section 5.2.2, with its dots kept. A canonical text is the recomposition of the target's normal
-//! form; it is a URI of the grammar, splits into exactly the normal parts, and is its own canonical text against every base.
+//! Proved: a target is that of section 5.2.2, with its dots kept. What is shown is exactly the recomposition of the target's form in
+//! the mode, whatever the sink and however many segments the path has; a sink that stops, stops within that text. Only a path that
+//! would be read as an authority is told as not normalizable by RFC 3986 alone. A canonical text is the recomposition of the target's
+//! normal form; it is a URI of the grammar, splits into exactly the normal parts, and is its own canonical text against every base.
 //! `canonicalize` refuses exactly a base or a reference outside its grammar, with its first fault, the base first; memory is
-//! wanted only where both are valid. Dot removal is the rewriting of section 5.2.4, and is stable; the normal form fits again and
-//! is stable; a canonical text has at most three bytes more than base and reference together.
+//! wanted only where both are valid. Dot removal is the rewriting of section 5.2.4, and is stable; each form fits the grammar again,
+//! and the normal and the preserving one are stable; a canonical text has at most three bytes more than base and reference together.
+//! A text is told to be in normal form exactly where it is, without memory. Steps keep parts valid, keep their normal form, and
+//! change something; those to the normal form replay to it; two targets are joined exactly where their canonical texts are equal.
 //!
-//! Not proved: that memory is had, which tests show; the words of `CanonError`'s `Display`, which `thiserror` makes.
+//! Not proved: that memory is had, which tests show; the words of `Display` of `CanonError` and `ReplayError`, which `thiserror`
+//! makes; any bound on time. A path is written from its end, in O(n log n) looks at its bytes.
 #![tactic(auto)]
 
+mod after_step;
+mod authority_change;
 pub mod canonical;
+mod change;
+mod comparison;
+mod component;
+mod component_steps;
 mod dots;
+mod form;
+pub mod is_normalized;
+pub mod join;
 pub mod laws;
-mod normal;
+pub mod mapping_laws;
+pub mod mode;
+pub mod normal_kind;
+pub mod normal_steps;
+pub mod normalized;
 pub mod owned_target;
-mod path;
+mod path_writer;
+pub mod replay;
 pub mod resolver;
+#[cfg(test)]
+mod rewriting;
+pub mod step;
+pub mod step_list;
+mod step_text;
 mod target;
+pub mod unresolvable;
+pub mod views;

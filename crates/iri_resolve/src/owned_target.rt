@@ -85,6 +85,22 @@ impl<S: Spec> Target<S> {
         })
     }
 
+    // The parts, lent.
+    pub(crate) fn slices(&self) -> TargetSlices<'_>
+        ensures parts { slices result ≡ self.now }
+        ensures fits { Fits S.tests self.now }
+        ensures scheme { IsSome self.now.scheme }
+    {
+        TargetSlices {
+            scheme: Some(self.scheme.as_str()),
+            authority: lent(&self.authority),
+            front: "",
+            path: self.path.as_str(),
+            query: lent(&self.query),
+            fragment: lent(&self.fragment),
+        }
+    }
+
     /// The scheme, without its colon.
     pub fn scheme(&self) -> &str
         ensures { Some result.now ≡ self.now.scheme }

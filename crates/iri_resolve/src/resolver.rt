@@ -1,36 +1,56 @@
 //! References against one base (RFC 3986 section 5.2).
-ghost use Rattle.std.specs.Prelude.{◌≡◌, IfOk, IsSome, true};
+ghost use Rattle.std.specs.Prelude.{◌≡◌, IfOk, IsSome, Some, true};
 ghost use Rattle.iri_grammar.specs.Parts.{Fits};
 ghost use Rattle.iri_grammar.specs.Split.{split_of};
+ghost use Rattle.iri_grammar.specs.Views.{now_of};
 ghost use Rattle.iri_types.specs.SplitText.{split_text};
-ghost use Rattle.iri_types.specs.Texts.{text};
+ghost use Rattle.iri_types.specs.Texts.{text, text_of};
 ghost use Rattle.iri_resolve.specs.Slices.{slices, is_cut_at_segment};
-ghost use Rattle.iri_resolve.specs.Target.{target};
+ghost use Rattle.iri_resolve.specs.Target.{ends_at_slash, merge_front, target, takes_base_path};
+ghost use Rattle.std.proofs.Props.{props};
+ghost use Rattle.iri_resolve.specs.declared.mode.Mode.TheVariants.{Plain};
 
+use crate::mode::Mode;
+use crate::normalized::{Normalized, NormalizedText};
 use crate::owned_target::Target;
-use crate::target::{TargetSlices, target};
+use crate::target::{TargetSlices, merge_front, takes_base_path, target};
 use iri_grammar::spec::Spec;
 use iri_types::kind::{Absolute, Reference};
 use iri_types::split::SplitView;
-use iri_types::view::{RiAbsoluteStr, RiReferenceStr};
+use iri_types::view::{RiAbsoluteStr, RiQueryStr, RiReferenceStr};
 use std::alloc::{AllocError, Global};
 
-/// A base, against which references are resolved. It is cut into its parts once.
-#[derive(Clone, Copy)]
+/// A base, against which references are resolved. It is cut into its parts once, and the front that relative paths are put behind is
+/// found once.
 pub struct FixedBaseResolver<'a, S: Spec> {
     base: SplitView<'a, S, Absolute>,
+    front: &'a str,
+    pub ghost prepared: { (front.now ≡ merge_front (split_of (split_text base))) × (ends_at_slash front.now ≡ true) } by { Prim.hlevel props },
 }
+
+impl<S: Spec> Clone for FixedBaseResolver<'_, S> {
+    ghost is_clone = { λ a b. b ≡ a };
+
+    ghost is_infallible = { λ _. Unit {0} };
+
+    fn clone(&self) -> Result<Self, AllocError> {
+        Ok(*self)
+    }
+}
+
+impl<S: Spec> Copy for FixedBaseResolver<'_, S> {}
 
 impl<'a, S: Spec> FixedBaseResolver<'a, S> {
     ghost use Rattle.iri_resolve.specs.Resolver.{base_text};
+    ghost use Rattle.iri_resolve.specs.NormalizedText.{written};
 
     /// The resolver of a base.
     pub fn new(base: RiAbsoluteStr<'a, S>) -> Self
         ensures { base_text result ≡ text base.entry }
     {
-        FixedBaseResolver {
-            base: SplitView::of(base),
-        }
+        let base = SplitView::of(base);
+        let front = merge_front(base.parts());
+        FixedBaseResolver { base, front }
     }
 
     /// The base.
@@ -40,6 +60,41 @@ impl<'a, S: Spec> FixedBaseResolver<'a, S> {
         self.base.view()
     }
 
+    /// The scheme of the base, without its colon.
+    pub fn scheme_str(&self) -> &'a str
+        ensures { Some result.now ≡ (split_of (base_text self.now)).scheme }
+    {
+        self.base.view().scheme_str()
+    }
+
+    /// The authority of the base, without the slashes before it; none exactly where no authority stands.
+    pub fn authority_str(&self) -> Option<&'a str>
+        ensures { now_of result ≡ (split_of (base_text self.now)).authority }
+    {
+        self.base.parts().authority()
+    }
+
+    /// The path of the base, which may be empty.
+    pub fn path_str(&self) -> &'a str
+        ensures { result.now ≡ (split_of (base_text self.now)).path }
+    {
+        self.base.parts().path()
+    }
+
+    /// The query of the base, without its question mark; none exactly where no question mark begins one.
+    pub fn query_str(&self) -> Option<&'a str>
+        ensures { now_of result ≡ (split_of (base_text self.now)).query }
+    {
+        self.base.parts().query()
+    }
+
+    /// The query of the base as a view; none exactly where no question mark begins one.
+    pub fn query(&self) -> Option<RiQueryStr<'a, S>>
+        ensures { text_of result ≡ (split_of (base_text self.now)).query }
+    {
+        self.base.view().query()
+    }
+
     // The target of a reference, as slices of the base and the reference.
     pub(crate) fn slices(&self, reference: &SplitView<'a, S, Reference>) -> TargetSlices<'a>
         ensures cut { is_cut_at_segment result ≡ true }
@@ -47,7 +102,23 @@ impl<'a, S: Spec> FixedBaseResolver<'a, S> {
         ensures scheme { IsSome (slices result).scheme }
         ensures parts { slices result ≡ target (split_of (base_text self.now)) (split_of (split_text reference.now)) }
     {
-        target(self.base.parts(), reference.parts())
+        target(self.base.parts(), self.front, reference.parts())
+    }
+
+    /// The text of a reference resolved against the base (RFC 3986 section 5.2): its dot segments are removed, but the base's path
+    /// stays as it is where the reference's is empty. It takes no memory.
+    pub fn resolve(&self, reference: RiReferenceStr<'a, S>) -> Normalized<'a, S>
+        ensures { written result ≡ record { parts = target (split_of (base_text self.now)) (split_of (text reference.entry)); whole = takes_base_path (split_of (text reference.entry)); mode = Plain } }
+    {
+        self.resolve_split(&SplitView::of(reference))
+    }
+
+    /// The same of a reference that was cut into its parts before.
+    pub fn resolve_split(&self, reference: &SplitView<'a, S, Reference>) -> Normalized<'a, S>
+        ensures { written result ≡ record { parts = target (split_of (base_text self.now)) (split_of (split_text reference.now)); whole = takes_base_path (split_of (split_text reference.now)); mode = Plain } }
+    {
+        let whole = takes_base_path(reference.parts());
+        NormalizedText::new(self.slices(reference), whole, Mode::Plain)
     }
 
     /// The target of a reference (RFC 3986 section 5.2.2), with its dots kept. Want of memory is the only error.

@@ -1,14 +1,12 @@
 // The target of a reference against a base.
-ghost use Rattle.std.specs.Prelude.{◌≡◌, ◌++◌, ◌||◌, is_some, None, true, MatchOption};
+ghost use Rattle.std.specs.Prelude.{◌≡◌, ◌++◌, ◌||◌, cond, is_some, None, true, MatchOption};
+ghost use Rattle.iri_grammar.specs.Parts.{starts_with_slash};
 ghost use Rattle.memchr.specs.Find.{IsLastByte, is_byte};
 ghost use Rattle.iri_grammar.specs.Splitters.{parts};
 ghost use Rattle.iri_grammar.specs.Views.{now_of};
-ghost use Rattle.iri_resolve.specs.Target.{target, target_under, merged, to_last_slash, merge_front, ends_at_slash, LastSlash, NoSlash};
-ghost use Rattle.iri_resolve.specs.Dots.{has_dot_segment};
-ghost use Rattle.iri_resolve.specs.Guard.{begins_plainly};
+ghost use Rattle.iri_resolve.specs.Target.{takes_base_path, target, target_under, to_last_slash, merge_front, ends_at_slash, LastSlash, NoSlash};
 ghost use Rattle.iri_resolve.specs.Slices.{slices, is_cut_at_segment};
 
-use crate::dots;
 use iri_grammar::splitter::Splitter;
 use memchr::memrchr;
 
@@ -48,8 +46,8 @@ fn to_last_slash(path: &str) -> &str
     }
 }
 
-// The front that a relative path is put behind.
-fn merge_front<'a>(base: &Splitter<'a>) -> &'a str
+/// The front that a relative path is put behind.
+pub fn merge_front<'a>(base: &Splitter<'a>) -> &'a str
     ensures ends { ends_at_slash result.now ≡ true }
     ensures front { result.now ≡ merge_front (parts base.now) }
 {
@@ -61,20 +59,23 @@ fn merge_front<'a>(base: &Splitter<'a>) -> &'a str
 }
 
 // The front of the path of a reference that has one, with neither scheme nor authority.
-fn path_front<'a>(base: &Splitter<'a>, path: &str) -> &'a str
+fn path_front<'a>(front: &'a str, path: &str) -> &'a str
+    requires { ends_at_slash front.now ≡ true }
     ensures ends { ends_at_slash result.now ≡ true }
-    ensures path { result.now ++ path.now ≡ merged (parts base.now) path.now }
+    ensures path { result.now ++ path.now ≡ cond (starts_with_slash path.now) path.now (front.now ++ path.now) }
 {
-    if path.starts_with('/') {
-        ""
-    } else {
-        merge_front(base)
-    }
+    if path.starts_with('/') { "" } else { front }
 }
 
 // The target of a reference with neither scheme nor authority.
 #[tactic(auto, unfolding(crate::specs::Target::target))]
-fn behind_base<'a>(base: &Splitter<'a>, reference: &Splitter<'a>) -> TargetSlices<'a>
+fn behind_base<'a>(
+    base: &Splitter<'a>,
+    front: &'a str,
+    reference: &Splitter<'a>,
+) -> TargetSlices<'a>
+    requires front { front.now ≡ merge_front (parts base.now) }
+    requires ends { ends_at_slash front.now ≡ true }
     ensures cut { is_cut_at_segment result ≡ true }
     ensures parts { slices result ≡ target_under (parts base.now) (parts reference.now) None None }
 {
@@ -93,7 +94,7 @@ fn behind_base<'a>(base: &Splitter<'a>, reference: &Splitter<'a>) -> TargetSlice
         TargetSlices {
             scheme: base.scheme(),
             authority: base.authority(),
-            front: path_front(base, path),
+            front: path_front(front, path),
             path,
             query: reference.query(),
             fragment,
@@ -116,49 +117,35 @@ fn under_scheme<'a>(scheme: Option<&'a str>, reference: &Splitter<'a>) -> Target
     }
 }
 
-/// The target of a reference against a base (RFC 3986 sections 5.2.2 and 5.2.3), with its dots kept.
+/// The target of a reference against a base (RFC 3986 sections 5.2.2 and 5.2.3), with its dots kept. `front` is the base's, by
+/// `merge_front`.
 #[tactic(auto, unfolding(crate::specs::Target::target))]
-pub fn target<'a>(base: &Splitter<'a>, reference: &Splitter<'a>) -> TargetSlices<'a>
+pub fn target<'a>(base: &Splitter<'a>, front: &'a str, reference: &Splitter<'a>) -> TargetSlices<'a>
+    requires front { front.now ≡ merge_front (parts base.now) }
+    requires ends { ends_at_slash front.now ≡ true }
     ensures cut { is_cut_at_segment result ≡ true }
     ensures parts { slices result ≡ target (parts base.now) (parts reference.now) }
 {
     match (reference.scheme(), reference.authority()) {
         (Some(scheme), _) => under_scheme(Some(scheme), reference),
         (None, Some(_)) => under_scheme(base.scheme(), reference),
-        (None, None) => behind_base(base, reference),
+        (None, None) => behind_base(base, front, reference),
     }
 }
 
-// Whether the path begins neither with a slash nor with a triplet, so that its normal form begins with no slash either.
-fn begins_plainly(path: &str) -> bool
-    ensures { result ≡ begins_plainly path.now }
+/// Whether a reference takes the base's path whole.
+pub fn takes_base_path(reference: &Splitter<'_>) -> bool
+    ensures { result ≡ takes_base_path (parts reference.now) }
 {
-    !matches!(path.as_bytes(), [b'/' | b'%', ..])
+    reference.scheme().is_none() && reference.authority().is_none() && reference.path().is_empty()
 }
 
 impl<'a> TargetSlices<'a> {
-    /// Whether a dot segment stands in the path.
-    pub fn has_dot_segment(&self) -> bool
-        requires { is_cut_at_segment self.now ≡ true }
-        ensures { result ≡ has_dot_segment (slices self.now).path }
+    /// The parts of a text.
+    pub fn of(text: &Splitter<'a>) -> Self
+        ensures cut { is_cut_at_segment result ≡ true }
+        ensures parts { slices result ≡ parts text.now }
     {
-        dots::has_dot_segment(self.front) || dots::has_dot_segment(self.path)
-    }
-
-    fn begins_plainly(&self) -> bool
-        ensures { result ≡ begins_plainly (slices self.now).path }
-    {
-        if self.front.is_empty() {
-            begins_plainly(self.path)
-        } else {
-            begins_plainly(self.front)
-        }
-    }
-
-    /// Whether an authority stands, or the path begins so that none is read from its normal form.
-    pub fn is_unguarded(&self) -> bool
-        ensures { result ≡ (is_some (slices self.now).authority || begins_plainly (slices self.now).path) }
-    {
-        self.authority.is_some() || self.begins_plainly()
+        under_scheme(text.scheme(), text)
     }
 }

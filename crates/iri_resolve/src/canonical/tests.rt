@@ -34,19 +34,19 @@ fn canonical_texts_and_refusals(rt: HostRuntime) -> Result<(), Fail> {
 
 #[test]
 fn targets(rt: HostRuntime) -> Result<(), Fail> {
-    let Ok(base) = UriAbsoluteStr::new("http://a/b/?q") else {
+    let Ok(base) = UriAbsoluteStr::new("http://a/b/") else {
         return Err("a valid base is refused")?;
     };
-    let Ok(reference) = UriReferenceStr::new("../c#f") else {
+    let Ok(reference) = UriReferenceStr::new("../c") else {
         return Err("a valid reference is refused")?;
     };
     let resolver = FixedBaseResolver::<UriSpec>::new(base);
-    assert!(rt; resolver.base().as_str() == "http://a/b/?q");
+    assert!(rt; resolver.base().as_str() == "http://a/b/");
     let target = resolver.target(rt.alloc(), reference)?;
     assert!(rt; target.scheme() == "http");
     assert!(rt; target.authority() == Some("a"));
     assert!(rt; target.path() == "/b/../c");
     assert!(rt; target.query().is_none());
-    assert!(rt; target.fragment() == Some("f"));
+    assert!(rt; target.fragment().is_none());
     Ok(())
 }

@@ -1,20 +1,29 @@
-use Rattle.std.proofs.Common.{◌≡◌, None, Result, Ok, Err, sym, subst}
+use Rattle.std.proofs.Common.{◌≡◌, ◌∙◌, ◌++◌, None, Result, Ok, Err, sym, subst, ap}
 use Rattle.std.proofs.Math.Logic.{∥∥₁_elim}
 use Rattle.std.proofs.Props.{props}
 use Rattle.std.specs.Prelude.{OnOk, string_bytes}
 use Rattle.std.specs.declared.alloc.AllocError.{AllocError}
+use Rattle.iri_grammar.specs.Split.{split_of}
 use Rattle.iri_grammar.specs.WholeFault.{absolute_fault, iri_fault, reference_fault}
 use Rattle.iri_types.specs.SplitText.{split_text}
 use Rattle.iri_resolve.specs.NormalForm.{canonical}
+use Rattle.iri_resolve.specs.Normalized.{written_text}
+use Rattle.iri_resolve.specs.NormalizedText.{written}
 use Rattle.iri_resolve.specs.Resolver.{base_text}
-use Rattle.iri_resolve.specs.Slices.{slices}
-use Rattle.iri_resolve.proofs.CanonLemmas.{canonical_is, canonical_valid}
+use Rattle.iri_resolve.specs.Target.{takes_base_path}
+use Rattle.iri_resolve.proofs.CanonLemmas.{canonical_valid}
+use Rattle.iri_resolve.proofs.ModeLemmas.{made-normal, written-canonical}
 use Rattle.iri_resolve.proofs.canonical.write_canonical.Goals as goal
 
 pub returns-clause-text : goal.returns-clause-text
 returns-clause-text g c =
-    subst (λ t. OnOk c.write_normal.result (string_bytes c.write_normal.new.text ≡ t))
-    (canonical_is g.S.Spec.tests (base_text c.args.resolver.now) (split_text c.args.reference.now) (slices c.slices.result) c.slices.ensures.parts) c.write_normal.ensures
+    let s = g.S.Spec.tests in
+    let b = base_text c.args.resolver.now in
+    let r = split_text c.args.reference.now in
+    let w = written c.and_normalize.result in
+    subst (λ t. OnOk c.try_append_to_string.result (string_bytes c.try_append_to_string.new.dest ≡ t))
+    (ap (λ o. o ++ written_text s w) c.clear.ensures.bytes ∙ written-canonical s b r (takes_base_path (split_of r)) w (c.and_normalize.ensures ∙ ap made-normal c.resolve_split.ensures))
+    c.try_append_to_string.ensures.whole
 
 on_ok : {A B : Type 0} (r : Result (Unit {0}) AllocError) → (A → B) → OnOk r A → OnOk r B
 on_ok (Ok x) f h = f h
@@ -28,4 +37,4 @@ returns-clause-valid g c =
     let base : absolute_fault s b ≡ None = ∥∥₁_elim c.args.resolver.now.base.view.valid (hlevel props) (λ e. e) in
     let reference : reference_fault s r ≡ None = ∥∥₁_elim c.args.reference.now.view.valid (hlevel props) (λ e. e) in
     let valid = canonical_valid s g.met.S.Spec.lawful b r base reference in
-    on_ok {A = string_bytes c.write_normal.new.text ≡ canonical s b r} c.write_normal.result (λ e. subst (λ t. iri_fault s t ≡ None) (sym e) valid) (returns-clause-text g c)
+    on_ok {A = string_bytes c.try_append_to_string.new.dest ≡ canonical s b r} c.try_append_to_string.result (λ e. subst (λ t. iri_fault s t ≡ None) (sym e) valid) (returns-clause-text g c)

@@ -1,0 +1,200 @@
+-- A step changes something, and a decoded place is a character.
+use Rattle.std.proofs.Common.{◌≡◌, ◌≢◌, ℕ, ◌+◌, ◌-◌, ◌*◌, ◌<◌, ◌≤◌, Bool, true, false, cond, List, [], ◌∷◌, ◌++◌, Option, Some, None, length, refl, sym, ◌∙◌, ap, subst, arith, append_assoc, length-append, length-take-le}
+use Rattle.std.specs.Prelude.{is_some, nat_lt, take}
+use Rattle.std.specs.Char.{is_ascii_uppercase, to_ascii_lowercase, to_ascii_uppercase, encode_utf8}
+use Rattle.std.specs.Str.{bytes_eq}
+use Rattle.std.proofs.lemmas.Bool.Decides.{nat_tests}
+use Rattle.std.proofs.lemmas.List.{append_cancel_left, append_cancel_right}
+use Rattle.std.proofs.lemmas.Slice.Eq.{bytes_eq-Decides}
+use Rattle.iri_grammar.specs.Authority.{AuthorityParts, authority_parts, recompose_authority, userinfo_text}
+use Rattle.iri_grammar.specs.AuthorityLaws.{authority_recomposed}
+use Rattle.iri_grammar.specs.Classes.{Tests}
+use Rattle.iri_grammar.specs.Cut.{marked}
+use Rattle.iri_grammar.specs.Parts.{Parts}
+use Rattle.iri_percent.specs.Reading.{Reading, done, plain, char, lone, whole_plain, whole_triplet, whole_behind, read}
+use Rattle.iri_percent.specs.SeamLaws.{leads, lone-seam, whole-percent}
+use Rattle.iri_percent.specs.UnitLaws.{Spells, length-spelled, units_plain, units_lone, units_char}
+use Rattle.iri_percent.specs.UnitTexts.{units-text}
+use Rattle.iri_percent.specs.Units.{TextUnit, Plain, Char, Lone, octets, units, whole_triplets}
+use Rattle.iri_resolve.specs.AuthoritySteps.{placed-is, in_part-is}
+use Rattle.iri_resolve.specs.ByteLaws.{ByteChange, small_letter, small_host_letter, capital_digit}
+use Rattle.iri_resolve.specs.ChangeLaws.{decoding, some_triplets, spelled-leads}
+use Rattle.iri_resolve.specs.Changes.{is_small_digit, with_small_letter, with_small_host_letter, with_capital_digit, with_decoded}
+use Rattle.iri_resolve.specs.DecodedPlace.{IsCharacterAt}
+use Rattle.iri_resolve.specs.DotRemoval.{dots}
+use Rattle.iri_resolve.specs.Guard.{guard}
+use Rattle.iri_resolve.specs.Places.{decode-inside}
+use Rattle.iri_resolve.specs.Steps.{placed, in_part, host_start, in_host, in_userinfo_or_host, without_empty_port, with_small_letter_in_host, with_dots_removed, at_place, step}
+use Rattle.iri_resolve.specs.declared.step.Part.{Part}
+use Rattle.iri_resolve.specs.declared.step.Part.TheVariants.{Authority, Path, Query, Fragment}
+use Rattle.iri_resolve.specs.declared.step.Step.{Step}
+use Rattle.iri_resolve.specs.declared.step.Step.TheVariants.{SchemeLetter, HostLetter, HexDigit, Decode, EmptyPort, Dots}
+
+-- ---- a text
+same_some : (x y : List ℕ) → Some x ≡ Some y → x ≡ y
+same_some x y h = cc
+
+byte_same : (a r : List ℕ) (x y : ℕ) → a ++ x ∷ r ≡ a ++ y ∷ r → x ≡ y
+byte_same a r x y h = let e = append_cancel_left a (x ∷ r) (y ∷ r) h in cc
+
+small_differs : (x : ℕ) → is_ascii_uppercase x ≡ true → to_ascii_lowercase x ≢ x
+small_differs x h = grind (arith, nat_tests)
+
+capital_differs : (x : ℕ) → is_small_digit x ≡ true → to_ascii_uppercase x ≢ x
+capital_differs x h = grind (arith, nat_tests)
+
+byte-differs : (test : ℕ → Bool) (f : ℕ → ℕ) (i : ℕ) (t u : List ℕ) → ((x : ℕ) → test x ≡ true → f x ≢ x) → ByteChange test f i t u → u ≢ t
+byte-differs test f i t u go c e = go c.byte c.passes (byte_same (take i t) c.back (f c.byte) c.byte (sym c.new ∙ e ∙ c.old))
+
+-- a change of a text that changes it
+abbrev Changing : (ℕ → List ℕ → Option (List ℕ)) → Type 0
+Changing change = (i : ℕ) (t u : List ℕ) → change i t ≡ Some u → u ≢ t
+
+letter-changing : Changing with_small_letter
+letter-changing i t u h = byte-differs is_ascii_uppercase to_ascii_lowercase i t u small_differs (small_letter i t u h)
+
+host-changing : Changing with_small_host_letter
+host-changing i t u h = byte-differs is_ascii_uppercase to_ascii_lowercase i t u small_differs (small_host_letter i t u h).change
+
+digit-changing : Changing with_capital_digit
+digit-changing i t u h = byte-differs is_small_digit to_ascii_uppercase i t u capital_differs (capital_digit i t u h).change
+
+decode-changing : (s : Tests) → Changing (with_decoded s)
+decode-changing s i t u h e =
+    let d = decoding s i t u h in
+    let g = some_triplets d.c d.sp (encode_utf8 d.c) d.spells refl in
+    let long = length-spelled d.sp (encode_utf8 d.c) d.spells in
+    let same : take i t ++ (encode_utf8 d.c ++ d.back) ≡ take i t ++ (d.sp ++ d.back) = sym d.new ∙ e ∙ d.old in
+    let text : encode_utf8 d.c ≡ d.sp = append_cancel_right (encode_utf8 d.c) d.sp d.back (append_cancel_left (take i t) (encode_utf8 d.c ++ d.back) (d.sp ++ d.back) same) in
+    absurd (omega (arith, ap length text, long, ap length g.text))
+
+-- ---- an authority
+other-host : (p : AuthorityParts) (g : List ℕ) → recompose_authority (record p { host = g }) ≡ recompose_authority p → g ≡ p.host
+unfolding recompose_authority
+other-host p g h = append_cancel_right g p.host (marked 58 p.port) (append_cancel_left (userinfo_text p.userinfo) (g ++ marked 58 p.port) (p.host ++ marked 58 p.port) h)
+
+other-userinfo : (p : AuthorityParts) (v w : List ℕ) → p.userinfo ≡ Some w → recompose_authority (record p { userinfo = Some v }) ≡ recompose_authority p → v ≡ w
+unfolding recompose_authority
+other-userinfo p v w e h =
+    let r = p.host ++ marked 58 p.port in
+    let same : (v ++ 64 ∷ []) ++ r ≡ (w ++ 64 ∷ []) ++ r = h ∙ ap (λ o. userinfo_text o ++ r) e in
+    append_cancel_right v w (64 ∷ []) (append_cancel_right (v ++ 64 ∷ []) (w ++ 64 ∷ []) r same)
+
+host-changes : (change : ℕ → List ℕ → Option (List ℕ)) (i : ℕ) (a b : List ℕ) → Changing change → in_host change i (authority_parts a) ≡ Some b → b ≢ a
+host-changes change i a b c h e =
+    let p = authority_parts a in
+    elim (nat_lt i (host_start p)) as (λ v. cond v None (placed (λ h. recompose_authority (record p { host = h })) (change (i - host_start p) p.host)) ≡ Some b → ⊥) [
+      | true ↦ λ k. cc
+      | false ↦ λ k.
+          let r = placed-is (λ h. recompose_authority (record p { host = h })) (change (i - host_start p) p.host) b k in
+          c (i - host_start p) p.host r.0 r.1 (other-host p r.0 (r.2 ∙ e ∙ sym (authority_recomposed a)))
+    ] h
+
+authority-changes : (change : ℕ → List ℕ → Option (List ℕ)) (i : ℕ) (a b : List ℕ) → Changing change → in_userinfo_or_host change i (authority_parts a) ≡ Some b → b ≢ a
+authority-changes change i a b c h e =
+    let p = authority_parts a in
+    elim (nat_lt i (host_start p)) as (λ v. cond v (placed (λ u. recompose_authority (record p { userinfo = Some u })) (in_part (change i) p.userinfo)) (in_host change i p) ≡ Some b → ⊥) [
+      | true ↦ λ m.
+          let r = placed-is (λ u. recompose_authority (record p { userinfo = Some u })) (in_part (change i) p.userinfo) b m in
+          let q = in_part-is (change i) p.userinfo r.0 r.1 in
+          c i q.0 r.0 q.2 (other-userinfo p r.0 q.0 q.1 (r.2 ∙ e ∙ sym (authority_recomposed a)))
+      | false ↦ λ m. host-changes change i a b c m e
+    ] h
+
+letter-changes : (i : ℕ) (a b : List ℕ) → with_small_letter_in_host i (authority_parts a) ≡ Some b → b ≢ a
+letter-changes i a b h e =
+    elim (Rattle.iri_percent.specs.NormalHost.is_ascii_host (authority_parts a).host) as (λ v. cond v (in_host with_small_host_letter i (authority_parts a)) None ≡ Some b → ⊥) [
+      | true ↦ λ m. host-changes with_small_host_letter i a b host-changing m e
+      | false ↦ λ m. cc
+    ] h
+
+port-differs : (p : AuthorityParts) → p.port ≡ Some [] → recompose_authority (record p { port = None }) ≢ recompose_authority p
+unfolding recompose_authority
+port-differs p q h =
+    let u = userinfo_text p.userinfo in
+    let same : u ++ (p.host ++ []) ≡ u ++ (p.host ++ 58 ∷ []) = h ∙ ap (λ o. u ++ (p.host ++ marked 58 o)) q in
+    absurd (omega (arith, ap length same, length-append u (p.host ++ []), length-append u (p.host ++ 58 ∷ []), length-append p.host [], length-append p.host (58 ∷ [])))
+
+port-changes : (p : AuthorityParts) (o : Option (List ℕ)) (b : List ℕ) → p.port ≡ o → without_empty_port p o ≡ Some b → b ≢ recompose_authority p
+port-changes p None b q h e = cc
+port-changes p (Some []) b q h e = let new : recompose_authority (record p { port = None }) ≡ b = cc in port-differs p q (new ∙ e)
+port-changes p (Some (x ∷ xs)) b q h e = cc
+
+-- ---- each step
+place-changes : (change : ℕ → List ℕ → Option (List ℕ)) (t u : Parts) (part : Part) (i : ℕ) → Changing change → at_place change t part i ≡ Some u → u ≢ t
+place-changes change t u Authority i c h e =
+    let r = placed-is (λ a. record t { authority = Some a }) (in_part (λ a. in_userinfo_or_host change i (authority_parts a)) t.authority) u h in
+    let q = in_part-is (λ a. in_userinfo_or_host change i (authority_parts a)) t.authority r.0 r.1 in
+    authority-changes change i q.0 r.0 c q.2 (same_some r.0 q.0 (ap (λ z. z.authority) (r.2 ∙ e) ∙ q.1))
+place-changes change t u Path i c h e = let r = placed-is (λ p. record t { path = p }) (change i t.path) u h in c i t.path r.0 r.1 (ap (λ z. z.path) (r.2 ∙ e))
+place-changes change t u Query i c h e =
+    let r = placed-is (λ p. record t { query = Some p }) (in_part (change i) t.query) u h in
+    let q = in_part-is (change i) t.query r.0 r.1 in
+    c i q.0 r.0 q.2 (same_some r.0 q.0 (ap (λ z. z.query) (r.2 ∙ e) ∙ q.1))
+place-changes change t u Fragment i c h e =
+    let r = placed-is (λ p. record t { fragment = Some p }) (in_part (change i) t.fragment) u h in
+    let q = in_part-is (change i) t.fragment r.0 r.1 in
+    c i q.0 r.0 q.2 (same_some r.0 q.0 (ap (λ z. z.fragment) (r.2 ∙ e) ∙ q.1))
+
+dots-change : (t : Parts) (u : List ℕ) → with_dots_removed t ≡ Some u → u ≢ t.path
+dots-change t u h e =
+    let p = guard (dots t.path) (is_some t.authority) in
+    elim (bytes_eq p t.path) as (λ b. bytes_eq p t.path ≡ b → cond b None (Some p) ≡ Some u → ⊥) [
+      | true ↦ λ _ k. cc
+      | false ↦ λ f k.
+          let same : p ≡ u = cc in
+          let yes = (bytes_eq-Decides p t.path).1 (same ∙ e) in
+          let no : true ≡ false = sym yes ∙ f in
+          cc
+    ] refl h
+
+pub step-changes : (s : Tests) (t u : Parts) (x : Step) → step s t x ≡ Some u → u ≢ t
+unfolding step
+step-changes s t u (SchemeLetter i) h e =
+    let r = placed-is (λ x. record t { scheme = Some x }) (in_part (with_small_letter i) t.scheme) u h in
+    let q = in_part-is (with_small_letter i) t.scheme r.0 r.1 in
+    letter-changing i q.0 r.0 q.2 (same_some r.0 q.0 (ap (λ z. z.scheme) (r.2 ∙ e) ∙ q.1))
+step-changes s t u (HostLetter i) h e =
+    let r = placed-is (λ a. record t { authority = Some a }) (in_part (λ a. with_small_letter_in_host i (authority_parts a)) t.authority) u h in
+    let q = in_part-is (λ a. with_small_letter_in_host i (authority_parts a)) t.authority r.0 r.1 in
+    letter-changes i q.0 r.0 q.2 (same_some r.0 q.0 (ap (λ z. z.authority) (r.2 ∙ e) ∙ q.1))
+step-changes s t u (HexDigit part i) h e = place-changes with_capital_digit t u part i digit-changing h e
+step-changes s t u (Decode part i) h e = place-changes (with_decoded s) t u part i (decode-changing s) h e
+step-changes s t u EmptyPort h e =
+    let r = placed-is (λ a. record t { authority = Some a }) (in_part (λ a. without_empty_port (authority_parts a) (authority_parts a).port) t.authority) u h in
+    let q = in_part-is (λ a. without_empty_port (authority_parts a) (authority_parts a).port) t.authority r.0 r.1 in
+    port-changes (authority_parts q.0) (authority_parts q.0).port r.0 refl q.2 (same_some r.0 q.0 (ap (λ z. z.authority) (r.2 ∙ e) ∙ q.1) ∙ sym (authority_recomposed q.0))
+step-changes s t u Dots h e =
+    let r = placed-is (λ p. record t { path = p }) (with_dots_removed t) u h in
+    dots-change t r.0 r.1 (ap (λ z. z.path) (r.2 ∙ e))
+
+-- ---- a decoded place
+units-nil : units [] ≡ []
+unfolding Rattle.iri_percent.specs.Units.units_from
+units-nil = refl
+
+units-seam : (t r : List ℕ) → Reading t → whole_triplets t ≡ true → leads (octets r) ≡ true → units (t ++ r) ≡ units t ++ units r
+units-seam t r done w l = ap (λ z. z ++ units r) (sym units-nil)
+units-seam t r (plain x xs h k) w l = units_plain x (xs ++ r) h ∙ ap (λ z. Plain x ∷ z) (units-seam xs r k (sym (whole_plain x xs h) ∙ w) l) ∙ ap (λ z. z ++ units r) (sym (units_plain x xs h))
+units-seam t r (char c sp xs h sps k) w l =
+    ap units (append_assoc sp xs r) ∙ units_char c sp (xs ++ r) h sps ∙ ap (λ z. Char c sp ∷ z) (units-seam xs r k (sym (whole_behind sp (encode_utf8 c) xs sps) ∙ w) l) ∙ ap (λ z. z ++ units r) (sym (units_char c sp xs h sps))
+units-seam t r (lone a b xs p q n k) w l =
+    let behind : whole_triplets xs ≡ true = sym (whole_triplet a b xs p q) ∙ w in
+    units_lone a b (xs ++ r) p q (lone-seam a b xs r p q behind l n) ∙ ap (λ z. Lone a b ∷ z) (units-seam xs r k behind l) ∙ ap (λ z. z ++ units r) (sym (units_lone a b xs p q n))
+
+pub decoded-place : (s : Tests) (t u : List ℕ) (i : ℕ) → whole_triplets t ≡ true → with_decoded s i t ≡ Some u → IsCharacterAt s i t
+decoded-place s t u i w h =
+    let d = decoding s i t u h in
+    let a = take i t in
+    let p = some_triplets d.c d.sp (encode_utf8 d.c) d.spells refl in
+    let front : whole_triplets a ≡ true = whole-percent a (p.rest ++ d.back) (ap whole_triplets (sym (d.old ∙ ap (λ z. a ++ (z ++ d.back)) p.text)) ∙ w) in
+    let l = decode-inside s i t u h in
+    record {
+      c = d.c;
+      spelling = d.sp;
+      before = units a;
+      after = units d.back;
+      split = ap units d.old ∙ units-seam a (d.sp ++ d.back) (read a front) front (spelled-leads d.c d.sp d.back d.spells) ∙ ap (λ z. units a ++ z) (units_char d.c d.sp d.back d.is_scalar d.spells);
+      place = ap length (units-text a) ∙ length-take-le i t (omega (arith, l));
+      free = d.free;
+    }

@@ -1,0 +1,16 @@
+use Rattle.std.proofs.Common.{◌∙◌, subst, ap}
+use Rattle.iri_grammar.specs.Split.{split_of}
+use Rattle.iri_text.specs.Shown.{Shows}
+use Rattle.iri_types.specs.SplitText.{split_text}
+use Rattle.iri_resolve.specs.NormalizedText.{written}
+use Rattle.iri_resolve.specs.Resolver.{base_text}
+use Rattle.iri_resolve.specs.Target.{takes_base_path}
+use Rattle.iri_resolve.proofs.ModeLemmas.{made-normal, written-canonical}
+use Rattle.iri_resolve.proofs.canonical.show_canonical.Goals as goal
+
+pub returns : goal.returns
+returns g c =
+    let b = base_text c.args.resolver.now in
+    let r = split_text c.args.reference.now in
+    subst (λ x. Shows g.W.TextSink.puts g.W.TextSink.halts g.W.TextSink.stops c.args.sink.now x c.show.new.sink c.show.result)
+    (written-canonical g.S.Spec.tests b r (takes_base_path (split_of r)) (written c.and_normalize.result) (c.and_normalize.ensures ∙ ap made-normal c.resolve_split.ensures)) c.show.ensures

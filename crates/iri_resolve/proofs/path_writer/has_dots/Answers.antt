@@ -1,0 +1,14 @@
+use Rattle.std.proofs.Common.{◌∙◌, ◌||◌, sym, ap}
+use Rattle.iri_resolve.specs.Dots.{has_dot_segment}
+use Rattle.iri_resolve.proofs.SegmentLemmas.{dot_in_parts}
+use Rattle.iri_resolve.proofs.path_writer.has_dots.Goals as goal
+
+pub returns-then-has_dot_segment : goal.returns-then-has_dot_segment
+returns-then-has_dot_segment c =
+    let front = sym c.has_dot_segment.ensures ∙ c.if-has_dot_segment.true in
+    c.if-has_dot_segment.true ∙ sym (dot_in_parts c.args.front.now c.args.path.now c.requires ∙ ap (λ b. b || has_dot_segment c.args.path.now) front)
+
+pub returns-else-has_dot_segment : goal.returns-else-has_dot_segment
+returns-else-has_dot_segment c =
+    let front = sym c.has_dot_segment.ensures ∙ c.if-has_dot_segment.false in
+    c.has_dot_segment-else-has_dot_segment.ensures ∙ sym (dot_in_parts c.args.front.now c.args.path.now c.requires ∙ ap (λ b. b || has_dot_segment c.args.path.now) front)

@@ -1,0 +1,23 @@
+use Rattle.std.proofs.Common.{◌++◌, [], ◌∷◌, ◌∙◌, length, drop, subst, sym}
+use Rattle.std.specs.Str.{IsUtf8}
+use Rattle.iri_resolve.specs.Kept.{ended, kept}
+use Rattle.iri_resolve.proofs.EndedLemmas.{utf8-front}
+use Rattle.iri_resolve.proofs.RunLemmas.{last-stays, part-whole, part-more, kept-more}
+use Rattle.iri_resolve.proofs.path_writer.runs.before_run.Goals as goal
+
+pub segments-preserved : goal.segments-preserved
+segments-preserved c =
+    let i = c.segments.invariant in
+    let x = c.args.text.now in
+    let t = c.segments.rest.now in
+    let a = c.cut_last.result.0.now in
+    let s = c.cut_last.result.1.now in
+    let e = c.cut_last.ensures in
+    let d = sym c.is_dot_segment.ensures ∙ c.if-is_dot_segment.false in
+    let y = drop (length t) x in
+    record {
+      utf8 = utf8-front a (s ++ 47 ∷ []) e.ends (subst IsUtf8 e.whole i.utf8);
+      ends = e.ends;
+      front = part-whole x a ((s ++ 47 ∷ []) ++ y) (part-more x t a (s ++ 47 ∷ []) y i.front e.whole);
+      same = i.same ∙ kept-more x t a (s ++ 47 ∷ []) y (kept (ended t) 0) (kept (ended a) 0) i.front e.whole (last-stays t a s e.ends e.last e.whole d);
+    }

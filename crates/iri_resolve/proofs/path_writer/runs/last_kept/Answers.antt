@@ -1,0 +1,37 @@
+use Rattle.std.proofs.Common.{◌≡◌, ◌++◌, [], ◌∷◌, ◌∙◌, true, subst, sym, ap, arith}
+use Rattle.std.specs.Str.{IsUtf8}
+use Rattle.iri_percent.specs.Units.{whole_triplets}
+use Rattle.iri_resolve.specs.Kept.{ended, kept}
+use Rattle.iri_resolve.proofs.EndedLemmas.{utf8-front, removing-le, length-last}
+use Rattle.iri_resolve.proofs.NormalLemmas.{whole_two}
+use Rattle.iri_resolve.specs.Dots.{is_dot_segment}
+use Rattle.iri_resolve.proofs.RunLemmas.{last-goes, last-stays, zero-stays, drop-part}
+use Rattle.iri_resolve.proofs.path_writer.runs.last_kept.Goals as goal
+
+pub segments-preserved : goal.segments-preserved
+segments-preserved c =
+    let i = c.segments.invariant in
+    let t = c.segments.rest.now in
+    let a = c.cut_last.result.0.now in
+    let s = c.cut_last.result.1.now in
+    let n = c.segments.pending in
+    let e = c.cut_last.ensures in
+    let size = length-last t a s e.whole in
+    record {
+      utf8 = utf8-front a (s ++ 47 ∷ []) e.ends (subst IsUtf8 e.whole i.utf8);
+      ends = e.ends;
+      whole = (whole_two a (s ++ 47 ∷ []) e.ends (subst (λ l. whole_triplets l ≡ true) e.whole i.whole)).0;
+      same = i.same ∙ (last-goes t a s n e.ends e.last e.whole (sym c.stays.ensures ∙ c.if-stays.false) ∙ ap (kept (ended a)) (sym c.removing-pending.ensures));
+      within = omega (arith, i.within, size);
+      room = omega (arith, i.room, removing-le s n, size, c.removing-pending.ensures);
+    }
+
+pub returns-then-stays-clause-kept : goal.returns-then-stays-clause-kept
+returns-then-stays-clause-kept c =
+    let i = c.segments.invariant in
+    let t = c.segments.rest.now in
+    let a = c.cut_last.result.0.now in
+    let s = c.cut_last.result.1.now in
+    let e = c.cut_last.ensures in
+    let z = zero-stays c.segments.pending (is_dot_segment s) (sym c.stays.ensures ∙ c.if-stays.true) in
+    i.same ∙ (ap (kept (ended t)) z.0 ∙ (last-stays t a s e.ends e.last e.whole z.1 ∙ ap (λ l. kept (ended a) 0 ++ l) (sym (drop-part t a (s ++ 47 ∷ []) e.whole))))

@@ -1,0 +1,17 @@
+use Rattle.std.proofs.Common.{◌≡◌, ◌+◌, ◌≤◌, true, length}
+use denote.Text.{Utf8}
+use denote.Shadow.{shadow}
+use Rattle.iri_resolve.specs.Kept.{begins, ended, kept}
+use Rattle.iri_resolve.specs.Target.{ends_at_slash}
+use Rattle.iri_resolve.proofs.path_writer.segments.begins_with_slash.Given as goal
+
+abbrev pub invariant-segments : goal.invariant-segments
+invariant-segments l = record {
+  utf8 : shadow (Utf8 l.rest);
+  ends : ends_at_slash l.rest ≡ true;
+  same : begins (kept (ended l.fn.text) l.fn.count) l.fn.more ≡ begins (kept (ended l.rest) l.pending) l.begun;
+  room : l.pending + length l.rest ≤ l.fn.count + length l.fn.text;
+}
+
+abbrev pub decreases-segments : goal.decreases-segments
+decreases-segments l = length l.rest

@@ -1,0 +1,71 @@
+//! Steps that lead two targets to one.
+ghost use Rattle.std.specs.Prelude.{◌≡◌, IfOk, MatchOption, string_bytes};
+ghost use Rattle.iri_grammar.specs.Parts.{recompose};
+ghost use Rattle.iri_resolve.specs.NormalForm.{normal_form};
+ghost use Rattle.std.specs.Str.{bytes_eq};
+ghost use Rattle.iri_resolve.specs.Steps.{AreApart, LeadToOne};
+
+use crate::form::show_form;
+use crate::mode::Mode;
+use crate::normal_steps::steps_to_normal;
+use crate::owned_target::Target;
+use crate::step_list::StepList;
+use crate::target::TargetSlices;
+use iri_grammar::spec::Spec;
+use iri_text::StringSink;
+use std::alloc::{AllocError, Global};
+
+// The text of a target in normal form.
+#[tactic(auto, unfolding(crate::specs::NormalForm::normal_form))]
+fn normal_text<S: Spec>(alloc: Global, target: &Target<S>) -> Result<String, AllocError>
+    ensures { IfOk result (λ text. string_bytes text ≡ recompose (normal_form S.tests target.now)) }
+{
+    let _valid = target.slices();
+    let slices = TargetSlices {
+        scheme: Some(target.scheme()),
+        authority: target.authority(),
+        front: "",
+        path: target.path(),
+        query: target.query(),
+        fragment: target.fragment(),
+    };
+    let mut text = String::new(alloc);
+    let mut sink = StringSink::new(&mut text);
+    match show_form::<S, StringSink<'_>>(&mut sink, &slices, Mode::Normal, false) {
+        Ok(()) => {}
+        Err(_) => return Err(AllocError),
+    }
+    Ok(text)
+}
+
+// Whether two targets have one text in normal form.
+fn have_one_normal_text<S: Spec>(
+    alloc: Global,
+    a: &Target<S>,
+    b: &Target<S>,
+) -> Result<bool, AllocError>
+    ensures { IfOk result (λ same. same ≡ bytes_eq (recompose (normal_form S.tests a.now)) (recompose (normal_form S.tests b.now))) }
+{
+    let first = normal_text(alloc, a)?;
+    let second = normal_text(alloc, b)?;
+    Ok(first.as_str() == second.as_str())
+}
+
+/// Two lists of steps, one from each target, that lead to one target: their common normal form. There are none exactly where no
+/// two lists of steps lead to one target, which is where their canonical texts differ. Want of memory is the only error.
+pub fn join_steps<S: Spec>(
+    alloc: Global,
+    a: &Target<S>,
+    b: &Target<S>,
+) -> Result<Option<(StepList, StepList)>, AllocError>
+    ensures { IfOk result (λ lists. MatchOption lists (AreApart S.tests a.now b.now) (λ l. LeadToOne S.tests a.now b.now l.0 l.1)) }
+{
+    let _first = a.slices();
+    let _second = b.slices();
+    if !have_one_normal_text(alloc, a, b)? {
+        return Ok(None);
+    }
+    let first = steps_to_normal(alloc, a)?;
+    let second = steps_to_normal(alloc, b)?;
+    Ok(Some((first, second)))
+}

@@ -1,0 +1,61 @@
+//! Steps, done one after the other.
+ghost use Rattle.std.specs.Prelude.{◌≡◌, MatchResult, Some};
+ghost use Rattle.iri_resolve.specs.Replays.{EndsBy, StopsAt};
+ghost use Rattle.iri_resolve.specs.Steps.{step, replayed};
+
+use crate::after_step::{after_step, copied};
+use crate::owned_target::Target;
+use crate::step::Step;
+use crate::step_list::StepList;
+use iri_grammar::spec::Spec;
+use std::alloc::Global;
+use thiserror::Error;
+
+/// Why steps can't be replayed.
+#[derive(Debug, Drop, Error)]
+pub enum ReplayError {
+    /// The step of this number, from 0 on, is the first that is no step from the parts reached.
+    #[error("step {0} is no step from the parts reached")]
+    Illegal(usize),
+    /// Memory was refused.
+    #[error("out of memory")]
+    Memory,
+}
+
+// The parts after the step of number k.
+fn after_numbered<S: Spec>(
+    alloc: Global,
+    reached: &Target<S>,
+    next: Step,
+    k: usize,
+) -> Result<Target<S>, ReplayError>
+    ensures { MatchResult result (λ t. step S.tests reached.now next ≡ Some t) (StopsAt S.tests reached.now next k) }
+{
+    match after_step(alloc, reached, next) {
+        Ok(Some(after)) => Ok(after),
+        Ok(None) => Err(ReplayError::Illegal(k)),
+        Err(_) => Err(ReplayError::Memory),
+    }
+}
+
+/// The parts after all of these steps, one after the other. Illegal(k) comes exactly where step k, from 0, is the first that is no
+/// step from the parts reached (RFC 3986 section 6.2.2); the other error is want of memory.
+pub fn replay<S: Spec>(
+    alloc: Global,
+    target: &Target<S>,
+    steps: &StepList,
+) -> Result<Target<S>, ReplayError>
+    ensures { MatchResult result (λ t. replayed S.tests target.now steps.now ≡ Some t) (EndsBy S.tests target.now steps.now) }
+{
+    let mut reached = match copied(alloc, target) {
+        Ok(reached) => reached,
+        Err(_) => return Err(ReplayError::Memory),
+    };
+    for k in 0..steps.len() {
+        reached = after_numbered(alloc, &reached, steps.at(k), k)?;
+    }
+    Ok(reached)
+}
+
+#[cfg(test)]
+mod tests;

@@ -1,0 +1,306 @@
+use super::{ReplayError, replay};
+use crate::join::join_steps;
+use crate::normal_steps::steps_to_normal;
+use crate::owned_target::Target;
+use crate::resolver::FixedBaseResolver;
+use crate::step::{Part, Step};
+use crate::step_list::StepList;
+use iri_grammar::spec::{IriSpec, Spec, UriSpec};
+use iri_types::view::{RiAbsoluteStr, RiReferenceStr};
+use std::alloc::{AllocError, Global};
+use std::test::Fail;
+
+// The target of a reference against `http://a/`.
+fn target<S: Spec>(alloc: Global, reference: &str) -> Result<Target<S>, Fail> {
+    let Ok(base) = RiAbsoluteStr::<S>::new("http://a/") else {
+        return Err("a valid base is refused")?;
+    };
+    let Ok(reference) = RiReferenceStr::<S>::new(reference) else {
+        return Err("a valid reference is refused")?;
+    };
+    Ok(FixedBaseResolver::new(base).target(alloc, reference)?)
+}
+
+fn push_marked(text: &mut String, mark: &str, part: Option<&str>) -> Result<(), AllocError> {
+    let Some(part) = part else {
+        return Ok(());
+    };
+    text.push_str(mark)?;
+    text.push_str(part)
+}
+
+// The parts, recomposed.
+fn text_of<S: Spec>(alloc: Global, target: &Target<S>) -> Result<String, AllocError> {
+    let mut text = String::from_str(alloc, target.scheme())?;
+    text.push_str(":")?;
+    push_marked(&mut text, "//", target.authority())?;
+    text.push_str(target.path())?;
+    push_marked(&mut text, "?", target.query())?;
+    push_marked(&mut text, "#", target.fragment())?;
+    Ok(text)
+}
+
+// The text after a step from the target of a reference; none where it is no step from there.
+fn text_after<S: Spec>(alloc: Global, reference: &str, step: Step) -> Result<Option<String>, Fail> {
+    let target = target::<S>(alloc, reference)?;
+    let mut steps = StepList::new(alloc);
+    steps.push(step)?;
+    match replay(alloc, &target, &steps) {
+        Ok(after) => Ok(Some(text_of(alloc, &after)?)),
+        Err(ReplayError::Illegal(0)) => Ok(None),
+        Err(_) => Err("a step is refused for another reason")?,
+    }
+}
+
+// Whether this is what a step gives.
+fn gives<S: Spec>(
+    alloc: Global,
+    reference: &str,
+    step: Step,
+    text: Option<&str>,
+) -> Result<bool, Fail> {
+    let after = text_after::<S>(alloc, reference, step)?;
+    Ok(after.as_deref() == text)
+}
+
+// The text that the steps to the normal form lead to.
+fn normal<S: Spec>(alloc: Global, reference: &str) -> Result<String, Fail> {
+    let target = target::<S>(alloc, reference)?;
+    let steps = steps_to_normal(alloc, &target)?;
+    match replay(alloc, &target, &steps) {
+        Ok(after) => Ok(text_of(alloc, &after)?),
+        Err(_) => Err("the steps to the normal form are refused")?,
+    }
+}
+
+#[test]
+fn letters_digits_and_the_port_of_scheme_and_authority(rt: HostRuntime) -> Result<(), Fail> {
+    let named = "HTTP://U%3a@H%2d:/";
+    for (reference, step, text) in [
+        (named, Step::SchemeLetter(0), Some("hTTP://U%3a@H%2d:/")),
+        (named, Step::SchemeLetter(3), Some("HTTp://U%3a@H%2d:/")),
+        (named, Step::SchemeLetter(4), None),
+        ("/b", Step::SchemeLetter(0), None),
+        (named, Step::HostLetter(5), Some("HTTP://U%3a@h%2d:/")),
+        (named, Step::HostLetter(0), None),
+        (named, Step::HostLetter(8), None),
+        ("//h%2D", Step::HostLetter(3), None),
+        ("foo:b", Step::HostLetter(0), None),
+        (
+            named,
+            Step::HexDigit(Part::Authority, 3),
+            Some("HTTP://U%3A@H%2d:/"),
+        ),
+        (
+            named,
+            Step::HexDigit(Part::Authority, 8),
+            Some("HTTP://U%3a@H%2D:/"),
+        ),
+        (named, Step::HexDigit(Part::Authority, 4), None),
+        (
+            named,
+            Step::Decode(Part::Authority, 6),
+            Some("HTTP://U%3a@H-:/"),
+        ),
+        (named, Step::Decode(Part::Authority, 1), None),
+        (
+            "//%7e@h",
+            Step::Decode(Part::Authority, 0),
+            Some("http://~@h"),
+        ),
+        (named, Step::EmptyPort, Some("HTTP://U%3a@H%2d/")),
+        ("//h:8", Step::EmptyPort, None),
+        ("foo:b", Step::EmptyPort, None),
+    ] {
+        assert!(rt;
+            gives::<UriSpec>(rt.alloc(), reference, step, text)?,
+            "at {reference} {step}"
+        );
+    }
+    Ok(())
+}
+
+#[test]
+fn triplets_and_dots_of_the_other_parts(rt: HostRuntime) -> Result<(), Fail> {
+    for (reference, step, text) in [
+        (
+            "/%7e%2f",
+            Step::HexDigit(Part::Path, 3),
+            Some("http://a/%7E%2f"),
+        ),
+        ("/%7e%2f", Step::HexDigit(Part::Path, 0), None),
+        ("/aa", Step::HexDigit(Part::Path, 2), None),
+        (
+            "/%7e%2f",
+            Step::Decode(Part::Path, 1),
+            Some("http://a/~%2f"),
+        ),
+        ("/%7e%2f", Step::Decode(Part::Path, 4), None),
+        ("/%7e%2f", Step::Decode(Part::Path, 99), None),
+        (
+            "?%7e%c3",
+            Step::HexDigit(Part::Query, 4),
+            Some("http://a/?%7e%C3"),
+        ),
+        ("?%7e%c3", Step::HexDigit(Part::Query, 1), None),
+        (
+            "?%7e%c3",
+            Step::Decode(Part::Query, 0),
+            Some("http://a/?~%c3"),
+        ),
+        ("?%7e%c3", Step::Decode(Part::Query, 3), None),
+        ("/b", Step::HexDigit(Part::Query, 0), None),
+        (
+            "#%7e%c3",
+            Step::HexDigit(Part::Fragment, 2),
+            Some("http://a/#%7E%c3"),
+        ),
+        ("#%7e%c3", Step::HexDigit(Part::Fragment, 6), None),
+        (
+            "#%7e%c3",
+            Step::Decode(Part::Fragment, 0),
+            Some("http://a/#~%c3"),
+        ),
+        ("#%7e%c3", Step::Decode(Part::Fragment, 3), None),
+        ("/b", Step::Decode(Part::Fragment, 0), None),
+        ("/a/%2e%2E/b", Step::Dots, Some("http://a/b")),
+        ("foo:/..//b", Step::Dots, Some("foo:/.//b")),
+        ("foo:/.//b", Step::Dots, None),
+        ("/b", Step::Dots, None),
+    ] {
+        assert!(rt;
+            gives::<UriSpec>(rt.alloc(), reference, step, text)?,
+            "at {reference} {step}"
+        );
+    }
+    Ok(())
+}
+
+#[test]
+fn characters_past_ascii(rt: HostRuntime) -> Result<(), Fail> {
+    for (reference, step, iri, uri) in [
+        (
+            "/%C3%89",
+            Step::Decode(Part::Path, 1),
+            Some("http://a/É"),
+            None,
+        ),
+        ("/%C3%89", Step::Decode(Part::Path, 4), None, None),
+        (
+            "//H%C3%89",
+            Step::Decode(Part::Authority, 1),
+            Some("http://HÉ"),
+            None,
+        ),
+        ("//H%C3%89", Step::HostLetter(0), None, None),
+        ("//H%FF", Step::HostLetter(0), None, None),
+    ] {
+        assert!(rt;
+            gives::<IriSpec>(rt.alloc(), reference, step, iri)?,
+            "at {reference} {step}"
+        );
+        assert!(rt;
+            gives::<UriSpec>(rt.alloc(), reference, step, uri)?,
+            "at {reference} {step}"
+        );
+    }
+    assert!(rt; gives::<IriSpec>(rt.alloc(), "//É.COM", Step::HostLetter(3), None)?);
+    Ok(())
+}
+
+#[test]
+fn steps_to_normal_forms(rt: HostRuntime) -> Result<(), Fail> {
+    for (reference, text) in [
+        ("HTTP://H/%7e", "http://h/~"),
+        ("//U%3a:P@H%2d:/", "http://U%3A:P@h-/"),
+        ("//%41%2d%42@C%44.e:8", "http://A-B@cd.e:8"),
+        ("/a/%2E/../b?%7e#%c3%7E", "http://a/b?~#%C3~"),
+        ("foo:/a/..//%62", "foo:/.//b"),
+        ("foo:/%2e//b", "foo:/.//b"),
+        ("//[::FFFF]:", "http://[::ffff]"),
+        ("", "http://a/"),
+    ] {
+        let got = normal::<UriSpec>(rt.alloc(), reference)?;
+        assert_eq!(rt; got.as_str(), text, "at {reference}");
+    }
+    let got = normal::<IriSpec>(rt.alloc(), "//HÉ%C3%89%41/%C3%89%ff?%c3%89")?;
+    assert_eq!(rt; got.as_str(), "http://HÉÉA/É%FF?É");
+    Ok(())
+}
+
+#[test]
+fn places_count_what_is_in_normal_form(rt: HostRuntime) -> Result<(), Fail> {
+    let target = target::<UriSpec>(rt.alloc(), "HTTP://%41@H/%41%42c%3d")?;
+    let steps = steps_to_normal(rt.alloc(), &target)?;
+    let wanted = [
+        Step::SchemeLetter(0),
+        Step::SchemeLetter(1),
+        Step::SchemeLetter(2),
+        Step::SchemeLetter(3),
+        Step::Decode(Part::Authority, 0),
+        Step::HostLetter(2),
+        Step::Decode(Part::Path, 1),
+        Step::Decode(Part::Path, 2),
+        Step::HexDigit(Part::Path, 6),
+    ];
+    assert_eq!(rt; steps.len(), wanted.len());
+    for (i, step) in wanted.iter().enumerate() {
+        assert!(rt; steps.get(i) == Some(*step), "at {i}");
+    }
+    assert!(rt; steps.get(wanted.len()).is_none());
+    Ok(())
+}
+
+#[test]
+fn the_first_illegal_step_is_named(rt: HostRuntime) -> Result<(), Fail> {
+    let target = target::<UriSpec>(rt.alloc(), "HTTP://H/%7e")?;
+    let mut steps = StepList::new(rt.alloc());
+    steps.push(Step::SchemeLetter(1))?;
+    steps.push(Step::SchemeLetter(1))?;
+    steps.push(Step::EmptyPort)?;
+    let answer = replay(rt.alloc(), &target, &steps);
+    assert!(rt; matches!(answer, Err(ReplayError::Illegal(1))));
+    Ok(())
+}
+
+#[test]
+fn joined_targets(rt: HostRuntime) -> Result<(), Fail> {
+    for (a, b, text) in [
+        ("/a", "/%61", "http://a/a"),
+        ("HTTP://A:/", "", "http://a/"),
+        ("/b/../c", "/./%63", "http://a/c"),
+    ] {
+        let first = target::<UriSpec>(rt.alloc(), a)?;
+        let second = target::<UriSpec>(rt.alloc(), b)?;
+        let Some((l, m)) = join_steps(rt.alloc(), &first, &second)? else {
+            return Err("targets with one normal form aren't joined")?;
+        };
+        let (Ok(x), Ok(y)) = (
+            replay(rt.alloc(), &first, &l),
+            replay(rt.alloc(), &second, &m),
+        ) else {
+            return Err("joining steps are refused")?;
+        };
+        assert_eq!(rt; text_of(rt.alloc(), &x)?.as_str(), text);
+        assert_eq!(rt; text_of(rt.alloc(), &y)?.as_str(), text);
+    }
+    Ok(())
+}
+
+#[test]
+fn targets_apart(rt: HostRuntime) -> Result<(), Fail> {
+    for (a, b) in [
+        ("/a", "/b"),
+        ("/a", "/A"),
+        ("//a", "//a/"),
+        ("/a", "/%2561"),
+    ] {
+        let first = target::<UriSpec>(rt.alloc(), a)?;
+        let second = target::<UriSpec>(rt.alloc(), b)?;
+        assert!(rt;
+            join_steps(rt.alloc(), &first, &second)?.is_none(),
+            "at {a} {b}"
+        );
+    }
+    Ok(())
+}

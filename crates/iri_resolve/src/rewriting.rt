@@ -1,0 +1,299 @@
+// Paths against the rewriting of RFC 3986 section 5.2.4, done step by step.
+use crate::normalized::Normalized;
+use crate::resolver::FixedBaseResolver;
+use iri_grammar::spec::UriSpec;
+use iri_text::{ToStringFallible, write_to_slice};
+use iri_types::view::{UriAbsoluteStr, UriReferenceStr};
+use std::alloc::{AllocError, Global};
+use std::str;
+use std::test::Fail;
+
+// The last segment goes, with the slash before it.
+fn remove_last(output: &mut Vec<u8>) {
+    for _ in 0..output.len() {
+        if output.pop() == Some(b'/') {
+            return;
+        }
+    }
+}
+
+// How many bytes the first segment has, with the slash before it.
+fn first_segment(input: &[u8]) -> usize {
+    for (i, b) in input.iter().enumerate() {
+        if i > 0 && *b == b'/' {
+            return i;
+        }
+    }
+    input.len()
+}
+
+// One step, 2A to 2E: what is left of the input.
+fn step<'a>(output: &mut Vec<u8>, input: &'a [u8]) -> Result<&'a [u8], AllocError> {
+    match input {
+        [b'.', b'.', b'/', rest @ ..] => Ok(rest),
+        [b'.', b'/', rest @ ..] => Ok(rest),
+        [b'/', b'.', b'/', ..] => Ok(&input[2..]),
+        [b'/', b'.'] => Ok(&input[..1]),
+        [b'/', b'.', b'.', b'/', ..] => {
+            remove_last(output);
+            Ok(&input[3..])
+        }
+        [b'/', b'.', b'.'] => {
+            remove_last(output);
+            Ok(&input[..1])
+        }
+        [b'.'] | [b'.', b'.'] => Ok(&input[input.len()..]),
+        _ => {
+            let n = first_segment(input).min(input.len());
+            output.extend_from_slice(&input[..n])?;
+            Ok(&input[n..])
+        }
+    }
+}
+
+// Each step makes input and output together no longer, and the input shorter.
+fn rewritten(alloc: Global, path: &[u8]) -> Result<Vec<u8>, AllocError> {
+    let mut output = Vec::new(alloc);
+    let mut input = path;
+    for _ in 0..path.len() {
+        input = step(&mut output, input)?;
+    }
+    Ok(output)
+}
+
+// The texts that are wanted of a path: as it stands, and rewritten and guarded.
+#[derive(Clone, Copy)]
+struct Wanted<'a> {
+    plain: &'a [u8],
+    normal: &'a [u8],
+    preserving: &'a [u8],
+}
+
+// What is written in front of a path.
+fn head(authority_stands: bool) -> &'static str {
+    if authority_stands { "s://h" } else { "s:" }
+}
+
+// The text with a path as it stands.
+fn as_it_stands(alloc: Global, path: &[u8], authority_stands: bool) -> Result<Vec<u8>, AllocError> {
+    let mut text = Vec::new(alloc);
+    text.extend_from_slice(head(authority_stands).as_bytes())?;
+    text.extend_from_slice(path)?;
+    Ok(text)
+}
+
+// The text with a path rewritten and guarded.
+fn guarded(alloc: Global, path: &[u8], authority_stands: bool) -> Result<Vec<u8>, AllocError> {
+    let path = rewritten(alloc, path)?;
+    let mut text = Vec::new(alloc);
+    text.extend_from_slice(head(authority_stands).as_bytes())?;
+    if !authority_stands && path.as_slice().starts_with(b"//") {
+        text.extend_from_slice(b"/.")?;
+    }
+    text.extend_from_slice(path.as_slice())?;
+    Ok(text)
+}
+
+fn is_text(shown: &Normalized<'_, UriSpec>, text: &[u8]) -> bool {
+    let mut buf = [0u8; 64];
+    match write_to_slice(&mut buf, shown) {
+        Ok(written) => written.as_bytes() == text,
+        Err(_) => false,
+    }
+}
+
+// Whether the three forms are those that are wanted.
+fn are_wanted(plain: Normalized<'_, UriSpec>, wanted: Wanted<'_>) -> bool {
+    let preserving = plain.and_normalize_but_preserve_authorityless_relative_path();
+    is_text(&plain, wanted.plain)
+        && is_text(&plain.and_normalize(), wanted.normal)
+        && is_text(&preserving, wanted.preserving)
+}
+
+// The text of a base with this path.
+fn base_text(alloc: Global, path: &str, authority_stands: bool) -> Result<String, AllocError> {
+    let mut text = String::from_str(alloc, head(authority_stands))?;
+    text.push_str(path)?;
+    Ok(text)
+}
+
+// How many forms were compared, or none where one isn't the wanted one. What is no base or no reference is passed over.
+fn compared(
+    alloc: Global,
+    front: &str,
+    reference: &str,
+    authority_stands: bool,
+    wanted: Wanted<'_>,
+) -> Result<Option<usize>, AllocError> {
+    let base = base_text(alloc, front, authority_stands)?;
+    let Ok(base) = UriAbsoluteStr::new(base.as_str()) else {
+        return Ok(Some(0));
+    };
+    let Ok(reference) = UriReferenceStr::new(reference) else {
+        return Ok(Some(0));
+    };
+    if are_wanted(FixedBaseResolver::new(base).resolve(reference), wanted) {
+        Ok(Some(3))
+    } else {
+        Ok(None)
+    }
+}
+
+// Whether a base can have the path: beside an authority it begins with a slash, and without one not with two.
+fn is_path(path: &[u8], authority_stands: bool) -> bool {
+    if authority_stands {
+        path.starts_with(b"/")
+    } else {
+        !path.starts_with(b"//")
+    }
+}
+
+// A path cut behind each of its slashes, where what follows is a reference of its own, and not cut at all.
+fn compared_cuts(
+    alloc: Global,
+    path: &str,
+    authority_stands: bool,
+) -> Result<Option<usize>, AllocError> {
+    let bytes = path.as_bytes();
+    if !is_path(bytes, authority_stands) {
+        return Ok(Some(0));
+    }
+    let stands = as_it_stands(alloc, bytes, authority_stands)?;
+    let guarded = guarded(alloc, bytes, authority_stands)?;
+    let preserves = !authority_stands && !bytes.starts_with(b"/");
+    let preserved = if preserves { &stands } else { &guarded };
+    let wanted = Wanted {
+        plain: guarded.as_slice(),
+        normal: guarded.as_slice(),
+        preserving: preserved.as_slice(),
+    };
+    let whole = Wanted {
+        plain: stands.as_slice(),
+        ..wanted
+    };
+    let Some(mut count) = compared(alloc, path, "", authority_stands, whole)? else {
+        return Ok(None);
+    };
+    for i in 1..bytes.len() {
+        if bytes[i - 1] != b'/' || bytes[i] == b'/' {
+            continue;
+        }
+        let (Ok(front), Ok(rest)) = (str::from_utf8(&bytes[..i]), str::from_utf8(&bytes[i..]))
+        else {
+            return Ok(None);
+        };
+        match compared(alloc, front, rest, authority_stands, wanted)? {
+            Some(more) => count = count.saturating_add(more),
+            None => return Ok(None),
+        }
+    }
+    Ok(Some(count))
+}
+
+static PIECES: [&str; 7] = ["/", "a", ".", "..", "/..", "/../", "a/"];
+
+// The join of five pieces, by a number of five digits below seven.
+fn join(text: &mut String, number: usize) -> Result<(), AllocError> {
+    text.clear();
+    let mut rest = number;
+    for _ in 0..5 {
+        text.push_str(PIECES[rest % 7])?;
+        rest /= 7;
+    }
+    Ok(())
+}
+
+fn compared_joins(alloc: Global, authority_stands: bool) -> Result<Option<usize>, AllocError> {
+    let mut path = String::new(alloc);
+    let mut count = 0usize;
+    for number in 0..16_807 {
+        join(&mut path, number)?;
+        match compared_cuts(alloc, path.as_str(), authority_stands)? {
+            Some(more) => count = count.saturating_add(more),
+            None => return Ok(None),
+        }
+    }
+    Ok(Some(count))
+}
+
+// Every join of five pieces, without an authority.
+#[test]
+fn joins_without_authority(rt: HostRuntime) -> Result<(), Fail> {
+    let count = compared_joins(rt.alloc(), false)?.unwrap_or(0);
+    assert!(rt; count > 100_000, "{count} forms were compared");
+    Ok(())
+}
+
+// Every join of five pieces that may follow an authority.
+#[test]
+fn joins_behind_an_authority(rt: HostRuntime) -> Result<(), Fail> {
+    let count = compared_joins(rt.alloc(), true)?.unwrap_or(0);
+    assert!(rt; count > 50_000, "{count} forms were compared");
+    Ok(())
+}
+
+// Whether a path of a base, taken whole, is put into normal form as it is rewritten.
+fn is_rewritten(alloc: Global, path: &str) -> Result<bool, AllocError> {
+    let want = guarded(alloc, path.as_bytes(), true)?;
+    let text = base_text(alloc, path, true)?;
+    let (Ok(base), Ok(reference)) = (UriAbsoluteStr::new(text.as_str()), UriReferenceStr::new(""))
+    else {
+        return Ok(false);
+    };
+    let normal = FixedBaseResolver::new(base)
+        .resolve(reference)
+        .and_normalize();
+    Ok(normal.try_to_string(alloc)?.as_bytes() == want.as_slice())
+}
+
+// The same of a long path.
+fn is_long_rewritten(alloc: Global, unit: &str) -> Result<bool, AllocError> {
+    let mut path = String::from_str(alloc, "/")?;
+    for _ in 0..4000 {
+        path.push_str(unit)?;
+    }
+    path.push_str("../x")?;
+    is_rewritten(alloc, path.as_str())
+}
+
+#[test]
+fn long_paths(rt: HostRuntime) -> Result<(), Fail> {
+    for unit in ["a/", "a/../", "a/a/../", "../", "a/a/a/a/../../", "/"] {
+        assert!(rt; is_long_rewritten(rt.alloc(), unit)?, "at {unit}");
+    }
+    Ok(())
+}
+
+// The same of paths of a unit again and again, of each length around the one up to which a path is gone through once.
+fn are_rewritten_around(alloc: Global, unit: &str) -> Result<bool, AllocError> {
+    let mut path = String::from_str(alloc, "/")?;
+    for _ in 0..600 {
+        path.push_str(unit)?;
+    }
+    for len in 500..530 {
+        let Some(front) = path.as_str().get(..len) else {
+            return Ok(false);
+        };
+        if !is_rewritten(alloc, front)? {
+            return Ok(false);
+        }
+    }
+    Ok(true)
+}
+
+#[test]
+fn paths_around_the_short_length(rt: HostRuntime) -> Result<(), Fail> {
+    for unit in [
+        "a/",
+        "a/./",
+        "a/../",
+        "a/b/../",
+        "a/b/c/.././",
+        "../",
+        "/",
+        "/../b/",
+    ] {
+        assert!(rt; are_rewritten_around(rt.alloc(), unit)?, "at {unit}");
+    }
+    Ok(())
+}

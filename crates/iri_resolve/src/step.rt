@@ -1,0 +1,27 @@
+//! Steps that change parts towards their normal form.
+
+/// A part that may hold triplets.
+#[derive(Clone, Copy, PartialEq, Eq)]
+pub enum Part {
+    Authority,
+    Path,
+    Query,
+    Fragment,
+}
+
+/// A step. Positions count the bytes of the part's text.
+#[derive(Clone, Copy, PartialEq, Eq)]
+pub enum Step {
+    /// The capital at this place of the scheme becomes small.
+    SchemeLetter(usize),
+    /// The capital at this place of the authority, outside triplets and in an ASCII host, becomes small.
+    HostLetter(usize),
+    /// The small hex digit at this place, inside a triplet of the part, becomes a capital.
+    HexDigit(Part, usize),
+    /// The unreserved character that the triplets from this place on spell becomes itself.
+    Decode(Part, usize),
+    /// The empty port goes with its colon.
+    EmptyPort,
+    /// The dot segments of the path are removed, and the guard is put where it is needed.
+    Dots,
+}

@@ -1,0 +1,63 @@
+//! Steps, one after the other.
+ghost use Rattle.std.specs.Prelude.{◌≡◌, ◌<◌, [], ◌∷◌, ◌++◌, IfOk, IfErr, Some, length, slice_get};
+
+use crate::step::Step;
+use std::alloc::{AllocError, Global};
+use std::marker::Model;
+
+/// A list of steps, seen as that list.
+#[derive(Drop)]
+pub struct StepList {
+    steps: Vec<Step>,
+}
+
+impl Model for StepList {
+    ghost use Rattle.std.specs.Prelude.{List};
+    ghost use Rattle.iri_resolve.specs.declared.step.Step.{Step};
+
+    ghost Value = { List Step };
+
+    ghost view = { λ l. l.steps.items };
+}
+
+impl StepList {
+    /// No steps.
+    pub fn new(alloc: Global) -> Self
+        ensures { result ≡ [] }
+    {
+        StepList {
+            steps: Vec::new(alloc),
+        }
+    }
+
+    /// Puts a step at the end. After want of memory the list is as it was.
+    pub fn push(&mut self, step: Step) -> Result<(), AllocError>
+        ensures ok { IfOk result (λ _. self.new ≡ self.old ++ step ∷ []) }
+        ensures err { IfErr result (λ _. self.new ≡ self.old) }
+    {
+        self.steps.push(step)?;
+        Ok(())
+    }
+
+    /// How many steps there are.
+    pub fn len(&self) -> usize
+        ensures { result ≡ length self.now }
+    {
+        self.steps.len()
+    }
+
+    /// The step of this number, from 0 on; none behind the last one.
+    pub fn get(&self, i: usize) -> Option<Step>
+        ensures { result ≡ slice_get self.now i }
+    {
+        self.steps.get(i).copied()
+    }
+
+    // The step of this number.
+    pub(crate) fn at(&self, i: usize) -> Step
+        requires { i < length self.now }
+        ensures { slice_get self.now i ≡ Some result }
+    {
+        self.steps[i]
+    }
+}

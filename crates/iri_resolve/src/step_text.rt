@@ -1,0 +1,61 @@
+// Steps as text.
+ghost use Rattle.std.specs.Prelude.{Some};
+ghost use Rattle.iri_resolve.specs.StepTexts.{part_name, step_text};
+
+use crate::step::{Part, Step};
+use iri_text::{FormatSink, Show, Stop, TextSink, show_four, show_two};
+use std::fmt;
+
+/// The name of the part: `authority`, `path`, `query` or `fragment`.
+impl Show for Part {
+    ghost text = { part_name };
+
+    fn show<W: TextSink>(&self, sink: &mut W) -> Result<(), Stop> {
+        match self {
+            Part::Authority => sink.put("authority"),
+            Part::Path => sink.put("path"),
+            Part::Query => sink.put("query"),
+            Part::Fragment => sink.put("fragment"),
+        }
+    }
+}
+
+/// What changes, in which part and at which byte of it: `scheme letter 0`, `host letter 3`, `hex digit path 5`,
+/// `decode query 2`, `empty port`, `dot segments`.
+impl Show for Step {
+    ghost text = { step_text };
+
+    fn show<W: TextSink>(&self, sink: &mut W) -> Result<(), Stop> {
+        match self {
+            Step::SchemeLetter(at) => show_two(sink, &"scheme letter ", at),
+            Step::HostLetter(at) => show_two(sink, &"host letter ", at),
+            Step::HexDigit(part, at) => show_four(sink, &"hex digit ", part, &" ", at),
+            Step::Decode(part, at) => show_four(sink, &"decode ", part, &" ", at),
+            Step::EmptyPort => sink.put("empty port"),
+            Step::Dots => sink.put("dot segments"),
+        }
+    }
+}
+
+impl fmt::Display for Part {
+    ghost use Rattle.iri_resolve.specs.StepTexts.{part_name};
+
+    ghost output = { λ part. Some (part_name part) };
+
+    fn fmt<W: fmt::Write>(&self, f: &mut fmt::Formatter<W>) -> fmt::Result {
+        FormatSink::new(f).display(self)
+    }
+}
+
+impl fmt::Display for Step {
+    ghost use Rattle.iri_resolve.specs.StepTexts.{step_text};
+
+    ghost output = { λ step. Some (step_text step) };
+
+    fn fmt<W: fmt::Write>(&self, f: &mut fmt::Formatter<W>) -> fmt::Result {
+        FormatSink::new(f).display(self)
+    }
+}
+
+#[cfg(test)]
+mod tests;

@@ -1,0 +1,19 @@
+//! What RFC 3986 has no normal form of.
+ghost use Rattle.std.specs.Prelude.{Some, codes};
+
+use std::fmt;
+
+/// No authority stands, and the path without its dot segments begins with two slashes, so that one would be read from it (RFC 3986
+/// section 3.3). A normal form there is has `/.` before the path.
+#[derive(Clone, Debug, Drop)]
+pub struct Unresolvable;
+
+impl fmt::Display for Unresolvable {
+    ghost output = { λ _. Some (codes "unresolvable IRI") };
+
+    fn fmt<W: fmt::Write>(&self, f: &mut fmt::Formatter<W>) -> fmt::Result {
+        f.write_str("unresolvable IRI")
+    }
+}
+
+impl std::error::Error for Unresolvable {}
