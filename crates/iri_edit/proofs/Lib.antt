@@ -1,0 +1,8 @@
+pub mod PlaceLemmas
+pub mod SpliceLemmas
+pub mod SameLemmas
+pub mod KindLemmas
+pub mod FragmentLemmas
+pub mod UserLemmas
+pub mod BuiltLemmas
+pub mod LawLemmas

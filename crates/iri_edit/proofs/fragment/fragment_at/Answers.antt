@@ -1,0 +1,12 @@
+use Rattle.std.proofs.Common.{length, ◌∙◌, ap, subst, sym}
+use Rattle.iri_grammar.specs.Cut.{before}
+use Rattle.iri_types.specs.Texts.{text}
+use Rattle.iri_edit.specs.Places.{IsFragmentAt}
+use Rattle.iri_edit.proofs.FragmentLemmas.{fragment-place}
+use Rattle.iri_edit.proofs.fragment.fragment_at.Goals as goal
+
+pub returns : goal.returns
+returns g c =
+    let t = c.as_str-text.result.now in
+    let at = subst (λ z. IsFragmentAt t (length z) (length t)) (sym c.cut_before.ensures.before) (fragment-place t) in
+    subst (λ z. IsFragmentAt z (length c.cut_before.result.0.now) (length t)) c.as_str-text.ensures.text at

@@ -1,0 +1,50 @@
+-- A whole text with another host (RFC 3986 section 3.2.2).
+use Rattle.std.specs.Prelude.{◌≡◌, ℕ, ◌+◌, Bool, true, false, not, ◌&&◌, ◌||◌, List, length, slice_range, Option, Some, None, Result, Ok, Err}
+use Rattle.std.specs.Borrow.{Bor}
+use Rattle.std.specs.Str.{IsCharBoundary}
+use Rattle.std.specs.declared.alloc.AllocError.{AllocError}
+use Rattle.iri_grammar.specs.Authority.{AuthorityParts, authority_parts}
+use Rattle.iri_grammar.specs.Classes.{Tests}
+use Rattle.iri_grammar.specs.Host.{is_host}
+use Rattle.iri_grammar.specs.Split.{split_of}
+use Rattle.iri_owned.specs.OwnedText.{OwnedText}
+use Rattle.iri_types.specs.Components.{is_named}
+use Rattle.iri_edit.specs.Edited.{edited}
+
+-- the host of an authority that may stand
+abbrev pub host_in : Option (List ℕ) → Option (List ℕ)
+host_in None = None
+host_in (Some a) = Some (authority_parts a).host
+
+-- the host of a text, where it has an authority
+abbrev pub host_of_text : List ℕ → Option (List ℕ)
+host_of_text t = host_in (split_of t).authority
+
+-- the parts of an authority, with h as its host
+abbrev pub host_replaced : List ℕ → AuthorityParts → AuthorityParts
+host_replaced h a = record { userinfo = a.userinfo; host = h; port = a.port }
+
+-- the text with h in place of its host
+abbrev pub with_host : List ℕ → List ℕ → List ℕ
+with_host t h = edited (host_replaced h) t
+
+-- whether a text's host is replaced: the text has one, the new one is a host, and, where names alone are replaced, the old one
+-- is a registered name
+abbrev pub is_replaced : Tests → Bool → List ℕ → Option (List ℕ) → Bool
+is_replaced s names_only new None = false
+is_replaced s names_only new (Some old) = is_host s new && (not names_only || is_named old)
+
+-- the host is replaced, and `start` is where the new one begins; or it isn't, and the text stays; or memory was wanted, and the
+-- text stays
+abbrev pub HostReplaced : Tests → Bool → OwnedText → OwnedText → List ℕ → Result (Option ℕ) AllocError → Type 0
+HostReplaced s names_only old new host (Ok None) = (is_replaced s names_only host (host_of_text old.text) ≡ false) × (new ≡ old)
+HostReplaced s names_only old new host (Ok (Some start)) =
+    (is_replaced s names_only host (host_of_text old.text) ≡ true) × (new.text ≡ with_host old.text host) × (slice_range new.text start (start + length host) ≡ host) × IsCharBoundary new.text start × IsCharBoundary new.text (start + length host)
+HostReplaced s names_only old new host (Err e) = (is_replaced s names_only host (host_of_text old.text) ≡ true) × (new ≡ old)
+
+-- the same, with the new host's slice in place of where it begins
+abbrev pub HostChange : Tests → Bool → OwnedText → OwnedText → List ℕ → Result (Option (Bor (List ℕ))) AllocError → Type 0
+HostChange s names_only old new host (Ok None) = (is_replaced s names_only host (host_of_text old.text) ≡ false) × (new ≡ old)
+HostChange s names_only old new host (Ok (Some slice)) =
+    (is_replaced s names_only host (host_of_text old.text) ≡ true) × (new.text ≡ with_host old.text host) × (slice.now ≡ host)
+HostChange s names_only old new host (Err e) = (is_replaced s names_only host (host_of_text old.text) ≡ true) × (new ≡ old)

@@ -1,0 +1,61 @@
+-- Where parts of an authority stand in a whole text, in bytes.
+use Rattle.std.specs.Prelude.{◌≡◌, ℕ, ◌+◌, ◌<◌, ◌≤◌, ◌^◌, true, List, [], ◌∷◌, ◌++◌, length, Some}
+use Rattle.std.specs.Str.{IsUtf8, IsCharBoundary}
+use Rattle.iri_grammar.specs.Authority.{AuthorityParts, authority_parts, recompose_authority}
+use Rattle.iri_grammar.specs.Classes.{Tests}
+use Rattle.iri_grammar.specs.Cut.{before}
+use Rattle.iri_grammar.specs.Host.{is_host}
+use Rattle.iri_grammar.specs.Split.{split_of}
+use Rattle.iri_owned.specs.Spliced.{spliced}
+use Rattle.iri_edit.specs.Edited.{edited}
+use Rattle.iri_edit.specs.Host.{host_of_text, with_host}
+use Rattle.iri_edit.specs.Password.{password_of, with_password, without_password}
+
+-- the authority a stands in t from `start` on; what an edit changes stands in its place
+pub record IsAuthorityAt (t a : List ℕ) (start : ℕ) : Type 0 where
+  pub front : List ℕ
+  pub back : List ℕ
+  pub text : front ++ (a ++ back) ≡ t
+  pub lead : List ℕ
+  pub ends : lead ++ 47 ∷ [] ≡ front
+  pub at : length front ≡ start
+  pub stands : (split_of t).authority ≡ Some a
+  pub utf8 : IsUtf8 t
+  pub short : length t < 2 ^ 64
+  pub edits : (f : AuthorityParts → AuthorityParts) → edited f t ≡ front ++ (recompose_authority (f (authority_parts a)) ++ back)
+
+-- the colon before the password of t stands at `colon`, and the password ends at `end`
+pub record IsPasswordAt (t : List ℕ) (colon end : ℕ) : Type 0 where
+  pub front : List ℕ
+  pub password : List ℕ
+  pub back : List ℕ
+  pub text : front ++ 58 ∷ (password ++ back) ≡ t
+  pub at_colon : length front ≡ colon
+  pub at_end : colon + 1 + length password ≡ end
+  pub stands : password_of t ≡ Some password
+  pub edits : (w : List ℕ) → with_password t w ≡ front ++ 58 ∷ (w ++ back)
+  pub removes : without_password t ≡ front ++ back
+  pub before_colon : IsCharBoundary t colon
+  pub behind_colon : IsCharBoundary t (colon + 1)
+  pub behind_all : IsCharBoundary t end
+
+-- the host h of t stands from `start` on
+pub record IsHostAt (s : Tests) (t h : List ℕ) (start : ℕ) : Type 0 where
+  pub front : List ℕ
+  pub back : List ℕ
+  pub text : front ++ (h ++ back) ≡ t
+  pub at : length front ≡ start
+  pub valid : is_host s h ≡ true
+  pub stands : host_of_text t ≡ Some h
+  pub edits : (new : List ℕ) → with_host t new ≡ front ++ (new ++ back)
+  pub low : IsCharBoundary t start
+  pub high : IsCharBoundary t (start + length h)
+  pub utf8 : IsUtf8 back
+
+-- the number sign of t stands at `start`, or t ends there; `end` is the end of t
+pub record IsFragmentAt (t : List ℕ) (start end : ℕ) : Type 0 where
+  pub ordered : start ≤ end
+  pub at_end : end ≡ length t
+  pub low : IsCharBoundary t start
+  pub high : IsCharBoundary t end
+  pub replaces : (new : List ℕ) → spliced t start end new ≡ before 35 t ++ new

@@ -1,0 +1,313 @@
+//! Whole texts built from parts (RFC 3986 section 5.3).
+ghost use Rattle.std.specs.Prelude.{◌≡◌, ◌++◌, ◌||◌, ◌&&◌, IfOk, MatchResult, None, OnOk, Some, is_some, string_bytes, true, false};
+ghost use Rattle.iri_edit.specs.Built.{absolute_refusal, built_fault, built_text, components_fault, given_authority, given_parts, iri_refusal, nothing_given, reference_refusal, relative_refusal};
+ghost use Rattle.iri_grammar.specs.Fault.{Answers, part_fault};
+ghost use Rattle.iri_grammar.specs.Parts.{Fits, authority_text, recompose};
+ghost use Rattle.iri_grammar.specs.Views.{now_of};
+
+use crate::build_kind::{BuildKind, Host, Port, Scheme, Userinfo};
+use crate::recomposed::{keeps_rules, normal_text, or_nothing, push_ended, push_marked};
+use iri_grammar::error::{Error, ErrorKind};
+use iri_grammar::spec::Spec;
+use iri_grammar::validate;
+use iri_owned::owned::{Owned, RiAbsoluteString, RiReferenceString, RiRelativeString, RiString};
+use iri_types::kind::{Absolute, Fragment, Iri, Kind, Query, Reference, Relative};
+use std::alloc::{AllocError, Global};
+
+/// The parts of a text that is to be built. Setting a part judges nothing; `build_reference` and its kin judge all parts. It has
+/// no `Debug`, so that none shows a password.
+#[derive(Clone, Copy)]
+pub struct Builder<'a> {
+    scheme: Option<&'a str>,
+    userinfo: Option<&'a str>,
+    host: Option<&'a str>,
+    port: Option<&'a str>,
+    path: &'a str,
+    query: Option<&'a str>,
+    fragment: Option<&'a str>,
+    normal: bool,
+}
+
+/// Why no text was built.
+#[derive(Debug, Drop)]
+pub enum BuildError {
+    /// The parts make no text of the kind: the first fault.
+    Invalid(Error),
+    /// Memory was refused. The parts make a text of the kind.
+    Memory(AllocError),
+}
+
+impl<'a> Builder<'a> {
+    ghost use Rattle.iri_edit.specs.Builders.{given, RefusedFor};
+
+    /// A builder with nothing set: its path is empty.
+    pub fn new() -> Self
+        ensures { given result ≡ nothing_given }
+    {
+        Builder {
+            scheme: None,
+            userinfo: None,
+            host: None,
+            port: None,
+            path: "",
+            query: None,
+            fragment: None,
+            normal: false,
+        }
+    }
+
+    /// Sets the scheme, without its colon.
+    pub fn scheme(&mut self, text: &'a str)
+        ensures { given self.new ≡ record (given self.old) { scheme = Some text.now } }
+    {
+        self.scheme = Some(text);
+    }
+
+    /// Sets the userinfo, without the `@` behind it.
+    pub fn userinfo(&mut self, text: &'a str)
+        ensures { given self.new ≡ record (given self.old) { userinfo = Some text.now } }
+    {
+        self.userinfo = Some(text);
+    }
+
+    /// Sets the host.
+    pub fn host(&mut self, text: &'a str)
+        ensures { given self.new ≡ record (given self.old) { host = Some text.now } }
+    {
+        self.host = Some(text);
+    }
+
+    /// Sets the port, without its colon.
+    pub fn port(&mut self, text: &'a str)
+        ensures { given self.new ≡ record (given self.old) { port = Some text.now } }
+    {
+        self.port = Some(text);
+    }
+
+    /// Sets the path.
+    pub fn path(&mut self, text: &'a str)
+        ensures { given self.new ≡ record (given self.old) { path = text.now } }
+    {
+        self.path = text;
+    }
+
+    /// Sets the query, without its question mark.
+    pub fn query(&mut self, text: &'a str)
+        ensures { given self.new ≡ record (given self.old) { query = Some text.now } }
+    {
+        self.query = Some(text);
+    }
+
+    /// Sets the fragment, without its number sign.
+    pub fn fragment(&mut self, text: &'a str)
+        ensures { given self.new ≡ record (given self.old) { fragment = Some text.now } }
+    {
+        self.fragment = Some(text);
+    }
+
+    /// Takes back the scheme.
+    pub fn unset_scheme(&mut self)
+        ensures { given self.new ≡ record (given self.old) { scheme = None } }
+    {
+        self.scheme = None;
+    }
+
+    /// Takes back the userinfo.
+    pub fn unset_userinfo(&mut self)
+        ensures { given self.new ≡ record (given self.old) { userinfo = None } }
+    {
+        self.userinfo = None;
+    }
+
+    /// Takes back the port.
+    pub fn unset_port(&mut self)
+        ensures { given self.new ≡ record (given self.old) { port = None } }
+    {
+        self.port = None;
+    }
+
+    /// Takes back userinfo, host and port.
+    pub fn unset_authority(&mut self)
+        ensures { given self.new ≡ record (given self.old) { userinfo = None; host = None; port = None } }
+    {
+        self.userinfo = None;
+        self.host = None;
+        self.port = None;
+    }
+
+    /// Takes back the query.
+    pub fn unset_query(&mut self)
+        ensures { given self.new ≡ record (given self.old) { query = None } }
+    {
+        self.query = None;
+    }
+
+    /// Takes back the fragment.
+    pub fn unset_fragment(&mut self)
+        ensures { given self.new ≡ record (given self.old) { fragment = None } }
+    {
+        self.fragment = None;
+    }
+
+    /// Asks for the normal form of the text (RFC 3986 section 6.2.2). Without a scheme it is built as it is.
+    pub fn normalize(&mut self)
+        ensures { given self.new ≡ record (given self.old) { normal = true } }
+    {
+        self.normal = true;
+    }
+
+    /// Takes `normalize` back.
+    pub fn unset_normalize(&mut self)
+        ensures { given self.new ≡ record (given self.old) { normal = false } }
+    {
+        self.normal = false;
+    }
+
+    /// The text of the kind `K` that the parts make. `Invalid` exactly where they make none, with the first fault: the parts one by
+    /// one, scheme, userinfo, host, port, path, query, fragment; then what the kind refuses; then the rules of the path.
+    pub fn build<S: Spec, K: BuildKind>(self, alloc: Global) -> Result<Owned<S, K>, BuildError>
+        ensures { MatchResult result (λ t. (built_fault S.tests K.refusal (given self.entry) ≡ None) × (t.text ≡ built_text S.tests (given self.entry))) (λ e. RefusedFor e (built_fault S.tests K.refusal (given self.entry))) }
+    {
+        match self.judge_whole::<S, K>() {
+            Ok(()) => self.text_of::<S, K>(alloc).map_err(BuildError::Memory),
+            Err(error) => Err(BuildError::Invalid(error)),
+        }
+    }
+
+    /// The reference that the parts make.
+    pub fn build_reference<S: Spec>(self, alloc: Global) -> Result<RiReferenceString<S>, BuildError>
+        ensures { MatchResult result (λ t. (built_fault S.tests reference_refusal (given self.entry) ≡ None) × (t.text ≡ built_text S.tests (given self.entry))) (λ e. RefusedFor e (built_fault S.tests reference_refusal (given self.entry))) }
+    {
+        self.build::<S, Reference>(alloc)
+    }
+
+    /// The URI that the parts make: a scheme must be set.
+    pub fn build_iri<S: Spec>(self, alloc: Global) -> Result<RiString<S>, BuildError>
+        ensures { MatchResult result (λ t. (built_fault S.tests iri_refusal (given self.entry) ≡ None) × (t.text ≡ built_text S.tests (given self.entry))) (λ e. RefusedFor e (built_fault S.tests iri_refusal (given self.entry))) }
+    {
+        self.build::<S, Iri>(alloc)
+    }
+
+    /// The absolute URI that the parts make: a scheme must be set, and no fragment.
+    pub fn build_absolute<S: Spec>(self, alloc: Global) -> Result<RiAbsoluteString<S>, BuildError>
+        ensures { MatchResult result (λ t. (built_fault S.tests absolute_refusal (given self.entry) ≡ None) × (t.text ≡ built_text S.tests (given self.entry))) (λ e. RefusedFor e (built_fault S.tests absolute_refusal (given self.entry))) }
+    {
+        self.build::<S, Absolute>(alloc)
+    }
+
+    /// The relative reference that the parts make: no scheme may be set.
+    pub fn build_relative<S: Spec>(self, alloc: Global) -> Result<RiRelativeString<S>, BuildError>
+        ensures { MatchResult result (λ t. (built_fault S.tests relative_refusal (given self.entry) ≡ None) × (t.text ≡ built_text S.tests (given self.entry))) (λ e. RefusedFor e (built_fault S.tests relative_refusal (given self.entry))) }
+    {
+        self.build::<S, Relative>(alloc)
+    }
+
+    // The first fault of the parts, each alone.
+    #[tactic(auto, unfolding(crate::specs::Built::components_fault))]
+    fn judge_components<S: Spec>(&self) -> Result<(), Error>
+        ensures { Answers result (components_fault S.tests (given self.now)) }
+    {
+        judge::<S, Scheme>(self.scheme)?;
+        judge::<S, Userinfo>(self.userinfo)?;
+        judge::<S, Host>(self.host)?;
+        judge::<S, Port>(self.port)?;
+        validate::path::<S>(self.path)?;
+        judge::<S, Query>(self.query)?;
+        judge::<S, Fragment>(self.fragment)
+    }
+
+    // The first fault.
+    fn judge_whole<S: Spec, K: BuildKind>(&self) -> Result<(), Error>
+        ensures { Answers result (built_fault S.tests K.refusal (given self.now)) }
+    {
+        self.judge_components::<S>()?;
+        if let Some(kind) = K::refuse(self.scheme.is_some(), self.fragment.is_some()) {
+            return Err(Error::new(kind));
+        }
+        if keeps_rules(self.scheme.is_some(), self.has_authority(), self.path) {
+            Ok(())
+        } else {
+            Err(Error::new(ErrorKind::InvalidPath))
+        }
+    }
+
+    // `//` and the authority, where it stands.
+    #[tactic(auto, unfolding(iri_grammar::specs::Authority::recompose_authority))]
+    fn push_authority(&self, text: &mut String) -> Result<(), AllocError>
+        ensures { OnOk result (string_bytes text.new ≡ string_bytes text.old ++ authority_text (given_authority (given self.now))) }
+    {
+        if !self.has_authority() {
+            return Ok(());
+        }
+        text.push_str("//")?;
+        push_ended(text, self.userinfo, "@", b'@')?;
+        text.push_str(or_nothing(self.host))?;
+        push_marked(text, ":", b':', self.port)
+    }
+
+    // The parts recomposed.
+    #[tactic(auto, unfolding(iri_grammar::specs::Parts::recompose))]
+    fn recomposed(&self, alloc: Global) -> Result<String, AllocError>
+        ensures { IfOk result (λ text. string_bytes text ≡ recompose (given_parts (given self.now))) }
+    {
+        let mut text = String::new(alloc);
+        push_ended(&mut text, self.scheme, ":", b':')?;
+        self.push_authority(&mut text)?;
+        text.push_str(self.path)?;
+        push_marked(&mut text, "?", b'?', self.query)?;
+        push_marked(&mut text, "#", b'#', self.fragment)?;
+        Ok(text)
+    }
+
+    // Whether the normal form is asked for, and a scheme is set.
+    fn is_normal(&self) -> bool
+        ensures { result ≡ ((given self.now).normal && is_some (given self.now).scheme) }
+    {
+        self.normal && self.scheme.is_some()
+    }
+
+    // The recomposed parts, or their normal form.
+    fn normal_where_asked<S: Spec>(&self, alloc: Global, text: String) -> Result<String, AllocError>
+        requires text { string_bytes text ≡ recompose (given_parts (given self.now)) }
+        requires fits { Fits S.tests (given_parts (given self.now)) }
+        ensures { IfOk result (λ t. string_bytes t ≡ built_text S.tests (given self.now)) }
+    {
+        if self.is_normal() {
+            normal_text::<S>(alloc, &text)
+        } else {
+            Ok(text)
+        }
+    }
+
+    // The text that the parts make.
+    fn text_of<S: Spec, K: BuildKind>(&self, alloc: Global) -> Result<Owned<S, K>, AllocError>
+        requires { built_fault S.tests K.refusal (given self.now) ≡ None }
+        ensures { IfOk result (λ t. t.text ≡ built_text S.tests (given self.now)) }
+    {
+        let plain = self.recomposed(alloc)?;
+        let text = self.normal_where_asked::<S>(alloc, plain)?;
+        Ok(Owned::from_valid(text))
+    }
+
+    fn has_authority(&self) -> bool
+        ensures { result ≡ (is_some (given self.now).userinfo || (is_some (given self.now).host || is_some (given self.now).port)) }
+    {
+        self.userinfo.is_some() || self.host.is_some() || self.port.is_some()
+    }
+}
+
+impl Default for Builder<'_> {
+    fn default() -> Self {
+        Builder::new()
+    }
+}
+
+// The fault of a part that may be set.
+fn judge<S: Spec, K: Kind>(part: Option<&str>) -> Result<(), Error>
+    ensures { Answers result (part_fault (K.fault S.tests) (now_of part.entry)) }
+{
+    match part {
+        Some(part) => K::validate::<S>(part),
+        None => Ok(()),
+    }
+}

@@ -1,0 +1,70 @@
+//! Fragments of owned texts changed in place (RFC 3986 section 3.5).
+ghost use Rattle.std.specs.Prelude.{◌≡◌, IsSome, None, OnErr, OnOk, Some};
+ghost use Rattle.iri_edit.specs.Fragment.{with_fragment};
+ghost use Rattle.iri_edit.specs.Places.{IsFragmentAt};
+ghost use Rattle.iri_types.specs.Texts.{text, text_of};
+
+use crate::change::{cut_out, put_in_room, reference_of};
+use iri_grammar::cutting::cut_before;
+use iri_grammar::spec::Spec;
+use iri_owned::owned::Owned;
+use iri_types::kind::FragmentKind;
+use iri_types::view::{RiFragmentStr, RiReferenceStr};
+use std::alloc::AllocError;
+
+/// Owned texts that may have a fragment.
+pub trait SetFragment<F> {
+    /// Puts a fragment in place of the text's, or behind a text that has none; `None` takes out the fragment and its number sign,
+    /// and takes no memory. Memory is taken first: after want of it the text is as it was.
+    fn set_fragment(&mut self, fragment: Option<F>) -> Result<(), AllocError>;
+}
+
+// Where the fragment's number sign stands, or the end of the text where none stands; and the end.
+fn fragment_at<S: Spec>(reference: RiReferenceStr<'_, S>) -> (usize, usize)
+    ensures { IsFragmentAt (text reference.entry) result.0 result.1 }
+{
+    let text = reference.as_str();
+    (cut_before(text, b'#').0.len(), text.len())
+}
+
+// Takes out the fragment and its number sign.
+fn remove_fragment<S: Spec, K: FragmentKind>(owned: &mut Owned<S, K>)
+    ensures text { owned.new.text ≡ with_fragment owned.old.text None }
+    ensures capacity { owned.new.capacity ≡ owned.old.capacity }
+{
+    let (start, end) = fragment_at(reference_of(owned));
+    cut_out(owned, start, end);
+}
+
+// Puts a fragment in place of the text's, or behind a text that has none.
+fn put_fragment<S: Spec, K: FragmentKind>(
+    owned: &mut Owned<S, K>,
+    fragment: RiFragmentStr<'_, S>,
+) -> Result<(), AllocError>
+    ensures ok { OnOk result (owned.new.text ≡ with_fragment owned.old.text (Some (text fragment.entry))) }
+    ensures err { OnErr result (owned.new ≡ owned.old) }
+{
+    let (start, end) = fragment_at(reference_of(owned));
+    owned.try_reserve(fragment.len().saturating_add(1).saturating_sub(end - start))?;
+    put_in_room(owned, start, end, "#");
+    let end = owned.as_str().len();
+    put_in_room(owned, end, end, fragment.as_str());
+    Ok(())
+}
+
+impl<'f, S: Spec, K: FragmentKind> SetFragment<RiFragmentStr<'f, S>> for Owned<S, K> {
+    fn set_fragment(&mut self, fragment: Option<RiFragmentStr<'f, S>>) -> Result<(), AllocError>
+        ensures ok { OnOk result (self.new.text ≡ with_fragment self.old.text (text_of fragment.entry)) }
+        ensures err { OnErr result (self.new ≡ self.old) }
+        ensures some { OnErr result (IsSome (text_of fragment.entry)) }
+        ensures capacity { text_of fragment.entry ≡ None → self.new.capacity ≡ self.old.capacity }
+    {
+        match fragment {
+            Some(fragment) => put_fragment(self, fragment),
+            None => {
+                remove_fragment(self);
+                Ok(())
+            }
+        }
+    }
+}

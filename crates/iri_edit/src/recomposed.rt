@@ -1,0 +1,109 @@
+// Parts written one behind the other (RFC 3986 section 5.3), and the normal form of a text.
+ghost use Rattle.std.specs.Prelude.{◌≡◌, ◌++◌, [], ◌∷◌, ◌||◌, IfOk, None, OnOk, string_bytes};
+ghost use Rattle.iri_edit.specs.Built.{or_empty};
+ghost use Rattle.iri_edit.specs.Rules.{ended, rules_by};
+ghost use Rattle.iri_grammar.specs.Authority.{recompose_authority};
+ghost use Rattle.iri_grammar.specs.Cut.{marked};
+ghost use Rattle.iri_grammar.specs.Parts.{recompose, starts_with_slash, starts_with_slashes, is_empty};
+ghost use Rattle.iri_grammar.specs.Split.{split_of};
+ghost use Rattle.iri_grammar.specs.Views.{now_of};
+ghost use Rattle.iri_grammar.specs.WholeFault.{iri_fault};
+ghost use Rattle.iri_resolve.specs.NormalForm.{normal_form};
+
+use iri_grammar::cutting::{cut_before, lacks};
+use iri_grammar::spec::Spec;
+use iri_resolve::canonical::write_canonical;
+use iri_resolve::resolver::FixedBaseResolver;
+use iri_types::split::SplitView;
+use iri_types::view::RiStr;
+use std::alloc::{AllocError, Global};
+
+// A part and the mark behind it, where the part stands.
+pub(crate) fn push_ended(
+    text: &mut String,
+    part: Option<&str>,
+    mark: &str,
+    code: u8,
+) -> Result<(), AllocError>
+    requires { mark.now ≡ code ∷ [] }
+    ensures { OnOk result (string_bytes text.new ≡ string_bytes text.old ++ ended code (now_of part.entry)) }
+{
+    let Some(part) = part else {
+        return Ok(());
+    };
+    text.push_str(part)?;
+    text.push_str(mark)
+}
+
+// A mark and the part behind it, where the part stands.
+pub(crate) fn push_marked(
+    text: &mut String,
+    mark: &str,
+    code: u8,
+    part: Option<&str>,
+) -> Result<(), AllocError>
+    requires { mark.now ≡ code ∷ [] }
+    ensures { OnOk result (string_bytes text.new ≡ string_bytes text.old ++ marked code (now_of part.entry)) }
+{
+    let Some(part) = part else {
+        return Ok(());
+    };
+    text.push_str(mark)?;
+    text.push_str(part)
+}
+
+// A part that may stand, or the empty text.
+pub(crate) fn or_nothing(part: Option<&str>) -> &str
+    ensures { result.now ≡ or_empty (now_of part.entry) }
+{
+    match part {
+        Some(part) => part,
+        None => "",
+    }
+}
+
+fn begins_with_slash(path: &str) -> bool
+    ensures { result ≡ starts_with_slash path.now }
+{
+    match path.as_bytes().first() {
+        Some(b) => *b == b'/',
+        None => false,
+    }
+}
+
+fn begins_with_slashes(path: &str) -> bool
+    ensures { result ≡ starts_with_slashes path.now }
+{
+    match path.as_bytes().split_first() {
+        Some((b, rest)) => *b == b'/' && rest.first() == Some(&b'/'),
+        None => false,
+    }
+}
+
+// Whether a path keeps the rules of its place.
+pub(crate) fn keeps_rules(scheme: bool, authority: bool, path: &str) -> bool
+    ensures { result ≡ rules_by scheme authority path.now }
+{
+    if authority {
+        path.is_empty() || begins_with_slash(path)
+    } else {
+        !begins_with_slashes(path) && (scheme || lacks(cut_before(path, b'/').0, b':'))
+    }
+}
+
+// The normal form of a URI: its canonical text against any base, since it has a scheme.
+pub(crate) fn normal_text<S: Spec>(alloc: Global, text: &str) -> Result<String, AllocError>
+    requires { iri_fault S.tests text.now ≡ None }
+    ensures { IfOk result (λ normal. string_bytes normal ≡ recompose (normal_form S.tests (split_of text.now))) }
+{
+    let iri = RiStr::<'_, S>::from_valid(text);
+    let resolver = FixedBaseResolver::new(iri.to_absolute());
+    let mut normal = String::new(alloc);
+    write_canonical(
+        alloc,
+        &mut normal,
+        &resolver,
+        &SplitView::of(iri.as_reference()),
+    )?;
+    Ok(normal)
+}
