@@ -1,0 +1,46 @@
+-- Faults that are moved, and the first of several.
+use Rattle.std.proofs.Common.{◌≡◌, ℕ, ◌+◌, List, [], ◌∷◌, length, Option, Some, None, refl, sym, ◌∙◌, ap, arith}
+use Rattle.iri_template.specs.Fault.{fault, moved, first, varspec_fault, varspecs_fault}
+use Rattle.iri_template.specs.declared.error.Error.{Error}
+
+pub moved_none : (f : Option Error) → moved 0 f ≡ f
+moved_none None = refl
+moved_none (Some e) = let z : 0 + e.location ≡ e.location = omega arith in ap (fault e.kind) z
+
+pub moved_moved : (a b : ℕ) (f : Option Error) → moved a (moved b f) ≡ moved (a + b) f
+moved_moved a b None = refl
+moved_moved a b (Some e) = let z : a + (b + e.location) ≡ a + b + e.location = omega arith in ap (fault e.kind) z
+
+pub moved_first : (a : ℕ) (f g : Option Error) → moved a (first f g) ≡ first (moved a f) (moved a g)
+moved_first a None g = refl
+moved_first a (Some e) g = refl
+
+pub first_first : (f g h : Option Error) → first (first f g) h ≡ first f (first g h)
+first_first None g h = refl
+first_first (Some e) g h = refl
+
+pub first_at : (f g : Option Error) → f ≡ None → first f g ≡ g
+first_at f g h = ap (λ x. first x g) h
+
+pub first_is : (f g : Option Error) (e : Error) → f ≡ Some e → first f g ≡ Some e
+first_is f g e h = ap (λ x. first x g) h
+
+pub neither : (f g : Option Error) → first f g ≡ None → (f ≡ None) × (g ≡ None)
+neither None g h = (refl, h)
+neither (Some e) g h = cc
+
+pub unmoved : (a : ℕ) (f : Option Error) → moved a f ≡ None → f ≡ None
+unmoved a None h = refl
+unmoved a (Some e) h = cc
+
+pub still_none : (a : ℕ) (f : Option Error) → f ≡ None → moved a f ≡ None
+still_none a f h = ap (moved a) h
+
+-- varspecs further on in a text
+pub varspecs_moved : (a at : ℕ) (vs : List (List ℕ)) → varspecs_fault (a + at) vs ≡ moved a (varspecs_fault at vs)
+varspecs_moved a at [] = refl
+varspecs_moved a at (v ∷ vs) =
+    let z : a + at + length v + 1 ≡ a + (at + length v + 1) = omega arith in
+    ap (λ f. first f (varspecs_fault (a + at + length v + 1) vs)) (sym (moved_moved a at (varspec_fault v)))
+    ∙ (ap (λ g. first (moved a (moved at (varspec_fault v))) g) (ap (λ n. varspecs_fault n vs) z ∙ varspecs_moved a (at + length v + 1) vs)
+    ∙ sym (moved_first a (moved at (varspec_fault v)) (varspecs_fault (at + length v + 1) vs)))

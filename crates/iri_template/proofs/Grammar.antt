@@ -1,0 +1,458 @@
+-- A text has no fault exactly where pieces spell it, and then they are the pieces that are read.
+use Rattle.std.proofs.Common.{◌≡◌, ◌≢◌, ◌⊎◌, ℕ, zero, suc, ◌+◌, ◌-◌, ◌<◌, ◌≤◌, inl, inr, true, false, cond, Bool, not, ◌&&◌, ◌||◌, List, [], ◌∷◌, ◌++◌, length, map, drop, Option, Some, None, refl, sym, ◌∙◌, ap, subst, arith, append_assoc}
+use Rattle.std.specs.Prelude.{◌==◌}
+use Rattle.std.specs.Char.{encode_utf8, is_ascii_hexdigit, IsScalar}
+use Rattle.std.specs.List.{list_all}
+use Rattle.std.specs.Str.Lossy.{utf8_valid_len}
+use Rattle.std.specs.Str.{chars, IsUtf8, is_utf8}
+use Rattle.std.proofs.lemmas.Bool.{and_parts as both, cases_eq}
+use Rattle.std.proofs.lemmas.Bool.Decides.{nat_tests}
+use Rattle.std.proofs.lemmas.Str.{IsUtf8-nil, IsUtf8-append, IsUtf8-encode, chars_from_encodes, is_utf8-from_IsUtf8, IsUtf8-from_is_utf8, encode_ascii}
+use lib.Utf8.{scalar, scalars, encodes}
+use Rattle.iri_grammar.specs.Classes.{any_char, is_ascii_any}
+use Rattle.iri_grammar.specs.declared.class.Class.TheVariants.{Any}
+use Rattle.iri_grammar.specs.ClassLaws.{ascii_test_below}
+use Rattle.iri_grammar.specs.Cut.{before, behind, lacks, marked}
+use Rattle.iri_grammar.specs.CutLaws.{before-marked, behind-marked, all-lacks, by_test, joined, lacks-append}
+use Rattle.iri_grammar.specs.Ipv6Laws.{one_piece, joined_pieces}
+use Rattle.iri_grammar.specs.Over.{over, over_from}
+use Rattle.iri_grammar.specs.Pieces.{pieces}
+use Rattle.iri_grammar.specs.Pieces as split
+use Rattle.iri_grammar.specs.PiecesLaws.{pieces_cut, more_pieces}
+use Rattle.iri_grammar.proofs.Marks.{text_behind}
+use Rattle.iri_grammar.proofs.Units.{text_after_ascii}
+use Rattle.iri_template.specs.Names.{is_name_char, is_varname}
+use Rattle.iri_template.specs.Template.{Piece, literal, triplet, expression, VarSpec, literal_char, is_varspec, has_varspecs, is_piece, operator_text, varspec_text, modifier_text, body_text, piece_text, template_text, Spells, IsTemplate}
+use Rattle.iri_template.specs.Reading.{operator_at, operator_of, behind_operator, varspec_of, expression_of, body_of, first_of, pieces_of, pieces_from}
+use Rattle.iri_template.specs.Fault.{fault, moved, first, is_reserved_operator, operator_fault, body_fault, expression_fault, triplet_fault, literal_fault, piece_fault, fault_at, varspecs_fault, fault_from, text_fault, template_fault}
+use Rattle.iri_template.specs.declared.error.Error.{Error}
+use Rattle.iri_template.specs.declared.error.ErrorKind.TheVariants.{ExpressionNotClosed, InvalidUtf8, UnsupportedOperator}
+use Rattle.iri_template.specs.declared.operator.Operator.{Operator}
+use Rattle.iri_template.specs.declared.operator.Operator.TheVariants.{Simple, Reserved, Fragment, Label, PathSegment, PathParameter, FormQuery, FormContinuation}
+use Rattle.iri_template.proofs.FaultLemmas.{neither, unmoved, still_none}
+use Rattle.iri_template.proofs.VarSpecLemmas.{inner, varspec_bytes, varspecs_fine, varspecs_are}
+use Rattle.iri_template.proofs.Steps.{Begins, Fine, begins_fault, begins_pieces, literal_begins, triplet_begins, expression_begins}
+use Rattle.iri_template.proofs.Walks.{nothing_left, fine_there, none_anywhere}
+use Rattle.iri_template.proofs.Bodies.{has_mark}
+
+-- ---- operators
+Good : ℕ → Operator → Type 0
+Good c o = (operator_text o ≡ []) ⊎ (operator_text o ≡ c ∷ [])
+
+pick : (c d : ℕ) (o rest : Operator) → operator_text o ≡ d ∷ [] → Good c rest → Good c (cond (c == d) o rest)
+unfolding Good
+pick c d o rest e g = by_test c d (λ b. Good c (cond b o rest)) (λ s. inr (e ∙ ap (λ n. n ∷ []) (sym s))) (λ _. g)
+
+good : (c : ℕ) → Good c (operator_at c)
+unfolding Good
+good c =
+    pick c 43 Reserved _ refl (pick c 35 Fragment _ refl (pick c 46 Label _ refl (pick c 47 PathSegment _ refl (pick c 59 PathParameter _ refl (pick c 63 FormQuery _ refl (pick c 38 FormContinuation Simple refl (inl refl)))))))
+
+operator_joined : (t : List ℕ) → operator_text (operator_of t) ++ behind_operator t ≡ t
+unfolding Good
+operator_joined [] = refl
+operator_joined (c ∷ cs) = elim (good c) [ inl e ↦ rw e refl | inr e ↦ rw e refl ]
+
+-- the first byte of a name is no operator
+pub record IsPlain (c : ℕ) : Type 0 where
+  pub operator : operator_at c ≡ Simple
+  pub reserved : is_reserved_operator c ≡ false
+
+name_plain : (c : ℕ) → is_name_char c ≡ true → c ≢ 46 → IsPlain c
+unfolding is_name_char is_reserved_operator
+name_plain c h n =
+    let a : (c == 43) ≡ false = grind (arith, nat_tests) in
+    let b : (c == 35) ≡ false = grind (arith, nat_tests) in
+    let k : (c == 46) ≡ false = grind (arith, nat_tests) in
+    let d : (c == 47) ≡ false = grind (arith, nat_tests) in
+    let e : (c == 59) ≡ false = grind (arith, nat_tests) in
+    let f : (c == 63) ≡ false = grind (arith, nat_tests) in
+    let g : (c == 38) ≡ false = grind (arith, nat_tests) in
+    record { operator = rw (a, b, k, d, e, f, g) refl; reserved = grind (arith, nat_tests) }
+
+percent_plain : IsPlain 37
+unfolding is_reserved_operator
+percent_plain = record { operator = refl; reserved = refl }
+
+-- ---- pieces between commas
+pieces_before : (c : ℕ) (p t : List ℕ) → lacks c p ≡ true → pieces c (p ++ c ∷ t) ≡ p ∷ pieces c t
+pieces_before c p t h = pieces_cut c (p ++ c ∷ t) ∙ (ap (λ x. x ∷ more_pieces c (behind c (p ++ c ∷ t))) (before-marked c p (Some t) h) ∙ ap (λ o. p ∷ more_pieces c o) (behind-marked c p (Some t) h))
+
+pieces_joined : (c : ℕ) (p : List ℕ) (ps : List (List ℕ)) → list_all (lacks c) (p ∷ ps) ≡ true → pieces c (split.joined c (p ∷ ps)) ≡ p ∷ ps
+pieces_joined c p [] h = one_piece c p (both (lacks c p) true h).0
+pieces_joined c p (q ∷ ps) h =
+    let k = both (lacks c p) (list_all (lacks c) (q ∷ ps)) h in
+    pieces_before c p (split.joined c (q ∷ ps)) k.0 ∙ ap (λ rs. p ∷ rs) (pieces_joined c q ps k.1)
+
+joined_bytes : (ps : List (List ℕ)) → list_all (list_all inner) ps ≡ true → (lacks 125 (split.joined 44 ps) ≡ true) × (list_all (λ c. inner c || c == 44) (split.joined 44 ps) ≡ true) × (list_all (lacks 44) ps ≡ true)
+joined_bytes [] h = (refl, refl, refl)
+joined_bytes (p ∷ []) h =
+    let k = (both (list_all inner p) true h).0 in
+    (all-lacks inner 125 p refl k, wider p k, rw (all-lacks inner 44 p refl k) refl)
+  where
+    wider : (x : List ℕ) → list_all inner x ≡ true → list_all (λ c. inner c || c == 44) x ≡ true
+    wider [] j = refl
+    wider (y ∷ ys) j = let i = both (inner y) (list_all inner ys) j in rw i.0 (wider ys i.1)
+joined_bytes (p ∷ q ∷ ps) h =
+    let k = both (list_all inner p) (list_all (list_all inner) (q ∷ ps)) h in
+    let more = joined_bytes (q ∷ ps) k.1 in
+    (lacks-append 125 p (44 ∷ split.joined 44 (q ∷ ps)) (all-lacks inner 125 p refl k.0) more.0, wider p _ k.0 more.1, rw (all-lacks inner 44 p refl k.0) more.2)
+  where
+    wider : (x y : List ℕ) → list_all inner x ≡ true → list_all (λ c. inner c || c == 44) y ≡ true → list_all (λ c. inner c || c == 44) (x ++ 44 ∷ y) ≡ true
+    wider [] y j i = i
+    wider (z ∷ zs) y j i = let l = both (inner z) (list_all inner zs) j in rw l.0 (wider zs y l.1 i)
+
+texts_bytes : (vs : List VarSpec) → list_all is_varspec vs ≡ true → list_all (list_all inner) (map varspec_text vs) ≡ true
+texts_bytes [] h = refl
+texts_bytes (v ∷ vs) h = let k = both (is_varspec v) (list_all is_varspec vs) h in rw (varspec_bytes v k.0) (texts_bytes vs k.1)
+
+-- ---- the body of an expression
+char_first : (c : ℕ) (cs : List ℕ) → c ≢ 46 → over is_name_char (c ∷ cs) ≡ true → IsPlain c
+unfolding over_from
+char_first c cs n h =
+    by_test c 37 (λ b. cond b (over_from is_name_char 2 cs) (is_name_char c && over_from is_name_char 0 cs) ≡ true → IsPlain c)
+    (λ e _. subst IsPlain (sym e) percent_plain)
+    (λ _ k. name_plain c (both (is_name_char c) (over_from is_name_char 0 cs) k).0 n) h
+
+-- it begins with a name
+name_first : (x m : List ℕ) → is_varname x ≡ true → IsPlain (first_of (x ++ m)) × (0 < length (x ++ m))
+unfolding is_varname
+name_first [] m h = cc
+name_first (c ∷ cs) m h =
+    let k = both (not (c == 46)) (over is_name_char (c ∷ cs)) h in
+    let dot : c ≢ 46 = λ e. let z : (c == 46) ≡ true = grind (arith, nat_tests) in let clash : not true ≡ true = ap not (sym z) ∙ k.0 in cc in
+    (char_first c cs dot k.1, omega arith)
+
+pub record IsBodyOf (o : Operator) (vs : List VarSpec) (b : List ℕ) : Type 0 where
+  pub operator : operator_of b ≡ o
+  pub rest : map varspec_of (pieces 44 (behind_operator b)) ≡ vs
+  pub fault : body_fault b ≡ None
+  pub closed : lacks 125 b ≡ true
+  pub ascii : IsUtf8 b
+
+low_scalar : (c : ℕ) → c < 128 → IsScalar c
+low_scalar c h = grind (arith, nat_tests)
+
+ascii_text : (x : List ℕ) → list_all (λ c. inner c || c == 44) x ≡ true → IsUtf8 x
+ascii_text [] h = IsUtf8-nil
+ascii_text (c ∷ cs) h =
+    let k = both (inner c || c == 44) (list_all (λ d. inner d || d == 44) cs) h in
+    let low : c < 128 = grind (arith, nat_tests) in
+    subst IsUtf8 (ap (λ l. l ++ cs) (encode_ascii c low)) (IsUtf8-append (encode_utf8 c) cs (IsUtf8-encode c (low_scalar c low)) (ascii_text cs k.1))
+
+low_first : (c : ℕ) (t : List ℕ) → c < 128 → IsUtf8 t → IsUtf8 (c ∷ t)
+low_first c t low u = subst IsUtf8 (ap (λ l. l ++ t) (encode_ascii c low)) (IsUtf8-append (encode_utf8 c) t (IsUtf8-encode c (low_scalar c low)) u)
+
+-- an operator that is written, and what follows it
+written_body : (o : Operator) (c : ℕ) (vs : List VarSpec) (j : List ℕ) → operator_text o ≡ c ∷ [] → operator_at c ≡ o → is_reserved_operator c ≡ false → c < 128 → (c == 125) ≡ false → map varspec_of (pieces 44 j) ≡ vs → varspecs_fault 1 (pieces 44 j) ≡ None → lacks 125 j ≡ true → IsUtf8 j → IsBodyOf o vs (c ∷ j)
+written_body o c vs j e a r low b m f l u =
+    let text : operator_text (operator_at c) ≡ c ∷ [] = ap operator_text a ∙ e in
+    let behind_is : behind_operator (c ∷ j) ≡ j = ap (λ k. drop (length k) (c ∷ j)) text in
+    record {
+      operator = a;
+      rest = ap (λ k. map varspec_of (pieces 44 k)) behind_is ∙ m;
+      fault = ap (λ q. first (cond q (fault UnsupportedOperator 0) None) (varspecs_fault (length (operator_text (operator_at c))) (pieces 44 (behind_operator (c ∷ j))))) r
+          ∙ (ap (λ k. varspecs_fault (length k) (pieces 44 (behind_operator (c ∷ j)))) text ∙ (ap (λ k. varspecs_fault 1 (pieces 44 k)) behind_is ∙ f));
+      closed = ap (λ q. not q && lacks 125 j) b ∙ l;
+      ascii = low_first c j low u;
+    }
+
+-- no operator is written
+simple_body : (vs : List VarSpec) (j : List ℕ) → IsPlain (first_of j) → 0 < length j → map varspec_of (pieces 44 j) ≡ vs → varspecs_fault 0 (pieces 44 j) ≡ None → lacks 125 j ≡ true → IsUtf8 j → IsBodyOf Simple vs j
+simple_body vs [] p n m f l u = absurd (omega arith)
+simple_body vs (c ∷ cs) p n m f l u =
+    let text : operator_text (operator_at c) ≡ [] = ap operator_text p.operator in
+    let behind_is : behind_operator (c ∷ cs) ≡ c ∷ cs = ap (λ k. drop (length k) (c ∷ cs)) text in
+    record {
+      operator = p.operator;
+      rest = ap (λ k. map varspec_of (pieces 44 k)) behind_is ∙ m;
+      fault = ap (λ q. first (cond q (fault UnsupportedOperator 0) None) (varspecs_fault (length (operator_text (operator_at c))) (pieces 44 (behind_operator (c ∷ cs))))) p.reserved
+          ∙ (ap (λ k. varspecs_fault (length k) (pieces 44 (behind_operator (c ∷ cs)))) text ∙ (ap (λ k. varspecs_fault 0 (pieces 44 k)) behind_is ∙ f));
+      closed = l;
+      ascii = u;
+    }
+
+first_joined : (v : VarSpec) (vs : List VarSpec) → is_varspec v ≡ true → IsPlain (first_of (split.joined 44 (map varspec_text (v ∷ vs)))) × (0 < length (split.joined 44 (map varspec_text (v ∷ vs))))
+first_joined v [] h = name_first v.name _ (both (is_varname v.name) _ h).0
+first_joined v (w ∷ vs) h =
+    let rest = 44 ∷ split.joined 44 (map varspec_text (w ∷ vs)) in
+    let k = name_first v.name (modifier_text v.modifier ++ rest) (both (is_varname v.name) _ h).0 in
+    let e : v.name ++ (modifier_text v.modifier ++ rest) ≡ (v.name ++ modifier_text v.modifier) ++ rest = sym (append_assoc v.name (modifier_text v.modifier) rest) in
+    (subst (λ l. IsPlain (first_of l)) e k.0, subst (λ l. 0 < length l) e k.1)
+
+free : (c : ℕ) → (c == 61 || c == 44 || c == 33 || c == 64 || c == 124) ≡ false → is_reserved_operator c ≡ false
+unfolding is_reserved_operator
+free c h = h
+
+pub body_fine : (o : Operator) (vs : List VarSpec) → has_varspecs vs ≡ true → list_all is_varspec vs ≡ true → IsBodyOf o vs (body_text o vs)
+body_fine o [] h k = cc
+body_fine o (v ∷ vs) h k = go o
+  where
+    j : List ℕ
+    j = split.joined 44 (map varspec_text (v ∷ vs))
+
+    bytes : (lacks 125 j ≡ true) × (list_all (λ c. inner c || c == 44) j ≡ true) × (list_all (lacks 44) (map varspec_text (v ∷ vs)) ≡ true)
+    bytes = joined_bytes (map varspec_text (v ∷ vs)) (texts_bytes (v ∷ vs) k)
+
+    cut : pieces 44 j ≡ map varspec_text (v ∷ vs)
+    cut = pieces_joined 44 (varspec_text v) (map varspec_text vs) bytes.2
+
+    read : map varspec_of (pieces 44 j) ≡ v ∷ vs
+    read = ap (map varspec_of) cut ∙ (varspecs_fine 0 (v ∷ vs) k).1
+
+    fine : (at : ℕ) → varspecs_fault at (pieces 44 j) ≡ None
+    fine at = ap (varspecs_fault at) cut ∙ (varspecs_fine at (v ∷ vs) k).0
+
+    text : IsUtf8 j
+    text = ascii_text j bytes.1
+
+    go : (p : Operator) → IsBodyOf p (v ∷ vs) (body_text p (v ∷ vs))
+    go Simple = let f = first_joined v vs (both (is_varspec v) (list_all is_varspec vs) k).0 in simple_body (v ∷ vs) j f.0 f.1 read (fine 0) bytes.0 text
+    go Reserved = written_body Reserved 43 (v ∷ vs) j refl refl (free 43 refl) (omega arith) refl read (fine 1) bytes.0 text
+    go Fragment = written_body Fragment 35 (v ∷ vs) j refl refl (free 35 refl) (omega arith) refl read (fine 1) bytes.0 text
+    go Label = written_body Label 46 (v ∷ vs) j refl refl (free 46 refl) (omega arith) refl read (fine 1) bytes.0 text
+    go PathSegment = written_body PathSegment 47 (v ∷ vs) j refl refl (free 47 refl) (omega arith) refl read (fine 1) bytes.0 text
+    go PathParameter = written_body PathParameter 59 (v ∷ vs) j refl refl (free 59 refl) (omega arith) refl read (fine 1) bytes.0 text
+    go FormQuery = written_body FormQuery 63 (v ∷ vs) j refl refl (free 63 refl) (omega arith) refl read (fine 1) bytes.0 text
+    go FormContinuation = written_body FormContinuation 38 (v ∷ vs) j refl refl (free 38 refl) (omega arith) refl read (fine 1) bytes.0 text
+
+pub body_is : (b : List ℕ) → body_fault b ≡ None → (is_piece (expression_of b) ≡ true) × (piece_text (expression_of b) ≡ 123 ∷ (b ++ 125 ∷ []))
+body_is b h =
+    let k = neither (operator_fault b) (varspecs_fault (length (operator_text (operator_of b))) (pieces 44 (behind_operator b))) h in
+    let vs = varspecs_are (length (operator_text (operator_of b))) (pieces 44 (behind_operator b)) k.1 in
+    let some : has_varspecs (map varspec_of (pieces 44 (behind_operator b))) ≡ true = ap (λ l. has_varspecs (map varspec_of l)) (pieces_cut 44 (behind_operator b)) in
+    (rw (some, vs.0) refl, ap (λ l. 123 ∷ (l ++ 125 ∷ [])) (ap (λ l. operator_text (operator_of b) ++ split.joined 44 l) vs.1 ∙ (ap (λ l. operator_text (operator_of b) ++ l) (joined_pieces 44 (behind_operator b)) ∙ operator_joined b)))
+
+-- ---- a template that pieces spell
+skip_nothing : pieces_of [] ≡ []
+unfolding pieces_from
+skip_nothing = refl
+
+or_none : (b : Bool) → (b || false || false) ≡ b
+or_none true = refl
+or_none false = refl
+
+literal_ascii : (c : ℕ) → literal_char c ≡ true → is_ascii_any c ≡ true
+unfolding any_char
+literal_ascii c h = sym (or_none (is_ascii_any c)) ∙ h
+
+literal_low : (c : ℕ) → literal_char c ≡ true → c < 128
+literal_low c h = ascii_test_below Any c (literal_ascii c h)
+
+pub record IsRead (ps : List Piece) (t : List ℕ) : Type 0 where
+  pub text : IsUtf8 t
+  pub fault : text_fault t ≡ None
+  pub pieces : pieces_of t ≡ ps
+
+literal_scalar : (c : ℕ) → literal_char c ≡ true → IsScalar c
+literal_scalar c h = low_scalar c (literal_low c h)
+
+hex_low : (c : ℕ) → is_ascii_hexdigit c ≡ true → c < 128
+hex_low c h = grind (arith, nat_tests)
+
+one_more : (p : Piece) (ps : List Piece) (t r : List ℕ) → IsUtf8 t → Fine p t r → IsRead ps r → IsRead (p ∷ ps) t
+one_more p ps t r u f k = record {
+  text = u;
+  fault = begins_fault p 0 t r f.begins ∙ (ap (λ e. first (moved 0 e) (fault_from 0 (0 + (length t - length r)) r)) f.fault ∙ fine_there (0 + (length t - length r)) r k.fault);
+  pieces = begins_pieces p t r f.begins ∙ ap (λ qs. p ∷ qs) k.pieces;
+}
+
+-- an expression whose body is this
+body_begins : (o : Operator) (vs : List VarSpec) (b r : List ℕ) → IsBodyOf o vs b → Fine (expression o vs) (123 ∷ (b ++ 125 ∷ r)) r
+body_begins o vs b r k =
+    let t = 123 ∷ (b ++ 125 ∷ r) in
+    let body : body_of t ≡ b = before-marked 125 b (Some r) k.closed in
+    let there : behind 125 (b ++ 125 ∷ r) ≡ Some r = behind-marked 125 b (Some r) k.closed in
+    let begins = expression_begins t r (ap (λ l. 123 ∷ (l ++ 125 ∷ r)) body) in
+    let same : expression_of (body_of t) ≡ expression o vs = ap expression_of body ∙ (ap (λ q. expression q (map varspec_of (pieces 44 (behind_operator b)))) k.operator ∙ ap (expression o) k.rest) in
+    record {
+      begins = subst (λ p. Begins p t r) same begins;
+      fault = ap (λ l. cond l (fault ExpressionNotClosed 0) (moved 1 (body_fault (body_of t)))) (has_mark 125 (b ++ 125 ∷ r) r there) ∙ (ap (λ l. moved 1 (body_fault l)) body ∙ still_none 1 (body_fault b) k.fault);
+    }
+
+pub spelled_is_read : (ps : List Piece) → list_all is_piece ps ≡ true → IsRead ps (template_text ps)
+spelled_is_read [] h = record { text = IsUtf8-nil; fault = nothing_left 0 [] refl; pieces = skip_nothing }
+spelled_is_read (literal c ∷ ps) h =
+    let k = both (literal_char c) (list_all is_piece ps) h in
+    let more = spelled_is_read ps k.1 in
+    let r = template_text ps in
+    let u = IsUtf8-append (encode_utf8 c) r (IsUtf8-encode c (literal_scalar c k.0)) more.text in
+    one_more (literal c) ps (encode_utf8 c ++ r) r u (literal_begins c (encode_utf8 c ++ r) r k.0 u refl) more
+spelled_is_read (triplet a b ∷ ps) h =
+    let k = both (is_ascii_hexdigit a && is_ascii_hexdigit b) (list_all is_piece ps) h in
+    let hex = both (is_ascii_hexdigit a) (is_ascii_hexdigit b) k.0 in
+    let more = spelled_is_read ps k.1 in
+    let r = template_text ps in
+    let u = low_first 37 (a ∷ b ∷ r) (omega arith) (low_first a (b ∷ r) (hex_low a hex.0) (low_first b r (hex_low b hex.1) more.text)) in
+    one_more (triplet a b) ps (37 ∷ a ∷ b ∷ r) r u (triplet_begins (37 ∷ a ∷ b ∷ r) refl (rw (hex.0, hex.1) refl)) more
+spelled_is_read (expression o vs ∷ ps) h =
+    let k = both (has_varspecs vs && list_all is_varspec vs) (list_all is_piece ps) h in
+    let specs = both (has_varspecs vs) (list_all is_varspec vs) k.0 in
+    let more = spelled_is_read ps k.1 in
+    let r = template_text ps in
+    let b = body_text o vs in
+    let body = body_fine o vs specs.0 specs.1 in
+    let same : 123 ∷ (b ++ 125 ∷ r) ≡ (123 ∷ (b ++ 125 ∷ [])) ++ r = ap (λ l. 123 ∷ l) (sym (append_assoc b (125 ∷ []) r)) in
+    let u = low_first 123 (b ++ 125 ∷ r) (omega arith) (IsUtf8-append b (125 ∷ r) body.ascii (low_first 125 r (omega arith) more.text)) in
+    subst (λ t. IsRead (expression o vs ∷ ps) t) same (one_more (expression o vs) ps (123 ∷ (b ++ 125 ∷ r)) r u (body_begins o vs b r body) more)
+
+-- ---- a template without a fault
+-- the piece at its front
+pub record Splits (t : List ℕ) : Type 0 where
+  pub piece : Piece
+  pub rest : List ℕ
+  pub fine : is_piece piece ≡ true
+  pub begins : Begins piece t rest
+  pub joined : piece_text piece ++ rest ≡ t
+  pub text : IsUtf8 rest
+
+literal_splits : (t : List ℕ) → IsUtf8 t → 0 < length t → literal_char (first_of (chars t)) ≡ true → Splits t
+literal_splits t ([], (ok, e)) n h = absurd (omega (arith, ap length e))
+literal_splits t (c ∷ cs, (ok, e)) n h =
+    let u : IsUtf8 t = (c ∷ cs, (ok, e)) in
+    let is : chars t ≡ c ∷ cs = sym (chars_from_encodes (c ∷ cs) t u e) in
+    let fine : literal_char c ≡ true = ap (λ l. literal_char (first_of l)) (sym is) ∙ h in
+    record {
+      piece = literal c;
+      rest = encodes cs;
+      fine = fine;
+      begins = (literal_begins c t (encodes cs) fine u (sym e)).begins;
+      joined = e;
+      text = (cs, ((both (scalar c) (scalars cs) ok).1, refl));
+    }
+
+triplet_splits : (t : List ℕ) → IsUtf8 t → first_of t ≡ 37 → triplet_fault t ≡ None → Splits t
+triplet_splits [] u e h = cc
+triplet_splits (x ∷ []) u e h = cc
+triplet_splits (x ∷ a ∷ []) u e h = cc
+triplet_splits (x ∷ a ∷ b ∷ cs) u e h =
+    let hex = digits (is_ascii_hexdigit a) (is_ascii_hexdigit b) _ _ h in
+    record {
+      piece = triplet a b;
+      rest = cs;
+      fine = rw (hex.0, hex.1) refl;
+      begins = (triplet_begins (x ∷ a ∷ b ∷ cs) e h).begins;
+      joined = ap (λ n. n ∷ a ∷ b ∷ cs) (sym e);
+      text = text_after_ascii b cs (text_after_ascii a (b ∷ cs) (text_after_ascii x (a ∷ b ∷ cs) u (omega (arith, e))) (hex_low a hex.0)) (hex_low b hex.1);
+    }
+  where
+    digits : (i j : Bool) (d f : Error) → cond i (cond j None (Some d)) (Some f) ≡ None → (i ≡ true) × (j ≡ true)
+    digits true true d f k = (refl, refl)
+    digits true false d f k = cc
+    digits false j d f k = cc
+
+mark_there : (c : ℕ) (t : List ℕ) → lacks c t ≡ false → (r : List ℕ) × (behind c t ≡ Some r)
+mark_there c [] h = cc
+mark_there c (x ∷ xs) h =
+    by_test x c (λ b. (not b && lacks c xs) ≡ false → (r : List ℕ) × (cond b (Some xs) (behind c xs) ≡ Some r)) (λ _ _. (xs, refl)) (λ _ k. mark_there c xs k) h
+
+expression_splits : (t : List ℕ) → IsUtf8 t → first_of t ≡ 123 → expression_fault t ≡ None → Splits t
+expression_splits [] u e h = absurd (omega (arith, e))
+expression_splits (x ∷ xs) u e h =
+    let k = closed (lacks 125 xs) _ (moved 1 (body_fault (before 125 xs))) h in
+    let at = mark_there 125 xs k.0 in
+    let is = body_is (before 125 xs) (unmoved 1 (body_fault (before 125 xs)) k.1) in
+    let whole : before 125 xs ++ 125 ∷ at.0 ≡ xs = ap (λ o. before 125 xs ++ marked 125 o) (sym at.1) ∙ joined 125 xs in
+    let text : 123 ∷ (before 125 xs ++ 125 ∷ at.0) ≡ x ∷ xs = ap (λ n. n ∷ (before 125 xs ++ 125 ∷ at.0)) (sym e) ∙ ap (λ l. x ∷ l) whole in
+    record {
+      piece = expression_of (before 125 xs);
+      rest = at.0;
+      fine = is.0;
+      begins = expression_begins (x ∷ xs) at.0 text;
+      joined = ap (λ l. l ++ at.0) is.1 ∙ (ap (λ l. 123 ∷ l) (append_assoc (before 125 xs) (125 ∷ []) at.0) ∙ text);
+      text = text_behind 125 xs at.0 (omega arith) (text_after_ascii x xs u (omega (arith, e))) at.1;
+    }
+  where
+    closed : (l : Bool) (d : Error) (o : Option Error) → cond l (Some d) o ≡ None → (l ≡ false) × (o ≡ None)
+    closed true d o j = cc
+    closed false d o j = (refl, j)
+
+unclear : (b c : Bool) (d : Error) → cond b None (Some d) ≡ None → b ≡ true
+unclear true c d h = refl
+unclear false c d h = cc
+
+piece_splits : (t : List ℕ) → IsUtf8 t → 0 < length t → piece_fault t ≡ None → Splits t
+piece_splits t u n h =
+    elim (cases_eq (first_of t) 123) [
+      | inl brace ↦ expression_splits t u brace (sym (ap (λ c. fault_at c t) brace) ∙ h)
+      | inr other ↦ elim (cases_eq (first_of t) 37) [
+        | inl percent ↦ triplet_splits t u percent (sym (ap (λ c. fault_at c t) percent) ∙ h)
+        | inr neither_one ↦
+            let a : (first_of t == 123) ≡ false = grind (arith, nat_tests) in
+            let b : (first_of t == 37) ≡ false = grind (arith, nat_tests) in
+            literal_splits t u n (unclear (literal_char (first_of (chars t))) true _ (sym (plain_fault (first_of t) a b) ∙ h))
+      ]
+    ]
+  where
+    plain_fault : (x : ℕ) → (x == 123) ≡ false → (x == 37) ≡ false → fault_at x t ≡ literal_fault t
+    plain_fault x i j = rw (i, j) refl
+
+first_fine : (t : List ℕ) → 0 < length t → text_fault t ≡ None → piece_fault t ≡ None
+unfolding fault_from
+first_fine [] n h = absurd (omega arith)
+first_fine (x ∷ xs) n h = unmoved 0 (piece_fault (x ∷ xs)) (neither (moved 0 (piece_fault (x ∷ xs))) _ h).0
+
+within : (n : ℕ) (t : List ℕ) → length t ≤ n → IsUtf8 t → text_fault t ≡ None → Spells (pieces_of t) t
+within n [] l u h = record { pieces = ap (list_all is_piece) skip_nothing; text = ap template_text skip_nothing }
+within zero (x ∷ xs) l u h = absurd (omega arith)
+within (suc n) (x ∷ xs) l u h =
+    let t = x ∷ xs in
+    let s = piece_splits t u (omega arith) (first_fine t (omega arith) h) in
+    let r = s.rest in
+    let rest_fine = none_anywhere (0 + (length t - length r)) r (neither (moved 0 (piece_fault t)) (fault_from 0 (0 + (length t - length r)) r) (sym (begins_fault s.piece 0 t r s.begins) ∙ h)).1 in
+    let more = within n r (omega (arith, s.begins.len, s.begins.some)) s.text rest_fine in
+    let are = begins_pieces s.piece t r s.begins in
+    record {
+      pieces = ap (list_all is_piece) are ∙ rw (s.fine, more.pieces) refl;
+      text = ap template_text are ∙ (ap (λ l. piece_text s.piece ++ l) more.text ∙ s.joined);
+    }
+
+-- ---- the law
+pub no_fault_is_template : (bs : List ℕ) → template_fault bs ≡ None → Spells (pieces_of bs) bs
+no_fault_is_template bs h =
+    let k = of_bytes (is_utf8 bs) (text_fault bs) _ h in
+    within (length bs) bs (omega arith) (IsUtf8-from_is_utf8 bs k.0) k.1
+  where
+    of_bytes : (b : Bool) (f : Option Error) (d : Error) → cond b f (Some d) ≡ None → (b ≡ true) × (f ≡ None)
+    of_bytes true f d j = (refl, j)
+    of_bytes false f d j = cc
+
+pub template_has_no_fault : (ps : List Piece) (t : List ℕ) → Spells ps t → template_fault t ≡ None
+template_has_no_fault ps t s =
+    let k = subst (IsRead ps) s.text (spelled_is_read ps s.pieces) in
+    ap (λ b. cond b (text_fault t) (fault InvalidUtf8 (utf8_valid_len t))) (is_utf8-from_IsUtf8 t k.text) ∙ k.fault
+
+pub one_reading : (ps : List Piece) (t : List ℕ) → Spells ps t → pieces_of t ≡ ps
+one_reading ps t s = (subst (IsRead ps) s.text (spelled_is_read ps s.pieces)).pieces
+
+all_more : (ps qs : List Piece) → list_all is_piece ps ≡ true → list_all is_piece qs ≡ true → list_all is_piece (ps ++ qs) ≡ true
+all_more [] qs h k = k
+all_more (p ∷ ps) qs h k = let j = both (is_piece p) (list_all is_piece ps) h in rw j.0 (all_more ps qs j.1 k)
+
+text_more : (ps qs : List Piece) → template_text (ps ++ qs) ≡ template_text ps ++ template_text qs
+text_more [] qs = refl
+text_more (p ∷ ps) qs = ap (λ l. piece_text p ++ l) (text_more ps qs) ∙ sym (append_assoc (piece_text p) (template_text ps) (template_text qs))
+
+-- a template and another behind it
+pub joined_templates : (a b : List ℕ) → IsUtf8 a → IsUtf8 b → text_fault a ≡ None → text_fault b ≡ None → text_fault (a ++ b) ≡ None
+joined_templates a b u v h k =
+    let x = within (length a) a (omega arith) u h in
+    let y = within (length b) b (omega arith) v k in
+    let ps = pieces_of a in
+    let qs = pieces_of b in
+    let same : template_text (ps ++ qs) ≡ a ++ b = text_more ps qs ∙ (ap (λ l. l ++ template_text qs) x.text ∙ ap (λ l. a ++ l) y.text) in
+    subst (λ t. text_fault t ≡ None) same (spelled_is_read (ps ++ qs) (all_more ps qs x.pieces y.pieces)).fault
+
+pub templates_joined : (a b : List ℕ) → template_fault a ≡ None → template_fault b ≡ None → template_fault (a ++ b) ≡ None
+templates_joined a b h k =
+    let x = no_fault_is_template a h in
+    let y = no_fault_is_template b k in
+    let ps = pieces_of a in
+    let qs = pieces_of b in
+    template_has_no_fault (ps ++ qs) (a ++ b) (record {
+      pieces = all_more ps qs x.pieces y.pieces;
+      text = text_more ps qs ∙ (ap (λ l. l ++ template_text qs) x.text ∙ ap (λ l. a ++ l) y.text);
+    })
+
+pub template_is_text : (bs : List ℕ) → IsTemplate bs → IsUtf8 bs
+template_is_text bs (ps, s) = (subst (IsRead ps) s.text (spelled_is_read ps s.pieces)).text

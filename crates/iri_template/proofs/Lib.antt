@@ -1,0 +1,10 @@
+pub mod NameLemmas
+pub mod FaultLemmas
+pub mod Steps
+pub mod Bodies
+pub mod Runs
+pub mod Fronts
+pub mod VarSpecFaults
+pub mod Walks
+pub mod VarSpecLemmas
+pub mod Grammar

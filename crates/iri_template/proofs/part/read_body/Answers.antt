@@ -1,0 +1,32 @@
+use Rattle.std.proofs.Common.{◌≡◌, ◌<◌, ℕ, ◌≤◌, length, get_or, inl, inr, false, refl, sym, ◌∙◌, ap, arith}
+use Rattle.std.specs.Prelude.{◌==◌}
+use Rattle.std.proofs.lemmas.Bool.{cases_lt}
+use Rattle.std.proofs.lemmas.Bool.Decides.{nat_tests}
+use Rattle.std.proofs.lemmas.Str.{IsCharBoundary-after_ascii}
+use Rattle.iri_template.specs.Reading.{operator_at}
+use Rattle.iri_template.specs.declared.operator.Operator.TheVariants.{Simple}
+use Rattle.iri_template.proofs.part.read_body.Goals as goal
+
+past_ascii : (x : ℕ) → 128 ≤ x → operator_at x ≡ Simple
+past_ascii x h =
+    let a : (x == 43) ≡ false = grind (arith, nat_tests) in
+    let b : (x == 35) ≡ false = grind (arith, nat_tests) in
+    let c : (x == 46) ≡ false = grind (arith, nat_tests) in
+    let d : (x == 47) ≡ false = grind (arith, nat_tests) in
+    let e : (x == 59) ≡ false = grind (arith, nat_tests) in
+    let f : (x == 63) ≡ false = grind (arith, nat_tests) in
+    let g : (x == 38) ≡ false = grind (arith, nat_tests) in
+    rw (a, b, c, d, e, f, g) refl
+
+-- an operator is ASCII
+operator_ascii : (x : ℕ) → (operator_at x ≡ Simple → ⊥) → x < 128
+operator_ascii x h = elim (cases_lt x 128) [ inl lt ↦ lt | inr ge ↦ absurd (h (past_ascii x ge)) ]
+
+pub range_from-requires : goal.range_from-requires
+range_from-requires c _ =
+    let t = c.args.body.now in
+    let byte = ap (λ l. operator_at (get_or l 0 0)) c.as_bytes-bytes.ensures.value in
+    let ascii : get_or t 0 0 < 128 = operator_ascii (get_or t 0 0) (λ k. c.in_default.not-Simple (c.at.ensures ∙ (byte ∙ k))) in
+    let some : (length t == 0) ≡ false = ap (λ l. length l == 0) (sym c.as_bytes-bytes.ensures.value) ∙ (sym c.is_empty.ensures ∙ c.if-is_empty.false) in
+    let long : 0 < length t = grind (arith, nat_tests) in
+    IsCharBoundary-after_ascii t 0 c.utf8.body long ascii

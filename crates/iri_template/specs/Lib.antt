@@ -1,0 +1,14 @@
+pub mod Names
+pub mod Template
+pub mod Reading
+pub mod Fault
+pub mod Kinds
+pub mod VarSpecs
+pub mod Parts
+pub mod Texts
+pub mod Refusals
+pub mod Values
+pub mod Contexts
+pub mod Left
+pub mod Variables
+pub mod Examples

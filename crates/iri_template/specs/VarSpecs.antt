@@ -1,0 +1,24 @@
+-- How a varspec is held.
+use Rattle.std.specs.Prelude.{◌≡◌, ℕ, ◌+◌, ◌-◌, ◌*◌, List, [], ◌∷◌}
+use Rattle.iri_template.specs.Template as template
+use Rattle.iri_template.specs.declared.var_spec.VarSpec.{VarSpec}
+use Rattle.iri_template.specs.declared.var_spec.Modifier.{Modifier}
+use Rattle.iri_template.specs.declared.var_spec.Modifier.TheVariants.{Whole, Explode, Prefix}
+
+-- the number that digits spell, behind those of n
+abbrev pub number_from : ℕ → List ℕ → ℕ
+number_from n [] = n
+number_from n (d ∷ ds) = number_from (n * 10 + (d - 48)) ds
+
+abbrev pub number_of : List ℕ → ℕ
+number_of ds = number_from 0 ds
+
+abbrev pub held : template.Modifier → Modifier
+held template.whole = Whole
+held template.explode = Explode
+held (template.prefix ds) = Prefix (number_of ds)
+
+-- the same name and modifier
+pub record IsHeld (v : VarSpec) (w : template.VarSpec) : Type 0 where
+  pub name : v.name.text.now ≡ w.name
+  pub modifier : v.modifier ≡ held w.modifier

@@ -1,0 +1,78 @@
+//! Owned templates as their texts: equal, ordered, hashed, shown.
+ghost use Rattle.std.specs.Prelude.{refl, Some};
+ghost use Rattle.std.proofs.Common.{rules};
+ghost use Rattle.std.specs.Cmp.{partial_equiv_from_equiv};
+ghost use Rattle.std.specs.Cmp.Rules.{hashing};
+ghost use Rattle.std.specs.Hash as fed;
+ghost use Rattle.iri_owned.specs.OwnedText.{text_eq, text_cmp};
+ghost use Rattle.iri_owned.specs.Laws.{text_eq_equiv, text_cmp_total, text_ties, text_po};
+
+use crate::owned::UriTemplateString;
+use iri_text::{FormatSink, Show, Stop, TextSink};
+use std::cmp::Ordering;
+use std::fmt;
+use std::hash::{Hash, Hasher};
+
+impl PartialEq for UriTemplateString {
+    ghost eq = { text_eq };
+
+    ghost laws = { partial_equiv_from_equiv text_eq_equiv };
+
+    fn eq(&self, other: &Self) -> bool {
+        self.as_str() == other.as_str()
+    }
+}
+
+impl Eq for UriTemplateString {
+    ghost laws = { text_eq_equiv };
+}
+
+impl PartialOrd for UriTemplateString {
+    ghost partial_cmp = { λ x y. Some (text_cmp x y) };
+
+    ghost laws = { text_po };
+
+    fn partial_cmp(&self, other: &Self) -> Option<Ordering> {
+        Some(self.cmp(other))
+    }
+}
+
+impl Ord for UriTemplateString {
+    ghost cmp = { text_cmp };
+
+    ghost total = { text_cmp_total };
+
+    ghost matches_partial_cmp = { λ x y. refl };
+
+    ghost matches_eq = { text_ties };
+
+    fn cmp(&self, other: &Self) -> Ordering {
+        self.as_str().cmp(other.as_str())
+    }
+}
+
+impl Hash for UriTemplateString {
+    ghost hash_input = { λ t. fed.str t.text };
+
+    ghost respects_eq = { Prim.search (hashing, rules) };
+
+    fn hash<H: Hasher>(&self, state: &mut H) {
+        self.as_str().hash(state);
+    }
+}
+
+impl Show for UriTemplateString {
+    ghost text = { λ t. t.text };
+
+    fn show<W: TextSink>(&self, sink: &mut W) -> Result<(), Stop> {
+        sink.put(self.as_str())
+    }
+}
+
+impl fmt::Display for UriTemplateString {
+    ghost output = { λ t. Some t.text };
+
+    fn fmt<W: fmt::Write>(&self, f: &mut fmt::Formatter<W>) -> fmt::Result {
+        FormatSink::new(f).display(self)
+    }
+}

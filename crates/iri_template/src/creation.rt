@@ -1,0 +1,53 @@
+//! Why no owned template was made.
+ghost use Rattle.std.specs.Prelude.{◌≡◌, Some};
+ghost use Rattle.iri_template.specs.Kinds.{displayed};
+
+use crate::error::Error;
+use std::alloc::AllocError;
+use std::fmt;
+use thiserror::Error as ThisError;
+
+/// Why no owned template was made of a lent text.
+#[derive(Debug, Drop, ThisError)]
+pub enum CreateTemplateError {
+    /// The text is no template.
+    #[error(transparent)]
+    Invalid(Error),
+    /// Memory was refused.
+    #[error(transparent)]
+    Memory(AllocError),
+}
+
+/// Why no owned template was made of another text, which it hands back.
+#[derive(Debug, Drop)]
+pub struct CreationError<T> {
+    pub(crate) source: T,
+    pub(crate) error: Error,
+}
+
+impl<T> CreationError<T> {
+    /// What was given.
+    pub fn into_source(self) -> T
+        ensures { result ≡ self.source }
+    {
+        self.source
+    }
+
+    /// What is wrong with its text, and where.
+    pub fn validation_error(&self) -> Error
+        ensures { result ≡ self.now.error }
+    {
+        self.error
+    }
+}
+
+impl<T> fmt::Display for CreationError<T> {
+    ghost output = { λ e. Some (displayed e.error) };
+
+    fn fmt<W: fmt::Write>(&self, f: &mut fmt::Formatter<W>) -> fmt::Result {
+        let error = self.error;
+        write!(f, "{error}")
+    }
+}
+
+impl<T: fmt::Debug + Drop> std::error::Error for CreationError<T> {}

@@ -1,0 +1,64 @@
+//! Laws of the definitions and of the types, as functions whose contracts say them.
+ghost use Rattle.std.specs.Prelude.{◌≡◌, ◌↔◌, ◌++◌, ℕ, List, None, IsTrue, fold};
+ghost use Rattle.std.specs.Ordering.{nat_cmp};
+ghost use Rattle.std.specs.Cmp.Lexicographic.{slice_cmp};
+ghost use Rattle.std.specs.Hash as fed;
+ghost use Rattle.std.specs.Str.{IsUtf8};
+ghost use Rattle.iri_template.specs.Template.{Piece, Spells, IsTemplate};
+ghost use Rattle.iri_template.specs.Reading.{pieces_of};
+ghost use Rattle.iri_template.specs.Fault.{text_fault, template_fault};
+ghost use Rattle.iri_template.specs.Texts.{text};
+
+use crate::template::UriTemplateStr;
+use crate::var_name::VarName;
+use std::cmp::Ordering;
+use std::hash::{Hash, Hasher};
+
+/// Bytes have no fault exactly where they are a template, so where literals, triplets and expressions spell them
+/// (RFC 6570 section 2). At most one list of these does, and `pieces_of` is it.
+pub fn no_fault_of_templates()
+    ensures template { (bs : List ℕ) → (template_fault bs ≡ None) ↔ IsTemplate bs }
+    ensures pieces { (bs : List ℕ) → template_fault bs ≡ None → Spells (pieces_of bs) bs }
+    ensures one { (bs : List ℕ) (ps : List Piece) → Spells ps bs → pieces_of bs ≡ ps }
+    ensures utf8 { (bs : List ℕ) → IsTemplate bs → IsUtf8 bs }
+{}
+
+/// Two templates one behind the other are a template.
+pub fn joined_templates()
+    ensures { (a b : List ℕ) → template_fault a ≡ None → template_fault b ≡ None → template_fault (a ++ b) ≡ None }
+{}
+
+/// Templates are equal exactly where their texts are.
+pub fn equal_as_texts(a: UriTemplateStr<'_>, b: UriTemplateStr<'_>) -> bool
+    ensures { IsTrue result ↔ text a.entry ≡ text b.entry }
+{
+    a == b
+}
+
+/// Templates are ordered as their texts, byte by byte.
+pub fn ordered_as_texts(a: UriTemplateStr<'_>, b: UriTemplateStr<'_>) -> Ordering
+    ensures { result ≡ slice_cmp nat_cmp (text a.entry) (text b.entry) }
+{
+    a.cmp(&b)
+}
+
+/// Templates are hashed as their texts.
+pub fn hashed_as_texts<H: Hasher>(v: UriTemplateStr<'_>, state: &mut H)
+    ensures { state.new ≡ fold H.write state.old (fed.str (text v.entry)) }
+{
+    v.hash(state);
+}
+
+/// Names are equal exactly where their texts are.
+pub fn names_equal_as_texts(a: VarName<'_>, b: VarName<'_>) -> bool
+    ensures { IsTrue result ↔ a.entry.text.now ≡ b.entry.text.now }
+{
+    a == b
+}
+
+/// Names are hashed as their texts.
+pub fn names_hashed_as_texts<H: Hasher>(v: VarName<'_>, state: &mut H)
+    ensures { state.new ≡ fold H.write state.old (fed.str v.entry.text.now) }
+{
+    v.hash(state);
+}

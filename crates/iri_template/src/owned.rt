@@ -1,0 +1,137 @@
+//! Owned templates.
+ghost use Rattle.std.specs.Prelude.{◌≡◌, ◌≤◌, ◌<◌, ◌+◌, ◌++◌, length, MatchResult, None, Some, IfOk, OnOk, OnErr, IsOk};
+ghost use Rattle.std.specs.String.{string_bytes};
+ghost use Rattle.iri_owned.specs.OwnedText.{owned_text};
+ghost use Rattle.iri_template.specs.Fault.{text_fault, template_fault};
+ghost use Rattle.iri_template.specs.Refusals.{RefusedFor};
+ghost use Rattle.iri_template.specs.Texts.{text};
+
+use crate::creation::{CreateTemplateError, CreationError};
+use crate::template::{UriTemplateStr, validate};
+use std::alloc::{AllocError, Global};
+use std::marker::Model;
+
+/// A URI template, owned (RFC 6570 section 2). It is seen as its UTF-8 bytes and its capacity. Templates are equal,
+/// ordered and hashed as their texts.
+#[derive(Debug, Drop)]
+pub struct UriTemplateString {
+    text: String,
+}
+
+impl Model for UriTemplateString {
+    ghost use Rattle.std.specs.Prelude.{◌≡◌, None};
+    ghost use Rattle.std.specs.String.{string_bytes};
+    ghost use Rattle.iri_owned.specs.OwnedText.{OwnedText, owned_text};
+    ghost use Rattle.iri_template.specs.Fault.{text_fault};
+
+    ghost Value = { OwnedText };
+
+    ghost view = { λ t. owned_text t.text };
+
+    ghost invariant = { λ t. text_fault (string_bytes t.text) ≡ None };
+}
+
+impl UriTemplateString {
+    /// A copy of a text, where it is a template: otherwise its first fault.
+    pub fn try_from_str(alloc: Global, s: &str) -> Result<Self, CreateTemplateError>
+        ensures { MatchResult result (λ t. t.text ≡ s.now) (λ e. RefusedFor e (text_fault s.now)) }
+    {
+        match UriTemplateStr::new(s) {
+            Ok(view) => UriTemplateString::from_view(alloc, view).map_err(
+                CreateTemplateError::Memory,
+            ),
+            Err(error) => Err(CreateTemplateError::Invalid(error)),
+        }
+    }
+
+    /// A copy of bytes, where they are the UTF-8 of a template: otherwise `InvalidUtf8`, or the text's first fault.
+    pub fn try_from_bytes(alloc: Global, b: &[u8]) -> Result<Self, CreateTemplateError>
+        ensures { MatchResult result (λ t. t.text ≡ b.now) (λ e. RefusedFor e (template_fault b.now)) }
+    {
+        match UriTemplateStr::try_from_bytes(b) {
+            Ok(view) => UriTemplateString::from_view(alloc, view).map_err(
+                CreateTemplateError::Memory,
+            ),
+            Err(error) => Err(CreateTemplateError::Invalid(error)),
+        }
+    }
+
+    /// The template of a string: otherwise its first fault, with the string handed back. It takes no memory.
+    pub fn try_from_string(s: String) -> Result<Self, CreationError<String>>
+        ensures { MatchResult result (λ t. t ≡ owned_text s) (λ e. (e.source ≡ s) × (text_fault (string_bytes s) ≡ Some e.error)) }
+    {
+        match validate(s.as_str()) {
+            Ok(()) => Ok(UriTemplateString { text: s }),
+            Err(error) => Err(CreationError { source: s, error }),
+        }
+    }
+
+    /// A copy of a lent template.
+    pub fn from_view(alloc: Global, view: UriTemplateStr<'_>) -> Result<Self, AllocError>
+        ensures { IfOk result (λ t. t.text ≡ text view.entry) }
+    {
+        let text = String::from_str(alloc, view.as_str())?;
+        Ok(UriTemplateString { text })
+    }
+
+    /// The template, lent.
+    pub fn as_slice(&self) -> UriTemplateStr<'_>
+        ensures { text result ≡ self.now.text }
+    {
+        UriTemplateStr::from_valid(self.text.as_str())
+    }
+
+    /// The text.
+    pub fn as_str(&self) -> &str
+        ensures text { result.now ≡ self.now.text }
+        ensures valid { text_fault result.now ≡ None }
+    {
+        self.text.as_str()
+    }
+
+    /// The text as a string. It takes no memory.
+    pub fn into_string(self) -> String
+        ensures text { owned_text result ≡ self }
+        ensures valid { text_fault (string_bytes result) ≡ None }
+    {
+        self.text
+    }
+
+    /// How many bytes the text can have before it needs more memory.
+    pub fn capacity(&self) -> usize
+        ensures capacity { result ≡ self.now.capacity }
+        ensures room { length self.now.text ≤ result }
+    {
+        self.text.capacity()
+    }
+
+    /// Gives back memory that the text doesn't need, and all of it where the text is empty. It never fails: where a
+    /// smaller place is refused, the text stays in the one that it has.
+    pub fn shrink_to_fit(&mut self) -> Result<(), AllocError>
+        ensures succeeds { IsOk result }
+        ensures text { self.new.text ≡ self.old.text }
+        ensures capacity { self.new.capacity ≤ self.old.capacity }
+        ensures frees { length self.old.text ≡ 0 → self.new.capacity ≡ 0 }
+    {
+        self.text.shrink_to_fit();
+        Ok(())
+    }
+
+    /// Puts another template behind this one. Memory is taken first: where it is refused, nothing changes.
+    pub fn append(&mut self, other: UriTemplateStr<'_>) -> Result<(), AllocError>
+        ensures text { OnOk result (self.new.text ≡ self.old.text ++ text other.entry) }
+        ensures capacity { self.old.capacity ≤ self.new.capacity }
+        ensures same { OnErr result (self.new ≡ self.old) }
+        ensures full { OnErr result (self.old.capacity < length self.old.text + length (text other.entry)) }
+    {
+        self.text.try_reserve(other.len())?;
+        self.text.push_str(other.as_str())
+    }
+
+    /// A copy.
+    pub fn try_clone(&self, alloc: Global) -> Result<Self, AllocError>
+        ensures { IfOk result (λ t. t.text ≡ self.now.text) }
+    {
+        UriTemplateString::from_view(alloc, self.as_slice())
+    }
+}

@@ -1,0 +1,137 @@
+//! Lent templates (RFC 6570 section 2).
+ghost use Rattle.std.specs.Prelude.{◌≡◌, ◌==◌, length, IfOk, None, Some};
+ghost use Rattle.iri_template.specs.Fault.{Answers, text_fault, template_fault};
+ghost use Rattle.iri_template.specs.Reading.{pieces_of};
+ghost use Rattle.iri_template.specs.Template.{names_of};
+ghost use Rattle.iri_template.specs.Variables.{names_left};
+
+use crate::error::{Error, ErrorKind};
+use crate::part::{Part, read_part};
+use crate::variables::UriTemplateVariables;
+use crate::varspecs;
+use iri_text::{FormatSink, Show, Stop, TextSink};
+use std::alloc::AllocError;
+use std::{fmt, str};
+
+/// Whether the text is a template: otherwise its first fault.
+pub(crate) fn validate(s: &str) -> Result<(), Error>
+    ensures { Answers result (text_fault s.now) }
+{
+    let mut rest = s;
+    'parts: while !rest.is_empty() {
+        match read_part(rest, s.len() - rest.len()) {
+            Ok((part, next)) => {
+                if let Part::Expression(expression) = part {
+                    varspecs::check(expression.varspecs, expression.location)?;
+                }
+                rest = next;
+            }
+            Err(error) => return Err(error),
+        }
+    }
+    Ok(())
+}
+
+/// A URI template, lent (RFC 6570 section 2). It is as small as a `&str`. Templates are equal, ordered and hashed
+/// as their texts.
+#[derive(Debug, PartialEq, Eq, PartialOrd, Ord, Hash)]
+pub struct UriTemplateStr<'a> {
+    text: &'a str,
+    pub ghost valid: { ∥ text_fault text.now ≡ None ∥₁ },
+}
+
+impl Clone for UriTemplateStr<'_> {
+    ghost is_clone = { λ v w. w ≡ v };
+
+    ghost is_infallible = { λ _. Unit {0} };
+
+    fn clone(&self) -> Result<Self, AllocError> {
+        Ok(*self)
+    }
+}
+
+impl Copy for UriTemplateStr<'_> {}
+
+impl<'a> UriTemplateStr<'a> {
+    ghost use Rattle.iri_template.specs.Texts.{text};
+
+    /// The template with this text: otherwise the text's first fault, with its place in bytes.
+    pub fn new(s: &'a str) -> Result<Self, Error>
+        ensures fault { Answers result (text_fault s.now) }
+        ensures text { IfOk result (λ v. text v ≡ s.now) }
+    {
+        match validate(s) {
+            Ok(()) => Ok(UriTemplateStr { text: s }),
+            Err(error) => Err(error),
+        }
+    }
+
+    /// The template of bytes, where they are the UTF-8 of its text: otherwise `InvalidUtf8` behind the longest front
+    /// that is UTF-8, or the text's first fault.
+    pub fn try_from_bytes(b: &'a [u8]) -> Result<Self, Error>
+        ensures fault { Answers result (template_fault b.now) }
+        ensures text { IfOk result (λ v. text v ≡ b.now) }
+    {
+        match str::from_utf8(b) {
+            Ok(s) => UriTemplateStr::new(s),
+            Err(error) => Err(Error::new(ErrorKind::InvalidUtf8, error.valid_up_to())),
+        }
+    }
+
+    /// The template with this text, which is one: `new` tells whether it is.
+    pub fn from_valid(s: &'a str) -> Self
+        requires { text_fault s.now ≡ None }
+        ensures { text result ≡ s.now }
+    {
+        UriTemplateStr { text: s }
+    }
+
+    /// The text.
+    pub fn as_str(self) -> &'a str
+        ensures text { result.now ≡ text self.entry }
+        ensures valid { text_fault result.now ≡ None }
+    {
+        self.text
+    }
+
+    /// How many bytes the text has.
+    pub fn len(self) -> usize
+        ensures { result ≡ length (text self.entry) }
+    {
+        self.text.len()
+    }
+
+    /// Whether the text has no bytes.
+    pub fn is_empty(self) -> bool
+        ensures { result ≡ (length (text self.entry) == 0) }
+    {
+        self.text.is_empty()
+    }
+
+    /// The names of the variables, from left to right, each as often as it stands there.
+    pub fn variables(self) -> UriTemplateVariables<'a>
+        ensures { names_left result ≡ names_of (pieces_of (text self.entry)) }
+    {
+        UriTemplateVariables::of(self.text)
+    }
+}
+
+impl Show for UriTemplateStr<'_> {
+    ghost use Rattle.iri_template.specs.Texts.{text};
+
+    ghost text = { λ v. text v };
+
+    fn show<W: TextSink>(&self, sink: &mut W) -> Result<(), Stop> {
+        sink.put(self.text)
+    }
+}
+
+impl fmt::Display for UriTemplateStr<'_> {
+    ghost use Rattle.iri_template.specs.Texts.{text};
+
+    ghost output = { λ v. Some (text v) };
+
+    fn fmt<W: fmt::Write>(&self, f: &mut fmt::Formatter<W>) -> fmt::Result {
+        FormatSink::new(f).display(self)
+    }
+}

@@ -1,0 +1,4 @@
+mod contexts;
+mod faults;
+mod names;
+mod templates;

@@ -1,0 +1,129 @@
+// Lent and owned templates.
+use crate::creation::CreateTemplateError;
+use crate::error::ErrorKind;
+use crate::laws;
+use crate::owned::UriTemplateString;
+use crate::template::UriTemplateStr;
+use crate::var_name::VarName;
+use crate::var_spec::{Modifier, read_varspec};
+use iri_text::ToStringFallible;
+use std::alloc::{AllocError, Global};
+use std::cmp::Ordering;
+use std::error::Error;
+use std::hash::{DefaultHasher, Hash, Hasher};
+use std::test::Fail;
+
+// What an error prints.
+fn told<E: Error>(error: &E, alloc: Global) -> Result<String, Fail> {
+    Ok(format!(in alloc; "{error}")?)
+}
+
+#[test]
+fn made_and_joined(rt: HostRuntime) -> Result<(), Fail> {
+    let mut template = UriTemplateString::try_from_str(rt.alloc(), "x")?;
+    match UriTemplateStr::new("{a}") {
+        Ok(other) => template.append(other)?,
+        Err(_) => assert!(rt; false),
+    }
+    assert_eq!(rt; template.as_str(), "x{a}");
+    let bytes = UriTemplateString::try_from_bytes(rt.alloc(), b"x{a}")?;
+    assert_eq!(rt; bytes.as_str(), "x{a}");
+    let copy = UriTemplateString::from_view(rt.alloc(), template.as_slice())?;
+    assert_eq!(rt; copy.as_str(), "x{a}");
+    let clone = template.try_clone(rt.alloc())?;
+    assert_eq!(rt; clone.as_str(), "x{a}");
+    template.shrink_to_fit()?;
+    assert_eq!(rt; template.as_str(), "x{a}");
+    assert!(rt; template.capacity() >= 4);
+    assert!(rt; template == copy && copy == clone);
+    let given = UriTemplateString::try_from_string("{b}".to_string(rt.alloc())?);
+    match given {
+        Ok(given) => assert_eq!(rt; given.into_string().as_str(), "{b}"),
+        Err(_) => assert!(rt; false),
+    }
+    Ok(())
+}
+
+#[test]
+fn refused(rt: HostRuntime) -> Result<(), Fail> {
+    let want = "invalid URI template: expression not closed (at 1-th byte)";
+    match UriTemplateString::try_from_string("x{a".to_string(rt.alloc())?) {
+        Ok(_) => assert!(rt; false),
+        Err(error) => {
+            assert_eq!(rt;
+                error.validation_error().kind(),
+                ErrorKind::ExpressionNotClosed
+            );
+            assert_eq!(rt; error.validation_error().location(), 1);
+            assert_eq!(rt; told(&error, rt.alloc())?.as_str(), want);
+            assert_eq!(rt; error.into_source().as_str(), "x{a");
+        }
+    }
+    match UriTemplateString::try_from_str(rt.alloc(), "x{a") {
+        Ok(_) => assert!(rt; false),
+        Err(error) => assert_eq!(rt; told(&error, rt.alloc())?.as_str(), want),
+    }
+    match UriTemplateString::try_from_bytes(rt.alloc(), b"x\xFF") {
+        Ok(_) => assert!(rt; false),
+        Err(error) => {
+            let want = "invalid URI template: invalid utf-8 byte sequence (at 1-th byte)";
+            assert_eq!(rt; told(&error, rt.alloc())?.as_str(), want);
+        }
+    }
+    let refused = CreateTemplateError::Memory(AllocError);
+    assert_eq!(rt;
+        told(&refused, rt.alloc())?.as_str(),
+        "memory allocation failed"
+    );
+    Ok(())
+}
+
+fn hash_of<T: Hash>(value: &T) -> u64 {
+    let mut state = DefaultHasher::new();
+    value.hash(&mut state);
+    state.finish()
+}
+
+#[test]
+fn as_texts(rt: HostRuntime) -> Result<(), Fail> {
+    let a = UriTemplateString::try_from_str(rt.alloc(), "{a}")?;
+    let b = UriTemplateString::try_from_str(rt.alloc(), "{b}")?;
+    assert_eq!(rt; a.as_slice().try_to_string(rt.alloc())?.as_str(), "{a}");
+    assert_eq!(rt; a.try_to_string(rt.alloc())?.as_str(), "{a}");
+    let (x, y) = (a.as_slice(), b.as_slice());
+    assert_eq!(rt; format!(in rt.alloc(); "{x} {b}")?.as_str(), "{a} {b}");
+    assert!(rt; x.len() == 3 && !x.is_empty() && x.as_str() == "{a}");
+    assert!(rt; UriTemplateStr::from_valid(x.as_str()) == x && x != y && a != b);
+    assert!(rt; x < y && a.cmp(&b) == Ordering::Less && a.partial_cmp(&b) == Some(Ordering::Less));
+    assert!(rt; hash_of(&x) == hash_of(&a));
+    assert!(rt; laws::equal_as_texts(x, x) && laws::ordered_as_texts(x, y) == Ordering::Less);
+    let mut state = DefaultHasher::new();
+    laws::hashed_as_texts(x, &mut state);
+    assert!(rt; state.finish() == hash_of(&x));
+    laws::no_fault_of_templates();
+    laws::joined_templates();
+    match VarName::new("a") {
+        Ok(name) => {
+            let mut state = DefaultHasher::new();
+            laws::names_hashed_as_texts(name, &mut state);
+            assert!(rt; state.finish() == hash_of(&name) && laws::names_equal_as_texts(name, name));
+        }
+        Err(_) => assert!(rt; false),
+    }
+    Ok(())
+}
+
+fn modifier(s: &str) -> Option<Modifier> {
+    match read_varspec(s, 0) {
+        Ok(varspec) => Some(varspec.modifier),
+        Err(_) => None,
+    }
+}
+
+#[test]
+fn modifiers(rt: HostRuntime) {
+    assert_eq!(rt; modifier("path"), Some(Modifier::Whole));
+    assert_eq!(rt; modifier("list*"), Some(Modifier::Explode));
+    assert_eq!(rt; modifier("var:1"), Some(Modifier::Prefix(1)));
+    assert_eq!(rt; modifier("var:9999"), Some(Modifier::Prefix(9999)));
+}

@@ -1,0 +1,135 @@
+//! The values of variables (RFC 6570 section 2.3), owned.
+ghost use Rattle.std.specs.Prelude.{◌≡◌, ◌++◌, ◌∷◌, [], length, OnOk, OnErr, IfErr};
+ghost use Rattle.std.specs.String.{string_bytes};
+ghost use Rattle.std.specs.List.{slice_get};
+ghost use Rattle.iri_grammar.specs.Views.{now_of};
+ghost use Rattle.iri_template.specs.Values.{lent_pair};
+
+use iri_text::Text;
+use std::alloc::Global;
+use std::marker::Model;
+
+/// A list of texts, which is seen as the list of their UTF-8 bytes.
+#[derive(Drop)]
+pub struct TextList {
+    items: Vec<String>,
+}
+
+impl Model for TextList {
+    ghost use Rattle.std.specs.Prelude.{ℕ, List, map};
+    ghost use Rattle.std.specs.String.{string_bytes};
+
+    ghost Value = { List (List ℕ) };
+
+    ghost view = { λ a. map string_bytes a.items.items };
+}
+
+impl TextList {
+    /// The list without items. It takes no memory.
+    pub fn new(alloc: Global) -> Self
+        ensures { result ≡ [] }
+    {
+        TextList {
+            items: Vec::new(alloc),
+        }
+    }
+
+    /// Puts an item at the end. It fails for want of memory alone: then the item is handed back, and nothing changes.
+    pub fn push(&mut self, item: String) -> Result<(), String>
+        ensures pushed { OnOk result (self.new ≡ self.old ++ string_bytes item ∷ []) }
+        ensures same { OnErr result (self.new ≡ self.old) }
+        ensures handed_back { IfErr result (λ s. s ≡ item) }
+    {
+        match self.items.push(item) {
+            Ok(()) => Ok(()),
+            Err(refused) => Err(refused.value),
+        }
+    }
+
+    /// How many items there are.
+    pub fn len(&self) -> usize
+        ensures { result ≡ length self.now }
+    {
+        self.items.len()
+    }
+
+    /// The item of this number, from 0: none where there are no more than so many.
+    pub fn get(&self, i: usize) -> Option<&str>
+        ensures { now_of result ≡ slice_get self.now i }
+    {
+        match self.items.get(i) {
+            Some(item) => Some(item.as_str()),
+            None => None,
+        }
+    }
+}
+
+/// A list of pairs of texts, a key and a value each, which is seen as the list of their UTF-8 bytes. A key may stand
+/// in it more than once.
+#[derive(Drop)]
+pub struct PairList {
+    pairs: Vec<(String, String)>,
+}
+
+impl Model for PairList {
+    ghost use Rattle.std.specs.Prelude.{ℕ, List, map};
+    ghost use Rattle.iri_template.specs.Values.{pair_of};
+
+    ghost Value = { List (List ℕ × List ℕ) };
+
+    ghost view = { λ a. map pair_of a.pairs.items };
+}
+
+impl PairList {
+    /// The list without pairs. It takes no memory.
+    pub fn new(alloc: Global) -> Self
+        ensures { result ≡ [] }
+    {
+        PairList {
+            pairs: Vec::new(alloc),
+        }
+    }
+
+    /// Puts a pair at the end. It fails for want of memory alone: then key and value are handed back, and nothing
+    /// changes.
+    pub fn push(&mut self, key: String, value: String) -> Result<(), (String, String)>
+        ensures pushed { OnOk result (self.new ≡ self.old ++ (string_bytes key, string_bytes value) ∷ []) }
+        ensures same { OnErr result (self.new ≡ self.old) }
+        ensures handed_back { IfErr result (λ p. (p.0 ≡ key) × (p.1 ≡ value)) }
+    {
+        match self.pairs.push((key, value)) {
+            Ok(()) => Ok(()),
+            Err(refused) => Err(refused.value),
+        }
+    }
+
+    /// How many pairs there are.
+    pub fn len(&self) -> usize
+        ensures { result ≡ length self.now }
+    {
+        self.pairs.len()
+    }
+
+    /// The pair of this number, from 0: none where there are no more than so many.
+    pub fn get(&self, i: usize) -> Option<(&str, &str)>
+        ensures { lent_pair result ≡ slice_get self.now i }
+    {
+        match self.pairs.get(i) {
+            Some(pair) => Some((pair.0.as_str(), pair.1.as_str())),
+            None => None,
+        }
+    }
+}
+
+/// The value of a variable.
+#[derive(Drop)]
+pub enum Value {
+    /// None.
+    Undefined,
+    /// A text.
+    String(Text),
+    /// A list of texts.
+    List(TextList),
+    /// An associative array: a list of pairs.
+    Assoc(PairList),
+}

@@ -1,0 +1,86 @@
+//! The names of variables (RFC 6570 section 2.3).
+ghost use Rattle.std.specs.Prelude.{◌≡◌, true, IfOk};
+ghost use Rattle.iri_grammar.specs.Over.{over};
+ghost use Rattle.iri_template.specs.Names.{is_varname, is_name_char};
+ghost use Rattle.iri_template.specs.Fault.{Answers, name_fault};
+
+use crate::error::{Error, ErrorKind};
+use std::alloc::AllocError;
+
+/// The name of a variable (RFC 6570 section 2.3): letters, digits, `_`, triplets and dots, of which no dot
+/// is the first. Names are equal and hashed as their texts.
+#[derive(Debug, PartialEq, Eq, Hash)]
+pub struct VarName<'a> {
+    text: &'a str,
+    pub ghost valid: { ∥ is_varname text.now ≡ true ∥₁ },
+}
+
+impl Clone for VarName<'_> {
+    ghost is_clone = { λ v w. w ≡ v };
+
+    ghost is_infallible = { λ _. Unit {0} };
+
+    fn clone(&self) -> Result<Self, AllocError> {
+        Ok(*self)
+    }
+}
+
+impl Copy for VarName<'_> {}
+
+impl<'a> VarName<'a> {
+    /// The name with this text: otherwise `InvalidExpression` at byte 0.
+    pub fn new(s: &'a str) -> Result<Self, Error>
+        ensures fault { Answers result (name_fault s.now) }
+        ensures text { IfOk result (λ v. v.text.now ≡ s.now) }
+    {
+        if is_varname(s.as_bytes()) {
+            Ok(VarName { text: s })
+        } else {
+            Err(Error::new(ErrorKind::InvalidExpression, 0))
+        }
+    }
+
+    /// The text.
+    pub fn as_str(self) -> &'a str
+        ensures text { result.now ≡ self.entry.text.now }
+        ensures valid { is_varname result.now ≡ true }
+    {
+        self.text
+    }
+}
+
+#[tactic(auto, using(std::proofs::lemmas::Bool::Decides::nat_tests), unfolding(crate::specs::Names::is_name_char))]
+fn is_name_byte(b: u8) -> bool
+    ensures { result ≡ is_name_char b }
+{
+    b.is_ascii_alphanumeric() || b == b'_' || b == b'.'
+}
+
+/// Whether the bytes are a name's characters and triplets.
+fn is_over_name(bytes: &[u8]) -> bool
+    ensures { result ≡ over is_name_char bytes.now }
+{
+    // How many hex digits of a triplet are still to come.
+    let mut due = 0u8;
+    for b in bytes {
+        if due > 0 {
+            if !b.is_ascii_hexdigit() {
+                return false;
+            }
+            due -= 1;
+        } else if *b == b'%' {
+            due = 2;
+        } else if !is_name_byte(*b) {
+            return false;
+        }
+    }
+    due == 0
+}
+
+/// Whether the bytes are a name.
+#[tactic(auto, unfolding(crate::specs::Names::is_varname))]
+pub(crate) fn is_varname(bytes: &[u8]) -> bool
+    ensures { result ≡ is_varname bytes.now }
+{
+    !bytes.is_empty() && bytes[0] != b'.' && is_over_name(bytes)
+}
