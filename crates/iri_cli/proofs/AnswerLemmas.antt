@@ -1,19 +1,11 @@
--- Pieces that are put as an answer.
-use Rattle.std.proofs.Common.{◌≡◌, ℕ, Bool, List, Option, None, Some, Result, Ok, Err, sym, ap, ◌∙◌}
+-- The answer to a line by its fault.
+use Rattle.std.proofs.Common.{◌≡◌, ℕ, List, None, Some, sym, ap, ◌∙◌}
 use Rattle.iri_grammar.specs.Classes.{Tests}
 use Rattle.iri_grammar.specs.Fault.{bytes_fault}
 use Rattle.iri_grammar.specs.WholeFault.{reference_fault}
 use Rattle.iri_grammar.specs.declared.error.ErrorKind.{ErrorKind}
 use Rattle.iri_resolve.specs.NormalForm.{canonical}
 use Rattle.iri_cli.specs.Answer.{answer, answer_by, good_answer, bad_answer}
-use Rattle.iri_text.specs.Sink.{PutsAll}
-use Rattle.iri_text.specs.declared.Failed.{Failed}
-use Rattle.iri_cli.specs.Ending.{is_good}
-use Rattle.iri_cli.specs.Puts.{PutsAnswer, told_of}
-
-pub puts_answer : {wo wn : Option (List ℕ)} {fo fn : ℕ} (good : Bool) (r : Result (Unit {0}) Failed) (text : List ℕ) → PutsAll wo wn fo fn r text → good ≡ is_good text → PutsAnswer wo wn fo fn (told_of good r) text
-puts_answer good (Ok x) text p e = (p.whole, p.same, e)
-puts_answer good (Err f) text p e = (p.front, p.cause, p.later)
 
 -- the answer to a line that is a reference, and to one that has a fault
 pub answer_of_reference : (s : Tests) (base reference line : List ℕ) → bytes_fault (reference_fault s) line ≡ None → reference ≡ line → good_answer (canonical s base reference) ≡ answer s base line

@@ -1,209 +1,239 @@
--- Reference lines that were answered.
-use Rattle.std.proofs.Common.{◌≡◌, ◌≢◌, ◌⊎◌, ℕ, ◌+◌, ◌-◌, ◌<◌, ◌≤◌, List, [], ◌∷◌, ◌++◌, length, Bool, ◌&&◌, Option, None, Some, Ok, true, false, add-zero, refl, sym, ◌∙◌, ap, subst, arith, inl, inr, ⊎_elim, append_assoc, length-append, if◌then◌else◌}
+-- Lines that were answered one after the other, and how that ends.
+use Rattle.std.proofs.Common.{◌≡◌, ◌==◌, ℕ, ◌≤◌, List, [], ◌∷◌, ◌++◌, ◌&&◌, length, Bool, true, false, if◌then◌else◌, Option, None, Some, Ok, Err, refl, sym, ◌∙◌, ap, subst, arith, append_assoc}
+use Rattle.std.specs.List.{concat, list_all}
 use Rattle.std.proofs.lemmas.List.{append-nil}
-use Rattle.std.proofs.lemmas.Bool.Decides.{nat_tests}
-use Rattle.iri_text.specs.Lines.{NoLf, no_cr}
 use Rattle.iri_text.specs.Count.{Rose}
+use Rattle.iri_text.specs.Lines.{no_cr}
 use Rattle.iri_text.specs.Source.{Consumes, IsAtEnd}
 use Rattle.iri_text.specs.Sink.{Appends, AppendsFront}
 use Rattle.iri_text.specs.Line.{LineState}
 use Rattle.iri_text.specs.Reader.{Advances}
+use Rattle.iri_text.specs.declared.reader.LineFault.{LineFault}
+use Rattle.iri_text.specs.declared.reader.LineFault.TheVariants.{Source, LineTooLong as FaultLineTooLong, InputTooLong as FaultInputTooLong}
 use Rattle.iri_text.proofs.Puts.{Appends-append, Appends-none, front-after, front-longer}
-use Rattle.iri_cli.specs.Ending.{Rules, Stop, Ended, Failed, Ending, is_good, after, status_after, references_from}
-use Rattle.iri_cli.specs.Run.{Course, RunsOut, BreaksOff, outside}
-use Rattle.iri_cli.specs.Steps.{IsAtReferences, rest_of, still_to_come}
-use Rattle.iri_cli.proofs.Scan.{references_scan, along, to_end, after-after}
-use Rattle.iri_cli.proofs.Going.{Going, IsOpen, IsClosed, takes_more, after-fixed}
+use Rattle.iri_cli.specs.Ending.{Rules, Ending, answers, answered, IsBaseTaken, ending}
+use Rattle.iri_cli.specs.Read.{HasRead, ReadsAll, ReadsSome, ReadsPast, IsGoing}
+use Rattle.iri_cli.specs.Run.{outside, Finishes, Decides, StopsShort, RanTo, Ran}
+use Rattle.iri_cli.specs.Steps.{end_at}
+use Rattle.iri_cli.specs.Answering.{Answering, AnswersLine, PutsAnswer, ClosesRun, end_of_error}
+use Rattle.iri_cli.specs.declared.answers.AnswerError.{AnswerError}
+use Rattle.iri_cli.specs.declared.answers.AnswerError.TheVariants.{SinkFailed as AnswerFailed, Memory as AnswerMemory}
+use Rattle.iri_cli.specs.declared.end.End.{End}
+use Rattle.iri_cli.specs.declared.end.End.TheVariants.{Done, SomeBad, BadBase, SourceFailed, SinkFailed, Memory, LineTooLong, InputTooLong}
+use Rattle.iri_cli.proofs.Reading.{left_is, reads_line, reads_all, reads_some, reads_long, reads_over, goes_on}
+use Rattle.iri_cli.proofs.Ends.{one_more, one_more_good, first_read, ends_all, ends_past}
 
--- what a source had left, where it tells that, after bytes were taken
-pub left_is : (ln : Option (List ℕ)) (x p : List ℕ) → Consumes (Some x) ln p → (y : List ℕ) × (ln ≡ Some y) × (x ≡ p ++ y)
-left_is None x p h = absurd h
-left_is (Some y) x p h = (y, refl, h)
+-- all of these bytes are a front of them
+pub whole_front : {a b : Option (List ℕ)} {xs : List ℕ} → Appends a b xs → AppendsFront a b xs
+whole_front {xs = xs} p = record { front = xs; rest = []; split = append-nil xs; appended = p }
 
-module _ (rules : Rules) (base : List ℕ) where
-  abbrev answer_to : List ℕ → List ℕ
-  answer_to raw = rules.answer base (no_cr raw)
+-- what was taken to the end is all
+pub taken_is : (lo ln : Option (List ℕ)) (x taken : List ℕ) → lo ≡ Some x → Consumes lo ln taken → IsAtEnd ln → x ≡ taken
+taken_is lo ln x taken told takes at_end =
+    let l = left_is ln x taken (subst (λ (s : Option (List ℕ)). Consumes s ln taken) told takes) in
+    l.2 ∙ ap (λ (y : List ℕ). taken ++ y) (subst IsAtEnd l.1 at_end) ∙ append-nil taken
 
-  -- a line that an LF ends
-  past_line : (s : Stop) (place : ℕ) (raw y : List ℕ) → NoLf raw → length raw ≤ rules.line_limit → place + length raw < rules.input_limit
-      → references_from rules base s place [] (raw ++ 10 ∷ y) ≡ after (is_good (answer_to raw)) (answer_to raw) (references_from rules base s (place + length raw + 1) [] y)
-  past_line s place raw y n l i = along rules (references_from rules base) (references_scan rules base) s place [] raw (10 ∷ y) n (omega arith) (omega arith) ∙ lf
-    where
-      lf : references_from rules base s (place + length raw) raw (10 ∷ y) ≡ after (is_good (answer_to raw)) (answer_to raw) (references_from rules base s (place + length raw + 1) [] y)
-      lf = grind (arith, nat_tests)
+-- a line without its CR is no longer
+pub no_cr-shorter : (raw : List ℕ) → length (no_cr raw) ≤ length raw
+no_cr-shorter [] = omega arith
+no_cr-shorter (b ∷ []) = by_test (b == 13)
+  where
+    by_test : (t : Bool) → length (if t then [] else b ∷ []) ≤ 1
+    by_test true = omega arith
+    by_test false = omega arith
+no_cr-shorter (b ∷ c ∷ raw) = let h = no_cr-shorter (c ∷ raw) in omega (arith, h)
 
-  -- a last line
-  past_last : (place : ℕ) (raw : List ℕ) → NoLf raw → raw ≢ [] → length raw ≤ rules.line_limit → place + length raw ≤ rules.input_limit
-      → references_from rules base Ended place [] raw ≡ after (is_good (answer_to raw)) (answer_to raw) (record { status = 0; output = [] })
-  past_last place raw n h l i = to_end rules (references_from rules base) (references_scan rules base) Ended place raw n l i ∙ last raw h
-    where
-      last : (r : List ℕ) → r ≢ [] → references_from rules base Ended (place + length raw) r [] ≡ after (is_good (answer_to r)) (answer_to r) (record { status = 0; output = [] })
-      last [] h = absurd (h refl)
-      last (b ∷ r) h = refl
+-- the answers to these lines were written
+abbrev answered_to : Rules → List ℕ → List (List ℕ) → List ℕ
+answered_to rules base rest = concat (answers rules base rest)
 
-  module _ (course : Course) (place0 : ℕ) where
-    abbrev pub Goes : (lo ln wo wn : Option (List ℕ)) → LineState → Bool → Type 0
-    Goes = Going rules (references_from rules base) course place0
+-- The lines that were given behind the base were answered.
+pub record Goes (stands_at : Answering → Type 0) (start : Answering) (reader_old reader : LineState) (left_old left written_old written : Option (List ℕ)) (source_old source sink_old sink : ℕ) (good : Bool) : Type 0 where
+  pub between : List (List ℕ)
+  pub at : stands_at (record start { between = between })
+  pub going : IsGoing start.rules reader
+  pub read : (before : Option (List ℕ)) → HasRead start.rules before left_old reader_old (start.base ∷ []) → HasRead start.rules before left reader (start.base ∷ between)
+  pub writes : Appends written_old written (answered_to start.rules start.base between)
+  pub all_good : good ≡ list_all start.rules.is_good (answers start.rules start.base between)
+  pub source_later : source_old ≤ source
+  pub sink_same : sink ≡ sink_old
 
-    abbrev Opens : List ℕ → List ℕ → Bool → Type 0
-    Opens = IsOpen rules (references_from rules base) course place0
+pub start_lines : (stands_at : Answering → Type 0) (start : Answering) (reader : LineState) (left wo w : Option (List ℕ)) (so ko k : ℕ) → stands_at start → start.between ≡ [] → IsGoing start.rules reader → w ≡ wo → k ≡ ko → Goes stands_at start reader reader left left wo w so so ko k true
+start_lines stands_at start reader left wo w so ko k at none is kept same = record {
+  between = [];
+  at = subst (λ (b : List (List ℕ)). stands_at (record start { between = b })) none at;
+  going = is;
+  read = λ before h. h;
+  writes = subst (λ (o : Option (List ℕ)). Appends wo o []) (sym kept) (Appends-none wo);
+  all_good = refl;
+  source_later = omega arith;
+  sink_same = same;
+}
 
-    open_line : (given out raw : List ℕ) (good : Bool) → Opens given out good → NoLf raw → length raw ≤ rules.line_limit → place0 + length given + length raw < rules.input_limit
-        → Opens (given ++ (raw ++ 10 ∷ [])) (out ++ answer_to raw) (good && is_good (answer_to raw))
-    open_line given out raw good o n l i s y =
-        ap (course s) (append_assoc given (raw ++ 10 ∷ []) y ∙ ap (λ (t : List ℕ). given ++ t) (append_assoc raw (10 ∷ []) y))
-        ∙ o s (raw ++ 10 ∷ y)
-        ∙ ap (after good out) (past_line s (place0 + length given) raw y n l i)
-        ∙ after-after good (is_good (answer_to raw)) out (answer_to raw) (references_from rules base s (place0 + length given + length raw + 1) [] y)
-        ∙ ap (λ (p : ℕ). after (good && is_good (answer_to raw)) (out ++ answer_to raw) (references_from rules base s p [] y)) there
+module _ (stands_at : Answering → Type 0) (start : Answering) (reader0 old new : LineState) (l0 lm ln wo wm : Option (List ℕ)) (so sm sn ko km : ℕ) (good : Bool) (taken : start.rules.refusal start.base ≡ None) (go : Goes stands_at start reader0 old l0 lm wo wm so sm ko km good) where
+  abbrev rules : Rules
+  rules = start.rules
+
+  abbrev out : List ℕ
+  out = answered_to start.rules start.base go.between
+
+  -- A line was given and answered.
+  pub one_line_more : (is_next : Answering → Type 0) (wn : Option (List ℕ)) (kn : ℕ) (answer_good : Bool) → Advances old new lm ln sm sn (Ok true) → ((at : Answering) → stands_at at → AnswersLine is_next at new.line wm wn km kn (Ok answer_good))
+      → Goes is_next start reader0 new l0 ln wo wn so sn ko kn (good && answer_good)
+  one_line_more is_next wn kn answer_good a p =
+      let q = p (record start { between = go.between }) go.at in
+      record {
+        between = go.between ++ new.line ∷ [];
+        at = q.next;
+        going = goes_on start.rules lm ln sm sn old new go.going a;
+        read = λ before h. reads_line start.rules before lm ln sm sn old new (start.base ∷ go.between) go.going (go.read before h) a;
+        writes = subst (Appends wo wn) (sym (one_more start.rules start.base taken go.between new.line)) (Appends-append wo wm wn out (start.rules.answer start.base go.between new.line) go.writes q.puts.0);
+        all_good = ap (λ (b : Bool). b && answer_good) go.all_good ∙ ap (λ (b : Bool). list_all start.rules.is_good (answers start.rules start.base go.between) && b) q.puts.2 ∙ sym (one_more_good start.rules start.base taken go.between new.line);
+        source_later = omega (arith, go.source_later, a.later);
+        sink_same = q.puts.1 ∙ go.sink_same;
+      }
+
+  -- a line that is given is within the limit
+  pub line_fits : Advances old new lm ln sm sn (Ok true) → length new.line ≤ start.rules.line_limit
+  line_fits a =
+      omega (arith, go.going.line_limit, a.line_limit, a.says.short, no_cr-shorter a.says.raw, ap length a.says.line)
+
+  module _ (before : Option (List ℕ)) (faults : ℕ) (first : HasRead start.rules before l0 reader0 (start.base ∷ [])) (earlier : faults ≤ so) where
+    -- the outside at both ends of the run
+    abbrev Ends : Option (List ℕ) → ℕ → End → Type 0
+    Ends wn kn end = Ran start.rules (outside before wo faults ko) (outside ln wn sn kn) end
+
+    -- The answer to a line failed.
+    pub fails_at : (is_next : Answering → Type 0) (wn : Option (List ℕ)) (kn : ℕ) (error : AnswerError) (end : End) → end ≡ end_of_error error → Advances old new lm ln sm sn (Ok true) → ((at : Answering) → stands_at at → AnswersLine is_next at new.line wm wn km kn (Err error)) → Ends wn kn end
+    fails_at is_next wn kn error end is a p = subst (Ends wn kn) (sym is) (by_error error (p (record start { between = go.between }) go.at).puts)
       where
-        there : place0 + length given + length raw + 1 ≡ place0 + length (given ++ (raw ++ 10 ∷ []))
-        there = omega (arith, length-append given (raw ++ 10 ∷ []), length-append raw (10 ∷ []))
+        -- the whole output begins with the answers, this one among them
+        output : (x : List ℕ) → before ≡ Some x → (more : List ℕ) × ((ending start.rules x).output ≡ (out ++ start.rules.answer start.base go.between new.line) ++ more)
+        output x told =
+            let h = first_read start.rules start.base taken before ln new (go.between ++ new.line ∷ []) (reads_line start.rules before lm ln sm sn old new (start.base ∷ go.between) go.going (go.read before first) a) x told in
+            (h.0, h.1 ∙ ap (λ (t : List ℕ). t ++ h.0) (one_more start.rules start.base taken go.between new.line))
 
-    close_line : (given out raw : List ℕ) (good : Bool) → Opens given out good → NoLf raw → raw ≢ [] → length raw ≤ rules.line_limit → place0 + length given + length raw ≤ rules.input_limit
-        → course Ended (given ++ raw) ≡ record { status = status_after (good && is_good (answer_to raw)) 0; output = out ++ answer_to raw }
-    close_line given out raw good o n h l i =
-        o Ended raw ∙ ap (after good out) (past_last (place0 + length given) raw n h l i)
-        ∙ after-after good (is_good (answer_to raw)) out (answer_to raw) (record { status = 0; output = [] })
-        ∙ ap (λ (t : List ℕ). record { status = status_after (good && is_good (answer_to raw)) 0; output = t }) (append-nil (out ++ answer_to raw))
+        by_error : (e : AnswerError) → PutsAnswer start.rules wm wn km kn (start.rules.answer start.base go.between new.line) (Err e) → Ends wn kn (end_of_error e)
+        by_error AnswerFailed q = record {
+          to = omega (arith, q.1, go.sink_same);
+          front = λ x told. let h = output x told in subst (AppendsFront wo wn) (sym h.1) (front-longer h.0 (front-after out go.writes q.0));
+          source_later = omega (arith, earlier, go.source_later, a.later);
+          sink_later = omega (arith, q.2, go.sink_same);
+        }
+        by_error AnswerMemory q = record {
+          to = record {
+            takes_memory = q.0;
+            whole = start.base ∷ go.between;
+            base_taken = taken;
+            writes = subst (λ (w : Option (List ℕ)). Appends wo w out) (sym q.1) go.writes;
+            sink = q.2 ∙ go.sink_same;
+          };
+          front = λ x told.
+              let h = output x told in
+              subst (AppendsFront wo wn) (sym (h.1 ∙ append_assoc out (start.rules.answer start.base go.between new.line) h.0))
+              (front-longer (start.rules.answer start.base go.between new.line ++ h.0) (whole_front (subst (λ (w : Option (List ℕ)). Appends wo w out) (sym q.1) go.writes)));
+          source_later = omega (arith, earlier, go.source_later, a.later);
+          sink_later = omega (arith, q.2, go.sink_same);
+        }
 
-    module _ (lo lm ln wo wm wn : Option (List ℕ)) (fo fn : ℕ) (old new : LineState) (good : Bool) (go : Goes lo lm wo wm old good) (a : Advances old new lm ln fo fn (Ok true)) where
-      -- the limits, in the words of the run
-      short : length a.says.raw ≤ rules.line_limit
-      short = omega (arith, a.says.short, a.line_limit, go.line_limit)
+    -- There is no further line.
+    pub finishes : (wn : Option (List ℕ)) (kn : ℕ) (end : End) → Advances old new lm ln sm sn (Ok false) → ((at : Answering) → stands_at at → ClosesRun at.rules wm wn km kn good (at.rules.closing at.base at.between) end) → Ends wn kn end
+    finishes wn kn end a p = by_end end (p (record start { between = go.between }) go.at)
+      where
+        all : ReadsAll start.rules before ln (start.base ∷ go.between)
+        all = reads_all start.rules before lm ln sm sn old new (start.base ∷ go.between) go.going (go.read before first) a
 
-      -- A line was given and answered.
-      pub goes_on : (answer_good : Bool) → Appends wm wn (rules.answer base new.line) → answer_good ≡ is_good (rules.answer base new.line) → Goes lo ln wo wn new (good && answer_good)
-      goes_on answer_good put is =
-          subst (λ (g : Bool). Goes lo ln wo wn new (good && g)) (sym (is ∙ ap (λ l. is_good (rules.answer base l)) a.says.line))
-          (⊎_elim from_open (λ c. absurd (cc ((a.done c.0).0))) go.open_or_closed)
-        where
-          written : Appends wo wn (go.out ++ answer_to a.says.raw)
-          written = Appends-append wo wm wn go.out (answer_to a.says.raw) go.writes (subst (λ l. Appends wm wn (rules.answer base l)) a.says.line put)
+        ends : ending start.rules all.taken ≡ record { status = if list_all start.rules.is_good (answers start.rules start.base go.between) then 0 else 1; output = out ++ start.rules.closing start.base go.between }
+        ends = ends_all start.rules start.base taken before ln go.between all
 
-          from_open : (old.ended ≡ false) × Opens go.given go.out good → Goes lo ln wo wn new (good && is_good (answer_to a.says.raw))
-          from_open o =
-              ⊎_elim
-              (λ r. record {
-                given = go.given ++ (a.says.raw ++ 10 ∷ []);
-                out = go.out ++ answer_to a.says.raw;
-                line_limit = a.line_limit ∙ go.line_limit;
-                input_limit = a.input_limit ∙ go.input_limit;
-                going = a.finished;
-                taken = omega (arith, a.counted, go.taken, ap length r.0, length-append old.held a.moved, length-append a.says.raw (10 ∷ new.held), length-append go.given (a.says.raw ++ 10 ∷ []), length-append a.says.raw (10 ∷ []));
-                within = omega (arith, a.says.within, a.input_limit, go.input_limit, a.counted, go.taken, ap length r.0, length-append old.held a.moved, length-append a.says.raw (10 ∷ new.held), length-append go.given (a.says.raw ++ 10 ∷ []), length-append a.says.raw (10 ∷ []));
-                takes = subst (Consumes lo ln) (ap (λ (t : List ℕ). go.given ++ t) (r.0 ∙ sym (append_assoc a.says.raw (10 ∷ []) new.held)) ∙ sym (append_assoc go.given (a.says.raw ++ 10 ∷ []) new.held)) (takes_more lo lm ln go.given old.held a.moved go.takes a.moves);
-                writes = written;
-                open_or_closed = inl (
-                  r.1,
-                  open_line go.given go.out a.says.raw good o.1 a.says.whole short
-                      (omega (arith, a.says.within, a.input_limit, go.input_limit, a.counted, go.taken, ap length r.0, length-append old.held a.moved, length-append a.says.raw (10 ∷ new.held))),
-                );
-              })
-              (λ r. record {
-                given = go.given ++ a.says.raw;
-                out = go.out ++ answer_to a.says.raw;
-                line_limit = a.line_limit ∙ go.line_limit;
-                input_limit = a.input_limit ∙ go.input_limit;
-                going = a.finished;
-                taken = omega (arith, a.counted, go.taken, ap length r.0, ap length r.2, length-append old.held a.moved, length-append go.given a.says.raw);
-                within = omega (arith, a.says.within, a.input_limit, go.input_limit, a.counted, go.taken, ap length r.0, ap length r.2, length-append old.held a.moved, length-append go.given a.says.raw);
-                takes = subst (Consumes lo ln) (ap (λ (t : List ℕ). go.given ++ t) r.0 ∙ sym (append-nil (go.given ++ a.says.raw)) ∙ ap (λ (t : List ℕ). (go.given ++ a.says.raw) ++ t) (sym r.2)) (takes_more lo lm ln go.given old.held a.moved go.takes a.moves);
-                writes = written;
-                open_or_closed = inr (
-                  r.4,
-                  record {
-                    ends = close_line go.given go.out a.says.raw good o.1 a.says.whole r.1 short
-                        (omega (arith, a.says.within, a.input_limit, go.input_limit, a.counted, go.taken, ap length r.0, ap length r.2, length-append old.held a.moved));
-                    nothing = r.2;
-                    at_end = r.3;
-                  },
-                );
-              })
-              a.says.rest
+        -- a front of the whole output
+        front_of : AppendsFront wo wn (out ++ start.rules.closing start.base go.between) → (x : List ℕ) → before ≡ Some x → AppendsFront wo wn (ending start.rules x).output
+        front_of f x told =
+            subst (λ (t : List ℕ). AppendsFront wo wn (ending start.rules t).output) (sym (taken_is before ln x all.taken told all.takes all.at_end))
+            (subst (AppendsFront wo wn) (sym (ap (λ (e : Ending). e.output) ends)) f)
 
-      -- The loop's measure falls with each line.
-      pub falls : (rules.input_limit + length new.held) - new.taken < (rules.input_limit + length old.held) - old.taken
-      falls =
-          ⊎_elim
-          (λ r. omega (arith, a.says.within, a.input_limit, go.input_limit, go.within, a.counted, go.taken, ap length r.0, length-append old.held a.moved, length-append a.says.raw (10 ∷ new.held)))
-          (λ r. let some : 0 < length a.says.raw = nonempty a.says.raw r.1 in
-          omega (arith, a.says.within, a.input_limit, go.input_limit, go.within, a.counted, go.taken, ap length r.0, ap length r.2, length-append old.held a.moved))
-          a.says.rest
-        where
-          nonempty : (xs : List ℕ) → xs ≢ [] → 0 < length xs
-          nonempty [] h = absurd (h refl)
-          nonempty (x ∷ xs) h = omega arith
+        finished : (b : Bool) → good ≡ b → Appends wm wn (start.rules.closing start.base go.between) → kn ≡ km → Finishes start.rules (if b then 0 else 1) (outside before wo faults ko) (outside ln wn sn kn)
+        finished b is put same = record {
+          taken = all.taken;
+          takes = all.takes;
+          at_end = all.at_end;
+          ends = ap (λ (e : Ending). e.status) ends ∙ ap (λ (g : Bool). if g then 0 else 1) (sym go.all_good ∙ is);
+          writes = subst (Appends wo wn) (sym (ap (λ (e : Ending). e.output) ends)) (Appends-append wo wm wn out (start.rules.closing start.base go.between) go.writes put);
+          sink = same ∙ go.sink_same;
+        }
 
-      -- Memory for the answer was refused.
-      pub runs_out : (so ko kn : ℕ) → wn ≡ wm → kn ≡ ko → RunsOut course (outside lo wo so ko) (outside ln wn fn kn)
-      runs_out so ko kn none same = ⊎_elim from_open (λ c. absurd (cc ((a.done c.0).0))) go.open_or_closed
-        where
-          from_open : (old.ended ≡ false) × Opens go.given go.out good → RunsOut course (outside lo wo so ko) (outside ln wn fn kn)
-          from_open o = record {
-            answered = go.given;
-            rest = old.held ++ a.moved;
-            output = go.out;
-            takes = takes_more lo lm ln go.given old.held a.moved go.takes a.moves;
-            writes = subst (λ w. Appends wo w go.out) (sym none) go.writes;
-            ends = ap (course Failed) (sym (append-nil go.given)) ∙ o.1 Failed [] ∙ after-fixed good go.out 4 (omega arith);
-            sink = same;
-          }
+        put_whole : Appends wm wn (start.rules.closing start.base go.between) → AppendsFront wo wn (out ++ start.rules.closing start.base go.between)
+        put_whole put = whole_front (Appends-append wo wm wn out (start.rules.closing start.base go.between) go.writes put)
 
-      -- The answer to a line went out in part.
-      pub breaks_off : (so ko kn : ℕ) → AppendsFront wm wn (rules.answer base new.line) → Rose ko kn → BreaksOff course (outside lo wo so ko) (outside ln wn fn kn)
-      breaks_off so ko kn put rose = record { front = ⊎_elim from_open (λ c. absurd (cc ((a.done c.0).0))) go.open_or_closed; sink = rose }
-        where
-          front : AppendsFront wo wn (go.out ++ answer_to a.says.raw)
-          front = front-after go.out go.writes (subst (λ l. AppendsFront wm wn (rules.answer base l)) a.says.line put)
+        source : faults ≤ sn
+        source = omega (arith, earlier, go.source_later, a.later)
 
-          from_open : (old.ended ≡ false) × Opens go.given go.out good → (x : List ℕ) → lo ≡ Some x → AppendsFront wo wn (course Ended x).output
-          from_open o x told =
-              let l = left_is ln x (go.given ++ (old.held ++ a.moved)) (subst (λ (s : Option (List ℕ)). Consumes s ln (go.given ++ (old.held ++ a.moved))) told (takes_more lo lm ln go.given old.held a.moved go.takes a.moves)) in
-              ⊎_elim
-              (λ r.
-              let rest = new.held ++ l.0 in
-              let split : x ≡ (go.given ++ (a.says.raw ++ 10 ∷ [])) ++ rest =
-              l.2 ∙ ap (λ (t : List ℕ). (go.given ++ t) ++ l.0) r.0 ∙ append_assoc go.given (a.says.raw ++ 10 ∷ new.held) l.0
-              ∙ ap (λ (t : List ℕ). go.given ++ t) (append_assoc a.says.raw (10 ∷ new.held) l.0 ∙ sym (append_assoc a.says.raw (10 ∷ []) rest)) ∙ sym (append_assoc go.given (a.says.raw ++ 10 ∷ []) rest) in
-              let next = open_line go.given go.out a.says.raw good o.1 a.says.whole short
-              (omega (arith, a.says.within, a.input_limit, go.input_limit, a.counted, go.taken, ap length r.0, length-append old.held a.moved, length-append a.says.raw (10 ∷ new.held))) in
-              subst (AppendsFront wo wn) (ap (λ (e : Ending). e.output) (sym (next Ended rest) ∙ ap (course Ended) (sym split))) (front-longer _ front))
-              (λ r.
-              let none : l.0 ≡ [] = subst IsAtEnd l.1 r.3 in
-              let split : x ≡ go.given ++ a.says.raw = l.2 ∙ ap (λ (t : List ℕ). (go.given ++ (old.held ++ a.moved)) ++ t) none ∙ append-nil (go.given ++ (old.held ++ a.moved)) ∙ ap (λ (t : List ℕ). go.given ++ t) r.0 in
-              let last = close_line go.given go.out a.says.raw good o.1 a.says.whole r.1 short
-              (omega (arith, a.says.within, a.input_limit, go.input_limit, a.counted, go.taken, ap length r.0, ap length r.2, length-append old.held a.moved)) in
-              subst (AppendsFront wo wn) (ap (λ (e : Ending). e.output) (sym last ∙ ap (course Ended) (sym split))) front)
-              a.says.rest
+        by_end : (e : End) → ClosesRun start.rules wm wn km kn good (start.rules.closing start.base go.between) e → Ends wn kn e
+        by_end Done q = record { to = finished true q.0 q.1 q.2; front = front_of (put_whole q.1); source_later = source; sink_later = omega (arith, q.2, go.sink_same) }
+        by_end SomeBad q = record { to = finished false q.0 q.1 q.2; front = front_of (put_whole q.1); source_later = source; sink_later = omega (arith, q.2, go.sink_same) }
+        by_end SinkFailed q = record { to = omega (arith, q.1, go.sink_same); front = front_of (front-after out go.writes q.0); source_later = source; sink_later = omega (arith, q.2, go.sink_same) }
+        by_end Memory q = record {
+          to = record {
+            takes_memory = q.0;
+            whole = start.base ∷ go.between;
+            base_taken = taken;
+            writes = subst (λ (w : Option (List ℕ)). Appends wo w out) (sym q.1) go.writes;
+            sink = q.2 ∙ go.sink_same;
+          };
+          front = front_of (front-longer (start.rules.closing start.base go.between) (whole_front (subst (λ (w : Option (List ℕ)). Appends wo w out) (sym q.1) go.writes)));
+          source_later = source;
+          sink_later = omega (arith, q.2, go.sink_same);
+        }
+        by_end BadBase q = absurd q
+        by_end SourceFailed q = absurd q
+        by_end LineTooLong q = absurd q
+        by_end InputTooLong q = absurd q
 
-  -- what a source has left is the rest of what is still to come
-  held_first : (left : Option (List ℕ)) (held : List ℕ) → Consumes (still_to_come held left) left held
-  held_first None held = tt
-  held_first (Some x) held = refl
+    -- The reader answered a fault.
+    pub stops_at : (fault : LineFault) (end : End) → end ≡ end_at fault → Advances old new lm ln sm sn (Err fault) → Ends wm km end
+    stops_at fault end is a = subst (Ends wm km) (sym is) (record { to = by_fault fault a; front = front_of; source_later = omega (arith, earlier, go.source_later, a.later); sink_later = omega (arith, go.sink_same) })
+      where
+        front_of : (x : List ℕ) → before ≡ Some x → AppendsFront wo wm (ending start.rules x).output
+        front_of x told =
+            let h = first_read start.rules start.base taken before lm old go.between (go.read before first) x told in
+            subst (AppendsFront wo wm) (sym h.1) (front-longer h.0 (whole_front go.writes))
 
-  -- A reader behind the base line.
-  pub start : (left wo : Option (List ℕ)) (r : LineState) → IsAtReferences rules left r → Goes (rest_of rules base r) (r.taken - length r.held) (still_to_come r.held left) left wo wo r true
-  start left wo r at = record {
-    given = [];
-    out = [];
-    line_limit = at.line_limit;
-    input_limit = at.input_limit;
-    going = at.going;
-    taken = omega (arith, at.counted);
-    within = omega (arith, at.counted, at.within);
-    takes = held_first left r.held;
-    writes = Appends-none wo;
-    open_or_closed = cases r.ended refl;
-  }
-    where
-      cases : (b : Bool) → r.ended ≡ b → ((r.ended ≡ false) × Opens (rest_of rules base r) (r.taken - length r.held) [] [] true) ⊎ ((r.ended ≡ true) × IsClosed rules (references_from rules base) (rest_of rules base r) (r.taken - length r.held) [] [] r.held true left)
-      cases false is = inl (is, λ s y. ap (λ (b : Bool). if b then record { status = 0; output = [] } else references_from rules base s (r.taken - length r.held) [] y) is ∙ ap (λ (p : ℕ). references_from rules base s p [] y) (sym (add-zero (r.taken - length r.held))))
-      cases true is = inr (
-        is,
-        record {
-          ends = ap (λ (b : Bool). if b then record { status = 0; output = [] } else references_from rules base Ended (r.taken - length r.held) [] []) is;
-          nothing = (at.closed is).0;
-          at_end = (at.closed is).1;
-        },
-      )
+        decided : (status : ℕ) → ReadsPast start.rules status before ln (start.base ∷ go.between) → Decides start.rules status (outside before wo faults ko) (outside ln wm sn km)
+        decided status r = record {
+          taken = r.taken;
+          takes = r.takes;
+          ends = λ more. ap (λ (e : Ending). e.status) (ends_past start.rules start.base taken status before ln go.between r more);
+          writes = λ more. subst (Appends wo wm) (sym (ap (λ (e : Ending). e.output) (ends_past start.rules start.base taken status before ln go.between r more))) go.writes;
+          sink = go.sink_same;
+        }
+
+        short : (f : LineFault) → f ≡ Source → Advances old new lm ln sm sn (Err f) → ReadsSome start.rules before ln (start.base ∷ go.between) → StopsShort start.rules (outside before wo faults ko) (outside ln wm sn km)
+        short f is b r = record {
+          taken = r.taken;
+          takes = r.takes;
+          passes = r.passes;
+          base_taken = subst (IsBaseTaken start.rules) (sym r.ended) taken;
+          writes = subst (λ (t : List (List ℕ)). Appends wo wm (answered start.rules t)) (sym r.ended) go.writes;
+          source = rose (subst (λ (e : LineFault). Advances old new lm ln sm sn (Err e)) is b);
+          sink = go.sink_same;
+        }
+          where
+            rose : Advances old new lm ln sm sn (Err Source) → Rose faults sn
+            rose c = omega (arith, c.cause, earlier, go.source_later)
+
+        by_fault : (f : LineFault) → Advances old new lm ln sm sn (Err f) → RanTo start.rules (outside before wo faults ko) (outside ln wm sn km) (end_at f)
+        by_fault Source b = short Source refl b (reads_some start.rules before lm ln sm sn old new (start.base ∷ go.between) go.going (go.read before first) b)
+        by_fault FaultLineTooLong b = decided 7 (reads_long start.rules before lm ln sm sn old new (start.base ∷ go.between) go.going (go.read before first) b)
+        by_fault FaultInputTooLong b = decided 8 (reads_over start.rules before lm ln sm sn old new (start.base ∷ go.between) go.going (go.read before first) b)
+
+-- The sink failed before the first line.
+pub fails_first : (start : Answering) (reader : LineState) (before left wo wn : Option (List ℕ)) (faults sn ko kn : ℕ) → start.rules.refusal start.base ≡ None → HasRead start.rules before left reader (start.base ∷ []) → wn ≡ wo
+    → Rose ko kn → faults ≤ sn → ko ≤ kn → Ran start.rules (outside before wo faults ko) (outside left wn sn kn) SinkFailed
+fails_first start reader before left wo wn faults sn ko kn taken read kept rose later sink = record {
+  to = rose;
+  front = λ x told.
+      let h = first_read start.rules start.base taken before left reader [] read x told in
+      subst (λ (w : Option (List ℕ)). AppendsFront wo w (ending start.rules x).output) (sym kept) (record { front = []; rest = (ending start.rules x).output; split = refl; appended = Appends-none wo });
+  source_later = later;
+  sink_later = sink;
+}

@@ -16,10 +16,10 @@ use Rattle.iri_cli.specs.declared.command.Grammar.{Grammar}
 use Rattle.iri_cli.specs.declared.command.Grammar.TheVariants.{Uri, Iri}
 use Rattle.iri_cli.specs.Answer.{refusal, words_of_fault, answer, AnswersAreCanonical}
 
-fault_none : (f : List ℕ → Option ErrorKind) (bs : List ℕ) → bytes_fault f bs ≡ None → f bs ≡ None
+pub fault_none : (f : List ℕ → Option ErrorKind) (bs : List ℕ) → bytes_fault f bs ≡ None → f bs ≡ None
 fault_none f bs = elim (is_utf8 bs) as (λ b. cond b (f bs) (Some InvalidUtf8) ≡ None → f bs ≡ None) [ true ↦ λ h. h | false ↦ λ h. cc ]
 
-refused_none : (k : Option ErrorKind) → words_of_fault k ≡ None → k ≡ None
+pub refused_none : (k : Option ErrorKind) → words_of_fault k ≡ None → k ≡ None
 refused_none None h = refl
 refused_none (Some k) h = cc
 

@@ -1,10 +1,11 @@
 pub mod AnswerLemmas
 pub mod BytesLemmas
-mod Scan
-mod Going
-mod Answered
-mod Base
-mod Joined
-mod Next
-mod PlainLemmas
-mod Closed
+pub mod LineSteps
+pub mod Reading
+pub mod Ends
+pub mod Answered
+pub mod BaseLine
+pub mod RunLemmas
+pub mod CanonLemmas
+pub mod GenLemmas
+pub mod GenReferences

@@ -1,37 +1,33 @@
--- What is written for an input of lines, and the status in which that ends.
--- The first line is the base. Each further line is a reference, and has one answer line.
-use Rattle.std.specs.Prelude.{ℕ, ◌+◌, ◌==◌, nat_le, nat_eq, codes, Bool, List, [], ◌∷◌, ◌++◌, length, Option, None, Some, if◌then◌else◌}
-use Rattle.std.specs.List.{starts_with}
-use Rattle.iri_text.specs.Lines.{no_cr}
+-- The ending of an input: the status in which a run over its lines ends, and what it writes.
+-- The first line is the base. What a command writes for each further line may depend on the lines between.
+use Rattle.std.specs.Prelude.{◌≡◌, ℕ, ◌+◌, ◌==◌, nat_le, codes, Bool, List, [], ◌∷◌, ◌++◌, take, Option, None, Some, if◌then◌else◌}
+use Rattle.std.specs.List.{concat, list_all}
+use Rattle.iri_text.specs.Lines.{no_cr, lines}
 
--- What a command says: how many bytes a line may have before its LF, and how many the input;
--- in words why a base line is refused, None where it is taken; and the line, with its LF, that answers a reference line against a base.
+-- What a command says of the lines of its input.
 pub record Rules : Type 0 where
+  -- how many bytes a line may have before its LF, and how many the input may have
   pub line_limit : ℕ
   pub input_limit : ℕ
+  -- why a base line is refused, None where it is taken
   pub refusal : List ℕ → Option (List ℕ)
-  pub answer : List ℕ → List ℕ → List ℕ
-
--- what stands behind the last byte: the input ends, or its source fails
-pub data Stop : Type 0 where
-  Ended : Stop
-  Failed : Stop
+  -- the answer, with its LF, to a line behind a base and the lines between them; no bytes where the line has no answer
+  pub answer : List ℕ → List (List ℕ) → List ℕ → List ℕ
+  -- whether a run with this answer may end in status 0
+  pub is_good : List ℕ → Bool
+  -- what is written behind the answers to all of the lines
+  pub closing : List ℕ → List (List ℕ) → List ℕ
+  -- whether answers take memory, so that it may be refused at a line
+  pub takes_memory : Bool
 
 pub record Ending : Type 0 where
   pub status : ℕ
   pub output : List ℕ
 
--- an answer is good where it begins with "ok "
-abbrev pub is_good : List ℕ → Bool
-is_good answer = starts_with nat_eq answer (codes "ok ")
-
--- a status with good or bad answers before it: 0 becomes 1 where one was bad
-abbrev pub status_after : Bool → ℕ → ℕ
-status_after good status = if good then status else (if status == 0 then 1 else status)
-
--- an ending with answers before it, all of them good or not
-abbrev pub after : Bool → List ℕ → Ending → Ending
-after good answers e = record { status = status_after good e.status; output = answers ++ e.output }
+-- a limit that is passed: the status in which that ends the run, and how many bytes stand before the first byte past the limit
+pub record Passed : Type 0 where
+  pub status : ℕ
+  pub place : ℕ
 
 -- the line that says why a base line is refused
 abbrev pub base_line : List ℕ → List ℕ
@@ -42,46 +38,71 @@ abbrev pub unless_refused : Option (List ℕ) → Ending → Ending
 unless_refused None e = e
 unless_refused (Some words) e = record { status = 3; output = base_line words }
 
--- where the source fails, 4, and a line that no LF ended isn't answered
-abbrev pub failed : Ending
-failed = record { status = 4; output = [] }
+-- the lines that an LF ends in these bytes, where the first of them begins with the bytes of `front`
+abbrev pub ended_from : List ℕ → List ℕ → List (List ℕ)
+ended_from front [] = []
+ended_from front (b ∷ bs) = if b == 10 then no_cr front ∷ ended_from [] bs else ended_from (front ++ b ∷ []) bs
+
+-- the lines that an LF ends in these bytes
+abbrev pub ended_lines : List ℕ → List (List ℕ)
+ended_lines bytes = ended_from [] bytes
 
 module _ (rules : Rules) where
-  -- behind the last byte of the reference lines: what follows the last LF is a line where it has a byte
-  abbrev pub references_end : List ℕ → Stop → List ℕ → Ending
-  references_end base Failed raw = failed
-  references_end base Ended [] = record { status = 0; output = [] }
-  references_end base Ended (b ∷ raw) =
-      let answer = rules.answer base (no_cr (b ∷ raw)) in after (is_good answer) answer (record { status = 0; output = [] })
+  -- the first limit that is passed in these bytes, where `place` bytes stand before them, the last `len` of these on the line that goes on
+  abbrev pub passed_from : ℕ → ℕ → List ℕ → Option Passed
+  passed_from place len [] = None
+  passed_from place len (b ∷ bs) =
+      if nat_le rules.input_limit place then Some (record { status = 8; place = place })
+      else (if b == 10 then passed_from (place + 1) 0 bs
+      else (if nat_le rules.line_limit len then Some (record { status = 7; place = place })
+      else passed_from (place + 1) (len + 1) bs))
 
-  -- The reference lines, byte by byte. `place` bytes stand before, and the last ones of them, `raw`, are of the line that goes on here.
-  -- 8 at a byte past the limit of the input, 7 at one past the limit of its line.
-  abbrev pub references_from : List ℕ → Stop → ℕ → List ℕ → List ℕ → Ending
-  references_from base stop place raw [] = references_end base stop raw
-  references_from base stop place raw (b ∷ bytes) =
-      if nat_le rules.input_limit place then record { status = 8; output = [] }
-      else (if b == 10 then after (is_good (rules.answer base (no_cr raw))) (rules.answer base (no_cr raw)) (references_from base stop (place + 1) [] bytes)
-      else (if nat_le rules.line_limit (length raw) then record { status = 7; output = [] }
-      else references_from base stop (place + 1) (raw ++ b ∷ []) bytes))
+  -- The first limit that is passed: 8 at the first byte past the limit of the input, 7 at a byte other than an LF past the limit of its line,
+  -- and 8 where both are one byte. A CR counts.
+  abbrev pub first_passed : List ℕ → Option Passed
+  first_passed input = passed_from 0 0 input
 
-  -- behind the last byte, where that is of the base line
-  abbrev pub base_end : Stop → List ℕ → Ending
-  base_end Failed raw = failed
-  base_end Ended raw = unless_refused (rules.refusal (no_cr raw)) (record { status = 0; output = [] })
+  -- the answers to lines, where others stand between them and the base
+  abbrev pub answers_behind : List ℕ → List (List ℕ) → List (List ℕ) → List (List ℕ)
+  answers_behind base between [] = []
+  answers_behind base between (line ∷ rest) = rules.answer base between line ∷ answers_behind base (between ++ line ∷ []) rest
 
-  -- the same from a byte of the base line on
-  abbrev pub base_from : Stop → ℕ → List ℕ → List ℕ → Ending
-  base_from stop place raw [] = base_end stop raw
-  base_from stop place raw (b ∷ bytes) =
-      if nat_le rules.input_limit place then record { status = 8; output = [] }
-      else (if b == 10 then unless_refused (rules.refusal (no_cr raw)) (references_from (no_cr raw) stop (place + 1) [] bytes)
-      else (if nat_le rules.line_limit (length raw) then record { status = 7; output = [] }
-      else base_from stop (place + 1) (raw ++ b ∷ []) bytes))
+  -- the answers to the lines behind a base
+  abbrev pub answers : List ℕ → List (List ℕ) → List (List ℕ)
+  answers base rest = answers_behind base [] rest
 
-  -- how a run over these bytes ends, where they are the whole input or its source fails behind them
-  abbrev pub run_over : Stop → List ℕ → Ending
-  run_over stop bytes = base_from stop 0 [] bytes
+  -- the base among these lines is taken
+  abbrev pub IsBaseTaken : List (List ℕ) → Type 0
+  IsBaseTaken [] = Unit {0}
+  IsBaseTaken (base ∷ rest) = rules.refusal base ≡ None
 
-  -- how a run over an input ends
+  -- all answers to lines whose base is taken
+  abbrev pub answered : List (List ℕ) → List ℕ
+  answered [] = []
+  answered (base ∷ rest) = concat (answers base rest)
+
+  -- the ending where the lines go to the end of the input: 1 where some answer isn't good
+  abbrev pub completed : List ℕ → List (List ℕ) → Ending
+  completed base rest = unless_refused (rules.refusal base) (record {
+    status = if list_all rules.is_good (answers base rest) then 0 else 1;
+    output = concat (answers base rest) ++ rules.closing base rest;
+  })
+
+  -- the same by all lines; where there is none the base is the empty text
+  abbrev pub completed_lines : List (List ℕ) → Ending
+  completed_lines [] = completed [] []
+  completed_lines (base ∷ rest) = completed base rest
+
+  -- the ending in a status behind these lines
+  abbrev pub stopped : ℕ → List (List ℕ) → Ending
+  stopped status [] = record { status = status; output = [] }
+  stopped status (base ∷ rest) = unless_refused (rules.refusal base) (record { status = status; output = concat (answers base rest) })
+
+  abbrev pub ending_by : List ℕ → Option Passed → Ending
+  ending_by input None = completed_lines (lines input)
+  ending_by input (Some passed) = stopped passed.status (ended_lines (take passed.place input))
+
+  -- The first event decides. Where a limit is passed, that is the first event but for a refused base whose LF stands before:
+  -- then the lines are answered whose LF stands before that byte. Otherwise all lines are.
   abbrev pub ending : List ℕ → Ending
-  ending input = run_over Ended input
+  ending input = ending_by input (first_passed input)

@@ -1,16 +1,22 @@
--- The run over lines, worked on small inputs: lines of at most 4 bytes, inputs of at most 12. An answer is the line itself, and an empty base is refused.
-use Rattle.std.specs.Prelude.{◌≡◌, ℕ, codes, List, [], ◌∷◌, ◌++◌, Option, None, Some, refl}
-use Rattle.iri_cli.specs.Ending.{Rules, Failed, ending, run_over}
+-- The ending of an input, worked on small inputs: lines of at most 4 bytes, inputs of at most 12. An answer is the line itself, and an empty base is refused.
+use Rattle.std.specs.Prelude.{◌≡◌, ℕ, codes, nat_eq, true, false, List, [], ◌∷◌, ◌++◌, Option, None, Some, refl}
+use Rattle.std.specs.List.{starts_with}
+use Rattle.iri_cli.specs.Ending.{Rules, ending}
 
 abbrev refusal : List ℕ → Option (List ℕ)
 refusal [] = Some (codes "empty")
 refusal (b ∷ line) = None
 
-abbrev echo : List ℕ → List ℕ → List ℕ
-echo base line = line ++ 10 ∷ []
-
 abbrev small : Rules
-small = record { line_limit = 4; input_limit = 12; refusal = refusal; answer = echo }
+small = record {
+  line_limit = 4;
+  input_limit = 12;
+  refusal = refusal;
+  answer = λ base between line. line ++ 10 ∷ [];
+  is_good = λ answer. starts_with nat_eq answer (codes "ok ");
+  closing = λ base between. [];
+  takes_memory = false;
+}
 
 -- the last line has no LF, and the base line a CR before its LF
 pub answers_all_lines : ending small (codes "b" ++ 13 ∷ 10 ∷ (codes "ok x" ++ 10 ∷ codes "ok y")) ≡ record { status = 0; output = codes "ok x" ++ 10 ∷ (codes "ok y" ++ 10 ∷ []) }
@@ -33,13 +39,26 @@ refused_base = refl
 pub long_line : ending small (codes "b" ++ 10 ∷ (codes "c" ++ 10 ∷ (codes "abcd" ++ 13 ∷ 10 ∷ []))) ≡ record { status = 7; output = codes "c" ++ 10 ∷ [] }
 long_line = refl
 
+-- a base line that is too long isn't judged
+pub long_base : ending small (codes "abcde" ++ 10 ∷ []) ≡ record { status = 7; output = [] }
+long_base = refl
+
 -- the thirteenth byte is the fifth of its line, too
 pub over_before_long : ending small (codes "bbb" ++ 10 ∷ (codes "ccc" ++ 10 ∷ codes "abcde")) ≡ record { status = 8; output = codes "ccc" ++ 10 ∷ [] }
 over_before_long = refl
 
--- the source fails within a line, and within the base line
-pub fault_in_a_line : run_over small Failed (codes "b" ++ 10 ∷ (codes "c" ++ 10 ∷ codes "ab")) ≡ record { status = 4; output = codes "c" ++ 10 ∷ [] }
-fault_in_a_line = refl
+-- the thirteenth byte is an LF: the line before it isn't answered
+pub over_at_lf : ending small (codes "bbb" ++ 10 ∷ (codes "ccc" ++ 10 ∷ (codes "abcd" ++ 10 ∷ []))) ≡ record { status = 8; output = codes "ccc" ++ 10 ∷ [] }
+over_at_lf = refl
 
-pub fault_in_the_base : run_over small Failed [] ≡ record { status = 4; output = [] }
-fault_in_the_base = refl
+-- An answer may tell of the lines before, a line may have no answer, and a text may follow: here each line is answered by that before it.
+abbrev last : List (List ℕ) → List ℕ
+last [] = []
+last (line ∷ []) = line ++ 10 ∷ []
+last (line ∷ next ∷ between) = last (next ∷ between)
+
+abbrev behind : Rules
+behind = record small { answer = λ base between line. last between; closing = λ base between. base ++ 10 ∷ []; is_good = λ answer. true }
+
+pub answers_by_lines_before : ending behind (codes "b" ++ 10 ∷ (codes "x" ++ 10 ∷ (codes "y" ++ 10 ∷ codes "z"))) ≡ record { status = 0; output = codes "x" ++ 10 ∷ (codes "y" ++ 10 ∷ (codes "b" ++ 10 ∷ [])) }
+answers_by_lines_before = refl

@@ -1,10 +1,14 @@
 pub mod Ending
-pub mod Plain
 pub mod Answer
 pub mod Words
 pub mod Run
-pub mod Closes
 pub mod Notices
-pub mod Puts
+pub mod Buffers
+pub mod Read
 pub mod Steps
+pub mod Answering
+pub mod CanonAnswers
+pub mod Closes
+pub mod Gen
+pub mod GenExamples
 pub mod Examples

@@ -12,12 +12,14 @@ help_text =
     codes "irikit: canonical texts of URI and IRI references (RFC 3986, RFC 3987)\n"
     ++ (codes "  irikit canon uri   reads a base line and reference lines, and answers each reference line by one line\n"
     ++ (codes "  irikit canon iri   does the same by the grammar of IRIs\n"
+    ++ (codes "  irikit gen uri N   makes N references (from 1 to 100000) and tells of their canonical texts; reads nothing\n"
+    ++ (codes "  irikit gen iri N   does the same by the grammar of IRIs\n"
     ++ (codes "  irikit --help      writes this text\n"
     ++ (codes "  irikit --version   writes the version\n"
     ++ (codes "Answers: 'ok ' and the canonical text, or 'bad ' and the first fault of the reference;\n"
     ++ (codes "  where the base is refused, the one line 'base ' and its first fault\n"
     ++ (codes "Statuses: 0 every answer is ok, 1 some answer is bad, 2 the words are no command, 3 the base is refused,\n"
-    ++ codes "  4 reading failed, 5 writing failed, 6 memory was refused, 7 a line is too long, 8 the input is too long\n")))))))
+    ++ codes "  4 reading failed, 5 writing failed, 6 memory was refused, 7 a line is too long, 8 the input is too long\n")))))))))
 
 abbrev pub version_text : List ℕ
 version_text = codes "irikit 0.1.0\n"

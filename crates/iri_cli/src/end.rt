@@ -42,9 +42,9 @@ pub fn status(end: End) -> u8
     }
 }
 
-/// How a run ends once its sink has handed on what it holds back. A sink that failed isn't asked again.
+/// How a run ends once its sink is flushed. A sink that failed isn't asked again.
 pub fn close<O: Sink>(sink: &mut O, end: End) -> End
-    ensures { Closes (O.written sink.old) (O.written sink.new) (O.unflushed sink.new) (O.faults sink.old) (O.faults sink.new) end result }
+    ensures { Closes (O.written sink.old) (O.written sink.new) (O.faults sink.old) (O.faults sink.new) end result }
 {
     match end {
         End::SinkFailed => end,

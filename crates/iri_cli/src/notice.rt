@@ -1,4 +1,4 @@
-// What the program tells of itself.
+//! What the program tells of itself.
 ghost use Rattle.std.specs.Prelude.{◌≡◌, ◌≢◌, false, MatchOption};
 ghost use Rattle.iri_cli.specs.Notices.{text_of, PutsText};
 ghost use Rattle.iri_cli.specs.Words.{notice_word};
@@ -20,6 +20,8 @@ const HELP: &str = "\
 irikit: canonical texts of URI and IRI references (RFC 3986, RFC 3987)
   irikit canon uri   reads a base line and reference lines, and answers each reference line by one line
   irikit canon iri   does the same by the grammar of IRIs
+  irikit gen uri N   makes N references (from 1 to 100000) and tells of their canonical texts; reads nothing
+  irikit gen iri N   does the same by the grammar of IRIs
   irikit --help      writes this text
   irikit --version   writes the version
 Answers: 'ok ' and the canonical text, or 'bad ' and the first fault of the reference;
@@ -41,7 +43,7 @@ fn text(notice: Notice) -> &'static str
 }
 
 /// The notice that is asked for by this word.
-pub fn notice_of(word: &str) -> Option<Notice>
+pub(crate) fn notice_of(word: &str) -> Option<Notice>
     ensures { MatchOption result ((notice : Notice) → word.now ≢ notice_word notice) (λ notice. word.now ≡ notice_word notice) }
 {
     if word == "--help" {
@@ -53,13 +55,19 @@ pub fn notice_of(word: &str) -> Option<Notice>
     }
 }
 
-/// Writes a notice, hands it on, and gives the program's status.
-pub fn tell<O: Sink>(notice: Notice, sink: &mut O) -> u8
-    ensures puts { PutsText (text_of notice) (O.written sink.old) (O.written sink.new) (O.faults sink.old) (O.faults sink.new) result }
-    ensures handed_on { result ≢ 5 → O.unflushed sink.new ≡ false }
+/// Writes a text, flushes the sink, and gives the program's status.
+pub(crate) fn put_text<O: Sink>(text: &str, sink: &mut O) -> u8
+    ensures { PutsText text.now (O.written sink.old) (O.written sink.new) (O.faults sink.old) (O.faults sink.new) result }
 {
-    match sink.put_all(text(notice).as_bytes()) {
+    match sink.put_all(text.as_bytes()) {
         Ok(()) => status(close(sink, End::Done)),
         Err(Failed) => status(End::SinkFailed),
     }
+}
+
+/// Writes a notice, flushes the sink, and gives the program's status.
+pub(crate) fn tell<O: Sink>(notice: Notice, sink: &mut O) -> u8
+    ensures { PutsText (text_of notice) (O.written sink.old) (O.written sink.new) (O.faults sink.old) (O.faults sink.new) result }
+{
+    put_text(text(notice), sink)
 }

@@ -1,7 +1,10 @@
-ghost use Rattle.std.specs.Prelude.{◌<◌, length, All};
+ghost use Rattle.std.specs.Prelude.{◌<◌, length, All, None};
 
+use crate::buffers::CanonBuffers;
+use crate::canon_lines::canon_lines;
 use crate::run::run;
-use iri_text::{MemorySink, MemorySource, PlainSource, Source};
+use iri_grammar::spec::UriSpec;
+use iri_text::{Failed, MemorySink, MemorySource, PlainSource, Sink, Source};
 use std::test::Fail;
 
 // Whether the run of these words over the source ends in this status and writes this, where the sink fails at these calls.
@@ -65,9 +68,14 @@ fn line_ends(rt: HostRuntime) -> Result<(), Fail> {
 
 #[test]
 fn words_that_are_no_command(rt: HostRuntime) -> Result<(), Fail> {
-    let lists: [&[&str]; 5] = [
+    let lists: [&[&str]; 10] = [
         &[],
         &["canon"],
+        &["gen", "uri", "0"],
+        &["gen", "uri", "01"],
+        &["gen", "uri", "100001"],
+        &["gen", "uri"],
+        &["gen", "url", "1"],
         &["canon", "url"],
         &["Canon", "uri"],
         &["canon", "uri", "x"],
@@ -103,6 +111,8 @@ const HELP: &str = "\
 irikit: canonical texts of URI and IRI references (RFC 3986, RFC 3987)
   irikit canon uri   reads a base line and reference lines, and answers each reference line by one line
   irikit canon iri   does the same by the grammar of IRIs
+  irikit gen uri N   makes N references (from 1 to 100000) and tells of their canonical texts; reads nothing
+  irikit gen iri N   does the same by the grammar of IRIs
   irikit --help      writes this text
   irikit --version   writes the version
 Answers: 'ok ' and the canonical text, or 'bad ' and the first fault of the reference;
@@ -136,8 +146,8 @@ fn long_line(rt: &HostRuntime, front: &[u8], count: usize) -> Result<Vec<u8>, Fa
 fn long_lines(rt: HostRuntime) -> Result<(), Fail> {
     let input = long_line(&rt, b"http://a/\ng\n", 65537)?;
     assert!(rt; canon_uri(&rt, &input, 7, b"ok http://a/g\n")?);
-    let input = long_line(&rt, b"http://a/\n", 65536)?;
-    let mut output = long_line(&rt, b"ok http://a/", 65536)?;
+    let input = long_line(&rt, b"http://a/\ng\n", 65536)?;
+    let mut output = long_line(&rt, b"ok http://a/g\nok http://a/", 65536)?;
     output.push(b'\n')?;
     assert!(rt; canon_uri(&rt, &input, 0, &output)?);
     Ok(())
@@ -342,5 +352,61 @@ fn bases_that_are_refused(rt: HostRuntime) -> Result<(), Fail> {
     assert!(rt; base_is_refused(&rt, b"", relative)?);
     assert!(rt; base_is_refused(&rt, b"http://a/#f\ng", b"base unexpected fragment\n")?);
     assert!(rt; base_is_refused(&rt, b"\xff\ng", b"base invalid utf-8 bytes\n")?);
+    Ok(())
+}
+
+// The buffers are made where there is memory, and the lines are answered in them.
+#[test]
+fn lines_in_buffers(rt: HostRuntime) -> Result<(), Fail> {
+    let buffers = CanonBuffers::new(rt.alloc())?;
+    let mut source = PlainSource::new(b"http://a/b/c/d;p?q\n../../../g\n");
+    let mut room = [0; 64];
+    let mut sink = MemorySink::new(&mut room, &[]);
+    let status = canon_lines::<UriSpec, PlainSource, MemorySink>(buffers, &mut source, &mut sink);
+    assert!(rt; status == 0);
+    assert!(rt; sink.written() == b"ok http://a/g\n".as_slice());
+    Ok(())
+}
+
+// One reference is `e/%2E`, whose canonical text `http://a/b/c/e/` has 15 bytes.
+#[test]
+fn made_references(rt: HostRuntime) -> Result<(), Fail> {
+    let output = b"lines 1\nbytes 15\nsum 1183\n";
+    for grammar in ["uri", "iri"] {
+        let words = ["gen", grammar, "1"];
+        let mut source = PlainSource::new(b"a");
+        assert!(rt; answers(&rt, &words, &mut source, &[], 0, output)?);
+        assert!(rt; matches!(source.take(&mut [0; 2]), Ok(1)));
+        assert!(rt; answers(&rt, &words, &mut PlainSource::new(b"a"), &[1], 5, b"")?);
+    }
+    Ok(())
+}
+
+// A sink that counts bytes, of which `put_all` alone is given.
+#[derive(Drop)]
+struct Counted {
+    bytes: usize,
+}
+
+impl Sink for Counted {
+    ghost written = { λ _. None };
+
+    ghost faults = { λ _. 0 };
+
+    fn put_all(&mut self, piece: &[u8]) -> Result<(), Failed> {
+        self.bytes = self.bytes.wrapping_add(piece.len());
+        Ok(())
+    }
+}
+
+#[test]
+fn a_sink_gives_one_call(rt: HostRuntime) -> Result<(), Fail> {
+    let mut words = Vec::new(rt.alloc());
+    words.push(String::from_str(rt.alloc(), "canon")?)?;
+    words.push(String::from_str(rt.alloc(), "uri")?)?;
+    let mut sink = Counted { bytes: 0 };
+    let mut source = PlainSource::new(b"http://a/\nb\n");
+    assert_eq!(rt; run(rt.alloc(), &words, &mut source, &mut sink), 0);
+    assert_eq!(rt; sink.bytes, b"ok http://a/b\n".len());
     Ok(())
 }

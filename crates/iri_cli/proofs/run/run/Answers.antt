@@ -1,6 +1,12 @@
-use Rattle.iri_cli.specs.Words.{tests_of}
-use Rattle.iri_cli.specs.declared.command.Command.TheVariants.{Canon, Tell}
+use Rattle.std.proofs.Common.{◌≡◌, ◌⊎◌, ℕ, map, string_bytes, subst, sym}
+use Rattle.iri_cli.specs.Words.{IsCommand, tests_of}
+use Rattle.iri_cli.specs.declared.command.Command.TheVariants.{Canon, Gen, Tell}
 use Rattle.iri_cli.proofs.BytesLemmas.{canonical_answers, grammar_is_spec}
+use Rattle.iri_cli.specs.Gen.{gen_text}
+use Rattle.iri_cli.specs.Notices.{Tells}
+use Rattle.iri_cli.specs.Run.{outside}
+use Rattle.iri_cli.specs.declared.command.Grammar.{Grammar}
+use Rattle.iri_cli.proofs.GenLemmas.{one_gen, told}
 use Rattle.iri_cli.proofs.run.run.Goals as goal
 
 pub returns-in-Some-Canon-clause-canonical : goal.returns-in-Some-Canon-clause-canonical
@@ -8,6 +14,9 @@ returns-in-Some-Canon-clause-canonical g c = λ grammar _ base line taken none. 
 
 pub returns-in-Some-Tell-clause-canonical : goal.returns-in-Some-Tell-clause-canonical
 returns-in-Some-Tell-clause-canonical g c = λ grammar _ base line taken none. canonical_answers (tests_of grammar) (grammar_is_spec grammar) base line taken none
+
+pub returns-in-Some-Gen-clause-canonical : goal.returns-in-Some-Gen-clause-canonical
+returns-in-Some-Gen-clause-canonical g c = λ grammar _ base line taken none. canonical_answers (tests_of grammar) (grammar_is_spec grammar) base line taken none
 
 pub returns-in-None-clause-canonical : goal.returns-in-None-clause-canonical
 returns-in-None-clause-canonical g c = λ grammar _ base line taken none. canonical_answers (tests_of grammar) (grammar_is_spec grammar) base line taken none
@@ -18,5 +27,20 @@ returns-in-None-clause-tells g c = λ notice is. absurd (c.in-None.ensures (Tell
 pub returns-in-None-clause-canon : goal.returns-in-None-clause-canon
 returns-in-None-clause-canon g c = λ grammar is. absurd (c.in-None.ensures (Canon grammar) is)
 
-pub returns-in-None-clause-completes : goal.returns-in-None-clause-completes
-returns-in-None-clause-completes g c = λ grammar is input left ends sourced sunk. absurd (c.in-None.ensures (Canon grammar) is)
+pub returns-in-None-clause-gens : goal.returns-in-None-clause-gens
+returns-in-None-clause-gens g c = λ grammar count is. absurd (c.in-None.ensures (Gen grammar count) is)
+
+pub returns-in-Some-Gen-clause-gens : goal.returns-in-Some-Gen-clause-gens
+returns-in-Some-Gen-clause-gens g c = λ grammar count is.
+    let left = g.I.Source.left c.args.source.now in
+    let faults = g.I.Source.faults c.args.source.now in
+    let wo = g.O.Sink.written c.args.sink.now in
+    let wn = g.O.Sink.written c.generate.new.sink in
+    let ko = g.O.Sink.faults c.args.sink.now in
+    let kn = g.O.Sink.faults c.generate.new.sink in
+    let words = map string_bytes c.args.words.now in
+    let found : IsCommand words (Gen c.in-Some-Gen.grammar c.in-Some-Gen.count) = subst (IsCommand words) c.in-Some-Gen.field-0-is c.in-Some-Gen.ensures in
+    let same = one_gen words grammar c.in-Some-Gen.grammar count c.in-Some-Gen.count is found in
+    let end = told (gen_text (tests_of c.in-Some-Gen.grammar) c.in-Some-Gen.count) left wo wn faults ko kn c.generate.result c.generate.ensures in
+    subst (λ (a : Grammar). Tells (gen_text (tests_of a) count) (outside left wo faults ko) (outside left wn faults kn) c.generate.result ⊎ ((c.generate.result ≡ 6) × (outside left wn faults kn ≡ outside left wo faults ko))) (sym same.0)
+    (subst (λ (n : ℕ). Tells (gen_text (tests_of c.in-Some-Gen.grammar) n) (outside left wo faults ko) (outside left wn faults kn) c.generate.result ⊎ ((c.generate.result ≡ 6) × (outside left wn faults kn ≡ outside left wo faults ko))) (sym same.1) end)

@@ -1,0 +1,187 @@
+-- The base line.
+use Rattle.std.proofs.Common.{◌≡◌, ◌⊎◌, ℕ, ◌+◌, ◌-◌, ◌≤◌, List, [], ◌∷◌, ◌++◌, length, take, true, false, Option, None, Some, Ok, Err, refl, sym, ◌∙◌, ap, subst, arith, inl, inr, ⊎_elim, append_assoc}
+use Rattle.std.proofs.lemmas.List.{append-nil}
+use Rattle.std.proofs.Math.Seq.{take-append-add}
+use Rattle.iri_text.specs.Count.{Rose}
+use Rattle.iri_text.specs.Source.{Consumes, IsAtEnd}
+use Rattle.iri_text.specs.Sink.{Appends, AppendsFront}
+use Rattle.iri_text.specs.Line.{LineState}
+use Rattle.iri_text.specs.Reader.{Advances}
+use Rattle.iri_text.specs.declared.reader.LineFault.{LineFault}
+use Rattle.iri_text.specs.declared.reader.LineFault.TheVariants.{Source, LineTooLong as FaultLineTooLong, InputTooLong as FaultInputTooLong}
+use Rattle.iri_text.proofs.Puts.{Appends-none}
+use Rattle.iri_cli.specs.Ending.{Rules, Ending, Passed, base_line, unless_refused, first_passed, ended_lines, completed, completed_lines, stopped, answered, IsBaseTaken, ending_by, ending}
+use Rattle.iri_cli.specs.Read.{IsOpen, HasRead, ReadsSome, ReadsPast, IsGoing}
+use Rattle.iri_cli.specs.Run.{outside, Decides, StopsShort, RanTo, Ran}
+use Rattle.iri_cli.specs.Steps.{end_at, IsNew, GivesBase, ReadsBase}
+use Rattle.iri_cli.specs.Answering.{RefusesBase}
+use Rattle.iri_cli.specs.declared.end.End.{End}
+use Rattle.iri_cli.specs.declared.end.End.TheVariants.{Done, SomeBad, BadBase, SourceFailed, SinkFailed, Memory, LineTooLong, InputTooLong}
+use Rattle.iri_cli.proofs.Reading.{left_is, read_none, reads_line, reads_all, reads_some, reads_long, reads_over, goes_on}
+use Rattle.iri_cli.proofs.LineSteps.{place_later}
+use Rattle.iri_cli.proofs.Ends.{ends_past_none}
+use Rattle.iri_cli.proofs.Answered.{whole_front, taken_is, no_cr-shorter}
+
+-- a line is within the limit of its reader
+pub line_short : (lo ln : Option (List ℕ)) (fo fn : ℕ) (old new : LineState) → Advances old new lo ln fo fn (Ok true) → length new.line ≤ old.line_limit
+line_short lo ln fo fn old new a = omega (arith, a.line_limit, a.says.short, no_cr-shorter a.says.raw, ap length a.says.line)
+
+module _ (rules : Rules) where
+  -- a new reader goes on
+  pub new_going : (reader : LineState) → IsNew rules reader → IsGoing rules reader
+  new_going reader n = record { line_limit = n.line_limit; input_limit = n.input_limit; going = n.going; within = omega (arith, n.taken) }
+
+  module _ (lo ln : Option (List ℕ)) (fo fn : ℕ) (old new : LineState) (is : IsNew rules old) where
+    before : HasRead rules lo lo old []
+    before = read_none rules lo old is.held is.taken is.ended
+
+    -- The base line was given.
+    pub gives_line : (buffer : List ℕ) (len : ℕ) → Advances old new lo ln fo fn (Ok true) → take len buffer ≡ new.line → len ≡ length new.line → len ≤ length buffer → ReadsBase rules lo ln fo fn new buffer (Ok len)
+    gives_line buffer len a line_is size fits = (
+      inl (
+        subst (λ (l : List ℕ). HasRead rules lo ln new (l ∷ [])) (sym line_is) (reads_line rules lo lo ln fo fn old new [] (new_going old is) before a),
+        goes_on rules lo ln fo fn old new (new_going old is) a,
+      ),
+      omega (arith, size, is.line_limit, line_short lo ln fo fn old new a),
+      fits,
+      a.later,
+    )
+
+    -- There is no line.
+    pub gives_none : (buffer : List ℕ) → Advances old new lo ln fo fn (Ok false) → ReadsBase rules lo ln fo fn new buffer (Ok 0)
+    gives_none buffer a = (inr (reads_all rules lo lo ln fo fn old new [] (new_going old is) before a, refl), omega arith, omega arith, a.later)
+
+    -- The reader answered a fault.
+    pub gives_fault : (buffer : List ℕ) (fault : LineFault) → Advances old new lo ln fo fn (Err fault) → ReadsBase rules lo ln fo fn new buffer (Err fault)
+    gives_fault buffer fault a written k = record {
+      to = by_fault fault a;
+      front = λ x told. record { front = []; rest = (ending rules x).output; split = refl; appended = Appends-none written };
+      source_later = a.later;
+      sink_later = omega arith;
+    }
+      where
+        decided : (status : ℕ) → ReadsPast rules status lo ln [] → Decides rules status (outside lo written fo k) (outside ln written fn k)
+        decided status r = record {
+          taken = r.taken;
+          takes = r.takes;
+          ends = λ more. ap (λ (e : Ending). e.status) (ends_past_none rules status lo ln r more);
+          writes = λ more. subst (Appends written written) (sym (ap (λ (e : Ending). e.output) (ends_past_none rules status lo ln r more))) (Appends-none written);
+          sink = refl;
+        }
+
+        short : Rose fo fn → ReadsSome rules lo ln [] → StopsShort rules (outside lo written fo k) (outside ln written fn k)
+        short rose r = record {
+          taken = r.taken;
+          takes = r.takes;
+          passes = r.passes;
+          base_taken = subst (IsBaseTaken rules) (sym r.ended) tt;
+          writes = subst (λ (t : List (List ℕ)). Appends written written (answered rules t)) (sym r.ended) (Appends-none written);
+          source = rose;
+          sink = refl;
+        }
+
+        by_fault : (f : LineFault) → Advances old new lo ln fo fn (Err f) → RanTo rules (outside lo written fo k) (outside ln written fn k) (end_at f)
+        by_fault Source b = short b.cause (reads_some rules lo lo ln fo fn old new [] (new_going old is) before b)
+        by_fault FaultLineTooLong b = decided 7 (reads_long rules lo lo ln fo fn old new [] (new_going old is) before b)
+        by_fault FaultInputTooLong b = decided 8 (reads_over rules lo lo ln fo fn old new [] (new_going old is) before b)
+
+  -- the ending where a base is refused
+  module _ (base words : List ℕ) (refused : rules.refusal base ≡ Some words) where
+    refused_is : (e : Ending) → unless_refused (rules.refusal base) e ≡ record { status = 3; output = base_line words }
+    refused_is e = ap (λ (o : Option (List ℕ)). unless_refused o e) refused
+
+    refused_open : (given : List ℕ) → IsOpen rules given (base ∷ []) → (y : List ℕ) → ending rules (given ++ y) ≡ record { status = 3; output = base_line words }
+    refused_open given o y = by_passed (first_passed rules (given ++ y)) refl
+      where
+        by_passed : (p : Option Passed) → first_passed rules (given ++ y) ≡ p → ending_by rules (given ++ y) p ≡ record { status = 3; output = base_line words }
+        by_passed None is = ap (completed_lines rules) (o.all y) ∙ refused_is _
+        by_passed (Some p) is =
+            let later : length given ≤ p.place = place_later rules (length given) 0 y p (sym (o.passes y) ∙ is) in
+            let place : p.place ≡ length given + (p.place - length given) = omega (arith, later) in
+            let front : take p.place (given ++ y) ≡ given ++ take (p.place - length given) y = ap (λ (n : ℕ). take n (given ++ y)) place ∙ take-append-add given y (p.place - length given) in
+            ap (stopped rules p.status) (ap ended_lines front ∙ o.ended (take (p.place - length given) y)) ∙ refused_is _
+
+    -- These bytes were taken, and have this ending however the source goes on.
+    record EndsOpen (left_old left_new : Option (List ℕ)) : Type 0 where
+      taken : List ℕ
+      takes : Consumes left_old left_new taken
+      ends : (more : List ℕ) → ending rules (taken ++ more) ≡ record { status = 3; output = base_line words }
+
+    -- These bytes were taken to the end, and have this ending.
+    record EndsAll (left_old left_new : Option (List ℕ)) : Type 0 where
+      taken : List ℕ
+      takes : Consumes left_old left_new taken
+      at_end : IsAtEnd left_new
+      ends : ending rules taken ≡ record { status = 3; output = base_line words }
+
+    -- The base is refused.
+    pub refuses : (lo ln wo wn : Option (List ℕ)) (fo fn ko kn : ℕ) (reader : LineState) (end : End) → GivesBase rules lo ln reader base → fo ≤ fn
+        → RefusesBase words wo wn ko kn end → Ran rules (outside lo wo fo ko) (outside ln wn fn kn) end
+    refuses lo ln wo wn fo fn ko kn reader end gives later = by_end end
+      where
+        ends : EndsOpen lo ln ⊎ EndsAll lo ln
+        ends = ⊎_elim
+            (λ h. ⊎_elim
+            (λ o. inl (record {
+              taken = h.0.given ++ reader.held;
+              takes = h.0.takes;
+              ends = λ more. ap (ending rules) (append_assoc h.0.given reader.held more) ∙ refused_open h.0.given o.1 (reader.held ++ more);
+            }))
+            (λ c. inr (record {
+              taken = h.0.given;
+              takes = subst (Consumes lo ln) (ap (λ (t : List ℕ). h.0.given ++ t) (c.1).nothing ∙ append-nil h.0.given) h.0.takes;
+              at_end = (c.1).at_end;
+              ends = ap (ending_by rules h.0.given) (c.1).passes ∙ ap (completed_lines rules) (c.1).all ∙ refused_is _;
+            }))
+            h.0.place)
+            (λ h. inr (record {
+              taken = h.0.taken;
+              takes = h.0.takes;
+              at_end = h.0.at_end;
+              ends = ap (ending_by rules h.0.taken) h.0.passes ∙ ap (completed_lines rules) h.0.all ∙ ap (λ (b : List ℕ). completed rules b []) (sym h.1) ∙ refused_is _;
+            }))
+            gives
+
+        front_of : ((x : List ℕ) → ending rules x ≡ record { status = 3; output = base_line words } → AppendsFront wo wn (ending rules x).output)
+            → (x : List ℕ) → lo ≡ Some x → AppendsFront wo wn (ending rules x).output
+        front_of from x told =
+            ⊎_elim
+            (λ e. let l = left_is ln x e.taken (subst (λ (s : Option (List ℕ)). Consumes s ln e.taken) told e.takes) in from x (ap (ending rules) l.2 ∙ e.ends l.0))
+            (λ e. from x (ap (ending rules) (taken_is lo ln x e.taken told e.takes e.at_end) ∙ e.ends))
+            ends
+
+        by_end : (e : End) → RefusesBase words wo wn ko kn e → Ran rules (outside lo wo fo ko) (outside ln wn fn kn) e
+        by_end BadBase q = record {
+          to = ⊎_elim
+              (λ e. inl (record {
+                taken = e.taken;
+                takes = e.takes;
+                ends = λ more. ap (λ (n : Ending). n.status) (e.ends more);
+                writes = λ more. subst (Appends wo wn) (sym (ap (λ (n : Ending). n.output) (e.ends more))) q.0;
+                sink = q.1;
+              }))
+              (λ e. inr (record {
+                taken = e.taken;
+                takes = e.takes;
+                at_end = e.at_end;
+                ends = ap (λ (n : Ending). n.status) e.ends;
+                writes = subst (Appends wo wn) (sym (ap (λ (n : Ending). n.output) e.ends)) q.0;
+                sink = q.1;
+              }))
+              ends;
+          front = front_of (λ x is. subst (AppendsFront wo wn) (sym (ap (λ (n : Ending). n.output) is)) (whole_front q.0));
+          source_later = later;
+          sink_later = omega (arith, q.1);
+        }
+        by_end SinkFailed q = record {
+          to = q.1;
+          front = front_of (λ x is. subst (AppendsFront wo wn) (sym (ap (λ (n : Ending). n.output) is)) q.0);
+          source_later = later;
+          sink_later = q.2;
+        }
+        by_end Done q = absurd q
+        by_end SomeBad q = absurd q
+        by_end SourceFailed q = absurd q
+        by_end Memory q = absurd q
+        by_end LineTooLong q = absurd q
+        by_end InputTooLong q = absurd q

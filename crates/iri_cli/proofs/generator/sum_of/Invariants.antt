@@ -1,0 +1,5 @@
+use Rattle.std.proofs.Common.{◌≡◌, ◌≤◌, ◌*◌, sum, take}
+use Rattle.iri_cli.proofs.generator.sum_of.Given as goal
+
+abbrev pub invariant-loop-byte : goal.invariant-loop-byte
+invariant-loop-byte l = record { total : l.total ≡ sum (take l.byte-index l.bytes); bound : l.total ≤ 255 * l.byte-index }

@@ -1,0 +1,47 @@
+-- The command `gen`: references that are made by a counter, and what is told of their canonical texts.
+use Rattle.std.specs.Prelude.{ℕ, zero, suc, ◌+◌, ◌*◌, ◌/◌, ◌%◌, ◌^◌, codes, decimal, sum, List, [], ◌∷◌, ◌++◌, length, get_or}
+use Rattle.iri_grammar.specs.Classes.{Tests}
+use Rattle.iri_resolve.specs.NormalForm.{canonical}
+
+-- the segments of which references are made, by number
+abbrev pub gen_segments : List (List ℕ)
+gen_segments =
+    codes ".." ∷ codes "." ∷ codes "a" ∷ codes "b" ∷ codes "%2E" ∷ codes "%2e%2E" ∷ [] ∷ codes "%7e" ∷ codes "c" ∷ codes "x%2fy"
+    ∷ codes "%ce%b1" ∷ codes "Q" ∷ codes "d;1" ∷ codes "%41" ∷ codes ".." ∷ codes "e" ∷ []
+
+abbrev pub gen_segment : ℕ → List ℕ
+gen_segment number = get_or gen_segments number []
+
+-- so many segments, each behind a slash, by the digits to base 16 of a number, the last digit first
+abbrev pub more_segments : ℕ → ℕ → List ℕ
+more_segments zero number = []
+more_segments (suc count) number = 47 ∷ (gen_segment (number % 16) ++ more_segments count (number / 16))
+
+-- The reference of a state: its digits to base 16, the last one first, tell its segments, one more than its 16th digit.
+abbrev pub gen_reference : ℕ → List ℕ
+gen_reference state = gen_segment (state % 16) ++ more_segments (state / 2 ^ 60) (state / 16)
+
+-- the state after so many steps from 0
+abbrev pub gen_state : ℕ → ℕ
+gen_state zero = 0
+gen_state (suc steps) = (gen_state steps * 6364136223846793005 + 1442695040888963407) % 2 ^ 64
+
+abbrev pub gen_base : List ℕ
+gen_base = codes "http://a/b/c/d;p?q"
+
+-- the canonical text of the reference of a state
+abbrev pub gen_canonical : Tests → ℕ → List ℕ
+gen_canonical s state = canonical s gen_base (gen_reference state)
+
+-- how many bytes the canonical texts of the first references have, and the sum of the values of these bytes
+abbrev pub gen_bytes : Tests → ℕ → ℕ
+gen_bytes s zero = 0
+gen_bytes s (suc count) = gen_bytes s count + length (gen_canonical s (gen_state (suc count)))
+
+abbrev pub gen_sum : Tests → ℕ → ℕ
+gen_sum s zero = 0
+gen_sum s (suc count) = gen_sum s count + sum (gen_canonical s (gen_state (suc count)))
+
+-- the three lines
+abbrev pub gen_text : Tests → ℕ → List ℕ
+gen_text s count = codes "lines " ++ decimal count ++ (codes "\nbytes " ++ decimal (gen_bytes s count) ++ (codes "\nsum " ++ decimal (gen_sum s count) ++ 10 ∷ []))

@@ -1,0 +1,37 @@
+//! The memory of a run of `canon`.
+ghost use Rattle.iri_cli.specs.Buffers.{AreBuffers};
+
+use iri_text::LineReader;
+use std::alloc::{AllocError, Global};
+
+/// How many bytes a line may have before its LF.
+pub const LINE: usize = 65536;
+
+/// How many bytes the input may have.
+pub const INPUT: u64 = 268435456;
+
+// The text of an answer has at most as many bytes as its base and its reference together, and three more; an LF ends it.
+const OUTPUT: usize = 2 * LINE + 4;
+
+/// All of the memory that a run of `canon` needs: for a reader of lines, the base line, and the text of an answer with its LF.
+#[derive(Drop)]
+pub struct CanonBuffers {
+    pub(crate) reader: LineReader,
+    pub(crate) base: Vec<u8>,
+    pub(crate) output: Vec<u8>,
+    pub ghost sound: { AreBuffers reader base.items output.items },
+}
+
+impl CanonBuffers {
+    /// Takes the memory. It fails only where that is refused.
+    pub fn new(alloc: Global) -> Result<CanonBuffers, AllocError> {
+        let reader = LineReader::new(alloc, LINE, INPUT)?;
+        let base = vec![in alloc; 0; LINE]?;
+        let output = vec![in alloc; 0; OUTPUT]?;
+        Ok(CanonBuffers {
+            reader,
+            base,
+            output,
+        })
+    }
+}

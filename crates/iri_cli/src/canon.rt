@@ -1,0 +1,119 @@
+// The answers of `canon`.
+ghost use Rattle.std.specs.Prelude.{◌≡◌, ◌≤◌, ◌+◌, [], ◌∷◌, ◌++◌, None, Some, Ok, codes, length, MatchResult};
+ghost use Rattle.iri_text.specs.Sink.{PutsAll};
+ghost use Rattle.iri_types.specs.SplitText.{split_text};
+ghost use Rattle.iri_types.specs.Texts.{text};
+ghost use Rattle.iri_resolve.specs.NormalForm.{canonical};
+ghost use Rattle.iri_resolve.specs.Resolver.{base_text};
+ghost use Rattle.iri_cli.specs.Answer.{refusal, answer};
+ghost use Rattle.iri_cli.specs.CanonAnswers.{PutsLine, told_of};
+
+use crate::answers::{AnswerError, Answers};
+use iri_grammar::spec::Spec;
+use iri_resolve::canonical::show_canonical;
+use iri_resolve::resolver::FixedBaseResolver;
+use iri_text::{Failed, Sink, SliceSink, TextSink};
+use iri_types::kind::Reference;
+use iri_types::split::SplitView;
+use iri_types::view::RiAbsoluteStr;
+
+/// The base of a base line, or in words why it is refused.
+#[tactic(auto, unfolding(crate::specs::Answer::refusal))]
+pub fn base_of<S: Spec>(line: &[u8]) -> Result<RiAbsoluteStr<'_, S>, &'static str>
+    ensures { MatchResult result (λ base. (text base ≡ line.now) × (refusal S.tests line.now ≡ None)) (λ words. refusal S.tests line.now ≡ Some words.now) }
+{
+    match RiAbsoluteStr::<S>::try_from_bytes(line) {
+        Ok(base) => Ok(base),
+        Err(error) => Err(error.kind().description()),
+    }
+}
+
+// The canonical text of a reference and an LF, in a buffer with room for both.
+fn fill<'a, S: Spec>(
+    line: &mut SliceSink<'_>,
+    resolver: &FixedBaseResolver<'a, S>,
+    reference: &SplitView<'a, S, Reference>,
+)
+    requires empty { line.old.taken ≡ [] }
+    requires room { length (canonical S.tests (base_text resolver.now) (split_text reference.now)) + 1 ≤ line.old.room }
+    ensures { line.new.taken ≡ canonical S.tests (base_text resolver.now) (split_text reference.now) ++ 10 ∷ [] }
+{
+    if let Ok(()) = show_canonical(line, resolver, reference) {
+        let _ = line.put("\n");
+    }
+}
+
+// The prefix of an accepted reference; its canonical text and the LF are one piece.
+fn put_good<'a, S: Spec, O: Sink>(
+    sink: &mut O,
+    output: &mut [u8],
+    resolver: &FixedBaseResolver<'a, S>,
+    reference: &SplitView<'a, S, Reference>,
+) -> Result<(), Failed>
+    requires { length (canonical S.tests (base_text resolver.now) (split_text reference.now)) + 1 ≤ length output.old }
+    ensures { PutsAll (O.written sink.old) (O.written sink.new) (O.faults sink.old) (O.faults sink.new) result
+        (codes "ok " ++ (canonical S.tests (base_text resolver.now) (split_text reference.now) ++ 10 ∷ [])) }
+{
+    let mut line = SliceSink::new(output);
+    fill(&mut line, resolver, reference);
+    sink.put_all(b"ok ")?;
+    sink.put_all(line.as_str().as_bytes())
+}
+
+// The prefix of a refused reference, the words for its fault and an LF.
+fn put_bad<O: Sink>(sink: &mut O, words: &str) -> Result<(), Failed>
+    ensures { PutsAll (O.written sink.old) (O.written sink.new) (O.faults sink.old) (O.faults sink.new) result (codes "bad " ++ (words.now ++ 10 ∷ [])) }
+{
+    sink.put_all(b"bad ")?;
+    sink.put_all(words.as_bytes())?;
+    sink.put_all(b"\n")
+}
+
+// What is answered beside what was put.
+fn told(good: bool, put: Result<(), Failed>) -> Result<bool, AnswerError>
+    ensures { result ≡ told_of good put }
+{
+    match put {
+        Ok(()) => Ok(good),
+        Err(Failed) => Err(AnswerError::SinkFailed),
+    }
+}
+
+// Puts the answer to a line, and says whether it is good.
+fn put_answer<'a, S: Spec, O: Sink>(
+    sink: &mut O,
+    output: &mut [u8],
+    resolver: FixedBaseResolver<'a, S>,
+    line: &'a [u8],
+) -> Result<bool, AnswerError>
+    requires base { refusal S.tests (base_text resolver) ≡ None }
+    requires room { length (base_text resolver) + length line.now + 4 ≤ length output.old }
+    ensures { PutsLine (O.written sink.old) (O.written sink.new) (O.faults sink.old) (O.faults sink.new) (answer S.tests (base_text resolver.entry) line.now) result }
+{
+    match SplitView::<S, Reference>::try_from_bytes(line) {
+        Ok(reference) => told(true, put_good(sink, output, &resolver, &reference)),
+        Err(error) => told(false, put_bad(sink, error.kind().description())),
+    }
+}
+
+/// Answers each line by its canonical text against a base.
+#[derive(Drop)]
+pub struct Canon<'a, S: Spec> {
+    pub(crate) resolver: FixedBaseResolver<'a, S>,
+    pub(crate) output: Vec<u8>,
+}
+
+impl<'a, S: Spec> Answers for Canon<'a, S> {
+    ghost use Rattle.iri_resolve.specs.Resolver.{base_text};
+    ghost use Rattle.iri_cli.specs.CanonAnswers.{IsCanonAt};
+
+    ghost stands_at = { λ c at. IsCanonAt S.tests (base_text c.resolver) c.output.items at };
+
+    fn answer<O: Sink>(&mut self, line: &[u8], sink: &mut O) -> Result<bool, AnswerError> {
+        put_answer::<S, O>(sink, &mut self.output, self.resolver, line)
+    }
+
+    fn close<O: Sink>(&mut self, _sink: &mut O) -> Result<(), AnswerError> {
+        Ok(())
+    }
+}

@@ -1,0 +1,82 @@
+//! The lines of `canon`.
+ghost use Rattle.std.specs.Prelude.{◌≢◌};
+ghost use Rattle.iri_cli.specs.Answer.{AnswersAreCanonical};
+ghost use Rattle.iri_cli.specs.Buffers.{AreBuffers};
+ghost use Rattle.iri_cli.specs.Run.{outside, Ran, Runs};
+ghost use Rattle.iri_cli.specs.Words.{canon_rules};
+
+use crate::answer_lines::{answer_lines, fault_end};
+use crate::base::{read_base, refuse_base};
+use crate::buffers::CanonBuffers;
+use crate::canon::{Canon, base_of};
+use crate::end::{End, close, status};
+use iri_grammar::spec::Spec;
+use iri_resolve::resolver::FixedBaseResolver;
+use iri_text::{LineReader, Sink, Source};
+
+// Reads the base line into a buffer, and answers the lines behind it.
+fn answer_with<S: Spec, I: Source, O: Sink>(
+    mut reader: LineReader,
+    buffer: &mut [u8],
+    output: Vec<u8>,
+    source: &mut I,
+    sink: &mut O,
+) -> End
+    requires { AreBuffers reader buffer.old output.items }
+    ensures { Ran (canon_rules S.tests) (outside (I.left source.old) (O.written sink.old) (I.faults source.old) (O.faults sink.old))
+        (outside (I.left source.new) (O.written sink.new) (I.faults source.new) (O.faults sink.new)) result }
+{
+    let len = match read_base(&mut reader, source, buffer) {
+        Ok(len) => len,
+        Err(fault) => return fault_end(fault),
+    };
+    match base_of::<S>(&buffer[..len]) {
+        Ok(base) => {
+            let resolver = FixedBaseResolver::new(base);
+            let mut canon = Canon { resolver, output };
+            answer_lines(&mut canon, reader, source, sink)
+        }
+        Err(words) => refuse_base(sink, words),
+    }
+}
+
+// Answers the lines of the source in these buffers.
+fn answer_all<S: Spec, I: Source, O: Sink>(
+    buffers: CanonBuffers,
+    source: &mut I,
+    sink: &mut O,
+) -> End
+    ensures { Ran (canon_rules S.tests) (outside (I.left source.old) (O.written sink.old) (I.faults source.old) (O.faults sink.old))
+        (outside (I.left source.new) (O.written sink.new) (I.faults source.new) (O.faults sink.new)) result }
+{
+    let CanonBuffers {
+        reader,
+        mut base,
+        output,
+    } = buffers;
+    answer_with::<S, I, O>(reader, &mut base, output, source, sink)
+}
+
+/// Reads a base line and reference lines, answers each reference line by its canonical text, and gives the program's status. It
+/// takes no memory but the buffers.
+///
+/// - 0: all lines were answered, and each answer begins with `ok `; 1: the same, but some answer doesn't begin so
+/// - 3: the base line is no absolute URI of `S`, and the one line written names its first fault
+/// - 4: the source failed; 5: the sink failed
+/// - 7: a line has more than 65,536 bytes before its LF; 8: the input has more than 268,435,456 bytes
+pub fn canon_lines<S: Spec, I: Source, O: Sink>(
+    buffers: CanonBuffers,
+    source: &mut I,
+    sink: &mut O,
+) -> u8
+    ensures runs { Runs (canon_rules S.tests) (outside (I.left source.old) (O.written sink.old) (I.faults source.old) (O.faults sink.old))
+        (outside (I.left source.new) (O.written sink.new) (I.faults source.new) (O.faults sink.new)) result }
+    ensures a_command { result ≢ 2 }
+    ensures in_memory { result ≢ 6 }
+
+    // Each good answer is a URI of the spec that splits into exactly the normal form of the target, and is its own canonical text.
+    ensures canonical { AnswersAreCanonical S.tests }
+{
+    let end = answer_all::<S, I, O>(buffers, source, sink);
+    status(close(sink, end))
+}

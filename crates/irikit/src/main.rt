@@ -1,0 +1,31 @@
+//! `irikit`: works on the lines of its standard input as the words after its name say, and ends with a status.
+//!
+//! All of its work is `iri_cli::run`, whose contract says what each status means. Not proved, and shown by tests/edges on the
+//! built program: that `main` makes a source of standard input and a sink of standard output, and hands over the words.
+#![tactic(auto)]
+
+use iri_cli::run::{MEMORY, NO_COMMAND, run};
+use iri_text::{ReadSource, WriteSink};
+use std::alloc::AllocError;
+use std::env;
+use std::io::{BufWriter, ErrorKind};
+use std::process::ExitCode;
+
+// How many bytes of output are written at once.
+const BLOCK: usize = 65536;
+
+// Runs over standard input and standard output. A word that isn't UTF-8 is of no command.
+fn main(rt: HostRuntime) -> ExitCode {
+    let words: Result<Vec<String>, AllocError> = match env::args(&rt) {
+        Ok(args) => args.skip(1).collect(rt.alloc()),
+        Err(error) if error.kind() == ErrorKind::OutOfMemory => return ExitCode::from(MEMORY),
+        Err(_) => return ExitCode::from(NO_COMMAND),
+    };
+    let writer = BufWriter::with_capacity(rt.alloc(), BLOCK, rt.stdout());
+    let (Ok(words), Ok(writer)) = (words, writer) else {
+        return ExitCode::from(MEMORY);
+    };
+    let mut source = ReadSource::new(rt.stdin());
+    let mut sink = WriteSink::new(writer);
+    ExitCode::from(run(rt.alloc(), &words, &mut source, &mut sink))
+}
