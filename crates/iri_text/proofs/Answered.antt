@@ -1,13 +1,14 @@
 -- What follows from an answer of a reader of lines.
-use Rattle.std.proofs.Common.{◌≡◌, ℕ, ◌+◌, ◌-◌, ◌≤◌, true, false, List, [], ◌∷◌, ◌++◌, length, Option, None, Some, Result, Ok, Err, Bool, sym, ◌∙◌, ap, arith, append_assoc, length-append, ⊎_elim}
+use Rattle.std.proofs.Common.{◌≡◌, ℕ, ◌+◌, ◌-◌, ◌≤◌, true, false, List, [], ◌∷◌, ◌++◌, length, Option, None, Some, Result, Ok, Err, Bool}
+use Rattle.std.proofs.Common.{sym, ◌∙◌, ap, arith, append_assoc, length-append, ⊎_elim}
 use Rattle.std.proofs.lemmas.List.{append-nil}
 use Rattle.iri_text.specs.Source.{Consumes}
 use Rattle.iri_text.specs.Lines.{lines}
 use Rattle.iri_text.specs.Limits.{limit_fault, limit_told}
 use Rattle.iri_text.specs.Line.{LineState}
 use Rattle.iri_text.specs.Reader.{Says, GivesLine, GivesNext}
-use Rattle.iri_text.specs.declared.reader.LineFault.{LineFault}
-use Rattle.iri_text.specs.declared.reader.LineFault.TheVariants.{Source, LineTooLong, InputTooLong}
+use Rattle.iri_text.specs.declared.streams.reader.LineFault.{LineFault}
+use Rattle.iri_text.specs.declared.streams.reader.LineFault.TheVariants.{Source, LineTooLong, InputTooLong}
 use Rattle.iri_text.proofs.LinesLemmas.{lines-lf, lines-last}
 use Rattle.iri_text.proofs.LimitsLemmas.{none-lf, none, long, over}
 
@@ -15,7 +16,8 @@ use Rattle.iri_text.proofs.LimitsLemmas.{none-lf, none, long, over}
 to_come : (held moved xs ys all : List ℕ) → xs ≡ moved ++ ys → held ++ moved ≡ all → held ++ xs ≡ all ++ ys
 to_come held moved xs ys all came is = ap (λ l. held ++ l) came ∙ sym (append_assoc held moved ys) ∙ ap (λ l. l ++ ys) is
 
-line_next : (old new : LineState) (xs ys moved : List ℕ) → xs ≡ moved ++ ys → GivesLine (old.held ++ moved) (Some ys) new → lines (old.held ++ xs) ≡ new.line ∷ lines (new.held ++ ys)
+line_next : (old new : LineState) (xs ys moved : List ℕ) → xs ≡ moved ++ ys → GivesLine (old.held ++ moved) (Some ys) new
+    → lines (old.held ++ xs) ≡ new.line ∷ lines (new.held ++ ys)
 line_next old new xs ys moved came g =
     ⊎_elim
     (λ r.
@@ -29,11 +31,13 @@ line_next old new xs ys moved came g =
     ∙ ap (λ l. new.line ∷ lines l) (sym (ap (λ l. l ++ ys) r.2 ∙ r.3)))
     g.rest
 
-pub next_of : (old new : LineState) (lo ln : Option (List ℕ)) (moved : List ℕ) (r : Result Bool LineFault) → Consumes lo ln moved → Says old.ended (old.held ++ moved) ln new r → GivesNext old new lo ln r
+pub next_of : (old new : LineState) (lo ln : Option (List ℕ)) (moved : List ℕ) (r : Result Bool LineFault) → Consumes lo ln moved
+    → Says old.ended (old.held ++ moved) ln new r → GivesNext old new lo ln r
 next_of old new None ln moved r came says = tt
 next_of old new (Some xs) None moved r came says = tt
 next_of old new (Some xs) (Some ys) moved (Ok true) came says = line_next old new xs ys moved came says
-next_of old new (Some xs) (Some ys) moved (Ok false) came says = λ going. ap lines (to_come old.held moved xs ys [] came says.0 ∙ says.2 going)
+next_of old new (Some xs) (Some ys) moved (Ok false) came says =
+    λ going. ap lines (to_come old.held moved xs ys [] came says.0 ∙ says.2 going)
 next_of old new (Some xs) (Some ys) moved (Err fault) came says = tt
 
 module _ (old new : LineState) (moved : List ℕ) (counted : new.taken ≡ old.taken + length moved) (held : length old.held ≤ old.taken) where
@@ -43,26 +47,33 @@ module _ (old new : LineState) (moved : List ℕ) (counted : new.taken ≡ old.t
   size : length (old.held ++ moved) ≡ length old.held + length moved
   size = length-append old.held moved
 
-  line_limits : (left : Option (List ℕ)) → GivesLine (old.held ++ moved) left new → limit_fault new.line_limit new.input_limit place 0 (old.held ++ moved) ≡ None
+  line_limits : (left : Option (List ℕ)) → GivesLine (old.held ++ moved) left new
+      → limit_fault new.line_limit new.input_limit place 0 (old.held ++ moved) ≡ None
   line_limits left g =
       ⊎_elim
       (λ r.
       ap (limit_fault new.line_limit new.input_limit place 0) r.0
-      ∙ none-lf new.line_limit new.input_limit place g.raw new.held g.whole g.short (omega (arith, g.within, counted, held, size, ap length r.0, length-append g.raw (10 ∷ new.held))))
+      ∙ none-lf new.line_limit new.input_limit place g.raw new.held g.whole g.short
+      (omega (arith, g.within, counted, held, size, ap length r.0, length-append g.raw (10 ∷ new.held))))
       (λ r.
       ap (limit_fault new.line_limit new.input_limit place 0) r.0
-      ∙ none new.line_limit new.input_limit place g.raw g.whole g.short (omega (arith, g.within, counted, held, size, ap length r.0, ap length r.2)))
+      ∙ none new.line_limit new.input_limit place g.raw g.whole g.short
+      (omega (arith, g.within, counted, held, size, ap length r.0, ap length r.2)))
       g.rest
 
-  pub limits_of : (b : Bool) (left : Option (List ℕ)) (r : Result Bool LineFault) → Says b (old.held ++ moved) left new r → limit_fault new.line_limit new.input_limit place 0 (old.held ++ moved) ≡ limit_told r
+  pub limits_of : (b : Bool) (left : Option (List ℕ)) (r : Result Bool LineFault) → Says b (old.held ++ moved) left new r
+      → limit_fault new.line_limit new.input_limit place 0 (old.held ++ moved) ≡ limit_told r
   limits_of b left (Ok true) says = line_limits left says
   limits_of b left (Ok false) says = ap (limit_fault new.line_limit new.input_limit place 0) says.0
-  limits_of b left (Err Source) says = none new.line_limit new.input_limit place (old.held ++ moved) says.1 says.2 (omega (arith, says.3, counted, held, size))
+  limits_of b left (Err Source) says = none new.line_limit new.input_limit place (old.held ++ moved) says.1 says.2
+      (omega (arith, says.3, counted, held, size))
   limits_of b left (Err LineTooLong) says =
       let t = says.1 in
       ap (limit_fault new.line_limit new.input_limit place 0) (sym t.split)
-      ∙ long new.line_limit new.input_limit place 0 t.front t.rest t.whole (omega arith) (omega (arith, t.long)) (omega (arith, t.within, counted, held, size))
+      ∙ long new.line_limit new.input_limit place 0 t.front t.rest t.whole (omega arith) (omega (arith, t.long))
+      (omega (arith, t.within, counted, held, size))
   limits_of b left (Err InputTooLong) says =
       let t = says.1 in
       ap (limit_fault new.line_limit new.input_limit place 0) (sym t.split)
-      ∙ over new.line_limit new.input_limit place t.last t.front [] t.whole t.short (omega (arith, t.over, counted, held, size, ap length t.split, length-append t.front (t.last ∷ [])))
+      ∙ over new.line_limit new.input_limit place t.last t.front [] t.whole t.short
+      (omega (arith, t.over, counted, held, size, ap length t.split, length-append t.front (t.last ∷ [])))

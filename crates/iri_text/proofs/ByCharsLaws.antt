@@ -4,7 +4,7 @@ use Rattle.std.specs.Str.{chars}
 use Rattle.std.proofs.Common.{sym, ◌∙◌, ap, subst, append_assoc}
 use Rattle.std.proofs.lemmas.Str.{IsUtf8-append, IsUtf8-nil, chars-append, chars-nil}
 use Rattle.iri_text.specs.Shown.{AreSinkLaws}
-use Rattle.iri_text.specs.ByChars.{CharsPut, CharsHalt}
+use Rattle.iri_text.specs.inside.ByChars.{CharsPut, CharsHalt}
 
 module _ {V : Type 0} {puts halts : V → List ℕ → V → Type 0} (laws : AreSinkLaws puts halts) where
   pub chars_laws : AreSinkLaws (CharsPut puts) (CharsHalt halts)
@@ -32,4 +32,5 @@ module _ {V : Type 0} {puts halts : V → List ℕ → V → Type 0} (laws : Are
 
   -- it stopped within the characters of the whole
   pub chars_halt : {a b : V} (t : List ℕ) → CharsHalt halts a t b → halts a (chars t) b
-  chars_halt {a = a} {b = b} t h = subst (λ l. halts a l b) (sym (chars-append h.front h.rest h.utf8) ∙ ap chars h.split) (laws.within a b (chars h.front) (chars h.rest) h.halt)
+  chars_halt {a = a} {b = b} t h = subst (λ l. halts a l b) (sym (chars-append h.front h.rest h.utf8) ∙ ap chars h.split)
+      (laws.within a b (chars h.front) (chars h.rest) h.halt)

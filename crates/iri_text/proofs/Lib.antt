@@ -8,6 +8,6 @@ mod Writes
 pub mod Puts
 pub mod Digits
 pub mod ThroughLaws
-mod Room
 pub mod ByCharsLaws
 pub mod CharSteps
+pub mod Compose

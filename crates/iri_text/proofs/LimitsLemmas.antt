@@ -4,17 +4,19 @@ use Rattle.std.proofs.lemmas.List.{append-nil}
 use Rattle.std.proofs.lemmas.Bool.Decides.{nat_tests}
 use Rattle.iri_text.specs.Lines.{NoLf}
 use Rattle.iri_text.specs.Limits.{limit_fault}
-use Rattle.iri_text.specs.declared.reader.LineFault.TheVariants.{LineTooLong, InputTooLong}
+use Rattle.iri_text.specs.declared.streams.reader.LineFault.TheVariants.{LineTooLong, InputTooLong}
 
 module _ (line input : ℕ) where
   -- one byte of a line
-  step : (place len b : ℕ) (bs : List ℕ) → b ≢ 10 → place < input → len < line → limit_fault line input place len (b ∷ bs) ≡ limit_fault line input (place + 1) (len + 1) bs
+  step : (place len b : ℕ) (bs : List ℕ) → b ≢ 10 → place < input → len < line
+      → limit_fault line input place len (b ∷ bs) ≡ limit_fault line input (place + 1) (len + 1) bs
   step place len b bs h i l = grind (arith, nat_tests)
 
   -- the bytes of a line
   pub along : (place len : ℕ) (raw rest : List ℕ) → NoLf raw → len + length raw ≤ line → place + length raw ≤ input
       → limit_fault line input place len (raw ++ rest) ≡ limit_fault line input (place + length raw) (len + length raw) rest
-  along place len [] rest n l i = ap (λ (p : ℕ). limit_fault line input p len rest) (sym (add-zero place)) ∙ ap (λ (k : ℕ). limit_fault line input (place + 0) k rest) (sym (add-zero len))
+  along place len [] rest n l i = ap (λ (p : ℕ). limit_fault line input p len rest) (sym (add-zero place))
+      ∙ ap (λ (k : ℕ). limit_fault line input (place + 0) k rest) (sym (add-zero len))
   along place len (b ∷ raw) rest n l i =
       let there : (place + 1) + length raw ≡ place + length (b ∷ raw) = omega arith in
       let long : (len + 1) + length raw ≡ len + length (b ∷ raw) = omega arith in
@@ -24,18 +26,21 @@ module _ (line input : ℕ) where
       ∙ ap (λ (k : ℕ). limit_fault line input (place + length (b ∷ raw)) k rest) long
 
   -- a line that an LF ends
-  pub none-lf : (place : ℕ) (raw rest : List ℕ) → NoLf raw → length raw ≤ line → place + length raw < input → limit_fault line input place 0 (raw ++ 10 ∷ rest) ≡ None
+  pub none-lf : (place : ℕ) (raw rest : List ℕ) → NoLf raw → length raw ≤ line → place + length raw < input
+      → limit_fault line input place 0 (raw ++ 10 ∷ rest) ≡ None
   none-lf place raw rest n l i = along place 0 raw (10 ∷ rest) n (omega arith) (omega arith) ∙ lf
     where
       lf : limit_fault line input (place + length raw) (0 + length raw) (10 ∷ rest) ≡ None
       lf = grind (arith, nat_tests)
 
   -- a line so far
-  pub none : (place : ℕ) (raw : List ℕ) → NoLf raw → length raw ≤ line → place + length raw ≤ input → limit_fault line input place 0 raw ≡ None
+  pub none : (place : ℕ) (raw : List ℕ) → NoLf raw → length raw ≤ line → place + length raw ≤ input
+      → limit_fault line input place 0 raw ≡ None
   none place raw n l i = ap (limit_fault line input place 0) (sym (append-nil raw)) ∙ along place 0 raw [] n (omega arith) i
 
   -- a line that is too long
-  pub long : (place len : ℕ) (front rest : List ℕ) → NoLf front → len ≤ line → len + length front ≡ line + 1 → place + length front ≤ input → limit_fault line input place len (front ++ rest) ≡ Some LineTooLong
+  pub long : (place len : ℕ) (front rest : List ℕ) → NoLf front → len ≤ line → len + length front ≡ line + 1 → place + length front ≤ input
+      → limit_fault line input place len (front ++ rest) ≡ Some LineTooLong
   long place len [] rest n k l i = absurd (omega (arith, k, l))
   long place len (b ∷ []) rest n k l i = let h = n.0 in grind (arith, nat_tests)
   long place len (b ∷ c ∷ front) rest n k l i =
@@ -43,7 +48,8 @@ module _ (line input : ℕ) where
       ∙ long (place + 1) (len + 1) (c ∷ front) rest n.1 (omega arith) (omega arith) (omega arith)
 
   -- an input that is too long
-  pub over : (place last : ℕ) (front rest : List ℕ) → NoLf front → length front ≤ line → place + length front ≡ input → limit_fault line input place 0 (front ++ last ∷ rest) ≡ Some InputTooLong
+  pub over : (place last : ℕ) (front rest : List ℕ) → NoLf front → length front ≤ line → place + length front ≡ input
+      → limit_fault line input place 0 (front ++ last ∷ rest) ≡ Some InputTooLong
   over place last front rest n l i = along place 0 front (last ∷ rest) n (omega arith) (omega arith) ∙ stop
     where
       stop : limit_fault line input (place + length front) (0 + length front) (last ∷ rest) ≡ Some InputTooLong

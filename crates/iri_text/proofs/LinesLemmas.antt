@@ -12,7 +12,8 @@ step front b bs h = grind (arith, nat_tests)
 pub lines_from-append : (front raw rest : List ℕ) → NoLf raw → lines_from front (raw ++ rest) ≡ lines_from (front ++ raw) rest
 lines_from-append front [] rest n = ap (λ f. lines_from f rest) (sym (append-nil front))
 lines_from-append front (b ∷ raw) rest n =
-    step front b (raw ++ rest) n.0 ∙ lines_from-append (front ++ b ∷ []) raw rest n.1 ∙ ap (λ f. lines_from f rest) (append_assoc front (b ∷ []) raw)
+    step front b (raw ++ rest) n.0 ∙ lines_from-append (front ++ b ∷ []) raw rest n.1
+    ∙ ap (λ f. lines_from f rest) (append_assoc front (b ∷ []) raw)
 
 -- a line that an LF ends
 pub lines-lf : (raw rest : List ℕ) → NoLf raw → lines (raw ++ 10 ∷ rest) ≡ no_cr raw ∷ lines rest

@@ -1,5 +1,6 @@
 -- What a call of a reader has moved so far.
-use Rattle.std.proofs.Common.{◌≡◌, ◌⊎◌, ℕ, ◌+◌, List, [], ◌∷◌, ◌++◌, length, Option, None, Some, refl, subst, sym, ◌∙◌, ap, arith, inl, append_assoc, length-append}
+use Rattle.std.proofs.Common.{◌≡◌, ◌⊎◌, ℕ, ◌+◌, List, [], ◌∷◌, ◌++◌, length, Option, None, Some, refl, subst, sym, ◌∙◌, ap, arith, inl}
+use Rattle.std.proofs.Common.{append_assoc, length-append}
 use Rattle.iri_text.specs.Source.{Consumes, IsAtEnd}
 use Rattle.iri_text.specs.Lines.{NoLf}
 use Rattle.iri_text.specs.Line.{LineState}
@@ -34,7 +35,8 @@ NoLf-front (x ∷ xs) ys p = (p.0, NoLf-front xs ys p.1)
 
 -- more bytes came behind what is held, where that has no LF
 pub more : (old now next : LineState) (a b c : Option (List ℕ)) (bytes : List ℕ) → Moved old now a b → NoLf now.held → Consumes b c bytes
-    → next.held ≡ now.held ++ bytes → next.taken ≡ now.taken + length bytes → next.line_limit ≡ now.line_limit → next.input_limit ≡ now.input_limit → Moved old next a c
+    → next.held ≡ now.held ++ bytes → next.taken ≡ now.taken + length bytes → next.line_limit ≡ now.line_limit
+    → next.input_limit ≡ now.input_limit → Moved old next a c
 more old now next a b c bytes m no_lf came held taken line_limit input_limit = record {
   moved = m.moved ++ bytes;
   moves = Consumes-append a b c m.moved bytes m.moves came;

@@ -1,5 +1,7 @@
 -- Parts of a list, and lines in them.
-use Rattle.std.proofs.Common.{◌≡◌, ◌≢◌, inl, inr, ℕ, zero, suc, ◌+◌, ◌-◌, ◌<◌, ◌≤◌, List, [], ◌∷◌, ◌++◌, length, get_or, take, drop, slice_range, Option, None, Some, MatchOption, refl, sym, ◌∙◌, ap, subst, arith, take-add, drop-drop, drop-cons, eq-eqb, eqb-true, false}
+use Rattle.std.proofs.Common.{◌≡◌, ◌≢◌, inl, inr, ℕ, zero, suc, ◌+◌, ◌-◌, ◌<◌, ◌≤◌, List, [], ◌∷◌, ◌++◌, length, get_or, take, drop}
+use Rattle.std.proofs.Common.{slice_range, Option, None, Some, MatchOption, refl, sym, ◌∙◌, ap, subst, arith, take-add, drop-drop, eq-eqb}
+use Rattle.std.proofs.Common.{eqb-true, false}
 use Rattle.std.proofs.Math.Seq.{take-suc, take-length}
 use Rattle.std.proofs.Math.Dec.{ltb}
 use Rattle.std.proofs.lemmas.Bool.{ltb-false, le-ltb, cases_lt}
@@ -20,12 +22,8 @@ pub part-split : (xs : List ℕ) (a m b : ℕ) → a ≤ m → m ≤ b → slice
 part-split xs a m b h k =
     let whole : b - a ≡ (m - a) + (b - m) = omega arith in
     let back : a + (m - a) ≡ m = omega arith in
-    ap (λ (n : ℕ). take n (drop a xs)) whole ∙ take-add (m - a) (b - m) (drop a xs) ∙ ap (λ (l : List ℕ). slice_range xs a m ++ take (b - m) l) (drop-drop (m - a) a xs ∙ ap (λ (n : ℕ). drop n xs) back)
-
-pub part-last : (xs : List ℕ) (a m : ℕ) → a ≤ m → m < length xs → slice_range xs a (m + 1) ≡ slice_range xs a m ++ get_or xs m 0 ∷ []
-part-last xs a m h k =
-    let one : (m + 1) - m ≡ 1 = omega arith in
-    part-split xs a m (m + 1) h (omega arith) ∙ ap (λ (l : List ℕ). slice_range xs a m ++ l) (rw (one, drop-cons xs m 0) refl)
+    ap (λ (n : ℕ). take n (drop a xs)) whole ∙ take-add (m - a) (b - m) (drop a xs)
+    ∙ ap (λ (l : List ℕ). slice_range xs a m ++ take (b - m) l) (drop-drop (m - a) a xs ∙ ap (λ (n : ℕ). drop n xs) back)
 
 pub NoLf-append : (xs ys : List ℕ) → NoLf xs → NoLf ys → NoLf (xs ++ ys)
 NoLf-append [] ys p q = q
@@ -56,7 +54,8 @@ found xs a b (Some i) h k is =
     let short = length-part xs a (a + i) (omega (arith, low, k, h)) in
     let l' : j < (a + i) - a = omega (arith, l, short) in
     let l'' : j < i = omega arith in
-    is.0.before j (omega arith) l'' (eq-eqb _ _ (get_or-part xs a b j (omega (arith, l'', low)) ∙ sym (get_or-part xs a (a + i) j l') ∙ e))) in
+    is.0.before j (omega arith) l'' (eq-eqb _ _ (get_or-part xs a b j (omega (arith, l'', low))
+    ∙ sym (get_or-part xs a (a + i) j l') ∙ e))) in
     (low, NoLf-nowhere _ none, sym (get_or-part xs a b i low) ∙ eqb-true _ _ is.1)
 
 -- where no byte is an LF, this one isn't
@@ -96,10 +95,12 @@ last-is xs h =
     sym (take-suc xs (length xs - 1) 0 (omega arith)) ∙ ap (λ (n : ℕ). take n xs) e ∙ take-length xs
 
 pub cr-len : (xs : List ℕ) → 0 < length xs → get_or xs (length xs - 1) 0 ≡ 13 → take (length xs - 1) xs ≡ no_cr xs
-cr-len xs h e = sym (ap no_cr (sym (last-is xs h) ∙ ap (λ (c : ℕ). take (length xs - 1) xs ++ c ∷ []) e) ∙ no_cr-cr (take (length xs - 1) xs))
+cr-len xs h e = sym (ap no_cr (sym (last-is xs h) ∙ ap (λ (c : ℕ). take (length xs - 1) xs ++ c ∷ []) e)
+    ∙ no_cr-cr (take (length xs - 1) xs))
 
 pub other-len : (xs : List ℕ) → 0 < length xs → get_or xs (length xs - 1) 0 ≢ 13 → take (length xs) xs ≡ no_cr xs
-other-len xs h e = take-length xs ∙ sym (last-is xs h) ∙ sym (ap no_cr (sym (last-is xs h)) ∙ no_cr-other (take (length xs - 1) xs) (get_or xs (length xs - 1) 0) e)
+other-len xs h e = take-length xs ∙ sym (last-is xs h)
+    ∙ sym (ap no_cr (sym (last-is xs h)) ∙ no_cr-other (take (length xs - 1) xs) (get_or xs (length xs - 1) 0) e)
 
 pub empty-part : (xs : List ℕ) (a b : ℕ) → b ≤ a → slice_range xs a b ≡ []
 empty-part xs a b h = let e : b - a ≡ 0 = omega arith in rw e refl

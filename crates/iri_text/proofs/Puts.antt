@@ -1,7 +1,8 @@
 -- How calls that write pieces compose.
-use Rattle.std.proofs.Common.{ℕ, List, [], ◌++◌, Option, None, Some, Result, Ok, Err, IsErr, sym, ◌∙◌, ap, arith, append_assoc}
+use Rattle.std.proofs.Common.{ℕ, ◌+◌, ◌≤◌, List, [], ◌++◌, length, Option, None, Some, Result, Ok, Err, IsErr, sym, ◌∙◌, ap, arith}
+use Rattle.std.proofs.Common.{append_assoc, length-append}
 use Rattle.std.proofs.lemmas.List.{append-nil}
-use Rattle.iri_text.specs.Sink.{Appends, AppendsFront, PutsAll}
+use Rattle.iri_text.specs.Sink.{Appends, AppendsPrefix, HasRoom, KeepsRoom, PutsAll}
 use Rattle.iri_text.specs.declared.Failed.{Failed}
 
 pub Appends-append : (a b c : Option (List ℕ)) (xs ys : List ℕ) → Appends a b xs → Appends b c ys → Appends a c (xs ++ ys)
@@ -16,7 +17,8 @@ pub Appends-none : (a : Option (List ℕ)) → Appends a a []
 Appends-none None = tt
 Appends-none (Some l) = sym (append-nil l)
 
-pub front-after : {a b c : Option (List ℕ)} {ys : List ℕ} (xs : List ℕ) → Appends a b xs → AppendsFront b c ys → AppendsFront a c (xs ++ ys)
+pub front-after : {a b c : Option (List ℕ)} {ys : List ℕ} (xs : List ℕ) → Appends a b xs → AppendsPrefix b c ys
+    → AppendsPrefix a c (xs ++ ys)
 front-after xs p q = record {
   front = xs ++ q.front;
   rest = q.rest;
@@ -24,7 +26,7 @@ front-after xs p q = record {
   appended = Appends-append _ _ _ xs q.front p q.appended;
 }
 
-pub front-longer : {a b : Option (List ℕ)} {xs : List ℕ} (ys : List ℕ) → AppendsFront a b xs → AppendsFront a b (xs ++ ys)
+pub front-longer : {a b : Option (List ℕ)} {xs : List ℕ} (ys : List ℕ) → AppendsPrefix a b xs → AppendsPrefix a b (xs ++ ys)
 front-longer {xs = xs} ys q = record {
   front = q.front;
   rest = q.rest ++ ys;
@@ -32,11 +34,67 @@ front-longer {xs = xs} ys q = record {
   appended = q.appended;
 }
 
-pub puts-then : {a b c : Option (List ℕ)} {fa fb fc : ℕ} {t u : List ℕ} {x : Unit {0}} {r : Result (Unit {0}) Failed} → PutsAll a b fa fb (Ok x) t → PutsAll b c fb fc r u → PutsAll a c fa fc r (t ++ u)
-puts-then {r = Ok y} p q = record { whole = Appends-append _ _ _ _ _ p.whole q.whole; same = q.same ∙ p.same; later = omega (arith, p.later, q.later); cause = tt; front = tt }
-puts-then {r = Err e} p q = record { whole = tt; same = tt; later = omega (arith, p.later, q.later); cause = omega (arith, p.later, q.cause); front = front-after _ p.whole q.front }
+-- room for fewer bytes is known where room for more is
+pub room-less : (room : Option ℕ) (more less : ℕ) → less ≤ more → HasRoom room more → HasRoom room less
+room-less None more less le h = absurd h
+room-less (Some room) more less le h = omega (arith, le, h)
+
+-- room is kept over bytes and others behind them
+pub room-then : {a b c : Option ℕ} {P Q : Type 0} {xs ys : List ℕ} → KeepsRoom a b xs P → KeepsRoom b c ys Q → KeepsRoom a c (xs ++ ys) Q
+room-then {a} {xs = xs} {ys} p q = record {
+  holds = λ h. q.holds (p.left (length ys) (room-less a (length (xs ++ ys)) (length xs + length ys)
+      (omega (arith, length-append xs ys)) h));
+  left = λ more h. q.left more (p.left (length ys + more)
+      (room-less a (length (xs ++ ys) + more) (length xs + (length ys + more)) (omega (arith, length-append xs ys)) h));
+}
+
+-- what holds where bytes have room holds where more bytes have it
+pub room-longer : {a b : Option ℕ} {P : Type 0} {xs : List ℕ} (ys : List ℕ) → KeepsRoom a b xs P → KeepsRoom a b (xs ++ ys) P
+room-longer {a} {b} {xs = xs} ys p = record {
+  holds = λ h. p.holds (room-less a (length (xs ++ ys)) (length xs) (omega (arith, length-append xs ys)) h);
+  left = λ more h.
+      room-less b (length ys + more) more (omega arith)
+      (p.left (length ys + more) (room-less a (length (xs ++ ys) + more) (length xs + (length ys + more))
+      (omega (arith, length-append xs ys)) h));
+}
+
+-- what follows where bytes have room
+pub room-so : {a b : Option ℕ} {P Q : Type 0} {xs : List ℕ} → (P → Q) → KeepsRoom a b xs P → KeepsRoom a b xs Q
+room-so f p = record { holds = λ h. f (p.holds h); left = p.left }
+
+-- nothing was put
+pub room-same : {P : Type 0} (a : Option ℕ) (xs : List ℕ) → (HasRoom a (length xs) → P) → KeepsRoom a a xs P
+room-same a xs holds = record { holds = holds; left = λ more h. room-less a (length xs + more) more (omega arith) h }
+
+pub puts-then : {a b c : Option (List ℕ)} {fa fb fc : ℕ} {ra rb rc : Option ℕ} {t u : List ℕ} {x : Unit {0}} {r : Result (Unit {0}) Failed}
+    → PutsAll a b fa fb ra rb (Ok x) t → PutsAll b c fb fc rb rc r u → PutsAll a c fa fc ra rc r (t ++ u)
+puts-then {r = Ok y} p q = record {
+  whole = Appends-append _ _ _ _ _ p.whole q.whole;
+  same = q.same ∙ p.same;
+  later = omega (arith, p.later, q.later);
+  cause = tt;
+  front = tt;
+  room = room-then p.room q.room;
+}
+puts-then {r = Err e} p q = record {
+  whole = tt;
+  same = tt;
+  later = omega (arith, p.later, q.later);
+  cause = omega (arith, p.later, q.cause);
+  front = front-after _ p.whole q.front;
+  room = room-then p.room q.room;
+}
 
 -- at the exit of a `?`
-pub puts-exit : {a b : Option (List ℕ)} {fa fb : ℕ} {t : List ℕ} {e : Failed} {r : Result (Unit {0}) Failed} (u : List ℕ) → IsErr r → PutsAll a b fa fb (Err e) t → PutsAll a b fa fb r (t ++ u)
+pub puts-exit : {a b : Option (List ℕ)} {fa fb : ℕ} {ra rb : Option ℕ} {t : List ℕ} {e : Failed} {r : Result (Unit {0}) Failed} (u : List ℕ)
+    → IsErr r → PutsAll a b fa fb ra rb (Err e) t
+    → PutsAll a b fa fb ra rb r (t ++ u)
 puts-exit {r = Ok y} u is q = absurd (cc is)
-puts-exit {r = Err d} u is q = record { whole = tt; same = tt; later = q.later; cause = q.cause; front = front-longer u q.front }
+puts-exit {r = Err d} u is q = record {
+  whole = tt;
+  same = tt;
+  later = q.later;
+  cause = q.cause;
+  front = front-longer u q.front;
+  room = room-so (λ h. absurd (cc h)) (room-longer u q.room);
+}

@@ -2,7 +2,7 @@
 use Rattle.std.proofs.Common.{◌≡◌, ℕ, List, [], ◌∷◌, ◌++◌, refl, sym, ◌∙◌, ap, subst, append_assoc}
 use Rattle.std.proofs.lemmas.List.{append-nil}
 use Rattle.iri_text.specs.Shown.{AreSinkLaws}
-use Rattle.iri_text.specs.Through.{after, texts, ThroughPuts, ThroughHalts}
+use Rattle.iri_text.specs.inside.Through.{after, texts, ThroughPuts, ThroughHalts}
 
 module _ {X S : Type 0} (step : S → X → S) (text : S → X → List ℕ) where
   pub texts-one : (s : S) (x : X) → texts step text s (x ∷ []) ≡ text s x
@@ -12,13 +12,17 @@ module _ {X S : Type 0} (step : S → X → S) (text : S → X → List ℕ) whe
   after-append s [] ys = refl
   after-append s (x ∷ xs) ys = after-append (step s x) xs ys
 
-  pub texts-append : (s : S) (xs ys : List X) → texts step text s (xs ++ ys) ≡ texts step text s xs ++ texts step text (after step text s xs) ys
+  pub texts-append : (s : S) (xs ys : List X) → texts step text s (xs ++ ys)
+      ≡ texts step text s xs ++ texts step text (after step text s xs) ys
   texts-append s [] ys = refl
   texts-append s (x ∷ xs) ys =
-      ap (λ l. text s x ++ l) (texts-append (step s x) xs ys) ∙ sym (append_assoc (text s x) (texts step text (step s x) xs) (texts step text (after step text (step s x) xs) ys))
+      ap (λ l. text s x ++ l) (texts-append (step s x) xs ys)
+      ∙ sym (append_assoc (text s x) (texts step text (step s x) xs) (texts step text (after step text (step s x) xs) ys))
 
-module _ {X S V W N : Type 0} (step : S → X → S) (text : S → X → List ℕ) (state : V → S) (to : V → W) (name : V → N) {puts halts : W → List ℕ → W → Type 0} (laws : AreSinkLaws puts halts) where
-  texts-from : (a b : V) (t : List X) → state b ≡ after step text (state a) t → (u : List X) → texts step text (state a) t ++ texts step text (state b) u ≡ texts step text (state a) (t ++ u)
+module _ {X S V W N : Type 0} (step : S → X → S) (text : S → X → List ℕ) (state : V → S) (to : V → W)
+    (name : V → N) {puts halts : W → List ℕ → W → Type 0} (laws : AreSinkLaws puts halts) where
+  texts-from : (a b : V) (t : List X) → state b ≡ after step text (state a) t → (u : List X)
+      → texts step text (state a) t ++ texts step text (state b) u ≡ texts step text (state a) (t ++ u)
   texts-from a b t e u = ap (λ s. texts step text (state a) t ++ texts step text s u) e ∙ sym (texts-append step text (state a) t u)
 
   pub through_laws : AreSinkLaws (ThroughPuts step text state to name puts) (ThroughHalts step text state to name halts)
@@ -35,6 +39,7 @@ module _ {X S V W N : Type 0} (step : S → X → S) (text : S → X → List �
     };
     within = λ a b t u h. record {
       same = h.same;
-      halt = subst (λ l. halts (to a) l (to b)) (sym (texts-append step text (state a) t u)) (laws.within (to a) (to b) _ (texts step text (after step text (state a) t) u) h.halt);
+      halt = subst (λ l. halts (to a) l (to b)) (sym (texts-append step text (state a) t u))
+          (laws.within (to a) (to b) _ (texts step text (after step text (state a) t) u) h.halt);
     };
   }

@@ -1,18 +1,14 @@
 -- What a writer has got of a piece.
-use Rattle.std.proofs.Common.{◌≡◌, ℕ, List, [], ◌++◌, take, drop, length, ◌-◌, arith, Option, None, Some, refl, sym, ◌∙◌, ap, append_assoc}
-use Rattle.std.proofs.lemmas.List.{append-nil, take-append-drop}
+use Rattle.std.proofs.Common.{◌≡◌, ℕ, List, [], ◌++◌, take, drop, length, ◌-◌, arith, Option, None, Some, ◌∙◌, ap, append_assoc}
+use Rattle.std.proofs.lemmas.List.{take-append-drop}
 use Rattle.std.proofs.lemmas.Grind.{common_steps}
-use Rattle.std.specs.Io.KnownBytes.{Appends, Keeps}
+use Rattle.std.specs.Io.KnownBytes.{Appends}
 
--- a front of the piece was written, and this is the rest
+-- a prefix of the piece was written, and this is the rest
 pub record WritesUpTo (old now : Option (List ℕ)) (rest piece : List ℕ) : Type 0 where
   pub front : List ℕ
   pub split : front ++ rest ≡ piece
   pub appended : Appends old now front
-
-Appends-none : (a : Option (List ℕ)) → Appends a a []
-Appends-none None = tt
-Appends-none (Some xs) = sym (append-nil xs)
 
 Appends-append : (a b c : Option (List ℕ)) (xs ys : List ℕ) → Appends a b xs → Appends b c ys → Appends a c (xs ++ ys)
 Appends-append None b c xs ys p q = tt
@@ -20,23 +16,16 @@ Appends-append (Some l) None c xs ys p q = absurd p
 Appends-append (Some l) (Some m) None xs ys p q = absurd q
 Appends-append (Some l) (Some m) (Some n) xs ys p q = q ∙ ap (λ r. r ++ ys) p ∙ append_assoc l xs ys
 
-Appends-kept : (a b c : Option (List ℕ)) (xs : List ℕ) → Appends a b xs → Keeps b c → Appends a c xs
-Appends-kept None b c xs p q = tt
-Appends-kept (Some l) None c xs p q = absurd p
-Appends-kept (Some l) (Some m) None xs p q = absurd q
-Appends-kept (Some l) (Some m) (Some n) xs p q = q ∙ p
-
-pub nothing : (a : Option (List ℕ)) (piece : List ℕ) → WritesUpTo a a piece piece
-nothing a piece = record { front = []; split = refl; appended = Appends-none a }
-
 -- the rest of a slice, as the program takes it
 rest-is : (n : ℕ) (xs : List ℕ) → take (length xs - n) (drop n xs) ≡ drop n xs
 rest-is n xs = grind (arith, common_steps)
 
 -- n bytes more
-pub more : (a b c : Option (List ℕ)) (rest piece : List ℕ) (n : ℕ) → WritesUpTo a b rest piece → Appends b c (take n rest) → WritesUpTo a c (take (length rest - n) (drop n rest)) piece
+pub more : (a b c : Option (List ℕ)) (rest piece : List ℕ) (n : ℕ) → WritesUpTo a b rest piece → Appends b c (take n rest)
+    → WritesUpTo a c (take (length rest - n) (drop n rest)) piece
 more a b c rest piece n w came = record {
   front = w.front ++ take n rest;
-  split = append_assoc w.front (take n rest) _ ∙ ap (λ l. w.front ++ l) (ap (λ l. take n rest ++ l) (rest-is n rest) ∙ take-append-drop n rest) ∙ w.split;
+  split = append_assoc w.front (take n rest) _ ∙ ap (λ l. w.front ++ l)
+      (ap (λ l. take n rest ++ l) (rest-is n rest) ∙ take-append-drop n rest) ∙ w.split;
   appended = Appends-append a b c w.front (take n rest) w.appended came;
 }

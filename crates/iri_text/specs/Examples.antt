@@ -2,7 +2,7 @@
 use Rattle.std.specs.Prelude.{◌≡◌, [], ◌∷◌, ◌++◌, None, Some, codes, refl}
 use Rattle.iri_text.specs.Lines.{lines}
 use Rattle.iri_text.specs.Limits.{limit_fault}
-use Rattle.iri_text.specs.declared.reader.LineFault.TheVariants.{LineTooLong, InputTooLong}
+use Rattle.iri_text.specs.declared.streams.reader.LineFault.TheVariants.{LineTooLong, InputTooLong}
 
 -- no bytes, no line
 pub lines_of_nothing : lines [] ≡ []

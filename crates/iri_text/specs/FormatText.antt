@@ -1,7 +1,7 @@
 -- What a text does to a sink over a formatter.
 use Rattle.std.specs.Prelude.{◌≡◌, ℕ, List}
 use Rattle.std.specs.Fmt.{HasWritten, IsPlainFormatter}
-use Rattle.iri_text.specs.declared.format_sink.FormatSink.{FormatSink}
+use Rattle.iri_text.specs.declared.shown.format_sink.FormatSink.{FormatSink}
 
 -- the same formatter, and where it is plain, the text was written to it
 pub record FormatPuts {W : Type 0} (took : W → List ℕ → W → Type 0) (a : FormatSink W) (t : List ℕ) (b : FormatSink W) : Type 0 where

@@ -1,3 +1,4 @@
+pub mod LineEnds
 pub mod Count
 pub mod Source
 pub mod Sink
@@ -6,21 +7,14 @@ pub mod Memory
 pub mod Lines
 pub mod Limits
 pub mod Line
-pub mod Look
 pub mod View
 pub mod Takings
-pub mod MemoryPuts
 pub mod Reader
 pub mod Examples
 pub mod Shown
-pub mod Compose
-pub mod Through
-pub mod ByChars
 pub mod SliceText
-pub mod SliceLaws
 pub mod SliceView
 pub mod StringText
-pub mod StringLaws
 pub mod Front
 pub mod FormatText
-pub mod FormatLaws
+pub mod inside

@@ -1,6 +1,7 @@
 -- What a reader of lines is seen as.
 use Rattle.std.specs.Prelude.{◌≡◌, ◌<◌, ◌≤◌, ◌+◌, ◌^◌, ℕ, Bool, true, List, length, take, slice_range, get_or}
 use Rattle.iri_text.specs.Lines.{NoLf}
+use Rattle.iri_text.specs.LineEnds.{line_feed}
 
 -- what a reader of lines holds, and what its calls told
 pub record LineState : Type 0 where
@@ -22,7 +23,7 @@ pub record LineState : Type 0 where
 pub record IsFirstLf (bytes : List ℕ) (lf : ℕ) : Type 0 where
   pub within : lf ≤ length bytes
   pub no_lf : NoLf (take lf bytes)
-  pub found : lf < length bytes → get_or bytes lf 0 ≡ 10
+  pub found : lf < length bytes → get_or bytes lf 0 ≡ line_feed
 
 -- where the parts lie in the buffer
 pub record IsLaidOut (buf : List ℕ) (ended : Bool) (start end lf line_start line_end taken line_limit input_limit : ℕ) : Type 0 where

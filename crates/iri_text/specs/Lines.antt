@@ -1,15 +1,16 @@
 -- The lines of a text. An LF is the byte 10, a CR the byte 13.
 use Rattle.std.specs.Prelude.{◌≢◌, ◌==◌, ℕ, List, [], ◌∷◌, ◌++◌, if◌then◌else◌}
+use Rattle.iri_text.specs.LineEnds.{carriage_return, line_feed}
 
 -- no byte is an LF
 abbrev pub NoLf : List ℕ → Type 0
 NoLf [] = Unit {0}
-NoLf (b ∷ bs) = (b ≢ 10) × NoLf bs
+NoLf (b ∷ bs) = (b ≢ line_feed) × NoLf bs
 
 -- the bytes without one CR at their end
 abbrev pub no_cr : List ℕ → List ℕ
 no_cr [] = []
-no_cr (b ∷ []) = if b == 13 then [] else b ∷ []
+no_cr (b ∷ []) = if b == carriage_return then [] else b ∷ []
 no_cr (b ∷ c ∷ bs) = b ∷ no_cr (c ∷ bs)
 
 -- what follows the last LF is a line where it has at least one byte
@@ -20,7 +21,7 @@ last_line (b ∷ bs) = no_cr (b ∷ bs) ∷ []
 -- the lines of these bytes, where the first of them begins with the bytes of `front`
 abbrev pub lines_from : List ℕ → List ℕ → List (List ℕ)
 lines_from front [] = last_line front
-lines_from front (b ∷ bs) = if b == 10 then no_cr front ∷ lines_from [] bs else lines_from (front ++ b ∷ []) bs
+lines_from front (b ∷ bs) = if b == line_feed then no_cr front ∷ lines_from [] bs else lines_from (front ++ b ∷ []) bs
 
 -- The lines of a text: an LF ends a line, and what follows the last LF is a line where it has at least one byte.
 -- One CR directly before the LF, or before the end of the last line, isn't part of the line.

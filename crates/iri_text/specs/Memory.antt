@@ -1,5 +1,5 @@
 -- What the sources and the sink over memory are seen as. Lengths, cuts and room are counts of bytes.
-use Rattle.std.specs.Prelude.{◌≡◌, ℕ, ◌+◌, ◌-◌, ◌^◌, List, length, min, Option, None, Some, slice_get}
+use Rattle.std.specs.Prelude.{◌≡◌, ℕ, ◌+◌, ◌-◌, ◌^◌, List, [], ◌∷◌, length, min, Option, None, Some, slice_get}
 
 -- The bytes that are left, the most bytes that each call gives, the numbers of the calls that fail,
 -- the number of the last call, from 1 and at most 2^64 - 1, and how often it failed.
@@ -24,6 +24,15 @@ pub record SinkState : Type 0 where
   pub fails : List ℕ
   pub calls : ℕ
   pub faults : ℕ
+
+-- so much, where no call fails
+abbrev pub unless_failing : List ℕ → ℕ → Option ℕ
+unless_failing [] room = Some room
+unless_failing (number ∷ fails) room = None
+
+-- How many more bytes the sink takes without a fault. That is known where none of its calls is told to fail.
+abbrev pub room_left_of : SinkState → Option ℕ
+room_left_of s = unless_failing s.fails (s.room - length s.written)
 
 -- the most bytes that a call gives, by its number from 1: the last cut repeats, and with no cuts there is no bound
 abbrev pub cut_of : List ℕ → ℕ → Option ℕ

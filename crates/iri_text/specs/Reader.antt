@@ -1,22 +1,25 @@
 -- What a reader of lines holds, and what a call does to it.
-use Rattle.std.specs.Prelude.{◌≡◌, ◌≢◌, ◌⊎◌, ◌≤◌, ◌+◌, ◌-◌, ℕ, Bool, true, false, List, [], ◌∷◌, ◌++◌, ⊤, length, Option, None, Some, Result, Ok, Err}
+use Rattle.std.specs.Prelude.{◌≡◌, ◌≢◌, ◌⊎◌, ◌≤◌, ◌+◌, ◌-◌, ℕ, Bool, true, false, List, [], ◌∷◌, ◌++◌, ⊤, length, Option, None, Some}
+use Rattle.std.specs.Prelude.{Result, Ok, Err}
 use Rattle.std.proofs.Common.{Bor}
 use Rattle.iri_text.specs.Source.{Consumes, IsAtEnd}
 use Rattle.iri_text.specs.Count.{Rose}
 use Rattle.iri_text.specs.Lines.{NoLf, no_cr, lines}
 use Rattle.iri_text.specs.Limits.{limit_fault, limit_told}
 use Rattle.iri_text.specs.Line.{LineState}
-use Rattle.iri_text.specs.declared.reader.LineFault.{LineFault}
-use Rattle.iri_text.specs.declared.reader.LineFault.TheVariants.{Source, LineTooLong, InputTooLong}
+use Rattle.iri_text.specs.declared.streams.reader.LineFault.{LineFault}
+use Rattle.iri_text.specs.declared.streams.reader.LineFault.TheVariants.{Source, LineTooLong, InputTooLong}
+use Rattle.iri_text.specs.LineEnds.{line_feed}
 
--- The line that is given, from the front of these bytes. It goes together with its LF, or was the last one, which has none.
+-- The line that is given, from the start of these bytes. It goes together with its LF, or was the last one, which has none.
 pub record GivesLine (all : List ℕ) (left : Option (List ℕ)) (new : LineState) : Type 0 where
   pub raw : List ℕ
   pub whole : NoLf raw
   pub short : length raw ≤ new.line_limit
   pub line : new.line ≡ no_cr raw
   pub within : new.taken ≤ new.input_limit + length new.held
-  pub rest : ((all ≡ raw ++ 10 ∷ new.held) × (new.ended ≡ false)) ⊎ ((all ≡ raw) × (raw ≢ []) × (new.held ≡ []) × IsAtEnd left × (new.ended ≡ true))
+  pub rest : ((all ≡ raw ++ line_feed ∷ new.held) × (new.ended ≡ false))
+      ⊎ ((all ≡ raw) × (raw ≢ []) × (new.held ≡ []) × IsAtEnd left × (new.ended ≡ true))
 
 -- The line has a byte past its limit and no LF up to there, and that byte is within the limit of the input.
 pub record IsTooLong (all : List ℕ) (new : LineState) : Type 0 where
@@ -28,7 +31,7 @@ pub record IsTooLong (all : List ℕ) (new : LineState) : Type 0 where
   pub within : new.taken + length front ≤ new.input_limit + length all
 
 -- The last byte that was taken is the first one past the limit of the input, and no line ends before it.
-pub record IsOver (all : List ℕ) (new : LineState) : Type 0 where
+pub record IsExhausted (all : List ℕ) (new : LineState) : Type 0 where
   pub front : List ℕ
   pub last : ℕ
   pub split : front ++ last ∷ [] ≡ all
@@ -42,7 +45,7 @@ Says was_ended all left new (Ok true) = GivesLine all left new
 Says was_ended all left new (Ok false) = (all ≡ []) × (new.held ≡ []) × (was_ended ≡ false → IsAtEnd left)
 Says was_ended all left new (Err Source) = (new.held ≡ all) × NoLf all × (length all ≤ new.line_limit) × (new.taken ≤ new.input_limit)
 Says was_ended all left new (Err LineTooLong) = (new.held ≡ all) × IsTooLong all new
-Says was_ended all left new (Err InputTooLong) = (new.held ≡ all) × IsOver all new
+Says was_ended all left new (Err InputTooLong) = (new.held ≡ all) × IsExhausted all new
 
 -- the count of faults rose, where the answer says that the source failed
 abbrev pub HasCause : ℕ → ℕ → Result Bool LineFault → Type 0
@@ -71,7 +74,8 @@ GivesNext old new (Some xs) None result = ⊤
 GivesNext old new None left result = ⊤
 
 -- A call moved these bytes from the source to the reader, and answered.
-pub record Advances (old new : LineState) (left_old left_new : Option (List ℕ)) (faults_old faults_new : ℕ) (result : Result Bool LineFault) : Type 0 where
+pub record Advances (old new : LineState) (left_old left_new : Option (List ℕ)) (faults_old faults_new : ℕ)
+    (result : Result Bool LineFault) : Type 0 where
   pub moved : List ℕ
   pub moves : Consumes left_old left_new moved
   pub counted : new.taken ≡ old.taken + length moved
@@ -102,6 +106,7 @@ IsItsLine new (Ok (Some line)) = line.now ≡ new.line
 IsItsLine new (Err fault) = Unit {0}
 
 -- a call of `next_line`
-pub record NextLine (old new : LineState) (left_old left_new : Option (List ℕ)) (faults_old faults_new : ℕ) (result : Result (Option (Bor (List ℕ))) LineFault) : Type 0 where
+pub record NextLine (old new : LineState) (left_old left_new : Option (List ℕ)) (faults_old faults_new : ℕ)
+    (result : Result (Option (Bor (List ℕ))) LineFault) : Type 0 where
   pub advances : Advances old new left_old left_new faults_old faults_new (advanced result)
   pub line : IsItsLine new result

@@ -1,5 +1,5 @@
 -- What a call does to a sink.
-use Rattle.std.specs.Prelude.{◌≡◌, ◌≤◌, ℕ, List, ◌++◌, ⊤, Option, None, Some, Result, OnOk, OnErr}
+use Rattle.std.specs.Prelude.{◌≡◌, ◌≤◌, ℕ, ◌+◌, List, [], ◌++◌, length, ⊤, Option, None, Some, Result, IsOk, OnOk, OnErr}
 use Rattle.iri_text.specs.Count.{Rose}
 use Rattle.iri_text.specs.declared.Failed.{Failed}
 
@@ -10,24 +10,39 @@ Appends None (Some ys) bs = ⊥
 Appends (Some xs) None bs = ⊥
 Appends (Some xs) (Some ys) bs = ys ≡ xs ++ bs
 
--- what is written grew by a front of these bytes
-pub record AppendsFront (old new : Option (List ℕ)) (bytes : List ℕ) : Type 0 where
+-- what is written grew by a prefix of these bytes
+pub record AppendsPrefix (old new : Option (List ℕ)) (bytes : List ℕ) : Type 0 where
   pub front : List ℕ
   pub rest : List ℕ
   pub split : front ++ rest ≡ bytes
   pub appended : Appends old new front
 
--- It appended the whole piece. It failed only where the count of faults rose, and then it appended a front of the piece.
-pub record PutsAll (written_old written_new : Option (List ℕ)) (faults_old faults_new : ℕ) (result : Result (Unit {0}) Failed) (piece : List ℕ) : Type 0 where
+-- room for so many bytes is known
+abbrev pub HasRoom : Option ℕ → ℕ → Type 0
+HasRoom None count = ⊥
+HasRoom (Some room) count = count ≤ room
+
+-- Where room for these bytes is known, this holds, and room that was known for more is left.
+pub record KeepsRoom (room_old room_new : Option ℕ) (bytes : List ℕ) (Holds : Type 0) : Type 0 where
+  pub holds : HasRoom room_old (length bytes) → Holds
+  pub left : (more : ℕ) → HasRoom room_old (length bytes + more) → HasRoom room_new more
+
+-- It appended the whole piece. It failed only where the count of faults rose, and then it appended a prefix of the piece. Where it is
+-- known to have room for the piece, it didn't fail.
+pub record PutsAll (written_old written_new : Option (List ℕ)) (faults_old faults_new : ℕ) (room_old room_new : Option ℕ)
+    (result : Result (Unit {0}) Failed) (piece : List ℕ) : Type 0 where
   pub whole : OnOk result (Appends written_old written_new piece)
   pub same : OnOk result (faults_new ≡ faults_old)
   pub later : faults_old ≤ faults_new
   pub cause : OnErr result (Rose faults_old faults_new)
-  pub front : OnErr result (AppendsFront written_old written_new piece)
+  pub front : OnErr result (AppendsPrefix written_old written_new piece)
+  pub room : KeepsRoom room_old room_new piece (IsOk result)
 
--- What is written stays as it was. It failed only where the count of faults rose.
-pub record Flushes (written_old written_new : Option (List ℕ)) (faults_old faults_new : ℕ) (result : Result (Unit {0}) Failed) : Type 0 where
+-- What is written stays as it was. It failed only where the count of faults rose. Where any room is known, it didn't fail.
+pub record Flushes (written_old written_new : Option (List ℕ)) (faults_old faults_new : ℕ) (room_old room_new : Option ℕ)
+    (result : Result (Unit {0}) Failed) : Type 0 where
   pub kept : written_new ≡ written_old
   pub same : OnOk result (faults_new ≡ faults_old)
   pub later : faults_old ≤ faults_new
   pub cause : OnErr result (Rose faults_old faults_new)
+  pub room : KeepsRoom room_old room_new [] (IsOk result)

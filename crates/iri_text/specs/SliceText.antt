@@ -12,7 +12,7 @@ pub record SlicePuts (a : SliceText) (t : List ℕ) (b : SliceText) : Type 0 whe
   pub taken : b.taken ≡ a.taken ++ t
   pub room : b.room ≡ a.room
 
--- the same buffer, and a front of a text that is longer than the rest of it
+-- the same buffer, and a prefix of a text that is longer than the rest of it
 pub record SliceHalts (a : SliceText) (t : List ℕ) (b : SliceText) : Type 0 where
   pub front : List ℕ
   pub rest : List ℕ

@@ -2,7 +2,7 @@
 use Rattle.std.specs.Prelude.{◌≤◌, take, length}
 use Rattle.std.specs.Str.{IsUtf8}
 use Rattle.iri_text.specs.SliceText.{SliceText}
-use Rattle.iri_text.specs.declared.slice_sink.SliceSink.TheInside.{Inside}
+use Rattle.iri_text.specs.declared.shown.slice_sink.SliceSink.TheInside.{Inside}
 
 abbrev pub slice_text : Inside → SliceText
 slice_text a = record { taken = take a.len a.buf.now; room = length a.buf.now; stops = a.stops }

@@ -3,7 +3,7 @@ use Rattle.std.specs.Prelude.{◌≡◌, ◌<◌, ◌≤◌, ℕ, List, [], take
 use Rattle.iri_text.specs.Count.{Rose}
 use Rattle.iri_text.specs.declared.Failed.{Failed}
 
--- These bytes come from the front of what is left, where that is told. A source tells it always or never.
+-- These bytes come from the start of what is left, where that is told. A source tells it always or never.
 abbrev pub Consumes : Option (List ℕ) → Option (List ℕ) → List ℕ → Type 0
 Consumes None None bs = ⊤
 Consumes None (Some ys) bs = ⊥
@@ -15,7 +15,7 @@ abbrev pub IsAtEnd : Option (List ℕ) → Type 0
 IsAtEnd None = ⊤
 IsAtEnd (Some xs) = xs ≡ []
 
--- It put the first n bytes of what is left at the front of the buffer, where it answers n, and none only at the end or with no room.
+-- It put the first n bytes of what is left at the start of the buffer, where it answers n, and none only at the end or with no room.
 -- It failed only where the count of faults rose, and then it took nothing.
 pub record Takes (left_old left_new : Option (List ℕ)) (faults_old faults_new : ℕ) (result : Result ℕ Failed) (buf : List ℕ) : Type 0 where
   pub within : IfOk result (λ n. n ≤ length buf)

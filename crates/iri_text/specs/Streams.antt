@@ -1,19 +1,21 @@
 -- What the source and the sink over std's readers and writers are seen as, and what they do to them.
-use Rattle.std.specs.Prelude.{◌≡◌, ℕ, List, ◌++◌, Option}
+use Rattle.std.specs.Prelude.{◌≡◌, ℕ, Bool, List, ◌++◌, Option}
 use Rattle.std.specs.Io.KnownBytes.{Appends}
 
 -- the reader, and how often it failed, at most 2^64 - 1
-pub record Reading (R : Type 0) : Type 0 where
+pub record ReadState (R : Type 0) : Type 0 where
   pub inner : R
   pub faults : ℕ
 
--- the writer, and how often it failed, at most 2^64 - 1
+-- The writer, how often it failed, at most 2^64 - 1, and whether it may hold bytes back: at first, and where some were written since
+-- the last flush that succeeded.
 pub record Writing (W : Type 0) : Type 0 where
   pub inner : W
   pub faults : ℕ
+  pub pending : Bool
 
--- a writer that tells its bytes has a front of these behind them
-pub record WritesFront (old new : Option (List ℕ)) (bytes : List ℕ) : Type 0 where
+-- a writer that tells its bytes has a prefix of these behind them
+pub record WritesPrefix (old new : Option (List ℕ)) (bytes : List ℕ) : Type 0 where
   pub front : List ℕ
   pub rest : List ℕ
   pub split : front ++ rest ≡ bytes

@@ -1,6 +1,6 @@
 -- What a string sink keeps, and what a text does to it.
 use Rattle.std.specs.Prelude.{◌≡◌, ◌≤◌, ◌<◌, ◌+◌, ℕ, List, ◌++◌, length, string_bytes, string_len, string_capacity}
-use Rattle.iri_text.specs.declared.string_sink.StringSink.{StringSink}
+use Rattle.iri_text.specs.declared.shown.string_sink.StringSink.{StringSink}
 
 -- the text of the string, with what was taken at its end
 abbrev pub string_taken : StringSink → List ℕ
@@ -13,7 +13,7 @@ pub record StringPuts (a : StringSink) (t : List ℕ) (b : StringSink) : Type 0 
   pub len : string_len b.dest.now ≡ string_len a.dest.now + length t
   pub room : string_capacity a.dest.now ≤ string_capacity b.dest.now
 
--- the same string, and a front of a text for which it had no room
+-- the same string, and a prefix of a text for which it had no room
 pub record StringHalts (a : StringSink) (t : List ℕ) (b : StringSink) : Type 0 where
   pub same : b.dest.ghost_name ≡ a.dest.ghost_name
   pub front : List ℕ

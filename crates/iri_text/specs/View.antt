@@ -1,7 +1,7 @@
 -- How the fields of a reader are seen.
 use Rattle.std.specs.Prelude.{slice_range}
 use Rattle.iri_text.specs.Line.{LineState, IsLaidOut}
-use Rattle.iri_text.specs.declared.reader.LineReader.TheInside.{Inside}
+use Rattle.iri_text.specs.declared.streams.reader.LineReader.TheInside.{Inside}
 
 abbrev pub line_state : Inside → LineState
 line_state a = record {

@@ -1,15 +1,15 @@
 // What holds of the lines of a text, of the limits, and of a sink over memory.
 ghost use Rattle.std.specs.Prelude.{◌≡◌, ◌≢◌, ◌≤◌, ◌<◌, ◌+◌, ℕ, List, [], ◌∷◌, ◌++◌, length, Some, None};
-ghost use Rattle.std.specs.List.{concat};
 ghost use Rattle.iri_text.specs.Lines.{NoLf, no_cr, lines};
 ghost use Rattle.iri_text.specs.Limits.{limit_fault};
-ghost use Rattle.iri_text.specs.Memory.{SinkState};
-ghost use Rattle.iri_text.specs.MemoryPuts.{PutsEach};
-ghost use Rattle.iri_text.specs.declared.reader.LineFault.TheVariants.{LineTooLong, InputTooLong};
+ghost use Rattle.iri_text.specs.Sink.{HasRoom};
+ghost use Rattle.iri_text.specs.Memory.{SinkState, room_left_of};
+ghost use Rattle.iri_text.specs.declared.streams.reader.LineFault.TheVariants.{LineTooLong, InputTooLong};
+ghost use Rattle.iri_text.specs.LineEnds.{carriage_return, line_feed};
 
 /// What comes before the first LF, without one CR at its end, is the first line. The others are the lines of what follows.
 pub fn line_before_lf()
-    ensures { (raw rest : List ℕ) → NoLf raw → lines (raw ++ 10 ∷ rest) ≡ no_cr raw ∷ lines rest }
+    ensures { (raw rest : List ℕ) → NoLf raw → lines (raw ++ line_feed ∷ rest) ≡ no_cr raw ∷ lines rest }
 {}
 
 /// Bytes with no LF are one line, without one CR at their end.
@@ -19,32 +19,34 @@ pub fn last_line()
 
 /// One CR at the end goes, and no other byte.
 pub fn line_without_cr()
-    ensures cr { (bytes : List ℕ) → no_cr (bytes ++ 13 ∷ []) ≡ bytes }
-    ensures other { (bytes : List ℕ) (b : ℕ) → b ≢ 13 → no_cr (bytes ++ b ∷ []) ≡ bytes ++ b ∷ [] }
+    ensures cr { (bytes : List ℕ) → no_cr (bytes ++ carriage_return ∷ []) ≡ bytes }
+    ensures other { (bytes : List ℕ) (b : ℕ) → b ≢ carriage_return → no_cr (bytes ++ b ∷ []) ≡ bytes ++ b ∷ [] }
 {}
 
 /// Behind `place` bytes a line passes its limit where no LF stands among as many bytes as it and one more, and they are within
 /// the limit of the input.
 pub fn line_past_its_limit()
-    ensures { (line input place : ℕ) (front rest : List ℕ) → NoLf front → length front ≡ line + 1 → place + length front ≤ input →
+    ensures { (line input place : ℕ) (front rest : List ℕ) → NoLf front → length front ≡ line + 1
+        → place + length front ≤ input →
         limit_fault line input place 0 (front ++ rest) ≡ Some LineTooLong }
 {}
 
 /// Behind `place` bytes a byte passes the limit of the input where it comes behind as many bytes as that, and the line before
 /// it hasn't ended and is within its own limit.
 pub fn input_past_its_limit()
-    ensures { (line input place last : ℕ) (front rest : List ℕ) → NoLf front → length front ≤ line → place + length front ≡ input →
+    ensures { (line input place last : ℕ) (front rest : List ℕ) → NoLf front → length front ≤ line
+        → place + length front ≡ input →
         limit_fault line input place 0 (front ++ last ∷ rest) ≡ Some InputTooLong }
 {}
 
 /// Behind `place` bytes a line that an LF ends passes no limit where it is within its own and its LF within that of the input.
 pub fn line_within_its_limits()
     ensures { (line input place : ℕ) (raw rest : List ℕ) → NoLf raw → length raw ≤ line → place + length raw < input →
-        limit_fault line input place 0 (raw ++ 10 ∷ rest) ≡ None }
+        limit_fault line input place 0 (raw ++ line_feed ∷ rest) ≡ None }
 {}
 
-/// A sink over memory that is told no failing calls and has room for all the pieces fails at none of them, and has them all.
+/// A sink over memory that is told no failing calls is known to have the room of its slice that isn't written yet.
 pub fn memory_sink_with_room()
-    ensures { (old new : SinkState) (pieces : List (List ℕ)) → PutsEach old pieces new → old.fails ≡ [] → length old.written + length (concat pieces) ≤ old.room →
-        (new.faults ≡ old.faults) × (new.written ≡ old.written ++ concat pieces) }
+    ensures { (s : SinkState) (count : ℕ) → s.fails ≡ [] → length s.written + count ≤ s.room
+        → HasRoom (room_left_of s) count }
 {}

@@ -14,9 +14,11 @@
 //!
 //! Proved: every source and sink here keeps its trait (`Takes`, `PutsAll`, `Flushes`): what was taken or put, that a flush
 //! keeps what is written, that the count of faults never falls, and that it rose where a call failed.
-//! `MemorySource` and `MemorySink` fail exactly where they are told to or have no room, `PlainSource` never. A `LineReader`
-//! gives the next of the `lines` of what is still to come, answers that a limit is passed exactly where one is and names the
-//! one that is passed first, and keeps what it took after every fault.
+//! A `WriteSink` is told to hold nothing back only after a flush that succeeded.
+//! `MemorySource` and `MemorySink` fail exactly where they are told to or have no room, `PlainSource` never. A sink that is known
+//! to have room for a piece takes it (`KeepsRoom`), and a `MemorySink` that is told no failing calls is known to have its room.
+//! A `LineReader` gives the next of the `lines` of what is still to come, answers that a limit is passed exactly where one is and
+//! names the one that is passed first, and keeps what it took after every fault.
 //! `show` appends exactly the text of its value, or the sink's count of stops rose and the sink stopped within that text
 //! (`Shows`). The text of an integer is std's decimal. A slice sink stops exactly where a piece is longer than the rest of its
 //! slice, and a string sink only where its string would have to grow; both take nothing of a piece at which they stop.
@@ -27,48 +29,35 @@
 //! writers says nothing. As a source and a sink, `ReadSource` and `WriteSink` tell no bytes; they are proved to pass on the
 //! bytes of a reader or a writer that tells its own, as one over memory. Which of their calls fail is the reader's or the
 //! writer's matter; that they fail only where it does, and that a flush reaches the writer, is tested. So are that
-//! `LineReader::new` gets its memory, that memory is had where a string grows, and that a `Display` here fails only where the
+//! `LineReader::new` gets its memory, that memory is allocated where a string grows, and that a `Display` here fails only where the
 //! formatter does.
 //!
 //! A `LineReader` looks at each byte for an LF once, and keeps where the first one stands, so `holds_lf` looks at none. That lines
 //! come out the same in whatever pieces a source gives them is proved, and `reader/tests.rt` shows it byte by byte.
 #![tactic(auto)]
 
-ghost use Rattle.std.specs.Prelude.{ℕ, List, Option, ⊤};
+ghost use Rattle.std.specs.Prelude.{ℕ, List, Option, None, ⊤};
 ghost use Rattle.iri_text.specs.Source.{Takes};
 ghost use Rattle.iri_text.specs.Sink.{PutsAll, Flushes};
 
-mod format;
-mod format_sink;
-mod held;
+mod copying;
 pub mod laws;
-mod memory_sink;
-mod memory_source;
-mod number;
-mod owned;
-mod place;
-mod plain_source;
-mod read_source;
-mod reader;
-mod row;
-mod show;
-mod slice_sink;
-mod string_sink;
-mod write_sink;
+mod shown;
+mod streams;
 
-pub use format_sink::FormatSink;
-pub use held::{Bytes, Text};
-pub use memory_sink::MemorySink;
-pub use memory_source::MemorySource;
-pub use owned::{ToDedicatedString, ToStringFallible};
-pub use plain_source::PlainSource;
-pub use read_source::ReadSource;
-pub use reader::{LineFault, LineReader};
-pub use row::{show_each, show_five, show_four, show_three, show_two};
-pub use show::{Show, Stop, TextSink};
-pub use slice_sink::{CapacityOverflowError, SliceSink, write_to_slice};
-pub use string_sink::{StringSink, try_append_to_string};
-pub use write_sink::WriteSink;
+pub use shown::format_sink::FormatSink;
+pub use shown::owned::{ToDedicatedString, ToStringFallible};
+pub use shown::owned_text::{Bytes, Text};
+pub use shown::sequence::{show_each, show_five, show_four, show_three, show_two};
+pub use shown::show::{Show, Stop, TextSink};
+pub use shown::slice_sink::{CapacityOverflowError, SliceSink, write_to_slice};
+pub use shown::string_sink::{StringSink, try_append_to_string};
+pub use streams::memory_sink::MemorySink;
+pub use streams::memory_source::MemorySource;
+pub use streams::plain_source::PlainSource;
+pub use streams::read_source::ReadSource;
+pub use streams::reader::{LineFault, LineReader};
+pub use streams::write_sink::WriteSink;
 
 /// A source or a sink failed.
 #[derive(Clone, Copy, Debug)]
@@ -85,7 +74,7 @@ pub trait Source {
     /// One call of `take` leads from this source to that one. A source that says no more of its calls needn't give it.
     ghost call: { Self → Self → Type 0 } = { λ _ _. ⊤ };
 
-    /// Puts the next bytes at the front of `buf` and answers how many, at most its length. The answer is 0 only where nothing
+    /// Puts the next bytes at the start of `buf` and answers how many, at most its length. The answer is 0 only where nothing
     /// is left or `buf` is empty. It fails only where the count of faults rises, and takes nothing then.
     fn take(&mut self, buf: &mut [u8]) -> Result<usize, Failed>
         ensures takes { Takes (left self.old) (left self.new) (faults self.old) (faults self.new) result buf.new }
@@ -100,14 +89,20 @@ pub trait Sink {
     /// How often it failed, up to 2^64 - 1, where the count stays.
     ghost faults: { Self → ℕ };
 
-    /// Writes the whole piece. It fails only where the count of faults rises, and has written a front of the piece then.
+    /// How many more bytes it is known to take without a fault. A sink of which that isn't known needn't give it.
+    ghost room_left: { Self → Option ℕ } = { λ _. None };
+
+    /// Writes the whole piece. It fails only where the count of faults rises, and has written a prefix of the piece then. Where
+    /// it is known to have room for the piece, it doesn't fail.
     fn put_all(&mut self, piece: &[u8]) -> Result<(), Failed>
-        ensures { PutsAll (written self.old) (written self.new) (faults self.old) (faults self.new) result piece.now };
+        ensures { PutsAll (written self.old) (written self.new) (faults self.old) (faults self.new) (room_left self.old)
+            (room_left self.new) result piece.now };
 
     /// Hands on what the sink buffers. It fails only where the count of faults rises, and what is written stays as it was. A sink
     /// that buffers nothing needn't give it: nothing is done then.
     fn flush(&mut self) -> Result<(), Failed>
-        ensures { Flushes (written self.old) (written self.new) (faults self.old) (faults self.new) result }
+        ensures { Flushes (written self.old) (written self.new) (faults self.old) (faults self.new) (room_left self.old)
+            (room_left self.new) result }
     {
         Ok(())
     }

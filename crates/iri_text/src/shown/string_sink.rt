@@ -1,0 +1,70 @@
+// Text at the end of a string.
+ghost use Rattle.std.specs.Prelude.{◌≡◌, ◌<◌, ◌+◌, ◌++◌, length, OnOk, OnErr, string_bytes, string_len};
+ghost use Rattle.std.specs.Prelude.{string_capacity};
+ghost use Rattle.iri_text.specs.Shown.{Shows};
+ghost use Rattle.iri_text.specs.Front.{IsFrontAfter};
+
+use crate::{Show, Stop, TextSink};
+use std::alloc::AllocError;
+
+/// A sink at the end of a string. It stops on allocation failure, and for nothing else: only where the string would have to grow.
+#[derive(Drop)]
+pub struct StringSink<'b> {
+    dest: &'b mut String,
+    stops: u64,
+}
+
+impl<'b> StringSink<'b> {
+    /// What is put goes to the end of `dest`, which holds it when the sink is given up.
+    pub fn new(dest: &'b mut String) -> StringSink<'b>
+        ensures same_reference { result.dest.ghost_name ≡ dest.entry.ghost_name }
+        ensures same_string { result.dest.now ≡ dest.old }
+        ensures stops { result.stops ≡ 0 }
+    {
+        StringSink { dest, stops: 0 }
+    }
+}
+
+impl<'b> TextSink for StringSink<'b> {
+    ghost use Rattle.std.specs.Prelude.{◌≡◌, OnErr};
+    ghost use Rattle.iri_text.specs.Shown.{Shows};
+    ghost use Rattle.iri_text.specs.StringText.{string_taken, StringPuts, StringHalts};
+    ghost use Rattle.iri_text.specs.inside.StringLaws.{string_none, string_both, string_until, string_within};
+
+    ghost puts = { StringPuts };
+
+    ghost halts = { StringHalts };
+
+    ghost stops = { λ s. s.stops };
+
+    ghost rules = { record { none = string_none; both = string_both; until = string_until; within = string_within } };
+
+    /// Stops on allocation failure, only where the piece is longer than the room that the string has left, and then takes
+    /// nothing of it.
+    fn put(&mut self, piece: &str) -> Result<(), Stop>
+        ensures shows { Shows StringPuts StringHalts (λ s. s.stops) self.old piece.now self.new result }
+        ensures nothing { OnErr result (string_taken self.new ≡ string_taken self.old) }
+    {
+        match self.dest.push_str(piece) {
+            Ok(()) => Ok(()),
+            Err(_) => {
+                self.stops = self.stops.saturating_add(1);
+                Err(Stop)
+            }
+        }
+    }
+}
+
+/// Appends the text of a value to a string. Memory is wanting only where the string has no room for the whole text, and then
+/// the string is the old text and a prefix of the new one.
+pub fn try_append_to_string<T: Show>(dest: &mut String, value: &T) -> Result<(), AllocError>
+    ensures whole { OnOk result (string_bytes dest.new ≡ string_bytes dest.old ++ T.text value.now) }
+    ensures front { OnErr result (IsFrontAfter (string_bytes dest.old) (T.text value.now) (string_bytes dest.new)) }
+    ensures long { OnErr result (string_capacity dest.old < string_len dest.old + length (T.text value.now)) }
+{
+    let mut sink = StringSink::new(dest);
+    match value.show(&mut sink) {
+        Ok(()) => Ok(()),
+        Err(_) => Err(AllocError),
+    }
+}

@@ -1,0 +1,108 @@
+// A sink over memory.
+ghost use Rattle.std.specs.Prelude.{◌≡◌, ◌≤◌, ◌<◌, ◌+◌, ◌++◌, [], length, take};
+
+use crate::copying::copy_to;
+use crate::{Failed, Sink};
+use std::marker::Model;
+
+/// Writes to a slice of bytes. It fails as it is told, and where a piece has no room.
+#[derive(Drop)]
+pub struct MemorySink<'a> {
+    buf: &'a mut [u8],
+    len: usize,
+    fails: &'a [u64],
+    calls: u64,
+    faults: u64,
+}
+
+impl<'a> Model for MemorySink<'a> {
+    ghost use Rattle.std.specs.Prelude.{◌≤◌, length, take};
+    ghost use Rattle.iri_text.specs.Memory.{SinkState};
+
+    ghost Value = { SinkState };
+
+    ghost view = { λ s. record {
+      written = take s.len s.buf.now;
+      room = length s.buf.now;
+      fails = s.fails.now;
+      calls = s.calls;
+      faults = s.faults;
+    } };
+
+    ghost invariant = { λ s. s.len ≤ length s.buf.now };
+}
+
+impl<'a> MemorySink<'a> {
+    /// Nothing is written yet, and no call is numbered. The calls whose numbers, from 1, stand in `fails` will fail.
+    pub fn new(buf: &'a mut [u8], fails: &'a [u64]) -> MemorySink<'a>
+        ensures written { ⟦<MemorySink<'a> as Sink>⟧.written result ≡ Some [] }
+        ensures faults { ⟦<MemorySink<'a> as Sink>⟧.faults result ≡ 0 }
+        ensures room { result.room ≡ length buf.old }
+        ensures fails { result.fails ≡ fails.now }
+        ensures calls { result.calls ≡ 0 }
+        ensures room_left { fails.now ≡ [] → ⟦<MemorySink<'a> as Sink>⟧.room_left result ≡ Some (length buf.old) }
+    {
+        MemorySink {
+            buf,
+            len: 0,
+            fails,
+            calls: 0,
+            faults: 0,
+        }
+    }
+
+    /// The bytes that were written.
+    pub fn written(&self) -> &[u8]
+        ensures { result.now ≡ self.now.written }
+    {
+        &self.buf[..self.len]
+    }
+}
+
+impl<'a> Sink for MemorySink<'a> {
+    ghost use Rattle.std.specs.Prelude.{◌≡◌, ◌≤◌, ◌<◌, ◌+◌, ◌-◌, ◌^◌, ◌⊎◌, ◌↔◌, min, length, Some, IsOk, IsErr, OnErr};
+    ghost use Rattle.std.specs.Prelude.{Contains};
+    ghost use Rattle.iri_text.specs.Memory.{room_left_of};
+    ghost use Rattle.iri_text.specs.Sink.{PutsAll, Flushes};
+
+    ghost written = { λ s. Some s.written };
+
+    ghost faults = { λ s. s.faults };
+
+    ghost room_left = { room_left_of };
+
+    /// Fails exactly where the number of the call stands in `fails` or the piece is longer than the room that is left, and writes nothing then.
+    fn put_all(&mut self, piece: &[u8]) -> Result<(), Failed>
+        ensures puts { PutsAll (Some self.old.written) (Some self.new.written) self.old.faults self.new.faults
+            (room_left_of self.old) (room_left_of self.new) result piece.now }
+        ensures calls { self.new.calls ≡ min (self.old.calls + 1) (2 ^ 64 - 1) }
+        ensures exact { IsErr result ↔ (Contains self.old.fails self.new.calls
+            ⊎ (self.old.room < length self.old.written + length piece.now)) }
+        ensures nothing { OnErr result (self.new.written ≡ self.old.written) }
+        ensures room { self.new.room ≡ self.old.room }
+        ensures fails { self.new.fails ≡ self.old.fails }
+    {
+        self.calls = self.calls.saturating_add(1);
+        if self.fails.contains(&self.calls) || self.buf.len() - self.len < piece.len() {
+            self.faults = self.faults.saturating_add(1);
+            return Err(Failed);
+        }
+        let end = self.len + piece.len();
+        copy_to(self.buf, self.len, piece);
+        self.len = end;
+        Ok(())
+    }
+
+    /// Nothing is ever held back: it never fails, and changes nothing.
+    fn flush(&mut self) -> Result<(), Failed>
+        ensures flushes { Flushes (Some self.old.written) (Some self.new.written) self.old.faults self.new.faults
+            (room_left_of self.old) (room_left_of self.new) result }
+        ensures succeeds { IsOk result }
+        ensures same { self.new ≡ self.old }
+    {
+        Ok(())
+    }
+}
+
+#[cfg(test)]
+mod tests;

@@ -1,0 +1,298 @@
+// Lines of a source.
+ghost use Rattle.std.specs.Prelude.{◌≡◌, ◌↔◌, ◌≤◌, ◌<◌, ◌+◌, ◌-◌, ◌^◌, [], ◌++◌, true, false, length, take};
+ghost use Rattle.std.specs.Prelude.{slice_range, slice_index, IfOk, OnErr};
+ghost use Rattle.iri_text.specs.Lines.{NoLf, no_cr};
+ghost use Rattle.iri_text.specs.Line.{IsFirstLf};
+ghost use Rattle.iri_text.specs.Source.{Consumes, IsAtEnd};
+ghost use Rattle.iri_text.specs.Count.{Rose};
+ghost use Rattle.iri_text.specs.Reader.{Advances, is_final, done_by};
+ghost use Rattle.iri_text.specs.inside.LfSearch.{Looks};
+ghost use Rattle.iri_text.specs.Takings.{TakesAsNeeded};
+
+use crate::{Failed, Source};
+use memchr::memchr;
+use std::alloc::{AllocError, Global};
+use std::marker::Model;
+
+const BLOCK: usize = 65536;
+
+/// Why there is no next line.
+#[derive(Clone, Copy, Debug, PartialEq, Eq)]
+pub enum LineFault {
+    /// The source failed. What it gave before is within both limits, and no LF stands in what is held.
+    Source,
+    /// The line has more bytes before its LF, or before the end, than its limit. A CR counts.
+    LineTooLong,
+    /// The source gave more bytes than the limit of the input. On one and the same byte this comes before `LineTooLong`.
+    InputTooLong,
+}
+
+/// Turns a source into lines. An LF ends a line; what follows the last LF is a line where it has at least one byte. One CR
+/// directly before the LF, or before the end of the last line, isn't part of the line.
+#[derive(Drop)]
+pub struct LineReader {
+    // What is held lies from `start` to `end`. Its first LF is the byte `lf`, counted from `start`, or `lf` is its length.
+    buf: Vec<u8>,
+    start: usize,
+    end: usize,
+    lf: usize,
+    line_start: usize,
+    line_end: usize,
+    taken: u64,
+    // The last line had no LF.
+    ended: bool,
+    // The last call gave no line.
+    done: bool,
+    line_limit: usize,
+    input_limit: u64,
+}
+
+impl Model for LineReader {
+    ghost use Rattle.iri_text.specs.Line.{LineState};
+
+    ghost Value = { LineState };
+
+    ghost use Rattle.iri_text.specs.View.{line_state, IsSound};
+
+    ghost view = { line_state };
+
+    ghost invariant = { IsSound };
+}
+
+// What stands at the start of the bytes that are held.
+enum Look {
+    // A line of so many bytes, and its LF.
+    Line(usize),
+    TooLong,
+    Over,
+    // No LF.
+    More,
+}
+
+// Where the first LF stands, or the length where there is none. There is none before `from`.
+fn find_lf(held: &[u8], from: usize) -> usize
+    requires from { from ≤ length held.now }
+    requires no_lf { NoLf (take from held.now) }
+    ensures { IsFirstLf held.now result }
+{
+    match memchr(b'\n', &held[from..]) {
+        Some(i) => from + i,
+        None => held.len(),
+    }
+}
+
+// What stands there, by the first LF. From `usable` on nothing counts.
+fn look_at(held: &[u8], lf: usize, usable: usize, limit: usize) -> Look
+    requires usable { usable ≤ length held.now }
+    requires first { IsFirstLf held.now lf }
+    ensures { Looks held.now usable limit result }
+{
+    if lf.min(usable) > limit {
+        Look::TooLong
+    } else if lf < usable {
+        Look::Line(lf)
+    } else if usable < held.len() {
+        Look::Over
+    } else {
+        Look::More
+    }
+}
+
+// How many of the bytes that are held count.
+fn usable_len(len: usize, taken: u64, input_limit: u64) -> usize
+    requires { (taken ≤ input_limit + 1) × (input_limit < taken → 0 < len) }
+    ensures { result + (taken - input_limit) ≡ len }
+{
+    if taken > input_limit { len - 1 } else { len }
+}
+
+// The length of a line without a CR.
+fn line_len(raw: &[u8]) -> usize
+    ensures within { result ≤ length raw.now }
+    ensures line { take result raw.now ≡ no_cr raw.now }
+{
+    let len = raw.len();
+    if len == 0 {
+        return 0;
+    }
+    if raw[len - 1] == b'\r' { len - 1 } else { len }
+}
+
+// No call may follow this answer.
+fn is_last(answer: &Result<bool, LineFault>) -> bool
+    ensures { result ≡ is_final answer.now }
+{
+    match answer {
+        Ok(found) => !*found,
+        Err(_) => true,
+    }
+}
+
+// Moves a part to the start where it lies at the end, and says where it begins.
+fn make_room(buf: &mut Vec<u8>, start: usize, end: usize) -> usize
+    requires { (start ≤ end) × (end ≤ length buf.old.items) × (end < start + length buf.old.items) }
+    ensures len { length buf.new.items ≡ length buf.old.items }
+    ensures room { result + (end - start) < length buf.old.items }
+    ensures part { slice_range buf.new.items result (result + (end - start)) ≡ slice_range buf.old.items start end }
+{
+    if end < buf.len() {
+        return start;
+    }
+    buf.copy_within(start..end, 0);
+    0
+}
+
+// Takes bytes behind a part.
+fn fill<I: Source>(
+    buf: &mut Vec<u8>,
+    end: usize,
+    most: usize,
+    source: &mut I,
+) -> Result<usize, Failed>
+    requires { (end < length buf.old.items) × (0 < most) }
+    ensures len { length buf.new.items ≡ length buf.old.items }
+    ensures front { take end buf.new.items ≡ take end buf.old.items }
+    ensures within { IfOk result (λ n. (end + n ≤ length buf.old.items) × (n ≤ most)) }
+    ensures bytes { IfOk result (λ n. Consumes (I.left source.old) (I.left source.new)
+        (slice_range buf.new.items end (end + n))) }
+    ensures ends { IfOk result (λ n. n ≡ 0 → IsAtEnd (I.left source.old)) }
+    ensures later { I.faults source.old ≤ I.faults source.new }
+    ensures cause { OnErr result (Rose (I.faults source.old) (I.faults source.new)) }
+    ensures nothing { OnErr result (Consumes (I.left source.old) (I.left source.new) []) }
+    ensures call { I.call source.old source.new }
+{
+    let to = end + most.min(buf.len() - end);
+    source.take(&mut buf[end..to])
+}
+
+impl LineReader {
+    ghost use Rattle.std.specs.Prelude.{⊤};
+    ghost use Rattle.std.specs.Borrow.{sem, follows_so};
+    ghost use mathlib.Core.Option.{none};
+    ghost use Rattle.iri_text.specs.contracts.streams.reader.LineReader.{the_row};
+    ghost use Rattle.iri_text.specs.Reader.{NextLine};
+
+    /// Takes all of the memory that it will need: `line_limit` and 65,536 bytes. Both limits are counts of bytes.
+    pub fn new(alloc: Global, line_limit: usize, input_limit: u64) -> Result<LineReader, AllocError>
+        requires { (0 < line_limit) × (line_limit ≤ 1048576) × (input_limit < 2 ^ 63) }
+        ensures { IfOk result (λ r. (r.held ≡ []) × (r.taken ≡ 0) × (r.ended ≡ false) × (r.line_limit ≡ line_limit)
+            × (r.input_limit ≡ input_limit) × (r.done ≡ false)) }
+    {
+        let buf = vec![in alloc; 0; line_limit + BLOCK]?;
+        Ok(LineReader {
+            buf,
+            start: 0,
+            end: 0,
+            lf: 0,
+            line_start: 0,
+            line_end: 0,
+            taken: 0,
+            ended: false,
+            done: false,
+            line_limit,
+            input_limit,
+        })
+    }
+
+    /// The line, where the last call of `advance` answered `true`.
+    pub fn line(&self) -> &[u8]
+        ensures { result.now ≡ self.now.line }
+    {
+        &self.buf[self.line_start..self.line_end]
+    }
+
+    /// Goes to the next line, and says whether there is one: `line` gives it. No earlier call may have answered `false` or a
+    /// fault, which `is_done` tells. Bytes are taken only while those that are held have no LF.
+    pub fn advance<I: Source>(&mut self, source: &mut I) -> Result<bool, LineFault>
+        requires { self.old.done ≡ false }
+        ensures needed { TakesAsNeeded I.call I.left self.old.held source.old source.new }
+        ensures advances { Advances self.old self.new (I.left source.old) (I.left source.new) (I.faults source.old)
+            (I.faults source.new) result }
+    {
+        let answer = self.find_line(source);
+        self.done = is_last(&answer);
+        answer
+    }
+
+    // The same, but for `done`.
+    fn find_line<I: Source>(&mut self, source: &mut I) -> Result<bool, LineFault>
+        ensures needed { TakesAsNeeded I.call I.left self.old.held source.old source.new }
+        ensures advances { Advances self.old (done_by result self.new) (I.left source.old) (I.left source.new)
+            (I.faults source.old) (I.faults source.new) result }
+    {
+        if self.ended {
+            return Ok(false);
+        }
+        loop {
+            let held = &self.buf[self.start..self.end];
+            let usable = usable_len(held.len(), self.taken, self.input_limit);
+            match look_at(held, self.lf, usable, self.line_limit) {
+                Look::Line(i) => {
+                    self.line_start = self.start;
+                    self.line_end = self.start + line_len(&held[..i]);
+                    self.start += i + 1;
+                    self.lf = find_lf(&self.buf[self.start..self.end], 0);
+                    return Ok(true);
+                }
+                Look::TooLong => return Err(LineFault::LineTooLong),
+                Look::Over => return Err(LineFault::InputTooLong),
+                Look::More => {}
+            }
+            let len = self.end - self.start;
+            self.start = make_room(&mut self.buf, self.start, self.end);
+            self.end = self.start + len;
+            let most = (self.input_limit - self.taken) as usize + 1;
+            match fill(&mut self.buf, self.end, most, source) {
+                Ok(0) if len == 0 => return Ok(false),
+                Ok(0) => {
+                    self.line_start = self.start;
+                    self.line_end = self.start + line_len(&self.buf[self.start..self.end]);
+                    self.start = self.end;
+                    self.lf = 0;
+                    self.ended = true;
+                    return Ok(true);
+                }
+                Ok(n) => {
+                    self.end += n;
+                    self.taken += n as u64;
+                    self.lf = find_lf(&self.buf[self.start..self.end], len);
+                }
+                Err(Failed) => return Err(LineFault::Source),
+            }
+        }
+    }
+
+    /// Whether an LF stands in the bytes that are held. The next call of `advance` or `next_line` takes no bytes then.
+    pub fn holds_lf(&self) -> bool
+        ensures { NoLf self.now.held ↔ (result ≡ false) }
+    {
+        self.lf < self.end - self.start
+    }
+
+    /// Whether a call answered that there is no line, or a fault. No call may follow then.
+    pub fn is_done(&self) -> bool
+        ensures { result ≡ self.now.done }
+    {
+        self.done
+    }
+
+    /// The next line, or `None` at the end. No earlier call may have answered `None` or a fault, which `is_done` tells.
+    pub fn next_line<I: Source>(&mut self, source: &mut I) -> Result<Option<&[u8]>, LineFault>
+        requires { self.old.done ≡ false }
+        ensures needed { TakesAsNeeded I.call I.left self.old.held source.old source.new }
+
+        // `after` is the reader once the line is let go.
+        ensures* next { sem 𝓛 (follows_so the_row the_row self.entry.ghost_name none (λ _ _. ⊤)
+            (λ after. NextLine self.old after (I.left source.old) (I.left source.new) (I.faults source.old)
+            (I.faults source.new) result)) }
+    {
+        match self.advance(source) {
+            Ok(true) => Ok(Some(self.line())),
+            Ok(false) => Ok(None),
+            Err(fault) => Err(fault),
+        }
+    }
+}
+
+#[cfg(test)]
+mod tests;

@@ -1,0 +1,105 @@
+// A sink over std's writers. It tells no bytes: what a real stream takes is not known.
+ghost use Rattle.std.specs.Prelude.{◌≡◌, None, true};
+
+use crate::{Failed, Sink};
+use std::io::Write;
+use std::marker::Model;
+
+/// Puts bytes into a writer, which may buffer them.
+#[derive(Drop)]
+pub struct WriteSink<W> {
+    writer: W,
+    faults: u64,
+    pending: bool,
+}
+
+impl<W> Model for WriteSink<W> {
+    ghost use Rattle.iri_text.specs.Streams.{Writing};
+
+    ghost Value = { Writing W };
+
+    ghost view = { λ s. record { inner = s.writer; faults = s.faults; pending = s.pending } };
+}
+
+impl<W: Write> WriteSink<W> {
+    /// It has not failed yet, and never tells what is written. The writer may hold bytes from before.
+    pub fn new(writer: W) -> WriteSink<W>
+        ensures writer { result.inner ≡ writer }
+        ensures written { ⟦<WriteSink<W> as Sink>⟧.written result ≡ None }
+        ensures faults { ⟦<WriteSink<W> as Sink>⟧.faults result ≡ 0 }
+        ensures pending { result.pending ≡ true }
+    {
+        WriteSink {
+            writer,
+            faults: 0,
+            pending: true,
+        }
+    }
+}
+
+impl<W: Write> Sink for WriteSink<W> {
+    ghost use Rattle.std.specs.Prelude.{◌≡◌, ◌≢◌, ◌+◌, ◌-◌, ◌^◌, [], false, min, None, OnOk, OnErr, IsOk, true};
+    ghost use Rattle.std.specs.Io.KnownBytes.{Appends, Keeps};
+    ghost use Rattle.iri_text.specs.Streams.{WritesPrefix};
+    ghost use Rattle.iri_text.specs.Sink.{PutsAll, Flushes};
+
+    ghost written = { λ _. None };
+
+    ghost faults = { λ s. s.faults };
+
+    /// Writes until the whole piece is taken. It fails where the writer answers an error or takes nothing,
+    /// which raises the count by one, up to its last value. Where the writer tells its bytes,
+    /// it has the whole piece, or a prefix of it, behind them. An empty piece is not written at all.
+    fn put_all(&mut self, piece: &[u8]) -> Result<(), Failed>
+        ensures puts { PutsAll None None self.old.faults self.new.faults None None result piece.now }
+        ensures whole { OnOk result (Appends (W.contents self.old.inner) (W.contents self.new.inner) piece.now) }
+        ensures front { OnErr result (WritesPrefix (W.contents self.old.inner) (W.contents self.new.inner) piece.now) }
+        ensures raised { OnErr result (self.new.faults ≡ min (self.old.faults + 1) (2 ^ 64 - 1)) }
+        ensures empty { piece.now ≡ [] → IsOk result }
+        ensures nothing { piece.now ≡ [] → self.new ≡ self.old }
+        ensures pending { piece.now ≢ [] → self.new.pending ≡ true }
+    {
+        if piece.is_empty() {
+            return Ok(());
+        }
+        self.pending = true;
+        let mut rest = piece;
+        while !rest.is_empty() {
+            match self.writer.write(rest) {
+                Ok(0) | Err(_) => {
+                    self.faults = self.faults.saturating_add(1);
+                    return Err(Failed);
+                }
+                Ok(n) => rest = &rest[n..],
+            }
+        }
+        Ok(())
+    }
+
+    /// Flushes the writer, where bytes may be pending: at first, and where some were written since the last flush that succeeded.
+    /// Where the writer answers an error the count rises by one, up to its last value. A writer that tells its bytes keeps them.
+    fn flush(&mut self) -> Result<(), Failed>
+        ensures flushes { Flushes None None self.old.faults self.new.faults None None result }
+        ensures kept { Keeps (W.contents self.old.inner) (W.contents self.new.inner) }
+        ensures handed_on { OnOk result (self.new.pending ≡ false) }
+        ensures pending { OnErr result (self.new.pending ≡ self.old.pending) }
+        ensures raised { OnErr result (self.new.faults ≡ min (self.old.faults + 1) (2 ^ 64 - 1)) }
+    {
+        if !self.pending {
+            return Ok(());
+        }
+        match self.writer.flush() {
+            Ok(()) => {
+                self.pending = false;
+                Ok(())
+            }
+            Err(_) => {
+                self.faults = self.faults.saturating_add(1);
+                Err(Failed)
+            }
+        }
+    }
+}
+
+#[cfg(test)]
+mod tests;
