@@ -1,24 +1,40 @@
 -- Where a byte first stands, and what stands before and behind it.
-use Rattle.std.proofs.Common.{◌≡◌, ℕ, zero, suc, ◌<◌, Bool, true, false, List, [], ◌∷◌, Some, None, Option, MatchOption, length, refl, ap, arith, add-one}
+use Rattle.std.proofs.Common.{◌≡◌, ℕ, zero, suc, ◌<◌, Bool, true, false, List, [], ◌∷◌, Some, None, Option, MatchOption, length, refl, ap}
+use Rattle.std.proofs.Common.{arith, add-one}
 use Rattle.std.specs.Prelude.{◌==◌, slice_index}
 use Rattle.std.proofs.lemmas.Bool.Decides.{nat_tests}
 use Rattle.memchr.specs.Find.{is_byte, IsFirstByte}
 use Rattle.iri_grammar.specs.Cut.{CutAt, NoCut}
 
-false-where : (b : Bool) → (b ≡ true → ⊥) → b ≡ false
+pub false-where : (b : Bool) → (b ≡ true → ⊥) → b ≡ false
 false-where true n = absurd (n refl)
 false-where false n = refl
 
 equal-where : (x c : ℕ) → (x == c) ≡ true → x ≡ c
 equal-where x c h = grind (arith, nat_tests)
 
-cut_at : (c : ℕ) (bs : List ℕ) (k : ℕ) → k < length bs → ((j : ℕ) → j < k → (slice_index bs j == c) ≡ true → ⊥) → (slice_index bs k == c) ≡ true → CutAt c bs k
+cut_at : (c : ℕ) (bs : List ℕ) (k : ℕ) → k < length bs → ((j : ℕ) → j < k → (slice_index bs j == c) ≡ true → ⊥)
+    → (slice_index bs k == c) ≡ true → CutAt c bs k
 cut_at c [] k l n p = absurd (omega arith)
-cut_at c (x ∷ xs) zero l n p = record { inside = l; byte = equal-where x c p; front = rw p refl; rest = rw p refl; tail = rw p refl; has = rw p refl }
+cut_at c (x ∷ xs) zero l n p = record {
+  inside = l;
+  byte = equal-where x c p;
+  front = rw p refl;
+  rest = rw p refl;
+  tail = rw p refl;
+  has = rw p refl;
+}
 cut_at c (x ∷ xs) (suc k) l n p =
     let miss : (x == c) ≡ false = false-where (x == c) (n 0 (omega arith)) in
     let h = cut_at c xs k (omega arith) (λ j b. n (suc j) (omega arith)) p in
-    record { inside = l; byte = h.byte; front = rw miss (ap (λ ys. x ∷ ys) h.front); rest = rw miss h.rest; tail = rw (miss, add-one) (rw add-one at h.tail); has = rw miss h.has }
+    record {
+      inside = l;
+      byte = h.byte;
+      front = rw miss (ap (λ ys. x ∷ ys) h.front);
+      rest = rw miss h.rest;
+      tail = rw (miss, add-one) (rw add-one at h.tail);
+      has = rw miss h.has;
+    }
 
 none_at : (c : ℕ) (bs : List ℕ) → ((j : ℕ) → j < length bs → (slice_index bs j == c) ≡ true → ⊥) → NoCut c bs
 none_at c [] n = record { front = refl; rest = refl; tail = refl; has = refl }

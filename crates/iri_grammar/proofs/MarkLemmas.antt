@@ -1,5 +1,6 @@
 -- Where the parts of a reference end.
-use Rattle.std.proofs.Common.{◌≡◌, ℕ, zero, suc, ◌+◌, ◌<◌, Bool, true, false, cond, ◌&&◌, ◌||◌, List, [], ◌∷◌, Some, None, Option, MatchOption, length, take, drop, refl, sym, ap, subst, arith, add-one, ◌∙◌}
+use Rattle.std.proofs.Common.{◌≡◌, ℕ, zero, suc, ◌+◌, ◌<◌, Bool, true, false, cond, ◌&&◌, ◌||◌, List, [], ◌∷◌, Some, None, Option}
+use Rattle.std.proofs.Common.{MatchOption, length, take, drop, refl, sym, ap, subst, arith, add-one, ◌∙◌}
 use Rattle.std.specs.Prelude.{◌==◌, nat_lt, slice_index, is_some}
 use Rattle.std.specs.Char.{is_ascii_alphabetic}
 use Rattle.std.specs.List.{list_all}
@@ -9,15 +10,14 @@ use Rattle.iri_grammar.specs.Components.{is_letter, is_scheme, is_scheme_char}
 use Rattle.iri_grammar.specs.Authority.{or_all}
 use Rattle.iri_grammar.specs.Runs.{run_of}
 use Rattle.iri_grammar.specs.Cut.{before, from, behind}
-use Rattle.iri_grammar.specs.CutLaws.{both, test_apart}
+use Rattle.iri_grammar.proofs.CutLaws.{both, test_apart}
 use Rattle.iri_grammar.specs.Parts.{starts_with_slash, starts_with_slashes}
 use Rattle.iri_grammar.specs.Split.{authority_of, hier_of}
-use Rattle.iri_grammar.specs.SplitLaws.{letter-is_scheme_char, colon_ends}
-use Rattle.iri_grammar.specs.Marks.{ends_scheme, SchemeAt, NoScheme, ends_authority, before_any, from_any, AuthorityEndAt, NoAuthorityEnd, IsPastAuthority, TailAt, NoTail}
-
-false-where : (b : Bool) → (b ≡ true → ⊥) → b ≡ false
-false-where true n = absurd (n refl)
-false-where false n = refl
+use Rattle.iri_grammar.proofs.SplitLaws.{letter-is_scheme_char, colon_ends}
+use Rattle.iri_grammar.specs.Marks.{before_any, from_any}
+use Rattle.iri_grammar.specs.inside.Marks.{ends_scheme, SchemeAt, NoScheme, ends_authority, AuthorityEndAt, NoAuthorityEnd}
+use Rattle.iri_grammar.specs.inside.Marks.{IsPastAuthority, TailAt, NoTail}
+use Rattle.iri_grammar.proofs.CutLemmas.{false-where}
 
 equal-where : (x c : ℕ) → (x == c) ≡ true → x ≡ c
 equal-where x c h = grind (arith, nat_tests)
@@ -51,7 +51,11 @@ ran p c (x ∷ xs) n l e =
       | true ↦ λ h.
           let miss : (x == c) ≡ false = test_apart p c x n h in
           let r = ran p c xs n (omega (arith, rw h at l)) (rw h at e) in
-          record { front = rw (h, miss) (ap (λ ys. x ∷ ys) r.front); tail = rw (h, miss, add-one) (rw add-one at r.tail); all = rw (miss, h) r.all }
+          record {
+            front = rw (h, miss) (ap (λ ys. x ∷ ys) r.front);
+            tail = rw (h, miss, add-one) (rw add-one at r.tail);
+            all = rw (miss, h) r.all;
+          }
       | false ↦ λ h.
           let same : x ≡ c = rw h at e in
           let hit : (x == c) ≡ true = grind (arith, nat_tests) in
@@ -59,7 +63,8 @@ ran p c (x ∷ xs) n l e =
     ] refl
 
 -- the other way round
-ends : (p : ℕ → Bool) (c : ℕ) (bs : List ℕ) → p c ≡ false → list_all p (before c bs) ≡ true → is_some (behind c bs) ≡ true → (run_of p bs < length bs) × (slice_index bs (run_of p bs) ≡ c)
+ends : (p : ℕ → Bool) (c : ℕ) (bs : List ℕ) → p c ≡ false → list_all p (before c bs) ≡ true → is_some (behind c bs) ≡ true
+    → (run_of p bs < length bs) × (slice_index bs (run_of p bs) ≡ c)
 ends p c [] n a s = cc
 ends p c (x ∷ xs) n a s =
     elim (x == c) as (λ b. (x == c) ≡ b → (run_of p (x ∷ xs) < length (x ∷ xs)) × (slice_index (x ∷ xs) (run_of p (x ∷ xs)) ≡ c)) [
@@ -71,14 +76,16 @@ ends p c (x ∷ xs) n a s =
           rw t.0 (omega (arith, r.0), r.1)
     ] refl
 
-letter-in_front : (x : ℕ) (xs : List ℕ) → is_ascii_alphabetic x ≡ true → list_all is_scheme_char (before 58 (x ∷ xs)) ≡ true → is_scheme (before 58 (x ∷ xs)) ≡ true
+letter-in_front : (x : ℕ) (xs : List ℕ) → is_ascii_alphabetic x ≡ true → list_all is_scheme_char (before 58 (x ∷ xs)) ≡ true
+    → is_scheme (before 58 (x ∷ xs)) ≡ true
 unfolding is_letter
 letter-in_front x xs l a =
     let miss : (x == 58) ≡ false = test_apart is_scheme_char 58 x colon_ends (letter-is_scheme_char x l) in
     let k : (is_scheme_char x && list_all is_scheme_char (before 58 xs)) ≡ true = rw miss at a in
     rw (miss, l) (both (is_scheme_char x) (list_all is_scheme_char (before 58 xs)) k).1
 
-starts_scheme : (bs : List ℕ) → is_ascii_alphabetic (slice_index bs 0) ≡ true → list_all is_scheme_char (before 58 bs) ≡ true → is_scheme (before 58 bs) ≡ true
+starts_scheme : (bs : List ℕ) → is_ascii_alphabetic (slice_index bs 0) ≡ true → list_all is_scheme_char (before 58 bs) ≡ true
+    → is_scheme (before 58 bs) ≡ true
 starts_scheme [] l a = cc
 starts_scheme (x ∷ xs) l a = letter-in_front x xs l a
 
@@ -101,16 +108,19 @@ scheme_at bs h =
     let sch = starts_scheme bs t.2 r.all in
     record { inside = inside; byte = byte; scheme = rw (sch, ← r.tail, r.front) refl; rest = rw (sch, ← r.tail) refl }
 
-is_scheme-first : (bs : List ℕ) → is_scheme (before 58 bs) ≡ true → (is_ascii_alphabetic (slice_index bs 0) ≡ true) × (list_all is_scheme_char (before 58 bs) ≡ true)
+is_scheme-first : (bs : List ℕ) → is_scheme (before 58 bs) ≡ true
+    → (is_ascii_alphabetic (slice_index bs 0) ≡ true) × (list_all is_scheme_char (before 58 bs) ≡ true)
 unfolding is_letter
 is_scheme-first [] h = cc
 is_scheme-first (x ∷ xs) h =
-    elim (x == 58) as (λ b. is_scheme (cond b [] (x ∷ before 58 xs)) ≡ true → (is_ascii_alphabetic x ≡ true) × (list_all is_scheme_char (cond b [] (x ∷ before 58 xs)) ≡ true)) [
+    elim (x == 58) as (λ b. is_scheme (cond b [] (x ∷ before 58 xs)) ≡ true
+    → (is_ascii_alphabetic x ≡ true) × (list_all is_scheme_char (cond b [] (x ∷ before 58 xs)) ≡ true)) [
       | true ↦ λ k. cc
       | false ↦ λ k. let t = both (is_letter x) (list_all is_scheme_char (before 58 xs)) k in (t.0, rw (letter-is_scheme_char x t.0) t.1)
     ] h
 
-scheme-ends : (bs : List ℕ) → is_scheme (before 58 bs) ≡ true → is_some (behind 58 bs) ≡ true → ends_scheme bs (run_of is_scheme_char bs) ≡ true
+scheme-ends : (bs : List ℕ) → is_scheme (before 58 bs) ≡ true → is_some (behind 58 bs) ≡ true
+    → ends_scheme bs (run_of is_scheme_char bs) ≡ true
 unfolding ends_scheme
 scheme-ends bs h s =
     let f = is_scheme-first bs h in
@@ -121,18 +131,21 @@ scheme-ends bs h s =
     lt : (a b : ℕ) → a < b → nat_lt a b ≡ true
     lt a b h = grind (arith, nat_tests)
 
-none_of : (b : Bool) (o : Option (List ℕ)) (x y : List ℕ) → (b ≡ true → is_some o ≡ true → ⊥) → (None ≡ cond (b && is_some o) (Some y) None) × (x ≡ cond b (or_all x o) x)
+none_of : (b : Bool) (o : Option (List ℕ)) (x y : List ℕ) → (b ≡ true → is_some o ≡ true → ⊥)
+    → (None ≡ cond (b && is_some o) (Some y) None) × (x ≡ cond b (or_all x o) x)
 none_of true None x y n = (refl, refl)
 none_of true (Some z) x y n = absurd (n refl refl)
 none_of false o x y n = (refl, refl)
 
 pub no_scheme : (bs : List ℕ) → ends_scheme bs (run_of is_scheme_char bs) ≡ false → NoScheme bs
 no_scheme bs h =
-    let n = none_of (is_scheme (before 58 bs)) (behind 58 bs) bs (before 58 bs) (λ a s. let t : true ≡ false = sym (scheme-ends bs a s) ∙ h in cc) in
+    let n = none_of (is_scheme (before 58 bs)) (behind 58 bs) bs (before 58 bs)
+    (λ a s. let t : true ≡ false = sym (scheme-ends bs a s) ∙ h in cc) in
     record { scheme = n.0; rest = n.1 }
 
 -- ---- the authority
-front-any : (p : ℕ → Bool) (bs : List ℕ) (k : ℕ) → k < length bs → ((j : ℕ) → j < k → p (slice_index bs j) ≡ true → ⊥) → p (slice_index bs k) ≡ true → (take k bs ≡ before_any p bs) × (drop k bs ≡ from_any p bs)
+front-any : (p : ℕ → Bool) (bs : List ℕ) (k : ℕ) → k < length bs → ((j : ℕ) → j < k → p (slice_index bs j) ≡ true → ⊥)
+    → p (slice_index bs k) ≡ true → (take k bs ≡ before_any p bs) × (drop k bs ≡ from_any p bs)
 front-any p [] k l n h = absurd (omega arith)
 front-any p (x ∷ xs) zero l n h = rw h (refl, refl)
 front-any p (x ∷ xs) (suc k) l n h =
@@ -140,7 +153,8 @@ front-any p (x ∷ xs) (suc k) l n h =
     let r = front-any p xs k (omega arith) (λ j b. n (suc j) (omega arith)) h in
     rw miss (ap (λ ys. x ∷ ys) r.0, r.1)
 
-none-any : (p : ℕ → Bool) (bs : List ℕ) → ((j : ℕ) → j < length bs → p (slice_index bs j) ≡ true → ⊥) → (bs ≡ before_any p bs) × ([] ≡ from_any p bs)
+none-any : (p : ℕ → Bool) (bs : List ℕ) → ((j : ℕ) → j < length bs → p (slice_index bs j) ≡ true → ⊥)
+    → (bs ≡ before_any p bs) × ([] ≡ from_any p bs)
 none-any p [] n = (refl, refl)
 none-any p (x ∷ xs) n =
     let miss : p x ≡ false = false-where (p x) (n 0 (omega arith)) in
@@ -148,7 +162,8 @@ none-any p (x ∷ xs) n =
     rw miss (ap (λ ys. x ∷ ys) r.0, r.1)
 
 -- what `memchr3` says, in these words
-pub authority_end : (bs : List ℕ) (r : Option ℕ) → IsFirstByte (is_byte3 47 63 35) bs r → MatchOption r (NoAuthorityEnd bs) (λ k. AuthorityEndAt bs k)
+pub authority_end : (bs : List ℕ) (r : Option ℕ) → IsFirstByte (is_byte3 47 63 35) bs r
+    → MatchOption r (NoAuthorityEnd bs) (λ k. AuthorityEndAt bs k)
 authority_end bs None h = let n = none-any ends_authority bs (λ j b. h j (omega arith) b) in record { front = n.0; rest = n.1 }
 authority_end bs (Some k) h =
     let f = front-any ends_authority bs k h.0.high (λ j b. h.0.before j (omega arith) b) h.1 in
@@ -157,7 +172,7 @@ authority_end bs (Some k) h =
     below_three : (x : ℕ) → (x == 47 || x == 63 || x == 35) ≡ true → x < 128
     below_three x e = grind (arith, nat_tests)
 
--- the marks in a text that follows `//`
+-- the delimiters in a text that follows `//`
 record AtMarks (xs : List ℕ) : Type 0 where
   front : before_any ends_authority xs ≡ before 47 (hier_of xs)
   path : hier_of (from_any ends_authority xs) ≡ from 47 (hier_of xs)
@@ -168,23 +183,32 @@ at_marks : (xs : List ℕ) → AtMarks xs
 at_marks [] = record { front = refl; path = refl; query = refl; fragment = refl }
 at_marks (x ∷ xs) =
     elim (x == 47) as (λ b. (x == 47) ≡ b → AtMarks (x ∷ xs)) [
-      | true ↦ λ e. subst (λ n. AtMarks (n ∷ xs)) (sym (equal-where x 47 e)) (record { front = refl; path = refl; query = refl; fragment = refl })
+      | true ↦ λ e. subst (λ n. AtMarks (n ∷ xs)) (sym (equal-where x 47 e))
+          (record { front = refl; path = refl; query = refl; fragment = refl })
       | false ↦ λ a. elim (x == 63) as (λ b. (x == 63) ≡ b → AtMarks (x ∷ xs)) [
-        | true ↦ λ e. subst (λ n. AtMarks (n ∷ xs)) (sym (equal-where x 63 e)) (record { front = refl; path = refl; query = refl; fragment = refl })
+        | true ↦ λ e. subst (λ n. AtMarks (n ∷ xs)) (sym (equal-where x 63 e))
+            (record { front = refl; path = refl; query = refl; fragment = refl })
         | false ↦ λ b. elim (x == 35) as (λ b. (x == 35) ≡ b → AtMarks (x ∷ xs)) [
-          | true ↦ λ e. subst (λ n. AtMarks (n ∷ xs)) (sym (equal-where x 35 e)) (record { front = refl; path = refl; query = refl; fragment = refl })
+          | true ↦ λ e. subst (λ n. AtMarks (n ∷ xs)) (sym (equal-where x 35 e))
+              (record { front = refl; path = refl; query = refl; fragment = refl })
           | false ↦ λ c.
               let r = at_marks xs in
-              record { front = rw (c, b, a) (ap (λ ys. x ∷ ys) r.front); path = rw (c, b, a) r.path; query = rw (c, b, a) r.query; fragment = rw (c, b, a) r.fragment }
+              record {
+                front = rw (c, b, a) (ap (λ ys. x ∷ ys) r.front);
+                path = rw (c, b, a) r.path;
+                query = rw (c, b, a) r.query;
+                fragment = rw (c, b, a) r.fragment;
+              }
         ] refl
       ] refl
     ] refl
 
 -- the authority of a text that begins with `//`
-pub past_authority : (xs : List ℕ) → (Some (before_any ends_authority xs) ≡ authority_of (hier_of (47 ∷ 47 ∷ xs))) × IsPastAuthority (47 ∷ 47 ∷ xs) (from_any ends_authority xs)
+pub past_authority : (xs : List ℕ) → (Some (before_any ends_authority xs) ≡ authority_of (hier_of (47 ∷ 47 ∷ xs)))
+    × IsPastAuthority (47 ∷ 47 ∷ xs) (from_any ends_authority xs)
 past_authority xs = let r = at_marks xs in (ap Some r.front, record { path = r.path; query = r.query; fragment = r.fragment })
 
--- what a mark in one of the first two places leaves
+-- what a delimiter in one of the first two places leaves
 slash_or_mark : (x : ℕ) (xs : List ℕ) → starts_with_slash (hier_of (x ∷ xs)) ≡ (x == 47)
 slash_or_mark x xs =
     elim (x == 35) as (λ b. (x == 35) ≡ b → starts_with_slash (hier_of (x ∷ xs)) ≡ (x == 47)) [
@@ -198,11 +222,14 @@ slash_or_mark x xs =
 slashes_or_mark : (x : ℕ) (xs : List ℕ) → starts_with_slashes (hier_of (x ∷ xs)) ≡ (x == 47 && starts_with_slash (hier_of xs))
 slashes_or_mark x xs =
     elim (x == 35) as (λ b. (x == 35) ≡ b → starts_with_slashes (hier_of (x ∷ xs)) ≡ (x == 47 && starts_with_slash (hier_of xs))) [
-      | true ↦ λ e. subst (λ n. starts_with_slashes (hier_of (n ∷ xs)) ≡ (n == 47 && starts_with_slash (hier_of xs))) (sym (equal-where x 35 e)) refl
-      | false ↦ λ c. elim (x == 63) as (λ b. (x == 63) ≡ b → starts_with_slashes (hier_of (x ∷ xs)) ≡ (x == 47 && starts_with_slash (hier_of xs))) [
-        | true ↦ λ e. subst (λ n. starts_with_slashes (hier_of (n ∷ xs)) ≡ (n == 47 && starts_with_slash (hier_of xs))) (sym (equal-where x 63 e)) refl
-        | false ↦ λ b. rw (c, b) refl
-      ] refl
+      | true ↦ λ e. subst (λ n. starts_with_slashes (hier_of (n ∷ xs)) ≡ (n == 47 && starts_with_slash (hier_of xs)))
+          (sym (equal-where x 35 e)) refl
+      | false ↦ λ c. elim (x == 63) as (λ b. (x == 63) ≡ b
+          → starts_with_slashes (hier_of (x ∷ xs)) ≡ (x == 47 && starts_with_slash (hier_of xs))) [
+            | true ↦ λ e. subst (λ n. starts_with_slashes (hier_of (n ∷ xs)) ≡ (n == 47 && starts_with_slash (hier_of xs)))
+                (sym (equal-where x 63 e)) refl
+            | false ↦ λ b. rw (c, b) refl
+          ] refl
     ] refl
 
 slashes-hier : (bs : List ℕ) → starts_with_slashes (hier_of bs) ≡ starts_with_slashes bs
@@ -219,20 +246,24 @@ no_authority bs h =
 pub no_slashes : (bs : List ℕ) → ((r : List ℕ) → bs ≡ 47 ∷ 47 ∷ r → ⊥) → starts_with_slashes bs ≡ false
 no_slashes [] n = refl
 no_slashes (x ∷ []) n = elim (x == 47) as (λ b. (b && false) ≡ false) [ true ↦ refl | false ↦ refl ]
-no_slashes (x ∷ y ∷ xs) n = false-where (x == 47 && y == 47) (λ e. let t = both (x == 47) (y == 47) e in n xs (two (equal-where x 47 t.0) (equal-where y 47 t.1)))
+no_slashes (x ∷ y ∷ xs) n = false-where (x == 47 && y == 47)
+    (λ e. let t = both (x == 47) (y == 47) e in n xs (two (equal-where x 47 t.0) (equal-where y 47 t.1)))
   where
     two : x ≡ 47 → y ≡ 47 → (x ∷ y ∷ xs) ≡ 47 ∷ 47 ∷ xs
     two a b = rw (a, b) refl
 
 -- ---- query and fragment
-tail_at : (bs : List ℕ) (k : ℕ) → k < length bs → ((j : ℕ) → j < k → is_byte2 63 35 (slice_index bs j) ≡ true → ⊥) → is_byte2 63 35 (slice_index bs k) ≡ true → TailAt bs k
+tail_at : (bs : List ℕ) (k : ℕ) → k < length bs → ((j : ℕ) → j < k → is_byte2 63 35 (slice_index bs j) ≡ true → ⊥)
+    → is_byte2 63 35 (slice_index bs k) ≡ true → TailAt bs k
 tail_at [] k l n h = absurd (omega arith)
 tail_at (x ∷ xs) zero l n h =
     elim (x == 63) as (λ b. (x == 63) ≡ b → TailAt (x ∷ xs) 0) [
-      | true ↦ λ e. subst (λ n. TailAt (n ∷ xs) 0) (sym (equal-where x 63 e)) (record { inside = omega arith; ascii = omega arith; front = refl; at_query = λ _. (refl, refl); at_fragment = λ k. cc })
+      | true ↦ λ e. subst (λ n. TailAt (n ∷ xs) 0) (sym (equal-where x 63 e))
+          (record { inside = omega arith; ascii = omega arith; front = refl; at_query = λ _. (refl, refl); at_fragment = λ k. cc })
       | false ↦ λ e.
           let t : (x == 35) ≡ true = rw e at h in
-          subst (λ n. TailAt (n ∷ xs) 0) (sym (equal-where x 35 t)) (record { inside = omega arith; ascii = omega arith; front = refl; at_query = λ k. cc; at_fragment = λ _. (refl, refl) })
+          subst (λ n. TailAt (n ∷ xs) 0) (sym (equal-where x 35 t))
+          (record { inside = omega arith; ascii = omega arith; front = refl; at_query = λ k. cc; at_fragment = λ _. (refl, refl) })
     ] refl
 tail_at (x ∷ xs) (suc k) l n h =
     let m : (x == 63 || x == 35) ≡ false = false-where (x == 63 || x == 35) (n 0 (omega arith)) in

@@ -1,12 +1,12 @@
 -- The numbers of an IPv4 text that are still to come.
 use Rattle.std.proofs.Common.{◌≡◌, ℕ, zero, suc, ◌-◌, ◌<◌, Bool, true, false, ◌&&◌, List, [], ◌∷◌, Some, None, refl, ◌∙◌, ap, arith}
 use Rattle.std.specs.Prelude.{◌==◌}
-use Rattle.std.proofs.Math.Bool.{and-false}
 use Rattle.std.proofs.lemmas.Bool.Decides.{nat_tests}
 use Rattle.iri_grammar.specs.Cut.{before, behind}
 use Rattle.iri_grammar.specs.Pieces.{pieces}
-use Rattle.iri_grammar.specs.PiecesLaws.{pieces_cut, more_pieces}
-use Rattle.iri_grammar.specs.Ipv4.{is_dec_octet, are_four_octets}
+use Rattle.iri_grammar.specs.inside.PiecesLaws.{more_pieces}
+use Rattle.iri_grammar.proofs.PiecesLaws.{pieces_cut}
+use Rattle.iri_grammar.specs.Ipv4.{is_dec_octet}
 
 -- one number, and so many behind it
 abbrev pub octets_left : ℕ → List (List ℕ) → Bool
@@ -14,20 +14,6 @@ octets_left n [] = false
 octets_left zero (p ∷ []) = is_dec_octet p
 octets_left zero (p ∷ q ∷ ps) = false
 octets_left (suc n) (p ∷ ps) = is_dec_octet p && octets_left n ps
-
-grouped : (a b c d : Bool) → (a && (b && (c && d))) ≡ (a && b && c && d)
-grouped true true true d = refl
-grouped true true false d = refl
-grouped true false c d = refl
-grouped false b c d = refl
-
-pub octets_four : (ps : List (List ℕ)) → octets_left 3 ps ≡ are_four_octets ps
-octets_four [] = refl
-octets_four (a ∷ []) = and-false (is_dec_octet a)
-octets_four (a ∷ b ∷ []) = rw and-false (and-false (is_dec_octet a))
-octets_four (a ∷ b ∷ c ∷ []) = rw (and-false, and-false) (and-false (is_dec_octet a))
-octets_four (a ∷ b ∷ c ∷ d ∷ []) = grouped (is_dec_octet a) (is_dec_octet b) (is_dec_octet c) (is_dec_octet d)
-octets_four (a ∷ b ∷ c ∷ d ∷ e ∷ ps) = rw (and-false, and-false) (and-false (is_dec_octet a))
 
 bad : (n : ℕ) (p : List ℕ) (ps : List (List ℕ)) → is_dec_octet p ≡ false → octets_left n (p ∷ ps) ≡ false
 bad zero p [] h = h
@@ -40,7 +26,8 @@ stop_bad n t h = ap (octets_left n) (pieces_cut 46 t) ∙ bad n (before 46 t) (m
 pub stop_many : (t r : List ℕ) → behind 46 t ≡ Some r → octets_left 0 (pieces 46 t) ≡ false
 stop_many t r e = rw (pieces_cut 46 t, e, pieces_cut 46 r) refl
 
-pub step_octet : (n : ℕ) (t r : List ℕ) → 0 < n → behind 46 t ≡ Some r → is_dec_octet (before 46 t) ≡ true → octets_left (n - 1) (pieces 46 r) ≡ octets_left n (pieces 46 t)
+pub step_octet : (n : ℕ) (t r : List ℕ) → 0 < n → behind 46 t ≡ Some r → is_dec_octet (before 46 t) ≡ true
+    → octets_left (n - 1) (pieces 46 r) ≡ octets_left n (pieces 46 t)
 step_octet zero t r l e h = absurd (omega arith)
 step_octet (suc n) t r l e h = let m : suc n - 1 ≡ n = omega arith in rw (m, pieces_cut 46 t, e, h) refl
 

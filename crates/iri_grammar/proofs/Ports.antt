@@ -1,5 +1,6 @@
 -- The last colon, and host and port.
-use Rattle.std.proofs.Common.{◌≡◌, ℕ, zero, suc, ◌+◌, ◌<◌, true, false, ◌&&◌, List, [], ◌∷◌, Some, None, Option, MatchOption, length, drop, refl, sym, ◌∙◌, ap, arith, add-one}
+use Rattle.std.proofs.Common.{◌≡◌, ℕ, zero, suc, ◌+◌, ◌<◌, true, false, ◌&&◌, List, [], ◌∷◌, Some, None, Option, MatchOption, length, drop}
+use Rattle.std.proofs.Common.{refl, sym, ◌∙◌, ap, arith, add-one}
 use Rattle.std.specs.Prelude.{◌==◌, slice_index}
 use Rattle.std.specs.Char.{is_ascii_digit}
 use Rattle.std.proofs.Math.Bool.{and-false}
@@ -7,7 +8,7 @@ use Rattle.std.proofs.lemmas.Bool.{false_from_ne_true, eqb-true}
 use Rattle.std.proofs.lemmas.Bool.Decides.{nat_tests}
 use Rattle.memchr.specs.Find.{is_byte, IsLastByte}
 use Rattle.iri_grammar.specs.Components.{is_port}
-use Rattle.iri_grammar.specs.LastColon.{LastColon, NoColon}
+use Rattle.iri_grammar.specs.inside.LastColon.{LastColon, NoColon}
 
 none_at : (bs : List ℕ) → ((j : ℕ) → j < length bs → (slice_index bs j == 58) ≡ true → ⊥) → NoColon bs
 none_at [] n = record { host = refl; port = refl }
@@ -23,7 +24,8 @@ colon_inside (x ∷ xs) zero l h = let e : is_ascii_digit x ≡ false = grind (a
 colon_inside (x ∷ xs) (suc k) l h =
     let t = colon_inside xs k (omega arith) h in elim (is_ascii_digit x) as (λ b. (b && is_port xs) ≡ false) [ true ↦ t | false ↦ refl ]
 
-last_at : (bs : List ℕ) (k : ℕ) → k < length bs → ((j : ℕ) → k < j → j < length bs → (slice_index bs j == 58) ≡ true → ⊥) → (slice_index bs k == 58) ≡ true → LastColon bs k
+last_at : (bs : List ℕ) (k : ℕ) → k < length bs → ((j : ℕ) → k < j → j < length bs → (slice_index bs j == 58) ≡ true → ⊥)
+    → (slice_index bs k == 58) ≡ true → LastColon bs k
 last_at [] k l n p = absurd (omega arith)
 last_at (x ∷ xs) zero l n p =
     let rest = none_at xs (λ j b. n (suc j) (omega arith) (omega arith)) in

@@ -3,7 +3,8 @@ use Rattle.std.proofs.Common.{◌≡◌, ℕ, zero, suc, ◌<◌, Bool, true, fa
 use Rattle.std.specs.Prelude.{nat_le}
 use Rattle.std.specs.Bool.{beq}
 use Rattle.std.proofs.lemmas.Bool.{cases_eq}
-use Rattle.iri_grammar.specs.Classes.{is_ascii_unreserved, is_ascii_reg_name, is_ascii_userinfo, is_ascii_pchar, is_ascii_path, is_ascii_query, is_ascii_any, is_sub_delim, is_gen_delim}
+use Rattle.iri_grammar.specs.Classes.{is_ascii_unreserved, is_ascii_reg_name, is_ascii_userinfo, is_ascii_pchar, is_ascii_path}
+use Rattle.iri_grammar.specs.Classes.{is_ascii_query, is_ascii_any, is_sub_delim, is_gen_delim}
 use Rattle.iri_grammar.specs.ClassTests.{ascii_test, rank_of}
 use Rattle.iri_grammar.specs.declared.class.Class.{Class}
 use Rattle.iri_grammar.specs.declared.class.Class.TheVariants.{Unreserved, RegName, Userinfo, Pchar, Path, Query, Fragment, Any}
@@ -30,7 +31,8 @@ abbrev ranked : ℕ → ℕ → Bool
 ranked rank b = nat_le (get_or RANKS b 0) rank
 
 computed : (k : Class) → agree_below (ranked (rank_of k)) (ascii_test k) 256 ≡ true
-unfolding is_ascii_unreserved is_ascii_reg_name is_ascii_userinfo is_ascii_pchar is_ascii_path is_ascii_query is_ascii_any is_sub_delim is_gen_delim
+unfolding is_ascii_unreserved is_ascii_reg_name is_ascii_userinfo is_ascii_pchar is_ascii_path is_ascii_query is_ascii_any is_sub_delim
+    is_gen_delim
 computed Unreserved = refl
 computed RegName = refl
 computed Userinfo = refl

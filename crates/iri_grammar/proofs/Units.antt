@@ -1,15 +1,18 @@
--- The first unit of a text over a class, and a run of ASCII characters at its front.
-use Rattle.std.proofs.Common.{◌≡◌, ℕ, suc, ◌<◌, ◌≤◌, ◌≢◌, Bool, true, false, cond, ◌&&◌, List, [], ◌∷◌, ◌++◌, length, drop, refl, sym, ◌∙◌, ap, subst, inl, inr, arith, length-append}
+-- The first unit of a text over a class, and a run of ASCII characters at its start.
+use Rattle.std.proofs.Common.{◌≡◌, ℕ, suc, ◌<◌, ◌≤◌, ◌≢◌, Bool, true, false, cond, ◌&&◌, List, [], ◌∷◌, ◌++◌, length, drop, refl, sym, ◌∙◌}
+use Rattle.std.proofs.Common.{ap, subst, inl, inr, arith, length-append}
 use Rattle.std.specs.Prelude.{◌==◌}
 use Rattle.std.specs.Char.{is_ascii_hexdigit, encode_utf8}
 use Rattle.std.specs.Str.{chars, IsUtf8}
 use lib.Utf8.{encodes}
 use Rattle.std.proofs.lemmas.Bool.{cases_lt, cases_eq, and_parts as both, eqb-true}
 use Rattle.std.proofs.lemmas.Bool.Decides.{nat_tests}
-use Rattle.std.proofs.lemmas.Str.{chars_past_char, chars-nil, chars_from_encodes, encode_ascii, IsUtf8-past_char, byte_from_char, is_utf8-from_IsUtf8, length-encode, len_utf8_bounds}
+use Rattle.std.proofs.lemmas.Str.{chars_past_char, chars-nil, chars_from_encodes, encode_ascii, IsUtf8-past_char, byte_from_char}
+use Rattle.std.proofs.lemmas.Str.{is_utf8-from_IsUtf8, length-encode, len_utf8_bounds}
 use Rattle.iri_grammar.specs.Cut.{tail}
 use Rattle.iri_grammar.specs.Over.{over, over_from, text_over}
-use Rattle.iri_grammar.specs.Runs.{run_of, begins_with_digit, begins_with_triplet, HasNoUnit}
+use Rattle.iri_grammar.specs.Runs.{run_of}
+use Rattle.iri_grammar.specs.inside.Runs.{begins_with_digit, begins_with_triplet, HasNoUnit}
 
 -- an ASCII byte is a character
 ascii_front : (b : ℕ) (bs : List ℕ) → b < 128 → b ∷ bs ≡ encode_utf8 b ++ bs
@@ -21,10 +24,10 @@ chars_ascii b bs u h = chars_past_char (b ∷ bs) bs b u (ascii_front b bs h)
 pub text_after_ascii : (b : ℕ) (bs : List ℕ) → IsUtf8 (b ∷ bs) → b < 128 → IsUtf8 bs
 text_after_ascii b bs u h = IsUtf8-past_char (b ∷ bs) bs b u (ascii_front b bs h)
 
-hex_is_ascii : (x : ℕ) → is_ascii_hexdigit x ≡ true → x < 128
+pub hex_is_ascii : (x : ℕ) → is_ascii_hexdigit x ≡ true → x < 128
 hex_is_ascii x h = grind (arith, nat_tests)
 
-past_hex : (x : ℕ) → 128 ≤ x → is_ascii_hexdigit x ≡ false
+pub past_hex : (x : ℕ) → 128 ≤ x → is_ascii_hexdigit x ≡ false
 past_hex x h = grind (arith, nat_tests)
 
 -- where a hex digit is due
@@ -37,13 +40,15 @@ past_digit p n (d ∷ ds) xs x e h =
       | inr ge ↦ rw (past_hex d ge) refl
     ]
 
-digit_step : (p : ℕ → Bool) (n : ℕ) (t : List ℕ) → IsUtf8 t → over_from p (suc n) (chars t) ≡ (begins_with_digit t && over_from p n (chars (tail t)))
+digit_step : (p : ℕ → Bool) (n : ℕ) (t : List ℕ) → IsUtf8 t
+    → over_from p (suc n) (chars t) ≡ (begins_with_digit t && over_from p n (chars (tail t)))
 unfolding over_from
 digit_step p n [] u = rw chars-nil refl
 digit_step p n (x ∷ xs) u =
     elim (cases_lt x 128) [
       | inl lt ↦ rw (chars_ascii x xs u lt) refl
-      | inr ge ↦ rw (past_hex x ge) (ap (over_from p (suc n)) (sym (chars_from_encodes u.0 (x ∷ xs) u u.1.1)) ∙ past_digit p n u.0 xs x u.1.1 ge)
+      | inr ge ↦ rw (past_hex x ge) (ap (over_from p (suc n)) (sym (chars_from_encodes u.0 (x ∷ xs) u u.1.1))
+          ∙ past_digit p n u.0 xs x u.1.1 ge)
     ]
 
 -- what follows a hex digit
@@ -51,25 +56,29 @@ text_after_digit : (t : List ℕ) → IsUtf8 t → begins_with_digit t ≡ true 
 text_after_digit [] u h = u
 text_after_digit (x ∷ xs) u h = text_after_ascii x xs u (hex_is_ascii x h)
 
-percent_step : (p : ℕ → Bool) (t : List ℕ) → IsUtf8 (37 ∷ t) → over p (chars (37 ∷ t)) ≡ (begins_with_digit t && (begins_with_digit (tail t) && over p (chars (tail (tail t)))))
+percent_step : (p : ℕ → Bool) (t : List ℕ) → IsUtf8 (37 ∷ t)
+    → over p (chars (37 ∷ t)) ≡ (begins_with_digit t && (begins_with_digit (tail t) && over p (chars (tail (tail t)))))
 unfolding over_from
 percent_step p t u =
     let ut = text_after_ascii 37 t u (omega arith) in
     let first : over p (chars (37 ∷ t)) ≡ over_from p 2 (chars t) = rw (chars_ascii 37 t u (omega arith)) refl in
     first ∙ (digit_step p 1 t ut ∙ second ut)
   where
-    second : IsUtf8 t → (begins_with_digit t && over_from p 1 (chars (tail t))) ≡ (begins_with_digit t && (begins_with_digit (tail t) && over p (chars (tail (tail t)))))
+    second : IsUtf8 t → (begins_with_digit t && over_from p 1 (chars (tail t)))
+        ≡ (begins_with_digit t && (begins_with_digit (tail t) && over p (chars (tail (tail t)))))
     second ut =
-        elim (begins_with_digit t) as (λ b. begins_with_digit t ≡ b → (b && over_from p 1 (chars (tail t))) ≡ (b && (begins_with_digit (tail t) && over p (chars (tail (tail t)))))) [
+        elim (begins_with_digit t) as (λ b. begins_with_digit t ≡ b
+        → (b && over_from p 1 (chars (tail t))) ≡ (b && (begins_with_digit (tail t) && over p (chars (tail (tail t)))))) [
           | true ↦ λ e. digit_step p 0 (tail t) (text_after_digit t ut e)
           | false ↦ λ _. refl
         ] refl
 
--- a triplet at the front
+-- a triplet at the start
 pub triplet_past : (p : ℕ → Bool) (t : List ℕ) → IsUtf8 t → begins_with_triplet t ≡ true → over p (chars (drop 3 t)) ≡ over p (chars t)
 triplet_past p [] u h = cc
 triplet_past p (x ∷ []) u h = let no = both (x == 37) false h in cc
-triplet_past p (x ∷ a ∷ []) u h = let no = both (x == 37) (is_ascii_hexdigit a && false) h in let more = both (is_ascii_hexdigit a) false no.1 in cc
+triplet_past p (x ∷ a ∷ []) u h = let no = both (x == 37) (is_ascii_hexdigit a && false) h in
+    let more = both (is_ascii_hexdigit a) false no.1 in cc
 triplet_past p (x ∷ a ∷ b ∷ cs) u h =
     let one = both (x == 37) (is_ascii_hexdigit a && is_ascii_hexdigit b) h in
     let two = both (is_ascii_hexdigit a) (is_ascii_hexdigit b) one.1 in
@@ -85,12 +94,13 @@ no_triplet p t u h = percent_step p t u ∙ stops (begins_with_digit t) (begins_
     stops true false c h = refl
     stops false b c h = refl
 
--- a character at the front that is no `%`
+-- a character at the start that is no `%`
 plain_step : (p : ℕ → Bool) (c : ℕ) (cs : List ℕ) → c ≢ 37 → over p (c ∷ cs) ≡ (p c && over p cs)
 unfolding over_from
 plain_step p c cs n = let e : (c == 37) ≡ false = grind (arith, nat_tests) in rw e refl
 
-pub char_past : (p : ℕ → Bool) (c : ℕ) (t r : List ℕ) → IsUtf8 t → t ≡ encode_utf8 c ++ r → p 37 ≡ false → p c ≡ true → over p (chars r) ≡ over p (chars t)
+pub char_past : (p : ℕ → Bool) (c : ℕ) (t r : List ℕ) → IsUtf8 t → t ≡ encode_utf8 c ++ r → p 37 ≡ false → p c ≡ true
+    → over p (chars r) ≡ over p (chars t)
 char_past p c t r u e n h =
     let other : c ≢ 37 = λ k. let no : true ≡ false = sym h ∙ (ap p k ∙ n) in cc in
     sym (ap (over p) (chars_past_char t r c u e) ∙ (plain_step p c (chars r) other ∙ rw h refl))
@@ -98,7 +108,8 @@ char_past p c t r u e n h =
 empty_test : (t : List ℕ) → 0 < length t → (length t == 0) ≡ false
 empty_test t h = grind (arith, nat_tests)
 
-pub char_stops : (p : ℕ → Bool) (c : ℕ) (t r : List ℕ) → IsUtf8 t → t ≡ encode_utf8 c ++ r → 0 < length t → begins_with_triplet t ≡ false → p c ≡ false → HasNoUnit p t
+pub char_stops : (p : ℕ → Bool) (c : ℕ) (t r : List ℕ) → IsUtf8 t → t ≡ encode_utf8 c ++ r → 0 < length t → begins_with_triplet t ≡ false
+    → p c ≡ false → HasNoUnit p t
 char_stops p c t r u e some none h =
     elim (cases_eq c 37) [
       | inl same ↦ at_percent same ∙ sym (empty_test t some)
@@ -148,12 +159,16 @@ char_shorter c t r e = omega (arith, ap length e, length-append (encode_utf8 c) 
 pub triplet_text : (t : List ℕ) → IsUtf8 t → begins_with_triplet t ≡ true → (3 ≤ length t) × IsUtf8 (drop 3 t)
 triplet_text [] u h = cc
 triplet_text (x ∷ []) u h = let clash = both (x == 37) false h in cc
-triplet_text (x ∷ a ∷ []) u h = let one = both (x == 37) (is_ascii_hexdigit a && false) h in let clash = both (is_ascii_hexdigit a) false one.1 in cc
+triplet_text (x ∷ a ∷ []) u h = let one = both (x == 37) (is_ascii_hexdigit a && false) h in
+    let clash = both (is_ascii_hexdigit a) false one.1 in cc
 triplet_text (x ∷ a ∷ b ∷ cs) u h =
     let one = both (x == 37) (is_ascii_hexdigit a && is_ascii_hexdigit b) h in
     let two = both (is_ascii_hexdigit a) (is_ascii_hexdigit b) one.1 in
-    let first : x < 128 = omega (arith, eqb-true x 37 one.0) in
-    (omega arith, text_after_ascii b cs (text_after_ascii a (b ∷ cs) (text_after_ascii x (a ∷ b ∷ cs) u first) (hex_is_ascii a two.0)) (hex_is_ascii b two.1))
+    let first : x < 128 = omega (arith, eqb-true x 37 one.0) in (
+      omega arith,
+      text_after_ascii b cs (text_after_ascii a (b ∷ cs) (text_after_ascii x (a ∷ b ∷ cs) u first) (hex_is_ascii a two.0))
+          (hex_is_ascii b two.1),
+    )
 
 -- of a text
 pub of_text : (p : ℕ → Bool) (t : List ℕ) → IsUtf8 t → text_over p t ≡ over p (chars t)

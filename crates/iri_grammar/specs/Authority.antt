@@ -4,6 +4,7 @@ use Rattle.iri_grammar.specs.Classes.{Tests}
 use Rattle.iri_grammar.specs.Cut.{before, behind, marked}
 use Rattle.iri_grammar.specs.Components.{is_userinfo, is_port, if_there}
 use Rattle.iri_grammar.specs.Host.{is_host}
+use Rattle.iri_grammar.specs.Characters.{at_sign, colon}
 
 pub record AuthorityParts : Type 0 where
   pub userinfo : Option (List ℕ)
@@ -13,11 +14,11 @@ pub record AuthorityParts : Type 0 where
 -- `userinfo@`
 abbrev pub userinfo_text : Option (List ℕ) → List ℕ
 userinfo_text None = []
-userinfo_text (Some u) = u ++ 64 ∷ []
+userinfo_text (Some u) = u ++ at_sign ∷ []
 
 -- [userinfo `@`] host [`:` port]
 unfoldable pub recompose_authority : AuthorityParts → List ℕ
-recompose_authority a = userinfo_text a.userinfo ++ (a.host ++ marked 58 a.port)
+recompose_authority a = userinfo_text a.userinfo ++ (a.host ++ marked colon a.port)
 
 -- each part is in its production
 pub record FitsAuthority (s : Tests) (a : AuthorityParts) : Type 0 where
@@ -32,16 +33,16 @@ ReadsAuthority s t a = FitsAuthority s a × (recompose_authority a ≡ t)
 -- the text before a last colon that only digits follow, or all
 abbrev pub host_of : List ℕ → List ℕ
 host_of [] = []
-host_of (x ∷ xs) = cond (x == 58 && is_port xs) [] (x ∷ host_of xs)
+host_of (x ∷ xs) = cond (x == colon && is_port xs) [] (x ∷ host_of xs)
 
 -- what follows a last colon, where that is only digits
 abbrev pub port_of : List ℕ → Option (List ℕ)
 port_of [] = None
-port_of (x ∷ xs) = cond (x == 58 && is_port xs) (Some xs) (port_of xs)
+port_of (x ∷ xs) = cond (x == colon && is_port xs) (Some xs) (port_of xs)
 
 -- what stands before the first `@`, where there is one
 abbrev pub userinfo_of : List ℕ → Option (List ℕ)
-userinfo_of t = cond (is_some (behind 64 t)) (Some (before 64 t)) None
+userinfo_of t = cond (is_some (behind at_sign t)) (Some (before at_sign t)) None
 
 -- what follows the first `@`, or all
 abbrev pub or_all : List ℕ → Option (List ℕ) → List ℕ
@@ -49,7 +50,7 @@ or_all t None = t
 or_all t (Some r) = r
 
 abbrev pub after_userinfo : List ℕ → List ℕ
-after_userinfo t = or_all t (behind 64 t)
+after_userinfo t = or_all t (behind at_sign t)
 
 -- the reading of a text. That an authority has no other one is a law
 unfoldable pub authority_parts : List ℕ → AuthorityParts

@@ -1,6 +1,8 @@
 -- The classes by name.
 use Rattle.std.specs.Prelude.{ℕ, Bool, ◌||◌}
-use Rattle.iri_grammar.specs.Classes.{Tests, is_ascii_unreserved, is_ascii_reg_name, is_ascii_userinfo, is_ascii_pchar, is_ascii_path, is_ascii_query, is_ascii_any, unreserved, reg_name_char, userinfo_char, pchar, path_char, query_char, fragment_char, any_char}
+use Rattle.iri_grammar.specs.Classes.{Tests, is_ascii_unreserved, is_ascii_reg_name, is_ascii_userinfo, is_ascii_pchar, is_ascii_path}
+use Rattle.iri_grammar.specs.Classes.{is_ascii_query, is_ascii_any, unreserved, reg_name_char, userinfo_char, pchar, path_char, query_char}
+use Rattle.iri_grammar.specs.Classes.{fragment_char, any_char}
 use Rattle.iri_grammar.specs.declared.class.Class.{Class}
 use Rattle.iri_grammar.specs.declared.class.Class.TheVariants.{Unreserved, RegName, Userinfo, Pchar, Path, Query, Fragment, Any}
 

@@ -1,5 +1,6 @@
--- A text cut at its first mark c. A text is the list of its bytes.
-use Rattle.std.specs.Prelude.{◌≡◌, ℕ, Bool, true, false, cond, not, ◌&&◌, ◌==◌, List, [], ◌∷◌, Option, Some, None, ◌+◌, ◌<◌, length, take, drop, slice_index}
+-- A text cut at its first delimiter c. A text is the list of its bytes.
+use Rattle.std.specs.Prelude.{◌≡◌, ℕ, Bool, true, false, cond, not, ◌&&◌, ◌==◌, List, [], ◌∷◌, Option, Some, None, ◌+◌, ◌<◌, length, take}
+use Rattle.std.specs.Prelude.{drop, slice_index}
 
 -- what stands before the first c, or all
 abbrev pub before : ℕ → List ℕ → List ℕ
@@ -26,7 +27,7 @@ abbrev pub lacks : ℕ → List ℕ → Bool
 lacks c [] = true
 lacks c (x ∷ xs) = not (x == c) && lacks c xs
 
--- a mark and the part behind it, where the part stands
+-- a delimiter and the part behind it, where the part stands
 abbrev pub marked : ℕ → Option (List ℕ) → List ℕ
 marked c None = []
 marked c (Some xs) = c ∷ xs

@@ -2,7 +2,8 @@
 use Rattle.std.specs.Prelude.{◌≡◌, [], Some, None, codes, refl}
 use lib.Utf8.{encode}
 use Rattle.std.specs.Str.{chars, is_utf8}
-use Rattle.iri_grammar.specs.Classes.{uri_tests, userinfo_char, reg_name_char, path_char, query_char, fragment_char, is_ascii_userinfo, is_ascii_reg_name, is_ascii_path, is_ascii_pchar, is_ascii_query, is_ascii_unreserved, is_sub_delim}
+use Rattle.iri_grammar.specs.Classes.{uri_tests, userinfo_char, reg_name_char, path_char, query_char, fragment_char, is_ascii_userinfo}
+use Rattle.iri_grammar.specs.Classes.{is_ascii_reg_name, is_ascii_path, is_ascii_pchar, is_ascii_query, is_ascii_unreserved, is_sub_delim}
 use Rattle.iri_grammar.specs.Over.{over_from}
 use Rattle.iri_grammar.specs.Components.{is_letter, is_scheme_char}
 use Rattle.iri_grammar.specs.Ipv6.{is_group}
@@ -10,22 +11,58 @@ use Rattle.iri_grammar.specs.Authority.{authority_parts}
 use Rattle.iri_grammar.specs.Parts.{recompose}
 use Rattle.iri_grammar.specs.Split.{split_of, relative_split_of}
 use Rattle.iri_grammar.specs.WholeFault.{front_fault, parts_fault, reference_fault, iri_fault, absolute_fault, relative_fault}
-use Rattle.iri_grammar.specs.declared.error.ErrorKind.TheVariants.{InvalidScheme, InvalidUserInfo, InvalidHost, InvalidPath, InvalidQuery, InvalidFragment, UnexpectedFragment, UnexpectedRelative}
+use Rattle.iri_grammar.specs.declared.error.ErrorKind.TheVariants.{InvalidScheme, InvalidUserInfo, InvalidHost, InvalidPath, InvalidQuery}
+use Rattle.iri_grammar.specs.declared.error.ErrorKind.TheVariants.{InvalidFragment, UnexpectedFragment, UnexpectedRelative}
 
 -- ---- the parts
 -- the two URIs of section 3
 two_uris :
-    (split_of (codes "foo://example.com:8042/over/there?name=ferret#nose") ≡ record { scheme = Some (codes "foo"); authority = Some (codes "example.com:8042"); path = codes "/over/there"; query = Some (codes "name=ferret"); fragment = Some (codes "nose") })
-    × (split_of (codes "urn:example:animal:ferret:nose") ≡ record { scheme = Some (codes "urn"); authority = None; path = codes "example:animal:ferret:nose"; query = None; fragment = None })
+    (split_of (codes "foo://example.com:8042/over/there?name=ferret#nose")
+    ≡ record {
+      scheme = Some (codes "foo");
+      authority = Some (codes "example.com:8042");
+      path = codes "/over/there";
+      query = Some (codes "name=ferret");
+      fragment = Some (codes "nose");
+    })
+    × (split_of (codes "urn:example:animal:ferret:nose")
+    ≡ record {
+      scheme = Some (codes "urn");
+      authority = None;
+      path = codes "example:animal:ferret:nose";
+      query = None;
+      fragment = None;
+    })
 unfolding split_of is_letter is_scheme_char
 two_uris = (refl, refl)
 
 -- URIs of section 1.1.2
 example_uris :
-    (split_of (codes "ftp://ftp.is.co.za/rfc/rfc1808.txt") ≡ record { scheme = Some (codes "ftp"); authority = Some (codes "ftp.is.co.za"); path = codes "/rfc/rfc1808.txt"; query = None; fragment = None })
-    × (split_of (codes "ldap://[2001:db8::7]/c=GB?objectClass?one") ≡ record { scheme = Some (codes "ldap"); authority = Some (codes "[2001:db8::7]"); path = codes "/c=GB"; query = Some (codes "objectClass?one"); fragment = None })
-    × (split_of (codes "mailto:John.Doe@example.com") ≡ record { scheme = Some (codes "mailto"); authority = None; path = codes "John.Doe@example.com"; query = None; fragment = None })
-    × (split_of (codes "telnet://192.0.2.16:80/") ≡ record { scheme = Some (codes "telnet"); authority = Some (codes "192.0.2.16:80"); path = codes "/"; query = None; fragment = None })
+    (split_of (codes "ftp://ftp.is.co.za/rfc/rfc1808.txt")
+    ≡ record {
+      scheme = Some (codes "ftp");
+      authority = Some (codes "ftp.is.co.za");
+      path = codes "/rfc/rfc1808.txt";
+      query = None;
+      fragment = None;
+    })
+    × (split_of (codes "ldap://[2001:db8::7]/c=GB?objectClass?one")
+    ≡ record {
+      scheme = Some (codes "ldap");
+      authority = Some (codes "[2001:db8::7]");
+      path = codes "/c=GB";
+      query = Some (codes "objectClass?one");
+      fragment = None;
+    })
+    × (split_of (codes "mailto:John.Doe@example.com")
+    ≡ record { scheme = Some (codes "mailto"); authority = None; path = codes "John.Doe@example.com"; query = None; fragment = None })
+    × (split_of (codes "telnet://192.0.2.16:80/") ≡ record {
+      scheme = Some (codes "telnet");
+      authority = Some (codes "192.0.2.16:80");
+      path = codes "/";
+      query = None;
+      fragment = None;
+    })
 unfolding split_of is_letter is_scheme_char
 example_uris = (refl, refl, refl, refl)
 
@@ -34,15 +71,33 @@ references :
     (split_of (codes "g:h") ≡ record { scheme = Some (codes "g"); authority = None; path = codes "h"; query = None; fragment = None })
     × (split_of (codes "//g") ≡ record { scheme = None; authority = Some (codes "g"); path = []; query = None; fragment = None })
     × (split_of (codes "?y") ≡ record { scheme = None; authority = None; path = []; query = Some (codes "y"); fragment = None })
-    × (split_of (codes "g?y#s") ≡ record { scheme = None; authority = None; path = codes "g"; query = Some (codes "y"); fragment = Some (codes "s") })
+    × (split_of (codes "g?y#s") ≡ record {
+      scheme = None;
+      authority = None;
+      path = codes "g";
+      query = Some (codes "y");
+      fragment = Some (codes "s");
+    })
     × (split_of [] ≡ record { scheme = None; authority = None; path = []; query = None; fragment = None })
     × (split_of (codes "g;x=1/./y") ≡ record { scheme = None; authority = None; path = codes "g;x=1/./y"; query = None; fragment = None })
-    × (split_of (codes "g?y/../x") ≡ record { scheme = None; authority = None; path = codes "g"; query = Some (codes "y/../x"); fragment = None })
-    × (split_of (codes "g#s/../x") ≡ record { scheme = None; authority = None; path = codes "g"; query = None; fragment = Some (codes "s/../x") })
+    × (split_of (codes "g?y/../x") ≡ record {
+      scheme = None;
+      authority = None;
+      path = codes "g";
+      query = Some (codes "y/../x");
+      fragment = None;
+    })
+    × (split_of (codes "g#s/../x") ≡ record {
+      scheme = None;
+      authority = None;
+      path = codes "g";
+      query = None;
+      fragment = Some (codes "s/../x");
+    })
 unfolding split_of is_letter is_scheme_char
 references = (refl, refl, refl, refl, refl, refl, refl, refl)
 
--- the first mark decides: a `?` behind the `#` is the fragment's, and a `:` behind `/`, `?` or `#` begins no scheme
+-- the first delimiter decides: a `?` behind the `#` is the fragment's, and a `:` behind `/`, `?` or `#` begins no scheme
 marks :
     (split_of (codes "a#b?c") ≡ record { scheme = None; authority = None; path = codes "a"; query = None; fragment = Some (codes "b?c") })
     × (split_of (codes "?a:b") ≡ record { scheme = None; authority = None; path = []; query = Some (codes "a:b"); fragment = None })
@@ -53,7 +108,8 @@ marks = (refl, refl, refl, refl)
 
 -- recomposition (section 5.3) gives the texts back
 recomposed :
-    (recompose (split_of (codes "foo://example.com:8042/over/there?name=ferret#nose")) ≡ codes "foo://example.com:8042/over/there?name=ferret#nose")
+    (recompose (split_of (codes "foo://example.com:8042/over/there?name=ferret#nose"))
+    ≡ codes "foo://example.com:8042/over/there?name=ferret#nose")
     × (recompose (split_of (codes "//g?y#s")) ≡ codes "//g?y#s")
     × (recompose (split_of (codes "mailto:John.Doe@example.com")) ≡ codes "mailto:John.Doe@example.com")
 unfolding split_of recompose is_letter is_scheme_char
@@ -70,7 +126,9 @@ no_fault :
     × (absolute_fault uri_tests (codes "tel:+1-816-555-1212") ≡ None)
     × (absolute_fault uri_tests (codes "telnet://192.0.2.16:80/") ≡ None)
     × (absolute_fault uri_tests (codes "urn:oasis:names:specification:docbook:dtd:xml:4.1.2") ≡ None)
-unfolding split_of relative_split_of front_fault parts_fault authority_parts over_from chars is_utf8 encode is_letter is_scheme_char userinfo_char reg_name_char path_char query_char fragment_char is_ascii_userinfo is_ascii_reg_name is_ascii_path is_ascii_pchar is_ascii_query is_ascii_unreserved is_sub_delim is_group
+unfolding split_of relative_split_of front_fault parts_fault authority_parts over_from chars is_utf8 encode is_letter is_scheme_char
+    userinfo_char reg_name_char path_char query_char fragment_char is_ascii_userinfo is_ascii_reg_name is_ascii_path is_ascii_pchar
+    is_ascii_query is_ascii_unreserved is_sub_delim is_group
 no_fault = (refl, refl, refl, refl, refl, refl, refl, refl)
 
 -- a text with a fault in one part
@@ -83,7 +141,9 @@ fault_of_each_part :
     × (reference_fault uri_tests (codes "//a@b@c") ≡ Some InvalidHost)
     × (reference_fault uri_tests (codes "//[1::2::3]") ≡ Some InvalidHost)
     × (reference_fault uri_tests (codes "http:g") ≡ None)
-unfolding split_of relative_split_of front_fault parts_fault authority_parts over_from chars is_utf8 encode is_letter is_scheme_char userinfo_char reg_name_char path_char query_char fragment_char is_ascii_userinfo is_ascii_reg_name is_ascii_path is_ascii_pchar is_ascii_query is_ascii_unreserved is_sub_delim is_group
+unfolding split_of relative_split_of front_fault parts_fault authority_parts over_from chars is_utf8 encode is_letter is_scheme_char
+    userinfo_char reg_name_char path_char query_char fragment_char is_ascii_userinfo is_ascii_reg_name is_ascii_path is_ascii_pchar
+    is_ascii_query is_ascii_unreserved is_sub_delim is_group
 fault_of_each_part = (refl, refl, refl, refl, refl, refl, refl, refl)
 
 -- the first fault comes first
@@ -92,7 +152,9 @@ first_of_two :
     × (reference_fault uri_tests (codes "//[?%#%") ≡ Some InvalidHost)
     × (reference_fault uri_tests (codes "%?%#%") ≡ Some InvalidPath)
     × (reference_fault uri_tests (codes "?%#%") ≡ Some InvalidQuery)
-unfolding split_of relative_split_of front_fault parts_fault authority_parts over_from chars is_utf8 encode is_letter is_scheme_char userinfo_char reg_name_char path_char query_char fragment_char is_ascii_userinfo is_ascii_reg_name is_ascii_path is_ascii_pchar is_ascii_query is_ascii_unreserved is_sub_delim is_group
+unfolding split_of relative_split_of front_fault parts_fault authority_parts over_from chars is_utf8 encode is_letter is_scheme_char
+    userinfo_char reg_name_char path_char query_char fragment_char is_ascii_userinfo is_ascii_reg_name is_ascii_path is_ascii_pchar
+    is_ascii_query is_ascii_unreserved is_sub_delim is_group
 first_of_two = (refl, refl, refl, refl)
 
 -- where a scheme must stand
@@ -106,5 +168,7 @@ scheme_asked :
     × (iri_fault uri_tests (codes "http://a/#f") ≡ None)
     × (relative_fault uri_tests (codes "http:g") ≡ Some InvalidPath)
     × (relative_fault uri_tests (codes "./http:g") ≡ None)
-unfolding split_of relative_split_of front_fault parts_fault authority_parts over_from chars is_utf8 encode is_letter is_scheme_char userinfo_char reg_name_char path_char query_char fragment_char is_ascii_userinfo is_ascii_reg_name is_ascii_path is_ascii_pchar is_ascii_query is_ascii_unreserved is_sub_delim is_group
+unfolding split_of relative_split_of front_fault parts_fault authority_parts over_from chars is_utf8 encode is_letter is_scheme_char
+    userinfo_char reg_name_char path_char query_char fragment_char is_ascii_userinfo is_ascii_reg_name is_ascii_path is_ascii_pchar
+    is_ascii_query is_ascii_unreserved is_sub_delim is_group
 scheme_asked = (refl, refl, refl, refl, refl, refl, refl, refl, refl)

@@ -7,7 +7,8 @@ use Rattle.iri_grammar.specs.Host.{is_host, is_reg_name}
 use Rattle.iri_grammar.specs.Ipv4.{is_ipv4}
 use Rattle.iri_grammar.specs.Authority.{authority_parts}
 use Rattle.iri_grammar.specs.declared.error.ErrorKind.{ErrorKind}
-use Rattle.iri_grammar.specs.declared.error.ErrorKind.TheVariants.{InvalidScheme, InvalidUserInfo, InvalidHost, InvalidRegName, InvalidPort, InvalidPath, InvalidQuery, InvalidFragment, InvalidUtf8}
+use Rattle.iri_grammar.specs.declared.error.ErrorKind.TheVariants.{InvalidScheme, InvalidUserInfo, InvalidHost, InvalidRegName}
+use Rattle.iri_grammar.specs.declared.error.ErrorKind.TheVariants.{InvalidPort, InvalidPath, InvalidQuery, InvalidFragment, InvalidUtf8}
 use Rattle.iri_grammar.specs.declared.error.Error.{Error}
 
 -- the first of two faults

@@ -96,7 +96,8 @@ unfolding is_hundreds
 octet_leading_zero = refl
 
 -- the reading of an authority
-whole : authority_parts (codes "user:pw@[::1]:80") ≡ record { userinfo = Some (codes "user:pw"); host = codes "[::1]"; port = Some (codes "80") }
+whole : authority_parts (codes "user:pw@[::1]:80")
+    ≡ record { userinfo = Some (codes "user:pw"); host = codes "[::1]"; port = Some (codes "80") }
 unfolding authority_parts
 whole = refl
 

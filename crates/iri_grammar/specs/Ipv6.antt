@@ -4,6 +4,7 @@ use Rattle.std.specs.Char.{is_ascii_hexdigit}
 use Rattle.std.specs.List.{list_all}
 use Rattle.iri_grammar.specs.Pieces.{joined}
 use Rattle.iri_grammar.specs.Ipv4.{is_ipv4}
+use Rattle.iri_grammar.specs.Characters.{colon}
 
 -- `h16`, a group: one to four hex digits
 unfoldable pub is_group : List ℕ → Bool
@@ -20,16 +21,16 @@ are_groups_or_ipv4 (p ∷ []) = is_group p || is_ipv4 p
 are_groups_or_ipv4 (p ∷ q ∷ ps) = is_group p && are_groups_or_ipv4 (q ∷ ps)
 
 -- how many groups the parts are; an IPv4 text counts as two
-abbrev pub units : List (List ℕ) → ℕ
-units [] = 0
-units (p ∷ ps) = cond (is_ipv4 p) 2 1 + units ps
+abbrev pub group_count : List (List ℕ) → ℕ
+group_count [] = 0
+group_count (p ∷ ps) = cond (is_ipv4 p) 2 1 + group_count ps
 
 -- eight groups with colons between them, and no `::`
 pub record IsFullIpv6 (t : List ℕ) : Type 0 where
   pub parts : List (List ℕ)
   pub groups : are_groups_or_ipv4 parts ≡ true
-  pub text : t ≡ joined 58 parts
-  pub count : units parts ≡ 8
+  pub text : t ≡ joined colon parts
+  pub count : group_count parts ≡ 8
 
 -- one `::` and at most seven groups; an IPv4 text may stand at the end alone
 pub record IsShortenedIpv6 (t : List ℕ) : Type 0 where
@@ -37,8 +38,8 @@ pub record IsShortenedIpv6 (t : List ℕ) : Type 0 where
   pub back : List (List ℕ)
   pub front_groups : are_groups front ≡ true
   pub back_groups : are_groups_or_ipv4 back ≡ true
-  pub text : t ≡ joined 58 front ++ (58 ∷ 58 ∷ joined 58 back)
-  pub count : units front + units back ≤ 7
+  pub text : t ≡ joined colon front ++ (colon ∷ colon ∷ joined colon back)
+  pub count : group_count front + group_count back ≤ 7
 
 -- `IPv6address`
 abbrev pub IsIpv6 : List ℕ → Type 0

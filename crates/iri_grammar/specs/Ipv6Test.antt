@@ -2,9 +2,10 @@
 use Rattle.std.specs.Prelude.{ℕ, ◌+◌, Bool, false, cond, ◌&&◌, ◌==◌, List, [], ◌∷◌, Option, Some, None, nat_lt}
 use Rattle.iri_grammar.specs.Cut.{tail}
 use Rattle.iri_grammar.specs.Pieces.{pieces}
-use Rattle.iri_grammar.specs.Ipv6.{are_groups, are_groups_or_ipv4, units}
+use Rattle.iri_grammar.specs.Ipv6.{are_groups, are_groups_or_ipv4, group_count}
+use Rattle.iri_grammar.specs.Characters.{colon}
 
--- a text begins with the mark
+-- a text begins with the delimiter
 abbrev pub begins : ℕ → List ℕ → Bool
 begins c [] = false
 begins c (x ∷ xs) = x == c
@@ -12,27 +13,27 @@ begins c (x ∷ xs) = x == c
 -- what stands before the first `::`, or all
 abbrev pub before_double : List ℕ → List ℕ
 before_double [] = []
-before_double (x ∷ xs) = cond (x == 58 && begins 58 xs) [] (x ∷ before_double xs)
+before_double (x ∷ xs) = cond (x == colon && begins colon xs) [] (x ∷ before_double xs)
 
 -- what stands behind the first `::`, where there is one
 abbrev pub behind_double : List ℕ → Option (List ℕ)
 behind_double [] = None
-behind_double (x ∷ xs) = cond (x == 58 && begins 58 xs) (Some (tail xs)) (behind_double xs)
+behind_double (x ∷ xs) = cond (x == colon && begins colon xs) (Some (tail xs)) (behind_double xs)
 
 -- the parts between the colons; the empty text has none
-abbrev pub parts_of : List ℕ → List (List ℕ)
-parts_of [] = []
-parts_of (x ∷ xs) = pieces 58 (x ∷ xs)
+abbrev pub group_texts : List ℕ → List (List ℕ)
+group_texts [] = []
+group_texts (x ∷ xs) = pieces colon (x ∷ xs)
 
 abbrev pub is_full : List (List ℕ) → Bool
-is_full ps = are_groups_or_ipv4 ps && units ps == 8
+is_full ps = are_groups_or_ipv4 ps && group_count ps == 8
 
 abbrev pub is_shortened : List (List ℕ) → List (List ℕ) → Bool
-is_shortened front back = are_groups front && are_groups_or_ipv4 back && nat_lt (units front + units back) 8
+is_shortened front back = are_groups front && are_groups_or_ipv4 back && nat_lt (group_count front + group_count back) 8
 
 abbrev pub is_ipv6_around : List ℕ → Option (List ℕ) → Bool
-is_ipv6_around front None = is_full (parts_of front)
-is_ipv6_around front (Some back) = is_shortened (parts_of front) (parts_of back)
+is_ipv6_around front None = is_full (group_texts front)
+is_ipv6_around front (Some back) = is_shortened (group_texts front) (group_texts back)
 
 abbrev pub is_ipv6 : List ℕ → Bool
 is_ipv6 t = is_ipv6_around (before_double t) (behind_double t)

@@ -1,31 +1,7 @@
 -- Where the parts of a reference end, as the splitter finds them.
-use Rattle.std.specs.Prelude.{◌≡◌, ℕ, ◌+◌, ◌<◌, Bool, true, false, cond, ◌&&◌, ◌||◌, ◌==◌, nat_lt, List, [], ◌∷◌, Some, None, length, take, drop, slice_index}
-use Rattle.std.specs.Char.{is_ascii_alphabetic}
-use Rattle.iri_grammar.specs.Cut.{before, behind}
-use Rattle.iri_grammar.specs.Split.{scheme_of, after_scheme, path_of, hier_of}
-
--- ---- the scheme
--- at k stands a colon, and the text begins with a letter
-unfoldable pub ends_scheme : List ℕ → ℕ → Bool
-ends_scheme bs k = nat_lt k (length bs) && slice_index bs k == 58 && is_ascii_alphabetic (slice_index bs 0)
-
--- the colon behind the scheme stands at k
-pub record SchemeAt (bs : List ℕ) (k : ℕ) : Type 0 where
-  pub inside : k < length bs
-  pub byte : slice_index bs k ≡ 58
-  pub scheme : Some (take k bs) ≡ scheme_of bs
-  pub rest : drop (k + 1) bs ≡ after_scheme bs
-
--- the text begins with no scheme and colon
-pub record NoScheme (bs : List ℕ) : Type 0 where
-  pub scheme : None ≡ scheme_of bs
-  pub rest : bs ≡ after_scheme bs
+use Rattle.std.specs.Prelude.{ℕ, Bool, cond, List, [], ◌∷◌}
 
 -- ---- the authority
--- the marks that end it
-abbrev pub ends_authority : ℕ → Bool
-ends_authority x = x == 47 || x == 63 || x == 35
-
 -- what stands before the first byte that passes the test, or all
 abbrev pub before_any : (ℕ → Bool) → List ℕ → List ℕ
 before_any p [] = []
@@ -35,36 +11,3 @@ before_any p (x ∷ xs) = cond (p x) [] (x ∷ before_any p xs)
 abbrev pub from_any : (ℕ → Bool) → List ℕ → List ℕ
 from_any p [] = []
 from_any p (x ∷ xs) = cond (p x) (x ∷ xs) (from_any p xs)
-
--- the first such mark stands at k
-pub record AuthorityEndAt (bs : List ℕ) (k : ℕ) : Type 0 where
-  pub inside : k < length bs
-  pub ascii : slice_index bs k < 128
-  pub front : take k bs ≡ before_any ends_authority bs
-  pub rest : drop k bs ≡ from_any ends_authority bs
-
--- none stands in the text
-pub record NoAuthorityEnd (bs : List ℕ) : Type 0 where
-  pub front : bs ≡ before_any ends_authority bs
-  pub rest : [] ≡ from_any ends_authority bs
-
--- the text r follows the authority of t: it begins with the path, and query and fragment are those of t
-pub record IsPastAuthority (t r : List ℕ) : Type 0 where
-  pub path : hier_of r ≡ path_of (hier_of t)
-  pub query : behind 63 (before 35 r) ≡ behind 63 (before 35 t)
-  pub fragment : behind 35 r ≡ behind 35 t
-
--- ---- query and fragment
--- the first `?` or `#` stands at k
-pub record TailAt (bs : List ℕ) (k : ℕ) : Type 0 where
-  pub inside : k < length bs
-  pub ascii : slice_index bs k < 128
-  pub front : take k bs ≡ hier_of bs
-  pub at_query : (slice_index bs k == 63) ≡ true → (Some (before 35 (drop (k + 1) bs)) ≡ behind 63 (before 35 bs)) × (behind 35 (drop (k + 1) bs) ≡ behind 35 bs)
-  pub at_fragment : (slice_index bs k == 63) ≡ false → (None ≡ behind 63 (before 35 bs)) × (Some (drop (k + 1) bs) ≡ behind 35 bs)
-
--- neither stands in the text
-pub record NoTail (bs : List ℕ) : Type 0 where
-  pub front : bs ≡ hier_of bs
-  pub query : None ≡ behind 63 (before 35 bs)
-  pub fragment : None ≡ behind 35 bs

@@ -4,6 +4,7 @@ use Rattle.iri_grammar.specs.Classes.{Tests}
 use Rattle.iri_grammar.specs.Components.{if_there, is_scheme, is_path, is_query, is_fragment}
 use Rattle.iri_grammar.specs.Authority.{is_authority}
 use Rattle.iri_grammar.specs.Cut.{before, lacks, marked}
+use Rattle.iri_grammar.specs.Characters.{colon, number_sign, question_mark, slash}
 
 -- scheme, authority, path, query and fragment; all but the path may be undefined
 pub record Parts : Type 0 where
@@ -16,16 +17,17 @@ pub record Parts : Type 0 where
 -- `scheme:`
 abbrev pub scheme_text : Option (List ℕ) → List ℕ
 scheme_text None = []
-scheme_text (Some x) = x ++ 58 ∷ []
+scheme_text (Some x) = x ++ colon ∷ []
 
 -- `//authority`
 abbrev pub authority_text : Option (List ℕ) → List ℕ
 authority_text None = []
-authority_text (Some x) = 47 ∷ 47 ∷ x
+authority_text (Some x) = slash ∷ slash ∷ x
 
 -- recomposition (RFC 3986 section 5.3): [scheme `:`] [`//` authority] path [`?` query] [`#` fragment]
 unfoldable pub recompose : Parts → List ℕ
-recompose p = scheme_text p.scheme ++ (authority_text p.authority ++ (p.path ++ (marked 63 p.query ++ marked 35 p.fragment)))
+recompose p = scheme_text p.scheme ++ (authority_text p.authority
+    ++ (p.path ++ (marked question_mark p.query ++ marked number_sign p.fragment)))
 
 abbrev pub is_empty : List ℕ → Bool
 is_empty [] = true
@@ -33,18 +35,18 @@ is_empty (x ∷ xs) = false
 
 abbrev pub starts_with_slash : List ℕ → Bool
 starts_with_slash [] = false
-starts_with_slash (x ∷ xs) = x == 47
+starts_with_slash (x ∷ xs) = x == slash
 
 abbrev pub starts_with_slashes : List ℕ → Bool
 starts_with_slashes [] = false
-starts_with_slashes (x ∷ xs) = x == 47 && starts_with_slash xs
+starts_with_slashes (x ∷ xs) = x == slash && starts_with_slash xs
 
 -- the three rules of a path (RFC 3986 section 3.3), given scheme and authority: beside an authority it is
 -- `path-abempty`; without one it doesn't begin with `//`; without a scheme too, its first segment has no `:`
 abbrev pub path_rules : Option (List ℕ) → Option (List ℕ) → List ℕ → Bool
 path_rules sch (Some a) p = is_empty p || starts_with_slash p
 path_rules (Some sch) None p = not (starts_with_slashes p)
-path_rules None None p = not (starts_with_slashes p) && lacks 58 (before 47 p)
+path_rules None None p = not (starts_with_slashes p) && lacks colon (before slash p)
 
 -- each part is in its production, and the path keeps the rules
 pub record Fits (s : Tests) (p : Parts) : Type 0 where

@@ -1,30 +1,7 @@
 -- What a scan of a text over a class takes at a time: a run of ASCII characters of the class, or one unit.
-use Rattle.std.specs.Prelude.{◌≡◌, ℕ, suc, ◌<◌, Bool, false, cond, ◌&&◌, ◌==◌, List, [], ◌∷◌, length}
-use Rattle.std.specs.Char.{is_ascii_hexdigit}
-use Rattle.std.specs.Str.{chars, IsUtf8}
-use Rattle.iri_grammar.specs.Cut.{tail}
-use Rattle.iri_grammar.specs.Over.{over}
+use Rattle.std.specs.Prelude.{ℕ, suc, Bool, cond, List, [], ◌∷◌}
 
--- how many at the front pass the test
+-- how many at the start pass the test
 abbrev pub run_of : (ℕ → Bool) → List ℕ → ℕ
 run_of p [] = 0
 run_of p (x ∷ xs) = cond (p x) (suc (run_of p xs)) 0
-
--- the first byte is a hex digit
-abbrev pub begins_with_digit : List ℕ → Bool
-begins_with_digit [] = false
-begins_with_digit (a ∷ cs) = is_ascii_hexdigit a
-
-abbrev pub begins_with_triplet : List ℕ → Bool
-begins_with_triplet [] = false
-begins_with_triplet (x ∷ xs) = x == 37 && (begins_with_digit xs && begins_with_digit (tail xs))
-
--- the text r follows the first unit of t
-pub record IsPast (p : ℕ → Bool) (t r : List ℕ) : Type 0 where
-  pub text : IsUtf8 r
-  pub same : over p (chars r) ≡ over p (chars t)
-  pub shorter : length r < length t
-
--- no unit stands at the front of t
-abbrev pub HasNoUnit : (ℕ → Bool) → List ℕ → Type 0
-HasNoUnit p t = over p (chars t) ≡ (length t == 0)

@@ -1,6 +1,6 @@
 -- What an authority's span holds.
 use Rattle.iri_grammar.specs.Authority.{AuthorityParts}
-use Rattle.iri_grammar.specs.Views.{now_of}
+use Rattle.iri_grammar.specs.OptionalSlices.{now_of}
 use Rattle.iri_grammar.specs.declared.authority.AuthoritySpan.{AuthoritySpan}
 
 -- the parts

@@ -1,17 +1,18 @@
--- The split of a text, by its first marks (RFC 3986 section 3 and appendix B).
+-- The split of a text, by its first delimiters (RFC 3986 section 3 and appendix B).
 use Rattle.std.specs.Prelude.{ℕ, cond, ◌&&◌, List, [], ◌∷◌, Option, Some, None, is_some}
 use Rattle.iri_grammar.specs.Components.{is_scheme}
 use Rattle.iri_grammar.specs.Authority.{or_all}
 use Rattle.iri_grammar.specs.Cut.{before, from, behind}
 use Rattle.iri_grammar.specs.Parts.{Parts, starts_with_slashes}
+use Rattle.iri_grammar.specs.Characters.{colon, number_sign, question_mark, slash}
 
 -- what stands before the first `:`, where it is a scheme
 abbrev pub scheme_of : List ℕ → Option (List ℕ)
-scheme_of t = cond (is_scheme (before 58 t) && is_some (behind 58 t)) (Some (before 58 t)) None
+scheme_of t = cond (is_scheme (before colon t) && is_some (behind colon t)) (Some (before colon t)) None
 
 -- what follows the scheme and its colon, or all
 abbrev pub after_scheme : List ℕ → List ℕ
-after_scheme t = cond (is_scheme (before 58 t)) (or_all t (behind 58 t)) t
+after_scheme t = cond (is_scheme (before colon t)) (or_all t (behind colon t)) t
 
 abbrev pub behind_slashes : List ℕ → List ℕ
 behind_slashes [] = []
@@ -20,18 +21,24 @@ behind_slashes (x ∷ y ∷ xs) = xs
 
 -- the authority stands behind `//` up to the next `/`; the rest is the path
 abbrev pub authority_of : List ℕ → Option (List ℕ)
-authority_of h = cond (starts_with_slashes h) (Some (before 47 (behind_slashes h))) None
+authority_of h = cond (starts_with_slashes h) (Some (before slash (behind_slashes h))) None
 
 abbrev pub path_of : List ℕ → List ℕ
-path_of h = cond (starts_with_slashes h) (from 47 (behind_slashes h)) h
+path_of h = cond (starts_with_slashes h) (from slash (behind_slashes h)) h
 
 -- what stands before the first `?` or `#`: `hier-part` or `relative-part`
 abbrev pub hier_of : List ℕ → List ℕ
-hier_of t = before 63 (before 35 t)
+hier_of t = before question_mark (before number_sign t)
 
 -- a scheme, and the parts of what follows it
 abbrev pub parts_of : Option (List ℕ) → List ℕ → Parts
-parts_of sch r = record { scheme = sch; authority = authority_of (hier_of r); path = path_of (hier_of r); query = behind 63 (before 35 r); fragment = behind 35 r }
+parts_of sch r = record {
+  scheme = sch;
+  authority = authority_of (hier_of r);
+  path = path_of (hier_of r);
+  query = behind question_mark (before number_sign r);
+  fragment = behind number_sign r;
+}
 
 -- the parts of a text read as a reference
 unfoldable pub split_of : List ℕ → Parts

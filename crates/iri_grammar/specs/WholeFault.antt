@@ -8,10 +8,11 @@ use Rattle.iri_grammar.specs.Split.{split_of, relative_split_of}
 use Rattle.iri_grammar.specs.Fault.{first, unless, part_fault, scheme_fault, authority_fault, query_fault, fragment_fault}
 use Rattle.iri_grammar.specs.declared.error.ErrorKind.{ErrorKind}
 use Rattle.iri_grammar.specs.declared.error.ErrorKind.TheVariants.{InvalidPath, UnexpectedFragment, UnexpectedRelative}
+use Rattle.iri_grammar.specs.Characters.{colon, slash}
 
 -- in a relative reference without authority no `:` stands before the first `/` (RFC 3986 section 4.2)
 abbrev pub colon_allowed : Parts → Bool
-colon_allowed p = is_some p.scheme || is_some p.authority || lacks 58 (before 47 p.path)
+colon_allowed p = is_some p.scheme || is_some p.authority || lacks colon (before slash p.path)
 
 -- the fault of authority, path and query
 unfoldable pub front_fault : Tests → Parts → Option ErrorKind
@@ -26,7 +27,7 @@ parts_fault s of_fragment p = first (front_fault s p) (part_fault of_fragment p.
 
 -- where a scheme must stand: no `:` at all, or what stands before the first is no scheme
 abbrev pub missing_scheme_fault : List ℕ → Option ErrorKind
-missing_scheme_fault t = cond (lacks 58 t) (Some UnexpectedRelative) (scheme_fault (before 58 t))
+missing_scheme_fault t = cond (lacks colon t) (Some UnexpectedRelative) (scheme_fault (before colon t))
 
 -- `URI-reference` (section 4.1): where what stands before the first `:` is a scheme the rest follows that colon;
 -- otherwise the whole text is read as relative

@@ -2,10 +2,11 @@
 ghost use Rattle.std.specs.Prelude.{◌≡◌, true, MatchOption};
 ghost use Rattle.memchr.specs.Find.{IsLastByte, is_byte};
 ghost use Rattle.iri_grammar.specs.Components.{is_port};
-ghost use Rattle.iri_grammar.specs.Authority.{is_authority, authority_parts, userinfo_of, after_userinfo, host_of, port_of};
-ghost use Rattle.iri_grammar.specs.LastColon.{LastColon, NoColon};
+ghost use Rattle.iri_grammar.specs.Authority.{is_authority, authority_parts, userinfo_of, after_userinfo, host_of};
+ghost use Rattle.iri_grammar.specs.Authority.{port_of};
+ghost use Rattle.iri_grammar.specs.inside.LastColon.{LastColon, NoColon};
 ghost use Rattle.iri_grammar.specs.Spans.{span_parts};
-ghost use Rattle.iri_grammar.specs.Views.{now_of};
+ghost use Rattle.iri_grammar.specs.OptionalSlices.{now_of};
 
 use crate::cutting::cut;
 use crate::digits::all_digits;

@@ -1,6 +1,7 @@
 //! The classes of characters (RFC 3986 sections 2 and 3, RFC 3987 section 2.2).
 ghost use Rattle.std.specs.Prelude.{◌≡◌, ◌≤◌, ◌<◌};
-ghost use Rattle.iri_grammar.specs.Classes.{unreserved, reg_name_char, userinfo_char, pchar, path_char, query_char, fragment_char, any_char};
+ghost use Rattle.iri_grammar.specs.Classes.{unreserved, reg_name_char, userinfo_char, pchar, path_char, query_char};
+ghost use Rattle.iri_grammar.specs.Classes.{fragment_char, any_char};
 ghost use Rattle.iri_grammar.specs.ClassTests.{class_test, ascii_test, past_ascii_test, rank_of};
 
 use crate::spec::Spec;

@@ -1,18 +1,18 @@
-//! A text cut at a mark: an ASCII character that parts a text from what follows, as `?` or `#`.
+//! A text cut at a delimiter: an ASCII character that parts a text from what follows, as `?` or `#`.
 ghost use Rattle.std.specs.Prelude.{◌≡◌, ◌<◌, MatchOption};
 ghost use Rattle.iri_grammar.specs.Cut.{before, behind, from, lacks, CutAt, NoCut};
-ghost use Rattle.iri_grammar.specs.Views.{now_of};
+ghost use Rattle.iri_grammar.specs.OptionalSlices.{now_of};
 
 use memchr::memchr;
 
-/// Where the mark first stands, in bytes.
+/// Where the delimiter first stands, in bytes.
 pub fn find(s: &str, mark: u8) -> Option<usize>
     ensures { MatchOption result (NoCut mark s.now) (λ k. CutAt mark s.now k) }
 {
     memchr(mark, s.as_bytes())
 }
 
-/// What stands before the first mark, or all, and what stands behind it. The mark must be ASCII.
+/// What stands before the first delimiter, or all, and what stands behind it. The delimiter must be ASCII.
 pub fn cut(s: &str, mark: u8) -> (&str, Option<&str>)
     requires { mark < 128 }
     ensures before { result.0.now ≡ before mark s.now }
@@ -24,7 +24,7 @@ pub fn cut(s: &str, mark: u8) -> (&str, Option<&str>)
     }
 }
 
-/// What stands before the first mark, or all, and the rest from it on. The mark must be ASCII.
+/// What stands before the first delimiter, or all, and the rest from it on. The delimiter must be ASCII.
 pub fn cut_before(s: &str, mark: u8) -> (&str, &str)
     requires { mark < 128 }
     ensures before { result.0.now ≡ before mark s.now }
@@ -36,7 +36,7 @@ pub fn cut_before(s: &str, mark: u8) -> (&str, &str)
     }
 }
 
-/// Whether the mark stands nowhere.
+/// Whether the delimiter stands nowhere.
 pub fn lacks(s: &str, mark: u8) -> bool
     ensures { result ≡ lacks mark s.now }
 {

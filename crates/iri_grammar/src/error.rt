@@ -30,7 +30,7 @@ pub enum ErrorKind {
 }
 
 impl ErrorKind {
-    ghost use Rattle.iri_grammar.specs.Kinds.{description};
+    ghost use Rattle.iri_grammar.specs.ErrorTexts.{description};
 
     /// The kind in words, as they stand in `Error`'s `Display`.
     pub fn description(self) -> &'static str
@@ -75,7 +75,7 @@ impl Error {
 }
 
 impl fmt::Display for Error {
-    ghost use Rattle.iri_grammar.specs.Kinds.{description};
+    ghost use Rattle.iri_grammar.specs.ErrorTexts.{description};
 
     ghost output = { λ e. Some (codes "invalid IRI: " ++ description e.kind) };
 

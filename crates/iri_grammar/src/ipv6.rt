@@ -2,9 +2,10 @@
 ghost use Rattle.std.specs.Prelude.{◌≡◌, MatchOption};
 ghost use Rattle.iri_grammar.specs.Ipv6.{is_group};
 ghost use Rattle.iri_grammar.specs.Pieces.{pieces};
-ghost use Rattle.iri_grammar.specs.Ipv6Test.{before_double, behind_double, parts_of, is_full, is_shortened, is_ipv6};
-ghost use Rattle.iri_grammar.specs.Ipv6Counts.{count, NoDouble, DoubleAt};
-ghost use Rattle.iri_grammar.specs.Views.{now_of};
+ghost use Rattle.iri_grammar.specs.Ipv6Test.{before_double, behind_double, group_texts, is_full, is_shortened, is_ipv6};
+ghost use Rattle.iri_grammar.specs.inside.Ipv6Counts.{count, NoDouble, DoubleAt};
+ghost use Rattle.iri_grammar.specs.OptionalSlices.{now_of};
+ghost use Rattle.iri_grammar.specs.Characters.{colon};
 
 use crate::cutting::cut;
 use crate::digits::all_hex;
@@ -21,7 +22,7 @@ fn is_group(s: &str) -> bool
 /// How many groups stand between the colons; an IPv4 text counts as two, and may be the last part
 /// where that is said.
 fn count_parts(s: &str, ipv4: bool) -> Option<usize>
-    ensures { result ≡ count ipv4 (pieces 58 s.now) }
+    ensures { result ≡ count ipv4 (pieces colon s.now) }
 {
     let mut rest = s;
     let mut n = 0usize;
@@ -50,7 +51,7 @@ fn count_parts(s: &str, ipv4: bool) -> Option<usize>
 
 /// The same, where the text may have no part.
 fn count_groups(s: &str, ipv4: bool) -> Option<usize>
-    ensures { result ≡ count ipv4 (parts_of s.now) }
+    ensures { result ≡ count ipv4 (group_texts s.now) }
 {
     if s.is_empty() {
         Some(0)
@@ -83,7 +84,7 @@ fn cut_double(s: &str) -> (&str, Option<&str>)
 }
 
 fn is_full(s: &str) -> bool
-    ensures { result ≡ is_full (parts_of s.now) }
+    ensures { result ≡ is_full (group_texts s.now) }
 {
     match count_groups(s, true) {
         Some(n) => n == 8,
@@ -92,7 +93,7 @@ fn is_full(s: &str) -> bool
 }
 
 fn is_shortened(front: &str, back: &str) -> bool
-    ensures { result ≡ is_shortened (parts_of front.now) (parts_of back.now) }
+    ensures { result ≡ is_shortened (group_texts front.now) (group_texts back.now) }
 {
     match (count_groups(front, false), count_groups(back, true)) {
         (Some(m), Some(n)) => m < 8 && n < 8 - m,

@@ -2,13 +2,17 @@
 ghost use Rattle.std.specs.Prelude.{◌≡◌, ◌↔◌, ◌⊎◌, ◌&&◌, ℕ, IsNone, IsSome, List, None, not, true};
 ghost use Rattle.std.specs.Str.{all_scalars, chars, encode_utf8_all, IsUtf8};
 ghost use Rattle.iri_grammar.specs.Classes.{uri_tests};
-ghost use Rattle.iri_grammar.specs.Components.{is_scheme, is_userinfo, is_port, is_path, is_path_segment, is_query, is_fragment};
+ghost use Rattle.iri_grammar.specs.Components.{is_scheme, is_userinfo, is_port, is_path, is_path_segment, is_query};
+ghost use Rattle.iri_grammar.specs.Components.{is_fragment};
 ghost use Rattle.iri_grammar.specs.Ipv4.{is_ipv4};
 ghost use Rattle.iri_grammar.specs.Host.{is_host, is_reg_name};
-ghost use Rattle.iri_grammar.specs.Authority.{AuthorityParts, FitsAuthority, authority_parts, is_authority, recompose_authority};
+ghost use Rattle.iri_grammar.specs.Authority.{AuthorityParts, FitsAuthority, authority_parts, is_authority};
+ghost use Rattle.iri_grammar.specs.Authority.{recompose_authority};
 ghost use Rattle.iri_grammar.specs.Parts.{Parts, Fits, Splits, IsReference, IsIri, IsAbsolute, IsRelative, recompose};
 ghost use Rattle.iri_grammar.specs.Split.{split_of};
-ghost use Rattle.iri_grammar.specs.Fault.{bytes_fault, scheme_fault, userinfo_fault, host_fault, reg_name_fault, port_fault, path_fault, path_segment_fault, query_fault, fragment_fault, authority_fault};
+ghost use Rattle.iri_grammar.specs.Fault.{bytes_fault, scheme_fault, userinfo_fault, host_fault, reg_name_fault};
+ghost use Rattle.iri_grammar.specs.Fault.{port_fault, path_fault, path_segment_fault, query_fault, fragment_fault};
+ghost use Rattle.iri_grammar.specs.Fault.{authority_fault};
 ghost use Rattle.iri_grammar.specs.WholeFault.{reference_fault, iri_fault, absolute_fault, relative_fault};
 
 use crate::spec::Spec;
@@ -41,24 +45,29 @@ pub fn valid_parts_make_wholes<S: Spec>()
     ensures split { (p : Parts) → Fits S.tests p → split_of (recompose p) ≡ p }
     ensures reference { (p : Parts) → Fits S.tests p → reference_fault S.tests (recompose p) ≡ None }
     ensures iri { (p : Parts) → Fits S.tests p → IsSome p.scheme → iri_fault S.tests (recompose p) ≡ None }
-    ensures absolute { (p : Parts) → Fits S.tests p → IsSome p.scheme → IsNone p.fragment → absolute_fault S.tests (recompose p) ≡ None }
+    ensures absolute { (p : Parts) → Fits S.tests p → IsSome p.scheme → IsNone p.fragment
+        → absolute_fault S.tests (recompose p) ≡ None }
     ensures relative { (p : Parts) → Fits S.tests p → IsNone p.scheme → relative_fault S.tests (recompose p) ≡ None }
     ensures parts { (t : List ℕ) → reference_fault S.tests t ≡ None → Fits S.tests (split_of t) }
 {}
 
 /// Userinfo, host and port that are each in their production make an authority, and are its reading.
 pub fn valid_parts_make_authorities<S: Spec>()
-    ensures authority { (a : AuthorityParts) → FitsAuthority S.tests a → is_authority S.tests (recompose_authority a) ≡ true }
+    ensures authority { (a : AuthorityParts) → FitsAuthority S.tests a
+        → is_authority S.tests (recompose_authority a) ≡ true }
     ensures reading { (a : AuthorityParts) → FitsAuthority S.tests a → authority_parts (recompose_authority a) ≡ a }
 {}
 
 /// Bytes have no fault exactly where they are the UTF-8 of a component in the production: of the authority
 /// and its parts.
 pub fn no_fault_of_authorities<S: Spec>()
-    ensures authority { (bs : List ℕ) → (bytes_fault (authority_fault S.tests) bs ≡ None) ↔ (is_authority S.tests bs ≡ true) }
-    ensures userinfo { (bs : List ℕ) → (bytes_fault (userinfo_fault S.tests) bs ≡ None) ↔ (is_userinfo S.tests bs ≡ true) }
+    ensures authority { (bs : List ℕ) → (bytes_fault (authority_fault S.tests) bs ≡ None)
+        ↔ (is_authority S.tests bs ≡ true) }
+    ensures userinfo { (bs : List ℕ) → (bytes_fault (userinfo_fault S.tests) bs ≡ None)
+        ↔ (is_userinfo S.tests bs ≡ true) }
     ensures host { (bs : List ℕ) → (bytes_fault (host_fault S.tests) bs ≡ None) ↔ (is_host S.tests bs ≡ true) }
-    ensures reg_name { (bs : List ℕ) → (bytes_fault (reg_name_fault S.tests) bs ≡ None) ↔ ((is_reg_name S.tests bs && not (is_ipv4 bs)) ≡ true) }
+    ensures reg_name { (bs : List ℕ) → (bytes_fault (reg_name_fault S.tests) bs ≡ None)
+        ↔ ((is_reg_name S.tests bs && not (is_ipv4 bs)) ≡ true) }
     ensures port { (bs : List ℕ) → (bytes_fault port_fault bs ≡ None) ↔ (is_port bs ≡ true) }
 {}
 
@@ -66,9 +75,11 @@ pub fn no_fault_of_authorities<S: Spec>()
 pub fn no_fault_of_components<S: Spec>()
     ensures scheme { (bs : List ℕ) → (bytes_fault scheme_fault bs ≡ None) ↔ (is_scheme bs ≡ true) }
     ensures path { (bs : List ℕ) → (bytes_fault (path_fault S.tests) bs ≡ None) ↔ (is_path S.tests bs ≡ true) }
-    ensures path_segment { (bs : List ℕ) → (bytes_fault (path_segment_fault S.tests) bs ≡ None) ↔ (is_path_segment S.tests bs ≡ true) }
+    ensures path_segment { (bs : List ℕ) → (bytes_fault (path_segment_fault S.tests) bs ≡ None)
+        ↔ (is_path_segment S.tests bs ≡ true) }
     ensures query { (bs : List ℕ) → (bytes_fault (query_fault S.tests) bs ≡ None) ↔ (is_query S.tests bs ≡ true) }
-    ensures fragment { (bs : List ℕ) → (bytes_fault (fragment_fault S.tests) bs ≡ None) ↔ (is_fragment S.tests bs ≡ true) }
+    ensures fragment { (bs : List ℕ) → (bytes_fault (fragment_fault S.tests) bs ≡ None)
+        ↔ (is_fragment S.tests bs ≡ true) }
 {}
 
 /// A whole text of URIs is one of every spec, so of IRIs, with the same parts.

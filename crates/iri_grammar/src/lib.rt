@@ -1,18 +1,18 @@
 //! The grammar of URIs and IRIs (RFC 3986 sections 2 and 3, RFC 3987 section 2.2).
 //!
-//! A `spec::Spec` says which characters past ASCII a grammar has. `validate` judges whole texts and single
+//! A `spec::Spec` says which characters past ASCII a grammar has. `validate` validates whole texts and single
 //! components: Ok exactly on the production, and otherwise the `error::Error` of the first fault. Valid
-//! references are cut by `splitter`, valid authorities by `authority`. `laws` and `host_laws` say what holds
+//! references are cut by `splitter`, valid authorities by `authority`. `laws` and `authority_laws` say what holds
 //! of the definitions that all of these contracts cite.
 #![tactic(auto)]
 
 pub mod authority;
+pub mod authority_laws;
 pub mod class;
 pub mod cutting;
 mod digits;
 pub mod error;
 pub mod host;
-pub mod host_laws;
 mod ip_literal;
 mod ipv4;
 mod ipv6;

@@ -2,12 +2,13 @@
 ghost use Rattle.std.specs.Prelude.{◌≡◌, drop, false, MatchOption};
 ghost use Rattle.iri_grammar.specs.ClassTests.{class_test, ascii_test};
 ghost use Rattle.iri_grammar.specs.Over.{text_over};
-ghost use Rattle.iri_grammar.specs.Runs.{run_of, begins_with_triplet, IsPast, HasNoUnit};
+ghost use Rattle.iri_grammar.specs.Runs.{run_of};
+ghost use Rattle.iri_grammar.specs.inside.Runs.{begins_with_triplet, IsPast, HasNoUnit};
 
 use crate::class::Class;
 use crate::spec::Spec;
 
-/// How many bytes at the front are ASCII characters of the class.
+/// How many bytes at the start are ASCII characters of the class.
 fn run_len(class: Class, bytes: &[u8]) -> usize
     ensures { result ≡ run_of (ascii_test class) bytes.now }
 {
@@ -19,7 +20,7 @@ fn run_len(class: Class, bytes: &[u8]) -> usize
     bytes.len()
 }
 
-/// What follows the ASCII characters of the class at the front.
+/// What follows the ASCII characters of the class at the start.
 pub fn past_run(class: Class, s: &str) -> &str
     ensures { result.now ≡ drop (run_of (ascii_test class) s.now) s.now }
 {
@@ -39,7 +40,8 @@ fn begins_with_triplet(bytes: &[u8]) -> bool
 /// What follows the first character, where that is in the class.
 fn past_char<S: Spec>(class: Class, s: &str) -> Option<&str>
     requires { begins_with_triplet s.now ≡ false }
-    ensures { MatchOption result (HasNoUnit (class_test S.tests class) s.now) (λ r. IsPast (class_test S.tests class) s.now r.now) }
+    ensures { MatchOption result (HasNoUnit (class_test S.tests class) s.now)
+        (λ r. IsPast (class_test S.tests class) s.now r.now) }
 {
     let mut chars = s.chars();
     match chars.next() {
@@ -56,7 +58,8 @@ fn past_char<S: Spec>(class: Class, s: &str) -> Option<&str>
 
 /// What follows the first character or triplet, where there is one over the class.
 fn past_unit<S: Spec>(class: Class, s: &str) -> Option<&str>
-    ensures { MatchOption result (HasNoUnit (class_test S.tests class) s.now) (λ r. IsPast (class_test S.tests class) s.now r.now) }
+    ensures { MatchOption result (HasNoUnit (class_test S.tests class) s.now)
+        (λ r. IsPast (class_test S.tests class) s.now r.now) }
 {
     if begins_with_triplet(s.as_bytes()) {
         Some(&s[3..])

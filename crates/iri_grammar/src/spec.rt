@@ -1,7 +1,7 @@
 //! The two grammars: URIs (RFC 3986) and IRIs (RFC 3987).
 ghost use Rattle.std.specs.Prelude.{◌≡◌, ℕ, ◌<◌, Bool, refl};
 ghost use Rattle.iri_grammar.specs.Classes.{Tests, IsSpec, uri_tests, iri_tests, is_ucschar_plane};
-ghost use Rattle.iri_grammar.specs.Laws.{uri_is_spec, iri_is_spec};
+ghost use Rattle.iri_grammar.specs.inside.Laws.{uri_is_spec, iri_is_spec};
 
 /// A grammar's choice of characters past ASCII.
 pub trait Spec: Copy {

@@ -4,13 +4,17 @@ ghost use Rattle.std.specs.List.{list_all};
 ghost use Rattle.iri_grammar.specs.Components.{is_scheme, is_scheme_char};
 ghost use Rattle.iri_grammar.specs.Cut.{before, behind};
 ghost use Rattle.iri_grammar.specs.Fault.{Answers};
-ghost use Rattle.iri_grammar.specs.Marks.{ends_scheme, SchemeAt, NoScheme, ends_authority, before_any, from_any, AuthorityEndAt, NoAuthorityEnd, IsPastAuthority, TailAt, NoTail};
+ghost use Rattle.iri_grammar.specs.Marks.{before_any, from_any};
+ghost use Rattle.iri_grammar.specs.inside.Marks.{ends_scheme, SchemeAt, NoScheme, ends_authority, AuthorityEndAt};
+ghost use Rattle.iri_grammar.specs.inside.Marks.{NoAuthorityEnd, IsPastAuthority, TailAt, NoTail};
 ghost use Rattle.iri_grammar.specs.Parts.{Splits};
 ghost use Rattle.iri_grammar.specs.Runs.{run_of};
-ghost use Rattle.iri_grammar.specs.Split.{split_of, relative_split_of, parts_of, scheme_of, after_scheme, authority_of, hier_of};
+ghost use Rattle.iri_grammar.specs.Split.{split_of, relative_split_of, parts_of, scheme_of, after_scheme, authority_of};
+ghost use Rattle.iri_grammar.specs.Split.{hier_of};
 ghost use Rattle.iri_grammar.specs.Splitters.{parts};
-ghost use Rattle.iri_grammar.specs.Views.{now_of};
+ghost use Rattle.iri_grammar.specs.OptionalSlices.{now_of};
 ghost use Rattle.iri_grammar.specs.WholeFault.{reference_fault};
+ghost use Rattle.iri_grammar.specs.Characters.{number_sign, question_mark};
 
 use crate::cutting::cut;
 use crate::error::Error;
@@ -45,7 +49,7 @@ fn is_scheme_byte(b: u8) -> bool
     SCHEME_BYTES[usize::from(b)] == b's'
 }
 
-/// How many bytes at the front may stand in a scheme.
+/// How many bytes at the start may stand in a scheme.
 fn scheme_run(bytes: &[u8]) -> usize
     ensures { result ≡ run_of is_scheme_char bytes.now }
 {
@@ -77,7 +81,7 @@ pub(crate) fn is_scheme(s: &str) -> bool
 }
 
 /// Whether the colon behind a scheme stands here.
-#[tactic(auto, unfolding(crate::specs::Marks::ends_scheme))]
+#[tactic(auto, unfolding(crate::specs::inside::Marks::ends_scheme))]
 fn ends_scheme(bytes: &[u8], end: usize) -> bool
     ensures { result ≡ ends_scheme bytes.now end }
 {
@@ -152,8 +156,8 @@ fn find_tail(bytes: &[u8]) -> Option<usize>
 /// Path, query and fragment.
 fn cut_tail(s: &str) -> (&str, Option<&str>, Option<&str>)
     ensures path { result.0.now ≡ hier_of s.now }
-    ensures query { now_of result.1 ≡ behind 63 (before 35 s.now) }
-    ensures fragment { now_of result.2 ≡ behind 35 s.now }
+    ensures query { now_of result.1 ≡ behind question_mark (before number_sign s.now) }
+    ensures fragment { now_of result.2 ≡ behind number_sign s.now }
 {
     match find_tail(s.as_bytes()) {
         Some(i) => {

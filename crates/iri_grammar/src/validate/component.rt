@@ -1,6 +1,8 @@
 //! The validators of single components (RFC 3986 section 3, RFC 3987 section 2.2).
 ghost use Rattle.std.specs.Prelude.{◌≡◌};
-ghost use Rattle.iri_grammar.specs.Fault.{Answers, unless, scheme_fault, userinfo_fault, host_fault, reg_name_fault, port_fault, path_fault, path_segment_fault, query_fault, fragment_fault, authority_fault};
+ghost use Rattle.iri_grammar.specs.Fault.{Answers, unless, scheme_fault, userinfo_fault, host_fault, reg_name_fault};
+ghost use Rattle.iri_grammar.specs.Fault.{port_fault, path_fault, path_segment_fault, query_fault, fragment_fault};
+ghost use Rattle.iri_grammar.specs.Fault.{authority_fault};
 
 use crate::authority::{AuthoritySpan, is_port};
 use crate::class::Class;

@@ -2,7 +2,8 @@
 ghost use Rattle.std.specs.Prelude.{◌≡◌, ◌&&◌};
 ghost use Rattle.iri_grammar.specs.Components.{is_path};
 ghost use Rattle.iri_grammar.specs.Fault.{Answers, unless, fragment_fault};
-ghost use Rattle.iri_grammar.specs.WholeFault.{colon_allowed, front_fault, parts_fault, missing_scheme_fault, reference_fault, iri_fault, absolute_fault, relative_fault};
+ghost use Rattle.iri_grammar.specs.WholeFault.{colon_allowed, front_fault, parts_fault, missing_scheme_fault};
+ghost use Rattle.iri_grammar.specs.WholeFault.{reference_fault, iri_fault, absolute_fault, relative_fault};
 ghost use Rattle.iri_grammar.specs.Splitters.{parts};
 
 use crate::cutting::{cut_before, lacks};
@@ -19,7 +20,8 @@ fn colon_allowed(p: &Splitter<'_>) -> bool
 
 /// The path over its characters, and its first segment without a colon where it has to.
 fn path_in_place<S: Spec>(p: &Splitter<'_>) -> Result<(), Error>
-    ensures { Answers result (unless (is_path S.tests (parts p.now).path && colon_allowed (parts p.now)) ErrorKind.InvalidPath) }
+    ensures { Answers result (unless (is_path S.tests (parts p.now).path
+        && colon_allowed (parts p.now)) ErrorKind.InvalidPath) }
 {
     path::<S>(p.path())?;
     if colon_allowed(p) {

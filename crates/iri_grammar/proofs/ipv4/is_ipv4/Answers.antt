@@ -1,7 +1,7 @@
 use Rattle.std.proofs.Common.{◌∙◌, sym, ap, arith}
-use Rattle.iri_grammar.specs.Views.{now_of}
+use Rattle.iri_grammar.specs.OptionalSlices.{now_of}
 use Rattle.iri_grammar.specs.Pieces.{pieces}
-use Rattle.iri_grammar.specs.PiecesLaws.{behind_shorter}
+use Rattle.iri_grammar.proofs.PiecesLaws.{behind_shorter}
 use Rattle.iri_grammar.specs.Ipv4.{is_dec_octet}
 use Rattle.iri_grammar.proofs.Marks.{text_behind}
 use Rattle.iri_grammar.proofs.Octets.{stop_bad, stop_many, step_octet, last_octet, octets_left}
@@ -31,7 +31,8 @@ octets-preserved c =
     let right = ap is_dec_octet (sym front) ∙ (sym c.is_dec_octet.ensures ∙ c.if-not-is_dec_octet.false) in
     record {
       utf8 = text_behind 46 c.octets.rest.now c.in-Some.next.now (omega arith) c.octets.invariant.utf8 e;
-      same = step_octet c.octets.left c.octets.rest.now c.in-Some.next.now (omega (arith, c.if-left-eq0.false)) e right ∙ c.octets.invariant.same;
+      same = step_octet c.octets.left c.octets.rest.now c.in-Some.next.now (omega (arith, c.if-left-eq0.false)) e right
+          ∙ c.octets.invariant.same;
     }
 
 pub returns-in-None : goal.returns-in-None

@@ -1,6 +1,6 @@
 use Rattle.std.proofs.Common.{◌≡◌, true, refl, arith}
 use Rattle.iri_grammar.proofs.Doubles.{found_double, none_double}
-use Rattle.iri_grammar.specs.Ipv6Counts.{double_at}
+use Rattle.iri_grammar.proofs.Ipv6Counts.{double_at}
 use Rattle.iri_grammar.proofs.ipv6.find_double.Goals as goal
 
 pub returns-then-bytes-i-eq58 : goal.returns-then-bytes-i-eq58

@@ -3,9 +3,9 @@ use Rattle.iri_grammar.specs.Classes.{userinfo_char, reg_name_char}
 use Rattle.iri_grammar.specs.Components.{is_userinfo, is_port}
 use Rattle.iri_grammar.specs.Ipv4.{is_ipv4}
 use Rattle.iri_grammar.specs.Host.{is_host, is_reg_name}
-use Rattle.iri_grammar.specs.CutLaws.{both}
-use Rattle.iri_grammar.specs.AuthorityTexts.{text_over-utf8, host-utf8, port-utf8}
-use Rattle.iri_grammar.specs.FaultLaws.{component-law, authority-law}
+use Rattle.iri_grammar.proofs.CutLaws.{both}
+use Rattle.iri_grammar.proofs.AuthorityTexts.{text_over-utf8, host-utf8, port-utf8}
+use Rattle.iri_grammar.proofs.FaultLaws.{component-law, authority-law}
 use Rattle.iri_grammar.specs.declared.error.ErrorKind.TheVariants.{InvalidUserInfo, InvalidHost, InvalidRegName, InvalidPort}
 use Rattle.iri_grammar.proofs.laws.no_fault_of_authorities.Goals as goal
 
@@ -13,7 +13,8 @@ pub returns-clause-authority : goal.returns-clause-authority
 returns-clause-authority g c = authority-law g.S.Spec.tests
 
 pub returns-clause-userinfo : goal.returns-clause-userinfo
-returns-clause-userinfo g c = λ bs. component-law (is_userinfo g.S.Spec.tests) InvalidUserInfo bs (text_over-utf8 (userinfo_char g.S.Spec.tests) bs)
+returns-clause-userinfo g c = λ bs. component-law (is_userinfo g.S.Spec.tests) InvalidUserInfo bs
+    (text_over-utf8 (userinfo_char g.S.Spec.tests) bs)
 
 pub returns-clause-host : goal.returns-clause-host
 returns-clause-host g c = λ bs. component-law (is_host g.S.Spec.tests) InvalidHost bs (host-utf8 g.S.Spec.tests bs)

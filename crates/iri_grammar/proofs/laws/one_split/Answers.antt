@@ -1,5 +1,5 @@
-use Rattle.iri_grammar.specs.SplitLaws.{recompose_split}
-use Rattle.iri_grammar.specs.SplitUnique.{one_split, split_is}
+use Rattle.iri_grammar.proofs.SplitLaws.{recompose_split}
+use Rattle.iri_grammar.proofs.SplitUnique.{one_split, split_is}
 use Rattle.iri_grammar.proofs.laws.one_split.Goals as goal
 
 pub returns-clause-unique : goal.returns-clause-unique

@@ -1,6 +1,6 @@
 use Rattle.std.proofs.Common.{◌∷◌, ◌∙◌, Some, ap, sym, subst}
 use Rattle.iri_grammar.specs.Split.{authority_of, hier_of}
-use Rattle.iri_grammar.specs.Marks.{IsPastAuthority}
+use Rattle.iri_grammar.specs.inside.Marks.{IsPastAuthority}
 use Rattle.iri_grammar.proofs.MarkLemmas.{past_authority, no_authority, no_slashes}
 use Rattle.iri_grammar.proofs.splitter.cut_authority.Goals as goal
 
@@ -15,7 +15,8 @@ returns-in-Some-clause-past c =
     let h = c.in-Some.ensures.cases in
     let s = h.1.1 ∙ ap (λ r. 47 ∷ 47 ∷ r) (sym h.2) in
     subst (λ t. IsPastAuthority t c.cut_before_end.result.1.now) (sym s)
-    (subst (λ r. IsPastAuthority (47 ∷ 47 ∷ c.in-Some.rest.now) r) (sym c.cut_before_end.ensures.rest) (past_authority c.in-Some.rest.now).1)
+    (subst (λ r. IsPastAuthority (47 ∷ 47 ∷ c.in-Some.rest.now) r) (sym c.cut_before_end.ensures.rest)
+    (past_authority c.in-Some.rest.now).1)
 
 pub returns-in-None-clause-authority : goal.returns-in-None-clause-authority
 returns-in-None-clause-authority c = (no_authority c.args.s.now (no_slashes c.args.s.now c.in-None.ensures.cases)).0

@@ -1,7 +1,8 @@
 use Rattle.std.proofs.Common.{◌≡◌, false, sym, subst}
-use Rattle.iri_grammar.specs.Marks.{ends_scheme}
+use Rattle.iri_grammar.specs.inside.Marks.{ends_scheme}
 use Rattle.iri_grammar.proofs.MarkLemmas.{no_scheme}
 use Rattle.iri_grammar.proofs.splitter.scheme_end.Goals as goal
 
 pub returns-else-ends_scheme : goal.returns-else-ends_scheme
-returns-else-ends_scheme c = no_scheme c.args.bytes.now (subst (λ k. ends_scheme c.args.bytes.now k ≡ false) c.scheme_run-end.ensures (sym c.if-ends_scheme.ensures))
+returns-else-ends_scheme c = no_scheme c.args.bytes.now
+    (subst (λ k. ends_scheme c.args.bytes.now k ≡ false) c.scheme_run-end.ensures (sym c.if-ends_scheme.ensures))

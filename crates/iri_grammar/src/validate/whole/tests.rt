@@ -1,6 +1,6 @@
 use super::*;
 use crate::spec::{IriSpec, UriSpec};
-use crate::{host_laws, laws};
+use crate::{authority_laws, laws};
 
 fn fault(answer: Result<(), Error>) -> Option<ErrorKind> {
     match answer {
@@ -172,18 +172,27 @@ fn prints_the_kind(rt: HostRuntime) -> Result<(), std::test::Fail> {
     Ok(())
 }
 
-// The laws at each of the two specs.
+// The laws of one spec, where they speak of it.
+fn laws_of<S: Spec>() {
+    laws::one_split::<S>();
+    laws::iri_or_relative::<S>();
+    laws::no_fault_of_wholes::<S>();
+    laws::no_fault_of_authorities::<S>();
+    laws::no_fault_of_components::<S>();
+    laws::uri_wholes_within::<S>();
+    laws::uri_components_within::<S>();
+    authority_laws::over_is_units::<S>();
+    authority_laws::one_reading::<S>();
+}
+
 #[test]
-fn laws_hold() {
-    laws::one_split::<UriSpec>();
-    laws::iri_or_relative::<IriSpec>();
-    laws::no_fault_of_wholes::<UriSpec>();
-    laws::no_fault_of_authorities::<IriSpec>();
-    laws::no_fault_of_components::<UriSpec>();
-    laws::uri_wholes_within::<IriSpec>();
-    laws::uri_components_within::<IriSpec>();
+fn what_the_laws_say(rt: HostRuntime) {
+    laws_of::<UriSpec>();
+    laws_of::<IriSpec>();
     laws::utf8_and_chars();
-    host_laws::over_is_units::<UriSpec>();
-    host_laws::ipv6_is_groups();
-    host_laws::one_reading::<IriSpec>();
+    authority_laws::ipv6_is_groups();
+    for text in RELATIVES {
+        assert!(rt; iri::<UriSpec>(text).is_err(), "{text}");
+        assert!(rt; relative_ref::<IriSpec>(text).is_ok(), "{text}");
+    }
 }

@@ -1,4 +1,4 @@
-use Rattle.iri_grammar.specs.FaultLaws.{authority-passed}
+use Rattle.iri_grammar.proofs.FaultLaws.{authority-passed}
 use Rattle.iri_grammar.proofs.validate.component.tests.has_parts.Goals as goal
 
 pub of-parts-requires : goal.of-parts-requires

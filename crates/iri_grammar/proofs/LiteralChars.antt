@@ -8,11 +8,11 @@ use Rattle.std.proofs.lemmas.Bool.Decides.{nat_tests}
 use Rattle.iri_grammar.specs.Classes.{is_ascii_userinfo, is_ascii_reg_name, is_ascii_unreserved, is_sub_delim}
 use Rattle.iri_grammar.specs.Pieces.{pieces, onto}
 use Rattle.iri_grammar.specs.Ipv4.{is_ipv4, is_dec_octet, is_hundreds, are_four_octets}
-use Rattle.iri_grammar.specs.Ipv6.{is_group, are_groups, are_groups_or_ipv4, units}
-use Rattle.iri_grammar.specs.Ipv6Test.{begins, before_double, behind_double, parts_of, is_ipv6_around, is_ipv6}
+use Rattle.iri_grammar.specs.Ipv6.{is_group, are_groups, are_groups_or_ipv4, group_count}
+use Rattle.iri_grammar.specs.Ipv6Test.{begins, before_double, behind_double, group_texts, is_ipv6_around, is_ipv6}
 use Rattle.iri_grammar.specs.IpLiteral.{some_of, is_future_address, is_ipvfuture, is_end, is_ip_literal}
 use Rattle.iri_grammar.specs.Cut.{before, behind, marked, tail}
-use Rattle.iri_grammar.specs.CutLaws.{by_test, both, joined}
+use Rattle.iri_grammar.proofs.CutLaws.{by_test, both, joined}
 
 -- brackets, and what stands in them: hex digits, `.`, `:` and the other ASCII characters of a userinfo
 unfoldable pub is_literal_char : ℕ → Bool
@@ -46,7 +46,8 @@ unfolding is_literal_char is_ascii_userinfo is_ascii_reg_name is_ascii_unreserve
 colon-literal = refl
 
 -- ---- pieces
-onto-all : (p : ℕ → Bool) (x : ℕ) (ps : List (List ℕ)) → list_all (list_all p) (onto x ps) ≡ true → (p x ≡ true) × (list_all (list_all p) ps ≡ true)
+onto-all : (p : ℕ → Bool) (x : ℕ) (ps : List (List ℕ)) → list_all (list_all p) (onto x ps) ≡ true
+    → (p x ≡ true) × (list_all (list_all p) ps ≡ true)
 onto-all p x [] h = let k = both (p x && true) true h in let m = both (p x) true k.0 in (m.0, refl)
 onto-all p x (q ∷ ps) h =
     let k = both (p x && list_all p q) (list_all (list_all p) ps) h in
@@ -82,7 +83,8 @@ octets-literal (a ∷ []) h = cc
 octets-literal (a ∷ b ∷ []) h = cc
 octets-literal (a ∷ b ∷ c ∷ []) h = cc
 octets-literal (a ∷ b ∷ c ∷ d ∷ []) h =
-    let k : (is_dec_octet a ≡ true) × (is_dec_octet b ≡ true) × (is_dec_octet c ≡ true) × (is_dec_octet d ≡ true) = four (is_dec_octet a) (is_dec_octet b) (is_dec_octet c) (is_dec_octet d) h in
+    let k : (is_dec_octet a ≡ true) × (is_dec_octet b ≡ true) × (is_dec_octet c ≡ true) × (is_dec_octet d ≡ true) =
+    four (is_dec_octet a) (is_dec_octet b) (is_dec_octet c) (is_dec_octet d) h in
     rw (octet-literal a k.0, octet-literal b k.1, octet-literal c k.2, octet-literal d k.3) refl
   where
     four : (a b c d : Bool) → (a && b && c && d) ≡ true → (a ≡ true) × (b ≡ true) × (c ≡ true) × (d ≡ true)
@@ -118,9 +120,10 @@ last-literal p h =
 mixed-literal : (ps : List (List ℕ)) → are_groups_or_ipv4 ps ≡ true → list_all (list_all is_literal_char) ps ≡ true
 mixed-literal [] h = refl
 mixed-literal (p ∷ []) h = rw (last-literal p h) refl
-mixed-literal (p ∷ q ∷ ps) h = let k = both (is_group p) (are_groups_or_ipv4 (q ∷ ps)) h in rw (group-literal p k.0) (mixed-literal (q ∷ ps) k.1)
+mixed-literal (p ∷ q ∷ ps) h = let k = both (is_group p) (are_groups_or_ipv4 (q ∷ ps)) h in
+    rw (group-literal p k.0) (mixed-literal (q ∷ ps) k.1)
 
-parts-literal : (xs : List ℕ) → list_all (list_all is_literal_char) (parts_of xs) ≡ true → list_all is_literal_char xs ≡ true
+parts-literal : (xs : List ℕ) → list_all (list_all is_literal_char) (group_texts xs) ≡ true → list_all is_literal_char xs ≡ true
 parts-literal [] h = refl
 parts-literal (x ∷ xs) h = pieces-all is_literal_char 58 (x ∷ xs) colon-literal h
 
@@ -130,9 +133,11 @@ all_there (Some xs) = list_all is_literal_char xs
 
 begun : (xs : List ℕ) → begins 58 xs ≡ true → list_all is_literal_char (tail xs) ≡ true → list_all is_literal_char xs ≡ true
 begun [] h k = refl
-begun (x ∷ xs) h k = by_test x 58 (λ b. b ≡ true → (is_literal_char x && list_all is_literal_char xs) ≡ true) (λ e _. rw (e, colon-literal) k) (λ _ n. cc) h
+begun (x ∷ xs) h k = by_test x 58 (λ b. b ≡ true → (is_literal_char x && list_all is_literal_char xs) ≡ true)
+    (λ e _. rw (e, colon-literal) k) (λ _ n. cc) h
 
-double-literal : (xs : List ℕ) → list_all is_literal_char (before_double xs) ≡ true → all_there (behind_double xs) ≡ true → list_all is_literal_char xs ≡ true
+double-literal : (xs : List ℕ) → list_all is_literal_char (before_double xs) ≡ true → all_there (behind_double xs) ≡ true
+    → list_all is_literal_char xs ≡ true
 double-literal [] h k = refl
 double-literal (x ∷ xs) h k =
     elim (x == 58 && begins 58 xs) as (λ b. (x == 58 && begins 58 xs) ≡ b
@@ -140,14 +145,20 @@ double-literal (x ∷ xs) h k =
     → all_there (cond b (Some (tail xs)) (behind_double xs)) ≡ true
     → (is_literal_char x && list_all is_literal_char xs) ≡ true) [
       | true ↦ λ e _ m. let t = both (x == 58) (begins 58 xs) e in begun (x ∷ xs) t.0 (begun xs t.1 m)
-      | false ↦ λ _ l m. let t = both (is_literal_char x) (list_all is_literal_char (before_double xs)) l in rw t.0 (double-literal xs t.1 m)
+      | false ↦ λ _ l m. let t = both (is_literal_char x) (list_all is_literal_char (before_double xs)) l in
+          rw t.0 (double-literal xs t.1 m)
     ] refl h k
 
-around-literal : (front : List ℕ) (back : Option (List ℕ)) → is_ipv6_around front back ≡ true → (list_all is_literal_char front ≡ true) × (all_there back ≡ true)
-around-literal front None h = (parts-literal front (mixed-literal (parts_of front) (both (are_groups_or_ipv4 (parts_of front)) (units (parts_of front) == 8) h).0), refl)
+around-literal : (front : List ℕ) (back : Option (List ℕ)) → is_ipv6_around front back ≡ true
+    → (list_all is_literal_char front ≡ true) × (all_there back ≡ true)
+around-literal front None h = (
+  parts-literal front
+      (mixed-literal (group_texts front) (both (are_groups_or_ipv4 (group_texts front)) (group_count (group_texts front) == 8) h).0),
+  refl,
+)
 around-literal front (Some back) h =
-    let k = three (are_groups (parts_of front)) (are_groups_or_ipv4 (parts_of back)) _ h in
-    (parts-literal front (groups-literal (parts_of front) k.0), parts-literal back (mixed-literal (parts_of back) k.1))
+    let k = three (are_groups (group_texts front)) (are_groups_or_ipv4 (group_texts back)) _ h in
+    (parts-literal front (groups-literal (group_texts front) k.0), parts-literal back (mixed-literal (group_texts back) k.1))
   where
     three : (a b c : Bool) → (a && b && c) ≡ true → (a ≡ true) × (b ≡ true)
     three true true c h = (refl, refl)
@@ -164,7 +175,8 @@ some-all p (x ∷ xs) h = h
 
 address-literal : (o : Option (List ℕ)) → is_future_address o ≡ true → list_all is_literal_char (marked 46 o) ≡ true
 address-literal None h = refl
-address-literal (Some xs) h = rw dot-literal (all-weaken is_ascii_userinfo is_literal_char userinfo-literal xs (some-all is_ascii_userinfo xs h))
+address-literal (Some xs) h = rw dot-literal (all-weaken is_ascii_userinfo is_literal_char userinfo-literal xs
+    (some-all is_ascii_userinfo xs h))
 
 version-literal : (v : ℕ) → (v == 118 || v == 86) ≡ true → is_literal_char v ≡ true
 unfolding is_literal_char is_ascii_userinfo is_ascii_reg_name is_ascii_unreserved is_sub_delim
@@ -175,7 +187,8 @@ future-literal [] h = refl
 future-literal (v ∷ xs) h =
     let k = three (v == 118 || v == 86) (some_of is_ascii_hexdigit (before 46 xs)) (is_future_address (behind 46 xs)) h in
     let digits = all-weaken is_ascii_hexdigit is_literal_char hex-literal (before 46 xs) (some-all is_ascii_hexdigit (before 46 xs) k.1) in
-    rw (version-literal v k.0) (subst (λ ys. list_all is_literal_char ys ≡ true) (joined 46 xs) (all-join is_literal_char (before 46 xs) (marked 46 (behind 46 xs)) digits (address-literal (behind 46 xs) k.2)))
+    rw (version-literal v k.0) (subst (λ ys. list_all is_literal_char ys ≡ true) (joined 46 xs)
+    (all-join is_literal_char (before 46 xs) (marked 46 (behind 46 xs)) digits (address-literal (behind 46 xs) k.2)))
   where
     three : (a b c : Bool) → (a && b && c) ≡ true → (a ≡ true) × (b ≡ true) × (c ≡ true)
     three true true c h = (refl, refl, h)
@@ -207,7 +220,8 @@ pub ip_literal-chars : (xs : List ℕ) → is_ip_literal xs ≡ true → list_al
 ip_literal-chars [] h = refl
 ip_literal-chars (b ∷ xs) h =
     let k = three (b == 91) (is_end (behind 93 xs)) (is_ipv6 (before 93 xs) || is_ipvfuture (before 93 xs)) h in
-    rw (open-literal b k.0) (subst (λ ys. list_all is_literal_char ys ≡ true) (joined 93 xs) (all-join is_literal_char (before 93 xs) (marked 93 (behind 93 xs)) (address (before 93 xs) k.2) (end-literal (behind 93 xs) k.1)))
+    rw (open-literal b k.0) (subst (λ ys. list_all is_literal_char ys ≡ true) (joined 93 xs)
+    (all-join is_literal_char (before 93 xs) (marked 93 (behind 93 xs)) (address (before 93 xs) k.2) (end-literal (behind 93 xs) k.1)))
   where
     three : (a b c : Bool) → (a && b && c) ≡ true → (a ≡ true) × (b ≡ true) × (c ≡ true)
     three true true c h = (refl, refl, h)

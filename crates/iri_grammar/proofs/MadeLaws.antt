@@ -3,12 +3,12 @@ use Rattle.std.proofs.Common.{◌≡◌, true, List, ℕ, None, refl}
 use Rattle.std.specs.Prelude.{IsSome, IsNone}
 use Rattle.iri_grammar.specs.Classes.{Tests, IsSpec}
 use Rattle.iri_grammar.specs.Authority.{AuthorityParts, FitsAuthority, recompose_authority, authority_parts, is_authority}
-use Rattle.iri_grammar.specs.AuthorityLaws.{reading_is, passes}
+use Rattle.iri_grammar.proofs.AuthorityLaws.{reading_is, passes}
 use Rattle.iri_grammar.specs.Parts.{Parts, Fits, Splits, recompose}
 use Rattle.iri_grammar.specs.Split.{split_of}
-use Rattle.iri_grammar.specs.SplitUnique.{split_is}
+use Rattle.iri_grammar.proofs.SplitUnique.{split_is}
 use Rattle.iri_grammar.specs.WholeFault.{reference_fault, iri_fault, absolute_fault, relative_fault}
-use Rattle.iri_grammar.specs.FaultLaws.{splits_where_no_fault, no_fault_where_splits, iri-law, absolute-law, relative-law}
+use Rattle.iri_grammar.proofs.FaultLaws.{splits_where_no_fault, no_fault_where_splits, iri-law, absolute-law, relative-law}
 
 made-splits : (s : Tests) (p : Parts) → Fits s p → Splits s (recompose p) p
 made-splits s p f = record { fits = f; text = refl }
@@ -22,7 +22,8 @@ made-reference s k p f = no_fault_where_splits s k (recompose p) p (made-splits 
 pub made-iri : (s : Tests) → IsSpec s → (p : Parts) → Fits s p → IsSome p.scheme → iri_fault s (recompose p) ≡ None
 made-iri s k p f i = (iri-law s k (recompose p)).1 (p, made-splits s p f, i)
 
-pub made-absolute : (s : Tests) → IsSpec s → (p : Parts) → Fits s p → IsSome p.scheme → IsNone p.fragment → absolute_fault s (recompose p) ≡ None
+pub made-absolute : (s : Tests) → IsSpec s → (p : Parts) → Fits s p → IsSome p.scheme → IsNone p.fragment
+    → absolute_fault s (recompose p) ≡ None
 made-absolute s k p f i n = (absolute-law s k (recompose p)).1 (p, made-splits s p f, i, n)
 
 pub made-relative : (s : Tests) → IsSpec s → (p : Parts) → Fits s p → IsNone p.scheme → relative_fault s (recompose p) ≡ None

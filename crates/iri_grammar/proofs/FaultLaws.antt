@@ -1,5 +1,6 @@
 -- A text has no fault exactly where it is in its production.
-use Rattle.std.proofs.Common.{◌≡◌, ◌↔◌, ℕ, Bool, true, false, cond, not, ◌&&◌, ◌||◌, List, [], ◌∷◌, ◌++◌, Option, Some, None, refl, sym, ◌∙◌, ap, subst, append_assoc}
+use Rattle.std.proofs.Common.{◌≡◌, ◌↔◌, ℕ, Bool, true, false, cond, not, ◌&&◌, ◌||◌, List, [], ◌∷◌, ◌++◌, Option, Some, None, refl, sym}
+use Rattle.std.proofs.Common.{◌∙◌, ap, subst, append_assoc}
 use Rattle.std.specs.Prelude.{◌==◌, is_some, IsSome, IsNone}
 use Rattle.std.specs.Str.{IsUtf8, is_utf8}
 use Rattle.std.proofs.lemmas.Str.{is_utf8-from_IsUtf8}
@@ -8,19 +9,24 @@ use Rattle.iri_grammar.specs.Components.{if_there, is_scheme, is_userinfo, is_pa
 use Rattle.iri_grammar.specs.Host.{is_host}
 use Rattle.iri_grammar.specs.Authority.{authority_parts, is_authority}
 use Rattle.iri_grammar.specs.Cut.{before, from, behind, lacks}
-use Rattle.iri_grammar.specs.CutLaws.{both, before-marked}
-use Rattle.iri_grammar.specs.Parts.{Parts, Fits, Splits, IsReference, IsIri, IsAbsolute, IsRelative, recompose, path_rules, is_empty, starts_with_slash, starts_with_slashes}
-use Rattle.iri_grammar.specs.Split.{split_of, relative_split_of, parts_of, hier_of, scheme_of, after_scheme, authority_of, path_of, behind_slashes}
-use Rattle.iri_grammar.specs.SplitLaws.{recompose_split, recompose_relative_split, relative_split_is, scheme-lacks, colon_ends}
-use Rattle.iri_grammar.specs.SplitUnique.{split_is, splits-utf8}
-use Rattle.iri_grammar.specs.AuthorityTexts.{authority-utf8}
+use Rattle.iri_grammar.proofs.CutLaws.{both, before-marked}
+use Rattle.iri_grammar.specs.Parts.{Parts, Fits, Splits, IsReference, IsIri, IsAbsolute, IsRelative, recompose, path_rules, is_empty}
+use Rattle.iri_grammar.specs.Parts.{starts_with_slash, starts_with_slashes}
+use Rattle.iri_grammar.specs.Split.{split_of, relative_split_of, parts_of, hier_of, scheme_of, after_scheme, authority_of, path_of}
+use Rattle.iri_grammar.specs.Split.{behind_slashes}
+use Rattle.iri_grammar.proofs.SplitLaws.{recompose_split, recompose_relative_split, relative_split_is, scheme-lacks, colon_ends}
+use Rattle.iri_grammar.proofs.SplitUnique.{split_is, splits-utf8}
+use Rattle.iri_grammar.proofs.AuthorityTexts.{authority-utf8}
 use Rattle.iri_grammar.specs.declared.error.ErrorKind.{ErrorKind}
-use Rattle.iri_grammar.specs.declared.error.ErrorKind.TheVariants.{InvalidUserInfo, InvalidHost, InvalidPath, InvalidQuery, InvalidFragment, UnexpectedFragment, InvalidUtf8}
-use Rattle.iri_grammar.specs.Fault.{first, unless, part_fault, scheme_fault, userinfo_fault, host_fault, authority_fault, query_fault, fragment_fault, bytes_fault}
-use Rattle.iri_grammar.specs.WholeFault.{colon_allowed, front_fault, parts_fault, missing_scheme_fault, reference_fault, iri_fault, absolute_fault, relative_fault}
+use Rattle.iri_grammar.specs.declared.error.ErrorKind.TheVariants.{InvalidUserInfo, InvalidHost, InvalidPath, InvalidQuery}
+use Rattle.iri_grammar.specs.declared.error.ErrorKind.TheVariants.{InvalidFragment, UnexpectedFragment, InvalidUtf8}
+use Rattle.iri_grammar.specs.Fault.{first, unless, part_fault, scheme_fault, userinfo_fault, host_fault, authority_fault, query_fault}
+use Rattle.iri_grammar.specs.Fault.{fragment_fault, bytes_fault}
+use Rattle.iri_grammar.specs.WholeFault.{colon_allowed, front_fault, parts_fault, missing_scheme_fault, reference_fault, iri_fault}
+use Rattle.iri_grammar.specs.WholeFault.{absolute_fault, relative_fault}
 
 -- ---- faults that are none
-neither : (a b : Option ErrorKind) → first a b ≡ None → (a ≡ None) × (b ≡ None)
+pub neither : (a b : Option ErrorKind) → first a b ≡ None → (a ≡ None) × (b ≡ None)
 neither None b h = (refl, h)
 neither (Some e) b h = cc
 
@@ -31,11 +37,13 @@ passed false k h = cc
 pub no_fault : (b : Bool) (k : ErrorKind) → b ≡ true → unless b k ≡ None
 no_fault b k h = rw h refl
 
-part-passed : (f : List ℕ → Bool) (k : ErrorKind) (o : Option (List ℕ)) → part_fault (λ x. unless (f x) k) o ≡ None → if_there f o ≡ true
+pub part-passed : (f : List ℕ → Bool) (k : ErrorKind) (o : Option (List ℕ)) → part_fault (λ x. unless (f x) k) o ≡ None
+    → if_there f o ≡ true
 part-passed f k None h = refl
 part-passed f k (Some x) h = passed (f x) k h
 
-pub part-no_fault : (f : List ℕ → Bool) (k : ErrorKind) (o : Option (List ℕ)) → if_there f o ≡ true → part_fault (λ x. unless (f x) k) o ≡ None
+pub part-no_fault : (f : List ℕ → Bool) (k : ErrorKind) (o : Option (List ℕ)) → if_there f o ≡ true
+    → part_fault (λ x. unless (f x) k) o ≡ None
 part-no_fault f k None h = refl
 part-no_fault f k (Some x) h = no_fault (f x) k h
 
@@ -66,25 +74,30 @@ authorities-no_fault s (Some x) h = authority-no_fault s x h
 edge : (r : List ℕ) → (is_empty (from 47 r) || starts_with_slash (from 47 r)) ≡ true
 edge [] = refl
 edge (x ∷ xs) =
-    elim (x == 47) as (λ b. (x == 47) ≡ b → (is_empty (cond b (x ∷ xs) (from 47 xs)) || starts_with_slash (cond b (x ∷ xs) (from 47 xs))) ≡ true) [
+    elim (x == 47) as (λ b. (x == 47) ≡ b → (is_empty (cond b (x ∷ xs) (from 47 xs))
+    || starts_with_slash (cond b (x ∷ xs) (from 47 xs))) ≡ true) [
       | true ↦ λ e. e
       | false ↦ λ _. edge xs
     ] refl
 
-rules-kept : (sch : Option (List ℕ)) (h : List ℕ) → (is_some sch || is_some (authority_of h) || lacks 58 (before 47 (path_of h))) ≡ true → path_rules sch (authority_of h) (path_of h) ≡ true
+rules-kept : (sch : Option (List ℕ)) (h : List ℕ) → (is_some sch || is_some (authority_of h) || lacks 58 (before 47 (path_of h))) ≡ true
+    → path_rules sch (authority_of h) (path_of h) ≡ true
 rules-kept sch h =
     elim (starts_with_slashes h) as (λ b. starts_with_slashes h ≡ b
-    → (is_some sch || is_some (cond b (Some (before 47 (behind_slashes h))) None) || lacks 58 (before 47 (cond b (from 47 (behind_slashes h)) h))) ≡ true
+    → (is_some sch || is_some (cond b (Some (before 47 (behind_slashes h))) None)
+    || lacks 58 (before 47 (cond b (from 47 (behind_slashes h)) h))) ≡ true
     → path_rules sch (cond b (Some (before 47 (behind_slashes h))) None) (cond b (from 47 (behind_slashes h)) h) ≡ true) [
       | true ↦ λ _ _. edge (behind_slashes h)
       | false ↦ λ e k. at_rest sch e k
     ] refl
   where
-    at_rest : (o : Option (List ℕ)) → starts_with_slashes h ≡ false → (is_some o || false || lacks 58 (before 47 h)) ≡ true → path_rules o None h ≡ true
+    at_rest : (o : Option (List ℕ)) → starts_with_slashes h ≡ false → (is_some o || false || lacks 58 (before 47 h)) ≡ true
+        → path_rules o None h ≡ true
     at_rest None e k = rw e k
     at_rest (Some x) e k = rw e refl
 
-colon-allowed : (sch a : Option (List ℕ)) (p : List ℕ) → path_rules sch a p ≡ true → (is_some sch || is_some a || lacks 58 (before 47 p)) ≡ true
+colon-allowed : (sch a : Option (List ℕ)) (p : List ℕ) → path_rules sch a p ≡ true
+    → (is_some sch || is_some a || lacks 58 (before 47 p)) ≡ true
 colon-allowed None (Some a) p h = refl
 colon-allowed (Some x) (Some a) p h = refl
 colon-allowed (Some x) None p h = refl
@@ -107,20 +120,45 @@ no_fault-parts s g p h =
     let one = neither (part_fault (authority_fault s) p.authority) tail all.0 in
     let two = neither (unless (is_path s p.path && colon_allowed p) InvalidPath) (part_fault (query_fault s) p.query) one.1 in
     let path = both (is_path s p.path) (colon_allowed p) (passed (is_path s p.path && colon_allowed p) InvalidPath two.0) in
-    record { authority = authorities-passed s p.authority one.0; path = path.0; colon = path.1; query = part-passed (is_query s) InvalidQuery p.query two.1; fragment = all.1 }
+    record {
+      authority = authorities-passed s p.authority one.0;
+      path = path.0;
+      colon = path.1;
+      query = part-passed (is_query s) InvalidQuery p.query two.1;
+      fragment = all.1;
+    }
 
 parts-no_fault : (s : Tests) (g : List ℕ → Option ErrorKind) (p : Parts) → NoFault s g p → parts_fault s g p ≡ None
 unfolding parts_fault front_fault
-parts-no_fault s g p h = rw (authorities-no_fault s p.authority h.authority, h.path, h.colon, part-no_fault (is_query s) InvalidQuery p.query h.query) h.fragment
+parts-no_fault s g p h = rw (
+  authorities-no_fault s p.authority h.authority,
+  h.path,
+  h.colon,
+  part-no_fault (is_query s) InvalidQuery p.query h.query,
+) h.fragment
 
 -- parts read from a text fit where they have no fault
-fits-from : (s : Tests) (sch : Option (List ℕ)) (r : List ℕ) → if_there is_scheme sch ≡ true → NoFault s (fragment_fault s) (parts_of sch r) → Fits s (parts_of sch r)
+fits-from : (s : Tests) (sch : Option (List ℕ)) (r : List ℕ) → if_there is_scheme sch ≡ true → NoFault s (fragment_fault s) (parts_of sch r)
+    → Fits s (parts_of sch r)
 fits-from s sch r k n =
-    record { scheme = k; authority = n.authority; path = n.path; query = n.query; fragment = part-passed (is_fragment s) InvalidFragment (behind 35 r) n.fragment; rules = rules-kept sch (hier_of r) n.colon }
+    record {
+      scheme = k;
+      authority = n.authority;
+      path = n.path;
+      query = n.query;
+      fragment = part-passed (is_fragment s) InvalidFragment (behind 35 r) n.fragment;
+      rules = rules-kept sch (hier_of r) n.colon;
+    }
 
 fits-to : (s : Tests) (p : Parts) → Fits s p → NoFault s (fragment_fault s) p
 fits-to s p f =
-    record { authority = f.authority; path = f.path; colon = colon-allowed p.scheme p.authority p.path f.rules; query = f.query; fragment = part-no_fault (is_fragment s) InvalidFragment p.fragment f.fragment }
+    record {
+      authority = f.authority;
+      path = f.path;
+      colon = colon-allowed p.scheme p.authority p.path f.rules;
+      query = f.query;
+      fragment = part-no_fault (is_fragment s) InvalidFragment p.fragment f.fragment;
+    }
 
 -- ---- `URI-reference`
 scheme_of-scheme : (x : List ℕ) (b : Bool) → if_there is_scheme (cond (is_scheme x && b) (Some x) None) ≡ true
@@ -135,10 +173,14 @@ unfolding split_of
 split-fits s t n = fits-from s (scheme_of t) (after_scheme t) (scheme_of-scheme (before 58 t) (is_some (behind 58 t))) n
 
 pub splits_where_no_fault : (s : Tests) (t : List ℕ) → reference_fault s t ≡ None → Splits s t (split_of t)
-splits_where_no_fault s t h = record { fits = split-fits s t (no_fault-parts s (fragment_fault s) (split_of t) h); text = recompose_split t }
+splits_where_no_fault s t h = record {
+  fits = split-fits s t (no_fault-parts s (fragment_fault s) (split_of t) h);
+  text = recompose_split t;
+}
 
 pub no_fault_where_splits : (s : Tests) → IsSpec s → (t : List ℕ) (p : Parts) → Splits s t p → reference_fault s t ≡ None
-no_fault_where_splits s k t p h = ap (parts_fault s (fragment_fault s)) (split_is s t p k h) ∙ parts-no_fault s (fragment_fault s) p (fits-to s p h.fits)
+no_fault_where_splits s k t p h = ap (parts_fault s (fragment_fault s)) (split_is s t p k h)
+    ∙ parts-no_fault s (fragment_fault s) p (fits-to s p h.fits)
 
 pub reference-law : (s : Tests) → IsSpec s → (t : List ℕ) → (reference_fault s t ≡ None) ↔ IsReference s t
 reference-law s k t = (λ h. (split_of t, splits_where_no_fault s t h), λ r. no_fault_where_splits s k t r.0 r.1)
@@ -147,7 +189,8 @@ reference-law s k t = (λ h. (split_of t, splits_where_no_fault s t h), λ r. no
 some-behind : (t : List ℕ) → lacks 58 t ≡ false → is_some (behind 58 t) ≡ true
 some-behind [] h = cc
 some-behind (x ∷ xs) h =
-    elim (x == 58) as (λ b. (not b && lacks 58 xs) ≡ false → is_some (cond b (Some xs) (behind 58 xs)) ≡ true) [ true ↦ λ _. refl | false ↦ λ k. some-behind xs k ] h
+    elim (x == 58) as (λ b. (not b && lacks 58 xs) ≡ false
+    → is_some (cond b (Some xs) (behind 58 xs)) ≡ true) [ true ↦ λ _. refl | false ↦ λ k. some-behind xs k ] h
 
 colon-there : (b : Bool) (k : ErrorKind) (o : Option ErrorKind) → cond b (Some k) o ≡ None → (b ≡ false) × (o ≡ None)
 colon-there true k o h = cc
@@ -159,17 +202,19 @@ scheme-there t h =
     let m = colon-there (lacks 58 t) _ (scheme_fault (before 58 t)) h in
     rw (passed (is_scheme (before 58 t)) _ m.1, some-behind t m.0) refl
 
-lacks-joined : (xs ys : List ℕ) → lacks 58 (xs ++ 58 ∷ ys) ≡ false
+pub lacks-joined : (xs ys : List ℕ) → lacks 58 (xs ++ 58 ∷ ys) ≡ false
 lacks-joined [] ys = refl
 lacks-joined (x ∷ xs) ys = elim (x == 58) as (λ b. (not b && lacks 58 (xs ++ 58 ∷ ys)) ≡ false) [ true ↦ refl | false ↦ lacks-joined xs ys ]
 
 scheme-in_front : (x rest t : List ℕ) → is_scheme x ≡ true → (x ++ 58 ∷ []) ++ rest ≡ t → missing_scheme_fault t ≡ None
 scheme-in_front x rest t h e =
     let f : x ++ 58 ∷ rest ≡ t = sym (append_assoc x (58 ∷ []) rest) ∙ e in
-    subst (λ z. missing_scheme_fault z ≡ None) f (rw (lacks-joined x rest, before-marked 58 x (Some rest) (scheme-lacks 58 x colon_ends h), h) refl)
+    subst (λ z. missing_scheme_fault z ≡ None) f (rw
+    (lacks-joined x rest, before-marked 58 x (Some rest) (scheme-lacks 58 x colon_ends h), h) refl)
 
 scheme-given : (s : Tests) (t : List ℕ) (o a : Option (List ℕ)) (p : List ℕ) (q f : Option (List ℕ))
-    → if_there is_scheme o ≡ true → IsSome o → recompose (record { scheme = o; authority = a; path = p; query = q; fragment = f }) ≡ t → missing_scheme_fault t ≡ None
+    → if_there is_scheme o ≡ true → IsSome o → recompose (record { scheme = o; authority = a; path = p; query = q; fragment = f }) ≡ t
+    → missing_scheme_fault t ≡ None
 unfolding recompose
 scheme-given s t None a p q f h i e = cc
 scheme-given s t (Some x) a p q f h i e = scheme-in_front x _ t h e
@@ -198,18 +243,32 @@ absent g None h = refl
 absent g (Some x) h = cc
 
 other_fragment : (s : Tests) (g k : List ℕ → Option ErrorKind) (p : Parts) → IsNone p.fragment → NoFault s g p → NoFault s k p
-other_fragment s g k p i n = record { authority = n.authority; path = n.path; colon = n.colon; query = n.query; fragment = absent k p.fragment i }
+other_fragment s g k p i n = record {
+  authority = n.authority;
+  path = n.path;
+  colon = n.colon;
+  query = n.query;
+  fragment = absent k p.fragment i;
+}
 
-absolute-splits : (s : Tests) (t : List ℕ) → parts_fault s (λ _. Some UnexpectedFragment) (split_of t) ≡ None → Splits s t (split_of t) × IsNone (split_of t).fragment
+absolute-splits : (s : Tests) (t : List ℕ) → parts_fault s (λ _. Some UnexpectedFragment) (split_of t) ≡ None
+    → Splits s t (split_of t) × IsNone (split_of t).fragment
 absolute-splits s t h =
     let n = no_fault-parts s (λ _. Some UnexpectedFragment) (split_of t) h in
-    let i = refused (split_of t).fragment n.fragment in
-    (record { fits = split-fits s t (other_fragment s (λ _. Some UnexpectedFragment) (fragment_fault s) (split_of t) i n); text = recompose_split t }, i)
+    let i = refused (split_of t).fragment n.fragment in (
+      record {
+        fits = split-fits s t (other_fragment s (λ _. Some UnexpectedFragment) (fragment_fault s) (split_of t) i n);
+        text = recompose_split t;
+      },
+      i,
+    )
 
-absolute-no_fault : (s : Tests) → IsSpec s → (t : List ℕ) (p : Parts) → Splits s t p → IsNone p.fragment → parts_fault s (λ _. Some UnexpectedFragment) (split_of t) ≡ None
+absolute-no_fault : (s : Tests) → IsSpec s → (t : List ℕ) (p : Parts) → Splits s t p → IsNone p.fragment
+    → parts_fault s (λ _. Some UnexpectedFragment) (split_of t) ≡ None
 absolute-no_fault s k t p h i =
     ap (parts_fault s (λ _. Some UnexpectedFragment)) (split_is s t p k h)
-    ∙ parts-no_fault s (λ _. Some UnexpectedFragment) p (other_fragment s (fragment_fault s) (λ _. Some UnexpectedFragment) p i (fits-to s p h.fits))
+    ∙ parts-no_fault s (λ _. Some UnexpectedFragment) p
+    (other_fragment s (fragment_fault s) (λ _. Some UnexpectedFragment) p i (fits-to s p h.fits))
 
 pub absolute-law : (s : Tests) → IsSpec s → (t : List ℕ) → (absolute_fault s t ≡ None) ↔ IsAbsolute s t
 absolute-law s k t = (
@@ -217,7 +276,8 @@ absolute-law s k t = (
       let n = neither (missing_scheme_fault t) (parts_fault s (λ _. Some UnexpectedFragment) (split_of t)) h in
       let r = absolute-splits s t n.1 in
       (split_of t, r.0, scheme-there t n.0, r.1),
-  λ r. both_none (missing_scheme_fault t) (parts_fault s (λ _. Some UnexpectedFragment) (split_of t)) (no_missing_scheme s t r.0 r.1 r.2) (absolute-no_fault s k t r.0 r.1 r.3),
+  λ r. both_none (missing_scheme_fault t) (parts_fault s (λ _. Some UnexpectedFragment) (split_of t)) (no_missing_scheme s t r.0 r.1 r.2)
+      (absolute-no_fault s k t r.0 r.1 r.3),
 )
 
 -- ---- `relative-ref`
@@ -235,7 +295,14 @@ none-is (Some x) h = cc
 
 pub relative-law : (s : Tests) → IsSpec s → (t : List ℕ) → (relative_fault s t ≡ None) ↔ IsRelative s t
 relative-law s k t = (
-  λ h. (relative_split_of t, record { fits = relative-fits s t (no_fault-parts s (fragment_fault s) (relative_split_of t) h); text = recompose_relative_split t }, relative-none t),
+  λ h. (
+    relative_split_of t,
+    record {
+      fits = relative-fits s t (no_fault-parts s (fragment_fault s) (relative_split_of t) h);
+      text = recompose_relative_split t;
+    },
+    relative-none t,
+  ),
   λ r.
       let e = split_is s t r.0 k r.1 in
       let same = relative_split_is t (ap (λ p. p.scheme) e ∙ none-is r.0.scheme r.2) in
@@ -243,18 +310,21 @@ relative-law s k t = (
 )
 
 -- ---- bytes
-pub of_bytes : (f : List ℕ → Option ErrorKind) (P : Type 0) (bs : List ℕ) → (P → IsUtf8 bs) → (f bs ≡ None) ↔ P → (bytes_fault f bs ≡ None) ↔ P
+pub of_bytes : (f : List ℕ → Option ErrorKind) (P : Type 0) (bs : List ℕ) → (P → IsUtf8 bs) → (f bs ≡ None) ↔ P
+    → (bytes_fault f bs ≡ None) ↔ P
 of_bytes f P bs u h = (λ e. h.0 (text (is_utf8 bs) e), λ p. rw (is_utf8-from_IsUtf8 bs (u p)) (h.1 p))
   where
     text : (b : Bool) → cond b (f bs) (Some InvalidUtf8) ≡ None → f bs ≡ None
     text true e = e
     text false e = cc
 
-pub component-law : (f : List ℕ → Bool) (k : ErrorKind) (bs : List ℕ) → (f bs ≡ true → IsUtf8 bs) → (bytes_fault (λ x. unless (f x) k) bs ≡ None) ↔ (f bs ≡ true)
+pub component-law : (f : List ℕ → Bool) (k : ErrorKind) (bs : List ℕ) → (f bs ≡ true → IsUtf8 bs)
+    → (bytes_fault (λ x. unless (f x) k) bs ≡ None) ↔ (f bs ≡ true)
 component-law f k bs u = of_bytes (λ x. unless (f x) k) (f bs ≡ true) bs u (passed (f bs) k, no_fault (f bs) k)
 
 pub authority-law : (s : Tests) (bs : List ℕ) → (bytes_fault (authority_fault s) bs ≡ None) ↔ (is_authority s bs ≡ true)
-authority-law s bs = of_bytes (authority_fault s) (is_authority s bs ≡ true) bs (authority-utf8 s bs) (authority-passed s bs, authority-no_fault s bs)
+authority-law s bs = of_bytes (authority_fault s) (is_authority s bs ≡ true) bs (authority-utf8 s bs)
+    (authority-passed s bs, authority-no_fault s bs)
 
 pub reference-utf8 : (s : Tests) (bs : List ℕ) → IsReference s bs → IsUtf8 bs
 reference-utf8 s bs r = splits-utf8 s bs r.0 r.1

@@ -1,5 +1,5 @@
 -- Counting the groups of an IPv6 text.
-use Rattle.std.specs.Prelude.{◌≡◌, ℕ, ◌+◌, ◌≤◌, Bool, cond, ◌&&◌, ◌==◌, List, [], ◌∷◌, Option, Some, None, length, take, drop, slice_index}
+use Rattle.std.specs.Prelude.{◌≡◌, ℕ, ◌+◌, ◌≤◌, Bool, cond, ◌&&◌, List, [], ◌∷◌, Option, Some, None, length, take, drop, slice_index}
 use Rattle.iri_grammar.specs.Ipv4.{is_ipv4}
 use Rattle.iri_grammar.specs.Ipv6.{is_group}
 use Rattle.iri_grammar.specs.Ipv6Test.{before_double, behind_double}
@@ -17,10 +17,6 @@ abbrev pub count : Bool → List (List ℕ) → Option ℕ
 count ipv4 [] = Some 0
 count ipv4 (p ∷ []) = last_units ipv4 p
 count ipv4 (p ∷ q ∷ ps) = cond (is_group p) (plus 1 (count ipv4 (q ∷ ps))) None
-
--- a `::` stands at k
-abbrev pub double_at : List ℕ → ℕ → Bool
-double_at bs k = slice_index bs k == 58 && slice_index bs (k + 1) == 58
 
 -- the first `::` stands at k
 pub record DoubleAt (bs : List ℕ) (k : ℕ) : Type 0 where

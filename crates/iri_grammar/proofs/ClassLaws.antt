@@ -2,7 +2,9 @@
 use Rattle.std.proofs.Common.{◌≡◌, ℕ, ◌≤◌, ◌<◌, Bool, true, false, ◌||◌, refl, sym, ◌∙◌, inl, inr, arith}
 use Rattle.std.proofs.lemmas.Bool.{cases_lt}
 use Rattle.std.proofs.lemmas.Bool.Decides.{nat_tests}
-use Rattle.iri_grammar.specs.Classes.{Tests, IsSpec, is_ascii_unreserved, is_ascii_reg_name, is_ascii_userinfo, is_ascii_pchar, is_ascii_path, is_ascii_query, is_ascii_any, is_sub_delim, is_gen_delim, unreserved, reg_name_char, userinfo_char, pchar, path_char, query_char, fragment_char, any_char}
+use Rattle.iri_grammar.specs.Classes.{Tests, IsSpec, is_ascii_unreserved, is_ascii_reg_name, is_ascii_userinfo, is_ascii_pchar}
+use Rattle.iri_grammar.specs.Classes.{is_ascii_path, is_ascii_query, is_ascii_any, is_sub_delim, is_gen_delim, unreserved, reg_name_char}
+use Rattle.iri_grammar.specs.Classes.{userinfo_char, pchar, path_char, query_char, fragment_char, any_char}
 use Rattle.iri_grammar.specs.ClassTests.{class_test, ascii_test, past_ascii_test}
 use Rattle.iri_grammar.specs.declared.class.Class.{Class}
 use Rattle.iri_grammar.specs.declared.class.Class.TheVariants.{Unreserved, RegName, Userinfo, Pchar, Path, Query, Fragment, Any}
@@ -25,7 +27,8 @@ class_at_ascii s l Any c h = rw (l.ucs_ascii c h, l.priv_ascii c h, or_false (is
 
 -- no ASCII part reaches past ASCII
 pub ascii_test_past : (k : Class) (c : ℕ) → 128 ≤ c → ascii_test k c ≡ false
-unfolding is_ascii_unreserved is_ascii_reg_name is_ascii_userinfo is_ascii_pchar is_ascii_path is_ascii_query is_ascii_any is_sub_delim is_gen_delim
+unfolding is_ascii_unreserved is_ascii_reg_name is_ascii_userinfo is_ascii_pchar is_ascii_path is_ascii_query is_ascii_any is_sub_delim
+    is_gen_delim
 ascii_test_past Unreserved c h = grind (arith, nat_tests)
 ascii_test_past RegName c h = grind (arith, nat_tests)
 ascii_test_past Userinfo c h = grind (arith, nat_tests)
@@ -48,7 +51,8 @@ class_past_ascii s Any c h = rw (ascii_test_past Any c h) refl
 
 -- `%` is in no class
 no_percent : (k : Class) → ascii_test k 37 ≡ false
-unfolding is_ascii_unreserved is_ascii_reg_name is_ascii_userinfo is_ascii_pchar is_ascii_path is_ascii_query is_ascii_any is_sub_delim is_gen_delim
+unfolding is_ascii_unreserved is_ascii_reg_name is_ascii_userinfo is_ascii_pchar is_ascii_path is_ascii_query is_ascii_any is_sub_delim
+    is_gen_delim
 no_percent Unreserved = refl
 no_percent RegName = refl
 no_percent Userinfo = refl

@@ -1,21 +1,25 @@
 -- A text has at most one split, and it is UTF-8; it is a URI or a relative reference, and never both.
-use Rattle.std.proofs.Common.{◌≡◌, ◌↔◌, ◌⊎◌, inl, inr, ℕ, ◌<◌, Bool, true, false, List, [], ◌∷◌, Option, Some, None, refl, sym, ◌∙◌, ap, subst, arith}
+use Rattle.std.proofs.Common.{◌≡◌, ◌↔◌, ◌⊎◌, inl, inr, ℕ, ◌<◌, Bool, true, false, List, [], ◌∷◌, Option, Some, None, refl, sym, ◌∙◌, ap}
+use Rattle.std.proofs.Common.{subst, arith}
 use Rattle.std.specs.Prelude.{IsSome, IsNone}
 use Rattle.std.specs.Str.{IsUtf8}
 use Rattle.std.proofs.lemmas.Str.{IsUtf8-from_ascii, IsUtf8-append}
 use Rattle.std.proofs.lemmas.Bool.Decides.{nat_tests}
-use Rattle.iri_grammar.specs.Classes.{Tests, IsSpec, path_char, query_char, fragment_char, is_ascii_path, is_ascii_pchar, is_ascii_query, is_ascii_reg_name, is_ascii_unreserved, is_sub_delim}
+use Rattle.iri_grammar.specs.Classes.{Tests, IsSpec, path_char, query_char, fragment_char, is_ascii_path, is_ascii_pchar, is_ascii_query}
+use Rattle.iri_grammar.specs.Classes.{is_ascii_reg_name, is_ascii_unreserved, is_sub_delim}
 use Rattle.iri_grammar.specs.Over.{text_over}
 use Rattle.iri_grammar.specs.Components.{if_there, is_scheme, is_scheme_char, is_query}
 use Rattle.iri_grammar.specs.Authority.{is_authority}
 use Rattle.iri_grammar.specs.Cut.{lacks, marked}
 use Rattle.iri_grammar.specs.Parts.{Parts, Fits, Splits, IsReference, IsIri, IsRelative, recompose, scheme_text, authority_text}
 use Rattle.iri_grammar.specs.Split.{split_of}
-use Rattle.iri_grammar.specs.SplitLaws.{Marks, split_parts, scheme-chars}
-use Rattle.iri_grammar.specs.AuthorityTexts.{IsForeign, authority-lacks, hash-foreign, slash-foreign, mark-foreign, over_text-lacks, text_over-utf8, authority-utf8, one_byte-utf8, marked-utf8, all_below}
+use Rattle.iri_grammar.proofs.SplitLaws.{Marks, split_parts, scheme-chars}
+use Rattle.iri_grammar.proofs.AuthorityTexts.{IsForeign, authority-lacks, hash-foreign, slash-foreign, mark-foreign, over_text-lacks}
+use Rattle.iri_grammar.proofs.AuthorityTexts.{text_over-utf8, authority-utf8, one_byte-utf8, marked-utf8, all_below}
 
 -- ---- the parts of a tuple that fits
-authorities-lack : (s : Tests) (c : ℕ) (o : Option (List ℕ)) → IsForeign s c → if_there (is_authority s) o ≡ true → if_there (lacks c) o ≡ true
+authorities-lack : (s : Tests) (c : ℕ) (o : Option (List ℕ)) → IsForeign s c → if_there (is_authority s) o ≡ true
+    → if_there (lacks c) o ≡ true
 authorities-lack s c None f h = refl
 authorities-lack s c (Some xs) f h = authority-lacks s c xs f h
 
@@ -68,7 +72,7 @@ pub never_both : (s : Tests) → IsSpec s → (t : List ℕ) → IsIri s t → I
 never_both s k t i r = some_or_none r.0.scheme (subst (λ p. IsSome p.scheme) (one_split s k t i.0 r.0 i.1 r.1) i.2) r.2
 
 -- ---- a text with a split is UTF-8
-scheme_char-below : (c : ℕ) → is_scheme_char c ≡ true → c < 128
+pub scheme_char-below : (c : ℕ) → is_scheme_char c ≡ true → c < 128
 unfolding is_scheme_char
 scheme_char-below c h = grind (arith, nat_tests)
 
@@ -96,7 +100,8 @@ recompose-utf8 s p f =
     IsUtf8-append (scheme_text p.scheme) _ (scheme_text-utf8 p.scheme f.scheme)
     (IsUtf8-append (authority_text p.authority) _ (authority_text-utf8 s p.authority f.authority)
     (IsUtf8-append p.path _ (text_over-utf8 (path_char s) p.path f.path)
-    (IsUtf8-append (marked 63 p.query) _ (part-utf8 (query_char s) 63 p.query (omega arith) f.query) (part-utf8 (fragment_char s) 35 p.fragment (omega arith) f.fragment))))
+    (IsUtf8-append (marked 63 p.query) _ (part-utf8 (query_char s) 63 p.query (omega arith) f.query)
+    (part-utf8 (fragment_char s) 35 p.fragment (omega arith) f.fragment))))
 
 pub splits-utf8 : (s : Tests) (t : List ℕ) (p : Parts) → Splits s t p → IsUtf8 t
 splits-utf8 s t p h = subst (λ z. IsUtf8 z) h.text (recompose-utf8 s p h.fits)

@@ -1,27 +1,30 @@
--- An authority is a text, and lacks the marks of the other parts.
-use Rattle.std.proofs.Common.{◌≡◌, ℕ, zero, suc, ◌<◌, Bool, true, false, cond, ◌&&◌, ◌||◌, List, [], ◌∷◌, ◌++◌, Option, Some, None, refl, sym, ◌∙◌, ap, subst, arith}
+-- An authority is a text, and lacks the delimiters of the other parts.
+use Rattle.std.proofs.Common.{◌≡◌, ℕ, zero, suc, ◌<◌, Bool, true, false, cond, ◌&&◌, ◌||◌, List, [], ◌∷◌, ◌++◌, Option, Some, None, refl}
+use Rattle.std.proofs.Common.{sym, ◌∙◌, ap, subst, arith}
 use Rattle.std.specs.Prelude.{◌==◌, is_some, slice_index}
 use Rattle.std.specs.Char.{is_ascii_hexdigit, is_ascii_digit}
 use Rattle.std.specs.List.{list_all}
 use Rattle.std.specs.Str.{chars, IsUtf8, is_utf8, IsAscii}
 use Rattle.std.proofs.lemmas.Str.{IsUtf8-from_is_utf8, IsUtf8-from_ascii, IsUtf8-append}
 use Rattle.std.proofs.lemmas.Bool.Decides.{nat_tests}
-use Rattle.iri_grammar.specs.Classes.{Tests, IsSpec, userinfo_char, reg_name_char, is_ascii_userinfo, is_ascii_reg_name, is_ascii_unreserved, is_sub_delim}
+use Rattle.iri_grammar.specs.Classes.{Tests, IsSpec, userinfo_char, reg_name_char, is_ascii_userinfo, is_ascii_reg_name}
+use Rattle.iri_grammar.specs.Classes.{is_ascii_unreserved, is_sub_delim}
 use Rattle.iri_grammar.specs.Over.{over, text_over}
 use Rattle.iri_grammar.specs.Components.{if_there, is_port, is_userinfo}
 use Rattle.iri_grammar.specs.IpLiteral.{is_ip_literal}
 use Rattle.iri_grammar.specs.Host.{is_host, is_reg_name}
 use Rattle.iri_grammar.specs.Authority.{is_authority, authority_parts, userinfo_text, userinfo_of, after_userinfo, or_all, host_of, port_of}
 use Rattle.iri_grammar.specs.Cut.{before, behind, lacks, marked}
-use Rattle.iri_grammar.specs.CutLaws.{both, joined, lacks-append, lacks-other, all-lacks}
-use Rattle.iri_grammar.specs.CutBytes.{text-lacks}
-use Rattle.iri_grammar.specs.LiteralChars.{is_literal_char, ip_literal-chars}
+use Rattle.iri_grammar.proofs.CutLaws.{both, joined, lacks-append, lacks-other, all-lacks}
+use Rattle.iri_grammar.proofs.CutBytes.{text-lacks}
+use Rattle.iri_grammar.proofs.LiteralChars.{is_literal_char, ip_literal-chars}
 
 -- ---- the authority is put together from its parts
 host_port : (xs : List ℕ) → host_of xs ++ marked 58 (port_of xs) ≡ xs
 host_port [] = refl
 host_port (x ∷ xs) =
-    elim (x == 58 && is_port xs) as (λ b. (x == 58 && is_port xs) ≡ b → cond b [] (x ∷ host_of xs) ++ marked 58 (cond b (Some xs) (port_of xs)) ≡ x ∷ xs) [
+    elim (x == 58 && is_port xs) as (λ b. (x == 58 && is_port xs) ≡ b
+    → cond b [] (x ∷ host_of xs) ++ marked 58 (cond b (Some xs) (port_of xs)) ≡ x ∷ xs) [
       | true ↦ λ e. let n : x ≡ 58 = same x (both (x == 58) (is_port xs) e).0 in ap (λ y. y ∷ xs) (sym n)
       | false ↦ λ _. ap (λ ys. x ∷ ys) (host_port xs)
     ] refl
@@ -37,7 +40,8 @@ port-digits (x ∷ xs) =
       | false ↦ λ _. port-digits xs
     ] refl
 
-userinfo_rest : (b : List ℕ) (o : Option (List ℕ)) (xs : List ℕ) → b ++ marked 64 o ≡ xs → userinfo_text (cond (is_some o) (Some b) None) ++ or_all xs o ≡ xs
+userinfo_rest : (b : List ℕ) (o : Option (List ℕ)) (xs : List ℕ) → b ++ marked 64 o ≡ xs
+    → userinfo_text (cond (is_some o) (Some b) None) ++ or_all xs o ≡ xs
 userinfo_rest b None xs h = refl
 userinfo_rest b (Some r) xs h = two b r ∙ h
   where
@@ -46,7 +50,8 @@ userinfo_rest b (Some r) xs h = two b r ∙ h
     two (x ∷ b) r = ap (λ ys. x ∷ ys) (two b r)
 
 pub whole : (xs : List ℕ) → userinfo_text (userinfo_of xs) ++ (host_of (after_userinfo xs) ++ marked 58 (port_of (after_userinfo xs))) ≡ xs
-whole xs = ap (λ ys. userinfo_text (userinfo_of xs) ++ ys) (host_port (after_userinfo xs)) ∙ userinfo_rest (before 64 xs) (behind 64 xs) xs (joined 64 xs)
+whole xs = ap (λ ys. userinfo_text (userinfo_of xs) ++ ys) (host_port (after_userinfo xs))
+    ∙ userinfo_rest (before 64 xs) (behind 64 xs) xs (joined 64 xs)
 
 -- ---- what an authority lacks
 -- a byte that stands in no part of an authority
@@ -61,13 +66,16 @@ pub record IsForeign (s : Tests) (c : ℕ) : Type 0 where
   pub reg_name : reg_name_char s c ≡ false
   pub literal : is_literal_char c ≡ false
 
-pub over_text-lacks : (p : ℕ → Bool) (c : ℕ) (xs : List ℕ) → c < 128 → p c ≡ false → (37 == c) ≡ false → is_ascii_hexdigit c ≡ false → text_over p xs ≡ true → lacks c xs ≡ true
+pub over_text-lacks : (p : ℕ → Bool) (c : ℕ) (xs : List ℕ) → c < 128 → p c ≡ false → (37 == c) ≡ false → is_ascii_hexdigit c ≡ false
+    → text_over p xs ≡ true → lacks c xs ≡ true
 over_text-lacks p c xs l pc pe hx h =
     let k = both (is_utf8 xs) (over p (chars xs)) h in text-lacks p c xs (IsUtf8-from_is_utf8 xs k.0) l pc pe hx k.1
 
-userinfo-lacks : (s : Tests) (c : ℕ) (o : Option (List ℕ)) → IsForeign s c → if_there (is_userinfo s) o ≡ true → lacks c (userinfo_text o) ≡ true
+userinfo-lacks : (s : Tests) (c : ℕ) (o : Option (List ℕ)) → IsForeign s c → if_there (is_userinfo s) o ≡ true
+    → lacks c (userinfo_text o) ≡ true
 userinfo-lacks s c None f h = refl
-userinfo-lacks s c (Some xs) f h = lacks-append c xs (64 ∷ []) (over_text-lacks (userinfo_char s) c xs f.ascii f.userinfo f.percent f.hex h) (lacks-other c 64 [] f.at refl)
+userinfo-lacks s c (Some xs) f h = lacks-append c xs (64 ∷ []) (over_text-lacks (userinfo_char s) c xs f.ascii f.userinfo f.percent f.hex h)
+    (lacks-other c 64 [] f.at refl)
 
 pub host-lacks : (s : Tests) (c : ℕ) (xs : List ℕ) → IsForeign s c → is_host s xs ≡ true → lacks c xs ≡ true
 host-lacks s c xs f h =
@@ -86,19 +94,50 @@ authority-lacks s c xs f h =
     let k = both (if_there (is_userinfo s) (userinfo_of xs)) (is_host s (host_of (after_userinfo xs))) h in
     subst (λ ys. lacks c ys ≡ true) (whole xs)
     (lacks-append c (userinfo_text (userinfo_of xs)) _ (userinfo-lacks s c (userinfo_of xs) f k.0)
-    (lacks-append c (host_of (after_userinfo xs)) _ (host-lacks s c (host_of (after_userinfo xs)) f k.1) (port-lacks s c (port_of (after_userinfo xs)) f (port-digits (after_userinfo xs)))))
+    (lacks-append c (host_of (after_userinfo xs)) _ (host-lacks s c (host_of (after_userinfo xs)) f k.1)
+    (port-lacks s c (port_of (after_userinfo xs)) f (port-digits (after_userinfo xs)))))
 
 pub hash-foreign : (s : Tests) → IsSpec s → IsForeign s 35
 unfolding userinfo_char reg_name_char is_ascii_userinfo is_ascii_reg_name is_ascii_unreserved is_sub_delim is_literal_char
-hash-foreign s k = record { ascii = omega arith; percent = refl; hex = refl; digit = refl; at = refl; colon = refl; userinfo = rw (k.ucs_ascii 35 (omega arith)) refl; reg_name = rw (k.ucs_ascii 35 (omega arith)) refl; literal = refl }
+hash-foreign s k = record {
+  ascii = omega arith;
+  percent = refl;
+  hex = refl;
+  digit = refl;
+  at = refl;
+  colon = refl;
+  userinfo = rw (k.ucs_ascii 35 (omega arith)) refl;
+  reg_name = rw (k.ucs_ascii 35 (omega arith)) refl;
+  literal = refl;
+}
 
 pub slash-foreign : (s : Tests) → IsSpec s → IsForeign s 47
 unfolding userinfo_char reg_name_char is_ascii_userinfo is_ascii_reg_name is_ascii_unreserved is_sub_delim is_literal_char
-slash-foreign s k = record { ascii = omega arith; percent = refl; hex = refl; digit = refl; at = refl; colon = refl; userinfo = rw (k.ucs_ascii 47 (omega arith)) refl; reg_name = rw (k.ucs_ascii 47 (omega arith)) refl; literal = refl }
+slash-foreign s k = record {
+  ascii = omega arith;
+  percent = refl;
+  hex = refl;
+  digit = refl;
+  at = refl;
+  colon = refl;
+  userinfo = rw (k.ucs_ascii 47 (omega arith)) refl;
+  reg_name = rw (k.ucs_ascii 47 (omega arith)) refl;
+  literal = refl;
+}
 
 pub mark-foreign : (s : Tests) → IsSpec s → IsForeign s 63
 unfolding userinfo_char reg_name_char is_ascii_userinfo is_ascii_reg_name is_ascii_unreserved is_sub_delim is_literal_char
-mark-foreign s k = record { ascii = omega arith; percent = refl; hex = refl; digit = refl; at = refl; colon = refl; userinfo = rw (k.ucs_ascii 63 (omega arith)) refl; reg_name = rw (k.ucs_ascii 63 (omega arith)) refl; literal = refl }
+mark-foreign s k = record {
+  ascii = omega arith;
+  percent = refl;
+  hex = refl;
+  digit = refl;
+  at = refl;
+  colon = refl;
+  userinfo = rw (k.ucs_ascii 63 (omega arith)) refl;
+  reg_name = rw (k.ucs_ascii 63 (omega arith)) refl;
+  literal = refl;
+}
 
 -- ---- an authority is UTF-8
 pub all_below : (p : ℕ → Bool) → ((c : ℕ) → p c ≡ true → c < 128) → (xs : List ℕ) → list_all p xs ≡ true → IsAscii xs
@@ -156,4 +195,5 @@ authority-utf8 s xs h =
     let k = both (if_there (is_userinfo s) (userinfo_of xs)) (is_host s (host_of (after_userinfo xs))) h in
     subst (λ ys. IsUtf8 ys) (whole xs)
     (IsUtf8-append (userinfo_text (userinfo_of xs)) _ (userinfo_text-utf8 s (userinfo_of xs) k.0)
-    (IsUtf8-append (host_of (after_userinfo xs)) _ (host-utf8 s (host_of (after_userinfo xs)) k.1) (port_text-utf8 (port_of (after_userinfo xs)) (port-digits (after_userinfo xs)))))
+    (IsUtf8-append (host_of (after_userinfo xs)) _ (host-utf8 s (host_of (after_userinfo xs)) k.1)
+    (port_text-utf8 (port_of (after_userinfo xs)) (port-digits (after_userinfo xs)))))

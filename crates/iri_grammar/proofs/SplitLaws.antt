@@ -1,13 +1,16 @@
--- The laws of the split: recomposing it gives the text, and parts that bear no foreign mark are the split of their recomposition.
-use Rattle.std.proofs.Common.{◌≡◌, ℕ, Bool, true, false, cond, not, ◌&&◌, ◌||◌, List, [], ◌∷◌, ◌++◌, take, Option, Some, None, refl, sym, ◌∙◌, ap, subst, arith, append_assoc}
+-- The laws of the split: recomposing it gives the text, and parts that bear no foreign delimiter are the split of their recomposition.
+use Rattle.std.proofs.Common.{◌≡◌, ℕ, Bool, true, false, cond, not, ◌&&◌, ◌||◌, List, [], ◌∷◌, ◌++◌, take, Option, Some, None, refl, sym}
+use Rattle.std.proofs.Common.{◌∙◌, ap, subst, arith, append_assoc}
 use Rattle.std.specs.Prelude.{◌==◌, is_some}
 use Rattle.std.proofs.lemmas.Bool.Decides.{nat_tests}
 use Rattle.std.specs.List.{list_all}
 use Rattle.iri_grammar.specs.Authority.{or_all}
 use Rattle.iri_grammar.specs.Components.{if_there, is_letter, is_scheme, is_scheme_char}
 use Rattle.iri_grammar.specs.Cut.{before, from, behind, lacks, marked}
-use Rattle.iri_grammar.specs.CutLaws.{by_test, both, joined, joined_from, before-marked, behind-marked, before-at, from-at, lacks-append, lacks-other, test_apart, all-lacks}
-use Rattle.iri_grammar.specs.Parts.{Parts, recompose, scheme_text, authority_text, starts_with_slash, starts_with_slashes, is_empty, path_rules}
+use Rattle.iri_grammar.proofs.CutLaws.{by_test, both, joined, joined_from, before-marked, behind-marked, before-at, from-at, lacks-append}
+use Rattle.iri_grammar.proofs.CutLaws.{lacks-other, test_apart, all-lacks}
+use Rattle.iri_grammar.specs.Parts.{Parts, recompose, scheme_text, authority_text, starts_with_slash, starts_with_slashes, is_empty}
+use Rattle.iri_grammar.specs.Parts.{path_rules}
 use Rattle.iri_grammar.specs.Split.{split_of, relative_split_of, parts_of, hier_of, scheme_of, after_scheme, authority_of, path_of}
 
 pub letter-is_scheme_char : (x : ℕ) → is_letter x ≡ true → is_scheme_char x ≡ true
@@ -20,7 +23,7 @@ scheme-lacks c (x ∷ xs) n h =
     let parts = both (is_letter x) (list_all is_scheme_char xs) h in
     lacks-other c x xs (test_apart is_scheme_char c x n (letter-is_scheme_char x parts.0)) (all-lacks is_scheme_char c xs n parts.1)
 
--- ---- what the parts of a tuple that fits have no mark of
+-- ---- what the parts of a tuple that fits have no delimiter of
 pub record Marks (t : Parts) : Type 0 where
   pub scheme : if_there is_scheme t.scheme ≡ true
   pub authority_hash : if_there (lacks 35) t.authority ≡ true
@@ -31,7 +34,8 @@ pub record Marks (t : Parts) : Type 0 where
   pub query_hash : if_there (lacks 35) t.query ≡ true
   pub rules : path_rules t.scheme t.authority t.path ≡ true
 
-pub authority_text-lacks : (c : ℕ) (a : Option (List ℕ)) → (47 == c) ≡ false → if_there (lacks c) a ≡ true → lacks c (authority_text a) ≡ true
+pub authority_text-lacks : (c : ℕ) (a : Option (List ℕ)) → (47 == c) ≡ false → if_there (lacks c) a ≡ true
+    → lacks c (authority_text a) ≡ true
 authority_text-lacks c None n h = refl
 authority_text-lacks c (Some a) n h = lacks-other c 47 (47 ∷ a) n (lacks-other c 47 a n h)
 
@@ -47,7 +51,8 @@ hier a p = authority_text a ++ p
 no_scheme : List ℕ → Bool
 no_scheme h = not (is_scheme (before 58 h)) || not (is_some (behind 58 h))
 
-no_scheme_of : (b : Bool) (o : Option (List ℕ)) (x : List ℕ) → (not b || not (is_some o)) ≡ true → cond (b && is_some o) (Some x) None ≡ None
+no_scheme_of : (b : Bool) (o : Option (List ℕ)) (x : List ℕ) → (not b || not (is_some o)) ≡ true
+    → cond (b && is_some o) (Some x) None ≡ None
 no_scheme_of true None x h = refl
 no_scheme_of true (Some y) x h = cc
 no_scheme_of false o x h = refl
@@ -64,10 +69,6 @@ colon_ends = refl
 slash_ends : is_scheme_char 47 ≡ false
 unfolding is_scheme_char
 slash_ends = refl
-
-pub mark_ends : is_scheme_char 63 ≡ false
-unfolding is_scheme_char
-mark_ends = refl
 
 pub hash_ends : is_scheme_char 35 ≡ false
 unfolding is_scheme_char
@@ -94,10 +95,12 @@ stops [] = true
 stops (x ∷ xs) = not (is_scheme_char x)
 
 -- a character that is none of a scheme, and no colon, stands in front
-stopped : (x : ℕ) (xs : List ℕ) → is_scheme_char x ≡ false → (x == 58) ≡ false → (not (list_all is_scheme_char (before 58 (x ∷ xs))) || not (is_some (behind 58 (x ∷ xs)))) ≡ true
+stopped : (x : ℕ) (xs : List ℕ) → is_scheme_char x ≡ false → (x == 58) ≡ false
+    → (not (list_all is_scheme_char (before 58 (x ∷ xs))) || not (is_some (behind 58 (x ∷ xs)))) ≡ true
 stopped x xs n c = rw (c, n) refl
 
-stop_or_no_colon : (p r : List ℕ) → lacks 58 (before 47 p) ≡ true → stops r ≡ true → lacks 58 (take 1 r) ≡ true → (not (list_all is_scheme_char (before 58 (p ++ r))) || not (is_some (behind 58 (p ++ r)))) ≡ true
+stop_or_no_colon : (p r : List ℕ) → lacks 58 (before 47 p) ≡ true → stops r ≡ true → lacks 58 (take 1 r) ≡ true
+    → (not (list_all is_scheme_char (before 58 (p ++ r))) || not (is_some (behind 58 (p ++ r)))) ≡ true
 stop_or_no_colon [] [] h k l = refl
 stop_or_no_colon [] (x ∷ xs) h k l = stopped x xs (not-true (is_scheme_char x) k) (not-true (x == 58) (both (not (x == 58)) true l).0)
   where
@@ -105,18 +108,24 @@ stop_or_no_colon [] (x ∷ xs) h k l = stopped x xs (not-true (is_scheme_char x)
     not-true true h = cc
     not-true false h = refl
 stop_or_no_colon (x ∷ xs) r h k l =
-    by_test x 47 (λ b. lacks 58 (cond b [] (x ∷ before 47 xs)) ≡ true → (not (list_all is_scheme_char (before 58 (x ∷ (xs ++ r)))) || not (is_some (behind 58 (x ∷ (xs ++ r))))) ≡ true)
-    (λ e _. subst (λ n. (not (list_all is_scheme_char (before 58 (n ∷ (xs ++ r)))) || not (is_some (behind 58 (n ∷ (xs ++ r))))) ≡ true) (sym e) (stopped 47 (xs ++ r) slash_ends refl))
-    (λ _ m. by_test x 58 (λ b. (not b && lacks 58 (before 47 xs)) ≡ true → (not (list_all is_scheme_char (cond b [] (x ∷ before 58 (xs ++ r)))) || not (is_some (cond b (Some (xs ++ r)) (behind 58 (xs ++ r))))) ≡ true)
+    by_test x 47 (λ b. lacks 58 (cond b [] (x ∷ before 47 xs)) ≡ true
+    → (not (list_all is_scheme_char (before 58 (x ∷ (xs ++ r)))) || not (is_some (behind 58 (x ∷ (xs ++ r))))) ≡ true)
+    (λ e _. subst (λ n. (not (list_all is_scheme_char (before 58 (n ∷ (xs ++ r)))) || not (is_some (behind 58 (n ∷ (xs ++ r))))) ≡ true)
+    (sym e) (stopped 47 (xs ++ r) slash_ends refl))
+    (λ _ m. by_test x 58 (λ b. (not b && lacks 58 (before 47 xs)) ≡ true
+    → (not (list_all is_scheme_char (cond b [] (x ∷ before 58 (xs ++ r))))
+    || not (is_some (cond b (Some (xs ++ r)) (behind 58 (xs ++ r))))) ≡ true)
     (λ _ w. cc)
-    (λ _ w. or_weaken (is_scheme_char x) (list_all is_scheme_char (before 58 (xs ++ r))) (not (is_some (behind 58 (xs ++ r)))) (stop_or_no_colon xs r w k l))
+    (λ _ w. or_weaken (is_scheme_char x) (list_all is_scheme_char (before 58 (xs ++ r))) (not (is_some (behind 58 (xs ++ r))))
+    (stop_or_no_colon xs r w k l))
     m)
     h
 
 no_scheme_path : (p r : List ℕ) → lacks 58 (before 47 p) ≡ true → stops r ≡ true → lacks 58 (take 1 r) ≡ true → no_scheme (p ++ r) ≡ true
 unfolding no_scheme
 no_scheme_path p r h k l =
-    elim (is_scheme (before 58 (p ++ r))) as (λ b. is_scheme (before 58 (p ++ r)) ≡ b → (not b || not (is_some (behind 58 (p ++ r)))) ≡ true) [
+    elim (is_scheme (before 58 (p ++ r))) as (λ b. is_scheme (before 58 (p ++ r)) ≡ b
+    → (not b || not (is_some (behind 58 (p ++ r)))) ≡ true) [
       | true ↦ λ e. let a = scheme-chars (before 58 (p ++ r)) e in rw a at (stop_or_no_colon p r h k l)
       | false ↦ λ _. refl
     ] refl
@@ -136,14 +145,18 @@ edge [] h = (refl, refl)
 edge (x ∷ xs) h = rw h (refl, refl)
 
 -- the scheme, and what follows it
-scheme-split : (s : Option (List ℕ)) (h : List ℕ) → if_there is_scheme s ≡ true → (s ≡ None → no_scheme h ≡ true) → (scheme_of (scheme_text s ++ h) ≡ s) × (after_scheme (scheme_text s ++ h) ≡ h)
+scheme-split : (s : Option (List ℕ)) (h : List ℕ) → if_there is_scheme s ≡ true → (s ≡ None → no_scheme h ≡ true)
+    → (scheme_of (scheme_text s ++ h) ≡ s) × (after_scheme (scheme_text s ++ h) ≡ h)
 unfolding no_scheme
-scheme-split None h k n =
-    (no_scheme_of (is_scheme (before 58 h)) (behind 58 h) (before 58 h) (n refl), no_after_scheme (is_scheme (before 58 h)) (behind 58 h) h (n refl))
+scheme-split None h k n = (
+  no_scheme_of (is_scheme (before 58 h)) (behind 58 h) (before 58 h) (n refl),
+  no_after_scheme (is_scheme (before 58 h)) (behind 58 h) h (n refl),
+)
 scheme-split (Some s) h k n = rw append_assoc (scheme-given s h k)
 
 -- the authority, and the path
-authority-split : (s a : Option (List ℕ)) (p : List ℕ) → if_there (lacks 47) a ≡ true → path_rules s a p ≡ true → (authority_of (authority_text a ++ p) ≡ a) × (path_of (authority_text a ++ p) ≡ p)
+authority-split : (s a : Option (List ℕ)) (p : List ℕ) → if_there (lacks 47) a ≡ true → path_rules s a p ≡ true
+    → (authority_of (authority_text a ++ p) ≡ a) × (path_of (authority_text a ++ p) ≡ p)
 authority-split s (Some a) p l r =
     let e = edge p r in (ap Some (before-at 47 a p l e.0), from-at 47 a p l e.1)
 authority-split (Some s) None p l r = let n : starts_with_slashes p ≡ false = not-true (starts_with_slashes p) r in rw n (refl, refl)
@@ -151,27 +164,34 @@ authority-split (Some s) None p l r = let n : starts_with_slashes p ≡ false = 
     not-true : (b : Bool) → not b ≡ true → b ≡ false
     not-true true h = cc
     not-true false h = refl
-authority-split None None p l r = let n : starts_with_slashes p ≡ false = not-true (starts_with_slashes p) (both (not (starts_with_slashes p)) (lacks 58 (before 47 p)) r).0 in rw n (refl, refl)
+authority-split None None p l r = let n : starts_with_slashes p ≡ false =
+    not-true (starts_with_slashes p) (both (not (starts_with_slashes p)) (lacks 58 (before 47 p)) r).0 in rw n (refl, refl)
   where
     not-true : (b : Bool) → not b ≡ true → b ≡ false
     not-true true h = cc
     not-true false h = refl
 
-no_scheme-rules : (s a : Option (List ℕ)) (p : List ℕ) (q f : Option (List ℕ)) → path_rules s a p ≡ true → s ≡ None → no_scheme (authority_text a ++ (p ++ (marked 63 q ++ marked 35 f))) ≡ true
+no_scheme-rules : (s a : Option (List ℕ)) (p : List ℕ) (q f : Option (List ℕ)) → path_rules s a p ≡ true → s ≡ None
+    → no_scheme (authority_text a ++ (p ++ (marked 63 q ++ marked 35 f))) ≡ true
 no_scheme-rules s (Some a) p q f r e = no_scheme_authority a (p ++ (marked 63 q ++ marked 35 f))
 no_scheme-rules None None p q f r e =
-    let t = tail_stops q f in no_scheme_path p (marked 63 q ++ marked 35 f) (both (not (starts_with_slashes p)) (lacks 58 (before 47 p)) r).1 t.0 t.1
+    let t = tail_stops q f in no_scheme_path p (marked 63 q ++ marked 35 f)
+    (both (not (starts_with_slashes p)) (lacks 58 (before 47 p)) r).1 t.0 t.1
 no_scheme-rules (Some s) None p q f r e = cc
 
 -- the parts of what was put together
-pub split_parts : (s a : Option (List ℕ)) (p : List ℕ) (q f : Option (List ℕ)) → Marks (record { scheme = s; authority = a; path = p; query = q; fragment = f })
-    → split_of (recompose (record { scheme = s; authority = a; path = p; query = q; fragment = f })) ≡ record { scheme = s; authority = a; path = p; query = q; fragment = f }
+pub split_parts : (s a : Option (List ℕ)) (p : List ℕ) (q f : Option (List ℕ))
+    → Marks (record { scheme = s; authority = a; path = p; query = q; fragment = f })
+    → split_of (recompose (record { scheme = s; authority = a; path = p; query = q; fragment = f }))
+    ≡ record { scheme = s; authority = a; path = p; query = q; fragment = f }
 unfolding split_of recompose
 split_parts s a p q f m =
     let hier = authority_text a ++ p in
     let rest = authority_text a ++ (p ++ (marked 63 q ++ marked 35 f)) in
     let no_mark = lacks-append 63 (authority_text a) p (authority_text-lacks 63 a refl m.authority_mark) m.path_mark in
-    let no_hash = lacks-append 35 hier (marked 63 q) (lacks-append 35 (authority_text a) p (authority_text-lacks 35 a refl m.authority_hash) m.path_hash) (marked-lacks 35 63 q refl m.query_hash) in
+    let no_hash = lacks-append 35 hier (marked 63 q)
+    (lacks-append 35 (authority_text a) p (authority_text-lacks 35 a refl m.authority_hash) m.path_hash)
+    (marked-lacks 35 63 q refl m.query_hash) in
     let b35 = before-marked 35 (hier ++ marked 63 q) f no_hash in
     let a35 = behind-marked 35 (hier ++ marked 63 q) f no_hash in
     let b63 = before-marked 63 hier q no_mark in
@@ -181,7 +201,8 @@ split_parts s a p q f m =
     let grouped : rest ≡ (hier ++ marked 63 q) ++ marked 35 f = simp append_assoc in
     rw (sp.0, sp.1, grouped, b35, a35, b63, a63, ah.0, ah.1) refl
 
-scheme_joined : (b : Bool) (o : Option (List ℕ)) (y x : List ℕ) → y ++ marked 58 o ≡ x → scheme_text (cond (b && is_some o) (Some y) None) ++ cond b (or_all x o) x ≡ x
+scheme_joined : (b : Bool) (o : Option (List ℕ)) (y x : List ℕ) → y ++ marked 58 o ≡ x
+    → scheme_text (cond (b && is_some o) (Some y) None) ++ cond b (or_all x o) x ≡ x
 scheme_joined true None y x h = refl
 scheme_joined true (Some r) y x h = append_assoc y (58 ∷ []) r ∙ h
 scheme_joined false o y x h = refl
@@ -189,9 +210,13 @@ scheme_joined false o y x h = refl
 authority_joined : (h : List ℕ) → authority_text (authority_of h) ++ path_of h ≡ h
 authority_joined [] = refl
 authority_joined (x ∷ []) =
-    elim (x == 47) as (λ b. authority_text (cond (b && false) (Some []) None) ++ cond (b && false) [] (x ∷ []) ≡ x ∷ []) [ true ↦ refl | false ↦ refl ]
+    elim (x == 47) as (λ b. authority_text (cond (b && false) (Some []) None) ++ cond (b && false) [] (x ∷ []) ≡ x ∷ []) [
+      | true ↦ refl
+      | false ↦ refl
+    ]
 authority_joined (x ∷ y ∷ xs) =
-    by_test x 47 (λ b. authority_text (cond (b && (y == 47)) (Some (before 47 xs)) None) ++ cond (b && (y == 47)) (from 47 xs) (x ∷ y ∷ xs) ≡ x ∷ y ∷ xs)
+    by_test x 47 (λ b. authority_text (cond (b && (y == 47)) (Some (before 47 xs)) None) ++ cond (b && (y == 47)) (from 47 xs) (x ∷ y ∷ xs)
+    ≡ x ∷ y ∷ xs)
     (λ e. by_test y 47 (λ b. authority_text (cond b (Some (before 47 xs)) None) ++ cond b (from 47 xs) (x ∷ y ∷ xs) ≡ x ∷ y ∷ xs)
     (λ d. rw (e, d) (ap (λ zs. 47 ∷ 47 ∷ zs) (joined_from 47 xs)))
     (λ _. refl))
@@ -212,7 +237,8 @@ recompose-parts_of sch r =
 -- each text is put together from its split, and from its split as a relative reference
 pub recompose_split : (t : List ℕ) → recompose (split_of t) ≡ t
 unfolding split_of
-recompose_split t = recompose-parts_of (scheme_of t) (after_scheme t) ∙ scheme_joined (is_scheme (before 58 t)) (behind 58 t) (before 58 t) t (joined 58 t)
+recompose_split t = recompose-parts_of (scheme_of t) (after_scheme t)
+    ∙ scheme_joined (is_scheme (before 58 t)) (behind 58 t) (before 58 t) t (joined 58 t)
 
 pub recompose_relative_split : (t : List ℕ) → recompose (relative_split_of t) ≡ t
 unfolding relative_split_of

@@ -1,19 +1,21 @@
 -- The test for IPv6 texts tells exactly the texts that are lists of groups.
-use Rattle.std.proofs.Common.{◌≡◌, ◌↔◌, ℕ, ◌+◌, inl, inr, Bool, true, false, cond, not, ◌&&◌, ◌||◌, List, [], ◌∷◌, ◌++◌, Option, Some, None, refl, sym, ◌∙◌, ap, subst, arith}
+use Rattle.std.proofs.Common.{◌≡◌, ◌↔◌, ℕ, ◌+◌, inl, inr, Bool, true, false, cond, not, ◌&&◌, ◌||◌, List, [], ◌∷◌, ◌++◌, Option, Some}
+use Rattle.std.proofs.Common.{None, refl, sym, ◌∙◌, ap, subst, arith}
 use Rattle.std.specs.Prelude.{◌==◌, nat_lt}
 use Rattle.std.specs.Char.{is_ascii_digit, is_ascii_hexdigit}
 use Rattle.std.specs.List.{list_all}
 use Rattle.std.proofs.lemmas.Bool.Decides.{nat_tests}
 use Rattle.iri_grammar.specs.Cut.{before, behind, lacks, tail}
-use Rattle.iri_grammar.specs.CutLaws.{all-lacks, by_test, both}
+use Rattle.iri_grammar.proofs.CutLaws.{all-lacks, by_test, both}
 use Rattle.iri_grammar.specs.Pieces.{pieces, onto, joined}
-use Rattle.iri_grammar.specs.PiecesLaws.{pieces_cut, more_pieces}
+use Rattle.iri_grammar.specs.inside.PiecesLaws.{more_pieces}
+use Rattle.iri_grammar.proofs.PiecesLaws.{pieces_cut}
 use Rattle.iri_grammar.specs.Ipv4.{is_ipv4, is_dec_octet, are_four_octets}
-use Rattle.iri_grammar.specs.Ipv6.{IsFullIpv6, IsShortenedIpv6, IsIpv6, is_group, are_groups, are_groups_or_ipv4, units}
-use Rattle.iri_grammar.specs.Ipv6Test.{begins, before_double, behind_double, parts_of, is_ipv6_around, is_ipv6}
-use Rattle.iri_grammar.specs.LiteralChars.{octet-digits}
+use Rattle.iri_grammar.specs.Ipv6.{IsFullIpv6, IsShortenedIpv6, IsIpv6, is_group, are_groups, are_groups_or_ipv4, group_count}
+use Rattle.iri_grammar.specs.Ipv6Test.{begins, before_double, behind_double, group_texts, is_ipv6_around, is_ipv6}
+use Rattle.iri_grammar.proofs.LiteralChars.{octet-digits}
 
--- a text without a mark is one piece
+-- a text without a delimiter is one piece
 pub one_piece : (c : ℕ) (t : List ℕ) → lacks c t ≡ true → pieces c t ≡ t ∷ []
 one_piece c [] h = refl
 one_piece c (x ∷ xs) h =
@@ -44,16 +46,19 @@ joined_pieces c [] = refl
 joined_pieces c (x ∷ xs) =
     by_test x c (λ b. joined c (cond b ([] ∷ pieces c xs) (onto x (pieces c xs))) ≡ x ∷ xs)
     (λ e. rw (pieces_cut c xs) (ap (λ ys. c ∷ ys) (rw pieces_cut at (joined_pieces c xs)) ∙ ap (λ n. n ∷ xs) (sym e)))
-    (λ _. rw (pieces_cut c xs) (joined_onto c x (before c xs) (more_pieces c (behind c xs)) ∙ ap (λ ys. x ∷ ys) (rw pieces_cut at (joined_pieces c xs))))
+    (λ _. rw (pieces_cut c xs) (joined_onto c x (before c xs) (more_pieces c (behind c xs))
+    ∙ ap (λ ys. x ∷ ys) (rw pieces_cut at (joined_pieces c xs))))
 
-joined_parts : (t : List ℕ) → joined 58 (parts_of t) ≡ t
+joined_parts : (t : List ℕ) → joined 58 (group_texts t) ≡ t
 joined_parts [] = refl
 joined_parts (x ∷ xs) = joined_pieces 58 (x ∷ xs)
 
-pieces_before : (c : ℕ) (p t : List ℕ) → lacks c p ≡ true → pieces c (p ++ c ∷ t) ≡ p ∷ pieces c t
-pieces_before c [] t h = by_test c c (λ b. cond b ([] ∷ pieces c t) (onto c (pieces c t)) ≡ [] ∷ pieces c t) (λ _. refl) (λ other. absurd (other refl))
+pub pieces_before : (c : ℕ) (p t : List ℕ) → lacks c p ≡ true → pieces c (p ++ c ∷ t) ≡ p ∷ pieces c t
+pieces_before c [] t h = by_test c c (λ b. cond b ([] ∷ pieces c t) (onto c (pieces c t)) ≡ [] ∷ pieces c t) (λ _. refl)
+    (λ other. absurd (other refl))
 pieces_before c (x ∷ xs) t h =
-    by_test x c (λ b. (not b && lacks c xs) ≡ true → cond b ([] ∷ pieces c (xs ++ c ∷ t)) (onto x (pieces c (xs ++ c ∷ t))) ≡ (x ∷ xs) ∷ pieces c t)
+    by_test x c (λ b. (not b && lacks c xs) ≡ true
+    → cond b ([] ∷ pieces c (xs ++ c ∷ t)) (onto x (pieces c (xs ++ c ∷ t))) ≡ (x ∷ xs) ∷ pieces c t)
     (λ _ k. cc)
     (λ _ k. ap (onto x) (pieces_before c xs t k))
     h
@@ -74,7 +79,7 @@ pieces_joined p (q ∷ ps) h =
     let k = both (is_part p) (list_all is_part (q ∷ ps)) h in
     pieces_before 58 p (joined 58 (q ∷ ps)) (lacking p k.0) ∙ ap (λ rs. p ∷ rs) (pieces_joined q ps k.1)
 
-parts_joined : (ps : List (List ℕ)) → list_all is_part ps ≡ true → parts_of (joined 58 ps) ≡ ps
+parts_joined : (ps : List (List ℕ)) → list_all is_part ps ≡ true → group_texts (joined 58 ps) ≡ ps
 unfolding is_part
 parts_joined [] h = refl
 parts_joined ([] ∷ ps) h = cc
@@ -112,7 +117,8 @@ single_joined [] h = refl
 single_joined (p ∷ []) h = single_part p (lacking p (both (is_part p) true h).0)
 single_joined (p ∷ q ∷ ps) h =
     let k = both (is_part p) (list_all is_part (q ∷ ps)) h in
-    single_before p (joined 58 (q ∷ ps)) (lacking p k.0) (plain_joined q ps (both (is_part q) (list_all is_part ps) k.1).0) (single_joined (q ∷ ps) k.1)
+    single_before p (joined 58 (q ∷ ps)) (lacking p k.0) (plain_joined q ps (both (is_part q) (list_all is_part ps) k.1).0)
+    (single_joined (q ∷ ps) k.1)
 
 no_double : (b : Bool) (xs : List ℕ) → (not b || begins_plain xs) ≡ true → (b && begins 58 xs) ≡ false
 unfolding begins_plain
@@ -135,7 +141,8 @@ single_whole (x ∷ xs) h =
     let here = no_double (x == 58) xs k.0 in
     (rw here (ap (λ ys. x ∷ ys) r.0), rw here r.1)
 
-single_then_double : (t r : List ℕ) → is_single t ≡ true → (before_double (t ++ 58 ∷ 58 ∷ r) ≡ t) × (behind_double (t ++ 58 ∷ 58 ∷ r) ≡ Some r)
+single_then_double : (t r : List ℕ) → is_single t ≡ true
+    → (before_double (t ++ 58 ∷ 58 ∷ r) ≡ t) × (behind_double (t ++ 58 ∷ 58 ∷ r) ≡ Some r)
 unfolding is_single
 single_then_double [] r h = (refl, refl)
 single_then_double (x ∷ xs) r h =
@@ -150,7 +157,8 @@ unfolding is_part is_group
 group_part [] h = cc
 group_part (x ∷ xs) h = all-lacks is_ascii_hexdigit 58 (x ∷ xs) refl (hex_of_group (x ∷ xs) h)
 
-onto_lacks : (x : ℕ) (ps : List (List ℕ)) → list_all (lacks 58) (onto x ps) ≡ true → (not (x == 58) ≡ true) × (list_all (lacks 58) ps ≡ true)
+onto_lacks : (x : ℕ) (ps : List (List ℕ)) → list_all (lacks 58) (onto x ps) ≡ true
+    → (not (x == 58) ≡ true) × (list_all (lacks 58) ps ≡ true)
 onto_lacks x [] h = ((both (not (x == 58)) true (both (not (x == 58) && true) true h).0).0, refl)
 onto_lacks x (p ∷ ps) h =
     let k = both (not (x == 58) && lacks 58 p) (list_all (lacks 58) ps) h in
@@ -160,7 +168,8 @@ onto_lacks x (p ∷ ps) h =
 pieces_lack : (t : List ℕ) → list_all (lacks 58) (pieces 46 t) ≡ true → lacks 58 t ≡ true
 pieces_lack [] h = refl
 pieces_lack (x ∷ xs) h =
-    by_test x 46 (λ b. list_all (lacks 58) (cond b ([] ∷ pieces 46 xs) (onto x (pieces 46 xs))) ≡ true → (not (x == 58) && lacks 58 xs) ≡ true)
+    by_test x 46 (λ b. list_all (lacks 58) (cond b ([] ∷ pieces 46 xs) (onto x (pieces 46 xs))) ≡ true
+    → (not (x == 58) && lacks 58 xs) ≡ true)
     (λ e k. rw e (pieces_lack xs k))
     (λ _ k. let m = onto_lacks x (pieces 46 xs) k in rw m.0 (pieces_lack xs m.1))
     h
@@ -214,7 +223,7 @@ passes_shortened t s =
     let fronts = groups_parts s.front s.front_groups in
     let backs = mixed_parts s.back s.back_groups in
     let cut = single_then_double (joined 58 s.front) (joined 58 s.back) (single_joined s.front fronts) in
-    let few : nat_lt (units s.front + units s.back) 8 ≡ true = grind (arith, nat_tests, s.count) in
+    let few : nat_lt (group_count s.front + group_count s.back) 8 ≡ true = grind (arith, nat_tests, s.count) in
     let test : is_ipv6 (joined 58 s.front ++ (58 ∷ 58 ∷ joined 58 s.back)) ≡ true =
     rw (cut.1, cut.0, parts_joined s.front fronts, parts_joined s.back backs, s.front_groups, s.back_groups, few) refl in
     subst (λ z. is_ipv6 z ≡ true) (sym s.text) test
@@ -230,7 +239,8 @@ double_none (x ∷ xs) h =
 double_some : (t r : List ℕ) → behind_double t ≡ Some r → before_double t ++ (58 ∷ 58 ∷ r) ≡ t
 double_some [] r h = cc
 double_some (x ∷ xs) r h =
-    elim (x == 58 && begins 58 xs) as (λ b. (x == 58 && begins 58 xs) ≡ b → cond b (Some (tail xs)) (behind_double xs) ≡ Some r → cond b [] (x ∷ before_double xs) ++ (58 ∷ 58 ∷ r) ≡ x ∷ xs) [
+    elim (x == 58 && begins 58 xs) as (λ b. (x == 58 && begins 58 xs) ≡ b → cond b (Some (tail xs)) (behind_double xs) ≡ Some r
+    → cond b [] (x ∷ before_double xs) ++ (58 ∷ 58 ∷ r) ≡ x ∷ xs) [
       | true ↦ λ e k. two x xs e k
       | false ↦ λ _ k. ap (λ ys. x ∷ ys) (double_some xs r k)
     ] refl h
@@ -246,15 +256,21 @@ double_some (x ∷ xs) r h =
 
 tells : (t : List ℕ) (back : Option (List ℕ)) → behind_double t ≡ back → is_ipv6_around (before_double t) back ≡ true → IsIpv6 t
 tells t None e h =
-    let k = both (are_groups_or_ipv4 (parts_of (before_double t))) (units (parts_of (before_double t)) == 8) h in
+    let k = both (are_groups_or_ipv4 (group_texts (before_double t))) (group_count (group_texts (before_double t)) == 8) h in
     let same = double_none t e in
-    inl (record { parts = parts_of (before_double t); groups = k.0; text = sym (joined_parts (before_double t) ∙ same); count = grind (arith, nat_tests, k.1) })
+    inl (record {
+      parts = group_texts (before_double t);
+      groups = k.0;
+      text = sym (joined_parts (before_double t) ∙ same);
+      count = grind (arith, nat_tests, k.1);
+    })
 tells t (Some back) e h =
-    let one = both (are_groups (parts_of (before_double t)) && are_groups_or_ipv4 (parts_of back)) (nat_lt (units (parts_of (before_double t)) + units (parts_of back)) 8) h in
-    let two = both (are_groups (parts_of (before_double t))) (are_groups_or_ipv4 (parts_of back)) one.0 in
+    let one = both (are_groups (group_texts (before_double t)) && are_groups_or_ipv4 (group_texts back))
+    (nat_lt (group_count (group_texts (before_double t)) + group_count (group_texts back)) 8) h in
+    let two = both (are_groups (group_texts (before_double t))) (are_groups_or_ipv4 (group_texts back)) one.0 in
     inr (record {
-      front = parts_of (before_double t);
-      back = parts_of back;
+      front = group_texts (before_double t);
+      back = group_texts back;
       front_groups = two.0;
       back_groups = two.1;
       text = sym (rw (joined_parts (before_double t), joined_parts back) (double_some t back e));

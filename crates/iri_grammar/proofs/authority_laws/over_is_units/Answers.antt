@@ -1,6 +1,6 @@
-use Rattle.iri_grammar.specs.ClassLaws.{class_has_no_percent}
-use Rattle.iri_grammar.specs.OverLaws.{over-from_units, units-from_over}
-use Rattle.iri_grammar.proofs.host_laws.over_is_units.Goals as goal
+use Rattle.iri_grammar.proofs.ClassLaws.{class_has_no_percent}
+use Rattle.iri_grammar.proofs.OverLaws.{over-from_units, units-from_over}
+use Rattle.iri_grammar.proofs.authority_laws.over_is_units.Goals as goal
 
 pub returns : goal.returns
 returns g c = record {

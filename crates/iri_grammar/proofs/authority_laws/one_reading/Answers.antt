@@ -1,5 +1,5 @@
-use Rattle.iri_grammar.specs.AuthorityLaws.{one_reading, reading_is, authority_law, authority_recomposed}
-use Rattle.iri_grammar.proofs.host_laws.one_reading.Goals as goal
+use Rattle.iri_grammar.proofs.AuthorityLaws.{one_reading, reading_is, authority_law, authority_recomposed}
+use Rattle.iri_grammar.proofs.authority_laws.one_reading.Goals as goal
 
 pub returns : goal.returns
 returns g c = record {

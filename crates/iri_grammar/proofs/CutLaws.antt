@@ -1,5 +1,6 @@
--- Laws of cutting at a mark.
-use Rattle.std.proofs.Common.{◌≡◌, ℕ, ◌≢◌, Bool, true, false, cond, not, ◌&&◌, List, [], ◌∷◌, ◌++◌, Option, Some, None, refl, sym, ◌∙◌, ap, subst, arith}
+-- Laws of cutting at a delimiter.
+use Rattle.std.proofs.Common.{◌≡◌, ℕ, ◌≢◌, Bool, true, false, cond, not, ◌&&◌, List, [], ◌∷◌, ◌++◌, Option, Some, None, refl, sym, ◌∙◌, ap}
+use Rattle.std.proofs.Common.{subst, arith}
 use Rattle.std.specs.Prelude.{◌==◌}
 use Rattle.std.specs.List.{list_all}
 use Rattle.std.proofs.lemmas.Bool.Decides.{nat_tests}
@@ -21,36 +22,43 @@ both false b h = cc
 pub joined : (c : ℕ) (t : List ℕ) → before c t ++ marked c (behind c t) ≡ t
 joined c [] = refl
 joined c (x ∷ xs) =
-    by_test x c (λ b. cond b [] (x ∷ before c xs) ++ marked c (cond b (Some xs) (behind c xs)) ≡ x ∷ xs) (λ e. ap (λ n. n ∷ xs) (sym e)) (λ _. ap (λ ys. x ∷ ys) (joined c xs))
+    by_test x c (λ b. cond b [] (x ∷ before c xs) ++ marked c (cond b (Some xs) (behind c xs)) ≡ x ∷ xs) (λ e. ap (λ n. n ∷ xs) (sym e))
+    (λ _. ap (λ ys. x ∷ ys) (joined c xs))
 
 pub joined_from : (c : ℕ) (t : List ℕ) → before c t ++ from c t ≡ t
 joined_from c [] = refl
-joined_from c (x ∷ xs) = by_test x c (λ b. cond b [] (x ∷ before c xs) ++ cond b (x ∷ xs) (from c xs) ≡ x ∷ xs) (λ _. refl) (λ _. ap (λ ys. x ∷ ys) (joined_from c xs))
+joined_from c (x ∷ xs) = by_test x c (λ b. cond b [] (x ∷ before c xs) ++ cond b (x ∷ xs) (from c xs) ≡ x ∷ xs) (λ _. refl)
+    (λ _. ap (λ ys. x ∷ ys) (joined_from c xs))
 
 pub before-marked : (c : ℕ) (xs : List ℕ) (o : Option (List ℕ)) → lacks c xs ≡ true → before c (xs ++ marked c o) ≡ xs
 before-marked c [] None h = refl
 before-marked c [] (Some ys) h = by_test c c (λ b. cond b [] (c ∷ before c ys) ≡ []) (λ _. refl) (λ ne. absurd (ne refl))
 before-marked c (x ∷ xs) o h =
-    by_test x c (λ b. (not b && lacks c xs) ≡ true → cond b [] (x ∷ before c (xs ++ marked c o)) ≡ x ∷ xs) (λ _ k. cc) (λ _ k. ap (λ ys. x ∷ ys) (before-marked c xs o k)) h
+    by_test x c (λ b. (not b && lacks c xs) ≡ true → cond b [] (x ∷ before c (xs ++ marked c o)) ≡ x ∷ xs) (λ _ k. cc)
+    (λ _ k. ap (λ ys. x ∷ ys) (before-marked c xs o k)) h
 
 pub behind-marked : (c : ℕ) (xs : List ℕ) (o : Option (List ℕ)) → lacks c xs ≡ true → behind c (xs ++ marked c o) ≡ o
 behind-marked c [] None h = refl
 behind-marked c [] (Some ys) h = by_test c c (λ b. cond b (Some ys) (behind c ys) ≡ Some ys) (λ _. refl) (λ ne. absurd (ne refl))
 behind-marked c (x ∷ xs) o h =
-    by_test x c (λ b. (not b && lacks c xs) ≡ true → cond b (Some (xs ++ marked c o)) (behind c (xs ++ marked c o)) ≡ o) (λ _ k. cc) (λ _ k. behind-marked c xs o k) h
+    by_test x c (λ b. (not b && lacks c xs) ≡ true → cond b (Some (xs ++ marked c o)) (behind c (xs ++ marked c o)) ≡ o) (λ _ k. cc)
+    (λ _ k. behind-marked c xs o k) h
 
 -- before and from, where what follows is nothing or begins with c
 pub before-at : (c : ℕ) (xs ys : List ℕ) → lacks c xs ≡ true → before c ys ≡ [] → before c (xs ++ ys) ≡ xs
 before-at c [] ys h k = k
-before-at c (x ∷ xs) ys h k = by_test x c (λ b. (not b && lacks c xs) ≡ true → cond b [] (x ∷ before c (xs ++ ys)) ≡ x ∷ xs) (λ _ l. cc) (λ _ l. ap (λ zs. x ∷ zs) (before-at c xs ys l k)) h
+before-at c (x ∷ xs) ys h k = by_test x c (λ b. (not b && lacks c xs) ≡ true → cond b [] (x ∷ before c (xs ++ ys)) ≡ x ∷ xs) (λ _ l. cc)
+    (λ _ l. ap (λ zs. x ∷ zs) (before-at c xs ys l k)) h
 
 pub from-at : (c : ℕ) (xs ys : List ℕ) → lacks c xs ≡ true → from c ys ≡ ys → from c (xs ++ ys) ≡ ys
 from-at c [] ys h k = k
-from-at c (x ∷ xs) ys h k = by_test x c (λ b. (not b && lacks c xs) ≡ true → cond b (x ∷ (xs ++ ys)) (from c (xs ++ ys)) ≡ ys) (λ _ l. cc) (λ _ l. from-at c xs ys l k) h
+from-at c (x ∷ xs) ys h k = by_test x c (λ b. (not b && lacks c xs) ≡ true → cond b (x ∷ (xs ++ ys)) (from c (xs ++ ys)) ≡ ys) (λ _ l. cc)
+    (λ _ l. from-at c xs ys l k) h
 
 pub lacks-append : (c : ℕ) (xs ys : List ℕ) → lacks c xs ≡ true → lacks c ys ≡ true → lacks c (xs ++ ys) ≡ true
 lacks-append c [] ys h k = k
-lacks-append c (x ∷ xs) ys h k = by_test x c (λ b. (not b && lacks c xs) ≡ true → (not b && lacks c (xs ++ ys)) ≡ true) (λ _ l. l) (λ _ l. lacks-append c xs ys l k) h
+lacks-append c (x ∷ xs) ys h k = by_test x c (λ b. (not b && lacks c xs) ≡ true → (not b && lacks c (xs ++ ys)) ≡ true) (λ _ l. l)
+    (λ _ l. lacks-append c xs ys l k) h
 
 pub lacks-other : (c x : ℕ) (xs : List ℕ) → (x == c) ≡ false → lacks c xs ≡ true → lacks c (x ∷ xs) ≡ true
 lacks-other c x xs h k = subst (λ b. (not b && lacks c xs) ≡ true) (sym h) k

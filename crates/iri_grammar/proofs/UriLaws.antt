@@ -3,26 +3,30 @@ use Rattle.std.proofs.Common.{◌≡◌, ℕ, zero, suc, Bool, true, false, cond
 use Rattle.std.specs.Prelude.{◌==◌}
 use Rattle.std.specs.Char.{is_ascii_hexdigit}
 use Rattle.std.specs.Str.{chars, is_utf8}
-use Rattle.iri_grammar.specs.Classes.{Tests, uri_tests, userinfo_char, reg_name_char, pchar, path_char, query_char, fragment_char, is_ascii_userinfo, is_ascii_reg_name, is_ascii_pchar, is_ascii_path, is_ascii_query}
+use Rattle.iri_grammar.specs.Classes.{Tests, uri_tests, userinfo_char, reg_name_char, pchar, path_char, query_char, fragment_char}
+use Rattle.iri_grammar.specs.Classes.{is_ascii_userinfo, is_ascii_reg_name, is_ascii_pchar, is_ascii_path, is_ascii_query}
 use Rattle.iri_grammar.specs.Over.{over_from, over, text_over}
 use Rattle.iri_grammar.specs.Components.{if_there, is_userinfo, is_path, is_path_segment, is_query, is_fragment}
 use Rattle.iri_grammar.specs.IpLiteral.{is_ip_literal}
 use Rattle.iri_grammar.specs.Host.{is_host, is_reg_name}
 use Rattle.iri_grammar.specs.Authority.{authority_parts, is_authority}
-use Rattle.iri_grammar.specs.CutLaws.{both}
+use Rattle.iri_grammar.proofs.CutLaws.{both}
 use Rattle.iri_grammar.specs.Parts.{Parts, Fits, Splits, IsReference, IsIri, IsAbsolute, IsRelative}
 
 -- ---- texts over a larger class
-over_from-weaken : (p q : ℕ → Bool) → ((c : ℕ) → p c ≡ true → q c ≡ true) → (due : ℕ) (cs : List ℕ) → over_from p due cs ≡ true → over_from q due cs ≡ true
+over_from-weaken : (p q : ℕ → Bool) → ((c : ℕ) → p c ≡ true → q c ≡ true) → (due : ℕ) (cs : List ℕ) → over_from p due cs ≡ true
+    → over_from q due cs ≡ true
 unfolding over_from
 over_from-weaken p q w zero [] h = refl
 over_from-weaken p q w (suc due) [] h = cc
 over_from-weaken p q w zero (c ∷ cs) h =
-    elim (c == 37) as (λ b. cond b (over_from p 2 cs) (p c && over_from p 0 cs) ≡ true → cond b (over_from q 2 cs) (q c && over_from q 0 cs) ≡ true) [
+    elim (c == 37) as (λ b. cond b (over_from p 2 cs) (p c && over_from p 0 cs) ≡ true
+    → cond b (over_from q 2 cs) (q c && over_from q 0 cs) ≡ true) [
       | true ↦ λ k. over_from-weaken p q w 2 cs k
       | false ↦ λ k. let m = both (p c) (over_from p 0 cs) k in rw (w c m.0) (over_from-weaken p q w 0 cs m.1)
     ] h
-over_from-weaken p q w (suc due) (c ∷ cs) h = let m = both (is_ascii_hexdigit c) (over_from p due cs) h in rw m.0 (over_from-weaken p q w due cs m.1)
+over_from-weaken p q w (suc due) (c ∷ cs) h = let m = both (is_ascii_hexdigit c) (over_from p due cs) h in
+    rw m.0 (over_from-weaken p q w due cs m.1)
 
 pub text_over-weaken : (p q : ℕ → Bool) → ((c : ℕ) → p c ≡ true → q c ≡ true) → (x : List ℕ) → text_over p x ≡ true → text_over q x ≡ true
 text_over-weaken p q w x h = let m = both (is_utf8 x) (over p (chars x)) h in rw m.0 (over_from-weaken p q w 0 (chars x) m.1)
@@ -63,9 +67,11 @@ fragment-wider s x h = text_over-weaken (fragment_char uri_tests) (fragment_char
 
 pub host-wider : (s : Tests) (x : List ℕ) → is_host uri_tests x ≡ true → is_host s x ≡ true
 host-wider s x h =
-    elim (is_ip_literal x) as (λ b. (b || is_reg_name uri_tests x) ≡ true → (b || is_reg_name s x) ≡ true) [ true ↦ λ _. refl | false ↦ λ k. reg_name-wider s x k ] h
+    elim (is_ip_literal x) as (λ b. (b || is_reg_name uri_tests x) ≡ true
+    → (b || is_reg_name s x) ≡ true) [ true ↦ λ _. refl | false ↦ λ k. reg_name-wider s x k ] h
 
-there-wider : (f g : List ℕ → Bool) → ((x : List ℕ) → f x ≡ true → g x ≡ true) → (o : Option (List ℕ)) → if_there f o ≡ true → if_there g o ≡ true
+there-wider : (f g : List ℕ → Bool) → ((x : List ℕ) → f x ≡ true → g x ≡ true) → (o : Option (List ℕ)) → if_there f o ≡ true
+    → if_there g o ≡ true
 there-wider f g w None h = refl
 there-wider f g w (Some x) h = w x h
 

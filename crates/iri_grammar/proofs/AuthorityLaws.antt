@@ -1,19 +1,22 @@
 -- An authority has one reading.
-use Rattle.std.proofs.Common.{◌≡◌, ◌↔◌, ℕ, true, false, cond, not, ◌&&◌, ◌||◌, List, [], ◌∷◌, ◌++◌, Option, Some, None, refl, sym, ◌∙◌, ap, subst, arith, append_assoc}
+use Rattle.std.proofs.Common.{◌≡◌, ◌↔◌, ℕ, true, false, cond, not, ◌&&◌, ◌||◌, List, [], ◌∷◌, ◌++◌, Option, Some, None, refl, sym, ◌∙◌, ap}
+use Rattle.std.proofs.Common.{subst, arith, append_assoc}
 use Rattle.std.specs.Prelude.{◌==◌}
 use Rattle.std.specs.Char.{is_ascii_digit}
 use Rattle.std.proofs.Math.Bool.{and-false}
-use Rattle.iri_grammar.specs.Classes.{Tests, IsSpec, userinfo_char, reg_name_char, is_ascii_userinfo, is_ascii_reg_name, is_ascii_unreserved, is_sub_delim}
+use Rattle.iri_grammar.specs.Classes.{Tests, IsSpec, userinfo_char, reg_name_char, is_ascii_userinfo, is_ascii_reg_name}
+use Rattle.iri_grammar.specs.Classes.{is_ascii_unreserved, is_sub_delim}
 use Rattle.iri_grammar.specs.Cut.{before, behind, lacks, marked}
-use Rattle.iri_grammar.specs.CutLaws.{both, joined, before-marked, behind-marked, lacks-append, lacks-other, all-lacks}
+use Rattle.iri_grammar.proofs.CutLaws.{both, joined, before-marked, behind-marked, lacks-append, lacks-other, all-lacks}
 use Rattle.iri_grammar.specs.Components.{is_userinfo, is_port, if_there}
 use Rattle.iri_grammar.specs.IpLiteral.{is_end, is_ip_literal}
 use Rattle.iri_grammar.specs.Ipv6Test.{is_ipv6}
 use Rattle.iri_grammar.specs.IpLiteral.{is_ipvfuture}
 use Rattle.iri_grammar.specs.Host.{is_host, is_reg_name}
-use Rattle.iri_grammar.specs.Authority.{AuthorityParts, ReadsAuthority, recompose_authority, userinfo_text, authority_parts, userinfo_of, after_userinfo, host_of, port_of, is_authority}
-use Rattle.iri_grammar.specs.AuthorityTexts.{over_text-lacks, whole, port-digits}
-use Rattle.iri_grammar.specs.LiteralChars.{is_literal_char, ip_literal-chars}
+use Rattle.iri_grammar.specs.Authority.{AuthorityParts, ReadsAuthority, recompose_authority, userinfo_text, authority_parts, userinfo_of}
+use Rattle.iri_grammar.specs.Authority.{after_userinfo, host_of, port_of, is_authority}
+use Rattle.iri_grammar.proofs.AuthorityTexts.{over_text-lacks, whole, port-digits}
+use Rattle.iri_grammar.proofs.LiteralChars.{is_literal_char, ip_literal-chars}
 
 -- ---- the host has no `@`, and no colon with only digits behind it
 at_apart : (s : Tests) → IsSpec s → (userinfo_char s 64 ≡ false) × (reg_name_char s 64 ≡ false) × (reg_name_char s 58 ≡ false)
@@ -33,7 +36,10 @@ host_no_at s k h t =
 
 not_digits : (b : List ℕ) (c : ℕ) (r : List ℕ) → is_ascii_digit c ≡ false → is_port (b ++ c ∷ r) ≡ false
 not_digits [] c r h = rw h refl
-not_digits (x ∷ b) c r h = elim (is_ascii_digit x) as (λ d. (d && is_port (b ++ c ∷ r)) ≡ false) [ true ↦ not_digits b c r h | false ↦ refl ]
+not_digits (x ∷ b) c r h = elim (is_ascii_digit x) as (λ d. (d && is_port (b ++ c ∷ r)) ≡ false) [
+  | true ↦ not_digits b c r h
+  | false ↦ refl
+]
 
 -- a text that ends with a bracket
 bracket_end : (b : List ℕ) → (host_of (b ++ 93 ∷ []) ≡ b ++ 93 ∷ []) × (port_of (b ++ 93 ∷ []) ≡ None)
@@ -46,7 +52,8 @@ bracket_end (x ∷ b) =
 no_colon : (h : List ℕ) → lacks 58 h ≡ true → (host_of h ≡ h) × (port_of h ≡ None)
 no_colon [] t = (refl, refl)
 no_colon (x ∷ xs) t =
-    elim (x == 58) as (λ b. (not b && lacks 58 xs) ≡ true → (cond (b && is_port xs) [] (x ∷ host_of xs) ≡ x ∷ xs) × (cond (b && is_port xs) (Some xs) (port_of xs) ≡ None)) [
+    elim (x == 58) as (λ b. (not b && lacks 58 xs) ≡ true
+    → (cond (b && is_port xs) [] (x ∷ host_of xs) ≡ x ∷ xs) × (cond (b && is_port xs) (Some xs) (port_of xs) ≡ None)) [
       | true ↦ λ k. cc
       | false ↦ λ k. let r = no_colon xs k in (ap (λ ys. x ∷ ys) r.0, r.1)
     ] t
@@ -81,7 +88,8 @@ nothing_behind : (h : List ℕ) → h ++ [] ≡ h
 nothing_behind [] = refl
 nothing_behind (x ∷ xs) = ap (λ ys. x ∷ ys) (nothing_behind xs)
 
-host_port : (s : Tests) → IsSpec s → (h : List ℕ) (p : Option (List ℕ)) → is_host s h ≡ true → if_there is_port p ≡ true → (host_of (h ++ marked 58 p) ≡ h) × (port_of (h ++ marked 58 p) ≡ p)
+host_port : (s : Tests) → IsSpec s → (h : List ℕ) (p : Option (List ℕ)) → is_host s h ≡ true → if_there is_port p ≡ true
+    → (host_of (h ++ marked 58 p) ≡ h) × (port_of (h ++ marked 58 p) ≡ p)
 host_port s k h None t d = subst (λ z. (host_of z ≡ h) × (port_of z ≡ None)) (sym (nothing_behind h)) (host_alone s k h t)
 host_port s k h (Some p) t d = host_then_port h p d
 
@@ -93,7 +101,8 @@ port_no_at (Some p) d = lacks-other 64 58 p refl (all-lacks is_ascii_digit 64 p 
 no_userinfo : (t : List ℕ) → lacks 64 t ≡ true → behind 64 t ≡ None
 no_userinfo t l = sym (ap (behind 64) (nothing_behind t)) ∙ behind-marked 64 t None l
 
-read_back : (s : Tests) → IsSpec s → (u : Option (List ℕ)) (h : List ℕ) (p : Option (List ℕ)) → if_there (is_userinfo s) u ≡ true → is_host s h ≡ true → if_there is_port p ≡ true
+read_back : (s : Tests) → IsSpec s → (u : Option (List ℕ)) (h : List ℕ) (p : Option (List ℕ)) → if_there (is_userinfo s) u ≡ true
+    → is_host s h ≡ true → if_there is_port p ≡ true
     → authority_parts (userinfo_text u ++ (h ++ marked 58 p)) ≡ record { userinfo = u; host = h; port = p }
 unfolding authority_parts
 read_back s k None h p f t d =

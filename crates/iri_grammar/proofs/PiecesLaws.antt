@@ -1,24 +1,21 @@
--- Pieces and the first mark.
-use Rattle.std.proofs.Common.{◌≡◌, ℕ, ◌+◌, ◌≤◌, true, false, cond, List, [], ◌∷◌, Option, Some, None, length, refl, ap, arith}
+-- Pieces and the first delimiter.
+use Rattle.std.proofs.Common.{◌≡◌, ℕ, ◌+◌, ◌≤◌, true, false, cond, List, [], ◌∷◌, Some, length, refl, ap, arith}
 use Rattle.std.specs.Prelude.{◌==◌}
 use Rattle.iri_grammar.specs.Cut.{before, behind}
 use Rattle.iri_grammar.specs.Pieces.{onto, pieces}
+use Rattle.iri_grammar.specs.inside.PiecesLaws.{more_pieces}
 
--- the pieces of what may follow
-abbrev pub more_pieces : ℕ → Option (List ℕ) → List (List ℕ)
-more_pieces c None = []
-more_pieces c (Some r) = pieces c r
-
--- the first piece stands before the first mark
+-- the first piece stands before the first delimiter
 pub pieces_cut : (c : ℕ) (t : List ℕ) → pieces c t ≡ before c t ∷ more_pieces c (behind c t)
 pieces_cut c [] = refl
 pieces_cut c (x ∷ xs) =
-    elim (x == c) as (λ b. cond b ([] ∷ pieces c xs) (onto x (pieces c xs)) ≡ cond b [] (x ∷ before c xs) ∷ more_pieces c (cond b (Some xs) (behind c xs))) [
+    elim (x == c) as (λ b. cond b ([] ∷ pieces c xs) (onto x (pieces c xs))
+    ≡ cond b [] (x ∷ before c xs) ∷ more_pieces c (cond b (Some xs) (behind c xs))) [
       | true ↦ refl
       | false ↦ ap (onto x) (pieces_cut c xs)
     ]
 
--- what follows a mark is shorter
+-- what follows a delimiter is shorter
 pub behind_shorter : (c : ℕ) (t r : List ℕ) → behind c t ≡ Some r → length r + 1 ≤ length t
 behind_shorter c [] r e = cc
 behind_shorter c (x ∷ xs) r e =

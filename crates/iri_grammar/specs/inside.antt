@@ -1,0 +1,7 @@
+-- What private contracts cite, and laws that an `impl` cites.
+pub mod Ipv6Counts
+pub mod LastColon
+pub mod Laws
+pub mod Marks
+pub mod PiecesLaws
+pub mod Runs

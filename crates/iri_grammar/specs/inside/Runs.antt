@@ -1,0 +1,25 @@
+-- What a scan of a text over a class takes at a time: a run of ASCII characters of the class, or one unit.
+use Rattle.std.specs.Prelude.{◌≡◌, ℕ, ◌<◌, Bool, false, ◌&&◌, ◌==◌, List, [], ◌∷◌, length}
+use Rattle.std.specs.Char.{is_ascii_hexdigit}
+use Rattle.std.specs.Str.{chars, IsUtf8}
+use Rattle.iri_grammar.specs.Cut.{tail}
+use Rattle.iri_grammar.specs.Over.{over}
+
+-- the first byte is a hex digit
+abbrev pub begins_with_digit : List ℕ → Bool
+begins_with_digit [] = false
+begins_with_digit (a ∷ cs) = is_ascii_hexdigit a
+
+abbrev pub begins_with_triplet : List ℕ → Bool
+begins_with_triplet [] = false
+begins_with_triplet (x ∷ xs) = x == 37 && (begins_with_digit xs && begins_with_digit (tail xs))
+
+-- the text r follows the first unit of t
+pub record IsPast (p : ℕ → Bool) (t r : List ℕ) : Type 0 where
+  pub text : IsUtf8 r
+  pub same : over p (chars r) ≡ over p (chars t)
+  pub shorter : length r < length t
+
+-- no unit stands at the start of t
+abbrev pub HasNoUnit : (ℕ → Bool) → List ℕ → Type 0
+HasNoUnit p t = over p (chars t) ≡ (length t == 0)
