@@ -18,7 +18,8 @@ module _ (old new : List ℕ) (start end : ℕ) (fits : start + length new ≤ e
   -- what stands before and in the part
   front : take (start + length new) one ≡ take start old ++ new
   unfolding one
-  front = take-paste old start new (length new) (omega arith) (omega arith) ∙ ap (λ z. take start old ++ z) (take_all (length new) new (omega arith))
+  front = take-paste old start new (length new) (omega arith) (omega arith)
+      ∙ ap (λ z. take start old ++ z) (take_all (length new) new (omega arith))
 
   -- what stands behind the part
   rest : drop end one ≡ drop end old
@@ -27,9 +28,11 @@ module _ (old new : List ℕ) (start end : ℕ) (fits : start + length new ≤ e
       let at = start + length new in
       let e : at + (end - at) ≡ end = omega arith in
       subst (λ n. drop n one ≡ drop n old) e
-      (sym (drop-drop (end - at) at one) ∙ (ap (drop (end - at)) (drop-paste old start new (length new) (omega arith) (omega arith)) ∙ drop-drop (end - at) at old))
+      (sym (drop-drop (end - at) at one) ∙ (ap (drop (end - at)) (drop-paste old start new (length new) (omega arith) (omega arith))
+      ∙ drop-drop (end - at) at old))
 
-  pub overwritten : take (start + length new + (length old - end)) (paste one (start + length new) (drop end one) (length old - end)) ≡ spliced old start end new
+  pub overwritten : take (start + length new + (length old - end)) (paste one (start + length new) (drop end one) (length old - end))
+      ≡ spliced old start end new
   overwritten =
       let n = length old - end in
       let tail : length (drop end one) ≡ n = length-drop end one ∙ ap (λ k. k - end) length-one in
@@ -38,12 +41,16 @@ module _ (old new : List ℕ) (start end : ℕ) (fits : start + length new ≤ e
       ∙ (ap (λ z. take (start + length new) one ++ z) (take_all n (drop end one) (omega arith) ∙ rest)
       ∙ (ap (λ z. z ++ drop end old) front ∙ append_assoc (take start old) new (drop end old)))
 
-pub spliced-utf8 : (old new : List ℕ) (start end : ℕ) → IsUtf8 old → IsUtf8 new → IsCharBoundary old start → IsCharBoundary old end → IsUtf8 (spliced old start end new)
-spliced-utf8 old new start end u v low high = IsUtf8-append (take start old) _ (IsUtf8-take old start u low) (IsUtf8-append new (drop end old) v (IsUtf8-drop old end u high))
+pub spliced-utf8 : (old new : List ℕ) (start end : ℕ) → IsUtf8 old → IsUtf8 new → IsCharBoundary old start → IsCharBoundary old end
+    → IsUtf8 (spliced old start end new)
+spliced-utf8 old new start end u v low high = IsUtf8-append (take start old) _ (IsUtf8-take old start u low)
+    (IsUtf8-append new (drop end old) v (IsUtf8-drop old end u high))
 
 -- the same in steps: bytes written, the rest moved up, and the end cut off
-pub overwritten-by : (old new w x y : List ℕ) (start end n m : ℕ) → start + length new ≤ end → end ≤ length old → n ≡ length old → m ≡ length old
-    → w ≡ paste old start new (length new) → x ≡ paste w (start + length new) (drop end w) (n - end) → y ≡ take (start + length new + (m - end)) x
+pub overwritten-by : (old new w x y : List ℕ) (start end n m : ℕ) → start + length new ≤ end → end ≤ length old → n ≡ length old
+    → m ≡ length old
+    → w ≡ paste old start new (length new) → x ≡ paste w (start + length new) (drop end w) (n - end)
+    → y ≡ take (start + length new + (m - end)) x
     → y ≡ spliced old start end new
 unfolding one
 overwritten-by old new w x y start end n m fits inside en em ew ex ey =

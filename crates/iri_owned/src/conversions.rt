@@ -6,6 +6,7 @@ ghost use Rattle.iri_grammar.specs.Split.{split_of};
 ghost use Rattle.iri_grammar.specs.WholeFault.{absolute_fault};
 ghost use Rattle.iri_types.specs.Texts.{text_of};
 ghost use Rattle.iri_owned.specs.OwnedText.{text_within};
+ghost use Rattle.iri_grammar.specs.Characters.{number_sign};
 
 use crate::error::CreationError;
 use crate::owned::{
@@ -21,7 +22,8 @@ impl<S: Spec> Owned<S, Reference> {
     /// The text as an IRI, exactly where a scheme stands; otherwise the same text as a relative reference.
     pub fn into_iri(self) -> Result<RiString<S>, RiRelativeString<S>>
         ensures text { MatchResult result (λ iri. iri ≡ self) (λ relative. relative ≡ self) }
-        ensures scheme { MatchResult result (λ _. IsSome (split_of self.text).scheme) (λ _. IsNone (split_of self.text).scheme) }
+        ensures scheme { MatchResult result (λ _. IsSome (split_of self.text).scheme)
+            (λ _. IsNone (split_of self.text).scheme) }
     {
         match self.as_slice().scheme_str() {
             Some(_) => Ok(Owned::from_valid(self.into_string())),
@@ -32,7 +34,8 @@ impl<S: Spec> Owned<S, Reference> {
     /// The text as a relative reference, exactly where no scheme stands; otherwise the same text as an IRI.
     pub fn into_relative_iri(self) -> Result<RiRelativeString<S>, RiString<S>>
         ensures text { MatchResult result (λ relative. relative ≡ self) (λ iri. iri ≡ self) }
-        ensures scheme { MatchResult result (λ _. IsNone (split_of self.text).scheme) (λ _. IsSome (split_of self.text).scheme) }
+        ensures scheme { MatchResult result (λ _. IsNone (split_of self.text).scheme)
+            (λ _. IsSome (split_of self.text).scheme) }
     {
         match self.into_iri() {
             Ok(iri) => Err(iri),
@@ -43,7 +46,7 @@ impl<S: Spec> Owned<S, Reference> {
 
 // The text before the number sign, or all. It takes no memory.
 fn cut_at_fragment(text: String) -> String
-    ensures text { string_bytes result ≡ before 35 (string_bytes text) }
+    ensures text { string_bytes result ≡ before number_sign (string_bytes text) }
     ensures capacity { string_capacity result ≡ string_capacity text }
 {
     let mut text = text;
@@ -58,7 +61,8 @@ fn copy_of<S: Spec>(
     alloc: Global,
     fragment: Option<RiFragmentStr<'_, S>>,
 ) -> Result<Option<RiFragmentString<S>>, AllocError>
-    ensures { MatchResult result (λ copy. text_within copy ≡ text_of fragment.entry) (λ _. IsSome (text_of fragment.entry)) }
+    ensures { MatchResult result (λ copy. text_within copy ≡ text_of fragment.entry)
+        (λ _. IsSome (text_of fragment.entry)) }
 {
     match fragment {
         Some(fragment) => match Owned::from_view(alloc, fragment) {
@@ -72,20 +76,23 @@ fn copy_of<S: Spec>(
 impl<S: Spec> Owned<S, Iri> {
     /// The text before the number sign, or all where none stands. It takes no memory.
     pub fn into_absolute(self) -> RiAbsoluteString<S>
-        ensures text { result.text ≡ before 35 self.text }
+        ensures text { result.text ≡ before number_sign self.text }
         ensures capacity { result.capacity ≡ self.capacity }
     {
         Owned::from_valid(cut_at_fragment(self.into_string()))
     }
 
-    /// The text before the number sign, or all, and the fragment, where one stands. For want of memory, which
+    /// The text before the number sign, or all, and the fragment, where one stands. For allocation failure, which
     /// comes only where a fragment stands, the text is handed back.
     pub fn into_absolute_and_fragment(
         self,
         alloc: Global,
     ) -> Result<(RiAbsoluteString<S>, Option<RiFragmentString<S>>), RiString<S>>
-        ensures cut { MatchResult result (λ r. (r.0.text ≡ before 35 self.text) × (text_within r.1 ≡ (split_of self.text).fragment)) (λ iri. (iri ≡ self) × IsSome (split_of self.text).fragment) }
-        ensures joined { MatchResult result (λ r. r.0.text ++ marked 35 (text_within r.1) ≡ self.text) (λ _. Unit {0}) }
+        ensures cut { MatchResult result (λ r. (r.0.text ≡ before number_sign self.text)
+            × (text_within r.1 ≡ (split_of self.text).fragment))
+            (λ iri. (iri ≡ self) × IsSome (split_of self.text).fragment) }
+        ensures joined { MatchResult result (λ r. r.0.text ++ marked number_sign (text_within r.1) ≡ self.text)
+            (λ _. Unit {0}) }
         ensures capacity { MatchResult result (λ r. r.0.capacity ≡ self.capacity) (λ _. Unit {0}) }
     {
         match copy_of(alloc, self.as_slice().fragment()) {
@@ -105,7 +112,8 @@ impl<S: Spec> Owned<S, Absolute> {
 
     /// The text of an IRI, where it is absolute: otherwise its first fault, with the IRI handed back.
     pub fn try_from_iri(s: RiString<S>) -> Result<Self, CreationError<RiString<S>>>
-        ensures { MatchResult result (λ t. t ≡ s) (λ e. (e.source ≡ s) × (absolute_fault S.tests s.text ≡ Some e.error.kind)) }
+        ensures { MatchResult result (λ t. t ≡ s)
+            (λ e. (e.source ≡ s) × (absolute_fault S.tests s.text ≡ Some e.error.kind)) }
     {
         downcast(s)
     }

@@ -1,19 +1,19 @@
 //! Why no owned text was made.
 ghost use Rattle.std.specs.Prelude.{◌≡◌, ◌++◌, Some, codes};
-ghost use Rattle.iri_grammar.specs.Kinds.{description};
+ghost use Rattle.iri_grammar.specs.ErrorTexts.{description};
 
 use iri_grammar::error::Error;
 use std::alloc::AllocError;
 use std::fmt;
 use thiserror::Error;
 
-/// Why no owned text was made of a lent one.
+/// Why no owned text was made of a borrowed one.
 #[derive(Debug, Drop, Error)]
 pub enum CreateError {
     /// The text isn't in its production.
     #[error(transparent)]
     Invalid(Error),
-    /// Memory was refused.
+    /// Allocation failed.
     #[error(transparent)]
     Memory(AllocError),
 }

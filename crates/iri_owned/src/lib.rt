@@ -8,8 +8,8 @@
 //! `error` what refused texts answer.
 //!
 //! Proved: an owned text is in its production; texts outside it are refused with their first fault, and
-//! handed back by the calls that took a string or another kind. After want of memory a text and its capacity
-//! are as they were, or are handed back. `splice` can't want memory where what comes out is no longer than the
+//! handed back by the calls that took a string or another kind. After allocation failure a text and its capacity
+//! are as they were, or are handed back. `splice` can't need memory where what comes out is no longer than the
 //! capacity, nor where the new text is no longer than the range; it never lowers the capacity. What becomes a
 //! text of another kind or a string keeps its capacity. `shrink_to_fit` never fails and never raises the
 //! capacity, and leaves none where the text is empty. Equality, order and hash are those of the text, and so is
@@ -22,7 +22,7 @@
 //! memory.
 #![tactic(auto)]
 
-pub mod compared;
+pub mod comparison;
 pub mod conversions;
 pub mod error;
 pub mod owned;

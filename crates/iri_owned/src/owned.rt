@@ -61,7 +61,8 @@ impl<S: Spec, K: Kind> Owned<S, K> {
     /// The text of a string, where it is in its production: otherwise its first fault, with the string handed
     /// back. It takes no memory.
     pub fn try_from_string(s: String) -> Result<Self, CreationError<String>>
-        ensures { MatchResult result (λ t. t ≡ owned_text s) (λ e. (e.source ≡ s) × (K.fault S.tests (string_bytes s) ≡ Some e.error.kind)) }
+        ensures { MatchResult result (λ t. t ≡ owned_text s)
+            (λ e. (e.source ≡ s) × (K.fault S.tests (string_bytes s) ≡ Some e.error.kind)) }
     {
         match K::validate::<S>(s.as_str()) {
             Ok(()) => Ok(Owned {
@@ -146,8 +147,8 @@ impl<S: Spec, K: Kind> Owned<S, K> {
         Ok(())
     }
 
-    /// Makes room for this many bytes more than the text has. Edits that fit within the capacity then never want memory.
-    /// After want of memory the text and its capacity are as they were; it comes only where the room isn't there yet.
+    /// Makes room for this many bytes more than the text has. Edits that fit within the capacity then never need memory.
+    /// After allocation failure the text and its capacity are as they were; it comes only where the room isn't there yet.
     pub fn try_reserve(&mut self, additional: usize) -> Result<(), AllocError>
         ensures text { self.new.text ≡ self.old.text }
         ensures room { OnOk result (length self.old.text + additional ≤ self.new.capacity) }

@@ -83,7 +83,7 @@ fn widen(bytes: &mut Vec<u8>, start: usize, end: usize, new: &[u8])
     }
 }
 
-// Puts a text in the place of the range, which is no longer. Want of memory comes only where what comes out
+// Puts a text in the place of the range, which is no longer. Allocation failure comes only where what comes out
 // is longer than the capacity; then all stays as it was.
 fn replace_past(text: &mut String, start: usize, end: usize, new: &str) -> Result<(), AllocError>
     requires ordered { start ≤ end }
@@ -92,7 +92,8 @@ fn replace_past(text: &mut String, start: usize, end: usize, new: &str) -> Resul
     requires high { IsCharBoundary (string_bytes text.old) end }
     ensures ok { OnOk result (string_bytes text.new ≡ spliced (string_bytes text.old) start end new.now) }
     ensures err { OnErr result (owned_text text.new ≡ owned_text text.old) }
-    ensures full { OnErr result (string_capacity text.old < length (spliced (string_bytes text.old) start end new.now)) }
+    ensures full { OnErr result (string_capacity text.old
+        < length (spliced (string_bytes text.old) start end new.now)) }
     ensures capacity { string_capacity text.old ≤ string_capacity text.new }
 {
     text.try_reserve(new.len() - (end - start))?;
@@ -105,7 +106,7 @@ fn replace_past(text: &mut String, start: usize, end: usize, new: &str) -> Resul
 
 impl<S: Spec, K: Kind> Owned<S, K> {
     /// Puts a text in the place of a range in bytes. The range must lie in the text on character boundaries,
-    /// and what comes out must be in the production. Want of memory comes only where what comes out is longer
+    /// and what comes out must be in the production. Allocation failure comes only where what comes out is longer
     /// than the capacity, so never where the new text is no longer than the range; the text and its capacity
     /// are then as they were.
     pub fn splice(&mut self, range: Range<usize>, new: &str) -> Result<(), AllocError>

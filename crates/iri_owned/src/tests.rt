@@ -70,7 +70,7 @@ fn copies(rt: HostRuntime) -> Result<(), Fail> {
     Ok(())
 }
 
-// The text before the fragment, and the fragment. Where memory is refused, the text is handed back.
+// The text before the fragment, and the fragment. Where allocation fails, the text is handed back.
 fn cut(
     alloc: Global,
     iri: UriString,

@@ -28,6 +28,7 @@ names_of_digits = (refl, refl, refl)
 cut_at_the_fragment :
     (before 35 (codes "foo://example.com:8042/over/there?name=ferret#nose") ≡ codes "foo://example.com:8042/over/there?name=ferret")
     × ((split_of (codes "foo://example.com:8042/over/there?name=ferret#nose")).fragment ≡ Some (codes "nose"))
-    × (before 35 (codes "foo://example.com:8042/over/there?name=ferret#nose") ++ marked 35 (Some (codes "nose")) ≡ codes "foo://example.com:8042/over/there?name=ferret#nose")
+    × (before 35 (codes "foo://example.com:8042/over/there?name=ferret#nose") ++ marked 35 (Some (codes "nose"))
+    ≡ codes "foo://example.com:8042/over/there?name=ferret#nose")
 unfolding split_of is_letter is_scheme_char
 cut_at_the_fragment = (refl, refl, refl)

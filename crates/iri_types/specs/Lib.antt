@@ -1,10 +1,8 @@
-pub mod KindLaws
 pub mod Allowed
-pub mod AllowedLaws
 pub mod Texts
 pub mod Prefixed
-pub mod KindTexts
 pub mod Components
 pub mod ComponentsText
 pub mod SplitText
 pub mod Examples
+pub mod inside

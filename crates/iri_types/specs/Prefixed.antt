@@ -1,7 +1,7 @@
--- A part with the mark before it that parts it from what stands in front.
+-- A part with the delimiter before it that parts it from what stands in front.
 use Rattle.std.specs.Prelude.{◌≡◌, ℕ, List, ◌++◌, Option, None}
 use Rattle.iri_grammar.specs.declared.error.ErrorKind.{ErrorKind}
 
--- the text isn't the mark and a text without fault behind it
+-- the text isn't the delimiter and a text without fault behind it
 abbrev pub IsUnmarked : List ℕ → (List ℕ → Option ErrorKind) → List ℕ → Type 0
 IsUnmarked mark fault t = (x : List ℕ) → t ≡ mark ++ x → fault x ≡ None → ⊥

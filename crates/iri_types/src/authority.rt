@@ -4,7 +4,7 @@ ghost use Rattle.std.proofs.Props.{props};
 ghost use Rattle.iri_grammar.specs.Authority.{authority_parts, is_authority};
 ghost use Rattle.iri_grammar.specs.Spans.{span_parts};
 ghost use Rattle.iri_grammar.specs.Split.{split_of};
-ghost use Rattle.iri_grammar.specs.Views.{now_of};
+ghost use Rattle.iri_grammar.specs.OptionalSlices.{now_of};
 ghost use Rattle.iri_types.specs.Components.{is_named, reg_name_of};
 
 use crate::view::RiReferenceStr;
@@ -81,7 +81,8 @@ impl<'a> AuthorityComponents<'a> {
 
     /// The components of a reference's authority; none exactly where no authority stands.
     pub fn from_iri<S: Spec>(iri: RiReferenceStr<'a, S>) -> Option<Self>
-        ensures { MatchOption result ((split_of (text iri.entry)).authority ≡ None) (λ a. (split_of (text iri.entry)).authority ≡ Some (authority a)) }
+        ensures { MatchOption result ((split_of (text iri.entry)).authority ≡ None)
+            (λ a. (split_of (text iri.entry)).authority ≡ Some (authority a)) }
     {
         match iri.parts().authority() {
             Some(text) => Some(AuthorityComponents::of::<S>(text)),

@@ -5,6 +5,7 @@ ghost use Rattle.iri_grammar.specs.Fault.{query_fault, fragment_fault};
 ghost use Rattle.iri_grammar.specs.Split.{split_of};
 ghost use Rattle.iri_types.specs.Prefixed.{IsUnmarked};
 ghost use Rattle.iri_types.specs.Texts.{text, text_of};
+ghost use Rattle.iri_grammar.specs.Characters.{number_sign};
 
 use crate::kind::{Absolute, Fragment, Iri, Kind, Query, Reference};
 use crate::view::{RiAbsoluteStr, RiFragmentStr, RiRelativeStr, RiStr, View};
@@ -15,8 +16,10 @@ use iri_grammar::spec::{IriSpec, Spec, UriSpec};
 impl<'a, S: Spec> View<'a, S, Reference> {
     /// The text as an IRI, exactly where a scheme stands; otherwise the same text as a relative reference.
     pub fn to_iri(self) -> Result<RiStr<'a, S>, RiRelativeStr<'a, S>>
-        ensures text { MatchResult result (λ iri. text iri ≡ text self.entry) (λ relative. text relative ≡ text self.entry) }
-        ensures scheme { MatchResult result (λ _. IsSome (split_of (text self.entry)).scheme) (λ _. IsNone (split_of (text self.entry)).scheme) }
+        ensures text { MatchResult result (λ iri. text iri ≡ text self.entry)
+            (λ relative. text relative ≡ text self.entry) }
+        ensures scheme { MatchResult result (λ _. IsSome (split_of (text self.entry)).scheme)
+            (λ _. IsNone (split_of (text self.entry)).scheme) }
     {
         let text = self.as_str();
         match self.scheme_str() {
@@ -27,8 +30,10 @@ impl<'a, S: Spec> View<'a, S, Reference> {
 
     /// The text as a relative reference, exactly where no scheme stands; otherwise the same text as an IRI.
     pub fn to_relative_iri(self) -> Result<RiRelativeStr<'a, S>, RiStr<'a, S>>
-        ensures text { MatchResult result (λ relative. text relative ≡ text self.entry) (λ iri. text iri ≡ text self.entry) }
-        ensures scheme { MatchResult result (λ _. IsNone (split_of (text self.entry)).scheme) (λ _. IsSome (split_of (text self.entry)).scheme) }
+        ensures text { MatchResult result (λ relative. text relative ≡ text self.entry)
+            (λ iri. text iri ≡ text self.entry) }
+        ensures scheme { MatchResult result (λ _. IsNone (split_of (text self.entry)).scheme)
+            (λ _. IsSome (split_of (text self.entry)).scheme) }
     {
         match self.to_iri() {
             Ok(iri) => Err(iri),
@@ -40,16 +45,16 @@ impl<'a, S: Spec> View<'a, S, Reference> {
 impl<'a, S: Spec> View<'a, S, Iri> {
     /// The text before the number sign, or all where none stands.
     pub fn to_absolute(self) -> RiAbsoluteStr<'a, S>
-        ensures { text result ≡ before 35 (text self.entry) }
+        ensures { text result ≡ before number_sign (text self.entry) }
     {
         View::from_valid(cut(self.as_str(), b'#').0)
     }
 
     /// The text before the number sign, or all, and the fragment, where one stands.
     pub fn to_absolute_and_fragment(self) -> (RiAbsoluteStr<'a, S>, Option<RiFragmentStr<'a, S>>)
-        ensures absolute { text result.0 ≡ before 35 (text self.entry) }
+        ensures absolute { text result.0 ≡ before number_sign (text self.entry) }
         ensures fragment { text_of result.1 ≡ (split_of (text self.entry)).fragment }
-        ensures joined { text result.0 ++ marked 35 (text_of result.1) ≡ text self.entry }
+        ensures joined { text result.0 ++ marked number_sign (text_of result.1) ≡ text self.entry }
     {
         (self.to_absolute(), self.fragment())
     }
@@ -73,7 +78,7 @@ impl<'a, K: Kind> View<'a, UriSpec, K> {
     }
 }
 
-// The view of what stands behind the mark.
+// The view of what stands behind the delimiter.
 fn behind_mark<'a, S: Spec, K: Kind>(s: &'a str, mark: &str) -> Option<View<'a, S, K>>
     ensures { MatchOption result (IsUnmarked mark.now (K.fault S.tests) s.now) (λ v. s.now ≡ mark.now ++ text v) }
 {
@@ -90,7 +95,8 @@ impl<'a, S: Spec> View<'a, S, Query> {
     /// The query behind the question mark that begins the text: `InvalidQuery` where none begins it, or
     /// where what follows is no query.
     pub fn from_prefixed(s: &'a str) -> Result<Self, Error>
-        ensures query { MatchResult result (λ v. s.now ≡ codes "?" ++ text v) (λ _. IsUnmarked (codes "?") (query_fault S.tests) s.now) }
+        ensures query { MatchResult result (λ v. s.now ≡ codes "?" ++ text v)
+            (λ _. IsUnmarked (codes "?") (query_fault S.tests) s.now) }
         ensures error { IfErr result (λ e. e.kind ≡ ErrorKind.InvalidQuery) }
     {
         match behind_mark(s, "?") {
@@ -104,7 +110,8 @@ impl<'a, S: Spec> View<'a, S, Fragment> {
     /// The fragment behind the number sign that begins the text: `InvalidFragment` where none begins it, or
     /// where what follows is no fragment.
     pub fn from_prefixed(s: &'a str) -> Result<Self, Error>
-        ensures fragment { MatchResult result (λ v. s.now ≡ codes "#" ++ text v) (λ _. IsUnmarked (codes "#") (fragment_fault S.tests) s.now) }
+        ensures fragment { MatchResult result (λ v. s.now ≡ codes "#" ++ text v)
+            (λ _. IsUnmarked (codes "#") (fragment_fault S.tests) s.now) }
         ensures error { IfErr result (λ e. e.kind ≡ ErrorKind.InvalidFragment) }
     {
         match behind_mark(s, "#") {

@@ -3,7 +3,7 @@ ghost use Rattle.std.specs.Prelude.{◌≡◌, MatchOption, None, Some};
 ghost use Rattle.iri_grammar.specs.Parts.{Fits};
 ghost use Rattle.iri_grammar.specs.Split.{split_of};
 ghost use Rattle.iri_grammar.specs.Splitters.{parts};
-ghost use Rattle.iri_grammar.specs.Views.{now_of};
+ghost use Rattle.iri_grammar.specs.OptionalSlices.{now_of};
 ghost use Rattle.iri_types.specs.Texts.{text, text_of};
 ghost use Rattle.iri_types.specs.ComponentsText.{authority};
 
@@ -38,7 +38,8 @@ impl<'a, S: Spec, K: WholeKind> View<'a, S, K> {
 
     /// The components of the authority; none exactly where no authority stands.
     pub fn authority_components(self) -> Option<AuthorityComponents<'a>>
-        ensures { MatchOption result ((split_of (text self.entry)).authority ≡ None) (λ a. (split_of (text self.entry)).authority ≡ Some (authority a)) }
+        ensures { MatchOption result ((split_of (text self.entry)).authority ≡ None)
+            (λ a. (split_of (text self.entry)).authority ≡ Some (authority a)) }
     {
         AuthorityComponents::from_iri(self.as_reference())
     }

@@ -7,8 +7,13 @@ ghost use Rattle.iri_grammar.specs.Split.{split_of};
 ghost use Rattle.iri_grammar.specs.WholeFault.{reference_fault, iri_fault, absolute_fault, relative_fault};
 ghost use Rattle.iri_grammar.specs.declared.error.ErrorKind.{ErrorKind};
 ghost use Rattle.iri_types.specs.Allowed.{allows_reference, allows_iri, allows_absolute, allows_relative};
-ghost use Rattle.iri_types.specs.AllowedLaws.{reference-made, iri-made, absolute-made, relative-made, reference-allowed, iri-allowed, absolute-allowed, relative-allowed};
-ghost use Rattle.iri_types.specs.KindLaws.{reference-within, iri-within, absolute-within, relative-within, query-within, fragment-within, reference-whole, iri-whole, absolute-whole, relative-whole, iri-scheme, absolute-scheme};
+ghost use Rattle.iri_types.specs.inside.AllowedLaws.{reference-made, iri-made, absolute-made, relative-made};
+ghost use Rattle.iri_types.specs.inside.AllowedLaws.{reference-allowed, iri-allowed, absolute-allowed};
+ghost use Rattle.iri_types.specs.inside.AllowedLaws.{relative-allowed};
+ghost use Rattle.iri_types.specs.inside.KindLaws.{reference-within, iri-within, absolute-within, relative-within};
+ghost use Rattle.iri_types.specs.inside.KindLaws.{query-within, fragment-within, reference-whole, iri-whole};
+ghost use Rattle.iri_types.specs.inside.KindLaws.{absolute-whole, relative-whole, absolute-scheme};
+ghost use Rattle.iri_grammar.proofs.KindLaws.{iri-has_scheme as iri-scheme};
 
 use iri_grammar::error::Error;
 use iri_grammar::spec::Spec;
@@ -36,10 +41,12 @@ pub trait WholeKind: Kind {
     ghost allows: { Bool → Bool → Bool };
 
     /// Valid parts, with a path that keeps the rules of its place, make a text of the kind where it allows what stands.
-    ghost made: { (s : Tests) → IsSpec s → (p : Parts) → Fits s p → allows (is_some p.scheme) (is_some p.fragment) ≡ true → Self.fault s (recompose p) ≡ None };
+    ghost made: { (s : Tests) → IsSpec s → (p : Parts) → Fits s p
+        → allows (is_some p.scheme) (is_some p.fragment) ≡ true → Self.fault s (recompose p) ≡ None };
 
     /// The kind allows what stands in each of its texts.
-    ghost allowed: { (s : Tests) → IsSpec s → (t : List ℕ) → Self.fault s t ≡ None → allows (is_some (split_of t).scheme) (is_some (split_of t).fragment) ≡ true };
+    ghost allowed: { (s : Tests) → IsSpec s → (t : List ℕ) → Self.fault s t ≡ None
+        → allows (is_some (split_of t).scheme) (is_some (split_of t).fragment) ≡ true };
 }
 
 /// A whole kind whose texts have a scheme.

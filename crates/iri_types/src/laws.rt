@@ -37,7 +37,9 @@ pub fn hashed_as_texts<S: Spec, K: Kind, H: Hasher>(v: View<'_, S, K>, state: &m
 /// Parts that are each in their production, with a path that keeps the rules of its place, make a text of a kind that
 /// allows what stands; and each text of the kind has such parts.
 pub fn valid_parts_make_texts<S: Spec, K: WholeKind>()
-    ensures made { (p : Parts) → Fits S.tests p → K.allows (is_some p.scheme) (is_some p.fragment) ≡ true → K.fault S.tests (recompose p) ≡ None }
+    ensures made { (p : Parts) → Fits S.tests p → K.allows (is_some p.scheme) (is_some p.fragment) ≡ true
+        → K.fault S.tests (recompose p) ≡ None }
     ensures parts { (t : List ℕ) → K.fault S.tests t ≡ None → Fits S.tests (split_of t) }
-    ensures allowed { (t : List ℕ) → K.fault S.tests t ≡ None → K.allows (is_some (split_of t).scheme) (is_some (split_of t).fragment) ≡ true }
+    ensures allowed { (t : List ℕ) → K.fault S.tests t ≡ None
+        → K.allows (is_some (split_of t).scheme) (is_some (split_of t).fragment) ≡ true }
 {}

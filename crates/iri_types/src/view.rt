@@ -1,4 +1,4 @@
-//! Views: lent texts of a kind.
+//! Views: borrowed texts of a kind.
 ghost use Rattle.std.specs.Prelude.{◌≡◌, ◌==◌, length, IfOk, None, Some};
 ghost use Rattle.iri_grammar.specs.Fault.{Answers, bytes_fault};
 
@@ -10,7 +10,7 @@ use std::alloc::AllocError;
 use std::marker::PhantomData;
 use std::{fmt, str};
 
-/// A text of the kind `K` in the grammar `S`, lent. It is as small as a `&str`, and its slices outlive it.
+/// A text of the kind `K` in the grammar `S`, borrowed. It is as small as a `&str`, and its slices outlive it.
 /// Views are equal, ordered and hashed as their texts.
 #[derive_where(PartialEq, Eq, PartialOrd, Ord, Hash, Debug)]
 pub struct View<'a, S: Spec, K: Kind> {

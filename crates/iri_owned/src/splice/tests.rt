@@ -27,7 +27,7 @@ fn joined(
     Ok(text)
 }
 
-// Splices where that may be done, and says whether it may. Where memory is refused the text is as it was.
+// Splices where that may be done, and says whether it may. Where allocation fails the text is as it was.
 fn splices(
     iri: &mut IriString,
     alloc: Global,

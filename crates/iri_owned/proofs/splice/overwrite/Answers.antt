@@ -13,4 +13,5 @@ returns-clause-items c =
     let written : vec_len c.write_into.new.bytes ≡ length c.write_into.new.bytes.items = search rules in
     let kept = length-paste old c.args.start new (length new) (omega (arith, fits, inside)) (omega arith) in
     overwritten-by old new c.write_into.new.bytes.items c.copy_within.new.self.items c.truncate.new.self.items c.args.start c.args.end
-    (vec_len c.write_into.new.bytes) c.len.result fits inside (written ∙ (ap length c.write_into.ensures.items ∙ kept)) (search rules) c.write_into.ensures.items c.copy_within.ensures.items c.truncate.ensures.items
+    (vec_len c.write_into.new.bytes) c.len.result fits inside (written ∙ (ap length c.write_into.ensures.items ∙ kept))
+    (search rules) c.write_into.ensures.items c.copy_within.ensures.items c.truncate.ensures.items

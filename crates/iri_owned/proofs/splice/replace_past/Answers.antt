@@ -7,8 +7,10 @@ use Rattle.iri_owned.proofs.splice.replace_past.Goals as goal
 
 pub from_utf8_unchecked-requires : goal.from_utf8_unchecked-requires
 from_utf8_unchecked-requires c =
-    let taken : c.into_bytes-bytes.result ≡ string_vec c.try_reserve.new.self = c.into_bytes-bytes.ensures.value ∙ ap string_vec c.replace.ensures.value in
-    let same : string_bytes c.args.text.now ≡ c.into_bytes-bytes.result.items = sym c.try_reserve.ensures.bytes ∙ ap (λ v. v.items) (sym taken) in
+    let taken : c.into_bytes-bytes.result ≡ string_vec c.try_reserve.new.self =
+    c.into_bytes-bytes.ensures.value ∙ ap string_vec c.replace.ensures.value in
+    let same : string_bytes c.args.text.now ≡ c.into_bytes-bytes.result.items =
+    sym c.try_reserve.ensures.bytes ∙ ap (λ v. v.items) (sym taken) in
     subst (λ t. IsUtf8 t) (sym c.widen.ensures.items)
     (spliced-utf8 c.into_bytes-bytes.result.items c.as_bytes.result.now c.args.start c.args.end
     (subst (λ t. IsUtf8 t) same (IsUtf8-string_bytes c.args.text.now)) c.as_bytes.ensures.utf8

@@ -1,5 +1,5 @@
 use Rattle.std.specs.String.{string_bytes}
-use Rattle.iri_types.specs.KindTexts.{absolute-iri}
+use Rattle.iri_types.proofs.KindTexts.{absolute-iri}
 use Rattle.iri_owned.proofs.conversions.Owned+S+Absolute.into_iri.Goals as goal
 
 pub from_valid-requires : goal.from_valid-requires

@@ -1,7 +1,7 @@
 use Rattle.std.proofs.Common.{◌≡◌, None, sym, subst}
 use Rattle.std.specs.String.{string_bytes}
 use Rattle.iri_grammar.specs.WholeFault.{absolute_fault}
-use Rattle.iri_types.specs.KindTexts.{front-absolute}
+use Rattle.iri_types.proofs.KindTexts.{front-absolute}
 use Rattle.iri_owned.proofs.conversions.Owned+S+Iri.into_absolute.Goals as goal
 
 pub from_valid-requires : goal.from_valid-requires

@@ -1,6 +1,6 @@
 use Rattle.std.specs.String.{string_bytes}
 use Rattle.iri_grammar.specs.Classes.{iri_tests}
-use Rattle.iri_grammar.specs.Laws.{iri_is_spec}
+use Rattle.iri_grammar.specs.inside.Laws.{iri_is_spec}
 use Rattle.iri_owned.proofs.conversions.Owned+UriSpec+K.into_iri_spec.Goals as goal
 
 pub from_valid-requires : goal.from_valid-requires

@@ -1,4 +1,4 @@
-use Rattle.iri_types.specs.KindTexts.{absolute-iri}
+use Rattle.iri_types.proofs.KindTexts.{absolute-iri}
 use Rattle.iri_types.proofs.conversions.View+S+Absolute.as_iri.Goals as goal
 
 pub from_valid-requires : goal.from_valid-requires

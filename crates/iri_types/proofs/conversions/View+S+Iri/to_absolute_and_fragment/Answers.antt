@@ -1,6 +1,6 @@
 use Rattle.std.proofs.Math.Logic.{∥∥₁_elim}
 use Rattle.std.proofs.Props.{props}
-use Rattle.iri_types.specs.KindTexts.{front-joined}
+use Rattle.iri_types.proofs.KindTexts.{front-joined}
 use Rattle.iri_types.proofs.conversions.View+S+Iri.to_absolute_and_fragment.Goals as goal
 
 pub returns-clause-joined : goal.returns-clause-joined

@@ -1,4 +1,4 @@
-use Rattle.iri_types.specs.KindTexts.{reference-iri, reference-relative}
+use Rattle.iri_types.proofs.KindTexts.{reference-iri, reference-relative}
 use Rattle.iri_types.proofs.conversions.View+S+Reference.to_iri.Goals as goal
 
 pub from_valid-requires : goal.from_valid-requires

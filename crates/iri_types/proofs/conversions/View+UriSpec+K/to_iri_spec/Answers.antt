@@ -1,5 +1,5 @@
 use Rattle.iri_grammar.specs.Classes.{iri_tests}
-use Rattle.iri_grammar.specs.Laws.{iri_is_spec}
+use Rattle.iri_grammar.specs.inside.Laws.{iri_is_spec}
 use Rattle.iri_types.proofs.conversions.View+UriSpec+K.to_iri_spec.Goals as goal
 
 pub from_valid-requires : goal.from_valid-requires

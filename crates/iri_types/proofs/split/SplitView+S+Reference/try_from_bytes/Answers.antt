@@ -9,4 +9,5 @@ returns-in-Ok-clause-fault g c =
     answers-of c.new.result (reference_fault g.S.Spec.tests) c.in-Ok.s.now c.args.b.now h.0 h.1 c.new.ensures.fault
 
 pub returns-in-Err-clause-fault : goal.returns-in-Err-clause-fault
-returns-in-Err-clause-fault g c = no_text_fault (reference_fault g.S.Spec.tests) c.args.b.now c.in-Err.ensures.cases.0 ∙ ap Some (sym c.new-in-Err.ensures)
+returns-in-Err-clause-fault g c = no_text_fault (reference_fault g.S.Spec.tests) c.args.b.now c.in-Err.ensures.cases.0
+    ∙ ap Some (sym c.new-in-Err.ensures)

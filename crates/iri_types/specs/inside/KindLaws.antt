@@ -3,14 +3,14 @@ use Rattle.std.proofs.Common.{◌≡◌, ◌↔◌, ℕ, List, Option, None, sym
 use Rattle.std.specs.Prelude.{IsSome}
 use Rattle.iri_grammar.specs.Classes.{Tests, IsSpec, uri_tests}
 use Rattle.iri_grammar.specs.Components.{is_query, is_fragment}
-use Rattle.iri_grammar.specs.Laws.{uri_is_spec}
+use Rattle.iri_grammar.specs.inside.Laws.{uri_is_spec}
 use Rattle.iri_grammar.specs.Parts.{Parts, IsReference, IsIri, IsAbsolute, IsRelative}
 use Rattle.iri_grammar.specs.Split.{split_of}
-use Rattle.iri_grammar.specs.SplitUnique.{split_is}
+use Rattle.iri_grammar.proofs.SplitUnique.{split_is}
 use Rattle.iri_grammar.specs.Fault.{query_fault, fragment_fault}
 use Rattle.iri_grammar.specs.WholeFault.{reference_fault, iri_fault, absolute_fault, relative_fault}
-use Rattle.iri_grammar.specs.FaultLaws.{passed, no_fault, no_fault_where_splits, reference-law, iri-law, absolute-law, relative-law}
-use Rattle.iri_grammar.specs.UriLaws.{query-wider, fragment-wider, reference-wider, iri-wider, absolute-wider, relative-wider}
+use Rattle.iri_grammar.proofs.FaultLaws.{passed, no_fault, no_fault_where_splits, reference-law, iri-law, absolute-law, relative-law}
+use Rattle.iri_grammar.proofs.UriLaws.{query-wider, fragment-wider, reference-wider, iri-wider, absolute-wider, relative-wider}
 use Rattle.iri_grammar.specs.declared.error.ErrorKind.{ErrorKind}
 use Rattle.iri_grammar.specs.declared.error.ErrorKind.TheVariants.{InvalidQuery, InvalidFragment}
 
@@ -38,7 +38,8 @@ pub query-within : (s : Tests) → IsSpec s → (t : List ℕ) → query_fault u
 query-within s k t h = no_fault (is_query s t) InvalidQuery (query-wider s t (passed (is_query uri_tests t) InvalidQuery h))
 
 pub fragment-within : (s : Tests) → IsSpec s → (t : List ℕ) → fragment_fault uri_tests t ≡ None → fragment_fault s t ≡ None
-fragment-within s k t h = no_fault (is_fragment s t) InvalidFragment (fragment-wider s t (passed (is_fragment uri_tests t) InvalidFragment h))
+fragment-within s k t h = no_fault (is_fragment s t) InvalidFragment
+    (fragment-wider s t (passed (is_fragment uri_tests t) InvalidFragment h))
 
 -- ---- texts of whole kinds are references
 pub reference-whole : (s : Tests) → IsSpec s → (t : List ℕ) → reference_fault s t ≡ None → reference_fault s t ≡ None
@@ -54,8 +55,5 @@ pub relative-whole : (s : Tests) → IsSpec s → (t : List ℕ) → relative_fa
 relative-whole s k t h = let r = (relative-law s k t).0 h in no_fault_where_splits s k t r.0 r.1
 
 -- ---- texts with a scheme
-pub iri-scheme : (s : Tests) → IsSpec s → (t : List ℕ) → iri_fault s t ≡ None → IsSome (split_of t).scheme
-iri-scheme s k t h = let r = (iri-law s k t).0 h in subst (λ (p : Parts). IsSome p.scheme) (sym (split_is s t r.0 k r.1)) r.2
-
 pub absolute-scheme : (s : Tests) → IsSpec s → (t : List ℕ) → absolute_fault s t ≡ None → IsSome (split_of t).scheme
 absolute-scheme s k t h = let r = (absolute-law s k t).0 h in subst (λ (p : Parts). IsSome p.scheme) (sym (split_is s t r.0 k r.1)) r.2

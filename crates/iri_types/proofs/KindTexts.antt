@@ -1,25 +1,33 @@
 -- Texts of one kind that are, or hold, texts of another.
-use Rattle.std.proofs.Common.{◌≡◌, ℕ, true, List, [], ◌∷◌, ◌++◌, Option, Some, None, refl, sym, ◌∙◌, ap, subst, append_assoc}
+use Rattle.std.proofs.Common.{◌≡◌, ℕ, true, List, [], ◌∷◌, ◌++◌, Some, None, refl, sym, ◌∙◌, ap, subst, append_assoc}
 use Rattle.std.specs.Prelude.{IsSome, IsNone}
 use Rattle.std.proofs.lemmas.List.{append-nil}
 use Rattle.iri_grammar.specs.Classes.{Tests, IsSpec}
-use Rattle.iri_grammar.specs.Components.{if_there, is_scheme}
 use Rattle.iri_grammar.specs.Cut.{before, behind, lacks, marked}
-use Rattle.iri_grammar.specs.CutLaws.{before-marked, behind-marked, lacks-append, joined}
+use Rattle.iri_grammar.proofs.CutLaws.{before-marked, behind-marked, lacks-append, joined}
 use Rattle.iri_grammar.specs.Parts.{Parts, Splits, recompose, scheme_text, authority_text}
 use Rattle.iri_grammar.specs.Split.{split_of}
-use Rattle.iri_grammar.specs.SplitLaws.{Marks, recompose_split, scheme-lacks, hash_ends, authority_text-lacks, marked-lacks}
-use Rattle.iri_grammar.specs.SplitUnique.{fits-marks}
+use Rattle.iri_grammar.proofs.SplitLaws.{Marks, recompose_split, authority_text-lacks, marked-lacks}
+use Rattle.iri_grammar.proofs.SplitUnique.{fits-marks}
 use Rattle.iri_grammar.specs.WholeFault.{reference_fault, iri_fault, absolute_fault, relative_fault}
-use Rattle.iri_grammar.specs.FaultLaws.{splits_where_no_fault, iri-law, absolute-law, relative-law}
-use Rattle.iri_types.specs.KindLaws.{iri-whole, iri-scheme}
+use Rattle.iri_grammar.proofs.FaultLaws.{splits_where_no_fault, iri-law, absolute-law, relative-law}
+use Rattle.iri_types.specs.inside.KindLaws.{iri-whole}
+use Rattle.iri_grammar.proofs.KindLaws.{iri-has_scheme as iri-scheme}
+use Rattle.iri_grammar.proofs.KindLaws.{scheme_text-lacks}
 
 -- ---- a reference is an IRI where a scheme stands, and otherwise a relative reference
-pub reference-iri : (s : Tests) → IsSpec s → (t u : List ℕ) → reference_fault s t ≡ None → t ≡ u → (x : List ℕ) → Some x ≡ (split_of u).scheme → iri_fault s t ≡ None
-reference-iri s k t u h e x i = (iri-law s k t).1 (split_of t, splits_where_no_fault s t h, subst (λ o. IsSome o) (i ∙ ap (λ z. (split_of z).scheme) (sym e)) refl)
+pub reference-iri : (s : Tests) → IsSpec s → (t u : List ℕ) → reference_fault s t ≡ None → t ≡ u → (x : List ℕ)
+    → Some x ≡ (split_of u).scheme → iri_fault s t ≡ None
+reference-iri s k t u h e x i = (iri-law s k t).1 (
+  split_of t,
+  splits_where_no_fault s t h,
+  subst (λ o. IsSome o) (i ∙ ap (λ z. (split_of z).scheme) (sym e)) refl,
+)
 
-pub reference-relative : (s : Tests) → IsSpec s → (t u : List ℕ) → reference_fault s t ≡ None → t ≡ u → None ≡ (split_of u).scheme → relative_fault s t ≡ None
-reference-relative s k t u h e i = (relative-law s k t).1 (split_of t, splits_where_no_fault s t h, subst (λ o. IsNone o) (i ∙ ap (λ z. (split_of z).scheme) (sym e)) refl)
+pub reference-relative : (s : Tests) → IsSpec s → (t u : List ℕ) → reference_fault s t ≡ None → t ≡ u → None ≡ (split_of u).scheme
+    → relative_fault s t ≡ None
+reference-relative s k t u h e i = (relative-law s k t).1
+    (split_of t, splits_where_no_fault s t h, subst (λ o. IsNone o) (i ∙ ap (λ z. (split_of z).scheme) (sym e)) refl)
 
 pub absolute-iri : (s : Tests) → IsSpec s → (t : List ℕ) → absolute_fault s t ≡ None → iri_fault s t ≡ None
 absolute-iri s k t h = let r = (absolute-law s k t).0 h in (iri-law s k t).1 (r.0, r.1, r.2)
@@ -43,10 +51,6 @@ recompose-front p = regroup (scheme_text p.scheme) (authority_text p.authority) 
     regroup : (a b c d e : List ℕ) → a ++ (b ++ (c ++ (d ++ e))) ≡ (a ++ (b ++ (c ++ d))) ++ e
     regroup a b c d e = simp append_assoc
 
-scheme_text-lacks : (o : Option (List ℕ)) → if_there is_scheme o ≡ true → lacks 35 (scheme_text o) ≡ true
-scheme_text-lacks None h = refl
-scheme_text-lacks (Some x) h = lacks-append 35 x (58 ∷ []) (scheme-lacks 35 x hash_ends h) refl
-
 lacks-front : (p : Parts) → Marks p → lacks 35 (front_of p) ≡ true
 lacks-front p m =
     lacks-append 35 (scheme_text p.scheme) _ (scheme_text-lacks p.scheme m.scheme)
@@ -64,7 +68,8 @@ before-front s k t h = ap (before 35) (text-front t) ∙ before-marked 35 (front
 
 -- what stands behind the `#` is the fragment
 pub fragment-behind : (s : Tests) → IsSpec s → (t : List ℕ) → reference_fault s t ≡ None → behind 35 t ≡ (split_of t).fragment
-fragment-behind s k t h = ap (behind 35) (text-front t) ∙ behind-marked 35 (front_of (split_of t)) (split_of t).fragment (lacks-split s k t h)
+fragment-behind s k t h = ap (behind 35) (text-front t)
+    ∙ behind-marked 35 (front_of (split_of t)) (split_of t).fragment (lacks-split s k t h)
 
 front-splits : (s : Tests) → IsSpec s → (t : List ℕ) → reference_fault s t ≡ None → Splits s (before 35 t) (bare (split_of t))
 front-splits s k t h =
@@ -76,7 +81,8 @@ front-splits s k t h =
 
 -- what stands before the `#` of an IRI is an absolute IRI
 pub front-absolute : (s : Tests) → IsSpec s → (t : List ℕ) → iri_fault s t ≡ None → absolute_fault s (before 35 t) ≡ None
-front-absolute s k t h = (absolute-law s k (before 35 t)).1 (bare (split_of t), front-splits s k t (iri-whole s k t h), iri-scheme s k t h, refl)
+front-absolute s k t h = (absolute-law s k (before 35 t)).1
+    (bare (split_of t), front-splits s k t (iri-whole s k t h), iri-scheme s k t h, refl)
 
 -- both joined are the text
 pub front-joined : (s : Tests) → IsSpec s → (t : List ℕ) → iri_fault s t ≡ None → before 35 t ++ marked 35 (split_of t).fragment ≡ t
