@@ -1,5 +1,7 @@
 -- The character with whose UTF-8 some bytes begin, found by its width.
-use Rattle.std.proofs.Common.{◌≡◌, ℕ, zero, suc, ◌+◌, ◌-◌, ◌<◌, ◌≤◌, true, false, cond, ◌||◌, List, [], ◌∷◌, ◌++◌, Some, None, length, take, drop, get_or, set, refl, sym, ◌∙◌, ap, subst, arith, append_assoc, append-nil, length-append, length-drop, drop-drop, take-append-drop, ltb-true}
+use Rattle.std.proofs.Common.{◌≡◌, ℕ, zero, suc, ◌+◌, ◌-◌, ◌<◌, ◌≤◌, true, false, cond, ◌||◌, List, [], ◌∷◌, ◌++◌, Some, None, length}
+use Rattle.std.proofs.Common.{take, drop, get_or, set, refl, sym, ◌∙◌, ap, subst, arith, append_assoc, append-nil, length-append}
+use Rattle.std.proofs.Common.{length-drop, drop-drop, take-append-drop, ltb-true}
 use Rattle.std.specs.Prelude.{◌/◌, ◌*◌}
 use Rattle.std.specs.List.{slice_get}
 use Rattle.std.specs.Str.{chars, continuation_len, IsUtf8}
@@ -8,10 +10,10 @@ use lib.Utf8.{encode, encodes, next, scalar, scalars}
 use Rattle.std.proofs.lemmas.Str.{IsUtf8-encode, cons_from_encodes, encode_ascii, chars-encodes}
 use Rattle.std.proofs.lemmas.List.{take_at, take_more_set, take_all}
 use Rattle.std.proofs.lemmas.Bool.Decides.{nat_tests}
-use Rattle.iri_grammar.specs.CutLaws.{both}
+use Rattle.iri_grammar.proofs.CutLaws.{both}
 use Rattle.iri_grammar.specs.Classes.{Tests, IsSpec, unreserved, is_ascii_unreserved}
 use Rattle.iri_percent.specs.Units.{first_char, octets}
-use Rattle.iri_percent.specs.UnitLaws.{BeginsChar, first_char_is, char_first, none_in_front, continuation_none, is_continuation}
+use Rattle.iri_percent.proofs.UnitLaws.{BeginsChar, first_char_is, char_first, none_in_front, continuation_none, is_continuation}
 use Rattle.iri_percent.specs.NormalLaws.{decoded, unreserved_only}
 
 pub empty_none : (bs : List ℕ) → length bs ≡ 0 → first_char bs ≡ None
@@ -35,15 +37,23 @@ width_four x h = grind (arith, nat_tests)
 pub encode_width : (c : ℕ) (rest : List ℕ) → length (encode c) ≡ continuation_len (get_or (encode c ++ rest) 0 0) + 1
 unfolding encode
 encode_width c rest =
-    elim (ltb c 128) as (λ b. ltb c 128 ≡ b → At (cond b (c ∷ []) (cond (ltb c 2048) ((192 + c / 64) ∷ next c ∷ []) (cond (ltb c 65536) ((224 + c / 4096) ∷ next (c / 64) ∷ next c ∷ []) ((240 + c / 262144) ∷ next (c / 4096) ∷ next (c / 64) ∷ next c ∷ []))))) [
+    elim (ltb c 128) as (λ b. ltb c 128 ≡ b → At (cond b (c ∷ [])
+    (cond (ltb c 2048) ((192 + c / 64) ∷ next c ∷ [])
+    (cond (ltb c 65536) ((224 + c / 4096) ∷ next (c / 64) ∷ next c ∷ [])
+    ((240 + c / 262144) ∷ next (c / 4096) ∷ next (c / 64) ∷ next c ∷ []))))) [
       | true ↦ λ e. one 1 (continuation_len c) (width_one c e)
-      | false ↦ λ _. elim (ltb c 2048) as (λ b. ltb c 2048 ≡ b → At (cond b ((192 + c / 64) ∷ next c ∷ []) (cond (ltb c 65536) ((224 + c / 4096) ∷ next (c / 64) ∷ next c ∷ []) ((240 + c / 262144) ∷ next (c / 4096) ∷ next (c / 64) ∷ next c ∷ [])))) [
-        | true ↦ λ e. let k : c < 2048 = ltb-true c 2048 e in rw (width_two (192 + c / 64) (omega arith) (omega arith)) refl
-        | false ↦ λ _. elim (ltb c 65536) as (λ b. ltb c 65536 ≡ b → At (cond b ((224 + c / 4096) ∷ next (c / 64) ∷ next c ∷ []) ((240 + c / 262144) ∷ next (c / 4096) ∷ next (c / 64) ∷ next c ∷ []))) [
-          | true ↦ λ e. let k : c < 65536 = ltb-true c 65536 e in rw (width_three (224 + c / 4096) (omega arith) (omega arith)) refl
-          | false ↦ λ _. rw (width_four (240 + c / 262144) (omega arith)) refl
-        ] refl
-      ] refl
+      | false ↦ λ _. elim (ltb c 2048) as (λ b. ltb c 2048 ≡ b
+          → At (cond b ((192 + c / 64) ∷ next c ∷ [])
+          (cond (ltb c 65536) ((224 + c / 4096) ∷ next (c / 64) ∷ next c ∷ [])
+          ((240 + c / 262144) ∷ next (c / 4096) ∷ next (c / 64) ∷ next c ∷ [])))) [
+            | true ↦ λ e. let k : c < 2048 = ltb-true c 2048 e in rw (width_two (192 + c / 64) (omega arith) (omega arith)) refl
+            | false ↦ λ _. elim (ltb c 65536) as (λ b. ltb c 65536 ≡ b
+                → At (cond b ((224 + c / 4096) ∷ next (c / 64) ∷ next c ∷ [])
+                ((240 + c / 262144) ∷ next (c / 4096) ∷ next (c / 64) ∷ next c ∷ []))) [
+                  | true ↦ λ e. let k : c < 65536 = ltb-true c 65536 e in rw (width_three (224 + c / 4096) (omega arith) (omega arith)) refl
+                  | false ↦ λ _. rw (width_four (240 + c / 262144) (omega arith)) refl
+                ] refl
+          ] refl
     ] refl
   where
     At : List ℕ → Type 0
@@ -77,7 +87,8 @@ pub valid_some : (bs rest t : List ℕ) (n c : ℕ) → t ≡ take n bs → IsUt
 valid_some bs rest t n c is u e =
     let split = cons_from_encodes u.0 rest c (u.1.1 ∙ sym is ∙ e) in
     let all : scalars (c ∷ split.0) ≡ true = ap scalars (sym split.1) ∙ u.1.0 in
-    let whole : bs ≡ encode c ++ (rest ++ drop n bs) = sym (take-append-drop n bs) ∙ ap (λ l. l ++ drop n bs) (sym is ∙ e) ∙ append_assoc (encode c) rest (drop n bs) in
+    let whole : bs ≡ encode c ++ (rest ++ drop n bs) =
+    sym (take-append-drop n bs) ∙ ap (λ l. l ++ drop n bs) (sym is ∙ e) ∙ append_assoc (encode c) rest (drop n bs) in
     ap first_char whole ∙ char_first c (rest ++ drop n bs) (both (scalar c) (scalars split.0) all).0
 
 -- more than four octets tell no more
@@ -88,7 +99,8 @@ first_of_four os =
       | Some c ↦ λ h.
           let w = width_of os c h in
           let short : length (encode c) ≤ 4 = omega (arith, w.1, widest (get_or os 0 0)) in
-          let t : take 4 os ≡ encode c ++ take (4 - length (encode c)) w.0.rest = ap (take 4) w.0.split ∙ front_of (encode c) w.0.rest 4 short in
+          let t : take 4 os ≡ encode c ++ take (4 - length (encode c)) w.0.rest =
+          ap (take 4) w.0.split ∙ front_of (encode c) w.0.rest 4 short in
           ap first_char t ∙ char_first c (take (4 - length (encode c)) w.0.rest) w.0.is_scalar
     ] refl
   where
@@ -98,7 +110,8 @@ first_of_four os =
     front_of : (xs ys : List ℕ) (n : ℕ) → length xs ≤ n → take n (xs ++ ys) ≡ xs ++ take (n - length xs) ys
     front_of [] ys n h = ap (λ m. take m ys) (omega arith)
     front_of (x ∷ xs) ys zero h = absurd (omega arith)
-    front_of (x ∷ xs) ys (suc n) h = let e : suc n - suc (length xs) ≡ n - length xs = omega arith in ap (λ l. x ∷ l) (front_of xs ys n (omega arith)) ∙ ap (λ m. x ∷ (xs ++ take m ys)) (sym e)
+    front_of (x ∷ xs) ys (suc n) h = let e : suc n - suc (length xs) ≡ n - length xs = omega arith in
+        ap (λ l. x ∷ l) (front_of xs ys n (omega arith)) ∙ ap (λ m. x ∷ (xs ++ take m ys)) (sym e)
 
 -- what `chars` of the front gives
 front_chars : (bs cs : List ℕ) (n : ℕ) → 0 < n → n ≤ length bs → scalars cs ≡ true → encodes cs ≡ take n bs → first_char bs ≡ slice_get cs 0
@@ -160,7 +173,8 @@ unreserved_low o h = grind (arith, nat_tests)
 
 pub ascii_decoded : (s : Tests) (o : ℕ) (t os : List ℕ) → t ≡ o ∷ os → is_ascii_unreserved o ≡ true → decoded s t ≡ Some o
 unfolding unreserved
-ascii_decoded s o t os e h = ap (decoded s) e ∙ ap (unreserved_only s) (ascii_first o os (unreserved_low o h)) ∙ ap (λ b. cond (b || s.ucs o) (Some o) None) h
+ascii_decoded s o t os e h = ap (decoded s) e ∙ ap (unreserved_only s) (ascii_first o os (unreserved_low o h))
+    ∙ ap (λ b. cond (b || s.ucs o) (Some o) None) h
 
 pub low_decoded : (s : Tests) (o : ℕ) (t os : List ℕ) → IsSpec s → t ≡ o ∷ os → o < 192 → is_ascii_unreserved o ≡ false → decoded s t ≡ None
 unfolding unreserved
@@ -168,7 +182,8 @@ low_decoded s o t os k e l h =
     elim (ltb o 128) as (λ b. ltb o 128 ≡ b → decoded s t ≡ None) [
       | true ↦ λ f.
           let low : o < 128 = ltb-true o 128 f in
-          ap (decoded s) e ∙ ap (unreserved_only s) (ascii_first o os low) ∙ ap (λ b. cond (b || s.ucs o) (Some o) None) h ∙ ap (λ b. cond b (Some o) None) (k.ucs_ascii o low)
+          ap (decoded s) e ∙ ap (unreserved_only s) (ascii_first o os low) ∙ ap (λ b. cond (b || s.ucs o) (Some o) None) h
+          ∙ ap (λ b. cond b (Some o) None) (k.ucs_ascii o low)
       | false ↦ λ f. ap (decoded s) e ∙ ap (unreserved_only s) (continuation_none o os (continues o f l))
     ] refl
   where
@@ -180,12 +195,17 @@ pub record OneMore (text buf : List ℕ) (n o : ℕ) : Type 0 where
   pub within : 3 * (n + 1) ≤ length text
   pub read : octets text ≡ take (n + 1) (set buf n o) ++ octets (drop (3 * (n + 1)) text)
 
-pub one_more : (text buf tail os : List ℕ) (n o : ℕ) → n < length buf → 3 * n ≤ length text → octets text ≡ take n buf ++ octets (drop (3 * n) text) → tail ≡ drop (3 * n) text → octets tail ≡ o ∷ octets (drop 3 tail) → OneMore text buf n o
+pub one_more : (text buf tail os : List ℕ) (n o : ℕ) → n < length buf → 3 * n ≤ length text
+    → octets text ≡ take n buf ++ octets (drop (3 * n) text) → tail ≡ drop (3 * n) text → octets tail ≡ o ∷ octets (drop 3 tail)
+    → OneMore text buf n o
 one_more text buf tail os n o l w e is h =
     let room : 3 ≤ length (drop (3 * n) text) = octets_room (drop (3 * n) text) (octets (drop 3 tail)) o (ap octets (sym is) ∙ h) in
     let sum : 3 * n + 3 ≡ 3 * (n + 1) = omega arith in
-    let behind : octets (drop (3 * n) text) ≡ o ∷ octets (drop (3 * (n + 1)) text) = ap octets (sym is) ∙ h ∙ ap (λ t. o ∷ octets (drop 3 t)) is ∙ ap (λ t. o ∷ octets t) (drop-drop 3 (3 * n) text ∙ ap (λ k. drop k text) sum) in
+    let behind : octets (drop (3 * n) text) ≡ o ∷ octets (drop (3 * (n + 1)) text) =
+    ap octets (sym is) ∙ h ∙ ap (λ t. o ∷ octets (drop 3 t)) is
+    ∙ ap (λ t. o ∷ octets t) (drop-drop 3 (3 * n) text ∙ ap (λ k. drop k text) sum) in
     record {
       within = omega (arith, room, length-drop (3 * n) text);
-      read = e ∙ ap (λ l. take n buf ++ l) behind ∙ sym (append_assoc (take n buf) (o ∷ []) (octets (drop (3 * (n + 1)) text))) ∙ ap (λ l. l ++ octets (drop (3 * (n + 1)) text)) (sym (take_more_set buf n o l));
+      read = e ∙ ap (λ l. take n buf ++ l) behind ∙ sym (append_assoc (take n buf) (o ∷ []) (octets (drop (3 * (n + 1)) text)))
+          ∙ ap (λ l. l ++ octets (drop (3 * (n + 1)) text)) (sym (take_more_set buf n o l));
     }

@@ -1,15 +1,18 @@
--- Decoding at the front of a text, and the fragments put together.
-use Rattle.std.proofs.Common.{◌≡◌, ◌≢◌, ℕ, suc, ◌<◌, ◌≤◌, true, false, cond, not, ◌&&◌, ◌||◌, List, [], ◌∷◌, ◌++◌, length, drop, get_or, min, refl, length-drop, get_or-drop, sym, ◌∙◌, ap, subst, arith, eqb-true}
+-- Decoding at the start of a text, and the fragments put together.
+use Rattle.std.proofs.Common.{◌≡◌, ◌≢◌, ℕ, suc, ◌<◌, ◌≤◌, true, false, cond, not, ◌&&◌, ◌||◌, List, [], ◌∷◌, ◌++◌, length, drop, get_or}
+use Rattle.std.proofs.Common.{min, refl, length-drop, get_or-drop, sym, ◌∙◌, ap, subst, arith, eqb-true}
 use Rattle.std.specs.Prelude.{◌==◌}
 use Rattle.std.specs.List.{flat_map}
 use Rattle.std.specs.Char.{is_ascii_hexdigit}
 use Rattle.iri_grammar.specs.Cut.{before, from, lacks, CutAt, NoCut}
-use Rattle.iri_grammar.specs.CutLaws.{by_test}
+use Rattle.iri_grammar.proofs.CutLaws.{by_test}
 use Rattle.iri_percent.specs.Units.{is_triplet, octet, octets, two_digits}
-use Rattle.iri_percent.specs.Decoding.{decoding, has_triplet, Fragment, Run, Octet, Percent, before_fragments, byte_before, fragments, fragment_bytes}
+use Rattle.iri_percent.specs.Decoding.{decoding, has_triplet, Fragment, Run, Octet, Percent, before_fragments, byte_before, fragments}
+use Rattle.iri_percent.specs.Decoding.{fragment_bytes}
 
 -- ---- decoding from the left
-pub decoding-triplet : (a b : ℕ) (xs : List ℕ) → is_ascii_hexdigit a ≡ true → is_ascii_hexdigit b ≡ true → decoding (37 ∷ a ∷ b ∷ xs) ≡ octet a b ∷ decoding xs
+pub decoding-triplet : (a b : ℕ) (xs : List ℕ) → is_ascii_hexdigit a ≡ true → is_ascii_hexdigit b ≡ true
+    → decoding (37 ∷ a ∷ b ∷ xs) ≡ octet a b ∷ decoding xs
 unfolding decoding
 decoding-triplet a b xs p q = rw (p, q) refl
 
@@ -27,12 +30,6 @@ decoding-plains (y ∷ ys) xs h =
       | false ↦ λ e l. decoding-plain y (ys ++ xs) e ∙ ap (λ z. y ∷ z) (decoding-plains ys xs l)
     ] refl h
 
-pub decoding-stray : (xs : List ℕ) → two_digits xs ≡ false → decoding (37 ∷ xs) ≡ 37 ∷ decoding xs
-unfolding decoding
-decoding-stray [] h = refl
-decoding-stray (a ∷ []) h = refl
-decoding-stray (a ∷ b ∷ xs) h = rw h refl
-
 -- ---- fragments
 bytes-before : (x : ℕ) (fs : List Fragment) → flat_map fragment_bytes (before_fragments x fs) ≡ x ∷ flat_map fragment_bytes fs
 bytes-before x [] = refl
@@ -42,7 +39,8 @@ bytes-before x (Percent ∷ fs) = refl
 
 bytes-byte : (x : ℕ) (fs : List Fragment) → flat_map fragment_bytes (byte_before x fs) ≡ x ∷ flat_map fragment_bytes fs
 bytes-byte x fs =
-    elim (x == 37) as (λ b. (x == 37) ≡ b → flat_map fragment_bytes (cond b (Percent ∷ fs) (before_fragments x fs)) ≡ x ∷ flat_map fragment_bytes fs) [
+    elim (x == 37) as (λ b. (x == 37) ≡ b → flat_map fragment_bytes (cond b (Percent ∷ fs) (before_fragments x fs))
+    ≡ x ∷ flat_map fragment_bytes fs) [
       | true ↦ λ e. ap (λ y. y ∷ flat_map fragment_bytes fs) (sym (eqb-true x 37 e))
       | false ↦ λ _. bytes-before x fs
     ] refl
@@ -53,7 +51,9 @@ fragments-joined [] = refl
 fragments-joined (x ∷ []) = bytes-byte x []
 fragments-joined (x ∷ a ∷ []) = bytes-byte x (byte_before a []) ∙ ap (λ z. x ∷ z) (bytes-byte a [])
 fragments-joined (x ∷ a ∷ b ∷ xs) =
-    elim (is_triplet x a b) as (λ v. flat_map fragment_bytes (cond v (Octet (octet a b) ∷ fragments xs) (byte_before x (fragments (a ∷ b ∷ xs)))) ≡ cond v (octet a b ∷ decoding xs) (x ∷ decoding (a ∷ b ∷ xs))) [
+    elim (is_triplet x a b) as (λ v. flat_map fragment_bytes
+    (cond v (Octet (octet a b) ∷ fragments xs) (byte_before x (fragments (a ∷ b ∷ xs))))
+    ≡ cond v (octet a b ∷ decoding xs) (x ∷ decoding (a ∷ b ∷ xs))) [
       | true ↦ ap (λ z. octet a b ∷ z) (fragments-joined xs)
       | false ↦ bytes-byte x (fragments (a ∷ b ∷ xs)) ∙ ap (λ z. x ∷ z) (fragments-joined (a ∷ b ∷ xs))
     ]
@@ -70,7 +70,9 @@ unfolding fragments
 run_ends x [] = refl
 run_ends x (a ∷ []) = refl
 run_ends x (a ∷ b ∷ ys) =
-    elim (is_ascii_hexdigit a && is_ascii_hexdigit b) as (λ v. before_fragments x (cond v (Octet (octet a b) ∷ fragments ys) (Percent ∷ fragments (a ∷ b ∷ ys))) ≡ Run (x ∷ []) ∷ cond v (Octet (octet a b) ∷ fragments ys) (Percent ∷ fragments (a ∷ b ∷ ys))) [
+    elim (is_ascii_hexdigit a && is_ascii_hexdigit b) as (λ v. before_fragments x
+    (cond v (Octet (octet a b) ∷ fragments ys) (Percent ∷ fragments (a ∷ b ∷ ys)))
+    ≡ Run (x ∷ []) ∷ cond v (Octet (octet a b) ∷ fragments ys) (Percent ∷ fragments (a ∷ b ∷ ys))) [
       | true ↦ refl
       | false ↦ refl
     ]
@@ -83,12 +85,13 @@ fragments-run : (x : ℕ) (xs : List ℕ) → (x == 37) ≡ false → fragments 
 fragments-run x [] h = fragments-plain x [] h ∙ rw (h, fragments-nil) refl
 fragments-run x (y ∷ ys) h =
     fragments-plain x (y ∷ ys) h
-    ∙ (rw h (by_test y 37 (λ b. (y == 37) ≡ b → before_fragments x (fragments (y ∷ ys)) ≡ Run (x ∷ cond b [] (y ∷ before 37 ys)) ∷ fragments (cond b (y ∷ ys) (from 37 ys)))
+    ∙ (rw h (by_test y 37 (λ b. (y == 37) ≡ b → before_fragments x (fragments (y ∷ ys))
+    ≡ Run (x ∷ cond b [] (y ∷ before 37 ys)) ∷ fragments (cond b (y ∷ ys) (from 37 ys)))
     (λ same _. subst (λ z. before_fragments x (fragments (z ∷ ys)) ≡ Run (x ∷ []) ∷ fragments (z ∷ ys)) (sym same) (run_ends x ys))
     (λ _ n. ap (before_fragments x) (fragments-run y ys n) ∙ rw n refl)
     refl))
 
--- the run at the front of a text that doesn't begin with `%`
+-- the run at the start of a text that doesn't begin with `%`
 pub run-first : (t : List ℕ) → 0 < length t → get_or t 0 0 ≢ 37 → fragments t ≡ Run (before 37 t) ∷ fragments (from 37 t)
 run-first [] h n = absurd (omega arith)
 run-first (x ∷ xs) h n = fragments-run x xs (by_test x 37 (λ b. b ≡ false) (λ same. absurd (n same)) (λ _. refl))
@@ -107,18 +110,22 @@ unfolding fragments
 octet-fragment [] o os h = cc
 octet-fragment (a ∷ []) o os h = cc
 octet-fragment (a ∷ b ∷ xs) o os h =
-    elim (is_ascii_hexdigit a && is_ascii_hexdigit b) as (λ v. cond v (octet a b ∷ octets xs) [] ≡ o ∷ os → cond v (Octet (octet a b) ∷ fragments xs) (Percent ∷ fragments (a ∷ b ∷ xs)) ≡ Octet o ∷ fragments xs) [
+    elim (is_ascii_hexdigit a && is_ascii_hexdigit b) as (λ v. cond v (octet a b ∷ octets xs) [] ≡ o ∷ os
+    → cond v (Octet (octet a b) ∷ fragments xs) (Percent ∷ fragments (a ∷ b ∷ xs)) ≡ Octet o ∷ fragments xs) [
       | true ↦ λ e. let same : octet a b ≡ o = cc in ap (λ y. Octet y ∷ fragments xs) same
       | false ↦ λ e. cc
     ] h
 
-pub octet-first : (t : List ℕ) (o : ℕ) (os : List ℕ) → 0 < length t → get_or t 0 0 ≡ 37 → octets t ≡ o ∷ os → fragments t ≡ Octet o ∷ fragments (drop 3 t)
-octet-first t o os l h e = let p = is_percent t l h in subst (λ z. fragments z ≡ Octet o ∷ fragments (drop 3 z)) (sym p.split) (octet-fragment p.tail o os (ap octets (sym p.split) ∙ e))
+pub octet-first : (t : List ℕ) (o : ℕ) (os : List ℕ) → 0 < length t → get_or t 0 0 ≡ 37 → octets t ≡ o ∷ os
+    → fragments t ≡ Octet o ∷ fragments (drop 3 t)
+octet-first t o os l h e = let p = is_percent t l h in
+    subst (λ z. fragments z ≡ Octet o ∷ fragments (drop 3 z)) (sym p.split) (octet-fragment p.tail o os (ap octets (sym p.split) ∙ e))
 
 no_digits : (xs : List ℕ) → octets (37 ∷ xs) ≡ [] → two_digits xs ≡ false
 no_digits [] h = refl
 no_digits (a ∷ []) h = refl
-no_digits (a ∷ b ∷ xs) h = elim (is_ascii_hexdigit a && is_ascii_hexdigit b) as (λ v. cond v (octet a b ∷ octets xs) [] ≡ [] → v ≡ false) [ true ↦ λ e. cc | false ↦ λ _. refl ] h
+no_digits (a ∷ b ∷ xs) h = elim (is_ascii_hexdigit a && is_ascii_hexdigit b) as (λ v. cond v (octet a b ∷ octets xs) [] ≡ []
+    → v ≡ false) [ true ↦ λ e. cc | false ↦ λ _. refl ] h
 
 stray-fragment : (xs : List ℕ) → two_digits xs ≡ false → fragments (37 ∷ xs) ≡ Percent ∷ fragments xs
 unfolding fragments
@@ -127,11 +134,15 @@ stray-fragment (a ∷ []) h = refl
 stray-fragment (a ∷ b ∷ xs) h = rw h refl
 
 pub stray-first : (t : List ℕ) → 0 < length t → get_or t 0 0 ≡ 37 → octets t ≡ [] → fragments t ≡ Percent ∷ fragments (drop 1 t)
-stray-first t l h e = let p = is_percent t l h in subst (λ z. fragments z ≡ Percent ∷ fragments (drop 1 z)) (sym p.split) (stray-fragment p.tail (no_digits p.tail (ap octets (sym p.split) ∙ e)))
+stray-first t l h e = let p = is_percent t l h in subst (λ z. fragments z ≡ Percent ∷ fragments (drop 1 z)) (sym p.split)
+    (stray-fragment p.tail (no_digits p.tail (ap octets (sym p.split) ∙ e)))
 
 -- ---- how many there are
 length-before : (x : ℕ) (fs : List Fragment) → length (byte_before x fs) ≤ suc (length fs)
-length-before x fs = elim (x == 37) as (λ b. length (cond b (Percent ∷ fs) (before_fragments x fs)) ≤ suc (length fs)) [ true ↦ omega arith | false ↦ at fs ]
+length-before x fs = elim (x == 37) as (λ b. length (cond b (Percent ∷ fs) (before_fragments x fs)) ≤ suc (length fs)) [
+  | true ↦ omega arith
+  | false ↦ at fs
+]
   where
     at : (fs : List Fragment) → length (before_fragments x fs) ≤ suc (length fs)
     at [] = omega arith
@@ -145,13 +156,17 @@ fragments-most [] = omega arith
 fragments-most (x ∷ []) = length-before x []
 fragments-most (x ∷ a ∷ []) = omega (arith, length-before x (byte_before a []), length-before a [])
 fragments-most (x ∷ a ∷ b ∷ xs) =
-    elim (is_triplet x a b) as (λ v. length (cond v (Octet (octet a b) ∷ fragments xs) (byte_before x (fragments (a ∷ b ∷ xs)))) ≤ length (x ∷ a ∷ b ∷ xs)) [
+    elim (is_triplet x a b) as (λ v. length (cond v (Octet (octet a b) ∷ fragments xs) (byte_before x (fragments (a ∷ b ∷ xs))))
+    ≤ length (x ∷ a ∷ b ∷ xs)) [
       | true ↦ omega (arith, fragments-most xs)
       | false ↦ omega (arith, length-before x (fragments (a ∷ b ∷ xs)), fragments-most (a ∷ b ∷ xs))
     ]
 
 some-before : (x : ℕ) (fs : List Fragment) → 0 < length (byte_before x fs)
-some-before x fs = elim (x == 37) as (λ b. 0 < length (cond b (Percent ∷ fs) (before_fragments x fs))) [ true ↦ omega arith | false ↦ at fs ]
+some-before x fs = elim (x == 37) as (λ b. 0 < length (cond b (Percent ∷ fs) (before_fragments x fs))) [
+  | true ↦ omega arith
+  | false ↦ at fs
+]
   where
     at : (fs : List Fragment) → 0 < length (before_fragments x fs)
     at [] = omega arith
@@ -165,7 +180,8 @@ fragments-some [] = omega arith
 fragments-some (x ∷ []) = omega (arith, some-before x [])
 fragments-some (x ∷ a ∷ []) = omega (arith, some-before x (byte_before a []))
 fragments-some (x ∷ a ∷ b ∷ xs) =
-    elim (is_triplet x a b) as (λ v. min (length (x ∷ a ∷ b ∷ xs)) 1 ≤ length (cond v (Octet (octet a b) ∷ fragments xs) (byte_before x (fragments (a ∷ b ∷ xs))))) [
+    elim (is_triplet x a b) as (λ v. min (length (x ∷ a ∷ b ∷ xs)) 1
+    ≤ length (cond v (Octet (octet a b) ∷ fragments xs) (byte_before x (fragments (a ∷ b ∷ xs))))) [
       | true ↦ omega arith
       | false ↦ omega (arith, some-before x (fragments (a ∷ b ∷ xs)))
     ]
@@ -183,7 +199,11 @@ triplet-plain x (a ∷ b ∷ xs) h = rw h refl
 
 pub triplet-from : (t : List ℕ) → has_triplet t ≡ has_triplet (from 37 t)
 triplet-from [] = refl
-triplet-from (x ∷ xs) = elim (x == 37) as (λ b. (x == 37) ≡ b → has_triplet (x ∷ xs) ≡ has_triplet (cond b (x ∷ xs) (from 37 xs))) [ true ↦ λ _. refl | false ↦ λ e. triplet-plain x xs e ∙ triplet-from xs ] refl
+triplet-from (x ∷ xs) = elim (x == 37) as (λ b. (x == 37) ≡ b
+    → has_triplet (x ∷ xs) ≡ has_triplet (cond b (x ∷ xs) (from 37 xs))) [
+      | true ↦ λ _. refl
+      | false ↦ λ e. triplet-plain x xs e ∙ triplet-from xs
+    ] refl
 
 triplet-stray : (xs : List ℕ) → two_digits xs ≡ false → has_triplet (37 ∷ xs) ≡ has_triplet xs
 unfolding has_triplet
@@ -196,13 +216,16 @@ unfolding has_triplet
 triplet-here [] o os h = cc
 triplet-here (a ∷ []) o os h = cc
 triplet-here (a ∷ b ∷ xs) o os h =
-    elim (is_ascii_hexdigit a && is_ascii_hexdigit b) as (λ v. cond v (octet a b ∷ octets xs) [] ≡ o ∷ os → (v || has_triplet (a ∷ b ∷ xs)) ≡ true) [ true ↦ λ _. refl | false ↦ λ e. cc ] h
+    elim (is_ascii_hexdigit a && is_ascii_hexdigit b) as (λ v. cond v (octet a b ∷ octets xs) [] ≡ o ∷ os
+    → (v || has_triplet (a ∷ b ∷ xs)) ≡ true) [ true ↦ λ _. refl | false ↦ λ e. cc ] h
 
 pub triplet-found : (t : List ℕ) (o : ℕ) (os : List ℕ) → 0 < length t → get_or t 0 0 ≡ 37 → octets t ≡ o ∷ os → has_triplet t ≡ true
 triplet-found t o os l h e = let p = is_percent t l h in ap has_triplet p.split ∙ triplet-here p.tail o os (ap octets (sym p.split) ∙ e)
 
 pub triplet-passed : (t : List ℕ) → 0 < length t → get_or t 0 0 ≡ 37 → octets t ≡ [] → has_triplet t ≡ has_triplet (drop 1 t)
-triplet-passed t l h e = let p = is_percent t l h in subst (λ z. has_triplet z ≡ has_triplet (drop 1 z)) (sym p.split) (triplet-stray p.tail (no_digits p.tail (ap octets (sym p.split) ∙ e)))
+triplet-passed t l h e = let p = is_percent t l h in
+    subst (λ z. has_triplet z ≡ has_triplet (drop 1 z)) (sym p.split)
+    (triplet-stray p.tail (no_digits p.tail (ap octets (sym p.split) ∙ e)))
 
 -- the text from its first `%` on, as a slice of it
 pub record AtPercent (t u : List ℕ) : Type 0 where
@@ -231,7 +254,8 @@ decoding-same [] h = refl
 decoding-same (x ∷ []) h = refl
 decoding-same (x ∷ a ∷ []) h = refl
 decoding-same (x ∷ a ∷ b ∷ xs) h =
-    elim (is_triplet x a b) as (λ v. (v || has_triplet (a ∷ b ∷ xs)) ≡ false → cond v (octet a b ∷ decoding xs) (x ∷ decoding (a ∷ b ∷ xs)) ≡ x ∷ a ∷ b ∷ xs) [
+    elim (is_triplet x a b) as (λ v. (v || has_triplet (a ∷ b ∷ xs)) ≡ false
+    → cond v (octet a b ∷ decoding xs) (x ∷ decoding (a ∷ b ∷ xs)) ≡ x ∷ a ∷ b ∷ xs) [
       | true ↦ λ e. cc
       | false ↦ λ e. ap (λ z. x ∷ z) (decoding-same (a ∷ b ∷ xs) e)
     ] h
@@ -253,11 +277,13 @@ decoding-fewer [] h = cc
 decoding-fewer (x ∷ []) h = cc
 decoding-fewer (x ∷ a ∷ []) h = cc
 decoding-fewer (x ∷ a ∷ b ∷ xs) h =
-    elim (is_triplet x a b) as (λ v. (v || has_triplet (a ∷ b ∷ xs)) ≡ true → length (cond v (octet a b ∷ decoding xs) (x ∷ decoding (a ∷ b ∷ xs))) < length (x ∷ a ∷ b ∷ xs)) [
+    elim (is_triplet x a b) as (λ v. (v || has_triplet (a ∷ b ∷ xs)) ≡ true
+    → length (cond v (octet a b ∷ decoding xs) (x ∷ decoding (a ∷ b ∷ xs))) < length (x ∷ a ∷ b ∷ xs)) [
       | true ↦ λ _. omega (arith, decoding-shorter xs)
       | false ↦ λ e. omega (arith, decoding-fewer (a ∷ b ∷ xs) e)
     ] h
 
 -- and nothing else does
 pub same-decoding : (t : List ℕ) → decoding t ≡ t → has_triplet t ≡ false
-same-decoding t h = elim (has_triplet t) as (λ b. has_triplet t ≡ b → b ≡ false) [ true ↦ λ e. absurd (omega (arith, decoding-fewer t e, ap length h)) | false ↦ λ _. refl ] refl
+same-decoding t h = elim (has_triplet t) as (λ b. has_triplet t ≡ b
+    → b ≡ false) [ true ↦ λ e. absurd (omega (arith, decoding-fewer t e, ap length h)) | false ↦ λ _. refl ] refl

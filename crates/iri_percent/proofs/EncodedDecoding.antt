@@ -1,5 +1,5 @@
 -- Decoding undoes encoding.
-use Rattle.std.proofs.Common.{◌≡◌, ℕ, ◌<◌, Bool, true, false, cond, ◌&&◌, List, [], ◌∷◌, ◌++◌, refl, sym, ◌∙◌, ap, arith, eqb-true, ltb-true}
+use Rattle.std.proofs.Common.{◌≡◌, ℕ, ◌<◌, Bool, true, false, cond, ◌&&◌, List, [], ◌∷◌, ◌++◌, refl, ◌∙◌, ap, arith, ltb-true}
 use Rattle.std.specs.Prelude.{◌==◌, ◌/◌, ◌%◌, nat_lt, not}
 use Rattle.std.specs.List.{flat_map, list_all}
 use Rattle.std.specs.Str.{chars, IsUtf8}
@@ -7,16 +7,18 @@ use lib.Utf8.{encode, encodes, scalar, scalars}
 use Rattle.std.proofs.lemmas.Str.{encode_ascii, encodes-chars, scalars-chars}
 use Rattle.std.proofs.lemmas.Bool.Decides.{nat_tests}
 use Rattle.iri_grammar.specs.Classes.{Tests, IsSpec}
-use Rattle.iri_grammar.specs.ClassLaws.{class_has_no_percent}
+use Rattle.iri_grammar.proofs.ClassLaws.{class_has_no_percent}
 use Rattle.iri_grammar.specs.declared.class.Class.TheVariants as C
-use Rattle.iri_grammar.specs.CutLaws.{both}
+use Rattle.iri_grammar.proofs.CutLaws.{both}
 use Rattle.iri_percent.specs.Mapping.{capital_hex, triplets}
-use Rattle.iri_percent.specs.MapTexts.{is_high, encode-high, high_small, octet_of, capital_is_hex, first_digit, second_digit}
-use Rattle.iri_percent.specs.Stability.{encode_percent}
+use Rattle.iri_percent.proofs.MapTexts.{is_high, encode-high, high_small, octet_of, capital_is_hex, first_digit, second_digit}
+use Rattle.iri_percent.proofs.Stability.{encode_percent}
+use Rattle.iri_percent.proofs.ClassLaws.{class_percent}
 use Rattle.iri_percent.specs.Encoding.{keeps, encoded, encoded_char}
 use Rattle.iri_percent.specs.Decoding.{decoding}
 use Rattle.iri_percent.specs.declared.context.Context.{Context}
-use Rattle.iri_percent.specs.declared.context.Context.TheVariants.{RegName, UserOrPassword, PathSegment, Path, Query, Fragment, Unreserved, Any}
+use Rattle.iri_percent.specs.declared.context.Context.TheVariants.{RegName, UserOrPassword, PathSegment, Path, Query, Fragment, Unreserved}
+use Rattle.iri_percent.specs.declared.context.Context.TheVariants.{Any}
 use Rattle.iri_percent.proofs.DecodingLemmas.{decoding-triplet, decoding-plains}
 
 -- `%` is never kept
@@ -38,7 +40,8 @@ decoding-triplets [] xs h = refl
 decoding-triplets (o ∷ os) xs h =
     let k = both (is_octet o) (list_all is_octet os) h in
     let small : o < 256 = ltb-true o 256 k.0 in
-    decoding-triplet (capital_hex (o / 16)) (capital_hex (o % 16)) (triplets os ++ xs) (capital_is_hex (o / 16) (first_digit o small)) (capital_is_hex (o % 16) (second_digit o))
+    decoding-triplet (capital_hex (o / 16)) (capital_hex (o % 16)) (triplets os ++ xs) (capital_is_hex (o / 16) (first_digit o small))
+    (capital_is_hex (o % 16) (second_digit o))
     ∙ ap (λ x. x ∷ decoding (triplets os ++ xs)) (octet_of o small)
     ∙ ap (λ l. o ∷ l) (decoding-triplets os xs k.1)
 
@@ -59,17 +62,11 @@ char_octets c h =
     one : (x : ℕ) → x < 128 → (nat_lt x 256 && true) ≡ true
     one x h = grind (arith, nat_tests)
 
-not_percent : (p : ℕ → Bool) (c : ℕ) → p 37 ≡ false → p c ≡ true → (c == 37) ≡ false
-not_percent p c n h =
-    elim (c == 37) as (λ v. (c == 37) ≡ v → v ≡ false) [
-      | true ↦ λ e. let clash : true ≡ false = sym h ∙ ap p (eqb-true c 37 e) ∙ n in cc
-      | false ↦ λ e. refl
-    ] refl
-
-decoding-char : (p : ℕ → Bool) (c : ℕ) (xs : List ℕ) → p 37 ≡ false → scalar c ≡ true → decoding (encoded_char p c ++ xs) ≡ encode c ++ decoding xs
+decoding-char : (p : ℕ → Bool) (c : ℕ) (xs : List ℕ) → p 37 ≡ false → scalar c ≡ true
+    → decoding (encoded_char p c ++ xs) ≡ encode c ++ decoding xs
 decoding-char p c xs n h =
     elim (p c) as (λ v. p c ≡ v → decoding (cond v (encode c) (triplets (encode c)) ++ xs) ≡ encode c ++ decoding xs) [
-      | true ↦ λ e. decoding-plains (encode c) xs (encode_percent c (not_percent p c n e))
+      | true ↦ λ e. decoding-plains (encode c) xs (encode_percent c (class_percent p c n e))
       | false ↦ λ e. decoding-triplets (encode c) xs (char_octets c h)
     ] refl
 

@@ -1,22 +1,24 @@
 -- The runs of a text that is encoded.
-use Rattle.std.proofs.Common.{◌≡◌, ℕ, suc, ◌+◌, ◌-◌, ◌<◌, ◌≤◌, Bool, true, false, cond, ◌&&◌, List, [], ◌∷◌, ◌++◌, length, take, drop, refl, sym, ◌∙◌, ap, subst, arith, append_assoc, length-append, ltb-true}
+use Rattle.std.proofs.Common.{◌≡◌, ℕ, suc, ◌-◌, ◌<◌, ◌≤◌, Bool, true, false, cond, ◌&&◌, List, [], ◌∷◌, ◌++◌, length, take, drop, refl}
+use Rattle.std.proofs.Common.{sym, ◌∙◌, ap, subst, arith, append_assoc, length-append, ltb-true}
 use Rattle.std.specs.Prelude.{not, ◌==◌, nat_lt}
 use Rattle.std.specs.List.{flat_map}
 use Rattle.std.specs.Char.{encode_utf8}
 use Rattle.std.specs.Str.{chars, IsUtf8, IsCharBoundary}
-use Rattle.std.proofs.lemmas.Str.{IsUtf8-nil, chars-nil, encode_ascii, IsCharBoundary-from_drop}
+use Rattle.std.proofs.lemmas.Str.{encode_ascii, IsCharBoundary-from_drop}
 use Rattle.std.proofs.lemmas.List.{take_at, drop_at}
 use Rattle.std.proofs.lemmas.Bool.Decides.{nat_tests}
-use Rattle.iri_grammar.specs.Classes.{Tests, IsSpec, userinfo_char, reg_name_char, is_ascii_userinfo, is_ascii_reg_name, is_ascii_unreserved, is_sub_delim}
+use Rattle.iri_grammar.specs.Classes.{Tests, IsSpec, userinfo_char, reg_name_char, is_ascii_userinfo, is_ascii_reg_name}
+use Rattle.iri_grammar.specs.Classes.{is_ascii_unreserved, is_sub_delim}
 use Rattle.iri_grammar.specs.ClassTests.{class_test, ascii_test}
-use Rattle.iri_grammar.specs.ClassLaws.{class_at_ascii}
-use Rattle.iri_grammar.specs.CutLaws.{both}
+use Rattle.iri_grammar.proofs.ClassLaws.{class_at_ascii}
+use Rattle.iri_grammar.proofs.CutLaws.{both}
 use Rattle.iri_grammar.specs.Runs.{run_of}
 use Rattle.iri_grammar.specs.declared.class.Class.{Class}
 use Rattle.iri_text.proofs.CharSteps.{first_char, no_chars}
 use Rattle.iri_percent.specs.Mapping.{triplet, triplets}
 use Rattle.iri_percent.specs.Encoding.{encoded, encoded_char}
-use Rattle.iri_percent.specs.Runs.{is_other, run_text, IsRun, IsPastRun, IsNextRun}
+use Rattle.iri_percent.specs.inside.Runs.{is_other, run_text, IsRun, IsPastRun}
 
 -- a userinfo has the colon beside the characters of a reg-name
 pub user_is_reg_name : (s : Tests) → IsSpec s → (c : ℕ) → reg_name_char s c ≡ (userinfo_char s c && not (c == 58))
@@ -49,12 +51,24 @@ unfolding encoded
 encoded-first p c t r e = ap (flat_map (encoded_char p)) e
 
 pub past_none : (p : ℕ → Bool) (stands : Bool) (t : List ℕ) → IsUtf8 t → IsPastRun p stands t t
-past_none p stands t u = record { run = []; is_run = record { split = refl; utf8 = u; same = ap (λ l. l ++ encoded p t) (sym (run-nil stands)) } }
+past_none p stands t u = record {
+  run = [];
+  is_run =
+      record { split = refl; utf8 = u; same = ap (λ l. l ++ encoded p t) (sym (run-nil stands)) };
+}
 
-pub past_char : (p : ℕ → Bool) (stands : Bool) (c : ℕ) (t r : List ℕ) → IsUtf8 t → t ≡ encode_utf8 c ++ r → p c ≡ stands → IsPastRun p stands t r
+pub past_char : (p : ℕ → Bool) (stands : Bool) (c : ℕ) (t r : List ℕ) → IsUtf8 t → t ≡ encode_utf8 c ++ r → p c ≡ stands
+    → IsPastRun p stands t r
 past_char p stands c t r u e h =
     let f = first_char t r c u e in
-    record { run = encode_utf8 c; is_run = record { split = e; utf8 = f.utf8; same = encoded-first p c t r f.first ∙ ap (λ l. l ++ encoded p r) (char_run p c stands h) } }
+    record {
+      run = encode_utf8 c;
+      is_run = record {
+        split = e;
+        utf8 = f.utf8;
+        same = encoded-first p c t r f.first ∙ ap (λ l. l ++ encoded p r) (char_run p c stands h);
+      };
+    }
 
 pub past_more : (p : ℕ → Bool) (stands : Bool) (t r q : List ℕ) → IsPastRun p stands t r → IsPastRun p stands r q → IsPastRun p stands t q
 past_more p stands t r q a b = record {
@@ -62,12 +76,15 @@ past_more p stands t r q a b = record {
   is_run = record {
     split = a.is_run.split ∙ ap (λ l. a.run ++ l) b.is_run.split ∙ sym (append_assoc a.run b.run q);
     utf8 = b.is_run.utf8;
-    same = a.is_run.same ∙ ap (λ l. run_text stands a.run ++ l) b.is_run.same ∙ sym (append_assoc (run_text stands a.run) (run_text stands b.run) (encoded p q)) ∙ ap (λ l. l ++ encoded p q) (sym (run-append stands a.run b.run));
+    same = a.is_run.same ∙ ap (λ l. run_text stands a.run ++ l) b.is_run.same
+        ∙ sym (append_assoc (run_text stands a.run) (run_text stands b.run) (encoded p q))
+        ∙ ap (λ l. l ++ encoded p q) (sym (run-append stands a.run b.run));
   };
 }
 
 -- a run of ASCII characters
-pub past_ascii : (p q : ℕ → Bool) (stands : Bool) → ((c : ℕ) → q c ≡ true → (c < 128) × (p c ≡ stands)) → (t : List ℕ) → IsUtf8 t → IsPastRun p stands t (drop (run_of q t) t)
+pub past_ascii : (p q : ℕ → Bool) (stands : Bool) → ((c : ℕ) → q c ≡ true → (c < 128) × (p c ≡ stands)) → (t : List ℕ) → IsUtf8 t
+    → IsPastRun p stands t (drop (run_of q t) t)
 past_ascii p q stands h [] u = past_none p stands [] u
 past_ascii p q stands h (b ∷ t) u =
     elim (q b) as (λ v. q b ≡ v → IsPastRun p stands (b ∷ t) (drop (cond v (suc (run_of q t)) 0) (b ∷ t))) [
@@ -86,11 +103,17 @@ pub other_below : (k : Class) (b : ℕ) → is_other k b ≡ true → b < 128
 other_below k b h = ltb-true b 128 (both (nat_lt b 128) (not (ascii_test k b)) h).0
 
 pub other_ascii : (s : Tests) → IsSpec s → (k : Class) (b : ℕ) → is_other k b ≡ true → (b < 128) × (class_test s k b ≡ false)
-other_ascii s l k b h = (other_below k b h, class_at_ascii s l k b (other_below k b h) ∙ is_false (ascii_test k b) (both (nat_lt b 128) (not (ascii_test k b)) h).1)
+other_ascii s l k b h = (
+  other_below k b h,
+  class_at_ascii s l k b (other_below k b h)
+      ∙ is_false (ascii_test k b) (both (nat_lt b 128) (not (ascii_test k b)) h).1,
+)
 
 -- a character, and the run behind it
-pub run_from_char : (p : ℕ → Bool) (stands : Bool) (c : ℕ) (t whole tail behind rest : List ℕ) → IsUtf8 t → whole ≡ t → whole ≡ encode_utf8 c ++ tail → p c ≡ stands → behind ≡ tail → IsPastRun p stands behind rest → IsPastRun p stands t rest
-run_from_char p stands c t whole tail behind rest u same e h b a = past_more p stands t tail rest (past_char p stands c t tail u (sym same ∙ e) h) (subst (λ l. IsPastRun p stands l rest) b a)
+pub run_from_char : (p : ℕ → Bool) (stands : Bool) (c : ℕ) (t whole tail behind rest : List ℕ) → IsUtf8 t → whole ≡ t
+    → whole ≡ encode_utf8 c ++ tail → p c ≡ stands → behind ≡ tail → IsPastRun p stands behind rest → IsPastRun p stands t rest
+run_from_char p stands c t whole tail behind rest u same e h b a =
+    past_more p stands t tail rest (past_char p stands c t tail u (sym same ∙ e) h) (subst (λ l. IsPastRun p stands l rest) b a)
 
 -- where the run ends
 pub run_length : (p : ℕ → Bool) (stands : Bool) (t r : List ℕ) (a : IsPastRun p stands t r) → length t - length r ≡ length a.run
@@ -100,17 +123,21 @@ pub run_within : (p : ℕ → Bool) (stands : Bool) (t r : List ℕ) → IsPastR
 run_within p stands t r a = omega (arith, ap length a.is_run.split, length-append a.run r)
 
 -- the text up to there is the run
-pub run_front : (p : ℕ → Bool) (stands : Bool) (t r front : List ℕ) → IsPastRun p stands t r → front ≡ take (length t - length r) t → IsRun p t stands front r
+pub run_front : (p : ℕ → Bool) (stands : Bool) (t r front : List ℕ) → IsPastRun p stands t r → front ≡ take (length t - length r) t
+    → IsRun p t stands front r
 run_front p stands t r front a e =
-    let same : front ≡ a.run = e ∙ ap (take (length t - length r)) a.is_run.split ∙ take_at a.run r (length t - length r) (sym (run_length p stands t r a)) in
+    let same : front ≡ a.run = e ∙ ap (take (length t - length r)) a.is_run.split
+    ∙ take_at a.run r (length t - length r) (sym (run_length p stands t r a)) in
     subst (λ l. IsRun p t stands l r) (sym same) a.is_run
 
-pub run_boundary : (p : ℕ → Bool) (stands : Bool) (t r : List ℕ) (n : ℕ) → IsPastRun p stands t r → n ≡ length t - length r → IsCharBoundary t n
+pub run_boundary : (p : ℕ → Bool) (stands : Bool) (t r : List ℕ) (n : ℕ) → IsPastRun p stands t r → n ≡ length t - length r
+    → IsCharBoundary t n
 run_boundary p stands t r n a e =
     let is : n ≡ length a.run = e ∙ run_length p stands t r a in
     let behind : drop n t ≡ r = ap (drop n) a.is_run.split ∙ drop_at a.run r n (sym is) in
     IsCharBoundary-from_drop t n (omega (arith, ap length a.is_run.split, length-append a.run r)) (subst IsUtf8 (sym behind) a.is_run.utf8)
 
 -- what was written, a run, and the rest
-pub run_shown : (p : ℕ → Bool) (stands : Bool) (done t front r : List ℕ) → IsRun p t stands front r → done ++ encoded p t ≡ (done ++ run_text stands front) ++ encoded p r
+pub run_shown : (p : ℕ → Bool) (stands : Bool) (done t front r : List ℕ) → IsRun p t stands front r
+    → done ++ encoded p t ≡ (done ++ run_text stands front) ++ encoded p r
 run_shown p stands done t front r a = ap (λ l. done ++ l) a.same ∙ sym (append_assoc done (run_text stands front) (encoded p r))

@@ -1,20 +1,22 @@
 -- Hosts, byte by byte.
-use Rattle.std.proofs.Common.{◌≡◌, ℕ, zero, suc, ◌-◌, ◌<◌, Bool, true, false, cond, not, ◌&&◌, List, [], ◌∷◌, length, take, drop, get_or, refl, sym, ◌∙◌, ap, subst, arith}
+use Rattle.std.proofs.Common.{◌≡◌, ℕ, zero, suc, ◌-◌, ◌<◌, Bool, true, false, cond, not, ◌&&◌, List, [], ◌∷◌, length, take, drop, get_or}
+use Rattle.std.proofs.Common.{refl, sym, ◌∙◌, ap, subst, arith}
 use Rattle.std.specs.Prelude.{◌==◌, nat_lt}
 use Rattle.std.specs.List.{list_all}
 use Rattle.std.specs.Char.{is_ascii_uppercase, to_ascii_lowercase}
 use Rattle.std.proofs.lemmas.List.{take_rest}
 use Rattle.iri_grammar.specs.Classes.{Tests}
-use Rattle.iri_grammar.specs.CutLaws.{both}
+use Rattle.iri_grammar.proofs.CutLaws.{both}
 use Rattle.iri_percent.specs.Units.{two_digits, whole_triplets}
 use Rattle.iri_percent.specs.Triplets.{normal}
 use Rattle.iri_percent.specs.NormalHost.{octet_below_128, is_ascii_host, normal_host}
-use Rattle.iri_percent.specs.Pieces.{case_of, stays, NoMark, is_plain_byte}
+use Rattle.iri_percent.specs.inside.Pieces.{case_of, stays, NoMark, is_plain_byte}
 use Rattle.iri_percent.proofs.Changes.{run_all}
 
 pub percent_digits : (x : ℕ) (xs : List ℕ) → x ≡ 37 → whole_triplets (x ∷ xs) ≡ true → two_digits xs ≡ true
 unfolding whole_triplets
-percent_digits x xs e w = (both (two_digits xs) (whole_triplets xs) (ap (λ y. cond (y == 37) (two_digits xs) true && whole_triplets xs) (sym e) ∙ w)).0
+percent_digits x xs e w = (both (two_digits xs) (whole_triplets xs)
+    (ap (λ y. cond (y == 37) (two_digits xs) true && whole_triplets xs) (sym e) ∙ w)).0
 
 -- whether the first byte is ASCII, and the octet of a triplet that it begins
 abbrev pub ascii_front : ℕ → List ℕ → Bool
@@ -30,7 +32,10 @@ and_assoc false b c = refl
 
 step_at : (x : ℕ) (xs : List ℕ) → whole_triplets (x ∷ xs) ≡ true → Step (x ∷ xs) xs
 unfolding whole_triplets is_ascii_host
-step_at x xs w = record { whole = (both (cond (x == 37) (two_digits xs) true) (whole_triplets xs) w).1; same = and_assoc (nat_lt x 128) (cond (x == 37) (octet_below_128 xs) true) (is_ascii_host xs) }
+step_at x xs w = record {
+  whole = (both (cond (x == 37) (two_digits xs) true) (whole_triplets xs) w).1;
+  same = and_assoc (nat_lt x 128) (cond (x == 37) (octet_below_128 xs) true) (is_ascii_host xs);
+}
 
 pub step : (t : List ℕ) → 0 < length t → whole_triplets t ≡ true → Step t (take (length t - 1) (drop 1 t))
 step [] l w = absurd (omega arith)
@@ -62,7 +67,8 @@ plain_stays (x ∷ xs) h (suc k) j = plain_stays xs (both (is_plain_byte x) (lis
 
 pub host_case : (s : Tests) (t : List ℕ) → normal_host s t ≡ normal s (case_of (is_ascii_host t)) t
 unfolding normal_host
-host_case s t = elim (is_ascii_host t) as (λ b. cond b (normal s to_ascii_lowercase t) (normal s (case_of false) t) ≡ normal s (case_of b) t) [ true ↦ refl | false ↦ refl ]
+host_case s t = elim (is_ascii_host t) as (λ b. cond b (normal s to_ascii_lowercase t) (normal s (case_of false) t)
+    ≡ normal s (case_of b) t) [ true ↦ refl | false ↦ refl ]
 
 pub plain_host : (s : Tests) (t : List ℕ) → list_all is_plain_byte t ≡ true → normal_host s t ≡ t
 plain_host s t h = host_case s t ∙ ap (λ b. normal s (case_of b) t) (plain_ascii t h) ∙ run_all s true t (plain_stays t h)

@@ -1,5 +1,6 @@
 -- The mapping and triplet normal form, and what the mapping does.
-use Rattle.std.proofs.Common.{◌≡◌, ℕ, zero, suc, ◌+◌, ◌*◌, ◌<◌, ◌≤◌, Bool, true, false, cond, ◌||◌, List, [], ◌∷◌, ◌++◌, Option, Some, None, length, map, refl, sym, ◌∙◌, ap, subst, arith, length-append, ltb-true, ltb-false}
+use Rattle.std.proofs.Common.{◌≡◌, ℕ, zero, suc, ◌+◌, ◌*◌, ◌<◌, ◌≤◌, Bool, true, false, cond, ◌||◌, List, [], ◌∷◌, ◌++◌, Option, Some}
+use Rattle.std.proofs.Common.{None, length, map, refl, sym, ◌∙◌, ap, subst, arith, length-append, ltb-true, ltb-false}
 use Rattle.std.specs.Prelude.{◌==◌, ◌/◌, ◌%◌, nat_lt}
 use Rattle.std.specs.List.{list_all}
 use Rattle.std.specs.Char.{is_ascii_hexdigit, digit_value, to_ascii_uppercase}
@@ -8,23 +9,25 @@ use Rattle.std.specs.Str.{chars, IsAscii, IsUtf8}
 use Rattle.std.proofs.lemmas.Str.{encode_ascii, encodes-chars, scalars-chars, IsAscii-append}
 use Rattle.std.proofs.lemmas.Bool.Decides.{nat_tests}
 use Rattle.iri_grammar.specs.Classes.{Tests, IsSpec, uri_tests, unreserved, is_ascii_unreserved}
-use Rattle.iri_grammar.specs.CutLaws.{both}
+use Rattle.iri_grammar.proofs.CutLaws.{both}
 use Rattle.iri_grammar.specs.Over.{text_over}
 use Rattle.iri_percent.specs.Units.{octet, octets, first_char}
 use Rattle.iri_percent.specs.Triplets.{normal}
-use Rattle.iri_percent.specs.ClassLaws.{IsText, ended, letter, escape, text-from_over}
-use Rattle.iri_percent.specs.UnitLaws.{Spells, none, more, spelled, octets_triplet, char_first, encode_bytes}
-use Rattle.iri_percent.specs.NormalLaws.{decoded, unreserved_only, normal_nil, normal_plain, normal_plains, normal_char, normal_decoded, normal_kept}
-use Rattle.iri_percent.specs.CaseLaws.{encode_case, is_decoded}
-use Rattle.iri_percent.specs.Stability.{IsCase, encode_percent, upper_hex}
+use Rattle.iri_percent.proofs.ClassLaws.{IsText, ended, letter, escape, text-from_over, behind_escape}
+use Rattle.iri_percent.proofs.UnitLaws.{Spells, none, more, spelled, octets_triplet, char_first, encode_bytes}
+use Rattle.iri_percent.specs.NormalLaws.{decoded, unreserved_only}
+use Rattle.iri_percent.proofs.NormalLaws.{normal_nil, normal_plain, normal_plains, normal_char, normal_decoded, normal_kept}
+use Rattle.iri_percent.proofs.CaseLaws.{encode_case, is_decoded}
+use Rattle.iri_percent.proofs.Stability.{IsCase, encode_percent, upper_hex}
 use Rattle.iri_percent.specs.Mapping.{capital_hex, triplet, mapped, triplets, mapped_char, mapped_chars}
-use Rattle.iri_percent.specs.MapTexts.{mapped-low, mapped-high, mapped-append, mapped-triplet, mapped-spelled, mapped-spells, is_high, high_past, high_small, first_digit, second_digit, encode-high, uri-spec}
+use Rattle.iri_percent.proofs.MapTexts.{mapped-low, mapped-high, mapped-append, mapped-triplet, mapped-spelled, mapped-spells, is_high}
+use Rattle.iri_percent.proofs.MapTexts.{high_past, high_small, first_digit, second_digit, encode-high, uri-spec}
 
 -- ---- triplets in capital
 capital_of : (a : ℕ) → is_ascii_hexdigit a ≡ true → capital_hex (digit_value a) ≡ to_ascii_uppercase a
 capital_of a h = grind (arith, nat_tests)
 
-value_small : (a : ℕ) → is_ascii_hexdigit a ≡ true → digit_value a < 16
+pub value_small : (a : ℕ) → is_ascii_hexdigit a ≡ true → digit_value a < 16
 value_small a h = grind (arith, nat_tests)
 
 high_part : (x y : ℕ) → y < 16 → (x * 16 + y) / 16 ≡ x
@@ -34,8 +37,12 @@ low_part : (x y : ℕ) → y < 16 → (x * 16 + y) % 16 ≡ y
 low_part x y h = omega arith
 
 -- two hex digits in capital are the triplet of the octet that they spell
-capital_triplet : (a b : ℕ) → is_ascii_hexdigit a ≡ true → is_ascii_hexdigit b ≡ true → triplet (octet a b) ≡ 37 ∷ to_ascii_uppercase a ∷ to_ascii_uppercase b ∷ []
-capital_triplet a b p q = rw (high_part (digit_value a) (digit_value b) (value_small b q), low_part (digit_value a) (digit_value b) (value_small b q)) (rw (capital_of a p, capital_of b q) refl)
+capital_triplet : (a b : ℕ) → is_ascii_hexdigit a ≡ true → is_ascii_hexdigit b ≡ true
+    → triplet (octet a b) ≡ 37 ∷ to_ascii_uppercase a ∷ to_ascii_uppercase b ∷ []
+capital_triplet a b p q = rw (
+  high_part (digit_value a) (digit_value b) (value_small b q),
+  low_part (digit_value a) (digit_value b) (value_small b q),
+) (rw (capital_of a p, capital_of b q) refl)
 
 -- triplets of bytes past ASCII, in capital
 upper-spelled : (sp os : List ℕ) → Spells sp os → list_all is_high os ≡ true → map to_ascii_uppercase sp ≡ mapped os
@@ -97,22 +104,14 @@ uri-decoded o os n = at (decoded uri_tests (o ∷ os)) refl
 -- where no unreserved character begins, none begins under URIs
 none-decoded : (s : Tests) (o : ℕ) (os qs : List ℕ) → decoded s (o ∷ os) ≡ None → decoded uri_tests (o ∷ qs) ≡ None
 none-decoded s o os qs h =
-    elim (is_ascii_unreserved o) as (λ b. is_ascii_unreserved o ≡ b → decoded uri_tests (o ∷ qs) ≡ None) [ true ↦ λ e. let yes' = ascii-decoded s o os e in cc | false ↦ λ e. uri-decoded o qs e ] refl
+    elim (is_ascii_unreserved o) as (λ b. is_ascii_unreserved o ≡ b
+    → decoded uri_tests (o ∷ qs) ≡ None) [ true ↦ λ e. let yes' = ascii-decoded s o os e in cc | false ↦ λ e. uri-decoded o qs e ] refl
 
 -- ---- what stands behind a triplet
-behind_escape : (p : ℕ → Bool) (u : List ℕ) (a b : ℕ) (t : List ℕ) → IsText p u → u ≡ 37 ∷ a ∷ b ∷ t → IsText p t
-behind_escape p u a b t ended e = cc
-behind_escape p u a b t (letter c t' s h n r) e =
-    let l = encode_bytes c in
-    let w : l.lead ∷ (l.tail ++ t') ≡ 37 ∷ a ∷ b ∷ t = ap (λ x. x ++ t') (sym l.split) ∙ e in
-    let first : l.lead ≡ 37 = cc in
-    let no : (37 == 37) ≡ false = ap (λ x. x == 37) (sym first) ∙ l.percent ∙ n in
-    cc
-behind_escape p u a b t (escape a' b' t' ha hb r) e = let same : t' ≡ t = cc in subst (λ x. IsText p x) same r
-
 behind_spelled : (p : ℕ → Bool) (sp os xs : List ℕ) → Spells sp os → IsText p (sp ++ xs) → IsText p xs
 behind_spelled p sp os xs none h = h
-behind_spelled p sp os xs (more a b sp' os' ha hb k) h = behind_spelled p sp' os' xs k (behind_escape p (37 ∷ a ∷ b ∷ (sp' ++ xs)) a b (sp' ++ xs) h refl)
+behind_spelled p sp os xs (more a b sp' os' ha hb k) h =
+    behind_spelled p sp' os' xs k (behind_escape p (37 ∷ a ∷ b ∷ (sp' ++ xs)) a b (sp' ++ xs) h refl)
 
 -- ---- the triplet normal form
 abbrev Maps : Tests → (ℕ → ℕ) → List ℕ → Type 0
@@ -121,14 +120,16 @@ Maps s f t = mapped (normal s f t) ≡ normal uri_tests f (mapped t)
 map_past : (f : ℕ → ℕ) (c : ℕ) → IsCase f → nat_lt c 128 ≡ false → map f (encode c) ≡ encode c
 map_past f c i h = encode_case f c i ∙ ap encode (i.past c (ltb-false c 128 h))
 
-at_letter : (s : Tests) (f : ℕ → ℕ) (c : ℕ) (t : List ℕ) → IsCase f → scalar c ≡ true → (c == 37) ≡ false → Maps s f t → Maps s f (encode c ++ t)
+at_letter : (s : Tests) (f : ℕ → ℕ) (c : ℕ) (t : List ℕ) → IsCase f → scalar c ≡ true → (c == 37) ≡ false → Maps s f t
+    → Maps s f (encode c ++ t)
 at_letter s f c t i h n rest =
     elim (nat_lt c 128) as (λ b. nat_lt c 128 ≡ b → Maps s f (encode c ++ t)) [
       | true ↦ λ e.
           let l = ltb-true c 128 e in
           let below : nat_lt (f c) 128 ≡ true = low (f c) (i.below c l) in
           subst (λ z. Maps s f (z ++ t)) (sym (encode_ascii c l))
-          (ap mapped (normal_plain s f c t n) ∙ mapped-low (f c) (normal s f t) below ∙ ap (λ z. f c ∷ z) rest ∙ sym (normal_plain uri_tests f c (mapped t) n) ∙ ap (normal uri_tests f) (sym (mapped-low c t e)))
+          (ap mapped (normal_plain s f c t n) ∙ mapped-low (f c) (normal s f t) below ∙ ap (λ z. f c ∷ z) rest
+          ∙ sym (normal_plain uri_tests f c (mapped t) n) ∙ ap (normal uri_tests f) (sym (mapped-low c t e)))
       | false ↦ λ e.
           let high = encode-high c h e in
           let spell = mapped-spells (encode c) high in
@@ -136,7 +137,8 @@ at_letter s f c t i h n rest =
           ∙ mapped-append (encode c) (normal s f t)
           ∙ ap (λ z. mapped (encode c) ++ z) rest
           ∙ ap (λ z. z ++ normal uri_tests f (mapped t)) (sym (upper-spelled (mapped (encode c)) (encode c) spell high))
-          ∙ ap (λ b. cond b (map f (encode c)) (map to_ascii_uppercase (mapped (encode c))) ++ normal uri_tests f (mapped t)) (sym (past_reserved c e))
+          ∙ ap (λ b. cond b (map f (encode c)) (map to_ascii_uppercase (mapped (encode c))) ++ normal uri_tests f (mapped t))
+          (sym (past_reserved c e))
           ∙ sym (normal_char uri_tests f c (mapped (encode c)) (mapped t) h spell)
           ∙ ap (normal uri_tests f) (sym (mapped-append (encode c) t))
     ] refl
@@ -144,23 +146,32 @@ at_letter s f c t i h n rest =
     low : (x : ℕ) → x < 128 → nat_lt x 128 ≡ true
     low x h = grind (arith, nat_tests)
 
-at_kept : (s : Tests) (f : ℕ → ℕ) (a b : ℕ) (t : List ℕ) → is_ascii_hexdigit a ≡ true → is_ascii_hexdigit b ≡ true → decoded s (octets (37 ∷ a ∷ b ∷ t)) ≡ None → Maps s f t → Maps s f (37 ∷ a ∷ b ∷ t)
+at_kept : (s : Tests) (f : ℕ → ℕ) (a b : ℕ) (t : List ℕ) → is_ascii_hexdigit a ≡ true → is_ascii_hexdigit b ≡ true
+    → decoded s (octets (37 ∷ a ∷ b ∷ t)) ≡ None → Maps s f t → Maps s f (37 ∷ a ∷ b ∷ t)
 at_kept s f a b t p q e rest =
     let A = to_ascii_uppercase a in
     let B = to_ascii_uppercase b in
-    let kept : decoded uri_tests (octets (37 ∷ a ∷ b ∷ mapped t)) ≡ None = ap (decoded uri_tests) (octets_triplet a b (mapped t) p q) ∙ none-decoded s (octet a b) (octets t) (octets (mapped t)) (ap (decoded s) (sym (octets_triplet a b t p q)) ∙ e) in
+    let kept : decoded uri_tests (octets (37 ∷ a ∷ b ∷ mapped t)) ≡ None =
+    ap (decoded uri_tests) (octets_triplet a b (mapped t) p q)
+    ∙ none-decoded s (octet a b) (octets t) (octets (mapped t)) (ap (decoded s) (sym (octets_triplet a b t p q)) ∙ e) in
     ap mapped (normal_kept s f a b t p q e)
     ∙ mapped-triplet A B (normal s f t) (upper_hex a p) (upper_hex b q)
     ∙ ap (λ z. 37 ∷ A ∷ B ∷ z) rest
     ∙ sym (normal_kept uri_tests f a b (mapped t) p q kept)
     ∙ ap (normal uri_tests f) (sym (mapped-triplet a b t p q))
 
-at_decoded : (s : Tests) (f : ℕ → ℕ) (c : ℕ) (sp t : List ℕ) → IsSpec s → IsCase f → scalar c ≡ true → unreserved s c ≡ true → Spells sp (encode c) → Maps s f t → Maps s f (sp ++ t)
+at_decoded : (s : Tests) (f : ℕ → ℕ) (c : ℕ) (sp t : List ℕ) → IsSpec s → IsCase f → scalar c ≡ true → unreserved s c ≡ true
+    → Spells sp (encode c) → Maps s f t → Maps s f (sp ++ t)
 at_decoded s f c sp t k i h u j rest =
-    let right : normal uri_tests f (mapped (sp ++ t)) ≡ cond (unreserved uri_tests c) (map f (encode c)) (map to_ascii_uppercase sp) ++ normal uri_tests f (mapped t) = ap (normal uri_tests f) (mapped-spelled sp (encode c) t j) ∙ normal_char uri_tests f c sp (mapped t) h j in
-    let left : mapped (normal s f (sp ++ t)) ≡ mapped (map f (encode c)) ++ normal uri_tests f (mapped t) = ap mapped (normal_decoded s f c sp t h u j) ∙ mapped-append (map f (encode c)) (normal s f t) ∙ ap (λ z. mapped (map f (encode c)) ++ z) rest in
+    let right : normal uri_tests f (mapped (sp ++ t))
+    ≡ cond (unreserved uri_tests c) (map f (encode c)) (map to_ascii_uppercase sp) ++ normal uri_tests f (mapped t) =
+    ap (normal uri_tests f) (mapped-spelled sp (encode c) t j) ∙ normal_char uri_tests f c sp (mapped t) h j in
+    let left : mapped (normal s f (sp ++ t)) ≡ mapped (map f (encode c)) ++ normal uri_tests f (mapped t) =
+    ap mapped (normal_decoded s f c sp t h u j) ∙ mapped-append (map f (encode c)) (normal s f t)
+    ∙ ap (λ z. mapped (map f (encode c)) ++ z) rest in
     let same : mapped (map f (encode c)) ≡ cond (unreserved uri_tests c) (map f (encode c)) (map to_ascii_uppercase sp) =
-    elim (nat_lt c 128) as (λ b. nat_lt c 128 ≡ b → mapped (map f (encode c)) ≡ cond (unreserved uri_tests c) (map f (encode c)) (map to_ascii_uppercase sp)) [
+    elim (nat_lt c 128) as (λ b. nat_lt c 128 ≡ b → mapped (map f (encode c))
+    ≡ cond (unreserved uri_tests c) (map f (encode c)) (map to_ascii_uppercase sp)) [
       | true ↦ λ e.
           let l = ltb-true c 128 e in
           let free : unreserved uri_tests c ≡ true = ascii_unreserved uri_tests c uri-spec l ∙ sym (ascii_unreserved s c k l) ∙ u in
@@ -182,27 +193,38 @@ some_triplet sp os (more a b sp' os' p q k) h = omega arith
 maps_within : (n : ℕ) (s : Tests) (f : ℕ → ℕ) (p : ℕ → Bool) (t : List ℕ) → IsSpec s → IsCase f → length t ≤ n → IsText p t → Maps s f t
 maps_within n s f p t k i l ended = ap mapped (normal_nil s f) ∙ sym (normal_nil uri_tests f)
 maps_within zero s f p t k i l (letter c t' h q m r) = absurd (omega (arith, l, some_bytes c, length-append (encode c) t'))
-maps_within (suc n) s f p t k i l (letter c t' h q m r) = at_letter s f c t' i h m (maps_within n s f p t' k i (omega (arith, l, some_bytes c, length-append (encode c) t')) r)
+maps_within (suc n) s f p t k i l (letter c t' h q m r) =
+    at_letter s f c t' i h m (maps_within n s f p t' k i (omega (arith, l, some_bytes c, length-append (encode c) t')) r)
 maps_within zero s f p t k i l (escape a b t' ha hb r) = absurd (omega arith)
 maps_within (suc n) s f p t k i l (escape a b t' ha hb r) =
     let rest = maps_within n s f p t' k i (omega arith) r in
     at (decoded s (octets (37 ∷ a ∷ b ∷ t'))) refl rest (λ x short j. maps_within n s f p x k i short j)
   where
-    at : (o : Option ℕ) → decoded s (octets (37 ∷ a ∷ b ∷ t')) ≡ o → Maps s f t' → ((x : List ℕ) → length x ≤ n → IsText p x → Maps s f x) → Maps s f (37 ∷ a ∷ b ∷ t')
+    at : (o : Option ℕ) → decoded s (octets (37 ∷ a ∷ b ∷ t')) ≡ o → Maps s f t' → ((x : List ℕ) → length x ≤ n → IsText p x → Maps s f x)
+        → Maps s f (37 ∷ a ∷ b ∷ t')
     at None e rest go = at_kept s f a b t' ha hb e rest
     at (Some c) e rest go =
         let d = is_decoded s (octets (37 ∷ a ∷ b ∷ t')) c e in
         let g = spelled (encode c) d.0.rest (37 ∷ a ∷ b ∷ t') d.0.split in
         let all : IsText p (g.sp ++ g.xs) = subst (λ x. IsText p x) g.text (escape a b t' ha hb r) in
-        let short : length g.xs ≤ n = omega (arith, l, ap length g.text, length-append g.sp g.xs, some_triplet g.sp (encode c) g.spells (some_bytes c)) in
-        subst (λ z. Maps s f z) (sym g.text) (at_decoded s f c g.sp g.xs k i d.0.is_scalar d.1 g.spells (go g.xs short (behind_spelled p g.sp (encode c) g.xs g.spells all)))
+        let short : length g.xs ≤ n = omega (
+          arith,
+          l,
+          ap length g.text,
+          length-append g.sp g.xs,
+          some_triplet g.sp (encode c) g.spells (some_bytes c),
+        ) in
+        subst (λ z. Maps s f z) (sym g.text) (at_decoded s f c g.sp g.xs k i d.0.is_scalar d.1 g.spells
+        (go g.xs short (behind_spelled p g.sp (encode c) g.xs g.spells all)))
 
 -- mapping commutes with triplet normal form
-pub mapped-normal : (s : Tests) (f : ℕ → ℕ) (p : ℕ → Bool) (t : List ℕ) → IsSpec s → IsCase f → p 37 ≡ false → text_over p t ≡ true → mapped (normal s f t) ≡ normal uri_tests f (mapped t)
+pub mapped-normal : (s : Tests) (f : ℕ → ℕ) (p : ℕ → Bool) (t : List ℕ) → IsSpec s → IsCase f → p 37 ≡ false → text_over p t ≡ true
+    → mapped (normal s f t) ≡ normal uri_tests f (mapped t)
 mapped-normal s f p t k i n h = maps_within (length t) s f p t k i (omega arith) (text-from_over p t n h)
 
 -- the same of a text that is known by its bytes
-pub mapped-normal_text : (s : Tests) (f : ℕ → ℕ) (p : ℕ → Bool) (t : List ℕ) → IsSpec s → IsCase f → IsText p t → mapped (normal s f t) ≡ normal uri_tests f (mapped t)
+pub mapped-normal_text : (s : Tests) (f : ℕ → ℕ) (p : ℕ → Bool) (t : List ℕ) → IsSpec s → IsCase f → IsText p t
+    → mapped (normal s f t) ≡ normal uri_tests f (mapped t)
 mapped-normal_text s f p t k i h = maps_within (length t) s f p t k i (omega arith) h
 
 -- ---- what the mapping does
@@ -227,7 +249,8 @@ high-ascii : (os : List ℕ) → list_all is_high os ≡ true → IsAscii (mappe
 high-ascii [] h = none-ascii
 high-ascii (x ∷ xs) h =
     let k = both (is_high x) (list_all is_high xs) h in
-    subst IsAscii (sym (mapped-high x xs (high_past x k.0))) (IsAscii-append (triplet x) (mapped xs) (triplet-ascii x (high_small x k.0)) (high-ascii xs k.1))
+    subst IsAscii (sym (mapped-high x xs (high_past x k.0)))
+    (IsAscii-append (triplet x) (mapped xs) (triplet-ascii x (high_small x k.0)) (high-ascii xs k.1))
 
 char-ascii : (c : ℕ) → scalar c ≡ true → IsAscii (mapped (encode c))
 char-ascii c h =
@@ -240,7 +263,8 @@ chars-ascii : (cs : List ℕ) → scalars cs ≡ true → IsAscii (mapped (encod
 chars-ascii [] h = none-ascii
 chars-ascii (c ∷ cs) h =
     let k = both (scalar c) (scalars cs) h in
-    subst IsAscii (sym (mapped-append (encode c) (encodes cs))) (IsAscii-append (mapped (encode c)) (mapped (encodes cs)) (char-ascii c k.0) (chars-ascii cs k.1))
+    subst IsAscii (sym (mapped-append (encode c) (encodes cs)))
+    (IsAscii-append (mapped (encode c)) (mapped (encodes cs)) (char-ascii c k.0) (chars-ascii cs k.1))
 
 pub mapped-in_ascii : (t : List ℕ) → IsUtf8 t → IsAscii (mapped t)
 mapped-in_ascii t u = subst (λ z. IsAscii (mapped z)) (encodes-chars t u) (chars-ascii (chars t) (scalars-chars t u))
@@ -248,7 +272,8 @@ mapped-in_ascii t u = subst (λ z. IsAscii (mapped z)) (encodes-chars t u) (char
 -- character by character
 high-triplets : (os : List ℕ) → list_all is_high os ≡ true → mapped os ≡ triplets os
 high-triplets [] h = refl
-high-triplets (x ∷ xs) h = let k = both (is_high x) (list_all is_high xs) h in mapped-high x xs (high_past x k.0) ∙ ap (λ z. triplet x ++ z) (high-triplets xs k.1)
+high-triplets (x ∷ xs) h = let k = both (is_high x) (list_all is_high xs) h in
+    mapped-high x xs (high_past x k.0) ∙ ap (λ z. triplet x ++ z) (high-triplets xs k.1)
 
 mapped-encoded : (c : ℕ) → scalar c ≡ true → mapped (encode c) ≡ mapped_char c
 mapped-encoded c h =
@@ -261,7 +286,8 @@ mapped-encodes : (cs : List ℕ) → scalars cs ≡ true → mapped (encodes cs)
 mapped-encodes [] h = refl
 mapped-encodes (c ∷ cs) h =
     let k = both (scalar c) (scalars cs) h in
-    mapped-append (encode c) (encodes cs) ∙ ap (λ z. z ++ mapped (encodes cs)) (mapped-encoded c k.0) ∙ ap (λ z. mapped_char c ++ z) (mapped-encodes cs k.1)
+    mapped-append (encode c) (encodes cs) ∙ ap (λ z. z ++ mapped (encodes cs)) (mapped-encoded c k.0)
+    ∙ ap (λ z. mapped_char c ++ z) (mapped-encodes cs k.1)
 
 pub mapped-by_chars : (t : List ℕ) → IsUtf8 t → mapped t ≡ mapped_chars (chars t)
 mapped-by_chars t u = ap mapped (sym (encodes-chars t u)) ∙ mapped-encodes (chars t) (scalars-chars t u)

@@ -1,15 +1,17 @@
 -- Octets spelled as triplets.
-use Rattle.std.proofs.Common.{◌≡◌, ℕ, zero, suc, ◌+◌, ◌*◌, ◌<◌, ◌≤◌, List, [], ◌∷◌, ◌++◌, length, take, drop, get_or, set, refl, sym, ◌∙◌, ap, arith, append_assoc, length-set, take-append-drop}
+use Rattle.std.proofs.Common.{◌≡◌, ℕ, zero, suc, ◌+◌, ◌<◌, List, [], ◌∷◌, ◌++◌, length, take, drop, get_or, set, sym, ◌∙◌, ap, arith}
+use Rattle.std.proofs.Common.{append_assoc, length-set, take-append-drop}
 use Rattle.std.specs.Prelude.{◌/◌, ◌%◌}
 use Rattle.std.specs.Str.{IsAscii, IsUtf8}
 use Rattle.std.proofs.Math.Seq.{take-suc}
 use Rattle.std.proofs.lemmas.Str.{IsUtf8-from_ascii}
 use Rattle.std.proofs.lemmas.List.{take_more_set}
 use Rattle.std.proofs.lemmas.Bool.Decides.{nat_tests}
-use Rattle.iri_percent.specs.Mapping.{capital_hex, triplet, triplets}
+use Rattle.iri_percent.specs.Mapping.{capital_hex, triplets}
 use Rattle.iri_percent.proofs.EncodedRuns.{triplets-append}
 
-three_set : (buf : List ℕ) (n a b d : ℕ) → n + 2 < length buf → take (n + 3) (set (set (set buf n a) (n + 1) b) (n + 2) d) ≡ take n buf ++ (a ∷ b ∷ d ∷ [])
+three_set : (buf : List ℕ) (n a b d : ℕ) → n + 2 < length buf
+    → take (n + 3) (set (set (set buf n a) (n + 1) b) (n + 2) d) ≡ take n buf ++ (a ∷ b ∷ d ∷ [])
 three_set buf n a b d h =
     let x = set buf n a in
     let y = set x (n + 1) b in
@@ -17,10 +19,12 @@ three_set buf n a b d h =
     let two : n + 2 ≡ (n + 1) + 1 = omega arith in
     ap (λ k. take k (set y (n + 2) d)) three
     ∙ take_more_set y (n + 2) d (omega (arith, length-set x (n + 1) b, length-set buf n a))
-    ∙ ap (λ l. l ++ (d ∷ [])) (ap (λ k. take k y) two ∙ take_more_set x (n + 1) b (omega (arith, length-set buf n a)) ∙ ap (λ l. l ++ (b ∷ [])) (take_more_set buf n a (omega arith)) ∙ append_assoc (take n buf) (a ∷ []) (b ∷ []))
+    ∙ ap (λ l. l ++ (d ∷ [])) (ap (λ k. take k y) two ∙ take_more_set x (n + 1) b (omega (arith, length-set buf n a))
+    ∙ ap (λ l. l ++ (b ∷ [])) (take_more_set buf n a (omega arith)) ∙ append_assoc (take n buf) (a ∷ []) (b ∷ []))
     ∙ append_assoc (take n buf) (a ∷ b ∷ []) (d ∷ [])
 
-pub one_spelled : (buf os : List ℕ) (n i o high low : ℕ) → n + 2 < length buf → i < length os → o ≡ get_or os i 0 → high ≡ capital_hex (o / 16) → low ≡ capital_hex (o % 16) → take n buf ≡ triplets (take i os)
+pub one_spelled : (buf os : List ℕ) (n i o high low : ℕ) → n + 2 < length buf → i < length os → o ≡ get_or os i 0
+    → high ≡ capital_hex (o / 16) → low ≡ capital_hex (o % 16) → take n buf ≡ triplets (take i os)
     → take (n + 3) (set (set (set buf n 37) (n + 1) high) (n + 2) low) ≡ triplets (take (i + 1) os)
 one_spelled buf os n i o high low room within is h l so_far =
     let next : suc i ≡ i + 1 = omega arith in
@@ -46,7 +50,8 @@ pub triplets-utf8 : (os : List ℕ) → ((i : ℕ) → get_or os i 0 < 256) → 
 triplets-utf8 os h = IsUtf8-from_ascii (triplets os) (triplets-ascii os h)
 
 -- what was spelled, some octets, and those behind them
-pub triplets_split : (done os few more : List ℕ) (n : ℕ) → few ≡ take n os → more ≡ drop n os → done ++ triplets os ≡ (done ++ triplets few) ++ triplets more
+pub triplets_split : (done os few more : List ℕ) (n : ℕ) → few ≡ take n os → more ≡ drop n os
+    → done ++ triplets os ≡ (done ++ triplets few) ++ triplets more
 triplets_split done os few more n f m =
     ap (λ l. done ++ triplets l) (sym (take-append-drop n os) ∙ ap (λ l. l ++ drop n os) (sym f) ∙ ap (λ l. few ++ l) (sym m))
     ∙ ap (λ l. done ++ l) (triplets-append few more)

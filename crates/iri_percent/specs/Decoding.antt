@@ -1,6 +1,7 @@
 -- Decoding (the URL Standard, section 1.3, "percent-decode"). A text is the list of its bytes, which needn't be UTF-8.
 use Rattle.std.specs.Prelude.{ℕ, Bool, false, cond, ◌||◌, ◌==◌, List, [], ◌∷◌}
 use Rattle.iri_percent.specs.Units.{is_triplet, octet}
+use Rattle.iri_grammar.specs.Characters.{percent_sign}
 
 -- each `%` that two hex digits follow gives, with them, the octet that they spell; every other byte is itself, a `%` too
 unfoldable pub decoding : List ℕ → List ℕ
@@ -27,7 +28,7 @@ before_fragments x (Percent ∷ fs) = Run (x ∷ []) ∷ Percent ∷ fs
 
 -- a byte that begins no triplet, in front of fragments
 abbrev pub byte_before : ℕ → List Fragment → List Fragment
-byte_before x fs = cond (x == 37) (Percent ∷ fs) (before_fragments x fs)
+byte_before x fs = cond (x == percent_sign) (Percent ∷ fs) (before_fragments x fs)
 
 -- the fragments of a text, from the left
 unfoldable pub fragments : List ℕ → List Fragment
@@ -40,4 +41,4 @@ fragments [] = []
 abbrev pub fragment_bytes : Fragment → List ℕ
 fragment_bytes (Run r) = r
 fragment_bytes (Octet o) = o ∷ []
-fragment_bytes Percent = 37 ∷ []
+fragment_bytes Percent = percent_sign ∷ []

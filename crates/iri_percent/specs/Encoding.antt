@@ -3,15 +3,18 @@ use Rattle.std.specs.Prelude.{ℕ, Bool, cond, not, ◌&&◌, ◌==◌, List}
 use Rattle.std.specs.List.{flat_map}
 use Rattle.std.specs.Char.{encode_utf8}
 use Rattle.std.specs.Str.{chars}
-use Rattle.iri_grammar.specs.Classes.{Tests, unreserved, reg_name_char, userinfo_char, pchar, path_char, query_char, fragment_char, any_char}
+use Rattle.iri_grammar.specs.Classes.{Tests, unreserved, reg_name_char, userinfo_char, pchar, path_char, query_char, fragment_char}
+use Rattle.iri_grammar.specs.Classes.{any_char}
 use Rattle.iri_percent.specs.Mapping.{triplets}
 use Rattle.iri_percent.specs.declared.context.Context.{Context}
-use Rattle.iri_percent.specs.declared.context.Context.TheVariants.{RegName, UserOrPassword, PathSegment, Path, Query, Fragment, Unreserved, Any}
+use Rattle.iri_percent.specs.declared.context.Context.TheVariants.{RegName, UserOrPassword, PathSegment, Path, Query, Fragment, Unreserved}
+use Rattle.iri_percent.specs.declared.context.Context.TheVariants.{Any}
+use Rattle.iri_grammar.specs.Characters.{colon}
 
 -- the characters that stand as they are in each place of a reference. `%` never does
 abbrev pub keeps : Tests → Context → ℕ → Bool
 keeps s RegName c = reg_name_char s c
-keeps s UserOrPassword c = userinfo_char s c && not (c == 58)
+keeps s UserOrPassword c = userinfo_char s c && not (c == colon)
 keeps s PathSegment c = pchar s c
 keeps s Path c = path_char s c
 keeps s Query c = query_char s c

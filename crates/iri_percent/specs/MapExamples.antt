@@ -4,7 +4,8 @@ use lib.Utf8.{encode}
 use Rattle.iri_percent.specs.Mapping.{mapped}
 
 -- RFC 3987 section 3.1
-resume : mapped (codes "http://example.org/r" ++ (encode 0xE9 ++ (codes "sum" ++ encode 0xE9))) ≡ codes "http://example.org/r%C3%A9sum%C3%A9"
+resume : mapped (codes "http://example.org/r" ++ (encode 0xE9 ++ (codes "sum" ++ encode 0xE9)))
+    ≡ codes "http://example.org/r%C3%A9sum%C3%A9"
 unfolding encode
 resume = refl
 

@@ -30,4 +30,10 @@ mapped_chars (c ∷ cs) = mapped_char c ++ mapped_chars cs
 
 -- ---- the parts of a mapped text are its parts, mapped. That they are is a law
 abbrev pub mapped_parts : Parts → Parts
-mapped_parts t = record { scheme = option_map mapped t.scheme; authority = option_map mapped t.authority; path = mapped t.path; query = option_map mapped t.query; fragment = option_map mapped t.fragment }
+mapped_parts t = record {
+  scheme = option_map mapped t.scheme;
+  authority = option_map mapped t.authority;
+  path = mapped t.path;
+  query = option_map mapped t.query;
+  fragment = option_map mapped t.fragment;
+}

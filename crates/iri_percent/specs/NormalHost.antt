@@ -5,6 +5,7 @@ use Rattle.iri_grammar.specs.Classes.{Tests}
 use Rattle.iri_grammar.specs.Authority.{AuthorityParts, authority_parts, recompose_authority}
 use Rattle.iri_percent.specs.Units.{octet}
 use Rattle.iri_percent.specs.Triplets.{pct, normal}
+use Rattle.iri_grammar.specs.Characters.{percent_sign}
 
 abbrev pub octet_below_128 : List ℕ → Bool
 octet_below_128 (a ∷ b ∷ xs) = nat_lt (octet a b) 128
@@ -13,15 +14,15 @@ octet_below_128 xs = true
 -- each character of the host is below 128, and so is the octet of each triplet
 unfoldable pub is_ascii_host : List ℕ → Bool
 is_ascii_host [] = true
-is_ascii_host (x ∷ xs) = nat_lt x 128 && (cond (x == 37) (octet_below_128 xs) true && is_ascii_host xs)
+is_ascii_host (x ∷ xs) = nat_lt x 128 && (cond (x == percent_sign) (octet_below_128 xs) true && is_ascii_host xs)
 
 -- triplet normal form, and each letter outside triplets in lower case
-abbrev pub lowered : Tests → List ℕ → List ℕ
-lowered s h = normal s to_ascii_lowercase h
+abbrev pub lowered_host : Tests → List ℕ → List ℕ
+lowered_host s h = normal s to_ascii_lowercase h
 
 -- the normal form of a host. One past ASCII keeps its letters
 unfoldable pub normal_host : Tests → List ℕ → List ℕ
-normal_host s h = cond (is_ascii_host h) (lowered s h) (pct s h)
+normal_host s h = cond (is_ascii_host h) (lowered_host s h) (pct s h)
 
 abbrev pub normal_userinfo : Tests → Option (List ℕ) → Option (List ℕ)
 normal_userinfo s None = None

@@ -1,20 +1,23 @@
 -- The units of a text (RFC 3986 sections 2.1 and 6.2.2.2, RFC 3987 section 5.3.2.3). A text is the list of its bytes.
-use Rattle.std.specs.Prelude.{ℕ, zero, suc, ◌+◌, ◌*◌, ◌-◌, Bool, true, false, cond, ◌&&◌, ◌==◌, List, [], ◌∷◌, Option, Some, None, length, take}
+use Rattle.std.specs.Prelude.{ℕ, zero, suc, ◌+◌, ◌*◌, ◌-◌, Bool, true, false, cond, ◌&&◌, ◌==◌, List, [], ◌∷◌, Option, Some, None, length}
+use Rattle.std.specs.Prelude.{take}
 use Rattle.std.specs.Char.{is_ascii_hexdigit, digit_value, len_utf8, encode_utf8}
 use Rattle.std.specs.Str.{chars}
 use lib.Utf8.{scalar}
+use Rattle.iri_grammar.specs.Characters.{percent_sign}
 
--- what a text is read as: a byte outside triplets; a character in triplets whose octets are its UTF-8;
--- a triplet where no such character begins; a `%` that begins no triplet
+-- what a text is read as: a character outside triplets, or where a text is read byte by byte, a byte outside them; a character in triplets whose octets are its UTF-8;
+-- a triplet where no such character begins; a `%` that begins no triplet; a byte of no character, of which UTF-8 has none
 pub data TextUnit : Type 0 where
   Plain : (c : ℕ) → TextUnit
   Char : (c : ℕ) (spelling : List ℕ) → TextUnit
   Lone : (a b : ℕ) → TextUnit
   Stray : TextUnit
+  IllFormed : (b : ℕ) → TextUnit
 
 -- `pct-encoded`: `%` and two hex digits
 abbrev pub is_triplet : ℕ → ℕ → ℕ → Bool
-is_triplet x a b = x == 37 && (is_ascii_hexdigit a && is_ascii_hexdigit b)
+is_triplet x a b = x == percent_sign && (is_ascii_hexdigit a && is_ascii_hexdigit b)
 
 -- the octet that two hex digits spell
 abbrev pub octet : ℕ → ℕ → ℕ
@@ -30,7 +33,7 @@ starts_with xs [] = true
 starts_with [] (y ∷ ys) = false
 starts_with (x ∷ xs) (y ∷ ys) = x == y && starts_with xs ys
 
--- the first of these characters, where it is a scalar value and its UTF-8 stands at the front of the octets
+-- the first of these characters, where it is a scalar value and its UTF-8 stands at the start of the octets
 abbrev pub well_formed : List ℕ → List ℕ → Option ℕ
 well_formed os [] = None
 well_formed os (c ∷ cs) = cond (scalar c && starts_with os (encode_utf8 c)) (Some c) None
@@ -39,32 +42,33 @@ well_formed os (c ∷ cs) = cond (scalar c && starts_with os (encode_utf8 c)) (S
 unfoldable pub first_char : List ℕ → Option ℕ
 first_char os = well_formed os (chars os)
 
--- the unit with which the text x ∷ xs begins
+-- the unit with which a text begins, where it is read byte by byte
 abbrev pub triplet_unit : ℕ → ℕ → List ℕ → Option ℕ → TextUnit
 triplet_unit a b t (Some c) = Char c (take (3 * len_utf8 c) t)
 triplet_unit a b t None = Lone a b
 
 abbrev pub byte_unit : ℕ → TextUnit
-byte_unit x = cond (x == 37) Stray (Plain x)
+byte_unit x = cond (x == percent_sign) Stray (Plain x)
 
 abbrev pub first_unit : ℕ → List ℕ → TextUnit
 first_unit x (a ∷ b ∷ xs) = cond (is_triplet x a b) (triplet_unit a b (x ∷ a ∷ b ∷ xs) (first_char (octets (x ∷ a ∷ b ∷ xs)))) (byte_unit x)
 first_unit x xs = byte_unit x
 
--- the bytes of a unit
+-- the bytes of a unit that is read byte by byte
 abbrev pub unit_text : TextUnit → List ℕ
 unit_text (Plain c) = c ∷ []
 unit_text (Char c spelling) = spelling
-unit_text (Lone a b) = 37 ∷ a ∷ b ∷ []
-unit_text Stray = 37 ∷ []
+unit_text (Lone a b) = percent_sign ∷ a ∷ b ∷ []
+unit_text Stray = percent_sign ∷ []
+unit_text (IllFormed b) = b ∷ []
 
--- what is left to read, where so many bytes at its front belong to a unit already
+-- what is left to read, where so many bytes at its start belong to a unit already
 unfoldable pub units_from : ℕ → List ℕ → List TextUnit
 units_from n [] = []
 units_from (suc n) (x ∷ xs) = units_from n xs
 units_from zero (x ∷ xs) = first_unit x xs ∷ units_from (length (unit_text (first_unit x xs)) - 1) xs
 
--- a text read from the left
+-- a text read from the left, byte by byte
 abbrev pub units : List ℕ → List TextUnit
 units t = units_from 0 t
 
@@ -75,4 +79,4 @@ two_digits xs = false
 -- each `%` is followed by two hex digits, so that none is stray
 unfoldable pub whole_triplets : List ℕ → Bool
 whole_triplets [] = true
-whole_triplets (x ∷ xs) = cond (x == 37) (two_digits xs) true && whole_triplets xs
+whole_triplets (x ∷ xs) = cond (x == percent_sign) (two_digits xs) true && whole_triplets xs

@@ -51,8 +51,8 @@ fn front_octets(text: &[u8], buf: &mut [u8; 4]) -> usize
     n
 }
 
-// The character in triplets with which the text begins.
-fn triplets_char(text: &[u8]) -> Option<char>
+/// The character in triplets with which the text begins.
+pub fn triplets_char(text: &[u8]) -> Option<char>
     ensures { result ≡ first_char (octets text.now) }
 {
     let mut buf = [0u8; 4];

@@ -26,7 +26,7 @@ pub enum DecodeTextError {
     /// The decoded bytes, which aren't UTF-8.
     #[error("the decoded bytes aren't UTF-8")]
     NotUtf8(Bytes),
-    /// Memory was refused.
+    /// Allocation failed.
     #[error(transparent)]
     Memory(AllocError),
 }
@@ -79,7 +79,8 @@ impl<'a> PercentDecodedWhatwgBytes<'a> {
 
     /// The bytes as they were given, exactly where no `%` is followed by two hex digits: they are then what they decode to.
     pub fn to_bytes(&self) -> Option<&'a [u8]>
-        ensures triplet { MatchOption result (has_triplet self.now.source.now ≡ true) (λ _. has_triplet self.now.source.now ≡ false) }
+        ensures triplet { MatchOption result (has_triplet self.now.source.now ≡ true)
+            (λ _. has_triplet self.now.source.now ≡ false) }
         ensures source { IfSome result (λ bytes. bytes.now ≡ self.now.source.now) }
         ensures decoded { IfSome result (λ bytes. bytes.now ≡ decoding self.now.source.now) }
     {
@@ -90,7 +91,7 @@ impl<'a> PercentDecodedWhatwgBytes<'a> {
         }
     }
 
-    /// The decoded bytes, in a vector. It fails for want of memory alone.
+    /// The decoded bytes, in a vector. It fails on allocation failure alone.
     pub fn into_bytes(&self, alloc: Global) -> Result<Vec<u8>, AllocError>
         ensures { IfOk result (λ bytes. bytes.items ≡ decoding self.now.source.now) }
     {
@@ -103,7 +104,8 @@ impl<'a> PercentDecodedWhatwgBytes<'a> {
 
     /// The decoded bytes as a string: `NotUtf8` with them exactly where they aren't UTF-8.
     pub fn into_string(&self, alloc: Global) -> Result<String, DecodeTextError>
-        ensures { MatchResult result (λ s. string_bytes s ≡ decoding self.now.source.now) (λ e. IsNoText e (decoding self.now.source.now)) }
+        ensures { MatchResult result (λ s. string_bytes s ≡ decoding self.now.source.now)
+            (λ e. IsNoText e (decoding self.now.source.now)) }
     {
         match self.into_bytes(alloc) {
             Ok(bytes) => match String::from_utf8(bytes) {

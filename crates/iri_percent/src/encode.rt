@@ -4,7 +4,7 @@ ghost use Rattle.iri_grammar.specs.ClassTests.{class_test};
 ghost use Rattle.iri_grammar.specs.Runs.{run_of};
 ghost use Rattle.iri_text.specs.Shown.{Shows};
 ghost use Rattle.iri_percent.specs.Encoding.{keeps, encoded};
-ghost use Rattle.iri_percent.specs.Runs.{run_text, is_other, IsPastRun, IsNextRun};
+ghost use Rattle.iri_percent.specs.inside.Runs.{run_text, is_other, IsPastRun, IsNextRun};
 
 use crate::context::{Context, class_of};
 use crate::spelling::put_triplets;
@@ -38,7 +38,7 @@ fn other_run_len(class: Class, bytes: &[u8]) -> usize
     bytes.len()
 }
 
-// What follows the ASCII characters at the front that aren't in the class.
+// What follows the ASCII characters at the start that aren't in the class.
 fn past_other_run(class: Class, text: &str) -> &str
     ensures { result.now ≡ drop (run_of (is_other class) text.now) text.now }
 {
@@ -56,7 +56,8 @@ fn past_ascii_run<S: Spec>(class: Class, stands: bool, text: &str) -> &str
 
 // What follows the first character, where that is past ASCII and in the run.
 fn past_char<S: Spec>(class: Class, stands: bool, text: &str) -> Option<&str>
-    ensures { MatchOption result ⊤ (λ r. IsPastRun (class_test S.tests class) stands text.now r.now × (length r.now < length text.now)) }
+    ensures { MatchOption result ⊤ (λ r. IsPastRun (class_test S.tests class) stands text.now r.now
+        × (length r.now < length text.now)) }
 {
     if let [0..=0x7F, ..] = text.as_bytes() {
         return None;
@@ -74,7 +75,7 @@ fn past_char<S: Spec>(class: Class, stands: bool, text: &str) -> Option<&str>
     }
 }
 
-// What follows the longest run at the front.
+// What follows the longest run at the start.
 fn past_run<S: Spec>(class: Class, stands: bool, text: &str) -> &str
     ensures { IsPastRun (class_test S.tests class) stands text.now result.now }
 {
@@ -89,7 +90,8 @@ fn past_run<S: Spec>(class: Class, stands: bool, text: &str) -> &str
 }
 
 fn next_run<S: Spec>(class: Class, text: &str) -> Option<Run>
-    ensures { MatchOption result (length text.now ≡ 0) (λ r. IsNextRun (class_test S.tests class) text.now r.stands r.text.now r.rest.now) }
+    ensures { MatchOption result (length text.now ≡ 0)
+        (λ r. IsNextRun (class_test S.tests class) text.now r.stands r.text.now r.rest.now) }
 {
     let mut chars = text.chars();
     match chars.next() {

@@ -9,7 +9,7 @@ use iri_grammar::spec::Spec;
 use iri_text::{Show, Stop, TextSink};
 
 impl<'s, S: Spec, W: TextSink> TextSink for Encoder<'s, S, W> {
-    ghost use Rattle.iri_percent.specs.EncoderText.{EncoderPuts, EncoderHalts, encoder_rules};
+    ghost use Rattle.iri_percent.specs.inside.EncoderText.{EncoderPuts, EncoderHalts, encoder_rules};
 
     ghost puts = { EncoderPuts S.tests W.puts };
 
@@ -29,7 +29,8 @@ pub(crate) fn show_encoded<T: Show, S: Spec, W: TextSink>(
     encoder: &mut Encoder<S, W>,
     value: &T,
 ) -> Result<(), Stop>
-    ensures shows { Shows W.puts W.halts W.stops encoder.old.to.now (encoded (keeps S.tests encoder.old.context) (T.text value.now)) encoder.new.to.now result }
+    ensures shows { Shows W.puts W.halts W.stops encoder.old.to.now
+        (encoded (keeps S.tests encoder.old.context) (T.text value.now)) encoder.new.to.now result }
     ensures same { encoder.new.to.ghost_name ≡ encoder.old.to.ghost_name }
 {
     value.show(encoder)

@@ -3,6 +3,7 @@ ghost use Rattle.std.specs.Prelude.{◌≡◌, ◌<◌, ◌∷◌, length, slice
 ghost use Rattle.iri_grammar.specs.Cut.{before, from};
 ghost use Rattle.iri_percent.specs.Decoding.{fragments};
 ghost use Rattle.iri_percent.specs.FragmentViews.{fragment};
+ghost use Rattle.iri_grammar.specs.Characters.{percent_sign};
 
 use crate::octets::first_octet;
 use memchr::memchr;
@@ -41,10 +42,10 @@ impl<'a> PercentDecodedBytesFragments<'a> {
     }
 }
 
-// The longest run without `%` at the front, and the rest.
+// The longest run without `%` at the start, and the rest.
 fn split_run(text: &[u8]) -> (&[u8], &[u8])
-    ensures run { result.0.now ≡ before 37 text.now }
-    ensures rest { result.1.now ≡ from 37 text.now }
+    ensures run { result.0.now ≡ before percent_sign text.now }
+    ensures rest { result.1.now ≡ from percent_sign text.now }
 {
     match memchr(b'%', text) {
         Some(i) => text.split_at(i),
@@ -54,7 +55,7 @@ fn split_run(text: &[u8]) -> (&[u8], &[u8])
 
 // The fragment that a `%` begins, and the rest.
 fn split_percent(text: &[u8]) -> (DecodedFragment<'_>, &[u8])
-    requires { (0 < length text.now) × (slice_index text.now 0 ≡ 37) }
+    requires { (0 < length text.now) × (slice_index text.now 0 ≡ percent_sign) }
     ensures { fragments text.now ≡ fragment result.0 ∷ fragments result.1.now }
 {
     match first_octet(text) {

@@ -4,7 +4,8 @@ ghost use Rattle.std.specs.List.{list_all};
 ghost use Rattle.iri_grammar.specs.Host.{is_host};
 ghost use Rattle.iri_percent.specs.Units.{two_digits, whole_triplets};
 ghost use Rattle.iri_percent.specs.NormalHost.{is_ascii_host, normal_host, octet_below_128};
-ghost use Rattle.iri_percent.specs.Pieces.{is_plain_byte};
+ghost use Rattle.iri_percent.specs.inside.Pieces.{is_plain_byte};
+ghost use Rattle.iri_grammar.specs.Characters.{percent_sign};
 
 use crate::normal::show_normal;
 use iri_grammar::spec::Spec;
@@ -58,7 +59,7 @@ fn is_low(digits: &[u8]) -> bool
 // Whether the first byte is ASCII, and so is the octet of a triplet that it begins.
 fn is_ascii_front(first: u8, tail: &[u8]) -> bool
     requires { whole_triplets (first ∷ tail.now) ≡ true }
-    ensures { result ≡ (nat_lt first 128 && cond (first == 37) (octet_below_128 tail.now) true) }
+    ensures { result ≡ (nat_lt first 128 && cond (first == percent_sign) (octet_below_128 tail.now) true) }
 {
     first < 128 && (first != b'%' || is_low(tail))
 }

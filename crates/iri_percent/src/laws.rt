@@ -1,5 +1,5 @@
 //! Laws of the definitions: each function's contract is a law, and its body is empty.
-ghost use Rattle.std.specs.Prelude.{◌≡◌, ◌≢◌, ◌↔◌, ℕ, List, ◌∷◌, ◌++◌, Some, true, false};
+ghost use Rattle.std.specs.Prelude.{◌≡◌, ◌≢◌, ◌↔◌, ℕ, List, ◌∷◌, ◌++◌, Some, true, false, map};
 ghost use Rattle.std.specs.List.{All, flat_map};
 ghost use Rattle.std.specs.Char.{IsScalar, encode_utf8};
 ghost use Rattle.iri_grammar.specs.Classes.{uri_tests};
@@ -7,8 +7,9 @@ ghost use Rattle.iri_grammar.specs.Components.{is_userinfo, is_path, is_path_seg
 ghost use Rattle.iri_grammar.specs.Host.{is_host, is_reg_name};
 ghost use Rattle.iri_percent.specs.Units.{TextUnit, units, whole_triplets, first_char};
 ghost use Rattle.iri_percent.specs.UnitTexts.{units_text};
-ghost use Rattle.iri_percent.specs.CharUnits.{char_units, char_unit_text, char_unit_normal, byte_units};
-ghost use Rattle.iri_percent.specs.Triplets.{pct, normal_units, as_it_is};
+ghost use Rattle.iri_percent.specs.CharUnits.{char_units, char_unit_text, byte_units};
+ghost use Rattle.iri_percent.specs.Triplets.{pct, as_it_is, unit_in_form};
+ghost use Rattle.iri_percent.specs.ByteForm.{all_written, normal_units};
 ghost use Rattle.iri_percent.specs.MarkLaws.{IsMark};
 ghost use Rattle.iri_grammar.specs.Parts.{IsReference, IsIri, IsAbsolute, IsRelative};
 ghost use Rattle.iri_grammar.specs.Split.{split_of};
@@ -24,21 +25,24 @@ use iri_grammar::spec::Spec;
 /// its UTF-8.
 pub fn units_of_texts()
     ensures whole { (t : List ℕ) → units_text (units t) ≡ t }
-    ensures character { (os : List ℕ) (c : ℕ) → (first_char os ≡ Some c) ↔ (IsScalar c × ((rest : List ℕ) × (os ≡ encode_utf8 c ++ rest))) }
+    ensures character { (os : List ℕ) (c : ℕ)
+        → (first_char os ≡ Some c) ↔ (IsScalar c × ((rest : List ℕ) × (os ≡ encode_utf8 c ++ rest))) }
 {}
 
-/// A text has whole triplets exactly where none of its units is a stray `%`.
+/// A text has whole triplets exactly where none of its units is a stray `%`, read character by character or byte by byte.
 pub fn whole_triplets_have_no_stray_percent()
-    ensures { (t : List ℕ) → (whole_triplets t ≡ true) ↔ All (λ u. u ≢ TextUnit.Stray) (units t) }
+    ensures characters { (t : List ℕ) → (whole_triplets t ≡ true) ↔ All (λ u. u ≢ TextUnit.Stray) (char_units t) }
+    ensures bytes { (t : List ℕ) → (whole_triplets t ≡ true) ↔ All (λ u. u ≢ TextUnit.Stray) (units t) }
 {}
 
-/// The units of a text read character by character, where a plain character past ASCII is one unit, are its units read byte
-/// by byte with the bytes of each such character in one; put together they are the text; and each in normal form, put
-/// together, they are its triplet normal form.
+/// The units of a text, read character by character, put together are the text. They are those of its characters; and
+/// where each character outside triplets gives way to the bytes of its UTF-8, they are the units of its bytes. So its
+/// triplet normal form can be read byte by byte too.
 pub fn units_of_characters<S: Spec>()
-    ensures bytes { (t : List ℕ) → IsUtf8 t → units t ≡ flat_map byte_units (char_units t) }
-    ensures whole { (t : List ℕ) → IsUtf8 t → flat_map char_unit_text (char_units t) ≡ t }
-    ensures normal { (t : List ℕ) → IsUtf8 t → pct S.tests t ≡ flat_map (char_unit_normal S.tests) (char_units t) }
+    ensures whole { (t : List ℕ) → flat_map char_unit_text (char_units t) ≡ t }
+    ensures characters { (t : List ℕ) → IsUtf8 t → char_units t ≡ units (chars t) }
+    ensures bytes { (t : List ℕ) → units t ≡ flat_map byte_units (char_units t) }
+    ensures normal { (t : List ℕ) → pct S.tests t ≡ all_written S.tests as_it_is (units t) }
 {}
 
 /// The triplet normal form of a text without stray `%` has no stray `%`, and is its own.
@@ -50,7 +54,10 @@ pub fn triplet_form_is_stable<S: Spec>()
 /// No decoding makes a new character in triplets: the units of the triplet normal form are those of the text, each in
 /// normal form.
 pub fn decoding_makes_no_new_character<S: Spec>()
-    ensures { (t : List ℕ) → whole_triplets t ≡ true → units (pct S.tests t) ≡ normal_units S.tests as_it_is (units t) }
+    ensures characters { (t : List ℕ) → IsUtf8 t → whole_triplets t ≡ true
+        → char_units (pct S.tests t) ≡ map (unit_in_form S.tests) (char_units t) }
+    ensures bytes { (t : List ℕ) → whole_triplets t ≡ true
+        → units (pct S.tests t) ≡ normal_units S.tests as_it_is (units t) }
 {}
 
 /// A byte that is no `%` and no hex digit parts the triplet normal forms on both sides of it.
@@ -73,7 +80,8 @@ pub fn triplet_forms_keep_their_class<S: Spec>()
     ensures userinfo { (t : List ℕ) → is_userinfo S.tests t ≡ true → is_userinfo S.tests (pct S.tests t) ≡ true }
     ensures reg_name { (t : List ℕ) → is_reg_name S.tests t ≡ true → is_reg_name S.tests (pct S.tests t) ≡ true }
     ensures path { (t : List ℕ) → is_path S.tests t ≡ true → is_path S.tests (pct S.tests t) ≡ true }
-    ensures path_segment { (t : List ℕ) → is_path_segment S.tests t ≡ true → is_path_segment S.tests (pct S.tests t) ≡ true }
+    ensures path_segment { (t : List ℕ) → is_path_segment S.tests t ≡ true
+        → is_path_segment S.tests (pct S.tests t) ≡ true }
     ensures query { (t : List ℕ) → is_query S.tests t ≡ true → is_query S.tests (pct S.tests t) ≡ true }
     ensures fragment { (t : List ℕ) → is_fragment S.tests t ≡ true → is_fragment S.tests (pct S.tests t) ≡ true }
 {}

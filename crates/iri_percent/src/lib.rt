@@ -10,7 +10,7 @@
 //! joined, are the decoded bytes. A mapped text is a text of the same kind of URIs; a text that couldn't be mapped for want of
 //! memory is left as it was or handed back.
 //!
-//! Not proved: the words of `DecodeTextError`'s `Display`, which `thiserror` makes; that memory is had, which tests show.
+//! Not proved: the words of `DecodeTextError`'s `Display`, which `thiserror` makes; that memory is allocated, which tests show.
 #![tactic(auto)]
 
 pub mod character;

@@ -5,7 +5,7 @@ ghost use Rattle.iri_grammar.specs.Runs.{run_of};
 ghost use Rattle.iri_text.specs.Shown.{Shows};
 ghost use Rattle.iri_types.specs.Texts.{text};
 ghost use Rattle.iri_percent.specs.Mapping.{mapped};
-ghost use Rattle.iri_percent.specs.MapRuns.{goes_on};
+ghost use Rattle.iri_percent.specs.inside.MapRuns.{goes_on};
 
 use crate::mapped_kind::MappedKind;
 use crate::spelling::put_triplets;
@@ -57,7 +57,7 @@ fn run_len(bytes: &[u8], past: bool) -> usize
     bytes.len()
 }
 
-// The longest run at the front of ASCII bytes, or of bytes past ASCII, and the rest.
+// The longest run at the start of ASCII bytes, or of bytes past ASCII, and the rest.
 fn split_run(bytes: &[u8], past: bool) -> (&[u8], &[u8])
     ensures run { result.0.now ≡ take (run_of (goes_on past) bytes.now) bytes.now }
     ensures rest { result.1.now ≡ drop (run_of (goes_on past) bytes.now) bytes.now }
@@ -117,10 +117,11 @@ impl<'a, S: Spec, K: MappedKind> fmt::Display for MappedToUri<'a, View<'a, S, K>
 impl<'a, S: Spec, K: MappedKind> ToDedicatedString for MappedToUri<'a, View<'a, S, K>> {
     type Target = Owned<UriSpec, K>;
 
-    /// The mapped text, as an owned text of the same kind. It fails for want of memory alone.
+    /// The mapped text, as an owned text of the same kind. It fails on allocation failure alone.
     fn try_to_dedicated_string(&self, alloc: Global) -> Result<Owned<UriSpec, K>, AllocError> {
         let mut text = String::with_capacity(alloc, self.view.as_str().len())?;
         try_append_to_string(&mut text, self)?;
+        K::mapped_is_valid();
         Ok(Owned::from_valid(text))
     }
 }

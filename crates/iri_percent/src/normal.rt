@@ -3,7 +3,8 @@ ghost use Rattle.std.specs.Prelude.{◌≡◌, ◌<◌, true, false, MatchOption
 ghost use Rattle.iri_text.specs.Shown.{Shows};
 ghost use Rattle.iri_percent.specs.Units.{whole_triplets};
 ghost use Rattle.iri_percent.specs.Triplets.{normal};
-ghost use Rattle.iri_percent.specs.Pieces.{case_of, stays, NoMark, MarkAt, Rewrites, KeepsTriplet};
+ghost use Rattle.iri_percent.specs.inside.Pieces.{case_of, stays, NoMark, MarkAt, Rewrites, KeepsTriplet};
+ghost use Rattle.iri_grammar.specs.Characters.{percent_sign};
 
 use crate::character::decoded_char;
 use crate::piece::{Piece, put_piece};
@@ -55,8 +56,9 @@ fn in_case(c: char, lower: bool) -> char
 
 // The change at a triplet of these digits.
 fn change_of_triplet<S: Spec>(text: &[u8], lower: bool) -> Option<Change>
-    requires { (whole_triplets text.now ≡ true) × (0 < length text.now) × (slice_index text.now 0 ≡ 37) }
-    ensures { MatchOption result (KeepsTriplet S.tests lower text.now) (λ c. Rewrites S.tests lower text.now c.at c.len c.piece × (c.at ≡ 0)) }
+    requires { (whole_triplets text.now ≡ true) × (0 < length text.now) × (slice_index text.now 0 ≡ percent_sign) }
+    ensures { MatchOption result (KeepsTriplet S.tests lower text.now)
+        (λ c. Rewrites S.tests lower text.now c.at c.len c.piece × (c.at ≡ 0)) }
 {
     if let Some(c) = decoded_char::<S>(text) {
         return Some(Change {
@@ -78,8 +80,10 @@ fn change_of_triplet<S: Spec>(text: &[u8], lower: bool) -> Option<Change>
 
 // The change at the first byte, a `%` or a letter that is lowered.
 fn change_at<S: Spec>(text: &[u8], lower: bool) -> Option<Change>
-    requires { (whole_triplets text.now ≡ true) × (0 < length text.now) × (stays lower (slice_index text.now 0) ≡ false) }
-    ensures { MatchOption result (KeepsTriplet S.tests lower text.now) (λ c. Rewrites S.tests lower text.now c.at c.len c.piece × (c.at ≡ 0)) }
+    requires { (whole_triplets text.now ≡ true) × (0 < length text.now)
+        × (stays lower (slice_index text.now 0) ≡ false) }
+    ensures { MatchOption result (KeepsTriplet S.tests lower text.now)
+        (λ c. Rewrites S.tests lower text.now c.at c.len c.piece × (c.at ≡ 0)) }
 {
     let first = text[0];
     if first == b'%' {
@@ -94,7 +98,8 @@ fn change_at<S: Spec>(text: &[u8], lower: bool) -> Option<Change>
 
 fn next_change<S: Spec>(text: &[u8], lower: bool) -> Option<Change>
     requires { whole_triplets text.now ≡ true }
-    ensures { MatchOption result (normal S.tests (case_of lower) text.now ≡ text.now) (λ c. Rewrites S.tests lower text.now c.at c.len c.piece) }
+    ensures { MatchOption result (normal S.tests (case_of lower) text.now ≡ text.now)
+        (λ c. Rewrites S.tests lower text.now c.at c.len c.piece) }
 {
     let mut at = 0;
     while let Some(i) = find_mark(&text[at..], lower) {

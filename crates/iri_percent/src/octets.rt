@@ -4,7 +4,8 @@ ghost use Rattle.std.specs.Char.{is_ascii_hexdigit, digit_value};
 ghost use Rattle.iri_percent.specs.Units.{octet, octets};
 
 fn hex_value(digit: u8) -> Option<u8>
-    ensures { MatchOption result (is_ascii_hexdigit digit ≡ false) (λ v. (is_ascii_hexdigit digit ≡ true) × (v ≡ digit_value digit) × (v < 16)) }
+    ensures { MatchOption result (is_ascii_hexdigit digit ≡ false)
+        (λ v. (is_ascii_hexdigit digit ≡ true) × (v ≡ digit_value digit) × (v < 16)) }
 {
     match digit {
         b'0'..=b'9' => Some(digit - b'0'),
@@ -15,7 +16,8 @@ fn hex_value(digit: u8) -> Option<u8>
 }
 
 fn octet(high: u8, low: u8) -> Option<u8>
-    ensures { MatchOption result ((is_ascii_hexdigit high && is_ascii_hexdigit low) ≡ false) (λ o. ((is_ascii_hexdigit high && is_ascii_hexdigit low) ≡ true) × (o ≡ octet high low)) }
+    ensures { MatchOption result ((is_ascii_hexdigit high && is_ascii_hexdigit low) ≡ false)
+        (λ o. ((is_ascii_hexdigit high && is_ascii_hexdigit low) ≡ true) × (o ≡ octet high low)) }
 {
     let high = hex_value(high)?;
     let low = hex_value(low)?;

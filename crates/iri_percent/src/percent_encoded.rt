@@ -1,7 +1,8 @@
 // Raw values, percent-encoded.
 ghost use Rattle.std.specs.Prelude.{◌≡◌, Some};
 ghost use Rattle.iri_percent.specs.Encoding.{keeps, encoded};
-ghost use Rattle.iri_percent.specs.declared.context.Context.TheVariants.{RegName, UserOrPassword, PathSegment, Path, Query, Fragment, Unreserved, Any};
+ghost use Rattle.iri_percent.specs.declared.context.Context.TheVariants.{RegName, UserOrPassword, PathSegment, Path};
+ghost use Rattle.iri_percent.specs.declared.context.Context.TheVariants.{Query, Fragment, Unreserved, Any};
 
 use crate::context::Context;
 use crate::encoder::show_encoded;

@@ -2,7 +2,8 @@
 ghost use Rattle.std.specs.Prelude.{◌<◌, ◌∷◌, []};
 ghost use Rattle.std.specs.Char.{to_ascii_uppercase, encode_utf8};
 ghost use Rattle.iri_text.specs.Shown.{Shows};
-ghost use Rattle.iri_percent.specs.Pieces.{piece_text, IsAsciiPiece};
+ghost use Rattle.iri_percent.specs.inside.Pieces.{piece_text, IsAsciiPiece};
+ghost use Rattle.iri_grammar.specs.Characters.{percent_sign};
 
 use iri_text::{Stop, TextSink};
 
@@ -23,7 +24,8 @@ fn put_char<W: TextSink>(sink: &mut W, c: char) -> Result<(), Stop>
 
 fn put_triplet<W: TextSink>(sink: &mut W, high: u8, low: u8) -> Result<(), Stop>
     requires { (high < 128) × (low < 128) }
-    ensures { Shows W.puts W.halts W.stops sink.old (37 ∷ to_ascii_uppercase high ∷ to_ascii_uppercase low ∷ []) sink.new result }
+    ensures { Shows W.puts W.halts W.stops sink.old
+        (percent_sign ∷ to_ascii_uppercase high ∷ to_ascii_uppercase low ∷ []) sink.new result }
 {
     let buf = [b'%', high.to_ascii_uppercase(), low.to_ascii_uppercase()];
     sink.put(unsafe { str::from_utf8_unchecked(&buf) })

@@ -1,5 +1,5 @@
 // Octets spelled as triplets (RFC 3986 section 2.1).
-ghost use Rattle.std.specs.Prelude.{◌≡◌, ◌≤◌, ◌<◌, ◌*◌, take, length};
+ghost use Rattle.std.specs.Prelude.{◌≡◌, ◌≤◌, ◌<◌, ◌*◌, ◌∷◌, [], take, length};
 ghost use Rattle.iri_text.specs.Shown.{Shows};
 ghost use Rattle.iri_percent.specs.Mapping.{capital_hex, triplets};
 
@@ -19,7 +19,7 @@ fn capital_digit(value: u8) -> u8
     }
 }
 
-// Spells octets at the front of the buffer, and answers the length of what they are spelled by.
+// Spells octets at the start of the buffer, and answers the length of what they are spelled by.
 fn spell(octets: &[u8], buf: &mut [u8; 24]) -> usize
     requires { length octets.now ≤ 8 }
     ensures count { result ≤ 24 }
@@ -44,6 +44,24 @@ fn put_few<W: TextSink>(sink: &mut W, octets: &[u8]) -> Result<(), Stop>
     sink.put(unsafe { str::from_utf8_unchecked(&buf[..n]) })
 }
 
+// One octet, as a space among words, is spelled without the loop.
+fn put_one<W: TextSink>(sink: &mut W, octet: u8) -> Result<(), Stop>
+    ensures { Shows W.puts W.halts W.stops sink.old (triplets (octet ∷ [])) sink.new result }
+{
+    let triplet = [b'%', capital_digit(octet / 16), capital_digit(octet % 16)];
+    sink.put(unsafe { str::from_utf8_unchecked(&triplet) })
+}
+
+fn put_some<W: TextSink>(sink: &mut W, octets: &[u8]) -> Result<(), Stop>
+    requires { length octets.now ≤ 8 }
+    ensures { Shows W.puts W.halts W.stops sink.old (triplets octets.now) sink.new result }
+{
+    if let [octet] = octets {
+        return put_one(sink, *octet);
+    }
+    put_few(sink, octets)
+}
+
 /// Writes the triplets of octets, with capital hex digits.
 pub(crate) fn put_triplets<W: TextSink>(sink: &mut W, octets: &[u8]) -> Result<(), Stop>
     ensures { Shows W.puts W.halts W.stops sink.old (triplets octets.now) sink.new result }
@@ -54,5 +72,5 @@ pub(crate) fn put_triplets<W: TextSink>(sink: &mut W, octets: &[u8]) -> Result<(
         put_few(sink, few)?;
         rest = more;
     }
-    put_few(sink, rest)
+    put_some(sink, rest)
 }

@@ -179,14 +179,23 @@ fn hosts(rt: HostRuntime) {
     }
 }
 
+// The laws of one spec, where they speak of it.
+fn laws_of<S: Spec>() {
+    laws::units_of_characters::<S>();
+    laws::decoding_undoes_encoding::<S>();
+    laws::triplet_form_is_stable::<S>();
+    laws::decoding_makes_no_new_character::<S>();
+    laws::marks_part_triplet_forms::<S>();
+    laws::parts_have_whole_triplets::<S>();
+    laws::triplet_forms_keep_their_class::<S>();
+}
+
 #[test]
-fn called_laws(_rt: HostRuntime) {
+fn what_the_laws_say(rt: HostRuntime) {
     laws::units_of_texts();
-    laws::units_of_characters::<IriSpec>();
-    laws::decoding_undoes_encoding::<IriSpec>();
-    laws::triplet_form_is_stable::<IriSpec>();
-    laws::decoding_makes_no_new_character::<IriSpec>();
-    laws::marks_part_triplet_forms::<IriSpec>();
-    laws::parts_have_whole_triplets::<IriSpec>();
-    laws::triplet_forms_keep_their_class::<IriSpec>();
+    laws_of::<UriSpec>();
+    laws_of::<IriSpec>();
+    let (mut once, mut twice) = ([0u8; 64], [0u8; 64]);
+    let text = part::<IriSpec>(&mut once, "%2541%41%ce%B1%C3");
+    assert_eq!(rt; part::<IriSpec>(&mut twice, text), text);
 }

@@ -25,7 +25,8 @@ pub trait ToUri: Show {
 
     /// The same text as a URI, exactly where it is in ASCII. It takes no memory.
     fn as_uri(self) -> Option<Self::Uri>
-        ensures { MatchOption result (IsNotAscii (Self.text self)) (λ uri. IsAscii (Self.text self) × (Self.Uri.text uri ≡ Self.text self)) };
+        ensures { MatchOption result (IsNotAscii (Self.text self))
+            (λ uri. IsAscii (Self.text self) × (Self.Uri.text uri ≡ Self.text self)) };
 }
 
 impl<'a, K: MappedKind> ToUri for View<'a, IriSpec, K> {
@@ -38,6 +39,7 @@ impl<'a, K: MappedKind> ToUri for View<'a, IriSpec, K> {
     }
 
     fn as_uri(self) -> Option<View<'a, UriSpec, K>> {
+        K::mapped_is_valid();
         let text = self.as_str();
         if text.is_ascii() {
             Some(View::from_valid(text))
@@ -52,20 +54,22 @@ pub trait IntoUri: Show + Sized {
     /// The owned text of URIs of the same kind.
     type Uri: Show;
 
-    /// Maps the text in place (RFC 3987 section 3.1). Want of memory comes only where the text isn't in ASCII; the text and
+    /// Maps the text in place (RFC 3987 section 3.1). Allocation failure comes only where the text isn't in ASCII; the text and
     /// its capacity are then as they were.
     fn try_encode_to_uri_inline(&mut self, alloc: Global) -> Result<(), AllocError>
         ensures text { OnOk result (Self.text self.new ≡ mapped (Self.text self.old)) }
         ensures err { OnErr result (self.new ≡ self.old) }
         ensures memory { OnErr result (IsNotAscii (Self.text self.old)) };
 
-    /// The mapped text. Want of memory comes only where the text isn't in ASCII, and hands the text back.
+    /// The mapped text. Allocation failure comes only where the text isn't in ASCII, and hands the text back.
     fn try_encode_into_uri(self, alloc: Global) -> Result<Self::Uri, Self>
-        ensures { MatchResult result (λ uri. Self.Uri.text uri ≡ mapped (Self.text self)) (λ iri. (iri ≡ self) × IsNotAscii (Self.text self)) };
+        ensures { MatchResult result (λ uri. Self.Uri.text uri ≡ mapped (Self.text self))
+            (λ iri. (iri ≡ self) × IsNotAscii (Self.text self)) };
 
     /// The same text as a URI, exactly where it is in ASCII; otherwise the text is handed back. It takes no memory.
     fn try_into_uri(self) -> Result<Self::Uri, Self>
-        ensures { MatchResult result (λ uri. IsAscii (Self.text self) × (Self.Uri.text uri ≡ Self.text self)) (λ iri. (iri ≡ self) × IsNotAscii (Self.text self)) };
+        ensures { MatchResult result (λ uri. IsAscii (Self.text self) × (Self.Uri.text uri ≡ Self.text self))
+            (λ iri. (iri ≡ self) × IsNotAscii (Self.text self)) };
 }
 
 impl<K: MappedKind> IntoUri for Owned<IriSpec, K> {
@@ -91,6 +95,7 @@ impl<K: MappedKind> IntoUri for Owned<IriSpec, K> {
     }
 
     fn try_into_uri(self) -> Result<Owned<UriSpec, K>, Self> {
+        K::mapped_is_valid();
         if self.as_str().is_ascii() {
             Ok(Owned::from_valid(self.into_string()))
         } else {

@@ -150,6 +150,10 @@ fn compared_as_given(rt: HostRuntime) {
 }
 
 #[test]
-fn called_laws(_rt: HostRuntime) {
+fn what_the_law_of_decoding_says(rt: HostRuntime) {
     laws::decoding_of_texts();
+    assert_eq!(rt;
+        decode_whatwg_bytes(b"a%").to_bytes(),
+        Some(b"a%".as_slice())
+    );
 }

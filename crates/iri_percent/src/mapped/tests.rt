@@ -145,7 +145,11 @@ fn owned_parts(rt: HostRuntime) -> Result<(), Fail> {
 }
 
 #[test]
-fn called_laws(_rt: HostRuntime) {
+fn what_the_laws_of_mapping_say(rt: HostRuntime) {
     laws::mapping_of_texts();
+    laws::mapped_texts_are_uris::<UriSpec>();
     laws::mapped_texts_are_uris::<IriSpec>();
+    let mut buf = [0u8; 64];
+    let text = mapped::<IriSpec, Iri>(&mut buf, "a:\u{3b1}");
+    assert!(rt; UriStr::new(text).is_ok(), "{text}");
 }

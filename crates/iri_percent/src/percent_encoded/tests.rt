@@ -195,7 +195,12 @@ impl TextSink for Counted {
 
     ghost stops = { λ _. 0 };
 
-    ghost rules = { record { none = λ _. tt; both = λ _ _ _ _ _ _ _. tt; until = λ _ _ _ _ _ _ _. tt; within = λ _ _ _ _ _. tt } };
+    ghost rules = { record {
+      none = λ _. tt;
+      both = λ _ _ _ _ _ _ _. tt;
+      until = λ _ _ _ _ _ _ _. tt;
+      within = λ _ _ _ _ _. tt;
+    } };
 
     fn put(&mut self, _piece: &str) -> Result<(), Stop> {
         self.pieces = self.pieces.saturating_add(1);

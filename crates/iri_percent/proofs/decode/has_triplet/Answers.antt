@@ -11,7 +11,8 @@ returns-in-Some-first_octet c =
     let t = c.loop-i.rest.now in
     let u = take (length t - c.in-Some.i) (drop c.in-Some.i t) in
     let p = at_percent t u c.in-Some.i (take_rest t c.in-Some.i) (found 37 t (Some c.in-Some.i) c.in-Some.ensures) in
-    sym (c.loop-i.invariant ∙ p.same ∙ triplet-found u c.in-Some-first_octet.field-0 (octets (drop 3 u)) p.some p.first c.in-Some-first_octet.ensures)
+    sym (c.loop-i.invariant ∙ p.same ∙ triplet-found u c.in-Some-first_octet.field-0
+    (octets (drop 3 u)) p.some p.first c.in-Some-first_octet.ensures)
 
 pub loop-i-preserved : goal.loop-i-preserved
 loop-i-preserved c =

@@ -23,6 +23,13 @@ returns-in-Some g c =
     let rest = c.past_run-rest.result.now in
     let past = run_from_char p c.has-stands.result c.in-Some.c t c.chars-chars.result.rest.now c.next.new.self.rest.now c.as_str.result.now rest c.utf8.text c.chars-chars.ensures.rest c.in-Some.ensures.steps.0 (sym c.has-stands.ensures) c.as_str.ensures c.past_run-rest.ensures in
     record {
-      is_run = run_front p c.has-stands.result t rest c.range.result.now past (c.range.ensures.value ∙ front_range t (length t - length rest));
-      shorter = omega (arith, run_within p c.has-stands.result c.as_str.result.now rest c.past_run-rest.ensures, ap length c.as_str.ensures, char_shorter c.in-Some.c c.chars-chars.result.rest.now c.next.new.self.rest.now c.in-Some.ensures.steps.0, ap length c.chars-chars.ensures.rest);
+      is_run = run_front p c.has-stands.result t rest c.range.result.now past
+          (c.range.ensures.value ∙ front_range t (length t - length rest));
+      shorter = omega (
+        arith,
+        run_within p c.has-stands.result c.as_str.result.now rest c.past_run-rest.ensures,
+        ap length c.as_str.ensures,
+        char_shorter c.in-Some.c c.chars-chars.result.rest.now c.next.new.self.rest.now c.in-Some.ensures.steps.0,
+        ap length c.chars-chars.ensures.rest,
+      );
     }

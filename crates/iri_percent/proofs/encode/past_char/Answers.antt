@@ -17,5 +17,10 @@ returns-then-has-stands g c =
     let r = c.as_str.result.now in
     let fits = sym c.has.ensures ∙ same c.has.result c.args.stands c.if-has-stands.true in (
       run_from_char p c.args.stands c.in-Some.c c.args.text.now c.chars-chars.result.rest.now c.next.new.self.rest.now r r c.utf8.text c.chars-chars.ensures.rest c.in-Some.ensures.steps.0 fits c.as_str.ensures (past_none p c.args.stands r c.as_str.utf8),
-      omega (arith, ap length c.as_str.ensures, char_shorter c.in-Some.c c.chars-chars.result.rest.now c.next.new.self.rest.now c.in-Some.ensures.steps.0, ap length c.chars-chars.ensures.rest),
+      omega (
+        arith,
+        ap length c.as_str.ensures,
+        char_shorter c.in-Some.c c.chars-chars.result.rest.now c.next.new.self.rest.now c.in-Some.ensures.steps.0,
+        ap length c.chars-chars.ensures.rest,
+      ),
     )

@@ -3,7 +3,7 @@ use Rattle.std.specs.Str.{IsCharBoundary}
 use Rattle.std.proofs.lemmas.Str.{IsCharBoundary-from_drop}
 use Rattle.iri_grammar.specs.Runs.{run_of}
 use Rattle.iri_grammar.proofs.Units.{run_text, run_of_le}
-use Rattle.iri_percent.specs.Runs.{is_other}
+use Rattle.iri_percent.specs.inside.Runs.{is_other}
 use Rattle.iri_percent.proofs.EncodedRuns.{other_below}
 use Rattle.iri_percent.proofs.encode.past_other_run.Goals as goal
 
@@ -12,4 +12,5 @@ range_from-requires c _ =
     let q = is_other c.args.class in
     let t = c.args.text.now in
     let is = c.other_run_len.ensures ∙ ap (run_of q) c.as_bytes.ensures.value in
-    subst (IsCharBoundary t) (sym is) (IsCharBoundary-from_drop t (run_of q t) (run_of_le q t) (run_text q t (other_below c.args.class) c.utf8.text))
+    subst (IsCharBoundary t) (sym is) (IsCharBoundary-from_drop t (run_of q t) (run_of_le q t)
+    (run_text q t (other_below c.args.class) c.utf8.text))

@@ -3,7 +3,11 @@ use Rattle.iri_percent.proofs.EncodedRuns.{past_none, past_more}
 use Rattle.iri_percent.proofs.encode.past_run.Goals as goal
 
 pub run-init : goal.run-init
-run-init g c = record { utf8 = c.utf8.text; past = past_none (class_test g.S.Spec.tests c.args.class) c.args.stands c.args.text.now c.utf8.text }
+run-init g c = record {
+  utf8 = c.utf8.text;
+  past = past_none
+      (class_test g.S.Spec.tests c.args.class) c.args.stands c.args.text.now c.utf8.text;
+}
 
 pub run-preserved : goal.run-preserved
 run-preserved g c =

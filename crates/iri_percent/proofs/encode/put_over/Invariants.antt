@@ -1,7 +1,7 @@
 use Rattle.std.proofs.Common.{◌≡◌, ℕ, List, ◌++◌, length}
 use Rattle.std.specs.Str.{IsUtf8}
 use Rattle.iri_grammar.specs.ClassTests.{class_test}
-use Rattle.iri_text.specs.Compose.{HasShown}
+use Rattle.iri_text.proofs.Compose.{HasShown}
 use Rattle.iri_percent.specs.Encoding.{encoded}
 use Rattle.iri_percent.proofs.encode.put_over.Given as goal
 

@@ -1,4 +1,4 @@
-use Rattle.iri_percent.specs.EncoderText.{encoder_shown}
+use Rattle.iri_percent.specs.inside.EncoderText.{encoder_shown}
 use Rattle.iri_percent.proofs.encoder.show_encoded.Goals as goal
 
 pub returns-clause-shows : goal.returns-clause-shows

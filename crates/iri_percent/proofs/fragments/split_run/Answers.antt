@@ -10,7 +10,9 @@ pub returns-in-Some-clause-rest : goal.returns-in-Some-clause-rest
 returns-in-Some-clause-rest c = c.split_at.ensures.back ∙ (found 37 c.args.text.now (Some c.in-Some.i) c.in-Some.ensures).rest
 
 pub returns-in-None-clause-run : goal.returns-in-None-clause-run
-returns-in-None-clause-run c = c.split_at-in-None.ensures.front ∙ (take_all (length c.args.text.now) c.args.text.now (omega arith) ∙ (found 37 c.args.text.now None c.in-None.ensures).front)
+returns-in-None-clause-run c = c.split_at-in-None.ensures.front
+    ∙ (take_all (length c.args.text.now) c.args.text.now (omega arith) ∙ (found 37 c.args.text.now None c.in-None.ensures).front)
 
 pub returns-in-None-clause-rest : goal.returns-in-None-clause-rest
-returns-in-None-clause-rest c = c.split_at-in-None.ensures.back ∙ (drop_all (length c.args.text.now) c.args.text.now (omega arith) ∙ (found 37 c.args.text.now None c.in-None.ensures).rest)
+returns-in-None-clause-rest c = c.split_at-in-None.ensures.back
+    ∙ (drop_all (length c.args.text.now) c.args.text.now (omega arith) ∙ (found 37 c.args.text.now None c.in-None.ensures).rest)

@@ -1,4 +1,4 @@
-use Rattle.iri_percent.specs.MarkLaws.{pct_mark}
+use Rattle.iri_percent.proofs.MarkLaws.{pct_mark}
 use Rattle.iri_percent.proofs.laws.marks_part_triplet_forms.Goals as goal
 
 pub returns : goal.returns

@@ -1,5 +1,12 @@
-use Rattle.iri_percent.proofs.CharUnits.{units-by_chars, char_units-text, pct-by_chars}
+use Rattle.iri_percent.specs.Triplets.{as_it_is}
+use Rattle.iri_percent.proofs.CharLaws.{units-by_chars, normal-by_bytes}
+use Rattle.iri_percent.proofs.CharUnits.{units-of_chars, char_units-text}
 use Rattle.iri_percent.proofs.laws.units_of_characters.Goals as goal
 
 pub returns : goal.returns
-returns g c = record { bytes = λ t u. units-by_chars t u; whole = λ t u. char_units-text t u; normal = λ t u. pct-by_chars g.S.Spec.tests t u }
+returns g c = record {
+  whole = λ t. char_units-text t;
+  characters = λ t u. units-of_chars t u;
+  bytes = λ t. units-by_chars t;
+  normal = λ t. normal-by_bytes g.S.Spec.tests as_it_is t;
+}

@@ -4,9 +4,9 @@ use Rattle.std.proofs.lemmas.Bool.Decides.{nat_tests}
 use Rattle.std.specs.Str.{IsAscii}
 use Rattle.iri_grammar.specs.Runs.{run_of}
 use Rattle.iri_text.specs.Shown.{Shows}
-use Rattle.iri_text.specs.Compose.{shown_more, shown_exit, shows_all}
+use Rattle.iri_text.proofs.Compose.{shown_more, shown_exit, shows_all}
 use Rattle.iri_percent.specs.Mapping.{mapped, triplets}
-use Rattle.iri_percent.specs.MapRuns.{goes_on}
+use Rattle.iri_percent.specs.inside.MapRuns.{goes_on}
 use Rattle.iri_percent.proofs.MappedRuns.{low-ascii, one_run, two_runs, shorter_by, mapped-none}
 use Rattle.iri_percent.proofs.mapped.put_runs.Goals as goal
 
@@ -19,7 +19,8 @@ returns-in_err-put_ascii g c =
     let rest = c.loop-rest.rest.now in
     let same = one_run c.args.bytes.now i.done rest c.split_run.result.0.now i.same c.split_run.ensures.run in
     subst (λ l. Shows g.W.TextSink.puts g.W.TextSink.halts g.W.TextSink.stops c.args.sink.now l c.put_ascii.new.sink c.from_residual.result) (sym same)
-    (shown_exit g.met.W.TextSink.rules (mapped (drop (run_of (goes_on false) rest) rest)) c.from_residual.ensures.0 i.shown c.in_err-put_ascii.ensures)
+    (shown_exit g.met.W.TextSink.rules (mapped (drop
+    (run_of (goes_on false) rest) rest)) c.from_residual.ensures.0 i.shown c.in_err-put_ascii.ensures)
 
 pub returns-in_err-put_triplets : goal.returns-in_err-put_triplets
 returns-in_err-put_triplets g c =
@@ -27,7 +28,8 @@ returns-in_err-put_triplets g c =
     let tail = c.split_run.result.1.now in
     let same = two_runs c.args.bytes.now i.done c.loop-rest.rest.now c.split_run.result.0.now tail c.split_run-in-loop-rest.result.0.now i.same c.split_run.ensures.run c.split_run.ensures.rest c.split_run-in-loop-rest.ensures.run in
     subst (λ l. Shows g.W.TextSink.puts g.W.TextSink.halts g.W.TextSink.stops c.args.sink.now l c.put_triplets.new.sink c.from_residual-in_err-put_triplets.result) (sym same)
-    (shown_exit g.met.W.TextSink.rules (mapped (drop (run_of (goes_on true) tail) tail)) c.from_residual-in_err-put_triplets.ensures.0 (shown_more g.met.W.TextSink.rules i.shown c.in_ok-put_ascii.ensures) c.in_err-put_triplets.ensures)
+    (shown_exit g.met.W.TextSink.rules (mapped (drop (run_of (goes_on true) tail) tail)) c.from_residual-in_err-put_triplets.ensures.0
+    (shown_more g.met.W.TextSink.rules i.shown c.in_ok-put_ascii.ensures) c.in_err-put_triplets.ensures)
 
 pub loop-rest-preserved : goal.loop-rest-preserved
 loop-rest-preserved g c =
@@ -37,7 +39,8 @@ loop-rest-preserved g c =
     let done' = (i.done ++ c.split_run.result.0.now) ++ triplets octets in
     record {
       done = done';
-      shown = shown_more g.met.W.TextSink.rules (shown_more g.met.W.TextSink.rules i.shown c.in_ok-put_ascii.ensures) c.in_ok-put_triplets.ensures;
+      shown = shown_more g.met.W.TextSink.rules
+          (shown_more g.met.W.TextSink.rules i.shown c.in_ok-put_ascii.ensures) c.in_ok-put_triplets.ensures;
       same =
           two_runs c.args.bytes.now i.done c.loop-rest.rest.now c.split_run.result.0.now tail octets i.same c.split_run.ensures.run c.split_run.ensures.rest c.split_run-in-loop-rest.ensures.run
           ∙ ap (λ z. done' ++ mapped z) (sym c.split_run-in-loop-rest.ensures.rest);
@@ -49,12 +52,14 @@ some n h = grind (arith, nat_tests)
 pub loop-rest-smaller : goal.loop-rest-smaller
 loop-rest-smaller g c =
     let rest = c.loop-rest.rest.now in
-    shorter_by rest c.split_run.result.1.now c.split_run-in-loop-rest.result.1.now (some (length rest) (sym c.is_empty.ensures ∙ c.loop-rest-test.true)) c.split_run.ensures.rest c.split_run-in-loop-rest.ensures.rest
+    shorter_by rest c.split_run.result.1.now c.split_run-in-loop-rest.result.1.now
+    (some (length rest) (sym c.is_empty.ensures ∙ c.loop-rest-test.true)) c.split_run.ensures.rest c.split_run-in-loop-rest.ensures.rest
 
 pub returns : goal.returns
 returns g c =
     let i = c.loop-rest.invariant in
     let rest = c.loop-rest.rest.now in
     let none = mapped-none rest (eqb-true (length rest) 0 (sym c.is_empty.ensures ∙ c.loop-rest-test.false)) in
-    subst (λ l. Shows g.W.TextSink.puts g.W.TextSink.halts g.W.TextSink.stops c.args.sink.now l c.loop-rest.sink (Ok tt)) (sym (i.same ∙ ap (λ l. i.done ++ l) none ∙ append-nil i.done))
+    subst (λ l. Shows g.W.TextSink.puts g.W.TextSink.halts g.W.TextSink.stops c.args.sink.now l c.loop-rest.sink (Ok tt))
+    (sym (i.same ∙ ap (λ l. i.done ++ l) none ∙ append-nil i.done))
     (shows_all i.shown)

@@ -1,5 +1,5 @@
 use Rattle.std.proofs.Common.{◌≡◌, ℕ, List, ◌++◌, length}
-use Rattle.iri_text.specs.Compose.{HasShown}
+use Rattle.iri_text.proofs.Compose.{HasShown}
 use Rattle.iri_percent.specs.Mapping.{mapped}
 use Rattle.iri_percent.proofs.mapped.put_runs.Given as goal
 

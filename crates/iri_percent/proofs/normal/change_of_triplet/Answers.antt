@@ -14,8 +14,11 @@ pub bounds-text-2 : goal.bounds-text-2
 bounds-text-2 g c = let h = triplet_room c.args.text.now c.requires.0 c.requires.1 c.requires.2 in omega arith
 
 pub returns-then-is_ascii_lowercase : goal.returns-then-is_ascii_lowercase
-returns-then-is_ascii_lowercase g c = (raises g.S.Spec.tests c.args.lower c.args.text.now c.requires.0 c.requires.1 c.requires.2 c.in_default.ensures, refl)
+returns-then-is_ascii_lowercase g c =
+    (raises g.S.Spec.tests c.args.lower c.args.text.now c.requires.0 c.requires.1 c.requires.2 c.in_default.ensures, refl)
 
 pub returns : goal.returns
 returns g c =
-    keeps g.S.Spec.tests c.args.lower c.args.text.now c.requires.0 c.requires.1 c.requires.2 c.in_default.ensures (sym c.is_ascii_lowercase.ensures.value ∙ c.if-is_ascii_lowercase.false) (sym c.is_ascii_lowercase-else-is_ascii_lowercase.ensures.value ∙ c.if-is_ascii_lowercase-2.false)
+    keeps g.S.Spec.tests c.args.lower c.args.text.now c.requires.0 c.requires.1 c.requires.2 c.in_default.ensures
+    (sym c.is_ascii_lowercase.ensures.value ∙ c.if-is_ascii_lowercase.false)
+    (sym c.is_ascii_lowercase-else-is_ascii_lowercase.ensures.value ∙ c.if-is_ascii_lowercase-2.false)

@@ -1,5 +1,5 @@
 use Rattle.std.proofs.Common.{true}
-use Rattle.iri_percent.specs.Pieces.{NoMark}
+use Rattle.iri_percent.specs.inside.Pieces.{NoMark}
 use Rattle.iri_percent.proofs.normal.find_percent_or_capital.Given as goal
 
 abbrev pub invariant-loop-i : goal.invariant-loop-i

@@ -1,7 +1,7 @@
 use Rattle.std.proofs.Common.{◌≡◌, true, length, ◌-◌, ◌≤◌, ◌++◌, take, drop}
 use Rattle.iri_percent.specs.Units.{whole_triplets}
 use Rattle.iri_percent.specs.Triplets.{normal}
-use Rattle.iri_percent.specs.Pieces.{case_of}
+use Rattle.iri_percent.specs.inside.Pieces.{case_of}
 use Rattle.iri_percent.proofs.normal.next_change.Given as goal
 
 -- the bytes in front stay

@@ -16,4 +16,6 @@ low x y h e = grind (arith, nat_tests)
 
 pub from_utf8_unchecked-requires : goal.from_utf8_unchecked-requires
 from_utf8_unchecked-requires g c =
-    IsUtf8-from_ascii _ (three 37 c.to_ascii_uppercase.result c.to_ascii_uppercase-2.result (omega arith) (low c.args.high _ c.requires.0 c.to_ascii_uppercase.ensures.value) (low c.args.low _ c.requires.1 c.to_ascii_uppercase-2.ensures.value))
+    IsUtf8-from_ascii _ (three 37 c.to_ascii_uppercase.result c.to_ascii_uppercase-2.result (omega arith)
+    (low c.args.high _ c.requires.0 c.to_ascii_uppercase.ensures.value)
+    (low c.args.low _ c.requires.1 c.to_ascii_uppercase-2.ensures.value))

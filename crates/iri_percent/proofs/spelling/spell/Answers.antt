@@ -8,5 +8,11 @@ loop-octet-preserved c =
     record {
       count = omega arith;
       room = length-set _ (c.loop-octet.n + 2) _ ∙ length-set _ (c.loop-octet.n + 1) _ ∙ length-set _ c.loop-octet.n _ ∙ i.room;
-      text = one_spelled c.loop-octet.buf c.args.octets.now c.loop-octet.n c.loop-octet.octet-index _ _ _ (omega (arith, i.room, i.count, c.requires)) c.loop-octet-test.true refl c.capital_digit.ensures c.capital_digit-in-loop-octet.ensures i.text;
+      text = one_spelled c.loop-octet.buf c.args.octets.now c.loop-octet.n c.loop-octet.octet-index _ _ _
+          (omega (
+            arith,
+            i.room,
+            i.count,
+            c.requires,
+          )) c.loop-octet-test.true refl c.capital_digit.ensures c.capital_digit-in-loop-octet.ensures i.text;
     }

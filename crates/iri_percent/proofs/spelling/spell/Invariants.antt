@@ -2,7 +2,7 @@ use Rattle.std.proofs.Common.{◌≡◌, ◌*◌, take, length}
 use Rattle.iri_percent.specs.Mapping.{triplets}
 use Rattle.iri_percent.proofs.spelling.spell.Given as goal
 
--- the triplets of the octets so far stand at the front
+-- the triplets of the octets so far stand at the start
 abbrev pub invariant-loop-octet : goal.invariant-loop-octet
 invariant-loop-octet l = record {
   count : l.n ≡ 3 * l.octet-index;

@@ -11,5 +11,6 @@ loop-fragment-init c = record {
   ends = tt;
   same =
       ap (λ z. z ++ flat_map fragment_bytes (fragments_left c.into_iter-fragment-iterator.result)) c.in_ok-bytes.ensures.items
-      ∙ (ap (λ it. flat_map fragment_bytes (fragments_left it)) c.into_iter-fragment-iterator.ensures.into_iter_gives ∙ (ap (flat_map fragment_bytes) c.bytes_fragments-fragment-items.ensures ∙ fragments-joined c.args.self.now.source.now));
+      ∙ (ap (λ it. flat_map fragment_bytes (fragments_left it)) c.into_iter-fragment-iterator.ensures.into_iter_gives
+      ∙ (ap (flat_map fragment_bytes) c.bytes_fragments-fragment-items.ensures ∙ fragments-joined c.args.self.now.source.now));
 }

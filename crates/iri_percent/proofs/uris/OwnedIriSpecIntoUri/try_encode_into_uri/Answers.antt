@@ -5,9 +5,12 @@ use Rattle.iri_percent.specs.Mapping.{mapped}
 use Rattle.iri_percent.proofs.MappedRuns.{mapped-of_ascii}
 use Rattle.iri_percent.proofs.uris.OwnedIriSpecIntoUri.try_encode_into_uri.Goals as goal
 
-stays : (r : Result OwnedText OwnedText) (t : OwnedText) → IsAscii t.text → MatchResult r (λ uri. IsAscii t.text × (uri.text ≡ t.text)) (λ iri. (iri ≡ t) × IsNotAscii t.text) → MatchResult r (λ uri. uri.text ≡ mapped t.text) (λ iri. (iri ≡ t) × IsNotAscii t.text)
+stays : (r : Result OwnedText OwnedText) (t : OwnedText) → IsAscii t.text
+    → MatchResult r (λ uri. IsAscii t.text × (uri.text ≡ t.text)) (λ iri. (iri ≡ t) × IsNotAscii t.text)
+    → MatchResult r (λ uri. uri.text ≡ mapped t.text) (λ iri. (iri ≡ t) × IsNotAscii t.text)
 stays (Ok uri) t a h = h.1 ∙ sym (mapped-of_ascii t.text a)
 stays (Err iri) t a h = h
 
 pub returns-then-is_ascii : goal.returns-then-is_ascii
-returns-then-is_ascii g c = stays c.try_into_uri.result c.args.self (subst IsAscii c.as_str.ensures.text c.if-is_ascii.ensures.cases) c.try_into_uri.ensures
+returns-then-is_ascii g c = stays c.try_into_uri.result c.args.self
+    (subst IsAscii c.as_str.ensures.text c.if-is_ascii.ensures.cases) c.try_into_uri.ensures

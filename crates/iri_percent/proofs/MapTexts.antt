@@ -1,5 +1,6 @@
 -- The mapping of texts over a class.
-use Rattle.std.proofs.Common.{◌≡◌, ℕ, ◌+◌, ◌*◌, ◌<◌, ◌≤◌, Bool, true, false, cond, List, [], ◌∷◌, ◌++◌, refl, sym, ◌∙◌, ap, subst, arith, append_assoc, ltb-true}
+use Rattle.std.proofs.Common.{◌≡◌, ℕ, ◌+◌, ◌*◌, ◌<◌, ◌≤◌, Bool, true, false, cond, List, [], ◌∷◌, ◌++◌, refl, sym, ◌∙◌, ap, subst, arith}
+use Rattle.std.proofs.Common.{append_assoc, ltb-true}
 use Rattle.std.specs.Prelude.{◌/◌, ◌%◌, nat_lt}
 use Rattle.std.specs.Int.{is_in_range}
 use Rattle.std.specs.List.{list_all}
@@ -9,11 +10,11 @@ use lib.Utf8.{encode, next, scalar}
 use Rattle.std.proofs.lemmas.Str.{encode_ascii}
 use Rattle.std.proofs.lemmas.Bool.Decides.{nat_tests}
 use Rattle.iri_grammar.specs.Classes.{IsSpec, uri_tests}
-use Rattle.iri_grammar.specs.CutLaws.{both}
+use Rattle.iri_grammar.proofs.CutLaws.{both}
 use Rattle.iri_grammar.specs.Over.{text_over}
 use Rattle.iri_percent.specs.Units.{octet}
-use Rattle.iri_percent.specs.ClassLaws.{IsText, ended, letter, escape, text-from_over, over-from_text}
-use Rattle.iri_percent.specs.UnitLaws.{Spells, none, more}
+use Rattle.iri_percent.proofs.ClassLaws.{IsText, ended, letter, escape, text-from_over, over-from_text}
+use Rattle.iri_percent.proofs.UnitLaws.{Spells, none, more}
 use Rattle.iri_percent.specs.Mapping.{capital_hex, triplet, mapped}
 
 -- ---- bytes
@@ -25,17 +26,20 @@ mapped-high x xs h = rw h refl
 
 pub mapped-append : (xs ys : List ℕ) → mapped (xs ++ ys) ≡ mapped xs ++ mapped ys
 mapped-append [] ys = refl
-mapped-append (x ∷ xs) ys = let u = cond (nat_lt x 128) (x ∷ []) (triplet x) in ap (λ z. u ++ z) (mapped-append xs ys) ∙ sym (append_assoc u (mapped xs) (mapped ys))
+mapped-append (x ∷ xs) ys = let u = cond (nat_lt x 128) (x ∷ []) (triplet x) in
+    ap (λ z. u ++ z) (mapped-append xs ys) ∙ sym (append_assoc u (mapped xs) (mapped ys))
 
 pub hex_low : (a : ℕ) → is_ascii_hexdigit a ≡ true → nat_lt a 128 ≡ true
 hex_low a h = grind (arith, nat_tests)
 
-pub mapped-triplet : (a b : ℕ) (xs : List ℕ) → is_ascii_hexdigit a ≡ true → is_ascii_hexdigit b ≡ true → mapped (37 ∷ a ∷ b ∷ xs) ≡ 37 ∷ a ∷ b ∷ mapped xs
+pub mapped-triplet : (a b : ℕ) (xs : List ℕ) → is_ascii_hexdigit a ≡ true → is_ascii_hexdigit b ≡ true
+    → mapped (37 ∷ a ∷ b ∷ xs) ≡ 37 ∷ a ∷ b ∷ mapped xs
 mapped-triplet a b xs p q = ap (λ z. 37 ∷ z) (mapped-low a (b ∷ xs) (hex_low a p) ∙ ap (λ z. a ∷ z) (mapped-low b xs (hex_low b q)))
 
 pub mapped-spelled : (sp os xs : List ℕ) → Spells sp os → mapped (sp ++ xs) ≡ sp ++ mapped xs
 mapped-spelled sp os xs none = refl
-mapped-spelled sp os xs (more a b sp' os' p q k) = mapped-triplet a b (sp' ++ xs) p q ∙ ap (λ z. 37 ∷ a ∷ b ∷ z) (mapped-spelled sp' os' xs k)
+mapped-spelled sp os xs (more a b sp' os' p q k) =
+    mapped-triplet a b (sp' ++ xs) p q ∙ ap (λ z. 37 ∷ a ∷ b ∷ z) (mapped-spelled sp' os' xs k)
 
 -- ---- the triplet of an octet
 pub capital_is_hex : (n : ℕ) → n < 16 → is_ascii_hexdigit (capital_hex n) ≡ true
@@ -74,7 +78,8 @@ mapped-spells (x ∷ xs) h =
     let h1 = capital_is_hex (x / 16) (first_digit x l) in
     let h2 = capital_is_hex (x % 16) (second_digit x) in
     subst (λ z. Spells z (x ∷ xs)) (sym (mapped-high x xs (high_past x k.0)))
-    (subst (λ o. Spells (37 ∷ capital_hex (x / 16) ∷ capital_hex (x % 16) ∷ mapped xs) (o ∷ xs)) (octet_of x l) (more (capital_hex (x / 16)) (capital_hex (x % 16)) (mapped xs) xs h1 h2 (mapped-spells xs k.1)))
+    (subst (λ o. Spells (37 ∷ capital_hex (x / 16) ∷ capital_hex (x % 16) ∷ mapped xs) (o ∷ xs)) (octet_of x l)
+    (more (capital_hex (x / 16)) (capital_hex (x % 16)) (mapped xs) xs h1 h2 (mapped-spells xs k.1)))
 
 -- ---- characters past ASCII
 scalar_small : (c : ℕ) → scalar c ≡ true → c < 1114112
@@ -90,12 +95,23 @@ pub encode-high : (c : ℕ) → scalar c ≡ true → nat_lt c 128 ≡ false →
 unfolding encode
 encode-high c s h =
     let l = scalar_small c s in
-    rw h (elim (ltb c 2048) as (λ b. ltb c 2048 ≡ b → list_all is_high (cond b ((192 + c / 64) ∷ next c ∷ []) (cond (ltb c 65536) ((224 + c / 4096) ∷ next (c / 64) ∷ next c ∷ []) ((240 + c / 262144) ∷ next (c / 4096) ∷ next (c / 64) ∷ next c ∷ []))) ≡ true) [
+    rw h (elim (ltb c 2048) as (λ b. ltb c 2048 ≡ b
+    → list_all is_high (cond b ((192 + c / 64) ∷ next c ∷ [])
+    (cond (ltb c 65536) ((224 + c / 4096) ∷ next (c / 64) ∷ next c ∷ [])
+    ((240 + c / 262144) ∷ next (c / 4096) ∷ next (c / 64) ∷ next c ∷ []))) ≡ true) [
       | true ↦ λ e. let m : c < 2048 = ltb-true c 2048 e in rw (in_high (192 + c / 64) (omega arith) (omega (arith, m)), next_high c) refl
-      | false ↦ λ _. elim (ltb c 65536) as (λ b. ltb c 65536 ≡ b → list_all is_high (cond b ((224 + c / 4096) ∷ next (c / 64) ∷ next c ∷ []) ((240 + c / 262144) ∷ next (c / 4096) ∷ next (c / 64) ∷ next c ∷ [])) ≡ true) [
-        | true ↦ λ e. let m : c < 65536 = ltb-true c 65536 e in rw (in_high (224 + c / 4096) (omega arith) (omega (arith, m)), next_high (c / 64), next_high c) refl
-        | false ↦ λ _. rw (in_high (240 + c / 262144) (omega arith) (omega (arith, l)), next_high (c / 4096), next_high (c / 64), next_high c) refl
-      ] refl
+      | false ↦ λ _. elim (ltb c 65536) as (λ b. ltb c 65536 ≡ b
+          → list_all is_high (cond b ((224 + c / 4096) ∷ next (c / 64) ∷ next c ∷ [])
+          ((240 + c / 262144) ∷ next (c / 4096) ∷ next (c / 64) ∷ next c ∷ [])) ≡ true) [
+            | true ↦ λ e. let m : c < 65536 = ltb-true c 65536 e in
+                rw (in_high (224 + c / 4096) (omega arith) (omega (arith, m)), next_high (c / 64), next_high c) refl
+            | false ↦ λ _. rw (
+              in_high (240 + c / 262144) (omega arith) (omega (arith, l)),
+              next_high (c / 4096),
+              next_high (c / 64),
+              next_high c,
+            ) refl
+          ] refl
     ] refl)
 
 pub uri-spec : IsSpec uri_tests
@@ -108,17 +124,21 @@ spelled-text q sp os t (more a b sp' os' ha hb k) h = escape a b (sp' ++ t) ha h
 
 mapped-text : (p q : ℕ → Bool) → ((c : ℕ) → c < 128 → p c ≡ true → q c ≡ true) → (t : List ℕ) → IsText p t → IsText q (mapped t)
 mapped-text p q w t ended = ended
-mapped-text p q w t (escape a b t' ha hb r) = subst (λ z. IsText q z) (sym (mapped-triplet a b t' ha hb)) (escape a b (mapped t') ha hb (mapped-text p q w t' r))
+mapped-text p q w t (escape a b t' ha hb r) = subst (λ z. IsText q z) (sym (mapped-triplet a b t' ha hb))
+    (escape a b (mapped t') ha hb (mapped-text p q w t' r))
 mapped-text p q w t (letter c t' h m n r) =
     let rest = mapped-text p q w t' r in
     elim (nat_lt c 128) as (λ b. nat_lt c 128 ≡ b → IsText q (mapped (encode c ++ t'))) [
       | true ↦ λ e.
           let l = ltb-true c 128 e in
-          let one : mapped (encode c ++ t') ≡ encode c ++ mapped t' = ap (λ z. mapped (z ++ t')) (encode_ascii c l) ∙ mapped-low c t' e ∙ ap (λ z. z ++ mapped t') (sym (encode_ascii c l)) in
+          let one : mapped (encode c ++ t') ≡ encode c ++ mapped t' =
+          ap (λ z. mapped (z ++ t')) (encode_ascii c l) ∙ mapped-low c t' e ∙ ap (λ z. z ++ mapped t') (sym (encode_ascii c l)) in
           subst (λ z. IsText q z) (sym one) (letter c (mapped t') h (w c l m) n rest)
-      | false ↦ λ e. subst (λ z. IsText q z) (sym (mapped-append (encode c) t')) (spelled-text q (mapped (encode c)) (encode c) (mapped t') (mapped-spells (encode c) (encode-high c h e)) rest)
+      | false ↦ λ e. subst (λ z. IsText q z) (sym (mapped-append (encode c) t'))
+          (spelled-text q (mapped (encode c)) (encode c) (mapped t') (mapped-spells (encode c) (encode-high c h e)) rest)
     ] refl
 
 -- a text over a class, mapped, is over the same class of URIs
-pub mapped-over : (p q : ℕ → Bool) (t : List ℕ) → p 37 ≡ false → q 37 ≡ false → ((c : ℕ) → c < 128 → p c ≡ true → q c ≡ true) → text_over p t ≡ true → text_over q (mapped t) ≡ true
+pub mapped-over : (p q : ℕ → Bool) (t : List ℕ) → p 37 ≡ false → q 37 ≡ false → ((c : ℕ) → c < 128 → p c ≡ true → q c ≡ true)
+    → text_over p t ≡ true → text_over q (mapped t) ≡ true
 mapped-over p q t n m w h = over-from_text q (mapped t) m (mapped-text p q w t (text-from_over p t n h))

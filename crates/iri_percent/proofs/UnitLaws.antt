@@ -1,5 +1,6 @@
--- How a text is read: octets, characters and units at its front.
-use Rattle.std.proofs.Common.{◌≡◌, ℕ, zero, suc, ◌+◌, ◌*◌, ◌-◌, ◌≤◌, Bool, true, false, cond, ◌&&◌, List, [], ◌∷◌, ◌++◌, Some, None, length, take, drop, refl, sym, ◌∙◌, ap, subst, arith, append_assoc, append-nil, eq-eqb, eqb-true}
+-- How a text is read: octets, characters and units at its start.
+use Rattle.std.proofs.Common.{◌≡◌, ℕ, zero, suc, ◌+◌, ◌*◌, ◌-◌, ◌≤◌, Bool, true, false, cond, ◌&&◌, List, [], ◌∷◌, ◌++◌, Some, None}
+use Rattle.std.proofs.Common.{length, take, drop, refl, sym, ◌∙◌, ap, subst, arith, append_assoc, append-nil, eq-eqb, eqb-true}
 use Rattle.std.specs.Prelude.{◌==◌, ◌/◌}
 use Rattle.std.specs.Int.{is_in_range}
 use Rattle.std.specs.List.{list_all}
@@ -10,8 +11,9 @@ use lib.Utf8.{encode, next, scalar, scalars}
 use Rattle.std.proofs.lemmas.Str.{chars-append, chars-encodes, IsUtf8-encode, length-encode}
 use Rattle.std.proofs.lemmas.List.{take_at, drop_at}
 use Rattle.std.proofs.lemmas.Bool.Decides.{nat_tests}
-use Rattle.iri_grammar.specs.CutLaws.{both}
-use Rattle.iri_percent.specs.Units.{Plain, Char, Lone, Stray, is_triplet, octet, octets, starts_with, well_formed, first_char, triplet_unit, first_unit, unit_text, units_from, units}
+use Rattle.iri_grammar.proofs.CutLaws.{both}
+use Rattle.iri_percent.specs.Units.{Plain, Char, Lone, Stray, is_triplet, octet, octets, starts_with, well_formed, first_char}
+use Rattle.iri_percent.specs.Units.{triplet_unit, first_unit, unit_text, units_from, units}
 
 -- ---- octets
 pub hex_apart : (x : ℕ) → is_ascii_hexdigit x ≡ true → (x == 37) ≡ false
@@ -22,17 +24,20 @@ octets_other x [] h = refl
 octets_other x (a ∷ []) h = refl
 octets_other x (a ∷ b ∷ xs) h = rw h refl
 
-pub octets_triplet : (a b : ℕ) (xs : List ℕ) → is_ascii_hexdigit a ≡ true → is_ascii_hexdigit b ≡ true → octets (37 ∷ a ∷ b ∷ xs) ≡ octet a b ∷ octets xs
+pub octets_triplet : (a b : ℕ) (xs : List ℕ) → is_ascii_hexdigit a ≡ true → is_ascii_hexdigit b ≡ true
+    → octets (37 ∷ a ∷ b ∷ xs) ≡ octet a b ∷ octets xs
 octets_triplet a b xs p q = rw (p, q) refl
 
 -- triplets that spell octets
 pub data Spells : List ℕ → List ℕ → Type 0 where
   none : Spells [] []
-  more : (a b : ℕ) (sp os : List ℕ) → is_ascii_hexdigit a ≡ true → is_ascii_hexdigit b ≡ true → Spells sp os → Spells (37 ∷ a ∷ b ∷ sp) (octet a b ∷ os)
+  more : (a b : ℕ) (sp os : List ℕ) → is_ascii_hexdigit a ≡ true → is_ascii_hexdigit b ≡ true → Spells sp os
+      → Spells (37 ∷ a ∷ b ∷ sp) (octet a b ∷ os)
 
 pub octets_spelled : (sp os xs : List ℕ) → Spells sp os → octets (sp ++ xs) ≡ os ++ octets xs
 octets_spelled sp os xs none = refl
-octets_spelled sp os xs (more a b sp' os' p q k) = octets_triplet a b (sp' ++ xs) p q ∙ ap (λ ys. octet a b ∷ ys) (octets_spelled sp' os' xs k)
+octets_spelled sp os xs (more a b sp' os' p q k) =
+    octets_triplet a b (sp' ++ xs) p q ∙ ap (λ ys. octet a b ∷ ys) (octets_spelled sp' os' xs k)
 
 pub length-spelled : (sp os : List ℕ) → Spells sp os → length sp ≡ 3 * length os
 length-spelled sp os none = refl
@@ -52,7 +57,8 @@ spelled (o ∷ os) rest [] h = cc
 spelled (o ∷ os) rest (x ∷ []) h = cc
 spelled (o ∷ os) rest (x ∷ a ∷ []) h = cc
 spelled (o ∷ os) rest (x ∷ a ∷ b ∷ xs) h =
-    elim (is_triplet x a b) as (λ v. is_triplet x a b ≡ v → cond v (octet a b ∷ octets xs) [] ≡ o ∷ (os ++ rest) → Spelled (x ∷ a ∷ b ∷ xs) (o ∷ os) rest) [
+    elim (is_triplet x a b) as (λ v. is_triplet x a b ≡ v → cond v (octet a b ∷ octets xs) [] ≡ o ∷ (os ++ rest)
+    → Spelled (x ∷ a ∷ b ∷ xs) (o ∷ os) rest) [
       | true ↦ λ e k.
           let one = both (x == 37) (is_ascii_hexdigit a && is_ascii_hexdigit b) e in
           let two = both (is_ascii_hexdigit a) (is_ascii_hexdigit b) one.1 in
@@ -91,7 +97,8 @@ starts_front (y ∷ ys) rest = rw (eq-eqb y y refl) (starts_front ys rest)
 well : (os cs : List ℕ) (c : ℕ) → well_formed os cs ≡ Some c → BeginsChar os c
 well os [] c h = cc
 well os (d ∷ ds) c h =
-    elim (scalar d && starts_with os (encode d)) as (λ b. (scalar d && starts_with os (encode d)) ≡ b → cond b (Some d) None ≡ Some c → BeginsChar os c) [
+    elim (scalar d && starts_with os (encode d)) as (λ b. (scalar d && starts_with os (encode d)) ≡ b → cond b (Some d) None ≡ Some c
+    → BeginsChar os c) [
       | true ↦ λ e k.
           let same : d ≡ c = cc in
           let t = both (scalar d) (starts_with os (encode d)) e in
@@ -145,15 +152,46 @@ next_continues x = grind (arith, nat_tests)
 pub encode_bytes : (c : ℕ) → Bytes c (encode c)
 unfolding encode
 encode_bytes c =
-    elim (ltb c 128) as (λ b. ltb c 128 ≡ b → Bytes c (cond b (c ∷ []) (cond (ltb c 2048) ((192 + c / 64) ∷ next c ∷ []) (cond (ltb c 65536) ((224 + c / 4096) ∷ next (c / 64) ∷ next c ∷ []) ((240 + c / 262144) ∷ next (c / 4096) ∷ next (c / 64) ∷ next c ∷ []))))) [
+    elim (ltb c 128) as (λ b. ltb c 128 ≡ b → Bytes c
+    (cond b (c ∷ []) (cond (ltb c 2048) ((192 + c / 64) ∷ next c ∷ [])
+    (cond (ltb c 65536) ((224 + c / 4096) ∷ next (c / 64) ∷ next c ∷ [])
+    ((240 + c / 262144) ∷ next (c / 4096) ∷ next (c / 64) ∷ next c ∷ []))))) [
       | true ↦ λ e. record { lead = c; tail = []; split = refl; leads = grind (arith, nat_tests); continue = refl; percent = refl }
-      | false ↦ λ e. elim (ltb c 2048) as (λ b. Bytes c (cond b ((192 + c / 64) ∷ next c ∷ []) (cond (ltb c 65536) ((224 + c / 4096) ∷ next (c / 64) ∷ next c ∷ []) ((240 + c / 262144) ∷ next (c / 4096) ∷ next (c / 64) ∷ next c ∷ [])))) [
-        | true ↦ record { lead = 192 + c / 64; tail = next c ∷ []; split = refl; leads = high (192 + c / 64) (omega arith); continue = rw (next_continues c) refl; percent = far (192 + c / 64) c (omega arith) e }
-        | false ↦ elim (ltb c 65536) as (λ b. Bytes c (cond b ((224 + c / 4096) ∷ next (c / 64) ∷ next c ∷ []) ((240 + c / 262144) ∷ next (c / 4096) ∷ next (c / 64) ∷ next c ∷ []))) [
-          | true ↦ record { lead = 224 + c / 4096; tail = next (c / 64) ∷ next c ∷ []; split = refl; leads = high (224 + c / 4096) (omega arith); continue = rw (next_continues (c / 64), next_continues c) refl; percent = far (224 + c / 4096) c (omega arith) e }
-          | false ↦ record { lead = 240 + c / 262144; tail = next (c / 4096) ∷ next (c / 64) ∷ next c ∷ []; split = refl; leads = high (240 + c / 262144) (omega arith); continue = rw (next_continues (c / 4096), next_continues (c / 64), next_continues c) refl; percent = far (240 + c / 262144) c (omega arith) e }
-        ]
-      ]
+      | false ↦ λ e. elim (ltb c 2048) as (λ b. Bytes c
+          (cond b ((192 + c / 64) ∷ next c ∷ []) (cond (ltb c 65536) ((224 + c / 4096) ∷ next (c / 64) ∷ next c ∷ [])
+          ((240 + c / 262144) ∷ next (c / 4096) ∷ next (c / 64) ∷ next c ∷ [])))) [
+            | true ↦ record {
+              lead = 192 + c / 64;
+              tail = next c ∷ [];
+              split = refl;
+              leads = high (192 + c / 64) (omega arith);
+              continue = rw (next_continues c) refl;
+              percent = far (192 + c / 64) c (omega arith) e;
+            }
+            | false ↦ elim (ltb c 65536) as (λ b. Bytes c
+                (cond b ((224 + c / 4096) ∷ next (c / 64) ∷ next c ∷ [])
+                ((240 + c / 262144) ∷ next (c / 4096) ∷ next (c / 64) ∷ next c ∷ []))) [
+                  | true ↦ record {
+                    lead = 224 + c / 4096;
+                    tail = next (c / 64) ∷ next c ∷ [];
+                    split = refl;
+                    leads = high (224 + c / 4096) (omega arith);
+                    continue = rw (next_continues (c / 64), next_continues c) refl;
+                    percent =
+                        far (224 + c / 4096) c (omega arith) e;
+                  }
+                  | false ↦ record {
+                    lead = 240 + c / 262144;
+                    tail = next (c / 4096) ∷ next (c / 64) ∷ next c ∷ [];
+                    split = refl;
+                    leads = high (240 + c / 262144) (omega arith);
+                    continue =
+                        rw (next_continues (c / 4096), next_continues (c / 64), next_continues c) refl;
+                    percent =
+                        far (240 + c / 262144) c (omega arith) e;
+                  }
+                ]
+          ]
     ] refl
   where
     high : (x : ℕ) → 192 ≤ x → is_continuation x ≡ false
@@ -193,18 +231,23 @@ pub units_plain : (x : ℕ) (xs : List ℕ) → (x == 37) ≡ false → units (x
 unfolding units_from
 units_plain x xs h = ap (λ u. u ∷ units_from (length (unit_text u) - 1) xs) (byte_other x xs h)
 
-pub unit_lone : (a b : ℕ) (xs : List ℕ) → is_ascii_hexdigit a ≡ true → is_ascii_hexdigit b ≡ true → first_char (octets (37 ∷ a ∷ b ∷ xs)) ≡ None → first_unit 37 (a ∷ b ∷ xs) ≡ Lone a b
-unit_lone a b xs p q n = ap (λ v. cond v (triplet_unit a b (37 ∷ a ∷ b ∷ xs) (first_char (octets (37 ∷ a ∷ b ∷ xs)))) Stray) (ap₂b p q) ∙ ap (triplet_unit a b (37 ∷ a ∷ b ∷ xs)) n
+pub unit_lone : (a b : ℕ) (xs : List ℕ) → is_ascii_hexdigit a ≡ true → is_ascii_hexdigit b ≡ true
+    → first_char (octets (37 ∷ a ∷ b ∷ xs)) ≡ None → first_unit 37 (a ∷ b ∷ xs) ≡ Lone a b
+unit_lone a b xs p q n = ap (λ v. cond v (triplet_unit a b (37 ∷ a ∷ b ∷ xs) (first_char (octets (37 ∷ a ∷ b ∷ xs)))) Stray) (ap₂b p q)
+    ∙ ap (triplet_unit a b (37 ∷ a ∷ b ∷ xs)) n
   where
     ap₂b : {x y : Bool} → x ≡ true → y ≡ true → (x && y) ≡ true
     ap₂b {x = x} {y = y} p q = rw (p, q) refl
 
-pub units_lone : (a b : ℕ) (xs : List ℕ) → is_ascii_hexdigit a ≡ true → is_ascii_hexdigit b ≡ true → first_char (octets (37 ∷ a ∷ b ∷ xs)) ≡ None → units (37 ∷ a ∷ b ∷ xs) ≡ Lone a b ∷ units xs
+pub units_lone : (a b : ℕ) (xs : List ℕ) → is_ascii_hexdigit a ≡ true → is_ascii_hexdigit b ≡ true
+    → first_char (octets (37 ∷ a ∷ b ∷ xs)) ≡ None → units (37 ∷ a ∷ b ∷ xs) ≡ Lone a b ∷ units xs
 unfolding units_from
 units_lone a b xs p q n = ap (λ u. u ∷ units_from (length (unit_text u) - 1) (a ∷ b ∷ xs)) (unit_lone a b xs p q n)
 
-pub unit_char : (c a b : ℕ) (xs : List ℕ) → is_ascii_hexdigit a ≡ true → is_ascii_hexdigit b ≡ true → first_char (octets (37 ∷ a ∷ b ∷ xs)) ≡ Some c → first_unit 37 (a ∷ b ∷ xs) ≡ Char c (take (3 * len_utf8 c) (37 ∷ a ∷ b ∷ xs))
-unit_char c a b xs p q n = ap (λ v. cond v (triplet_unit a b (37 ∷ a ∷ b ∷ xs) (first_char (octets (37 ∷ a ∷ b ∷ xs)))) Stray) (ap₂b p q) ∙ ap (triplet_unit a b (37 ∷ a ∷ b ∷ xs)) n
+pub unit_char : (c a b : ℕ) (xs : List ℕ) → is_ascii_hexdigit a ≡ true → is_ascii_hexdigit b ≡ true
+    → first_char (octets (37 ∷ a ∷ b ∷ xs)) ≡ Some c → first_unit 37 (a ∷ b ∷ xs) ≡ Char c (take (3 * len_utf8 c) (37 ∷ a ∷ b ∷ xs))
+unit_char c a b xs p q n = ap (λ v. cond v (triplet_unit a b (37 ∷ a ∷ b ∷ xs) (first_char (octets (37 ∷ a ∷ b ∷ xs)))) Stray) (ap₂b p q)
+    ∙ ap (triplet_unit a b (37 ∷ a ∷ b ∷ xs)) n
   where
     ap₂b : {x y : Bool} → x ≡ true → y ≡ true → (x && y) ≡ true
     ap₂b {x = x} {y = y} p q = rw (p, q) refl
@@ -213,14 +256,19 @@ units_char_at : (c : ℕ) (sp os xs : List ℕ) → scalar c ≡ true → Spells
 unfolding units_from
 units_char_at c sp os xs h none e = let b = encode_bytes c in let no : [] ≡ b.lead ∷ b.tail = e ∙ b.split in cc
 units_char_at c sp os xs h (more a b sp' os' p q k) e =
-    let whole : octets (37 ∷ a ∷ b ∷ (sp' ++ xs)) ≡ encode c ++ octets xs = octets_spelled (37 ∷ a ∷ b ∷ sp') (octet a b ∷ os') xs (more a b sp' os' p q k) ∙ ap (λ l. l ++ octets xs) e in
+    let whole : octets (37 ∷ a ∷ b ∷ (sp' ++ xs)) ≡ encode c ++ octets xs =
+    octets_spelled (37 ∷ a ∷ b ∷ sp') (octet a b ∷ os') xs (more a b sp' os' p q k) ∙ ap (λ l. l ++ octets xs) e in
     let first : first_char (octets (37 ∷ a ∷ b ∷ (sp' ++ xs))) ≡ Some c = ap first_char whole ∙ char_first c (octets xs) h in
-    let long : length (37 ∷ a ∷ b ∷ sp') ≡ 3 * len_utf8 c = length-spelled (37 ∷ a ∷ b ∷ sp') (octet a b ∷ os') (more a b sp' os' p q k) ∙ ap (λ l. 3 * length l) e ∙ ap (λ n. 3 * n) (length-encode c) in
+    let long : length (37 ∷ a ∷ b ∷ sp') ≡ 3 * len_utf8 c =
+    length-spelled (37 ∷ a ∷ b ∷ sp') (octet a b ∷ os') (more a b sp' os' p q k) ∙ ap (λ l. 3 * length l) e
+    ∙ ap (λ n. 3 * n) (length-encode c) in
     let taken : take (3 * len_utf8 c) (37 ∷ a ∷ b ∷ (sp' ++ xs)) ≡ 37 ∷ a ∷ b ∷ sp' = take_at (37 ∷ a ∷ b ∷ sp') xs (3 * len_utf8 c) long in
-    let unit : first_unit 37 (a ∷ b ∷ (sp' ++ xs)) ≡ Char c (37 ∷ a ∷ b ∷ sp') = unit_char c a b (sp' ++ xs) p q first ∙ ap (λ l. Char c l) taken in
+    let unit : first_unit 37 (a ∷ b ∷ (sp' ++ xs)) ≡ Char c (37 ∷ a ∷ b ∷ sp') =
+    unit_char c a b (sp' ++ xs) p q first ∙ ap (λ l. Char c l) taken in
     let less : length (37 ∷ a ∷ b ∷ sp') - 1 ≡ length (a ∷ b ∷ sp') = omega arith in
     ap (λ u. u ∷ units_from (length (unit_text u) - 1) (a ∷ b ∷ (sp' ++ xs))) unit
-    ∙ ap (λ us. Char c (37 ∷ a ∷ b ∷ sp') ∷ us) (ap (λ n. units_from n (a ∷ b ∷ (sp' ++ xs))) less ∙ units_from_drop (length (a ∷ b ∷ sp')) (a ∷ b ∷ (sp' ++ xs)) ∙ ap units (drop_at (a ∷ b ∷ sp') xs (length (a ∷ b ∷ sp')) refl))
+    ∙ ap (λ us. Char c (37 ∷ a ∷ b ∷ sp') ∷ us) (ap (λ n. units_from n (a ∷ b ∷ (sp' ++ xs))) less
+    ∙ units_from_drop (length (a ∷ b ∷ sp')) (a ∷ b ∷ (sp' ++ xs)) ∙ ap units (drop_at (a ∷ b ∷ sp') xs (length (a ∷ b ∷ sp')) refl))
 
 pub units_char : (c : ℕ) (sp xs : List ℕ) → scalar c ≡ true → Spells sp (encode c) → units (sp ++ xs) ≡ Char c sp ∷ units xs
 units_char c sp xs h k = units_char_at c sp (encode c) xs h k refl

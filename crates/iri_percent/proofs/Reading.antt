@@ -1,24 +1,27 @@
 -- A text without stray `%` is a row of characters as they stand, characters in triplets, and lone triplets.
-use Rattle.std.proofs.Common.{◌≡◌, ℕ, zero, suc, ◌≤◌, true, false, List, [], ◌∷◌, ◌++◌, Some, None, length, refl, sym, ◌∙◌, ap, subst, arith, length-append, eqb-true}
+use Rattle.std.proofs.Common.{◌≡◌, ℕ, zero, suc, ◌≤◌, true, false, List, [], ◌∷◌, ◌++◌, Some, None, length, refl, sym, ◌∙◌, ap, subst}
+use Rattle.std.proofs.Common.{arith, length-append, eqb-true}
 use Rattle.std.specs.Prelude.{◌==◌}
 use Rattle.std.specs.Char.{is_ascii_hexdigit, encode_utf8}
 use lib.Utf8.{scalar}
-use Rattle.iri_grammar.specs.CutLaws.{both}
+use Rattle.iri_grammar.proofs.CutLaws.{both}
 use Rattle.iri_percent.specs.Units.{octets, first_char, two_digits, whole_triplets}
-use Rattle.iri_percent.specs.UnitLaws.{Spells, none, more, hex_apart, first_char_is}
-use Rattle.iri_percent.specs.NormalLaws.{FrontTriplet, front_triplet}
+use Rattle.iri_percent.proofs.UnitLaws.{Spells, none, more, hex_apart, first_char_is}
+use Rattle.iri_percent.proofs.NormalLaws.{FrontTriplet, front_triplet}
 
 pub data Reading : List ℕ → Type 0 where
   done : Reading []
   plain : (x : ℕ) (xs : List ℕ) → (x == 37) ≡ false → Reading xs → Reading (x ∷ xs)
   char : (c : ℕ) (sp xs : List ℕ) → scalar c ≡ true → Spells sp (encode_utf8 c) → Reading xs → Reading (sp ++ xs)
-  lone : (a b : ℕ) (xs : List ℕ) → is_ascii_hexdigit a ≡ true → is_ascii_hexdigit b ≡ true → first_char (octets (37 ∷ a ∷ b ∷ xs)) ≡ None → Reading xs → Reading (37 ∷ a ∷ b ∷ xs)
+  lone : (a b : ℕ) (xs : List ℕ) → is_ascii_hexdigit a ≡ true → is_ascii_hexdigit b ≡ true → first_char (octets (37 ∷ a ∷ b ∷ xs)) ≡ None
+      → Reading xs → Reading (37 ∷ a ∷ b ∷ xs)
 
 pub whole_plain : (x : ℕ) (xs : List ℕ) → (x == 37) ≡ false → whole_triplets (x ∷ xs) ≡ whole_triplets xs
 unfolding whole_triplets
 whole_plain x xs h = rw h refl
 
-pub whole_triplet : (a b : ℕ) (xs : List ℕ) → is_ascii_hexdigit a ≡ true → is_ascii_hexdigit b ≡ true → whole_triplets (37 ∷ a ∷ b ∷ xs) ≡ whole_triplets xs
+pub whole_triplet : (a b : ℕ) (xs : List ℕ) → is_ascii_hexdigit a ≡ true → is_ascii_hexdigit b ≡ true
+    → whole_triplets (37 ∷ a ∷ b ∷ xs) ≡ whole_triplets xs
 unfolding whole_triplets
 whole_triplet a b xs p q = rw (p, q) (whole_plain a (b ∷ xs) (hex_apart a p) ∙ whole_plain b xs (hex_apart b q))
 
@@ -34,7 +37,8 @@ pub record Follows (xs : List ℕ) : Type 0 where
 pub digits_follow : (xs : List ℕ) → two_digits xs ≡ true → Follows xs
 digits_follow [] h = cc
 digits_follow (a ∷ []) h = cc
-digits_follow (a ∷ b ∷ ys) h = let k = both (is_ascii_hexdigit a) (is_ascii_hexdigit b) h in record { a = a; b = b; ys = ys; text = refl; first = k.0; second = k.1 }
+digits_follow (a ∷ b ∷ ys) h = let k = both (is_ascii_hexdigit a) (is_ascii_hexdigit b) h in
+    record { a = a; b = b; ys = ys; text = refl; first = k.0; second = k.1 }
 
 pub percent_follows : (xs : List ℕ) → whole_triplets (37 ∷ xs) ≡ true → Follows xs
 unfolding whole_triplets
@@ -44,8 +48,9 @@ pub whole_behind : (sp os xs : List ℕ) → Spells sp os → whole_triplets (sp
 whole_behind sp os xs none = refl
 whole_behind sp os xs (more a b sp' os' p q k) = whole_triplet a b (sp' ++ xs) p q ∙ whole_behind sp' os' xs k
 
--- the unit at the front, and what is read behind it
-front : (n : ℕ) (a b : ℕ) (ys : List ℕ) → length (37 ∷ a ∷ b ∷ ys) ≤ suc n → is_ascii_hexdigit a ≡ true → is_ascii_hexdigit b ≡ true → whole_triplets ys ≡ true
+-- the unit at the start, and what is read behind it
+front : (n : ℕ) (a b : ℕ) (ys : List ℕ) → length (37 ∷ a ∷ b ∷ ys) ≤ suc n → is_ascii_hexdigit a ≡ true → is_ascii_hexdigit b ≡ true
+    → whole_triplets ys ≡ true
     → ((t : List ℕ) → length t ≤ n → whole_triplets t ≡ true → Reading t) → Reading (37 ∷ a ∷ b ∷ ys)
 front n a b ys l p q w read =
     elim (first_char (octets (37 ∷ a ∷ b ∷ ys))) as (λ o. first_char (octets (37 ∷ a ∷ b ∷ ys)) ≡ o → Reading (37 ∷ a ∷ b ∷ ys)) [
@@ -74,8 +79,10 @@ read_within (suc n) (x ∷ xs) l w =
     at : x ≡ 37 → Follows xs → ((t : List ℕ) → length t ≤ n → whole_triplets t ≡ true → Reading t) → Reading (37 ∷ xs)
     at same f read =
         let size : length xs ≡ length (f.a ∷ f.b ∷ f.ys) = ap length f.text in
-        let w37 : whole_triplets (37 ∷ f.a ∷ f.b ∷ f.ys) ≡ true = ap (λ t. whole_triplets (37 ∷ t)) (sym f.text) ∙ ap (λ y. whole_triplets (y ∷ xs)) (sym same) ∙ w in
-        subst (λ t. Reading (37 ∷ t)) (sym f.text) (front n f.a f.b f.ys (omega (arith, size, l)) f.first f.second (sym (whole_triplet f.a f.b f.ys f.first f.second) ∙ w37) read)
+        let w37 : whole_triplets (37 ∷ f.a ∷ f.b ∷ f.ys) ≡ true =
+        ap (λ t. whole_triplets (37 ∷ t)) (sym f.text) ∙ ap (λ y. whole_triplets (y ∷ xs)) (sym same) ∙ w in
+        subst (λ t. Reading (37 ∷ t)) (sym f.text)
+        (front n f.a f.b f.ys (omega (arith, size, l)) f.first f.second (sym (whole_triplet f.a f.b f.ys f.first f.second) ∙ w37) read)
 
 pub read : (t : List ℕ) → whole_triplets t ≡ true → Reading t
 read t w = read_within (length t) t (omega arith) w

@@ -1,24 +1,29 @@
 -- Triplet normal form keeps the class of a text.
-use Rattle.std.proofs.Common.{◌≡◌, ℕ, zero, suc, ◌<◌, ◌≤◌, Bool, true, false, ◌&&◌, ◌||◌, List, [], ◌∷◌, ◌++◌, Option, Some, None, length, refl, sym, ◌∙◌, ap, subst, arith, length-append}
+use Rattle.std.proofs.Common.{◌≡◌, ℕ, zero, suc, ◌<◌, ◌≤◌, Bool, true, false, ◌&&◌, ◌||◌, List, [], ◌∷◌, ◌++◌, Option, Some, None, length}
+use Rattle.std.proofs.Common.{refl, sym, ◌∙◌, ap, subst, arith, length-append}
 use Rattle.std.specs.Prelude.{◌==◌, map, codes}
 use Rattle.std.specs.Char.{is_ascii_hexdigit, is_ascii_uppercase, char_set_contains, to_ascii_uppercase, to_ascii_lowercase}
 use Rattle.std.specs.Str.{chars, is_utf8}
 use lib.Utf8.{encode, encodes, scalar, scalars}
 use Rattle.std.proofs.lemmas.Str.{encodes-chars, scalars-chars, chars-encodes, encode_ascii, IsUtf8-from_is_utf8, is_utf8-from_IsUtf8}
 use Rattle.std.proofs.lemmas.Bool.Decides.{nat_tests}
-use Rattle.iri_grammar.specs.Classes.{Tests, IsSpec, unreserved, reg_name_char, userinfo_char, pchar, path_char, query_char, fragment_char, is_ascii_unreserved, is_ascii_reg_name, is_ascii_userinfo, is_ascii_pchar, is_ascii_path, is_ascii_query, is_sub_delim}
+use Rattle.iri_grammar.specs.Classes.{Tests, IsSpec, unreserved, reg_name_char, userinfo_char, pchar, path_char, query_char, fragment_char}
+use Rattle.iri_grammar.specs.Classes.{is_ascii_unreserved, is_ascii_reg_name, is_ascii_userinfo, is_ascii_pchar, is_ascii_path}
+use Rattle.iri_grammar.specs.Classes.{is_ascii_query, is_sub_delim}
 use Rattle.iri_grammar.specs.Components.{is_userinfo, is_path, is_path_segment, is_query, is_fragment}
-use Rattle.iri_grammar.specs.CutLaws.{both, by_test}
+use Rattle.iri_grammar.proofs.CutLaws.{both, by_test}
 use Rattle.iri_grammar.specs.Host.{is_reg_name}
 use Rattle.iri_grammar.specs.Over.{over, text_over, IsOver}
-use Rattle.iri_grammar.specs.OverLaws.{units-from_over, over-from_units}
+use Rattle.iri_grammar.proofs.OverLaws.{units-from_over, over-from_units}
 use Rattle.iri_percent.specs.Units.{octets}
 use Rattle.iri_percent.specs.Triplets.{normal, as_it_is, pct}
-use Rattle.iri_percent.specs.UnitLaws.{Spells, none, more, Spelled, spelled, encode_bytes}
-use Rattle.iri_percent.specs.NormalLaws.{decoded, normal_nil, normal_plains, normal_decoded, normal_kept}
-use Rattle.iri_percent.specs.Stability.{IsCase, as_it_is-case, lower-case, upper_hex, encode_percent}
-use Rattle.iri_percent.specs.CaseLaws.{encode_case, case_scalar, is_decoded}
-use Rattle.iri_percent.specs.WholeLaws.{reg_name_percent, userinfo_percent, pchar_percent, path_percent, query_percent, fragment_percent}
+use Rattle.iri_percent.proofs.UnitLaws.{Spells, none, more, Spelled, spelled, encode_bytes}
+use Rattle.iri_percent.specs.NormalLaws.{decoded}
+use Rattle.iri_percent.proofs.NormalLaws.{normal_nil, normal_plains, normal_decoded, normal_kept}
+use Rattle.iri_percent.proofs.Stability.{IsCase, as_it_is-case, lower-case, upper_hex, encode_percent}
+use Rattle.iri_percent.proofs.CaseLaws.{encode_case, case_scalar, is_decoded}
+use Rattle.iri_percent.proofs.WholeLaws.{reg_name_percent, userinfo_percent, pchar_percent, path_percent, query_percent, fragment_percent}
+use Rattle.iri_grammar.proofs.Units.{hex_is_ascii as digit_below}
 
 -- ---- texts over a class, by their bytes
 pub data IsText (p : ℕ → Bool) : List ℕ → Type 0 where
@@ -26,28 +31,29 @@ pub data IsText (p : ℕ → Bool) : List ℕ → Type 0 where
   letter : (c : ℕ) (t : List ℕ) → scalar c ≡ true → p c ≡ true → (c == 37) ≡ false → IsText p t → IsText p (encode c ++ t)
   escape : (a b : ℕ) (t : List ℕ) → is_ascii_hexdigit a ≡ true → is_ascii_hexdigit b ≡ true → IsText p t → IsText p (37 ∷ a ∷ b ∷ t)
 
-class_percent : (p : ℕ → Bool) (c : ℕ) → p 37 ≡ false → p c ≡ true → (c == 37) ≡ false
+pub class_percent : (p : ℕ → Bool) (c : ℕ) → p 37 ≡ false → p c ≡ true → (c == 37) ≡ false
 class_percent p c n h = by_test c 37 (λ b. b ≡ false) (λ e. let no : p c ≡ false = ap p e ∙ n in cc) (λ _. refl)
 
-digit_below : (x : ℕ) → is_ascii_hexdigit x ≡ true → x < 128
-digit_below x h = grind (arith, nat_tests)
+triplet_encodes : (a b : ℕ) (ds : List ℕ) → is_ascii_hexdigit a ≡ true → is_ascii_hexdigit b ≡ true
+    → encodes (37 ∷ a ∷ b ∷ ds) ≡ 37 ∷ a ∷ b ∷ encodes ds
+triplet_encodes a b ds p q = ap (λ l. l ++ (encode a ++ (encode b ++ encodes ds))) (encode_ascii 37 (omega arith))
+    ∙ ap (λ l. 37 ∷ (l ++ (encode b ++ encodes ds))) (encode_ascii a (digit_below a p))
+    ∙ ap (λ l. 37 ∷ a ∷ (l ++ encodes ds)) (encode_ascii b (digit_below b q))
 
-triplet_encodes : (a b : ℕ) (ds : List ℕ) → is_ascii_hexdigit a ≡ true → is_ascii_hexdigit b ≡ true → encodes (37 ∷ a ∷ b ∷ ds) ≡ 37 ∷ a ∷ b ∷ encodes ds
-triplet_encodes a b ds p q = ap (λ l. l ++ (encode a ++ (encode b ++ encodes ds))) (encode_ascii 37 (omega arith)) ∙ ap (λ l. 37 ∷ (l ++ (encode b ++ encodes ds))) (encode_ascii a (digit_below a p)) ∙ ap (λ l. 37 ∷ a ∷ (l ++ encodes ds)) (encode_ascii b (digit_below b q))
-
-text_of : (p : ℕ → Bool) (cs : List ℕ) → p 37 ≡ false → scalars cs ≡ true → IsOver p cs → IsText p (encodes cs)
-text_of p cs n s Rattle.iri_grammar.specs.Over.done = ended
-text_of p cs n s (Rattle.iri_grammar.specs.Over.plain c ds h r) = let k = both (scalar c) (scalars ds) s in letter c (encodes ds) k.0 h (class_percent p c n h) (text_of p ds n k.1 r)
-text_of p cs n s (Rattle.iri_grammar.specs.Over.triplet a b ds ha hb r) =
+encoded_text : (p : ℕ → Bool) (cs : List ℕ) → p 37 ≡ false → scalars cs ≡ true → IsOver p cs → IsText p (encodes cs)
+encoded_text p cs n s Rattle.iri_grammar.specs.Over.done = ended
+encoded_text p cs n s (Rattle.iri_grammar.specs.Over.plain c ds h r) = let k = both (scalar c) (scalars ds) s in
+    letter c (encodes ds) k.0 h (class_percent p c n h) (encoded_text p ds n k.1 r)
+encoded_text p cs n s (Rattle.iri_grammar.specs.Over.triplet a b ds ha hb r) =
     let k = both (scalar a) (scalar b && scalars ds) s in
     let j = both (scalar b) (scalars ds) k.1 in
-    subst (λ t. IsText p t) (sym (triplet_encodes a b ds ha hb)) (escape a b (encodes ds) ha hb (text_of p ds n j.1 r))
+    subst (λ t. IsText p t) (sym (triplet_encodes a b ds ha hb)) (escape a b (encodes ds) ha hb (encoded_text p ds n j.1 r))
 
 pub text-from_over : (p : ℕ → Bool) (t : List ℕ) → p 37 ≡ false → text_over p t ≡ true → IsText p t
 text-from_over p t n h =
     let k = both (is_utf8 t) (over p (chars t)) h in
     let u = IsUtf8-from_is_utf8 t k.0 in
-    subst (λ x. IsText p x) (encodes-chars t u) (text_of p (chars t) n (scalars-chars t u) (units-from_over p (chars t) k.1))
+    subst (λ x. IsText p x) (encodes-chars t u) (encoded_text p (chars t) n (scalars-chars t u) (units-from_over p (chars t) k.1))
 
 -- the characters of such a text
 record Chars (p : ℕ → Bool) (t : List ℕ) : Type 0 where
@@ -61,7 +67,13 @@ digit_scalar x h = grind (arith, nat_tests)
 
 chars_of : (p : ℕ → Bool) (t : List ℕ) → IsText p t → Chars p t
 chars_of p t ended = record { cs = []; all = refl; text = refl; over = Rattle.iri_grammar.specs.Over.done }
-chars_of p t (letter c t' s h n r) = let k = chars_of p t' r in record { cs = c ∷ k.cs; all = rw s k.all; text = ap (λ l. encode c ++ l) k.text; over = Rattle.iri_grammar.specs.Over.plain c k.cs h k.over }
+chars_of p t (letter c t' s h n r) = let k = chars_of p t' r in
+    record {
+      cs = c ∷ k.cs;
+      all = rw s k.all;
+      text = ap (λ l. encode c ++ l) k.text;
+      over = Rattle.iri_grammar.specs.Over.plain c k.cs h k.over;
+    }
 chars_of p t (escape a b t' ha hb r) =
     let k = chars_of p t' r in
     record {
@@ -80,7 +92,7 @@ over-from_text p t n h =
     rw (utf8, all) refl
 
 -- ---- what stands behind a triplet
-behind_escape : (p : ℕ → Bool) (u : List ℕ) (a b : ℕ) (t : List ℕ) → IsText p u → u ≡ 37 ∷ a ∷ b ∷ t → IsText p t
+pub behind_escape : (p : ℕ → Bool) (u : List ℕ) (a b : ℕ) (t : List ℕ) → IsText p u → u ≡ 37 ∷ a ∷ b ∷ t → IsText p t
 behind_escape p u a b t ended e = cc
 behind_escape p u a b t (letter c t' s h n r) e =
     let l = encode_bytes c in
@@ -92,7 +104,8 @@ behind_escape p u a b t (escape a' b' t' ha hb r) e = let same : t' ≡ t = cc i
 
 behind_spelled : (p : ℕ → Bool) (sp os xs : List ℕ) → Spells sp os → IsText p (sp ++ xs) → IsText p xs
 behind_spelled p sp os xs none h = h
-behind_spelled p sp os xs (more a b sp' os' ha hb k) h = behind_spelled p sp' os' xs k (behind_escape p (37 ∷ a ∷ b ∷ (sp' ++ xs)) a b (sp' ++ xs) h refl)
+behind_spelled p sp os xs (more a b sp' os' ha hb k) h =
+    behind_spelled p sp' os' xs k (behind_escape p (37 ∷ a ∷ b ∷ (sp' ++ xs)) a b (sp' ++ xs) h refl)
 
 -- ---- the class is kept
 -- a class that holds what is decoded, and letters in the other case
@@ -101,32 +114,42 @@ pub record IsKept (s : Tests) (f : ℕ → ℕ) (p : ℕ → Bool) : Type 0 wher
   pub unreserved : (c : ℕ) → unreserved s c ≡ true → p c ≡ true
   pub case : (c : ℕ) → p c ≡ true → p (f c) ≡ true
 
-letter_case : (s : Tests) (f : ℕ → ℕ) (p : ℕ → Bool) (c : ℕ) (t : List ℕ) → IsCase f → IsKept s f p → scalar c ≡ true → p c ≡ true → (c == 37) ≡ false → IsText p t → IsText p (map f (encode c) ++ t)
-letter_case s f p c t i k h q n r = subst (λ l. IsText p (l ++ t)) (sym (encode_case f c i)) (letter (f c) t (case_scalar f c i h) (k.case c q) (i.percent c n) r)
+letter_case : (s : Tests) (f : ℕ → ℕ) (p : ℕ → Bool) (c : ℕ) (t : List ℕ) → IsCase f → IsKept s f p → scalar c ≡ true → p c ≡ true
+    → (c == 37) ≡ false → IsText p t → IsText p (map f (encode c) ++ t)
+letter_case s f p c t i k h q n r = subst (λ l. IsText p (l ++ t)) (sym (encode_case f c i))
+    (letter (f c) t (case_scalar f c i h) (k.case c q) (i.percent c n) r)
 
-kept_within : (n : ℕ) (s : Tests) (f : ℕ → ℕ) (p : ℕ → Bool) (t : List ℕ) → IsCase f → IsKept s f p → length t ≤ n → IsText p t → IsText p (normal s f t)
+kept_within : (n : ℕ) (s : Tests) (f : ℕ → ℕ) (p : ℕ → Bool) (t : List ℕ) → IsCase f → IsKept s f p → length t ≤ n → IsText p t
+    → IsText p (normal s f t)
 kept_within n s f p t i k l ended = subst (λ x. IsText p x) (sym (normal_nil s f)) ended
-kept_within zero s f p t i k l (letter c t' h q m r) = let b = encode_bytes c in absurd (omega (arith, l, ap length b.split, length-append (encode c) t'))
+kept_within zero s f p t i k l (letter c t' h q m r) = let b = encode_bytes c in
+    absurd (omega (arith, l, ap length b.split, length-append (encode c) t'))
 kept_within (suc n) s f p t i k l (letter c t' h q m r) =
     let b = encode_bytes c in
     let short : length t' ≤ n = omega (arith, l, ap length b.split, length-append (encode c) t') in
-    subst (λ x. IsText p x) (sym (normal_plains s f (encode c) t' (encode_percent c m))) (letter_case s f p c (normal s f t') i k h q m (kept_within n s f p t' i k short r))
+    subst (λ x. IsText p x) (sym (normal_plains s f (encode c) t' (encode_percent c m)))
+    (letter_case s f p c (normal s f t') i k h q m (kept_within n s f p t' i k short r))
 kept_within zero s f p t i k l (escape a b t' ha hb r) = absurd (omega arith)
 kept_within (suc n) s f p t i k l (escape a b t' ha hb r) =
     let rest = kept_within n s f p t' i k (omega arith) r in
     at (decoded s (octets (37 ∷ a ∷ b ∷ t'))) refl rest (λ x short j. kept_within n s f p x i k short j)
   where
-    at : (o : Option ℕ) → decoded s (octets (37 ∷ a ∷ b ∷ t')) ≡ o → IsText p (normal s f t') → ((x : List ℕ) → length x ≤ n → IsText p x → IsText p (normal s f x)) → IsText p (normal s f (37 ∷ a ∷ b ∷ t'))
-    at None e rest _ = subst (λ x. IsText p x) (sym (normal_kept s f a b t' ha hb e)) (escape (to_ascii_uppercase a) (to_ascii_uppercase b) (normal s f t') (upper_hex a ha) (upper_hex b hb) rest)
-    at (Some c) e rest go = let d = is_decoded s (octets (37 ∷ a ∷ b ∷ t')) c e in spell c d.1 d.0.is_scalar (spelled (encode c) d.0.rest (37 ∷ a ∷ b ∷ t') d.0.split) go
+    at : (o : Option ℕ) → decoded s (octets (37 ∷ a ∷ b ∷ t')) ≡ o → IsText p (normal s f t')
+        → ((x : List ℕ) → length x ≤ n → IsText p x → IsText p (normal s f x)) → IsText p (normal s f (37 ∷ a ∷ b ∷ t'))
+    at None e rest _ = subst (λ x. IsText p x) (sym (normal_kept s f a b t' ha hb e))
+        (escape (to_ascii_uppercase a) (to_ascii_uppercase b) (normal s f t') (upper_hex a ha) (upper_hex b hb) rest)
+    at (Some c) e rest go = let d = is_decoded s (octets (37 ∷ a ∷ b ∷ t')) c e in
+        spell c d.1 d.0.is_scalar (spelled (encode c) d.0.rest (37 ∷ a ∷ b ∷ t') d.0.split) go
       where
-        spell : (c : ℕ) → unreserved s c ≡ true → scalar c ≡ true → {os : List ℕ} → Spelled (37 ∷ a ∷ b ∷ t') (encode c) os → ((x : List ℕ) → length x ≤ n → IsText p x → IsText p (normal s f x)) → IsText p (normal s f (37 ∷ a ∷ b ∷ t'))
+        spell : (c : ℕ) → unreserved s c ≡ true → scalar c ≡ true → {os : List ℕ} → Spelled (37 ∷ a ∷ b ∷ t') (encode c) os
+            → ((x : List ℕ) → length x ≤ n → IsText p x → IsText p (normal s f x)) → IsText p (normal s f (37 ∷ a ∷ b ∷ t'))
         spell c u h g go =
             let q = k.unreserved c u in
             let m = class_percent p c k.percent q in
             let all : IsText p (g.sp ++ g.xs) = subst (λ x. IsText p x) g.text (escape a b t' ha hb r) in
             let short : length g.xs ≤ n = omega (arith, l, ap length g.text, length-append g.sp g.xs, some c g.sp g.spells) in
-            subst (λ x. IsText p x) (sym (ap (normal s f) g.text ∙ normal_decoded s f c g.sp g.xs h u g.spells)) (letter_case s f p c (normal s f g.xs) i k h q m (go g.xs short (behind_spelled p g.sp (encode c) g.xs g.spells all)))
+            subst (λ x. IsText p x) (sym (ap (normal s f) g.text ∙ normal_decoded s f c g.sp g.xs h u g.spells))
+            (letter_case s f p c (normal s f g.xs) i k h q m (go g.xs short (behind_spelled p g.sp (encode c) g.xs g.spells all)))
           where
             some_at : (sp os : List ℕ) → Spells sp os → (b : ℕ) (bs : List ℕ) → os ≡ b ∷ bs → 0 < length sp
             some_at sp os none b bs e = cc
@@ -135,45 +158,48 @@ kept_within (suc n) s f p t i k l (escape a b t' ha hb r) =
             some : (c : ℕ) (sp : List ℕ) → Spells sp (encode c) → 0 < length sp
             some c sp j = let b = encode_bytes c in some_at sp (encode c) j b.lead b.tail b.split
 
-pub normal-over : (s : Tests) (f : ℕ → ℕ) (p : ℕ → Bool) (t : List ℕ) → IsCase f → IsKept s f p → text_over p t ≡ true → text_over p (normal s f t) ≡ true
-normal-over s f p t i k h = over-from_text p (normal s f t) k.percent (kept_within (length t) s f p t i k (omega arith) (text-from_over p t k.percent h))
+pub normal-over : (s : Tests) (f : ℕ → ℕ) (p : ℕ → Bool) (t : List ℕ) → IsCase f → IsKept s f p → text_over p t ≡ true
+    → text_over p (normal s f t) ≡ true
+normal-over s f p t i k h = over-from_text p (normal s f t) k.percent
+    (kept_within (length t) s f p t i k (omega arith) (text-from_over p t k.percent h))
 
 -- ---- the classes of the parts
-wide : (a b u : Bool) → (a || u) ≡ true → ((a || b) || u) ≡ true
+pub wide : (a b u : Bool) → (a || u) ≡ true → ((a || b) || u) ≡ true
 wide true b u h = refl
 wide false true u h = refl
 wide false false u h = h
 
-in_reg_name : (s : Tests) (c : ℕ) → unreserved s c ≡ true → reg_name_char s c ≡ true
+pub in_reg_name : (s : Tests) (c : ℕ) → unreserved s c ≡ true → reg_name_char s c ≡ true
 unfolding unreserved reg_name_char is_ascii_reg_name
 in_reg_name s c h = wide (is_ascii_unreserved c) (is_sub_delim c) (s.ucs c) h
 
-in_userinfo : (s : Tests) (c : ℕ) → unreserved s c ≡ true → userinfo_char s c ≡ true
+pub in_userinfo : (s : Tests) (c : ℕ) → unreserved s c ≡ true → userinfo_char s c ≡ true
 unfolding unreserved reg_name_char userinfo_char is_ascii_userinfo
 in_userinfo s c h = wide (is_ascii_reg_name c) (char_set_contains (codes ":") c) (s.ucs c) (in_reg_name s c h)
 
-in_pchar : (s : Tests) (c : ℕ) → unreserved s c ≡ true → pchar s c ≡ true
+pub in_pchar : (s : Tests) (c : ℕ) → unreserved s c ≡ true → pchar s c ≡ true
 unfolding unreserved reg_name_char pchar is_ascii_pchar
 in_pchar s c h = wide (is_ascii_reg_name c) (char_set_contains (codes ":@") c) (s.ucs c) (in_reg_name s c h)
 
-in_path : (s : Tests) (c : ℕ) → unreserved s c ≡ true → path_char s c ≡ true
+pub in_path : (s : Tests) (c : ℕ) → unreserved s c ≡ true → path_char s c ≡ true
 unfolding pchar path_char is_ascii_path
 in_path s c h = wide (is_ascii_pchar c) (char_set_contains (codes "/") c) (s.ucs c) (in_pchar s c h)
 
-in_fragment : (s : Tests) (c : ℕ) → unreserved s c ≡ true → fragment_char s c ≡ true
+pub in_fragment : (s : Tests) (c : ℕ) → unreserved s c ≡ true → fragment_char s c ≡ true
 unfolding pchar fragment_char is_ascii_query
 in_fragment s c h = wide (is_ascii_pchar c) (char_set_contains (codes "/?") c) (s.ucs c) (in_pchar s c h)
 
-more_of : (a b u : Bool) → (a || u) ≡ true → (a || u || b) ≡ true
+pub more_of : (a b u : Bool) → (a || u) ≡ true → (a || u || b) ≡ true
 more_of true b u h = refl
 more_of false b true h = refl
 more_of false b false h = cc
 
-in_query : (s : Tests) (c : ℕ) → unreserved s c ≡ true → query_char s c ≡ true
+pub in_query : (s : Tests) (c : ℕ) → unreserved s c ≡ true → query_char s c ≡ true
 unfolding fragment_char query_char
 in_query s c h = more_of (is_ascii_query c) (s.priv c) (s.ucs c) (in_fragment s c h)
 
-pct-over : (s : Tests) (p : ℕ → Bool) (t : List ℕ) → p 37 ≡ false → ((c : ℕ) → unreserved s c ≡ true → p c ≡ true) → text_over p t ≡ true → text_over p (pct s t) ≡ true
+pct-over : (s : Tests) (p : ℕ → Bool) (t : List ℕ) → p 37 ≡ false → ((c : ℕ) → unreserved s c ≡ true → p c ≡ true) → text_over p t ≡ true
+    → text_over p (pct s t) ≡ true
 pct-over s p t n u h = normal-over s as_it_is p t as_it_is-case (record { percent = n; unreserved = u; case = λ c q. q }) h
 
 pub pct-userinfo : (s : Tests) (t : List ℕ) → IsSpec s → is_userinfo s t ≡ true → is_userinfo s (pct s t) ≡ true
@@ -199,10 +225,11 @@ upper_unreserved : (c : ℕ) → is_ascii_uppercase c ≡ true → is_ascii_unre
 unfolding is_ascii_unreserved
 upper_unreserved c h = grind (arith, nat_tests)
 
-other_same : (c : ℕ) → is_ascii_uppercase c ≡ false → to_ascii_lowercase c ≡ c
+pub other_same : (c : ℕ) → is_ascii_uppercase c ≡ false → to_ascii_lowercase c ≡ c
 other_same c h = grind (arith, nat_tests)
 
-lower_kept : (s : Tests) (p : ℕ → Bool) (c : ℕ) → ((d : ℕ) → unreserved s d ≡ true → p d ≡ true) → p c ≡ true → p (to_ascii_lowercase c) ≡ true
+lower_kept : (s : Tests) (p : ℕ → Bool) (c : ℕ) → ((d : ℕ) → unreserved s d ≡ true → p d ≡ true) → p c ≡ true
+    → p (to_ascii_lowercase c) ≡ true
 unfolding unreserved
 lower_kept s p c u h =
     elim (is_ascii_uppercase c) as (λ b. is_ascii_uppercase c ≡ b → p (to_ascii_lowercase c) ≡ true) [
@@ -211,4 +238,9 @@ lower_kept s p c u h =
     ] refl
 
 pub lowered-reg_name : (s : Tests) (t : List ℕ) → IsSpec s → is_reg_name s t ≡ true → is_reg_name s (normal s to_ascii_lowercase t) ≡ true
-lowered-reg_name s t k h = normal-over s to_ascii_lowercase (reg_name_char s) t lower-case (record { percent = reg_name_percent s k; unreserved = in_reg_name s; case = λ c q. lower_kept s (reg_name_char s) c (in_reg_name s) q }) h
+lowered-reg_name s t k h = normal-over s to_ascii_lowercase (reg_name_char s) t lower-case
+    (record {
+      percent = reg_name_percent s k;
+      unreserved = in_reg_name s;
+      case = λ c q. lower_kept s (reg_name_char s) c (in_reg_name s) q;
+    }) h

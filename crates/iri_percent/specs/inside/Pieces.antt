@@ -1,5 +1,6 @@
 -- How a text is rewritten, place by place.
-use Rattle.std.specs.Prelude.{◌≡◌, ℕ, ◌+◌, ◌-◌, ◌<◌, ◌≤◌, Bool, true, false, not, ◌&&◌, ◌==◌, List, [], ◌∷◌, ◌++◌, length, take, drop, slice_index, nat_lt}
+use Rattle.std.specs.Prelude.{◌≡◌, ℕ, ◌+◌, ◌-◌, ◌<◌, ◌≤◌, Bool, true, false, not, ◌&&◌, ◌==◌, List, [], ◌∷◌, ◌++◌, length, take, drop}
+use Rattle.std.specs.Prelude.{slice_index, nat_lt}
 use Rattle.std.specs.Char.{to_ascii_uppercase, to_ascii_lowercase, encode_utf8, is_ascii_uppercase}
 use Rattle.iri_grammar.specs.Classes.{Tests}
 use Rattle.iri_percent.specs.Units.{whole_triplets}
@@ -45,7 +46,7 @@ pub record Rewrites (s : Tests) (lower : Bool) (t : List ℕ) (at len : ℕ) (pi
   pub whole : whole_triplets (drop (at + len) t) ≡ true
   pub ascii : IsAsciiPiece piece
 
--- the triplet at the front stays
+-- the triplet at the start stays
 pub record KeepsTriplet (s : Tests) (lower : Bool) (t : List ℕ) : Type 0 where
   pub text : normal s (case_of lower) t ≡ take 3 t ++ normal s (case_of lower) (drop 3 t)
   pub within : 3 ≤ length t

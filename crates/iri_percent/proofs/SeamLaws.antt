@@ -1,16 +1,17 @@
 -- Triplet normal form of a text put together at a place where a triplet or another byte begins.
-use Rattle.std.proofs.Common.{◌≡◌, ℕ, ◌⊎◌, inl, inr, Bool, true, false, not, ◌&&◌, List, [], ◌∷◌, ◌++◌, Some, None, refl, sym, ◌∙◌, ap, append_assoc}
+use Rattle.std.proofs.Common.{◌≡◌, ℕ, ◌⊎◌, inl, inr, Bool, true, false, not, ◌&&◌, List, [], ◌∷◌, ◌++◌, Some, None, refl, sym, ◌∙◌, ap}
+use Rattle.std.proofs.Common.{append_assoc}
 use Rattle.std.specs.Prelude.{◌==◌}
 use Rattle.std.specs.List.{list_all}
 use Rattle.std.specs.Char.{is_ascii_hexdigit, encode_utf8, to_ascii_uppercase}
 use Rattle.std.specs.Prelude.{cond, map}
 use Rattle.iri_grammar.specs.Classes.{Tests, unreserved}
-use Rattle.iri_grammar.specs.CutLaws.{both}
+use Rattle.iri_grammar.proofs.CutLaws.{both}
 use Rattle.iri_percent.specs.Units.{octet, octets, is_triplet, first_char, two_digits, whole_triplets}
 use Rattle.iri_percent.specs.Triplets.{normal}
-use Rattle.iri_percent.specs.UnitLaws.{octets_other, octets_triplet, first_char_is, char_first, is_continuation, encode_bytes}
-use Rattle.iri_percent.specs.NormalLaws.{normal_nil, normal_plain, normal_lone, normal_char}
-use Rattle.iri_percent.specs.Reading.{Reading, done, plain, char, lone, whole_plain, whole_triplet, whole_behind, read}
+use Rattle.iri_percent.proofs.UnitLaws.{octets_other, octets_triplet, first_char_is, char_first, is_continuation, encode_bytes}
+use Rattle.iri_percent.proofs.NormalLaws.{normal_nil, normal_plain, normal_lone, normal_char}
+use Rattle.iri_percent.proofs.Reading.{Reading, done, plain, char, lone, whole_plain, whole_triplet, whole_behind, read}
 
 -- octets that don't go on with a character
 abbrev pub leads : List ℕ → Bool
@@ -42,14 +43,18 @@ octets-seam [] r w = inr refl
 octets-seam (x ∷ []) r w = seam_short x [] r refl w
 octets-seam (x ∷ a ∷ []) r w = seam_short x (a ∷ []) r refl w
 octets-seam (x ∷ a ∷ b ∷ xs) r w =
-    let behind = (both (cond (b == 37) (two_digits xs) true) (whole_triplets xs) (both (cond (a == 37) (two_digits (b ∷ xs)) true) (whole_triplets (b ∷ xs)) (both (cond (x == 37) (two_digits (a ∷ b ∷ xs)) true) (whole_triplets (a ∷ b ∷ xs)) w).1).1).1 in
-    elim (is_triplet x a b) as (λ v. (cond v (octet a b ∷ octets (xs ++ r)) [] ≡ cond v (octet a b ∷ octets xs) []) ⊎ (cond v (octet a b ∷ octets (xs ++ r)) [] ≡ cond v (octet a b ∷ octets xs) [] ++ octets r)) [
+    let behind = (both (cond (b == 37) (two_digits xs) true) (whole_triplets xs)
+    (both (cond (a == 37) (two_digits (b ∷ xs)) true) (whole_triplets (b ∷ xs))
+    (both (cond (x == 37) (two_digits (a ∷ b ∷ xs)) true) (whole_triplets (a ∷ b ∷ xs)) w).1).1).1 in
+    elim (is_triplet x a b) as (λ v. (cond v (octet a b ∷ octets (xs ++ r)) [] ≡ cond v (octet a b ∷ octets xs) [])
+    ⊎ (cond v (octet a b ∷ octets (xs ++ r)) [] ≡ cond v (octet a b ∷ octets xs) [] ++ octets r)) [
       | true ↦ elim (octets-seam xs r behind) [ inl e ↦ inl (ap (λ l. octet a b ∷ l) e) | inr e ↦ inr (ap (λ l. octet a b ∷ l) e) ]
       | false ↦ inl refl
     ]
 
 -- ---- characters
-front_of : (os tl qs rest : List ℕ) → os ++ qs ≡ tl ++ rest → list_all is_continuation tl ≡ true → leads qs ≡ true → (k : List ℕ) × (os ≡ tl ++ k)
+front_of : (os tl qs rest : List ℕ) → os ++ qs ≡ tl ++ rest → list_all is_continuation tl ≡ true → leads qs ≡ true
+    → (k : List ℕ) × (os ≡ tl ++ k)
 front_of os [] qs rest e h l = (os, refl)
 front_of [] (t ∷ tl) [] rest e h l = cc
 front_of [] (t ∷ tl) (q ∷ qs) rest e h l =
@@ -74,12 +79,14 @@ none-seam o os qs l n =
           let first : o ≡ b.lead = cc in
           let tail : os ++ qs ≡ b.tail ++ g.rest = cc in
           let r = front_of os b.tail qs g.rest tail b.continue l in
-          let whole : o ∷ os ≡ encode_utf8 c ++ r.0 = ap (λ z. z ∷ os) first ∙ ap (λ ys. b.lead ∷ ys) r.1 ∙ ap (λ z. z ++ r.0) (sym b.split) in
+          let whole : o ∷ os ≡ encode_utf8 c ++ r.0 =
+          ap (λ z. z ∷ os) first ∙ ap (λ ys. b.lead ∷ ys) r.1 ∙ ap (λ z. z ++ r.0) (sym b.split) in
           let there : first_char (o ∷ os) ≡ Some c = ap first_char whole ∙ char_first c r.0 g.is_scalar in
           cc
     ] refl
 
-pub lone-seam : (a b : ℕ) (xs r : List ℕ) → is_ascii_hexdigit a ≡ true → is_ascii_hexdigit b ≡ true → whole_triplets xs ≡ true → leads (octets r) ≡ true → first_char (octets (37 ∷ a ∷ b ∷ xs)) ≡ None → first_char (octets (37 ∷ a ∷ b ∷ (xs ++ r))) ≡ None
+pub lone-seam : (a b : ℕ) (xs r : List ℕ) → is_ascii_hexdigit a ≡ true → is_ascii_hexdigit b ≡ true → whole_triplets xs ≡ true
+    → leads (octets r) ≡ true → first_char (octets (37 ∷ a ∷ b ∷ xs)) ≡ None → first_char (octets (37 ∷ a ∷ b ∷ (xs ++ r))) ≡ None
 lone-seam a b xs r p q w l n =
     let old : first_char (octet a b ∷ octets xs) ≡ None = ap first_char (sym (octets_triplet a b xs p q)) ∙ n in
     ap first_char (octets_triplet a b (xs ++ r) p q) ∙ (elim (octets-seam xs r w) [
@@ -88,10 +95,12 @@ lone-seam a b xs r p q w l n =
     ])
 
 -- ---- the normal form
-seam_read : (s : Tests) (f : ℕ → ℕ) (t r : List ℕ) → Reading t → whole_triplets t ≡ true → leads (octets r) ≡ true → normal s f (t ++ r) ≡ normal s f t ++ normal s f r
+seam_read : (s : Tests) (f : ℕ → ℕ) (t r : List ℕ) → Reading t → whole_triplets t ≡ true → leads (octets r) ≡ true
+    → normal s f (t ++ r) ≡ normal s f t ++ normal s f r
 seam_read s f t r done w l = ap (λ z. z ++ normal s f r) (sym (normal_nil s f))
 seam_read s f t r (plain x xs h k) w l =
-    normal_plain s f x (xs ++ r) h ∙ ap (λ z. f x ∷ z) (seam_read s f xs r k (sym (whole_plain x xs h) ∙ w) l) ∙ ap (λ z. z ++ normal s f r) (sym (normal_plain s f x xs h))
+    normal_plain s f x (xs ++ r) h ∙ ap (λ z. f x ∷ z) (seam_read s f xs r k (sym (whole_plain x xs h) ∙ w) l)
+    ∙ ap (λ z. z ++ normal s f r) (sym (normal_plain s f x xs h))
 seam_read s f t r (char c sp xs h sps k) w l =
     let u = cond (unreserved s c) (map f (encode_utf8 c)) (map to_ascii_uppercase sp) in
     ap (normal s f) (append_assoc sp xs r)
@@ -106,21 +115,19 @@ seam_read s f t r (lone a b xs p q n k) w l =
     ∙ ap (λ z. z ++ normal s f r) (sym (normal_lone s f a b xs p q n))
 
 -- the triplet normal form of a text is that of its two sides, where no character in triplets goes on at the seam
-pub normal-seam : (s : Tests) (f : ℕ → ℕ) (t r : List ℕ) → whole_triplets t ≡ true → leads (octets r) ≡ true → normal s f (t ++ r) ≡ normal s f t ++ normal s f r
+pub normal-seam : (s : Tests) (f : ℕ → ℕ) (t r : List ℕ) → whole_triplets t ≡ true → leads (octets r) ≡ true
+    → normal s f (t ++ r) ≡ normal s f t ++ normal s f r
 normal-seam s f t r w l = seam_read s f t r (read t w) w l
 
 -- ---- whole triplets on both sides
-whole_nil : whole_triplets [] ≡ true
-unfolding whole_triplets
-whole_nil = refl
-
 -- a text with whole triplets has them on both sides of a `%`
 pub whole-percent : (a r : List ℕ) → whole_triplets (a ++ 37 ∷ r) ≡ true → whole_triplets a ≡ true
 unfolding whole_triplets
 whole-percent [] r w = refl
 whole-percent (x ∷ []) r w =
     let k = both (cond (x == 37) (two_digits (37 ∷ r)) true) (whole_triplets (37 ∷ r)) w in
-    elim (x == 37) as (λ b. cond b (two_digits (37 ∷ r)) true ≡ true → (cond b false true && true) ≡ true) [ true ↦ λ h. no_digits r h | false ↦ λ _. refl ] k.0
+    elim (x == 37) as (λ b. cond b (two_digits (37 ∷ r)) true ≡ true
+    → (cond b false true && true) ≡ true) [ true ↦ λ h. no_digits r h | false ↦ λ _. refl ] k.0
   where
     no_digits : (r : List ℕ) → two_digits (37 ∷ r) ≡ true → false ≡ true
     no_digits [] h = h
@@ -128,9 +135,11 @@ whole-percent (x ∷ []) r w =
 whole-percent (x ∷ y ∷ []) r w =
     let k = both (cond (x == 37) (is_ascii_hexdigit y && false) true) (whole_triplets (y ∷ 37 ∷ r)) w in
     let rest = whole-percent (y ∷ []) r k.1 in
-    rw rest (elim (x == 37) as (λ b. cond b (is_ascii_hexdigit y && false) true ≡ true → (cond b false true && true) ≡ true) [ true ↦ λ h. (both (is_ascii_hexdigit y) false h).1 | false ↦ λ _. refl ] k.0)
+    rw rest (elim (x == 37) as (λ b. cond b (is_ascii_hexdigit y && false) true ≡ true
+    → (cond b false true && true) ≡ true) [ true ↦ λ h. (both (is_ascii_hexdigit y) false h).1 | false ↦ λ _. refl ] k.0)
 whole-percent (x ∷ y ∷ z ∷ a) r w =
-    let k = both (cond (x == 37) (two_digits (y ∷ z ∷ (a ++ 37 ∷ r))) true) (whole_triplets (y ∷ z ∷ (a ++ 37 ∷ r))) w in rw k.0 (whole-percent (y ∷ z ∷ a) r k.1)
+    let k = both (cond (x == 37) (two_digits (y ∷ z ∷ (a ++ 37 ∷ r))) true) (whole_triplets (y ∷ z ∷ (a ++ 37 ∷ r))) w in
+    rw k.0 (whole-percent (y ∷ z ∷ a) r k.1)
 
 pub whole-behind : (a r : List ℕ) → whole_triplets (a ++ r) ≡ true → whole_triplets r ≡ true
 unfolding whole_triplets

@@ -1,11 +1,11 @@
--- Marks and slashes of a mapped text.
+-- Delimiters and slashes of a mapped text.
 use Rattle.std.proofs.Common.{◌≡◌, ℕ, ◌<◌, true, false, cond, not, ◌&&◌, List, [], ◌∷◌, ◌++◌, refl, sym, ◌∙◌, ap, arith}
 use Rattle.std.specs.Prelude.{◌==◌, ◌/◌, ◌%◌, nat_lt}
 use Rattle.std.proofs.lemmas.Bool.Decides.{nat_tests}
 use Rattle.iri_grammar.specs.Cut.{before, lacks}
 use Rattle.iri_grammar.specs.Parts.{is_empty, starts_with_slash, starts_with_slashes}
 use Rattle.iri_percent.specs.Mapping.{capital_hex, triplet, mapped}
-use Rattle.iri_percent.specs.MapTexts.{mapped-low, mapped-high}
+use Rattle.iri_percent.proofs.MapTexts.{mapped-low, mapped-high}
 
 -- an ASCII byte that stands in no triplet
 pub record IsApart (m : ℕ) : Type 0 where
@@ -36,7 +36,8 @@ mapped-lacks m [] a = refl
 mapped-lacks m (x ∷ xs) a =
     elim (nat_lt x 128) as (λ b. nat_lt x 128 ≡ b → lacks m (mapped (x ∷ xs)) ≡ lacks m (x ∷ xs)) [
       | true ↦ λ e. ap (lacks m) (mapped-low x xs e) ∙ ap (λ b. not (x == m) && b) (mapped-lacks m xs a)
-      | false ↦ λ e. ap (lacks m) (mapped-high x xs e) ∙ triplet-lacks m x (mapped xs) a ∙ mapped-lacks m xs a ∙ ap (λ b. not b && lacks m xs) (sym (high_apart x m e a.low))
+      | false ↦ λ e. ap (lacks m) (mapped-high x xs e) ∙ triplet-lacks m x (mapped xs) a ∙ mapped-lacks m xs a
+          ∙ ap (λ b. not b && lacks m xs) (sym (high_apart x m e a.low))
     ] refl
 
 triplet-before : (m x : ℕ) (ys : List ℕ) → IsApart m → before m (triplet x ++ ys) ≡ triplet x ++ before m ys
@@ -46,25 +47,38 @@ pub mapped-before : (m : ℕ) (xs : List ℕ) → IsApart m → before m (mapped
 mapped-before m [] a = refl
 mapped-before m (x ∷ xs) a =
     elim (nat_lt x 128) as (λ b. nat_lt x 128 ≡ b → before m (mapped (x ∷ xs)) ≡ mapped (before m (x ∷ xs))) [
-      | true ↦ λ e. ap (before m) (mapped-low x xs e) ∙ (elim (x == m) as (λ b. cond b [] (x ∷ before m (mapped xs)) ≡ mapped (cond b [] (x ∷ before m xs))) [ true ↦ refl | false ↦ ap (λ z. x ∷ z) (mapped-before m xs a) ∙ sym (mapped-low x (before m xs) e) ])
+      | true ↦ λ e. ap (before m) (mapped-low x xs e)
+          ∙ (elim (x == m) as (λ b. cond b [] (x ∷ before m (mapped xs)) ≡ mapped (cond b [] (x ∷ before m xs))) [
+            | true ↦ refl
+            | false ↦ ap (λ z. x ∷ z) (mapped-before m xs a) ∙ sym (mapped-low x (before m xs) e)
+          ])
       | false ↦ λ e.
-          ap (before m) (mapped-high x xs e) ∙ triplet-before m x (mapped xs) a ∙ ap (λ z. triplet x ++ z) (mapped-before m xs a) ∙ sym (mapped-high x (before m xs) e)
+          ap (before m) (mapped-high x xs e) ∙ triplet-before m x (mapped xs) a ∙ ap (λ z. triplet x ++ z) (mapped-before m xs a)
+          ∙ sym (mapped-high x (before m xs) e)
           ∙ ap (λ b. mapped (cond b [] (x ∷ before m xs))) (sym (high_apart x m e a.low))
     ] refl
 
 -- ---- slashes
 pub mapped-empty : (xs : List ℕ) → is_empty (mapped xs) ≡ is_empty xs
 mapped-empty [] = refl
-mapped-empty (x ∷ xs) = elim (nat_lt x 128) as (λ b. is_empty (cond b (x ∷ []) (triplet x) ++ mapped xs) ≡ false) [ true ↦ refl | false ↦ refl ]
+mapped-empty (x ∷ xs) = elim (nat_lt x 128) as (λ b. is_empty (cond b (x ∷ []) (triplet x) ++ mapped xs) ≡ false) [
+  | true ↦ refl
+  | false ↦ refl
+]
 
 pub mapped-slash : (xs : List ℕ) → starts_with_slash (mapped xs) ≡ starts_with_slash xs
 mapped-slash [] = refl
-mapped-slash (x ∷ xs) = elim (nat_lt x 128) as (λ b. nat_lt x 128 ≡ b → starts_with_slash (cond b (x ∷ []) (triplet x) ++ mapped xs) ≡ (x == 47)) [ true ↦ λ _. refl | false ↦ λ e. sym (high_apart x 47 e (omega arith)) ] refl
+mapped-slash (x ∷ xs) = elim (nat_lt x 128) as (λ b. nat_lt x 128 ≡ b
+    → starts_with_slash (cond b (x ∷ []) (triplet x) ++ mapped xs) ≡ (x == 47)) [
+      | true ↦ λ _. refl
+      | false ↦ λ e. sym (high_apart x 47 e (omega arith))
+    ] refl
 
 pub mapped-slashes : (xs : List ℕ) → starts_with_slashes (mapped xs) ≡ starts_with_slashes xs
 mapped-slashes [] = refl
 mapped-slashes (x ∷ xs) =
-    elim (nat_lt x 128) as (λ b. nat_lt x 128 ≡ b → starts_with_slashes (cond b (x ∷ []) (triplet x) ++ mapped xs) ≡ ((x == 47) && starts_with_slash xs)) [
+    elim (nat_lt x 128) as (λ b. nat_lt x 128 ≡ b → starts_with_slashes (cond b (x ∷ []) (triplet x) ++ mapped xs)
+    ≡ ((x == 47) && starts_with_slash xs)) [
       | true ↦ λ _. ap (λ b. (x == 47) && b) (mapped-slash xs)
       | false ↦ λ e. ap (λ b. b && starts_with_slash xs) (sym (high_apart x 47 e (omega arith)))
     ] refl

@@ -6,27 +6,20 @@ use Rattle.std.specs.Str.{chars, is_utf8}
 use lib.Utf8.{encode, encodes}
 use Rattle.std.proofs.lemmas.Str.{encodes-chars, encode_ascii, IsUtf8-from_is_utf8}
 use Rattle.std.proofs.lemmas.Bool.Decides.{nat_tests}
-use Rattle.iri_grammar.specs.Classes.{Tests, IsSpec, reg_name_char, userinfo_char, pchar, path_char, query_char, fragment_char, is_ascii_reg_name, is_ascii_userinfo, is_ascii_pchar, is_ascii_path, is_ascii_query, is_ascii_unreserved, is_sub_delim}
+use Rattle.iri_grammar.specs.Classes.{Tests, IsSpec, reg_name_char, userinfo_char, pchar, path_char, query_char, fragment_char}
+use Rattle.iri_grammar.specs.Classes.{is_ascii_reg_name, is_ascii_userinfo, is_ascii_pchar, is_ascii_path, is_ascii_query}
+use Rattle.iri_grammar.specs.Classes.{is_ascii_unreserved, is_sub_delim}
 use Rattle.iri_grammar.specs.Components.{is_userinfo, is_path, is_path_segment, is_query, is_fragment}
 use Rattle.iri_grammar.specs.Cut.{lacks}
-use Rattle.iri_grammar.specs.CutLaws.{both, by_test, all-lacks}
+use Rattle.iri_grammar.proofs.CutLaws.{both, by_test, all-lacks}
 use Rattle.iri_grammar.specs.Host.{is_host, is_reg_name}
 use Rattle.iri_grammar.specs.IpLiteral.{is_ip_literal}
-use Rattle.iri_grammar.specs.LiteralChars.{is_literal_char, ip_literal-chars}
+use Rattle.iri_grammar.proofs.LiteralChars.{is_literal_char, ip_literal-chars}
 use Rattle.iri_grammar.specs.Over.{over, text_over, IsOver, done, plain, triplet}
-use Rattle.iri_grammar.specs.OverLaws.{units-from_over}
+use Rattle.iri_grammar.proofs.OverLaws.{units-from_over}
 use Rattle.iri_percent.specs.Units.{whole_triplets}
-use Rattle.iri_percent.specs.Reading.{whole_plain, whole_triplet}
-use Rattle.iri_percent.specs.Stability.{encode_percent}
-
--- bytes without `%`
-pub whole_plains : (ys xs : List ℕ) → lacks 37 ys ≡ true → whole_triplets (ys ++ xs) ≡ whole_triplets xs
-whole_plains [] xs h = refl
-whole_plains (y ∷ ys) xs h =
-    elim (y == 37) as (λ b. (y == 37) ≡ b → (not b && lacks 37 ys) ≡ true → whole_triplets (y ∷ (ys ++ xs)) ≡ whole_triplets xs) [
-      | true ↦ λ _ l. cc
-      | false ↦ λ e l. whole_plain y (ys ++ xs) e ∙ whole_plains ys xs l
-    ] refl h
+use Rattle.iri_percent.proofs.Reading.{whole_plain, whole_triplet}
+use Rattle.iri_percent.proofs.Stability.{encode_percent, whole_plains}
 
 whole_nil : whole_triplets [] ≡ true
 unfolding whole_triplets
@@ -35,7 +28,8 @@ whole_nil = refl
 pub lacks-whole : (xs : List ℕ) → lacks 37 xs ≡ true → whole_triplets xs ≡ true
 lacks-whole [] h = whole_nil
 lacks-whole (x ∷ xs) h =
-    elim (x == 37) as (λ b. (x == 37) ≡ b → (not b && lacks 37 xs) ≡ true → whole_triplets (x ∷ xs) ≡ true) [ true ↦ λ _ l. cc | false ↦ λ e l. whole_plain x xs e ∙ lacks-whole xs l ] refl h
+    elim (x == 37) as (λ b. (x == 37) ≡ b → (not b && lacks 37 xs) ≡ true
+    → whole_triplets (x ∷ xs) ≡ true) [ true ↦ λ _ l. cc | false ↦ λ e l. whole_plain x xs e ∙ lacks-whole xs l ] refl h
 
 -- a text over a class without `%`
 over_whole : (p : ℕ → Bool) (cs : List ℕ) → p 37 ≡ false → IsOver p cs → whole_triplets (encodes cs) ≡ true
@@ -44,7 +38,10 @@ over_whole p cs n (plain c ds h r) =
     let other : (c == 37) ≡ false = by_test c 37 (λ b. b ≡ false) (λ e. let no : p c ≡ false = ap p e ∙ n in cc) (λ _. refl) in
     whole_plains (encode c) (encodes ds) (encode_percent c other) ∙ over_whole p ds n r
 over_whole p cs n (triplet a b ds ha hb r) =
-    let spelled : encodes (37 ∷ a ∷ b ∷ ds) ≡ 37 ∷ a ∷ b ∷ encodes ds = ap (λ l. l ++ (encode a ++ (encode b ++ encodes ds))) (encode_ascii 37 (omega arith)) ∙ ap (λ l. 37 ∷ (l ++ (encode b ++ encodes ds))) (encode_ascii a (digit_below a ha)) ∙ ap (λ l. 37 ∷ a ∷ (l ++ encodes ds)) (encode_ascii b (digit_below b hb)) in
+    let spelled : encodes (37 ∷ a ∷ b ∷ ds) ≡ 37 ∷ a ∷ b ∷ encodes ds =
+    ap (λ l. l ++ (encode a ++ (encode b ++ encodes ds))) (encode_ascii 37 (omega arith))
+    ∙ ap (λ l. 37 ∷ (l ++ (encode b ++ encodes ds))) (encode_ascii a (digit_below a ha))
+    ∙ ap (λ l. 37 ∷ a ∷ (l ++ encodes ds)) (encode_ascii b (digit_below b hb)) in
     ap whole_triplets spelled ∙ whole_triplet a b (encodes ds) ha hb ∙ over_whole p ds n r
   where
     digit_below : (x : ℕ) → is_ascii_hexdigit x ≡ true → x < 128

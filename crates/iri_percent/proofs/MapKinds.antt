@@ -1,30 +1,34 @@
 -- What is in a production is, mapped, in the same production of URIs.
-use Rattle.std.proofs.Common.{◌≡◌, ℕ, Bool, true, false, not, ◌||◌, List, [], ◌∷◌, ◌++◌, Option, Some, None, refl, sym, ◌∙◌, ap, subst, arith}
+use Rattle.std.proofs.Common.{◌≡◌, ℕ, Bool, true, false, not, ◌||◌, List, [], ◌∷◌, ◌++◌, Option, Some, None, refl, sym, ◌∙◌, ap, subst}
+use Rattle.std.proofs.Common.{arith}
 use Rattle.std.specs.Prelude.{nat_lt, IsSome, IsNone, option_map}
 use Rattle.std.specs.Char.{is_ascii_digit}
 use Rattle.std.specs.List.{list_all}
 use Rattle.std.proofs.lemmas.Bool.Decides.{nat_tests}
 use Rattle.iri_grammar.specs.Authority.{AuthorityParts, FitsAuthority, authority_parts, recompose_authority, is_authority, userinfo_text}
-use Rattle.iri_grammar.specs.AuthorityLaws.{authority_law, reading_is, passes, authority_recomposed}
-use Rattle.iri_grammar.specs.Classes.{Tests, IsSpec, uri_tests, userinfo_char, reg_name_char, path_char, query_char, fragment_char, is_ascii_userinfo, is_ascii_reg_name, is_ascii_unreserved, is_ascii_path, is_ascii_query, is_sub_delim}
+use Rattle.iri_grammar.proofs.AuthorityLaws.{authority_law, reading_is, passes, authority_recomposed}
+use Rattle.iri_grammar.specs.Classes.{Tests, IsSpec, uri_tests, userinfo_char, reg_name_char, path_char, query_char, fragment_char}
+use Rattle.iri_grammar.specs.Classes.{is_ascii_userinfo, is_ascii_reg_name, is_ascii_unreserved, is_ascii_path, is_ascii_query}
+use Rattle.iri_grammar.specs.Classes.{is_sub_delim}
 use Rattle.iri_grammar.specs.Components.{if_there, is_scheme, is_scheme_char, is_port, is_userinfo, is_path, is_query, is_fragment}
 use Rattle.iri_grammar.specs.Cut.{before, marked}
-use Rattle.iri_grammar.specs.CutLaws.{both}
+use Rattle.iri_grammar.proofs.CutLaws.{both}
 use Rattle.iri_grammar.specs.Fault.{query_fault, fragment_fault}
-use Rattle.iri_grammar.specs.FaultLaws.{passed, no_fault, reference-law, iri-law, absolute-law, relative-law}
+use Rattle.iri_grammar.proofs.FaultLaws.{passed, no_fault, reference-law, iri-law, absolute-law, relative-law}
 use Rattle.iri_grammar.specs.Host.{is_host, is_reg_name}
 use Rattle.iri_grammar.specs.IpLiteral.{is_ip_literal}
-use Rattle.iri_grammar.specs.LiteralChars.{is_literal_char, ip_literal-chars}
-use Rattle.iri_grammar.specs.Parts.{Parts, Fits, Splits, IsReference, IsIri, IsAbsolute, IsRelative, path_rules, recompose, scheme_text, authority_text}
+use Rattle.iri_grammar.proofs.LiteralChars.{is_literal_char, ip_literal-chars}
+use Rattle.iri_grammar.specs.Parts.{Parts, Fits, Splits, IsReference, IsIri, IsAbsolute, IsRelative, path_rules, recompose, scheme_text}
+use Rattle.iri_grammar.specs.Parts.{authority_text}
 use Rattle.iri_grammar.specs.Split.{split_of}
-use Rattle.iri_grammar.specs.SplitLaws.{scheme-chars}
-use Rattle.iri_grammar.specs.SplitUnique.{split_is}
+use Rattle.iri_grammar.proofs.SplitLaws.{scheme-chars}
+use Rattle.iri_grammar.proofs.SplitUnique.{split_is}
 use Rattle.iri_grammar.specs.WholeFault.{reference_fault, iri_fault, absolute_fault, relative_fault}
 use Rattle.iri_grammar.specs.declared.error.ErrorKind.TheVariants.{InvalidQuery, InvalidFragment}
 use Rattle.iri_percent.specs.Mapping.{mapped, mapped_parts}
-use Rattle.iri_percent.specs.MapMarks.{slash-apart, colon-apart, mapped-lacks, mapped-before, mapped-empty, mapped-slash, mapped-slashes}
-use Rattle.iri_percent.specs.MapTexts.{mapped-low, mapped-append, mapped-over, uri-spec}
-use Rattle.iri_percent.specs.WholeLaws.{reg_name_percent, userinfo_percent, path_percent, query_percent, fragment_percent}
+use Rattle.iri_percent.proofs.MapMarks.{slash-apart, colon-apart, mapped-lacks, mapped-before, mapped-empty, mapped-slash, mapped-slashes}
+use Rattle.iri_percent.proofs.MapTexts.{mapped-low, mapped-append, mapped-over, uri-spec}
+use Rattle.iri_percent.proofs.WholeLaws.{reg_name_percent, userinfo_percent, path_percent, query_percent, fragment_percent}
 
 abbrev pub mapped_authority : AuthorityParts → AuthorityParts
 mapped_authority a = record { userinfo = option_map mapped a.userinfo; host = mapped a.host; port = option_map mapped a.port }
@@ -58,7 +62,15 @@ pub mapped-recomposed : (t : Parts) → mapped (recompose t) ≡ recompose (mapp
 unfolding recompose
 mapped-recomposed t =
     mapped-append (scheme_text t.scheme) _
-    ∙ rw (mapped-scheme_text t.scheme, mapped-append (authority_text t.authority) (t.path ++ (marked 63 t.query ++ marked 35 t.fragment)), mapped-authority_text t.authority, mapped-append t.path (marked 63 t.query ++ marked 35 t.fragment), mapped-append (marked 63 t.query) (marked 35 t.fragment), mapped-query_text t.query, mapped-fragment_text t.fragment) refl
+    ∙ rw (
+      mapped-scheme_text t.scheme,
+      mapped-append (authority_text t.authority) (t.path ++ (marked 63 t.query ++ marked 35 t.fragment)),
+      mapped-authority_text t.authority,
+      mapped-append t.path (marked 63 t.query ++ marked 35 t.fragment),
+      mapped-append (marked 63 t.query) (marked 35 t.fragment),
+      mapped-query_text t.query,
+      mapped-fragment_text t.fragment,
+    ) refl
 
 pub mapped-recomposed_authority : (a : AuthorityParts) → mapped (recompose_authority a) ≡ recompose_authority (mapped_authority a)
 unfolding recompose_authority
@@ -75,23 +87,28 @@ low_query a u v e f h = ap (λ b. a || b || false) (sym e) ∙ (ap (λ b. a || u
 
 pub mapped-userinfo : (s : Tests) (x : List ℕ) → IsSpec s → is_userinfo s x ≡ true → is_userinfo uri_tests (mapped x) ≡ true
 unfolding userinfo_char
-mapped-userinfo s x k h = mapped-over (userinfo_char s) (userinfo_char uri_tests) x (userinfo_percent s k) (userinfo_percent uri_tests uri-spec) (λ c l p. low_class (is_ascii_userinfo c) (s.ucs c) (k.ucs_ascii c l) p) h
+mapped-userinfo s x k h = mapped-over (userinfo_char s) (userinfo_char uri_tests) x (userinfo_percent s k)
+    (userinfo_percent uri_tests uri-spec) (λ c l p. low_class (is_ascii_userinfo c) (s.ucs c) (k.ucs_ascii c l) p) h
 
 mapped-reg_name : (s : Tests) (x : List ℕ) → IsSpec s → is_reg_name s x ≡ true → is_reg_name uri_tests (mapped x) ≡ true
 unfolding reg_name_char
-mapped-reg_name s x k h = mapped-over (reg_name_char s) (reg_name_char uri_tests) x (reg_name_percent s k) (reg_name_percent uri_tests uri-spec) (λ c l p. low_class (is_ascii_reg_name c) (s.ucs c) (k.ucs_ascii c l) p) h
+mapped-reg_name s x k h = mapped-over (reg_name_char s) (reg_name_char uri_tests) x (reg_name_percent s k)
+    (reg_name_percent uri_tests uri-spec) (λ c l p. low_class (is_ascii_reg_name c) (s.ucs c) (k.ucs_ascii c l) p) h
 
 pub mapped-path : (s : Tests) (x : List ℕ) → IsSpec s → is_path s x ≡ true → is_path uri_tests (mapped x) ≡ true
 unfolding path_char
-mapped-path s x k h = mapped-over (path_char s) (path_char uri_tests) x (path_percent s k) (path_percent uri_tests uri-spec) (λ c l p. low_class (is_ascii_path c) (s.ucs c) (k.ucs_ascii c l) p) h
+mapped-path s x k h = mapped-over (path_char s) (path_char uri_tests) x (path_percent s k) (path_percent uri_tests uri-spec)
+    (λ c l p. low_class (is_ascii_path c) (s.ucs c) (k.ucs_ascii c l) p) h
 
 pub mapped-query : (s : Tests) (x : List ℕ) → IsSpec s → is_query s x ≡ true → is_query uri_tests (mapped x) ≡ true
 unfolding query_char
-mapped-query s x k h = mapped-over (query_char s) (query_char uri_tests) x (query_percent s k) (query_percent uri_tests uri-spec) (λ c l p. low_query (is_ascii_query c) (s.ucs c) (s.priv c) (k.ucs_ascii c l) (k.priv_ascii c l) p) h
+mapped-query s x k h = mapped-over (query_char s) (query_char uri_tests) x (query_percent s k) (query_percent uri_tests uri-spec)
+    (λ c l p. low_query (is_ascii_query c) (s.ucs c) (s.priv c) (k.ucs_ascii c l) (k.priv_ascii c l) p) h
 
 pub mapped-fragment : (s : Tests) (x : List ℕ) → IsSpec s → is_fragment s x ≡ true → is_fragment uri_tests (mapped x) ≡ true
 unfolding fragment_char
-mapped-fragment s x k h = mapped-over (fragment_char s) (fragment_char uri_tests) x (fragment_percent s k) (fragment_percent uri_tests uri-spec) (λ c l p. low_class (is_ascii_query c) (s.ucs c) (k.ucs_ascii c l) p) h
+mapped-fragment s x k h = mapped-over (fragment_char s) (fragment_char uri_tests) x (fragment_percent s k)
+    (fragment_percent uri_tests uri-spec) (λ c l p. low_class (is_ascii_query c) (s.ucs c) (k.ucs_ascii c l) p) h
 
 -- ---- texts in ASCII stay
 pub each-low : (p : ℕ → Bool) → ((c : ℕ) → p c ≡ true → nat_lt c 128 ≡ true) → (xs : List ℕ) → list_all p xs ≡ true → mapped xs ≡ xs
@@ -131,7 +148,8 @@ mapped-host s x k h =
     or_true false = refl
 
 -- ---- authorities
-userinfo-fits : (s : Tests) (o : Option (List ℕ)) → IsSpec s → if_there (is_userinfo s) o ≡ true → if_there (is_userinfo uri_tests) (option_map mapped o) ≡ true
+userinfo-fits : (s : Tests) (o : Option (List ℕ)) → IsSpec s → if_there (is_userinfo s) o ≡ true
+    → if_there (is_userinfo uri_tests) (option_map mapped o) ≡ true
 userinfo-fits s None k h = refl
 userinfo-fits s (Some u) k h = mapped-userinfo s u k h
 
@@ -143,7 +161,11 @@ pub authority-reads : (s : Tests) (t : List ℕ) → IsSpec s → is_authority s
 authority-reads s t k h = let r = (authority_law s k t).0 h in subst (λ a. FitsAuthority s a) (sym (reading_is s k t r.0 r.1)) r.1.0
 
 authority-fits : (s : Tests) (a : AuthorityParts) → IsSpec s → FitsAuthority s a → FitsAuthority uri_tests (mapped_authority a)
-authority-fits s a k f = record { userinfo = userinfo-fits s a.userinfo k f.userinfo; host = mapped-host s a.host k f.host; port = port-fits a.port f.port }
+authority-fits s a k f = record {
+  userinfo = userinfo-fits s a.userinfo k f.userinfo;
+  host = mapped-host s a.host k f.host;
+  port = port-fits a.port f.port;
+}
 
 -- the mapped authority, and how it is read
 pub record MapsAuthority (t : List ℕ) : Type 0 where
@@ -154,23 +176,30 @@ pub mapped-authority : (s : Tests) (t : List ℕ) → IsSpec s → is_authority 
 mapped-authority s t k h =
     let a = authority_parts t in
     let g = authority-fits s a k (authority-reads s t k h) in
-    let text : recompose_authority (mapped_authority a) ≡ mapped t = sym (mapped-recomposed_authority a) ∙ ap mapped (authority_recomposed t) in
-    record { whole = passes uri_tests uri-spec (mapped t) (mapped_authority a) (g, text); parts = reading_is uri_tests uri-spec (mapped t) (mapped_authority a) (g, text) }
+    let text : recompose_authority (mapped_authority a) ≡ mapped t =
+    sym (mapped-recomposed_authority a) ∙ ap mapped (authority_recomposed t) in
+    record {
+      whole = passes uri_tests uri-spec (mapped t) (mapped_authority a) (g, text);
+      parts = reading_is uri_tests uri-spec (mapped t) (mapped_authority a) (g, text);
+    }
 
 -- ---- the other parts, where they stand
 scheme-fits : (o : Option (List ℕ)) → if_there is_scheme o ≡ true → if_there is_scheme (option_map mapped o) ≡ true
 scheme-fits None h = refl
 scheme-fits (Some x) h = ap is_scheme (mapped-scheme x h) ∙ h
 
-authority-there : (s : Tests) (o : Option (List ℕ)) → IsSpec s → if_there (is_authority s) o ≡ true → if_there (is_authority uri_tests) (option_map mapped o) ≡ true
+authority-there : (s : Tests) (o : Option (List ℕ)) → IsSpec s → if_there (is_authority s) o ≡ true
+    → if_there (is_authority uri_tests) (option_map mapped o) ≡ true
 authority-there s None k h = refl
 authority-there s (Some x) k h = (mapped-authority s x k h).whole
 
-query-fits : (s : Tests) (o : Option (List ℕ)) → IsSpec s → if_there (is_query s) o ≡ true → if_there (is_query uri_tests) (option_map mapped o) ≡ true
+query-fits : (s : Tests) (o : Option (List ℕ)) → IsSpec s → if_there (is_query s) o ≡ true
+    → if_there (is_query uri_tests) (option_map mapped o) ≡ true
 query-fits s None k h = refl
 query-fits s (Some x) k h = mapped-query s x k h
 
-fragment-fits : (s : Tests) (o : Option (List ℕ)) → IsSpec s → if_there (is_fragment s) o ≡ true → if_there (is_fragment uri_tests) (option_map mapped o) ≡ true
+fragment-fits : (s : Tests) (o : Option (List ℕ)) → IsSpec s → if_there (is_fragment s) o ≡ true
+    → if_there (is_fragment uri_tests) (option_map mapped o) ≡ true
 fragment-fits s None k h = refl
 fragment-fits s (Some x) k h = mapped-fragment s x k h
 
@@ -216,7 +245,8 @@ mapped-relative s t k h = (mapped_parts h.0, mapped-splits s t h.0 k h.1, still-
 
 -- the split of the mapped text
 pub mapped-split : (s : Tests) (t : List ℕ) → IsSpec s → IsReference s t → split_of (mapped t) ≡ mapped_parts (split_of t)
-mapped-split s t k h = split_is uri_tests (mapped t) (mapped_parts h.0) uri-spec (mapped-splits s t h.0 k h.1) ∙ ap mapped_parts (sym (split_is s t h.0 k h.1))
+mapped-split s t k h = split_is uri_tests (mapped t) (mapped_parts h.0) uri-spec (mapped-splits s t h.0 k h.1)
+    ∙ ap mapped_parts (sym (split_is s t h.0 k h.1))
 
 -- ---- what has no fault has none, mapped
 pub reference-maps : (s : Tests) → IsSpec s → (t : List ℕ) → reference_fault s t ≡ None → reference_fault uri_tests (mapped t) ≡ None
@@ -235,4 +265,5 @@ pub query-maps : (s : Tests) → IsSpec s → (t : List ℕ) → query_fault s t
 query-maps s k t h = no_fault (is_query uri_tests (mapped t)) InvalidQuery (mapped-query s t k (passed (is_query s t) InvalidQuery h))
 
 pub fragment-maps : (s : Tests) → IsSpec s → (t : List ℕ) → fragment_fault s t ≡ None → fragment_fault uri_tests (mapped t) ≡ None
-fragment-maps s k t h = no_fault (is_fragment uri_tests (mapped t)) InvalidFragment (mapped-fragment s t k (passed (is_fragment s t) InvalidFragment h))
+fragment-maps s k t h = no_fault (is_fragment uri_tests (mapped t)) InvalidFragment
+    (mapped-fragment s t k (passed (is_fragment s t) InvalidFragment h))

@@ -1,5 +1,6 @@
 -- Characters in another case, and characters that are decoded.
-use Rattle.std.proofs.Common.{◌≡◌, ℕ, suc, ◌<◌, ◌≤◌, true, false, cond, List, [], ◌∷◌, Some, None, length, get_or, refl, sym, ◌∙◌, ap, subst, arith, append-nil, ltb-true, ltb-false}
+use Rattle.std.proofs.Common.{◌≡◌, ℕ, suc, ◌<◌, ◌≤◌, true, false, cond, List, [], ◌∷◌, Some, None, length, get_or, refl, sym, ◌∙◌, ap}
+use Rattle.std.proofs.Common.{subst, arith, append-nil, ltb-true, ltb-false}
 use Rattle.std.specs.Prelude.{map}
 use Rattle.std.specs.Char.{encode_utf8}
 use lib.Dec.{ltb}
@@ -8,26 +9,29 @@ use Rattle.std.proofs.lemmas.Str.{encode_ascii, inside_one}
 use Rattle.std.proofs.lemmas.Bool.Decides.{nat_tests}
 use Rattle.iri_grammar.specs.Classes.{Tests, unreserved}
 use Rattle.iri_percent.specs.Units.{first_char}
-use Rattle.iri_percent.specs.UnitLaws.{BeginsChar, first_char_is}
+use Rattle.iri_percent.proofs.UnitLaws.{BeginsChar, first_char_is}
 use Rattle.iri_percent.specs.NormalLaws.{decoded, unreserved_only}
-use Rattle.iri_percent.specs.Stability.{IsCase}
+use Rattle.iri_percent.proofs.Stability.{IsCase}
 
 map_high : (f : ℕ → ℕ) (xs : List ℕ) → ((x : ℕ) → 128 ≤ x → f x ≡ x) → ((k : ℕ) → k < length xs → 128 ≤ get_or xs k 0) → map f xs ≡ xs
 map_high f [] h p = refl
-map_high f (x ∷ xs) h p = ap (λ y. y ∷ map f xs) (h x (p 0 (omega arith))) ∙ ap (λ l. x ∷ l) (map_high f xs h (λ k j. p (suc k) (omega arith)))
+map_high f (x ∷ xs) h p = ap (λ y. y ∷ map f xs) (h x (p 0 (omega arith)))
+    ∙ ap (λ l. x ∷ l) (map_high f xs h (λ k j. p (suc k) (omega arith)))
 
 -- the bytes of a character in another case
 pub encode_case : (f : ℕ → ℕ) (c : ℕ) → IsCase f → map f (encode_utf8 c) ≡ encode_utf8 (f c)
 encode_case f c i =
     elim (ltb c 128) as (λ b. ltb c 128 ≡ b → map f (encode_utf8 c) ≡ encode_utf8 (f c)) [
       | true ↦ λ e. let low : c < 128 = ltb-true c 128 e in ap (map f) (encode_ascii c low) ∙ sym (encode_ascii (f c) (i.below c low))
-      | false ↦ λ e. let past : 128 ≤ c = ltb-false c 128 e in map_high f (encode_utf8 c) i.past (λ k j. high past k j) ∙ ap encode_utf8 (sym (i.past c past))
+      | false ↦ λ e. let past : 128 ≤ c = ltb-false c 128 e in
+          map_high f (encode_utf8 c) i.past (λ k j. high past k j) ∙ ap encode_utf8 (sym (i.past c past))
     ] refl
   where
     high : 128 ≤ c → (k : ℕ) → k < length (encode_utf8 c) → 128 ≤ get_or (encode_utf8 c) k 0
     high past k j =
         elim (ltb (get_or (encode_utf8 c) k 0) 128) as (λ b. ltb (get_or (encode_utf8 c) k 0) 128 ≡ b → 128 ≤ get_or (encode_utf8 c) k 0) [
-          | true ↦ λ e. let low : get_or (encode_utf8 c) k 0 < 128 = ltb-true (get_or (encode_utf8 c) k 0) 128 e in absurd (omega (arith, low, past, inside_one c [] (encode_utf8 c) k (sym (append-nil (encode_utf8 c))) j low))
+          | true ↦ λ e. let low : get_or (encode_utf8 c) k 0 < 128 = ltb-true (get_or (encode_utf8 c) k 0) 128 e in
+              absurd (omega (arith, low, past, inside_one c [] (encode_utf8 c) k (sym (append-nil (encode_utf8 c))) j low))
           | false ↦ λ e. ltb-false (get_or (encode_utf8 c) k 0) 128 e
         ] refl
 

@@ -1,0 +1,135 @@
+-- The units of a text, character by character and byte by byte.
+use Rattle.std.proofs.Common.{◌≡◌, ℕ, zero, suc, ◌-◌, true, false, cond, ◌&&◌, List, [], ◌∷◌, ◌++◌, Option, Some, None, length, drop, refl}
+use Rattle.std.proofs.Common.{sym, ◌∙◌, ap, subst, arith, append_assoc, append-nil, eqb-true}
+use Rattle.std.specs.Prelude.{◌==◌, map}
+use Rattle.std.specs.List.{flat_map, list_all}
+use Rattle.std.specs.Char.{is_ascii_hexdigit, to_ascii_uppercase, encode_utf8}
+use Rattle.std.proofs.lemmas.List.{drop_at}
+use Rattle.std.proofs.lemmas.Bool.Decides.{nat_tests}
+use Rattle.iri_grammar.specs.Classes.{Tests, unreserved}
+use Rattle.iri_grammar.proofs.CutLaws.{both}
+use Rattle.iri_percent.specs.Units.{TextUnit, Plain, Char, Lone, Stray, IllFormed, octets, first_char, triplet_unit, first_unit, unit_text}
+use Rattle.iri_percent.specs.Units.{units_from, units}
+use Rattle.iri_percent.specs.CharUnits.{by_character, char_unit_text, char_units_from, char_units, plains, byte_units}
+use Rattle.iri_percent.specs.Triplets.{unit_form, normal}
+use Rattle.iri_percent.specs.ByteForm.{written, all_written}
+use Rattle.iri_percent.proofs.UnitLaws.{BeginsChar, first_char_is, is_continuation, encode_bytes, units_from_drop, byte_other, units_plain}
+
+-- a unit that is the same in both readings
+pub record IsSame (u : TextUnit) (o : Option ℕ) : Type 0 where
+  pub unit : by_character u o ≡ u
+  pub text : char_unit_text u ≡ unit_text u
+  pub bytes : byte_units u ≡ u ∷ []
+
+triplet_same : (a b : ℕ) (t : List ℕ) (d o : Option ℕ) → IsSame (triplet_unit a b t d) o
+triplet_same a b t None o = record { unit = refl; text = refl; bytes = refl }
+triplet_same a b t (Some c) o = record { unit = refl; text = refl; bytes = refl }
+
+pub percent_same : (xs : List ℕ) (o : Option ℕ) → IsSame (first_unit 37 xs) o
+percent_same [] o = record { unit = refl; text = refl; bytes = refl }
+percent_same (a ∷ []) o = record { unit = refl; text = refl; bytes = refl }
+percent_same (a ∷ b ∷ xs) o =
+    elim (is_ascii_hexdigit a && is_ascii_hexdigit b) as (λ v. IsSame
+    (cond v (triplet_unit a b (37 ∷ a ∷ b ∷ xs) (first_char (octets (37 ∷ a ∷ b ∷ xs)))) Stray) o) [
+      | true ↦ triplet_same a b (37 ∷ a ∷ b ∷ xs) (first_char (octets (37 ∷ a ∷ b ∷ xs))) o
+      | false ↦ record { unit = refl; text = refl; bytes = refl }
+    ]
+
+-- the bytes behind the first one of a character
+continued : (ys xs : List ℕ) → list_all is_continuation ys ≡ true → units (ys ++ xs) ≡ plains ys ++ units xs
+continued [] xs h = refl
+continued (y ∷ ys) xs h =
+    let k = both (is_continuation y) (list_all is_continuation ys) h in
+    units_plain y (ys ++ xs) (apart y k.0) ∙ ap (λ l. Plain y ∷ l) (continued ys xs k.1)
+  where
+    apart : (y : ℕ) → is_continuation y ≡ true → (y == 37) ≡ false
+    apart y h = grind (arith, nat_tests)
+
+-- both readings of what stands behind so many bytes
+abbrev IsTied : List ℕ → Type 0
+IsTied t = (n : ℕ) → units_from n t ≡ flat_map byte_units (char_units_from n t)
+
+percent_tied : (xs : List ℕ) → IsTied xs → units (37 ∷ xs) ≡ flat_map byte_units (char_units (37 ∷ xs))
+unfolding units_from char_units_from
+percent_tied xs tied =
+    let k = percent_same xs (first_char (37 ∷ xs)) in
+    ap (λ l. first_unit 37 xs ∷ l) (tied (length (unit_text (first_unit 37 xs)) - 1))
+    ∙ sym (ap (λ l. l ++ flat_map byte_units (char_units_from (length (unit_text (first_unit 37 xs)) - 1) xs)) k.bytes)
+    ∙ sym (ap (λ l. byte_units (first_unit 37 xs) ++ flat_map byte_units (char_units_from (length l - 1) xs)) k.text)
+    ∙ sym (ap (λ u. byte_units u ++ flat_map byte_units (char_units_from (length (char_unit_text u) - 1) xs)) k.unit)
+
+character_tied : (x c : ℕ) (xs : List ℕ) → IsTied xs → BeginsChar (x ∷ xs) c
+    → Plain x ∷ units xs ≡ plains (encode_utf8 c) ++ flat_map byte_units (char_units_from (length (encode_utf8 c) - 1) xs)
+character_tied x c xs tied g =
+    let b = encode_bytes c in
+    let whole : x ∷ xs ≡ b.lead ∷ (b.tail ++ g.rest) = g.split ∙ ap (λ l. l ++ g.rest) b.split in
+    let first : x ≡ b.lead = cc in
+    let behind : xs ≡ b.tail ++ g.rest = cc in
+    let less : length (b.lead ∷ b.tail) - 1 ≡ length b.tail = omega arith in
+    let rest : units g.rest ≡ units_from (length b.tail) xs =
+    sym (units_from_drop (length b.tail) xs ∙ ap units
+    (ap (drop (length b.tail)) behind ∙ drop_at b.tail g.rest (length b.tail) refl)) in
+    subst (λ l. Plain x ∷ units xs ≡ plains l ++ flat_map byte_units (char_units_from (length l - 1) xs)) (sym b.split)
+    (ap (λ y. Plain y ∷ units xs) first
+    ∙ ap (λ us. Plain b.lead ∷ us) (ap units behind ∙ continued b.tail g.rest b.continue
+    ∙ ap (λ us. plains b.tail ++ us) (rest ∙ tied (length b.tail)))
+    ∙ sym (ap (λ n. Plain b.lead ∷ (plains b.tail ++ flat_map byte_units (char_units_from n xs))) less))
+
+other_tied : (x : ℕ) (xs : List ℕ) → (x == 37) ≡ false → IsTied xs → units (x ∷ xs) ≡ flat_map byte_units (char_units (x ∷ xs))
+unfolding char_units_from
+other_tied x xs h tied =
+    units_plain x xs h ∙ elim (first_char (x ∷ xs)) as (λ o. first_char (x ∷ xs) ≡ o
+    → Plain x ∷ units xs ≡ byte_units (by_character (Plain x) o)
+    ++ flat_map byte_units (char_units_from (length (char_unit_text (by_character (Plain x) o)) - 1) xs)) [
+      | None ↦ λ _. ap (λ us. Plain x ∷ us) (tied 0)
+      | Some c ↦ λ e. character_tied x c xs tied (first_char_is (x ∷ xs) c e)
+    ] refl
+    ∙ sym (ap (λ u. byte_units (by_character u (first_char (x ∷ xs)))
+    ++ flat_map byte_units (char_units_from (length (char_unit_text (by_character u (first_char (x ∷ xs)))) - 1) xs))
+    (byte_other x xs h))
+
+units_tied : (n : ℕ) (t : List ℕ) → units_from n t ≡ flat_map byte_units (char_units_from n t)
+unfolding units_from char_units_from
+units_tied zero [] = refl
+units_tied (suc n) [] = refl
+units_tied (suc n) (x ∷ xs) = units_tied n xs
+units_tied zero (x ∷ xs) =
+    elim (x == 37) as (λ b. (x == 37) ≡ b → units (x ∷ xs) ≡ flat_map byte_units (char_units (x ∷ xs))) [
+      | true ↦ λ e. subst (λ y. units (y ∷ xs) ≡ flat_map byte_units (char_units (y ∷ xs))) (sym (eqb-true x 37 e))
+          (percent_tied xs (λ n. units_tied n xs))
+      | false ↦ λ e. other_tied x xs e (λ n. units_tied n xs)
+    ] refl
+
+-- the units of bytes are those of characters, with a unit for each byte of a character outside triplets
+pub units-by_chars : (t : List ℕ) → units t ≡ flat_map byte_units (char_units t)
+units-by_chars t = units_tied 0 t
+
+-- ---- triplet normal form
+pub all_written-append : (s : Tests) (f : ℕ → ℕ) (us vs : List TextUnit)
+    → all_written s f (us ++ vs) ≡ all_written s f us ++ all_written s f vs
+all_written-append s f [] vs = refl
+all_written-append s f (u ∷ us) vs = ap (λ l. written s f u ++ l) (all_written-append s f us vs)
+    ∙ sym (append_assoc (written s f u) (all_written s f us) (all_written s f vs))
+
+pub written_plains : (s : Tests) (f : ℕ → ℕ) (xs : List ℕ) → all_written s f (plains xs) ≡ map f xs
+written_plains s f [] = refl
+written_plains s f (x ∷ xs) = ap (λ l. f x ∷ l) (written_plains s f xs)
+
+unit_written : (s : Tests) (f : ℕ → ℕ) (u : TextUnit) → all_written s f (byte_units u) ≡ unit_form s f u
+unit_written s f (Plain c) = written_plains s f (encode_utf8 c)
+unit_written s f (Char c sp) = append-nil (cond (unreserved s c) (map f (encode_utf8 c)) (map to_ascii_uppercase sp))
+unit_written s f (Lone a b) = refl
+unit_written s f Stray = refl
+unit_written s f (IllFormed b) = refl
+
+units_written : (s : Tests) (f : ℕ → ℕ) (us : List TextUnit) → all_written s f (flat_map byte_units us) ≡ flat_map (unit_form s f) us
+units_written s f [] = refl
+units_written s f (u ∷ us) =
+    all_written-append s f (byte_units u) (flat_map byte_units us)
+    ∙ ap (λ l. l ++ all_written s f (flat_map byte_units us)) (unit_written s f u)
+    ∙ ap (λ l. unit_form s f u ++ l) (units_written s f us)
+
+-- the normal form, byte by byte
+pub normal-by_bytes : (s : Tests) (f : ℕ → ℕ) (t : List ℕ) → normal s f t ≡ all_written s f (units t)
+unfolding normal
+normal-by_bytes s f t = sym (ap (all_written s f) (units-by_chars t) ∙ units_written s f (char_units t))

@@ -1,0 +1,5 @@
+use Rattle.iri_percent.proofs.MapKinds.{fragment-maps}
+use Rattle.iri_percent.proofs.mapped_kind.FragmentMappedKind.mapped_is_valid.Goals as goal
+
+pub returns : goal.returns
+returns c = fragment-maps

@@ -1,0 +1,16 @@
+use Rattle.std.proofs.Common.{ℕ, zero, suc, ◌<◌, ◌/◌, [], ◌∷◌, get_or, sym, ap, ◌∙◌, subst, arith}
+use Rattle.std.specs.Str.{IsUtf8}
+use Rattle.iri_percent.specs.Mapping.{capital_hex}
+use Rattle.iri_percent.proofs.Spelled.{triplets-utf8}
+use Rattle.iri_percent.proofs.spelling.put_one.Goals as goal
+
+one_small : (o : ℕ) → o < 256 → (i : ℕ) → get_or (o ∷ []) i 0 < 256
+one_small o h zero = h
+one_small o h (suc i) = omega arith
+
+pub from_utf8_unchecked-requires : goal.from_utf8_unchecked-requires
+from_utf8_unchecked-requires g c =
+    let o = c.args.octet in
+    let digits = ap (λ x. 37 ∷ x ∷ c.capital_digit-2.result ∷ []) c.capital_digit.ensures
+    ∙ ap (λ x. 37 ∷ capital_hex (o / 16) ∷ x ∷ []) c.capital_digit-2.ensures in
+    subst IsUtf8 (sym digits) (triplets-utf8 (o ∷ []) (one_small o (omega (arith, c.ranges.octet.fits))))

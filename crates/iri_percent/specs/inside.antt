@@ -1,0 +1,5 @@
+-- What private contracts cite, and laws that an `impl` cites.
+pub mod EncoderText
+pub mod MapRuns
+pub mod Pieces
+pub mod Runs
