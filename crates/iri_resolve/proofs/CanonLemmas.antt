@@ -4,7 +4,7 @@ use Rattle.std.specs.Prelude.{IfOk, MatchResult}
 use Rattle.std.specs.Str.{is_utf8}
 use Rattle.iri_grammar.specs.Classes.{Tests, IsSpec}
 use Rattle.iri_grammar.specs.Fault.{bytes_fault}
-use Rattle.iri_grammar.specs.FaultLaws.{absolute-law, reference-law, iri-law}
+use Rattle.iri_grammar.proofs.FaultLaws.{absolute-law, reference-law, iri-law}
 use Rattle.iri_grammar.specs.Parts.{Parts, IsAbsolute, IsReference, recompose}
 use Rattle.iri_grammar.specs.Split.{split_of}
 use Rattle.iri_grammar.specs.WholeFault.{absolute_fault, reference_fault, iri_fault}
@@ -12,13 +12,14 @@ use Rattle.iri_grammar.specs.declared.error.ErrorKind.{ErrorKind}
 use Rattle.iri_grammar.specs.declared.error.ErrorKind.TheVariants.{InvalidUtf8}
 use Rattle.iri_owned.specs.OwnedText.{OwnedText}
 use Rattle.iri_resolve.specs.Canonicalized.{IsCanonicalText, CausedBy}
-use Rattle.iri_resolve.specs.FormLaws.{canonical-iri, canonical-split, canonical-own}
+use Rattle.iri_resolve.proofs.FormLaws.{canonical-iri, canonical-split, canonical-own}
 use Rattle.iri_resolve.specs.NormalForm.{normal_form, canonical}
 use Rattle.iri_resolve.specs.Target.{target}
 use Rattle.iri_resolve.specs.declared.canonical.CanonError.{CanonError}
 
 -- the recomposition of the normal form of a target is the canonical text
-pub canonical_is : (s : Tests) (b r : List ℕ) (p : Parts) → p ≡ target (split_of b) (split_of r) → recompose (normal_form s p) ≡ canonical s b r
+pub canonical_is : (s : Tests) (b r : List ℕ) (p : Parts) → p ≡ target (split_of b) (split_of r)
+    → recompose (normal_form s p) ≡ canonical s b r
 unfolding canonical
 canonical_is s b r p e = ap (λ q. recompose (normal_form s q)) e
 
@@ -29,21 +30,30 @@ reference : (s : Tests) → IsSpec s → (r : List ℕ) → reference_fault s r 
 reference s l r h = (reference-law s l r).0 h
 
 -- it is a URI of the spec
-pub canonical_valid : (s : Tests) → IsSpec s → (b r : List ℕ) → absolute_fault s b ≡ None → reference_fault s r ≡ None → iri_fault s (canonical s b r) ≡ None
+pub canonical_valid : (s : Tests) → IsSpec s → (b r : List ℕ) → absolute_fault s b ≡ None → reference_fault s r ≡ None
+    → iri_fault s (canonical s b r) ≡ None
 canonical_valid s l b r hb hr = (iri-law s l (canonical s b r)).1 (canonical-iri s b r l (absolute s l b hb) (reference s l r hr))
 
-fault_none : (f : List ℕ → Option ErrorKind) (bs : List ℕ) → bytes_fault f bs ≡ None → f bs ≡ None
+pub fault_none : (f : List ℕ → Option ErrorKind) (bs : List ℕ) → bytes_fault f bs ≡ None → f bs ≡ None
 fault_none f bs = elim (is_utf8 bs) as (λ b. cond b (f bs) (Some InvalidUtf8) ≡ None → f bs ≡ None) [ true ↦ λ h. h | false ↦ λ h. cc ]
 
-is_canonical : (s : Tests) → IsSpec s → (b r t : List ℕ) → bytes_fault (absolute_fault s) b ≡ None → bytes_fault (reference_fault s) r ≡ None → t ≡ canonical s b r → IsCanonicalText s b r t
+is_canonical : (s : Tests) → IsSpec s → (b r t : List ℕ) → bytes_fault (absolute_fault s) b ≡ None
+    → bytes_fault (reference_fault s) r ≡ None → t ≡ canonical s b r → IsCanonicalText s b r t
 is_canonical s l b r t hb hr e =
     let a = absolute s l b (fault_none (absolute_fault s) b hb) in
     let k = reference s l r (fault_none (reference_fault s) r hr) in
     subst (IsCanonicalText s b r) (sym e)
-    (record { canonical_is = refl; valid = canonical-iri s b r l a k; splits = canonical-split s b r l a k; own = λ other _. canonical-own s b r other l a k })
+    (record {
+      canonical_is = refl;
+      valid = canonical-iri s b r l a k;
+      splits = canonical-split s b r l a k;
+      own = λ other _. canonical-own s b r other l a k;
+    })
 
 -- the text that an answer holds
-pub all_canonical : (s : Tests) → IsSpec s → (b v r : List ℕ) → v ≡ b → bytes_fault (absolute_fault s) b ≡ None → (x : Result OwnedText CanonError)
-    → MatchResult x (λ t. (bytes_fault (reference_fault s) r ≡ None) × (t.text ≡ canonical s v r)) (λ e. CausedBy e None (bytes_fault (reference_fault s) r)) → IfOk x (λ t. IsCanonicalText s b r t.text)
+pub all_canonical : (s : Tests) → IsSpec s → (b v r : List ℕ) → v ≡ b → bytes_fault (absolute_fault s) b ≡ None
+    → (x : Result OwnedText CanonError)
+    → MatchResult x (λ t. (bytes_fault (reference_fault s) r ≡ None) × (t.text ≡ canonical s v r))
+    (λ e. CausedBy e None (bytes_fault (reference_fault s) r)) → IfOk x (λ t. IsCanonicalText s b r t.text)
 all_canonical s l b v r e hb (Ok t) h = is_canonical s l b r t.text hb h.0 (h.1 ∙ ap (λ x. canonical s x r) e)
 all_canonical s l b v r e hb (Err x) h = tt

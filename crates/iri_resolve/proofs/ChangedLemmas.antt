@@ -1,5 +1,6 @@
 -- A step changes something, and a decoded place is a character.
-use Rattle.std.proofs.Common.{◌≡◌, ◌≢◌, ℕ, ◌+◌, ◌-◌, ◌*◌, ◌<◌, ◌≤◌, Bool, true, false, cond, List, [], ◌∷◌, ◌++◌, Option, Some, None, length, refl, sym, ◌∙◌, ap, subst, arith, append_assoc, length-append, length-take-le}
+use Rattle.std.proofs.Common.{◌≡◌, ◌≢◌, ℕ, ◌-◌, Bool, true, false, cond, List, [], ◌∷◌, ◌++◌, Option, Some, None, length, refl, sym, ◌∙◌}
+use Rattle.std.proofs.Common.{ap, arith, append_assoc, length-append, length-take-le}
 use Rattle.std.specs.Prelude.{is_some, nat_lt, take}
 use Rattle.std.specs.Char.{is_ascii_uppercase, to_ascii_lowercase, to_ascii_uppercase, encode_utf8}
 use Rattle.std.specs.Str.{bytes_eq}
@@ -7,24 +8,26 @@ use Rattle.std.proofs.lemmas.Bool.Decides.{nat_tests}
 use Rattle.std.proofs.lemmas.List.{append_cancel_left, append_cancel_right}
 use Rattle.std.proofs.lemmas.Slice.Eq.{bytes_eq-Decides}
 use Rattle.iri_grammar.specs.Authority.{AuthorityParts, authority_parts, recompose_authority, userinfo_text}
-use Rattle.iri_grammar.specs.AuthorityLaws.{authority_recomposed}
+use Rattle.iri_grammar.proofs.AuthorityLaws.{authority_recomposed}
 use Rattle.iri_grammar.specs.Classes.{Tests}
 use Rattle.iri_grammar.specs.Cut.{marked}
 use Rattle.iri_grammar.specs.Parts.{Parts}
-use Rattle.iri_percent.specs.Reading.{Reading, done, plain, char, lone, whole_plain, whole_triplet, whole_behind, read}
-use Rattle.iri_percent.specs.SeamLaws.{leads, lone-seam, whole-percent}
-use Rattle.iri_percent.specs.UnitLaws.{Spells, length-spelled, units_plain, units_lone, units_char}
-use Rattle.iri_percent.specs.UnitTexts.{units-text}
-use Rattle.iri_percent.specs.Units.{TextUnit, Plain, Char, Lone, octets, units, whole_triplets}
-use Rattle.iri_resolve.specs.AuthoritySteps.{placed-is, in_part-is}
-use Rattle.iri_resolve.specs.ByteLaws.{ByteChange, small_letter, small_host_letter, capital_digit}
-use Rattle.iri_resolve.specs.ChangeLaws.{decoding, some_triplets, spelled-leads}
+use Rattle.iri_percent.proofs.Reading.{Reading, done, plain, char, lone, whole_plain, whole_triplet, whole_behind, read}
+use Rattle.iri_percent.proofs.SeamLaws.{leads, lone-seam, whole-percent}
+use Rattle.iri_percent.proofs.UnitLaws.{length-spelled, units_plain, units_lone, units_char}
+use Rattle.iri_percent.proofs.UnitTexts.{units-text}
+use Rattle.iri_percent.proofs.CharUnits.{char_placed}
+use Rattle.iri_percent.specs.Units.{Plain, Char, Lone, octets, units, whole_triplets}
+use Rattle.iri_resolve.proofs.AuthoritySteps.{placed-is, in_part-is}
+use Rattle.iri_resolve.proofs.ByteLaws.{ByteChange, small_letter, small_host_letter, capital_digit}
+use Rattle.iri_resolve.proofs.ChangeLaws.{decoding, some_triplets, spelled-leads}
 use Rattle.iri_resolve.specs.Changes.{is_small_digit, with_small_letter, with_small_host_letter, with_capital_digit, with_decoded}
 use Rattle.iri_resolve.specs.DecodedPlace.{IsCharacterAt}
 use Rattle.iri_resolve.specs.DotRemoval.{dots}
 use Rattle.iri_resolve.specs.Guard.{guard}
-use Rattle.iri_resolve.specs.Places.{decode-inside}
-use Rattle.iri_resolve.specs.Steps.{placed, in_part, host_start, in_host, in_userinfo_or_host, without_empty_port, with_small_letter_in_host, with_dots_removed, at_place, step}
+use Rattle.iri_resolve.proofs.Places.{decode-inside}
+use Rattle.iri_resolve.specs.Steps.{placed, in_part, host_start, in_host, in_userinfo_or_host, without_empty_port}
+use Rattle.iri_resolve.specs.Steps.{with_small_letter_in_host, with_dots_removed, at_place, step}
 use Rattle.iri_resolve.specs.declared.step.Part.{Part}
 use Rattle.iri_resolve.specs.declared.step.Part.TheVariants.{Authority, Path, Query, Fragment}
 use Rattle.iri_resolve.specs.declared.step.Step.{Step}
@@ -65,35 +68,43 @@ decode-changing s i t u h e =
     let g = some_triplets d.c d.sp (encode_utf8 d.c) d.spells refl in
     let long = length-spelled d.sp (encode_utf8 d.c) d.spells in
     let same : take i t ++ (encode_utf8 d.c ++ d.back) ≡ take i t ++ (d.sp ++ d.back) = sym d.new ∙ e ∙ d.old in
-    let text : encode_utf8 d.c ≡ d.sp = append_cancel_right (encode_utf8 d.c) d.sp d.back (append_cancel_left (take i t) (encode_utf8 d.c ++ d.back) (d.sp ++ d.back) same) in
+    let text : encode_utf8 d.c ≡ d.sp = append_cancel_right (encode_utf8 d.c) d.sp d.back
+    (append_cancel_left (take i t) (encode_utf8 d.c ++ d.back) (d.sp ++ d.back) same) in
     absurd (omega (arith, ap length text, long, ap length g.text))
 
 -- ---- an authority
 other-host : (p : AuthorityParts) (g : List ℕ) → recompose_authority (record p { host = g }) ≡ recompose_authority p → g ≡ p.host
 unfolding recompose_authority
-other-host p g h = append_cancel_right g p.host (marked 58 p.port) (append_cancel_left (userinfo_text p.userinfo) (g ++ marked 58 p.port) (p.host ++ marked 58 p.port) h)
+other-host p g h = append_cancel_right g p.host (marked 58 p.port)
+    (append_cancel_left (userinfo_text p.userinfo) (g ++ marked 58 p.port) (p.host ++ marked 58 p.port) h)
 
-other-userinfo : (p : AuthorityParts) (v w : List ℕ) → p.userinfo ≡ Some w → recompose_authority (record p { userinfo = Some v }) ≡ recompose_authority p → v ≡ w
+other-userinfo : (p : AuthorityParts) (v w : List ℕ) → p.userinfo ≡ Some w
+    → recompose_authority (record p { userinfo = Some v }) ≡ recompose_authority p → v ≡ w
 unfolding recompose_authority
 other-userinfo p v w e h =
     let r = p.host ++ marked 58 p.port in
     let same : (v ++ 64 ∷ []) ++ r ≡ (w ++ 64 ∷ []) ++ r = h ∙ ap (λ o. userinfo_text o ++ r) e in
     append_cancel_right v w (64 ∷ []) (append_cancel_right (v ++ 64 ∷ []) (w ++ 64 ∷ []) r same)
 
-host-changes : (change : ℕ → List ℕ → Option (List ℕ)) (i : ℕ) (a b : List ℕ) → Changing change → in_host change i (authority_parts a) ≡ Some b → b ≢ a
+host-changes : (change : ℕ → List ℕ → Option (List ℕ)) (i : ℕ) (a b : List ℕ) → Changing change
+    → in_host change i (authority_parts a) ≡ Some b → b ≢ a
 host-changes change i a b c h e =
     let p = authority_parts a in
-    elim (nat_lt i (host_start p)) as (λ v. cond v None (placed (λ h. recompose_authority (record p { host = h })) (change (i - host_start p) p.host)) ≡ Some b → ⊥) [
+    elim (nat_lt i (host_start p)) as (λ v. cond v None
+    (placed (λ h. recompose_authority (record p { host = h })) (change (i - host_start p) p.host)) ≡ Some b → ⊥) [
       | true ↦ λ k. cc
       | false ↦ λ k.
           let r = placed-is (λ h. recompose_authority (record p { host = h })) (change (i - host_start p) p.host) b k in
           c (i - host_start p) p.host r.0 r.1 (other-host p r.0 (r.2 ∙ e ∙ sym (authority_recomposed a)))
     ] h
 
-authority-changes : (change : ℕ → List ℕ → Option (List ℕ)) (i : ℕ) (a b : List ℕ) → Changing change → in_userinfo_or_host change i (authority_parts a) ≡ Some b → b ≢ a
+authority-changes : (change : ℕ → List ℕ → Option (List ℕ)) (i : ℕ) (a b : List ℕ) → Changing change
+    → in_userinfo_or_host change i (authority_parts a) ≡ Some b → b ≢ a
 authority-changes change i a b c h e =
     let p = authority_parts a in
-    elim (nat_lt i (host_start p)) as (λ v. cond v (placed (λ u. recompose_authority (record p { userinfo = Some u })) (in_part (change i) p.userinfo)) (in_host change i p) ≡ Some b → ⊥) [
+    elim (nat_lt i (host_start p)) as (λ v. cond v
+    (placed (λ u. recompose_authority (record p { userinfo = Some u })) (in_part (change i) p.userinfo)) (in_host change i p)
+    ≡ Some b → ⊥) [
       | true ↦ λ m.
           let r = placed-is (λ u. recompose_authority (record p { userinfo = Some u })) (in_part (change i) p.userinfo) b m in
           let q = in_part-is (change i) p.userinfo r.0 r.1 in
@@ -103,7 +114,8 @@ authority-changes change i a b c h e =
 
 letter-changes : (i : ℕ) (a b : List ℕ) → with_small_letter_in_host i (authority_parts a) ≡ Some b → b ≢ a
 letter-changes i a b h e =
-    elim (Rattle.iri_percent.specs.NormalHost.is_ascii_host (authority_parts a).host) as (λ v. cond v (in_host with_small_host_letter i (authority_parts a)) None ≡ Some b → ⊥) [
+    elim (Rattle.iri_percent.specs.NormalHost.is_ascii_host (authority_parts a).host) as (λ v. cond v
+    (in_host with_small_host_letter i (authority_parts a)) None ≡ Some b → ⊥) [
       | true ↦ λ m. host-changes with_small_host_letter i a b host-changing m e
       | false ↦ λ m. cc
     ] h
@@ -113,20 +125,31 @@ unfolding recompose_authority
 port-differs p q h =
     let u = userinfo_text p.userinfo in
     let same : u ++ (p.host ++ []) ≡ u ++ (p.host ++ 58 ∷ []) = h ∙ ap (λ o. u ++ (p.host ++ marked 58 o)) q in
-    absurd (omega (arith, ap length same, length-append u (p.host ++ []), length-append u (p.host ++ 58 ∷ []), length-append p.host [], length-append p.host (58 ∷ [])))
+    absurd (omega (
+      arith,
+      ap length same,
+      length-append u (p.host ++ []),
+      length-append u (p.host ++ 58 ∷ []),
+      length-append p.host [],
+      length-append p.host (58 ∷ []),
+    ))
 
-port-changes : (p : AuthorityParts) (o : Option (List ℕ)) (b : List ℕ) → p.port ≡ o → without_empty_port p o ≡ Some b → b ≢ recompose_authority p
+port-changes : (p : AuthorityParts) (o : Option (List ℕ)) (b : List ℕ) → p.port ≡ o → without_empty_port p o ≡ Some b
+    → b ≢ recompose_authority p
 port-changes p None b q h e = cc
 port-changes p (Some []) b q h e = let new : recompose_authority (record p { port = None }) ≡ b = cc in port-differs p q (new ∙ e)
 port-changes p (Some (x ∷ xs)) b q h e = cc
 
 -- ---- each step
-place-changes : (change : ℕ → List ℕ → Option (List ℕ)) (t u : Parts) (part : Part) (i : ℕ) → Changing change → at_place change t part i ≡ Some u → u ≢ t
+place-changes : (change : ℕ → List ℕ → Option (List ℕ)) (t u : Parts) (part : Part) (i : ℕ) → Changing change
+    → at_place change t part i ≡ Some u → u ≢ t
 place-changes change t u Authority i c h e =
-    let r = placed-is (λ a. record t { authority = Some a }) (in_part (λ a. in_userinfo_or_host change i (authority_parts a)) t.authority) u h in
+    let r = placed-is (λ a. record t { authority = Some a })
+    (in_part (λ a. in_userinfo_or_host change i (authority_parts a)) t.authority) u h in
     let q = in_part-is (λ a. in_userinfo_or_host change i (authority_parts a)) t.authority r.0 r.1 in
     authority-changes change i q.0 r.0 c q.2 (same_some r.0 q.0 (ap (λ z. z.authority) (r.2 ∙ e) ∙ q.1))
-place-changes change t u Path i c h e = let r = placed-is (λ p. record t { path = p }) (change i t.path) u h in c i t.path r.0 r.1 (ap (λ z. z.path) (r.2 ∙ e))
+place-changes change t u Path i c h e = let r = placed-is (λ p. record t { path = p }) (change i t.path) u h in
+    c i t.path r.0 r.1 (ap (λ z. z.path) (r.2 ∙ e))
 place-changes change t u Query i c h e =
     let r = placed-is (λ p. record t { query = Some p }) (in_part (change i) t.query) u h in
     let q = in_part-is (change i) t.query r.0 r.1 in
@@ -155,15 +178,18 @@ step-changes s t u (SchemeLetter i) h e =
     let q = in_part-is (with_small_letter i) t.scheme r.0 r.1 in
     letter-changing i q.0 r.0 q.2 (same_some r.0 q.0 (ap (λ z. z.scheme) (r.2 ∙ e) ∙ q.1))
 step-changes s t u (HostLetter i) h e =
-    let r = placed-is (λ a. record t { authority = Some a }) (in_part (λ a. with_small_letter_in_host i (authority_parts a)) t.authority) u h in
+    let r = placed-is (λ a. record t { authority = Some a })
+    (in_part (λ a. with_small_letter_in_host i (authority_parts a)) t.authority) u h in
     let q = in_part-is (λ a. with_small_letter_in_host i (authority_parts a)) t.authority r.0 r.1 in
     letter-changes i q.0 r.0 q.2 (same_some r.0 q.0 (ap (λ z. z.authority) (r.2 ∙ e) ∙ q.1))
 step-changes s t u (HexDigit part i) h e = place-changes with_capital_digit t u part i digit-changing h e
 step-changes s t u (Decode part i) h e = place-changes (with_decoded s) t u part i (decode-changing s) h e
 step-changes s t u EmptyPort h e =
-    let r = placed-is (λ a. record t { authority = Some a }) (in_part (λ a. without_empty_port (authority_parts a) (authority_parts a).port) t.authority) u h in
+    let r = placed-is (λ a. record t { authority = Some a })
+    (in_part (λ a. without_empty_port (authority_parts a) (authority_parts a).port) t.authority) u h in
     let q = in_part-is (λ a. without_empty_port (authority_parts a) (authority_parts a).port) t.authority r.0 r.1 in
-    port-changes (authority_parts q.0) (authority_parts q.0).port r.0 refl q.2 (same_some r.0 q.0 (ap (λ z. z.authority) (r.2 ∙ e) ∙ q.1) ∙ sym (authority_recomposed q.0))
+    port-changes (authority_parts q.0) (authority_parts q.0).port r.0 refl q.2
+    (same_some r.0 q.0 (ap (λ z. z.authority) (r.2 ∙ e) ∙ q.1) ∙ sym (authority_recomposed q.0))
 step-changes s t u Dots h e =
     let r = placed-is (λ p. record t { path = p }) (with_dots_removed t) u h in
     dots-change t r.0 r.1 (ap (λ z. z.path) (r.2 ∙ e))
@@ -175,26 +201,34 @@ units-nil = refl
 
 units-seam : (t r : List ℕ) → Reading t → whole_triplets t ≡ true → leads (octets r) ≡ true → units (t ++ r) ≡ units t ++ units r
 units-seam t r done w l = ap (λ z. z ++ units r) (sym units-nil)
-units-seam t r (plain x xs h k) w l = units_plain x (xs ++ r) h ∙ ap (λ z. Plain x ∷ z) (units-seam xs r k (sym (whole_plain x xs h) ∙ w) l) ∙ ap (λ z. z ++ units r) (sym (units_plain x xs h))
+units-seam t r (plain x xs h k) w l = units_plain x (xs ++ r) h ∙ ap (λ z. Plain x ∷ z) (units-seam xs r k (sym (whole_plain x xs h) ∙ w) l)
+    ∙ ap (λ z. z ++ units r) (sym (units_plain x xs h))
 units-seam t r (char c sp xs h sps k) w l =
-    ap units (append_assoc sp xs r) ∙ units_char c sp (xs ++ r) h sps ∙ ap (λ z. Char c sp ∷ z) (units-seam xs r k (sym (whole_behind sp (encode_utf8 c) xs sps) ∙ w) l) ∙ ap (λ z. z ++ units r) (sym (units_char c sp xs h sps))
+    ap units (append_assoc sp xs r) ∙ units_char c sp (xs ++ r) h sps
+    ∙ ap (λ z. Char c sp ∷ z) (units-seam xs r k (sym (whole_behind sp (encode_utf8 c) xs sps) ∙ w) l)
+    ∙ ap (λ z. z ++ units r) (sym (units_char c sp xs h sps))
 units-seam t r (lone a b xs p q n k) w l =
     let behind : whole_triplets xs ≡ true = sym (whole_triplet a b xs p q) ∙ w in
-    units_lone a b (xs ++ r) p q (lone-seam a b xs r p q behind l n) ∙ ap (λ z. Lone a b ∷ z) (units-seam xs r k behind l) ∙ ap (λ z. z ++ units r) (sym (units_lone a b xs p q n))
+    units_lone a b (xs ++ r) p q (lone-seam a b xs r p q behind l n) ∙ ap (λ z. Lone a b ∷ z) (units-seam xs r k behind l)
+    ∙ ap (λ z. z ++ units r) (sym (units_lone a b xs p q n))
 
 pub decoded-place : (s : Tests) (t u : List ℕ) (i : ℕ) → whole_triplets t ≡ true → with_decoded s i t ≡ Some u → IsCharacterAt s i t
 decoded-place s t u i w h =
     let d = decoding s i t u h in
     let a = take i t in
     let p = some_triplets d.c d.sp (encode_utf8 d.c) d.spells refl in
-    let front : whole_triplets a ≡ true = whole-percent a (p.rest ++ d.back) (ap whole_triplets (sym (d.old ∙ ap (λ z. a ++ (z ++ d.back)) p.text)) ∙ w) in
+    let front : whole_triplets a ≡ true = whole-percent a (p.rest ++ d.back)
+    (ap whole_triplets (sym (d.old ∙ ap (λ z. a ++ (z ++ d.back)) p.text)) ∙ w) in
     let l = decode-inside s i t u h in
+    let split = ap units d.old ∙ units-seam a (d.sp ++ d.back) (read a front) front (spelled-leads d.c d.sp d.back d.spells)
+    ∙ ap (λ z. units a ++ z) (units_char d.c d.sp d.back d.is_scalar d.spells) in
+    let r = char_placed d.c d.sp t (units a) (units d.back) split in
     record {
       c = d.c;
       spelling = d.sp;
-      before = units a;
-      after = units d.back;
-      split = ap units d.old ∙ units-seam a (d.sp ++ d.back) (read a front) front (spelled-leads d.c d.sp d.back d.spells) ∙ ap (λ z. units a ++ z) (units_char d.c d.sp d.back d.is_scalar d.spells);
-      place = ap length (units-text a) ∙ length-take-le i t (omega (arith, l));
+      before = r.front;
+      after = r.back;
+      split = r.split;
+      place = r.at ∙ ap length (units-text a) ∙ length-take-le i t (omega (arith, l));
       free = d.free;
     }

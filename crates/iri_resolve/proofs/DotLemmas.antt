@@ -1,18 +1,21 @@
 -- Dot segments, byte by byte.
-use Rattle.std.proofs.Common.{◌≡◌, ℕ, ◌≢◌, Bool, true, false, cond, ◌&&◌, ◌||◌, List, [], ◌∷◌, Option, Some, None, ◌≤◌, ◌<◌, length, drop, refl, sym, ◌∙◌, ap, subst, arith}
+use Rattle.std.proofs.Common.{◌≡◌, ℕ, ◌≢◌, Bool, true, false, cond, ◌&&◌, ◌||◌, List, [], ◌∷◌, Option, Some, None, ◌≤◌, ◌<◌, length, drop}
+use Rattle.std.proofs.Common.{refl, sym, ◌∙◌, ap, subst, arith}
 use Rattle.std.specs.Prelude.{◌==◌, slice_index}
 use Rattle.iri_grammar.specs.Cut.{before, behind}
-use Rattle.iri_grammar.specs.CutLaws.{by_test}
+use Rattle.iri_grammar.proofs.CutLaws.{by_test}
 use Rattle.iri_grammar.specs.Parts.{is_empty}
-use Rattle.iri_grammar.specs.PiecesLaws.{pieces_cut, more_pieces}
+use Rattle.iri_grammar.specs.inside.PiecesLaws.{more_pieces}
+use Rattle.iri_grammar.proofs.PiecesLaws.{pieces_cut}
 use Rattle.iri_resolve.specs.Dots.{behind_dot, is_dot_segment, is_dot_segment_behind, is_dot_or_nothing, any_dot_segment, has_dot_segment}
-use Rattle.iri_resolve.specs.DotSearch.{dots_in_front, slash_and_dots, dots_behind}
+use Rattle.iri_resolve.specs.inside.DotSearch.{dots_in_front, slash_and_dots, dots_behind}
 
 pub first_or_behind : (t : List ℕ) → has_dot_segment t ≡ (dots_in_front t || dots_behind t)
 first_or_behind t = ap any_dot_segment (pieces_cut 47 t)
 
 one_step : (x : ℕ) (xs : List ℕ) → dots_behind (x ∷ xs) ≡ (slash_and_dots (x ∷ xs) || dots_behind xs)
-one_step x xs = elim (x == 47) as (λ b. any_dot_segment (more_pieces 47 (cond b (Some xs) (behind 47 xs))) ≡ (b && dots_in_front xs || dots_behind xs)) [ true ↦ first_or_behind xs | false ↦ refl ]
+one_step x xs = elim (x == 47) as (λ b. any_dot_segment (more_pieces 47 (cond b (Some xs) (behind 47 xs)))
+    ≡ (b && dots_in_front xs || dots_behind xs)) [ true ↦ first_or_behind xs | false ↦ refl ]
 
 -- a path is searched place by place
 pub next_place : (t : List ℕ) → 2 ≤ length t → dots_behind t ≡ (slash_and_dots t || dots_behind (drop 1 t))
@@ -22,7 +25,10 @@ next_place (x ∷ xs) l = one_step x xs
 pub too_short : (t : List ℕ) → length t < 2 → dots_behind t ≡ false
 unfolding is_dot_segment
 too_short [] l = refl
-too_short (x ∷ []) l = elim (x == 47) as (λ b. any_dot_segment (more_pieces 47 (cond b (Some []) None)) ≡ false) [ true ↦ refl | false ↦ refl ]
+too_short (x ∷ []) l = elim (x == 47) as (λ b. any_dot_segment (more_pieces 47 (cond b (Some []) None)) ≡ false) [
+  | true ↦ refl
+  | false ↦ refl
+]
 too_short (x ∷ y ∷ xs) l = absurd (omega arith)
 
 -- or from slash to slash
@@ -38,7 +44,7 @@ no_dot x [] h k = rw h refl
 no_dot x (y ∷ []) h k = rw h refl
 no_dot x (y ∷ z ∷ xs) h k = rw (h, k) refl
 
-one_dot : (xs : List ℕ) → behind_dot (46 ∷ xs) ≡ Some xs
+pub one_dot : (xs : List ℕ) → behind_dot (46 ∷ xs) ≡ Some xs
 one_dot [] = refl
 one_dot (y ∷ []) = refl
 one_dot (y ∷ z ∷ xs) = refl
@@ -52,7 +58,10 @@ digit_cut : (z : ℕ) (xs : List ℕ) → behind_dot (37 ∷ 50 ∷ before 47 (z
 digit_cut z xs =
     by_test z 47 (λ b. behind_dot (37 ∷ 50 ∷ cond b [] (z ∷ before 47 xs)) ≡ cut_rest (cond (z == 69 || z == 101) (Some xs) None))
     (λ e. subst (λ (n : ℕ). None ≡ cut_rest (cond (n == 69 || n == 101) (Some xs) None)) (sym e) refl)
-    (λ _. elim (z == 69 || z == 101) as (λ b. cond b (Some (before 47 xs)) None ≡ cut_rest (cond b (Some xs) None)) [ true ↦ refl | false ↦ refl ])
+    (λ _. elim (z == 69 || z == 101) as (λ b. cond b (Some (before 47 xs)) None ≡ cut_rest (cond b (Some xs) None)) [
+      | true ↦ refl
+      | false ↦ refl
+    ])
 
 -- `%` and another byte
 no_digit : (y : ℕ) (xs : List ℕ) → y ≢ 50 → behind_dot (37 ∷ before 47 (y ∷ xs)) ≡ None
@@ -69,18 +78,23 @@ triplet_cut [] = refl
 triplet_cut (y ∷ []) = elim (y == 47) as (λ b. behind_dot (37 ∷ cond b [] (y ∷ [])) ≡ None) [ true ↦ refl | false ↦ refl ]
 triplet_cut (y ∷ z ∷ xs) =
     by_test y 50 (λ b. behind_dot (37 ∷ before 47 (y ∷ z ∷ xs)) ≡ cut_rest (cond (b && (z == 69 || z == 101)) (Some xs) None))
-    (λ e. subst (λ (n : ℕ). behind_dot (37 ∷ before 47 (n ∷ z ∷ xs)) ≡ cut_rest (cond (z == 69 || z == 101) (Some xs) None)) (sym e) (digit_cut z xs))
+    (λ e. subst (λ (n : ℕ). behind_dot (37 ∷ before 47 (n ∷ z ∷ xs)) ≡ cut_rest (cond (z == 69 || z == 101) (Some xs) None)) (sym e)
+    (digit_cut z xs))
     (λ n. no_digit y (z ∷ xs) n)
 
--- what follows a dot at the front of the first segment
+-- what follows a dot at the start of the first segment
 pub dot_cut : (t : List ℕ) → behind_dot (before 47 t) ≡ cut_rest (behind_dot t)
 dot_cut [] = refl
 dot_cut (x ∷ xs) =
     by_test x 46 (λ b. (x == 46) ≡ b → behind_dot (before 47 (x ∷ xs)) ≡ cut_rest (behind_dot (x ∷ xs)))
-    (λ e _. subst (λ (n : ℕ). behind_dot (before 47 (n ∷ xs)) ≡ cut_rest (behind_dot (n ∷ xs))) (sym e) (one_dot (before 47 xs) ∙ ap cut_rest (sym (one_dot xs))))
+    (λ e _. subst (λ (n : ℕ). behind_dot (before 47 (n ∷ xs)) ≡ cut_rest (behind_dot (n ∷ xs))) (sym e)
+    (one_dot (before 47 xs) ∙ ap cut_rest (sym (one_dot xs))))
     (λ _ h. by_test x 37 (λ b. (x == 37) ≡ b → behind_dot (before 47 (x ∷ xs)) ≡ cut_rest (behind_dot (x ∷ xs)))
     (λ e _. subst (λ (n : ℕ). behind_dot (before 47 (n ∷ xs)) ≡ cut_rest (behind_dot (n ∷ xs))) (sym e) (triplet_cut xs))
-    (λ _ k. (elim (x == 47) as (λ b. behind_dot (cond b [] (x ∷ before 47 xs)) ≡ None) [ true ↦ refl | false ↦ no_dot x (before 47 xs) h k ]) ∙ ap cut_rest (sym (no_dot x xs h k)))
+    (λ _ k. (elim (x == 47) as (λ b. behind_dot (cond b [] (x ∷ before 47 xs)) ≡ None) [
+      | true ↦ refl
+      | false ↦ no_dot x (before 47 xs) h k
+    ]) ∙ ap cut_rest (sym (no_dot x xs h k)))
     refl)
     refl
 
@@ -112,19 +126,23 @@ second_dot (x ∷ xs) None h e = rw e refl
 second_dot (x ∷ xs) (Some []) h e = rw e refl
 second_dot (x ∷ xs) (Some (y ∷ ys)) h e = rw e refl
 
-pub two_dots_first : (t r : List ℕ) → Some r ≡ behind_dot t → is_empty (before 47 r) ≡ false → is_dot_segment (before 47 t) ≡ empty_behind (cut_rest (behind_dot r))
+pub two_dots_first : (t r : List ℕ) → Some r ≡ behind_dot t → is_empty (before 47 r) ≡ false
+    → is_dot_segment (before 47 t) ≡ empty_behind (cut_rest (behind_dot r))
 unfolding is_dot_segment
-two_dots_first t r h e = ap is_dot_segment_behind (dot_cut t ∙ ap cut_rest (sym h)) ∙ second_dot (before 47 r) (cut_rest (behind_dot r)) e (dot_cut r)
+two_dots_first t r h e = ap is_dot_segment_behind (dot_cut t ∙ ap cut_rest (sym h))
+    ∙ second_dot (before 47 r) (cut_rest (behind_dot r)) e (dot_cut r)
 
 -- ---- the first two places, where neither a slash nor what begins a dot stands in the second one
 plain : (x y : ℕ) (xs : List ℕ) → (y == 46) ≡ false → (y == 47) ≡ false → (y == 37) ≡ false → dots_behind (x ∷ y ∷ xs) ≡ dots_behind xs
 plain x y xs dot slash triplet =
-    one_step x (y ∷ xs) ∙ rw (plain_front y xs dot triplet, slash) (elim (x == 47) as (λ b. (b && false || dots_behind xs) ≡ dots_behind xs) [ true ↦ refl | false ↦ refl ])
+    one_step x (y ∷ xs) ∙ rw (plain_front y xs dot triplet, slash)
+    (elim (x == 47) as (λ b. (b && false || dots_behind xs) ≡ dots_behind xs) [ true ↦ refl | false ↦ refl ])
 
 pub two_places : (t : List ℕ) → 2 ≤ length t → (37 ≤ slice_index t 1 → slice_index t 1 ≤ 47 → ⊥) → dots_behind t ≡ dots_behind (drop 2 t)
 two_places [] l n = absurd (omega arith)
 two_places (x ∷ []) l n = absurd (omega arith)
-two_places (x ∷ y ∷ xs) l n = plain x y xs (other 46 (omega arith) (omega arith)) (other 47 (omega arith) (omega arith)) (other 37 (omega arith) (omega arith))
+two_places (x ∷ y ∷ xs) l n = plain x y xs (other 46 (omega arith) (omega arith)) (other 47 (omega arith) (omega arith))
+    (other 37 (omega arith) (omega arith))
   where
     other : (c : ℕ) → 37 ≤ c → c ≤ 47 → (y == c) ≡ false
     other c a b = by_test y c (λ b. b ≡ false) (λ e. absurd (n (omega arith) (omega arith))) (λ _. refl)

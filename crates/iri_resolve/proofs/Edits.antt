@@ -1,5 +1,7 @@
 -- A text with one byte in another case.
-use Rattle.std.proofs.Common.{◌≡◌, ℕ, zero, suc, ◌+◌, ◌*◌, ◌<◌, Bool, true, false, cond, not, ◌&&◌, List, [], ◌∷◌, ◌++◌, Option, Some, None, length, refl, sym, ◌-◌, ◌≤◌, ◌∙◌, ap, subst, arith, drop_of_length-le, take-append-drop, length-take-le, length-append, get_or-append-add}
+use Rattle.std.proofs.Common.{◌≡◌, ℕ, zero, suc, ◌+◌, ◌*◌, ◌<◌, Bool, true, false, cond, ◌&&◌, List, [], ◌∷◌, ◌++◌, Option, Some, None}
+use Rattle.std.proofs.Common.{length, refl, sym, ◌-◌, ◌≤◌, ◌∙◌, ap, subst, arith, drop_of_length-le, take-append-drop, length-take-le}
+use Rattle.std.proofs.Common.{length-append, get_or-append-add}
 use Rattle.std.specs.Prelude.{nat_lt, take, drop, slice_index, slice_set}
 use Rattle.std.specs.Char.{is_ascii_uppercase, to_ascii_lowercase, to_ascii_uppercase, encode_utf8, len_utf8}
 use Rattle.std.specs.Str.{chars}
@@ -8,20 +10,17 @@ use Rattle.std.proofs.lemmas.Bool.Decides.{nat_tests}
 use Rattle.iri_grammar.specs.Classes.{Tests}
 use Rattle.iri_percent.specs.Units.{octets, first_char}
 use Rattle.iri_percent.specs.NormalLaws.{decoded}
-use Rattle.iri_percent.specs.UnitLaws.{Spells, none, more, spelled, length-spelled}
-use Rattle.iri_percent.specs.CaseLaws.{is_decoded}
-use Rattle.std.specs.Char.{is_ascii_hexdigit}
+use Rattle.iri_percent.proofs.UnitLaws.{Spells, none, more, spelled, length-spelled}
+use Rattle.iri_percent.proofs.CaseLaws.{is_decoded}
 use Rattle.std.specs.Str.{IsUtf8}
 use Rattle.std.proofs.lemmas.Str.{length-encode, lead_after_ascii}
-use Rattle.iri_resolve.specs.ChangeLaws.{some_triplets}
-use Rattle.iri_resolve.specs.Changes.{is_in_triplet, is_small_digit, with_small_letter, with_small_host_letter, with_capital_digit, with_character, with_decoded}
-use Rattle.iri_resolve.specs.ByteLaws.{cut}
-
-capital_some : (x : ℕ) → is_ascii_uppercase x ≡ true → nat_lt 0 x ≡ true
-capital_some x h = grind (arith, nat_tests)
-
-digit_some : (x : ℕ) → is_small_digit x ≡ true → nat_lt 0 x ≡ true
-digit_some x h = grind (arith, nat_tests)
+use Rattle.iri_resolve.proofs.ChangeLaws.{some_triplets}
+use Rattle.iri_resolve.specs.Changes.{is_in_triplet, is_small_digit, with_small_letter, with_small_host_letter, with_capital_digit}
+use Rattle.iri_resolve.specs.Changes.{with_character, with_decoded}
+use Rattle.iri_resolve.proofs.ByteLaws.{cut}
+use Rattle.iri_grammar.proofs.Units.{hex_is_ascii as digit_below}
+use Rattle.iri_resolve.proofs.ByteLaws.{capital_some}
+use Rattle.iri_resolve.proofs.ByteLaws.{digit_some}
 
 lower_below : (x : ℕ) → is_ascii_uppercase x ≡ true → to_ascii_lowercase x < 128
 lower_below x h = grind (arith, nat_tests)
@@ -29,7 +28,8 @@ lower_below x h = grind (arith, nat_tests)
 upper_below : (x : ℕ) → is_small_digit x ≡ true → to_ascii_uppercase x < 128
 upper_below x h = grind (arith, nat_tests)
 
-edited : (i : ℕ) (t : List ℕ) (y : ℕ) → nat_lt 0 (slice_index t i) ≡ true → y < 128 → take i t ++ (encode_utf8 y ++ drop (i + 1) t) ≡ slice_set t i y
+edited : (i : ℕ) (t : List ℕ) (y : ℕ) → nat_lt 0 (slice_index t i) ≡ true → y < 128
+    → take i t ++ (encode_utf8 y ++ drop (i + 1) t) ≡ slice_set t i y
 edited i t y h l =
     let one : i + 1 ≡ suc i = omega arith in
     ap (λ z. take i t ++ (z ++ drop (i + 1) t)) (encode_ascii y l) ∙ ap (λ n. take i t ++ y ∷ drop n t) one ∙ sym (cut i t y h).1
@@ -38,7 +38,8 @@ pub no_letter : (i : ℕ) (t : List ℕ) → is_ascii_uppercase (slice_index t i
 unfolding with_small_letter
 no_letter i t h = rw h refl
 
-pub letter : (i : ℕ) (t u : List ℕ) → is_ascii_uppercase (slice_index t i) ≡ true → u ≡ take i t ++ (encode_utf8 (to_ascii_lowercase (slice_index t i)) ++ drop (i + 1) t) → with_small_letter i t ≡ Some u
+pub letter : (i : ℕ) (t u : List ℕ) → is_ascii_uppercase (slice_index t i) ≡ true
+    → u ≡ take i t ++ (encode_utf8 (to_ascii_lowercase (slice_index t i)) ++ drop (i + 1) t) → with_small_letter i t ≡ Some u
 unfolding with_small_letter
 letter i t u h e =
     let x = slice_index t i in
@@ -46,13 +47,16 @@ letter i t u h e =
 
 pub no_digit : (i : ℕ) (t : List ℕ) → is_small_digit (slice_index t i) ≡ false → with_capital_digit i t ≡ None
 unfolding with_capital_digit
-no_digit i t h = rw h (elim (is_in_triplet i t) as (λ b. cond (b && false) (Some (slice_set t i (to_ascii_uppercase (slice_index t i)))) None ≡ None) [ true ↦ refl | false ↦ refl ])
+no_digit i t h = rw h (elim (is_in_triplet i t) as (λ b. cond (b && false)
+    (Some (slice_set t i (to_ascii_uppercase (slice_index t i)))) None ≡ None) [ true ↦ refl | false ↦ refl ])
 
 pub digit_outside : (i : ℕ) (t : List ℕ) → is_in_triplet i t ≡ false → with_capital_digit i t ≡ None
 unfolding with_capital_digit
-digit_outside i t h = ap (λ b. cond (b && is_small_digit (slice_index t i)) (Some (slice_set t i (to_ascii_uppercase (slice_index t i)))) None) h
+digit_outside i t h = ap (λ b. cond (b && is_small_digit (slice_index t i))
+    (Some (slice_set t i (to_ascii_uppercase (slice_index t i)))) None) h
 
-pub digit : (i : ℕ) (t u : List ℕ) → is_small_digit (slice_index t i) ≡ true → is_in_triplet i t ≡ true → u ≡ take i t ++ (encode_utf8 (to_ascii_uppercase (slice_index t i)) ++ drop (i + 1) t) → with_capital_digit i t ≡ Some u
+pub digit : (i : ℕ) (t u : List ℕ) → is_small_digit (slice_index t i) ≡ true → is_in_triplet i t ≡ true
+    → u ≡ take i t ++ (encode_utf8 (to_ascii_uppercase (slice_index t i)) ++ drop (i + 1) t) → with_capital_digit i t ≡ Some u
 unfolding with_capital_digit
 digit i t u h k e =
     let x = slice_index t i in
@@ -65,7 +69,8 @@ pub not_decoded : (s : Tests) (i : ℕ) (t : List ℕ) → decoded s (octets (dr
 unfolding with_decoded
 not_decoded s i t h = ap (with_character i t) h
 
-pub is_decoded_to : (s : Tests) (i : ℕ) (t u : List ℕ) (c : ℕ) → decoded s (octets (drop i t)) ≡ Some c → u ≡ take i t ++ (encode_utf8 c ++ drop (i + 3 * len_utf8 c) t) → with_decoded s i t ≡ Some u
+pub is_decoded_to : (s : Tests) (i : ℕ) (t u : List ℕ) (c : ℕ) → decoded s (octets (drop i t)) ≡ Some c
+    → u ≡ take i t ++ (encode_utf8 c ++ drop (i + 3 * len_utf8 c) t) → with_decoded s i t ≡ Some u
 unfolding with_decoded
 is_decoded_to s i t u c h e = ap (with_character i t) h ∙ ap Some (sym e)
 
@@ -83,19 +88,20 @@ at_front zero (x ∷ xs) y r e = (omega arith, cc)
 at_front (suc i) [] y r e = cc
 at_front (suc i) (x ∷ xs) y r e = let k = at_front i xs y r e in let l = k.0 in (omega arith, k.1)
 
-digit_below : (x : ℕ) → is_ascii_hexdigit x ≡ true → x < 128
-digit_below x h = grind (arith, nat_tests)
-
-deeper : (n : ℕ) (x y z : ℕ) (xs : List ℕ) → 0 < n → slice_index xs (n - 1) < 128 → slice_index (x ∷ y ∷ z ∷ xs) (suc (suc (suc n)) - 1) < 128
-deeper n x y z xs l h = let e : suc (suc (suc n)) - 1 ≡ suc (suc (suc (n - 1))) = omega arith in subst (λ k. slice_index (x ∷ y ∷ z ∷ xs) k < 128) (sym e) h
+deeper : (n : ℕ) (x y z : ℕ) (xs : List ℕ) → 0 < n → slice_index xs (n - 1) < 128
+    → slice_index (x ∷ y ∷ z ∷ xs) (suc (suc (suc n)) - 1) < 128
+deeper n x y z xs l h = let e : suc (suc (suc n)) - 1 ≡ suc (suc (suc (n - 1))) = omega arith in
+    subst (λ k. slice_index (x ∷ y ∷ z ∷ xs) k < 128) (sym e) h
 
 last_digit : (sp os r : List ℕ) → Spells sp os → 0 < length os → slice_index (sp ++ r) (length sp - 1) < 128
 last_digit sp os r none h = absurd (omega arith)
 last_digit sp os r (more a b sp' os' p q k) h = at sp' os' k (λ l. last_digit sp' os' r k l)
   where
-    at : (sp' os' : List ℕ) → Spells sp' os' → (0 < length os' → slice_index (sp' ++ r) (length sp' - 1) < 128) → slice_index (37 ∷ a ∷ b ∷ (sp' ++ r)) (suc (suc (suc (length sp'))) - 1) < 128
+    at : (sp' os' : List ℕ) → Spells sp' os' → (0 < length os' → slice_index (sp' ++ r) (length sp' - 1) < 128)
+        → slice_index (37 ∷ a ∷ b ∷ (sp' ++ r)) (suc (suc (suc (length sp'))) - 1) < 128
     at sp' os' none go = digit_below b q
-    at sp' os' (more a' b' sp'' os'' p' q' k') go = deeper (length (37 ∷ a' ∷ b' ∷ sp'')) 37 a b ((37 ∷ a' ∷ b' ∷ sp'') ++ r) (omega arith) (go (omega arith))
+    at sp' os' (more a' b' sp'' os'' p' q' k') go =
+        deeper (length (37 ∷ a' ∷ b' ∷ sp'')) 37 a b ((37 ∷ a' ∷ b' ∷ sp'') ++ r) (omega arith) (go (omega arith))
 
 -- where a character in triplets stands
 pub record Place (i n : ℕ) (t : List ℕ) : Type 0 where
@@ -118,7 +124,9 @@ place s i t c e =
     let bytes : 0 < length (encode_utf8 c) = omega (arith, some, length-spelled r.sp (encode_utf8 c) r.spells) in
     let at : i + 3 * len_utf8 c - 1 ≡ length (take i t) + (length r.sp - 1) = omega (arith, front, long, some) in
     let digit = last_digit r.sp (encode_utf8 c) r.xs r.spells bytes in
-    let read : slice_index t (i + 3 * len_utf8 c - 1) ≡ slice_index (r.sp ++ r.xs) (length r.sp - 1) = ap (slice_index t) at ∙ ap (λ z. slice_index z (length (take i t) + (length r.sp - 1))) whole ∙ get_or-append-add (take i t) (r.sp ++ r.xs) (length r.sp - 1) 0 in
+    let read : slice_index t (i + 3 * len_utf8 c - 1) ≡ slice_index (r.sp ++ r.xs) (length r.sp - 1) =
+    ap (slice_index t) at ∙ ap (λ z. slice_index z (length (take i t) + (length r.sp - 1))) whole
+    ∙ get_or-append-add (take i t) (r.sp ++ r.xs) (length r.sp - 1) 0 in
     record {
       inside = f.0;
       first = subst (λ x. x < 128) (sym f.1) (omega arith);
@@ -127,20 +135,25 @@ place s i t c e =
       last = subst (λ x. x < 128) (sym read) digit;
     }
 
-pub behind_place : (i n : ℕ) (t : List ℕ) → IsUtf8 t → Place i n t → i + n < length t → 128 ≤ slice_index t (i + n) → 192 ≤ slice_index t (i + n)
+pub behind_place : (i n : ℕ) (t : List ℕ) → IsUtf8 t → Place i n t → i + n < length t → 128 ≤ slice_index t (i + n)
+    → 192 ≤ slice_index t (i + n)
 behind_place i n t u p l h =
     let some = p.some in
     let next : i + n - 1 + 1 ≡ i + n = omega arith in
-    subst (λ k. 192 ≤ slice_index t k) next (lead_after_ascii t (i + n - 1) u p.last (omega arith) (subst (λ k. 128 ≤ slice_index t k) (sym next) h))
+    subst (λ k. 192 ≤ slice_index t k) next (lead_after_ascii t (i + n - 1) u p.last (omega arith)
+    (subst (λ k. 128 ≤ slice_index t k) (sym next) h))
 
 pub rest_all : (l : List ℕ) (i : ℕ) → take (length l - i) (drop i l) ≡ drop i l
-rest_all l i = Rattle.std.proofs.lemmas.List.take_all (length l - i) (drop i l) (omega (arith, Rattle.std.proofs.lemmas.List.length-drop i l))
+rest_all l i = Rattle.std.proofs.lemmas.List.take_all (length l - i) (drop i l)
+    (omega (arith, Rattle.std.proofs.lemmas.List.length-drop i l))
 
 pub from_start : (i : ℕ) (t : List ℕ) → take (i - 0) (drop 0 t) ≡ take i t
 from_start i t = let e : i - 0 ≡ i = omega arith in ap (λ n. take n t) e
 
-pub put_together : (i n : ℕ) (t u v w r b e : List ℕ) → u ≡ v ++ b → v ≡ w ++ e → w ≡ r → r ≡ take i t → b ≡ drop n t → u ≡ take i t ++ (e ++ drop n t)
-put_together i n t u v w r b e p q o k l = p ∙ ap (λ z. z ++ b) (q ∙ ap (λ z. z ++ e) (o ∙ k)) ∙ Rattle.std.proofs.Common.append_assoc (take i t) e b ∙ ap (λ z. take i t ++ (e ++ z)) l
+pub put_together : (i n : ℕ) (t u v w r b e : List ℕ) → u ≡ v ++ b → v ≡ w ++ e → w ≡ r → r ≡ take i t → b ≡ drop n t
+    → u ≡ take i t ++ (e ++ drop n t)
+put_together i n t u v w r b e p q o k l = p ∙ ap (λ z. z ++ b) (q ∙ ap (λ z. z ++ e) (o ∙ k))
+    ∙ Rattle.std.proofs.Common.append_assoc (take i t) e b ∙ ap (λ z. take i t ++ (e ++ z)) l
 
 -- ---- letters of a host
 pub letter_inside : (i : ℕ) (t : List ℕ) → is_in_triplet i t ≡ true → with_small_host_letter i t ≡ None

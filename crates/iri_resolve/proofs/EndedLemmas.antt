@@ -1,19 +1,19 @@
 -- Texts that end with a slash, cut between their segments.
-use Rattle.std.proofs.Common.{◌≡◌, ℕ, zero, suc, ◌+◌, ◌-◌, ◌<◌, ◌≤◌, Bool, true, false, cond, ◌||◌, List, [], ◌∷◌, ◌++◌, Option, Some, None, length, take, drop, get_or, refl, sym, ◌∙◌, ap, subst, arith, append_assoc, length-append, eq-eqb}
+use Rattle.std.proofs.Common.{◌≡◌, ℕ, zero, suc, ◌+◌, ◌-◌, ◌<◌, ◌≤◌, Bool, true, false, cond, ◌||◌, List, [], ◌∷◌, ◌++◌, Option, Some}
+use Rattle.std.proofs.Common.{None, length, take, drop, get_or, refl, sym, ◌∙◌, ap, subst, arith, append_assoc, length-append, eq-eqb}
 use Rattle.std.specs.Prelude.{◌==◌, slice_index}
 use Rattle.std.specs.Str.{IsUtf8, IsCharBoundary}
 use Rattle.std.proofs.lemmas.Bool.Decides.{nat_tests}
 use Rattle.std.proofs.lemmas.List.{append-nil, drop_at, take_at}
 use Rattle.std.proofs.lemmas.Str.{IsUtf8-nil, IsUtf8-take, IsCharBoundary-after_ascii, IsCharBoundary-start}
 use Rattle.std.proofs.Math.Seq.{get_or-append_seam}
-use Rattle.iri_grammar.proofs.Marks.{text_after_mark}
 use Rattle.iri_grammar.specs.Cut.{before, behind, lacks, marked}
-use Rattle.iri_grammar.specs.CutLaws.{by_test, joined}
+use Rattle.iri_grammar.proofs.CutLaws.{by_test, joined}
 use Rattle.iri_resolve.specs.Target.{to_last_slash, ends_at_slash, LastSlash}
 use Rattle.iri_resolve.specs.Dots.{is_dot_segment, any_dot_segment, has_dot_segment}
 use Rattle.iri_resolve.specs.DotRemoval.{is_two_dots}
 use Rattle.iri_resolve.specs.Kept.{grown, ended, removing, removed, kept_one, kept, behind_front_dots}
-use Rattle.iri_resolve.specs.PieceLaws.{nothing-is_no_dot}
+use Rattle.iri_resolve.proofs.PieceLaws.{nothing-is_no_dot}
 use Rattle.iri_resolve.proofs.KeptLemmas.{ended-append, ended-one, removed-append, kept-append, pieces-ended}
 
 -- ---- where a text ends with a slash
@@ -70,12 +70,6 @@ without_end t h l =
     r.whole ∙ ap (λ f. f ++ 47 ∷ []) (sym front)
 
 -- ---- what stands beside the cut is text
-pub utf8-rest : (a b : List ℕ) → ends_at_slash a ≡ true → IsUtf8 (a ++ b) → IsUtf8 b
-utf8-rest [] b h u = u
-utf8-rest (x ∷ xs) b h u =
-    let r = end_slash (x ∷ xs) h (omega arith) in
-    text_after_mark 47 r.front b (omega arith) (subst IsUtf8 (ap (λ l. l ++ b) r.whole ∙ append_assoc r.front (47 ∷ []) b) u)
-
 pub utf8-front : (a b : List ℕ) → ends_at_slash a ≡ true → IsUtf8 (a ++ b) → IsUtf8 a
 utf8-front [] b h u = IsUtf8-nil
 utf8-front (x ∷ xs) b h u =
@@ -86,7 +80,8 @@ utf8-front (x ∷ xs) b h u =
     let at : get_or t (length r.front) 0 ≡ 47 = ap (λ l. get_or l (length r.front) 0) same ∙ get_or-append_seam r.front 47 b 0 in
     let n : length a ≡ length r.front + 1 = ap length r.whole ∙ length-append r.front (47 ∷ []) in
     let inside : length r.front < length t = omega (arith, length-append a b, n) in
-    subst IsUtf8 (take_at a b (length r.front + 1) n) (IsUtf8-take t (length r.front + 1) u (IsCharBoundary-after_ascii t (length r.front) u inside (omega (arith, at))))
+    subst IsUtf8 (take_at a b (length r.front + 1) n)
+    (IsUtf8-take t (length r.front + 1) u (IsCharBoundary-after_ascii t (length r.front) u inside (omega (arith, at))))
 
 -- ---- the last slash
 record LastCut (t : List ℕ) : Type 0 where
@@ -107,7 +102,8 @@ pub behind_last : (t a b : List ℕ) (k : ℕ) → LastSlash t k → t ≡ a ++ 
 behind_last t a b k h e n =
     let r = last_cut t in
     let front : a ≡ to_last_slash t = sym (ap (take (k + 1)) e ∙ take_at a b (k + 1) n) ∙ h.front in
-    let same : b ≡ r.rest = sym (ap (drop (k + 1)) e ∙ drop_at a b (k + 1) n) ∙ (ap (drop (k + 1)) r.whole ∙ drop_at (to_last_slash t) r.rest (k + 1) (sym (ap length front) ∙ n)) in
+    let same : b ≡ r.rest = sym (ap (drop (k + 1)) e ∙ drop_at a b (k + 1) n)
+    ∙ (ap (drop (k + 1)) r.whole ∙ drop_at (to_last_slash t) r.rest (k + 1) (sym (ap length front) ∙ n)) in
     ap (lacks 47) same ∙ r.last
 
 -- where a text may be cut
@@ -127,7 +123,8 @@ cut-boundary (x ∷ xs) b h u =
 pub ended-last : (t a s : List ℕ) → ends_at_slash a ≡ true → lacks 47 s ≡ true → t ≡ a ++ (s ++ 47 ∷ []) → ended t ≡ ended a ++ s ∷ []
 ended-last t a s h k e = ap ended e ∙ (ended-append a (s ++ 47 ∷ []) h ∙ ap (λ l. ended a ++ l) (ended-one s k))
 
-pub removed-last : (t a s : List ℕ) (n : ℕ) → ends_at_slash a ≡ true → lacks 47 s ≡ true → t ≡ a ++ (s ++ 47 ∷ []) → removed (ended t) n ≡ removed (ended a) (removing s n)
+pub removed-last : (t a s : List ℕ) (n : ℕ) → ends_at_slash a ≡ true → lacks 47 s ≡ true → t ≡ a ++ (s ++ 47 ∷ [])
+    → removed (ended t) n ≡ removed (ended a) (removing s n)
 removed-last t a s n h k e = ap (λ l. removed l n) (ended-last t a s h k e) ∙ removed-append (ended a) (s ∷ []) n
 
 pub removing-le : (s : List ℕ) (n : ℕ) → removing s n ≤ n + 1
@@ -141,32 +138,34 @@ pub length-last : (t a s : List ℕ) → t ≡ a ++ (s ++ 47 ∷ []) → length 
 length-last t a s e = omega (arith, ap length e, length-append a (s ++ 47 ∷ []), length-append s (47 ∷ []))
 
 -- ---- segments without dots
-neither : (a b : Bool) → (a || b) ≡ false → (a ≡ false) × (b ≡ false)
+pub neither : (a b : Bool) → (a || b) ≡ false → (a ≡ false) × (b ≡ false)
 neither true b h = cc
 neither false b h = (refl, h)
 
-none-append : (ss ts : List (List ℕ)) → any_dot_segment (ss ++ ts) ≡ false → (any_dot_segment ss ≡ false) × (any_dot_segment ts ≡ false)
+pub none-append : (ss ts : List (List ℕ)) → any_dot_segment (ss ++ ts) ≡ false → (any_dot_segment ss ≡ false) × (any_dot_segment ts ≡ false)
 none-append [] ts h = (refl, h)
 none-append (s ∷ ss) ts h =
     let k = neither (is_dot_segment s) (any_dot_segment (ss ++ ts)) h in
     let r = none-append ss ts k.1 in
     (rw k.0 r.0, r.1)
 
-pub none-last : (t a s : List ℕ) → ends_at_slash a ≡ true → lacks 47 s ≡ true → t ≡ a ++ (s ++ 47 ∷ []) → any_dot_segment (ended t) ≡ false → any_dot_segment (ended a) ≡ false
+pub none-last : (t a s : List ℕ) → ends_at_slash a ≡ true → lacks 47 s ≡ true → t ≡ a ++ (s ++ 47 ∷ []) → any_dot_segment (ended t) ≡ false
+    → any_dot_segment (ended a) ≡ false
 none-last t a s h k e n = (none-append (ended a) (s ∷ []) (ap any_dot_segment (sym (ended-last t a s h k e)) ∙ n)).0
 
-plain-kept : (s : List ℕ) (n : ℕ) → is_dot_segment s ≡ false → kept_one s (n + 1) ≡ []
+pub plain-kept : (s : List ℕ) (n : ℕ) → is_dot_segment s ≡ false → kept_one s (n + 1) ≡ []
 plain-kept s n h = let e : (n + 1 == 0) ≡ false = grind (arith, nat_tests) in rw (h, e) refl
 
-plain-removing : (s : List ℕ) (n : ℕ) → is_dot_segment s ≡ false → removing s (n + 1) ≡ n
+pub plain-removing : (s : List ℕ) (n : ℕ) → is_dot_segment s ≡ false → removing s (n + 1) ≡ n
 plain-removing s n h = let e : n + 1 - 1 ≡ n = omega arith in rw h e
 
-or_false : (b : Bool) → (b || false) ≡ false → b ≡ false
+pub or_false : (b : Bool) → (b || false) ≡ false → b ≡ false
 or_false true h = cc
 or_false false h = refl
 
 -- the last one goes
-pub kept-last : (t a s : List ℕ) (n : ℕ) → ends_at_slash a ≡ true → lacks 47 s ≡ true → t ≡ a ++ (s ++ 47 ∷ []) → any_dot_segment (ended t) ≡ false → kept (ended t) (n + 1) ≡ kept (ended a) n
+pub kept-last : (t a s : List ℕ) (n : ℕ) → ends_at_slash a ≡ true → lacks 47 s ≡ true → t ≡ a ++ (s ++ 47 ∷ [])
+    → any_dot_segment (ended t) ≡ false → kept (ended t) (n + 1) ≡ kept (ended a) n
 kept-last t a s n h k e d =
     let split = ended-last t a s h k e in
     let plain = or_false (is_dot_segment s) (none-append (ended a) (s ∷ []) (ap any_dot_segment (sym split) ∙ d)).1 in
@@ -176,14 +175,11 @@ kept-last t a s n h k e d =
     ∙ (append-nil (kept (ended a) (removing s (n + 1))) ∙ ap (kept (ended a)) (plain-removing s n plain))))
 
 -- all of them stay
-abbrev unended : List (List ℕ) → List ℕ
+abbrev pub unended : List (List ℕ) → List ℕ
 unended [] = []
 unended (s ∷ ss) = s ++ 47 ∷ unended ss
 
-unended-grown : (x : ℕ) (s : List ℕ) (ss : List (List ℕ)) → unended (grown x (s ∷ ss)) ≡ x ∷ unended (s ∷ ss)
-unended-grown x s ss = refl
-
-unended-ended : (t : List ℕ) → ends_at_slash t ≡ true → unended (ended t) ≡ t
+pub unended-ended : (t : List ℕ) → ends_at_slash t ≡ true → unended (ended t) ≡ t
 unended-ended [] h = refl
 unended-ended (x ∷ []) h = rw h (ap (λ c. c ∷ []) (sym (equal-where x 47 h)))
 unended-ended (x ∷ y ∷ ys) h =
@@ -196,14 +192,14 @@ unended-ended (x ∷ y ∷ ys) h =
     grows [] e = cc
     grows (s ∷ ss) e = ap (λ l. x ∷ l) e
 
-plain-removed : (ss : List (List ℕ)) → any_dot_segment ss ≡ false → removed ss 0 ≡ 0
+pub plain-removed : (ss : List (List ℕ)) → any_dot_segment ss ≡ false → removed ss 0 ≡ 0
 plain-removed [] h = refl
 plain-removed (s ∷ ss) h =
     let k = none-append (s ∷ []) ss h in
     let p = or_false (is_dot_segment s) k.0 in
     rw (plain-removed ss k.1, p) refl
 
-kept-unended : (ss : List (List ℕ)) → any_dot_segment ss ≡ false → kept ss 0 ≡ unended ss
+pub kept-unended : (ss : List (List ℕ)) → any_dot_segment ss ≡ false → kept ss 0 ≡ unended ss
 kept-unended [] h = refl
 kept-unended (s ∷ ss) h =
     let k = none-append (s ∷ []) ss h in
@@ -231,7 +227,8 @@ dots-ended t h =
 pub ended-first : (t r : List ℕ) → behind 47 t ≡ Some r → ended t ≡ before 47 t ∷ ended r
 ended-first [] r e = cc
 ended-first (x ∷ xs) r e =
-    elim (x == 47) as (λ b. cond b (Some xs) (behind 47 xs) ≡ Some r → cond b ([] ∷ ended xs) (grown x (ended xs)) ≡ cond b [] (x ∷ before 47 xs) ∷ ended r) [
+    elim (x == 47) as (λ b. cond b (Some xs) (behind 47 xs) ≡ Some r
+    → cond b ([] ∷ ended xs) (grown x (ended xs)) ≡ cond b [] (x ∷ before 47 xs) ∷ ended r) [
       | true ↦ λ k. let same : xs ≡ r = cc in ap (λ l. [] ∷ ended l) same
       | false ↦ λ k. ap (grown x) (ended-first xs r k)
     ] e
@@ -239,7 +236,8 @@ ended-first (x ∷ xs) r e =
 pub ended-none : (t : List ℕ) → behind 47 t ≡ None → ended t ≡ []
 ended-none [] e = refl
 ended-none (x ∷ xs) e =
-    elim (x == 47) as (λ b. cond b (Some xs) (behind 47 xs) ≡ None → cond b ([] ∷ ended xs) (grown x (ended xs)) ≡ []) [ true ↦ λ k. cc | false ↦ λ k. ap (grown x) (ended-none xs k) ] e
+    elim (x == 47) as (λ b. cond b (Some xs) (behind 47 xs) ≡ None
+    → cond b ([] ∷ ended xs) (grown x (ended xs)) ≡ []) [ true ↦ λ k. cc | false ↦ λ k. ap (grown x) (ended-none xs k) ] e
 
 -- what stands before it, and what follows
 pub first_whole : (t r : List ℕ) → behind 47 t ≡ Some r → t ≡ (before 47 t ++ 47 ∷ []) ++ r
@@ -252,5 +250,6 @@ front-done t h = by_rest (behind 47 t) refl
     by_rest None e = ap behind_front_dots (ended-none t e) ∙ sym (ended-none t e)
     by_rest (Some r) e = subst (λ l. behind_front_dots l ≡ l) (sym (ended-first t r e)) (rw h refl)
 
-pub front-gone : (t r : List ℕ) → behind 47 t ≡ Some r → is_dot_segment (before 47 t) ≡ true → behind_front_dots (ended t) ≡ behind_front_dots (ended r)
+pub front-gone : (t r : List ℕ) → behind 47 t ≡ Some r → is_dot_segment (before 47 t) ≡ true
+    → behind_front_dots (ended t) ≡ behind_front_dots (ended r)
 front-gone t r e h = ap behind_front_dots (ended-first t r e) ∙ rw h refl

@@ -1,5 +1,6 @@
 -- Parts shown in a mode.
-use Rattle.std.proofs.Common.{◌≡◌, ℕ, ◌<◌, Bool, true, false, cond, ◌||◌, List, [], ◌∷◌, ◌++◌, Option, Some, Bor, length, refl, sym, ◌∙◌, ap, subst, arith}
+use Rattle.std.proofs.Common.{◌≡◌, ℕ, ◌<◌, Bool, true, false, cond, ◌||◌, List, [], ◌∷◌, ◌++◌, Option, Some, Bor, length, refl, sym, ◌∙◌}
+use Rattle.std.proofs.Common.{ap, subst, arith}
 use Rattle.std.specs.Prelude.{◌==◌, nat_lt}
 use Rattle.std.specs.Char.{to_ascii_lowercase}
 use Rattle.std.specs.List.{list_all}
@@ -9,26 +10,23 @@ use lib.Utf8.{scalar}
 use Rattle.iri_grammar.specs.Classes.{Tests, IsSpec, reg_name_char, is_ascii_reg_name, is_ascii_unreserved, is_sub_delim}
 use Rattle.iri_grammar.specs.Components.{is_scheme, is_scheme_char}
 use Rattle.iri_grammar.specs.Cut.{marked}
-use Rattle.iri_grammar.specs.CutLaws.{both}
+use Rattle.iri_grammar.proofs.CutLaws.{both}
 use Rattle.iri_grammar.specs.Host.{is_host}
 use Rattle.iri_grammar.specs.IpLiteral.{is_ip_literal}
 use Rattle.iri_grammar.specs.Parts.{scheme_text, authority_text}
-use Rattle.iri_grammar.specs.SplitLaws.{scheme-chars}
-use Rattle.iri_grammar.specs.Views.{now_of}
-use Rattle.iri_percent.specs.ClassLaws.{IsText, ended, letter, over-from_text}
+use Rattle.iri_grammar.proofs.SplitLaws.{scheme-chars}
+use Rattle.iri_grammar.specs.OptionalSlices.{now_of}
+use Rattle.iri_percent.proofs.ClassLaws.{IsText, ended, letter, over-from_text}
 use Rattle.iri_percent.specs.NormalHost.{normal_host, is_ascii_host, normal_port}
-use Rattle.iri_percent.specs.NormalLaws.{normal_nil, normal_plain}
+use Rattle.iri_percent.proofs.NormalLaws.{normal_nil, normal_plain}
 use Rattle.iri_percent.specs.Triplets.{normal, pct}
-use Rattle.iri_percent.specs.WholeLaws.{reg_name_percent}
-use Rattle.iri_resolve.specs.Normal.{lowered, where_there}
+use Rattle.iri_percent.proofs.WholeLaws.{reg_name_percent}
+use Rattle.iri_resolve.specs.LowerCase.{lowered, where_there}
 use Rattle.iri_resolve.specs.NormalForm.{part_in}
 use Rattle.iri_resolve.specs.PathForm.{in_form}
+use Rattle.iri_grammar.proofs.SplitUnique.{scheme_char-below as scheme-low}
 
 -- ---- a scheme is a host, and put into lower case as one
-scheme-low : (c : ℕ) → is_scheme_char c ≡ true → c < 128
-unfolding is_scheme_char
-scheme-low c h = grind (arith, nat_tests)
-
 scheme-scalar : (c : ℕ) → c < 128 → scalar c ≡ true
 scheme-scalar c h = grind (arith, nat_tests)
 
@@ -49,10 +47,12 @@ scheme-text s [] h = ended
 scheme-text s (x ∷ xs) h =
     let k = both (is_scheme_char x) (list_all is_scheme_char xs) h in
     let low = scheme-low x k.0 in
-    subst (λ l. IsText (reg_name_char s) (l ++ xs)) (encode_ascii x low) (letter x xs (scheme-scalar x low) (scheme-name s x k.0) (scheme-percent x k.0) (scheme-text s xs k.1))
+    subst (λ l. IsText (reg_name_char s) (l ++ xs)) (encode_ascii x low)
+    (letter x xs (scheme-scalar x low) (scheme-name s x k.0) (scheme-percent x k.0) (scheme-text s xs k.1))
 
 pub scheme-host : (s : Tests) (x : List ℕ) → IsSpec s → is_scheme x ≡ true → is_host s x ≡ true
-scheme-host s x k h = rw (over-from_text (reg_name_char s) x (reg_name_percent s k) (scheme-text s x (scheme-chars x h))) (or-true (is_ip_literal x))
+scheme-host s x k h = rw (over-from_text (reg_name_char s) x (reg_name_percent s k) (scheme-text s x (scheme-chars x h)))
+    (or-true (is_ip_literal x))
   where
     or-true : (b : Bool) → (b || true) ≡ true
     or-true true = refl
@@ -80,17 +80,21 @@ scheme-lowered s x h =
     let k = scheme-chars x h in
     ap (λ b. cond b (normal s to_ascii_lowercase x) (pct s x)) (ascii-all x k) ∙ lowered-all s x k
 
--- ---- parts that stand, with their marks
-pub scheme-in : (n : Bool) (f : List ℕ → List ℕ) (o : Option (Bor (List ℕ))) (a : Bor (List ℕ)) → o ≡ Some a → cond n (f a.now) a.now ++ 58 ∷ [] ≡ scheme_text (part_in n f (now_of o))
+-- ---- parts that stand, with their delimiters
+pub scheme-in : (n : Bool) (f : List ℕ → List ℕ) (o : Option (Bor (List ℕ))) (a : Bor (List ℕ)) → o ≡ Some a
+    → cond n (f a.now) a.now ++ 58 ∷ [] ≡ scheme_text (part_in n f (now_of o))
 scheme-in true f o a e = ap (λ (p : Option (Bor (List ℕ))). scheme_text (where_there f (now_of p))) (sym e)
 scheme-in false f o a e = ap (λ (p : Option (Bor (List ℕ))). scheme_text (now_of p)) (sym e)
 
-pub authority-in : (n : Bool) (f : List ℕ → List ℕ) (o : Option (Bor (List ℕ))) (a : Bor (List ℕ)) → o ≡ Some a → (47 ∷ 47 ∷ []) ++ cond n (f a.now) a.now ≡ authority_text (part_in n f (now_of o))
+pub authority-in : (n : Bool) (f : List ℕ → List ℕ) (o : Option (Bor (List ℕ))) (a : Bor (List ℕ)) → o ≡ Some a
+    → (47 ∷ 47 ∷ []) ++ cond n (f a.now) a.now ≡ authority_text (part_in n f (now_of o))
 authority-in true f o a e = ap (λ (p : Option (Bor (List ℕ))). authority_text (where_there f (now_of p))) (sym e)
 authority-in false f o a e = ap (λ (p : Option (Bor (List ℕ))). authority_text (now_of p)) (sym e)
 
-pub marked-in : (s : Tests) (n : Bool) (m : List ℕ) (c : ℕ) (o : Option (Bor (List ℕ))) (a : Bor (List ℕ)) → m ≡ c ∷ [] → o ≡ Some a → m ++ in_form s n a.now ≡ marked c (part_in n (pct s) (now_of o))
-marked-in s true m c o a h e = ap (λ l. l ++ pct s a.now) h ∙ ap (λ (p : Option (Bor (List ℕ))). marked c (where_there (pct s) (now_of p))) (sym e)
+pub marked-in : (s : Tests) (n : Bool) (m : List ℕ) (c : ℕ) (o : Option (Bor (List ℕ))) (a : Bor (List ℕ)) → m ≡ c ∷ [] → o ≡ Some a
+    → m ++ in_form s n a.now ≡ marked c (part_in n (pct s) (now_of o))
+marked-in s true m c o a h e = ap (λ l. l ++ pct s a.now) h
+    ∙ ap (λ (p : Option (Bor (List ℕ))). marked c (where_there (pct s) (now_of p))) (sym e)
 marked-in s false m c o a h e = ap (λ l. l ++ a.now) h ∙ ap (λ (p : Option (Bor (List ℕ))). marked c (now_of p)) (sym e)
 
 pub port-in : (x : List ℕ) → 0 < length x → (58 ∷ []) ++ x ≡ marked 58 (normal_port (Some x))

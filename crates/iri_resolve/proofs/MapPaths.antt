@@ -1,24 +1,28 @@
 -- The mapping of paths: segments, and dot removal.
-use Rattle.std.proofs.Common.{◌≡◌, ℕ, Bool, true, false, cond, not, ◌&&◌, ◌||◌, List, [], ◌∷◌, ◌++◌, Option, Some, None, map, refl, sym, ◌∙◌, ap, subst, arith}
+use Rattle.std.proofs.Common.{◌≡◌, ℕ, Bool, true, false, cond, not, ◌&&◌, ◌||◌, List, [], ◌∷◌, ◌++◌, Option, Some, None, map, refl, sym}
+use Rattle.std.proofs.Common.{◌∙◌, ap, subst, arith}
 use Rattle.std.specs.Prelude.{◌==◌, ◌/◌, ◌%◌, nat_lt}
 use Rattle.std.proofs.lemmas.Bool.Decides.{nat_tests}
 use Rattle.iri_grammar.specs.Cut.{lacks}
-use Rattle.iri_grammar.specs.CutLaws.{by_test}
+use Rattle.iri_grammar.proofs.CutLaws.{by_test}
 use Rattle.iri_grammar.specs.Parts.{starts_with_slashes}
 use Rattle.iri_grammar.specs.Pieces.{pieces, onto}
 use Rattle.iri_percent.specs.Mapping.{capital_hex, triplet, mapped}
-use Rattle.iri_percent.specs.MapTexts.{mapped-low, mapped-high, mapped-append}
-use Rattle.iri_percent.specs.MapMarks.{slash-apart, slash_hex, high_apart, mapped-lacks, mapped-slashes}
+use Rattle.iri_percent.proofs.MapTexts.{mapped-low, mapped-high, mapped-append}
+use Rattle.iri_percent.proofs.MapMarks.{slash-apart, slash_hex, high_apart, mapped-lacks, mapped-slashes}
 use Rattle.iri_resolve.specs.Dots.{behind_dot, is_dot_segment}
-use Rattle.iri_resolve.specs.DotRemoval.{is_all, is_one_dot, is_one_dot_behind, is_two_dots, without_top, closed, remove_behind, remove_dots, path_text, dots}
+use Rattle.iri_resolve.specs.DotRemoval.{is_all, is_one_dot, is_one_dot_behind, is_two_dots, without_top, closed, remove_behind}
+use Rattle.iri_resolve.specs.DotRemoval.{remove_dots, path_text, dots}
 use Rattle.iri_resolve.specs.Guard.{guard}
-use Rattle.iri_resolve.specs.Normal.{where_there}
-use Rattle.iri_resolve.specs.OutputLaws.{left}
-use Rattle.iri_resolve.specs.PieceLaws.{pieces-some, dot_kinds}
+use Rattle.iri_resolve.specs.LowerCase.{where_there}
+use Rattle.iri_resolve.proofs.OutputLaws.{left}
+use Rattle.iri_resolve.proofs.PieceLaws.{pieces-some, dot_kinds}
 use Rattle.iri_resolve.specs.Target.{to_last_slash}
 
 last_slash-triplet : (x : ℕ) (ys : List ℕ) → to_last_slash (triplet x ++ ys) ≡ cond (lacks 47 ys) [] (triplet x ++ to_last_slash ys)
-last_slash-triplet x ys = rw (slash_hex (x / 16), slash_hex (x % 16)) (elim (lacks 47 ys) as (λ b. cond b [] (37 ∷ cond b [] (capital_hex (x / 16) ∷ cond b [] (capital_hex (x % 16) ∷ to_last_slash ys))) ≡ cond b [] (triplet x ++ to_last_slash ys)) [ true ↦ refl | false ↦ refl ])
+last_slash-triplet x ys = rw (slash_hex (x / 16), slash_hex (x % 16))
+    (elim (lacks 47 ys) as (λ b. cond b [] (37 ∷ cond b [] (capital_hex (x / 16) ∷ cond b [] (capital_hex (x % 16) ∷ to_last_slash ys)))
+    ≡ cond b [] (triplet x ++ to_last_slash ys)) [ true ↦ refl | false ↦ refl ])
 
 pub mapped-last_slash : (xs : List ℕ) → to_last_slash (mapped xs) ≡ mapped (to_last_slash xs)
 mapped-last_slash [] = refl
@@ -27,16 +31,26 @@ mapped-last_slash (x ∷ xs) =
     elim (nat_lt x 128) as (λ b. nat_lt x 128 ≡ b → to_last_slash (mapped (x ∷ xs)) ≡ mapped (to_last_slash (x ∷ xs))) [
       | true ↦ λ e.
           ap to_last_slash (mapped-low x xs e) ∙ ap (λ b. cond (not (x == 47) && b) [] (x ∷ to_last_slash (mapped xs))) l
-          ∙ (elim (not (x == 47) && lacks 47 xs) as (λ b. cond b [] (x ∷ to_last_slash (mapped xs)) ≡ mapped (cond b [] (x ∷ to_last_slash xs))) [ true ↦ refl | false ↦ ap (λ z. x ∷ z) (mapped-last_slash xs) ∙ sym (mapped-low x (to_last_slash xs) e) ])
+          ∙ (elim (not (x == 47) && lacks 47 xs) as (λ b. cond b [] (x ∷ to_last_slash (mapped xs))
+          ≡ mapped (cond b [] (x ∷ to_last_slash xs))) [
+            | true ↦ refl
+            | false ↦ ap (λ z. x ∷ z) (mapped-last_slash xs) ∙ sym (mapped-low x (to_last_slash xs) e)
+          ])
       | false ↦ λ e.
           let n = high_apart x 47 e (omega arith) in
-          ap to_last_slash (mapped-high x xs e) ∙ last_slash-triplet x (mapped xs) ∙ ap (λ b. cond b [] (triplet x ++ to_last_slash (mapped xs))) l
-          ∙ (elim (lacks 47 xs) as (λ b. cond b [] (triplet x ++ to_last_slash (mapped xs)) ≡ mapped (cond b [] (x ∷ to_last_slash xs))) [ true ↦ refl | false ↦ ap (λ z. triplet x ++ z) (mapped-last_slash xs) ∙ sym (mapped-high x (to_last_slash xs) e) ])
+          ap to_last_slash (mapped-high x xs e) ∙ last_slash-triplet x (mapped xs)
+          ∙ ap (λ b. cond b [] (triplet x ++ to_last_slash (mapped xs))) l
+          ∙ (elim (lacks 47 xs) as (λ b. cond b [] (triplet x ++ to_last_slash (mapped xs))
+          ≡ mapped (cond b [] (x ∷ to_last_slash xs))) [
+            | true ↦ refl
+            | false ↦ ap (λ z. triplet x ++ z) (mapped-last_slash xs) ∙ sym (mapped-high x (to_last_slash xs) e)
+          ])
           ∙ ap (λ b. mapped (cond (not b && lacks 47 xs) [] (x ∷ to_last_slash xs))) (sym n)
     ] refl
 
 -- ---- segments
-onto-triplet : (x : ℕ) (s : List ℕ) (ss : List (List ℕ)) (ys : List ℕ) → pieces 47 ys ≡ s ∷ ss → pieces 47 (triplet x ++ ys) ≡ (triplet x ++ s) ∷ ss
+onto-triplet : (x : ℕ) (s : List ℕ) (ss : List (List ℕ)) (ys : List ℕ) → pieces 47 ys ≡ s ∷ ss
+    → pieces 47 (triplet x ++ ys) ≡ (triplet x ++ s) ∷ ss
 onto-triplet x s ss ys h = rw (slash_hex (x / 16), slash_hex (x % 16), h) refl
 
 pub mapped-pieces : (xs : List ℕ) → pieces 47 (mapped xs) ≡ map mapped (pieces 47 xs)
@@ -45,10 +59,13 @@ mapped-pieces (x ∷ xs) =
     let r = pieces-some xs in
     let rest : pieces 47 (mapped xs) ≡ mapped r.first ∷ map mapped r.rest = mapped-pieces xs ∙ ap (map mapped) r.whole in
     elim (nat_lt x 128) as (λ b. nat_lt x 128 ≡ b → pieces 47 (mapped (x ∷ xs)) ≡ map mapped (pieces 47 (x ∷ xs))) [
-      | true ↦ λ e. ap (pieces 47) (mapped-low x xs e) ∙ (elim (x == 47) as (λ b. cond b ([] ∷ pieces 47 (mapped xs)) (onto x (pieces 47 (mapped xs))) ≡ map mapped (cond b ([] ∷ pieces 47 xs) (onto x (pieces 47 xs)))) [
-        | true ↦ ap (λ ps. [] ∷ ps) (mapped-pieces xs)
-        | false ↦ ap (onto x) rest ∙ ap (λ z. z ∷ map mapped r.rest) (sym (mapped-low x r.first e)) ∙ ap (λ ps. map mapped (onto x ps)) (sym r.whole)
-      ])
+      | true ↦ λ e. ap (pieces 47) (mapped-low x xs e)
+          ∙ (elim (x == 47) as (λ b. cond b ([] ∷ pieces 47 (mapped xs)) (onto x (pieces 47 (mapped xs)))
+          ≡ map mapped (cond b ([] ∷ pieces 47 xs) (onto x (pieces 47 xs)))) [
+            | true ↦ ap (λ ps. [] ∷ ps) (mapped-pieces xs)
+            | false ↦ ap (onto x) rest ∙ ap (λ z. z ∷ map mapped r.rest) (sym (mapped-low x r.first e))
+                ∙ ap (λ ps. map mapped (onto x ps)) (sym r.whole)
+          ])
       | false ↦ λ e.
           ap (pieces 47) (mapped-high x xs e) ∙ onto-triplet x (mapped r.first) (map mapped r.rest) (mapped xs) rest
           ∙ ap (λ z. z ∷ map mapped r.rest) (sym (mapped-high x r.first e))
@@ -57,7 +74,7 @@ mapped-pieces (x ∷ xs) =
     ] refl
 
 -- ---- dots
-behind_dot-plain : (x : ℕ) (xs : List ℕ) → (x == 37) ≡ false → behind_dot (x ∷ xs) ≡ cond (x == 46) (Some xs) None
+pub behind_dot-plain : (x : ℕ) (xs : List ℕ) → (x == 37) ≡ false → behind_dot (x ∷ xs) ≡ cond (x == 46) (Some xs) None
 behind_dot-plain x [] h = refl
 behind_dot-plain x (y ∷ []) h = refl
 behind_dot-plain x (y ∷ z ∷ xs) h = rw h refl
@@ -80,9 +97,11 @@ after_percent [] = refl
 after_percent (y ∷ []) =
     elim (nat_lt y 128) as (λ b. behind_dot (37 ∷ (cond b (y ∷ []) (triplet y) ++ [])) ≡ None) [ true ↦ refl | false ↦ refl ]
 after_percent (y ∷ z ∷ xs) =
-    elim (nat_lt y 128) as (λ b. nat_lt y 128 ≡ b → behind_dot (37 ∷ mapped (y ∷ z ∷ xs)) ≡ where_there mapped (behind_dot (37 ∷ y ∷ z ∷ xs))) [
+    elim (nat_lt y 128) as (λ b. nat_lt y 128 ≡ b → behind_dot (37 ∷ mapped (y ∷ z ∷ xs))
+    ≡ where_there mapped (behind_dot (37 ∷ y ∷ z ∷ xs))) [
       | true ↦ λ e. ap (λ t. behind_dot (37 ∷ t)) (mapped-low y (z ∷ xs) e) ∙ second e
-      | false ↦ λ e. ap (λ t. behind_dot (37 ∷ t)) (mapped-high y (z ∷ xs) e) ∙ sym (ap (where_there mapped) (behind_percent y z xs (rw (high_apart y 50 e (omega arith)) refl)))
+      | false ↦ λ e. ap (λ t. behind_dot (37 ∷ t)) (mapped-high y (z ∷ xs) e)
+          ∙ sym (ap (where_there mapped) (behind_percent y z xs (rw (high_apart y 50 e (omega arith)) refl)))
     ] refl
   where
     and_false : (b : Bool) → (b && false) ≡ false
@@ -91,28 +110,42 @@ after_percent (y ∷ z ∷ xs) =
 
     second : nat_lt y 128 ≡ true → behind_dot (37 ∷ y ∷ mapped (z ∷ xs)) ≡ where_there mapped (behind_dot (37 ∷ y ∷ z ∷ xs))
     second d =
-        elim (nat_lt z 128) as (λ b. nat_lt z 128 ≡ b → behind_dot (37 ∷ y ∷ mapped (z ∷ xs)) ≡ where_there mapped (behind_dot (37 ∷ y ∷ z ∷ xs))) [
-          | true ↦ λ e. ap (λ t. behind_dot (37 ∷ y ∷ t)) (mapped-low z xs e) ∙ (elim (y == 50 && (z == 69 || z == 101)) as (λ b. cond b (Some (mapped xs)) None ≡ where_there mapped (cond b (Some xs) None)) [ true ↦ refl | false ↦ refl ])
+        elim (nat_lt z 128) as (λ b. nat_lt z 128 ≡ b
+        → behind_dot (37 ∷ y ∷ mapped (z ∷ xs)) ≡ where_there mapped (behind_dot (37 ∷ y ∷ z ∷ xs))) [
+          | true ↦ λ e. ap (λ t. behind_dot (37 ∷ y ∷ t)) (mapped-low z xs e)
+              ∙ (elim (y == 50 && (z == 69 || z == 101)) as (λ b. cond b (Some (mapped xs)) None
+              ≡ where_there mapped (cond b (Some xs) None)) [ true ↦ refl | false ↦ refl ])
           | false ↦ λ e.
-              ap (λ t. behind_dot (37 ∷ y ∷ t)) (mapped-high z xs e) ∙ behind_percent y 37 (capital_hex (z / 16) ∷ capital_hex (z % 16) ∷ mapped xs) (and_false (y == 50))
-              ∙ sym (ap (where_there mapped) (behind_percent y z xs (rw (high_apart z 69 e (omega arith), high_apart z 101 e (omega arith)) (and_false (y == 50)))))
+              ap (λ t. behind_dot (37 ∷ y ∷ t)) (mapped-high z xs e)
+              ∙ behind_percent y 37 (capital_hex (z / 16) ∷ capital_hex (z % 16) ∷ mapped xs) (and_false (y == 50))
+              ∙ sym (ap (where_there mapped) (behind_percent y z xs
+              (rw (high_apart z 69 e (omega arith), high_apart z 101 e (omega arith)) (and_false (y == 50)))))
         ] refl
 
 mapped-dot : (xs : List ℕ) → behind_dot (mapped xs) ≡ where_there mapped (behind_dot xs)
 mapped-dot [] = refl
 mapped-dot (x ∷ xs) =
     elim (nat_lt x 128) as (λ b. nat_lt x 128 ≡ b → behind_dot (mapped (x ∷ xs)) ≡ where_there mapped (behind_dot (x ∷ xs))) [
-      | true ↦ λ e. ap behind_dot (mapped-low x xs e) ∙ by_test x 37 (λ b. (x == 37) ≡ b → behind_dot (x ∷ mapped xs) ≡ where_there mapped (behind_dot (x ∷ xs)))
+      | true ↦ λ e. ap behind_dot (mapped-low x xs e)
+          ∙ by_test x 37 (λ b. (x == 37) ≡ b → behind_dot (x ∷ mapped xs) ≡ where_there mapped (behind_dot (x ∷ xs)))
           (λ same _. subst (λ y. behind_dot (y ∷ mapped xs) ≡ where_there mapped (behind_dot (y ∷ xs))) (sym same) (after_percent xs))
-          (λ _ n. behind_dot-plain x (mapped xs) n ∙ (elim (x == 46) as (λ b. cond b (Some (mapped xs)) None ≡ where_there mapped (cond b (Some xs) None)) [ true ↦ refl | false ↦ refl ]) ∙ ap (where_there mapped) (sym (behind_dot-plain x xs n)))
+          (λ _ n. behind_dot-plain x (mapped xs) n
+          ∙ (elim (x == 46) as (λ b. cond b (Some (mapped xs)) None ≡ where_there mapped (cond b (Some xs) None)) [
+            | true ↦ refl
+            | false ↦ refl
+          ]) ∙ ap (where_there mapped) (sym (behind_dot-plain x xs n)))
           refl
-      | false ↦ λ e. ap behind_dot (mapped-high x xs e) ∙ no_dot-triplet x (mapped xs) e ∙ ap (where_there mapped) (sym (no_dot-high x xs e))
+      | false ↦ λ e. ap behind_dot (mapped-high x xs e) ∙ no_dot-triplet x (mapped xs) e
+          ∙ ap (where_there mapped) (sym (no_dot-high x xs e))
     ] refl
 
 all-mapped : (o : Option (List ℕ)) → is_all (where_there mapped o) ≡ is_all o
 all-mapped None = refl
 all-mapped (Some []) = refl
-all-mapped (Some (x ∷ xs)) = elim (nat_lt x 128) as (λ b. is_all (Some (cond b (x ∷ []) (triplet x) ++ mapped xs)) ≡ false) [ true ↦ refl | false ↦ refl ]
+all-mapped (Some (x ∷ xs)) = elim (nat_lt x 128) as (λ b. is_all (Some (cond b (x ∷ []) (triplet x) ++ mapped xs)) ≡ false) [
+  | true ↦ refl
+  | false ↦ refl
+]
 
 mapped-one_dot : (t : List ℕ) → is_one_dot (mapped t) ≡ is_one_dot t
 mapped-one_dot t = ap is_all (mapped-dot t) ∙ all-mapped (behind_dot t)
@@ -145,9 +178,12 @@ behind-map : (st ss : List (List ℕ)) → remove_behind (map mapped st) (map ma
 behind-map st [] = refl
 behind-map st (t ∷ ts) =
     rw (mapped-dot_segment t, mapped-two_dots t)
-    (elim (is_dot_segment t) as (λ b. cond b (remove_behind (closed (map mapped ts) (left (is_two_dots t) (map mapped st))) (map mapped ts)) (remove_behind (map mapped (t ∷ st)) (map mapped ts)) ≡ map mapped (cond b (remove_behind (closed ts (left (is_two_dots t) st)) ts) (remove_behind (t ∷ st) ts))) [
+    (elim (is_dot_segment t) as (λ b. cond b (remove_behind (closed (map mapped ts) (left (is_two_dots t) (map mapped st))) (map mapped ts))
+    (remove_behind (map mapped (t ∷ st)) (map mapped ts))
+    ≡ map mapped (cond b (remove_behind (closed ts (left (is_two_dots t) st)) ts) (remove_behind (t ∷ st) ts))) [
       | true ↦ ap (λ o. remove_behind (closed (map mapped ts) o) (map mapped ts)) (left-map (is_two_dots t) st)
-          ∙ (ap (λ o. remove_behind o (map mapped ts)) (closed-map ts (left (is_two_dots t) st)) ∙ behind-map (closed ts (left (is_two_dots t) st)) ts)
+          ∙ (ap (λ o. remove_behind o (map mapped ts)) (closed-map ts (left (is_two_dots t) st))
+          ∙ behind-map (closed ts (left (is_two_dots t) st)) ts)
       | false ↦ behind-map (t ∷ st) ts
     ])
 
@@ -155,7 +191,8 @@ removed-map : (ss : List (List ℕ)) → remove_dots (map mapped ss) ≡ map map
 removed-map [] = refl
 removed-map (t ∷ ts) =
     rw (mapped-dot_segment t)
-    (elim (is_dot_segment t) as (λ b. cond b (remove_dots (map mapped ts)) (remove_behind (map mapped (t ∷ [])) (map mapped ts)) ≡ map mapped (cond b (remove_dots ts) (remove_behind (t ∷ []) ts))) [
+    (elim (is_dot_segment t) as (λ b. cond b (remove_dots (map mapped ts)) (remove_behind (map mapped (t ∷ [])) (map mapped ts))
+    ≡ map mapped (cond b (remove_dots ts) (remove_behind (t ∷ []) ts))) [
       | true ↦ removed-map ts
       | false ↦ behind-map (t ∷ []) ts
     ])
@@ -168,7 +205,12 @@ text-map (t ∷ u ∷ us) = ap (λ xs. xs ++ 47 ∷ mapped t) (text-map (u ∷ u
 -- mapping commutes with dot removal, and with the guard
 pub mapped-dots : (p : List ℕ) → dots (mapped p) ≡ mapped (dots p)
 unfolding dots
-mapped-dots p = ap (λ ps. path_text (remove_dots ps)) (mapped-pieces p) ∙ (ap path_text (removed-map (pieces 47 p)) ∙ text-map (remove_dots (pieces 47 p)))
+mapped-dots p = ap (λ ps. path_text (remove_dots ps)) (mapped-pieces p)
+    ∙ (ap path_text (removed-map (pieces 47 p)) ∙ text-map (remove_dots (pieces 47 p)))
 
 pub mapped-guard : (p : List ℕ) (stands : Bool) → guard (mapped p) stands ≡ mapped (guard p stands)
-mapped-guard p stands = rw (mapped-slashes p) (elim (stands || not (starts_with_slashes p)) as (λ b. cond b (mapped p) (47 ∷ 46 ∷ mapped p) ≡ mapped (cond b p (47 ∷ 46 ∷ p))) [ true ↦ refl | false ↦ refl ])
+mapped-guard p stands = rw (mapped-slashes p) (elim
+    (stands || not (starts_with_slashes p)) as (λ b. cond b (mapped p) (47 ∷ 46 ∷ mapped p) ≡ mapped (cond b p (47 ∷ 46 ∷ p))) [
+      | true ↦ refl
+      | false ↦ refl
+    ])

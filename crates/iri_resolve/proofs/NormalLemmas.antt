@@ -1,29 +1,32 @@
 -- Parts without a stray `%`, and a path in two pieces.
-use Rattle.std.proofs.Common.{◌≡◌, ℕ, Bool, true, false, cond, ◌&&◌, ◌||◌, List, [], ◌∷◌, ◌++◌, Option, Some, None, Bor, refl, sym, ◌∙◌, ap, subst, arith, append_assoc}
+use Rattle.std.proofs.Common.{◌≡◌, ℕ, Bool, true, false, cond, ◌&&◌, ◌||◌, List, [], ◌∷◌, ◌++◌, Option, Some, None, Bor, refl, sym, ◌∙◌}
+use Rattle.std.proofs.Common.{ap, subst, arith, append_assoc}
 use Rattle.std.specs.Prelude.{◌==◌, is_some}
 use Rattle.std.specs.Char.{is_ascii_hexdigit}
 use Rattle.std.proofs.lemmas.List.{append-nil}
 use Rattle.std.proofs.lemmas.Bool.Decides.{nat_tests}
 use Rattle.iri_grammar.specs.Authority.{AuthorityParts, authority_parts, recompose_authority}
 use Rattle.iri_grammar.specs.Classes.{Tests, IsSpec, path_char}
-use Rattle.iri_grammar.specs.Views.{now_of}
+use Rattle.iri_grammar.specs.OptionalSlices.{now_of}
 use Rattle.iri_percent.specs.NormalHost.{normal_authority, normal_authority_parts}
 use Rattle.iri_grammar.specs.Components.{if_there, is_path}
-use Rattle.iri_grammar.specs.CutLaws.{both}
+use Rattle.iri_grammar.proofs.CutLaws.{both}
 use Rattle.iri_grammar.specs.Parts.{is_empty}
-use Rattle.iri_percent.specs.MarkLaws.{pct_mark, slash}
+use Rattle.iri_percent.proofs.MarkLaws.{pct_mark, slash}
 use Rattle.iri_percent.specs.Triplets.{pct, normal}
-use Rattle.iri_percent.specs.Units.{whole_triplets, two_digits, units_from}
+use Rattle.iri_percent.specs.Units.{whole_triplets, two_digits}
+use Rattle.iri_percent.specs.CharUnits.{char_units_from}
 use Rattle.iri_resolve.specs.DotRemoval.{dots}
 use Rattle.iri_resolve.specs.Guard.{guard}
 use Rattle.iri_resolve.specs.NormalForm.{normal_path}
-use Rattle.iri_resolve.specs.PathLaws.{dots-over}
+use Rattle.iri_resolve.proofs.PathLaws.{dots-over}
 use Rattle.iri_resolve.specs.Target.{ends_at_slash}
-use Rattle.iri_resolve.specs.TargetLaws.{slash_in_path}
-use Rattle.iri_percent.specs.WholeLaws.{path-whole}
+use Rattle.iri_resolve.proofs.TargetLaws.{slash_in_path}
+use Rattle.iri_percent.proofs.WholeLaws.{path-whole}
 
 -- a part that stands has no stray `%`, where no text of its kind has
-pub part_whole : (p : List ℕ → Bool) (o : Option (List ℕ)) → ((x : List ℕ) → p x ≡ true → whole_triplets x ≡ true) → if_there p o ≡ true → if_there whole_triplets o ≡ true
+pub part_whole : (p : List ℕ → Bool) (o : Option (List ℕ)) → ((x : List ℕ) → p x ≡ true → whole_triplets x ≡ true) → if_there p o ≡ true
+    → if_there whole_triplets o ≡ true
 part_whole p None w h = refl
 part_whole p (Some x) w h = w x h
 
@@ -36,14 +39,15 @@ slash_end x [] h = ([], ap (λ c. c ∷ []) (equal-where x 47 h))
 slash_end x (y ∷ ys) h = let r = slash_end y ys h in (x ∷ r.0, ap (λ l. x ∷ l) r.1)
 
 pub pct_nil : (s : Tests) → pct s [] ≡ []
-unfolding normal units_from
+unfolding normal char_units_from
 pct_nil s = refl
 
 pct_at : (s : Tests) (init p : List ℕ) → pct s ((init ++ 47 ∷ []) ++ p) ≡ pct s (init ++ 47 ∷ []) ++ pct s p
 pct_at s init p =
     ap (pct s) (append_assoc init (47 ∷ []) p)
     ∙ (pct_mark s 47 init p slash
-    ∙ sym (ap (λ l. l ++ pct s p) (pct_mark s 47 init [] slash ∙ ap (λ l. pct s init ++ 47 ∷ l) (pct_nil s)) ∙ append_assoc (pct s init) (47 ∷ []) (pct s p)))
+    ∙ sym (ap (λ l. l ++ pct s p) (pct_mark s 47 init [] slash ∙ ap (λ l. pct s init ++ 47 ∷ l) (pct_nil s))
+    ∙ append_assoc (pct s init) (47 ∷ []) (pct s p)))
 
 pub pct_two : (s : Tests) (f p : List ℕ) → ends_at_slash f ≡ true → pct s (f ++ p) ≡ pct s f ++ pct s p
 pct_two s [] p h = sym (ap (λ l. l ++ pct s p) (pct_nil s))
@@ -63,20 +67,24 @@ digits_same y [] [] h = refl
 digits_same y [] (q ∷ qs) h = slash_no_digit y q h
 digits_same y (z ∷ zs) p h = refl
 
-pub whole_two : (f p : List ℕ) → ends_at_slash f ≡ true → whole_triplets (f ++ p) ≡ true → (whole_triplets f ≡ true) × (whole_triplets p ≡ true)
+pub whole_two : (f p : List ℕ) → ends_at_slash f ≡ true → whole_triplets (f ++ p) ≡ true
+    → (whole_triplets f ≡ true) × (whole_triplets p ≡ true)
 unfolding whole_triplets
 whole_two [] p h w = (refl, w)
 whole_two (x ∷ []) p h w =
-    subst (λ (c : ℕ). (cond (c == 37) (two_digits p) true && whole_triplets p) ≡ true → ((cond (c == 37) (two_digits []) true && true) ≡ true) × (whole_triplets p ≡ true))
+    subst (λ (c : ℕ). (cond (c == 37) (two_digits p) true && whole_triplets p) ≡ true
+    → ((cond (c == 37) (two_digits []) true && true) ≡ true) × (whole_triplets p ≡ true))
     (sym (equal-where x 47 h)) (λ k. (refl, k)) w
 whole_two (x ∷ y ∷ ys) p h w =
     let parts = both (cond (x == 37) (two_digits ((y ∷ ys) ++ p)) true) (whole_triplets ((y ∷ ys) ++ p)) w in
     let r = whole_two (y ∷ ys) p h parts.1 in
-    let first : cond (x == 37) (two_digits (y ∷ ys)) true ≡ true = subst (λ b. cond (x == 37) b true ≡ true) (digits_same y ys p h) parts.0 in
+    let first : cond (x == 37) (two_digits (y ∷ ys)) true ≡ true =
+    subst (λ b. cond (x == 37) b true ≡ true) (digits_same y ys p h) parts.0 in
     (rw first r.0, r.1)
 
 -- such a path has no stray `%` in either piece where it has none
-pub whole_parts : (f p : List ℕ) → (is_empty p || ends_at_slash f) ≡ true → whole_triplets (f ++ p) ≡ true → (whole_triplets f ≡ true) × (whole_triplets p ≡ true)
+pub whole_parts : (f p : List ℕ) → (is_empty p || ends_at_slash f) ≡ true → whole_triplets (f ++ p) ≡ true
+    → (whole_triplets f ≡ true) × (whole_triplets p ≡ true)
 unfolding whole_triplets
 whole_parts f [] h w = (subst (λ (l : List ℕ). whole_triplets l ≡ true) (append-nil f) w, refl)
 whole_parts f (x ∷ xs) h w = whole_two f (x ∷ xs) h w
@@ -89,7 +97,8 @@ pub is_some-now_of : (o : Option (Bor (List ℕ))) → is_some (now_of o) ≡ is
 is_some-now_of None = refl
 is_some-now_of (Some x) = refl
 
-pub authority_is : (s : Tests) (a : List ℕ) (p : AuthorityParts) → p ≡ authority_parts a → recompose_authority (normal_authority_parts s p) ≡ normal_authority s a
+pub authority_is : (s : Tests) (a : List ℕ) (p : AuthorityParts) → p ≡ authority_parts a
+    → recompose_authority (normal_authority_parts s p) ≡ normal_authority s a
 unfolding normal_authority
 authority_is s a p e = ap (λ q. recompose_authority (normal_authority_parts s q)) e
 

@@ -4,7 +4,7 @@ use Rattle.std.specs.Prelude.{take, slice_get}
 use Rattle.iri_grammar.specs.Classes.{Tests}
 use Rattle.iri_grammar.specs.Parts.{Parts}
 use Rattle.iri_resolve.specs.Steps.{step, onward, replayed}
-use Rattle.iri_resolve.specs.Leads.{replayed-append}
+use Rattle.iri_resolve.proofs.Leads.{replayed-append}
 use Rattle.iri_resolve.specs.declared.step.Step.{Step}
 
 take_next : (l : List Step) (k : ℕ) (x : Step) → slice_get l k ≡ Some x → take (suc k) l ≡ take k l ++ x ∷ []
@@ -12,11 +12,13 @@ take_next [] k x h = cc
 take_next (y ∷ ys) zero x h = let same : y ≡ x = cc in ap (λ z. z ∷ []) same
 take_next (y ∷ ys) (suc k) x h = ap (λ z. y ∷ z) (take_next ys k x h)
 
-pub one_more : (s : Tests) (t u v : Parts) (l : List Step) (k : ℕ) (x : Step) → replayed s t (take k l) ≡ Some u → slice_get l k ≡ Some x → step s u x ≡ Some v → replayed s t (take (k + 1) l) ≡ Some v
+pub one_more : (s : Tests) (t u v : Parts) (l : List Step) (k : ℕ) (x : Step) → replayed s t (take k l) ≡ Some u → slice_get l k ≡ Some x
+    → step s u x ≡ Some v → replayed s t (take (k + 1) l) ≡ Some v
 unfolding replayed
 one_more s t u v l k x r g h =
     let next : k + 1 ≡ suc k = omega arith in
-    ap (λ n. replayed s t (take n l)) next ∙ ap (replayed s t) (take_next l k x g) ∙ replayed-append s t u (take k l) (x ∷ []) r ∙ ap (λ o. onward o (λ w. Some w)) h
+    ap (λ n. replayed s t (take n l)) next ∙ ap (replayed s t) (take_next l k x g) ∙ replayed-append s t u (take k l) (x ∷ []) r
+    ∙ ap (λ o. onward o (λ w. Some w)) h
 
 pub none_yet : (s : Tests) (t : Parts) (l : List Step) → replayed s t (take 0 l) ≡ Some t
 unfolding replayed

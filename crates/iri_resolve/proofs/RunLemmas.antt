@@ -1,10 +1,11 @@
 -- Segments that stay side by side at the end of a text.
-use Rattle.std.proofs.Common.{◌≡◌, ℕ, Bool, true, false, cond, not, ◌&&◌, List, [], ◌∷◌, ◌++◌, length, drop, refl, sym, ◌∙◌, ap, arith, append_assoc}
+use Rattle.std.proofs.Common.{◌≡◌, ℕ, Bool, true, false, cond, not, ◌&&◌, List, [], ◌∷◌, ◌++◌, length, drop, refl, sym, ◌∙◌, ap, arith}
+use Rattle.std.proofs.Common.{append_assoc}
 use Rattle.std.specs.Prelude.{◌==◌}
 use Rattle.std.proofs.lemmas.Bool.Decides.{nat_tests}
 use Rattle.std.proofs.lemmas.List.{append-nil, drop_at}
 use Rattle.iri_grammar.specs.Cut.{lacks}
-use Rattle.iri_grammar.specs.CutLaws.{both}
+use Rattle.iri_grammar.proofs.CutLaws.{both}
 use Rattle.iri_resolve.specs.Target.{ends_at_slash}
 use Rattle.iri_resolve.specs.Dots.{is_dot_segment}
 use Rattle.iri_resolve.specs.Kept.{ended, removing, kept_one, kept}
@@ -12,13 +13,15 @@ use Rattle.iri_resolve.proofs.EndedLemmas.{ended-last}
 use Rattle.iri_resolve.proofs.KeptLemmas.{kept-append}
 
 -- one step of the kept text, from its end
-pub one-last : (t a s : List ℕ) (n : ℕ) → ends_at_slash a ≡ true → lacks 47 s ≡ true → t ≡ a ++ (s ++ 47 ∷ []) → kept (ended t) n ≡ kept (ended a) (removing s n) ++ kept_one s n
+pub one-last : (t a s : List ℕ) (n : ℕ) → ends_at_slash a ≡ true → lacks 47 s ≡ true → t ≡ a ++ (s ++ 47 ∷ [])
+    → kept (ended t) n ≡ kept (ended a) (removing s n) ++ kept_one s n
 one-last t a s n h k e =
     ap (λ l. kept l n) (ended-last t a s h k e)
     ∙ (kept-append (ended a) (s ∷ []) n ∙ ap (λ l. kept (ended a) (removing s n) ++ l) (append-nil (kept_one s n)))
 
 -- the last segment stays
-pub last-stays : (t a s : List ℕ) → ends_at_slash a ≡ true → lacks 47 s ≡ true → t ≡ a ++ (s ++ 47 ∷ []) → is_dot_segment s ≡ false → kept (ended t) 0 ≡ kept (ended a) 0 ++ (s ++ 47 ∷ [])
+pub last-stays : (t a s : List ℕ) → ends_at_slash a ≡ true → lacks 47 s ≡ true → t ≡ a ++ (s ++ 47 ∷ []) → is_dot_segment s ≡ false
+    → kept (ended t) 0 ≡ kept (ended a) 0 ++ (s ++ 47 ∷ [])
 last-stays t a s h k e d = one-last t a s 0 h k e ∙ rw d refl
 
 -- it goes
@@ -29,7 +32,8 @@ gone s n h =
       | false ↦ λ k. elim (n == 0) as (λ b. (b && true) ≡ false → cond b (s ++ 47 ∷ []) [] ≡ []) [ true ↦ λ j. cc | false ↦ λ j. refl ] k
     ] h
 
-pub last-goes : (t a s : List ℕ) (n : ℕ) → ends_at_slash a ≡ true → lacks 47 s ≡ true → t ≡ a ++ (s ++ 47 ∷ []) → (n == 0 && not (is_dot_segment s)) ≡ false → kept (ended t) n ≡ kept (ended a) (removing s n)
+pub last-goes : (t a s : List ℕ) (n : ℕ) → ends_at_slash a ≡ true → lacks 47 s ≡ true → t ≡ a ++ (s ++ 47 ∷ [])
+    → (n == 0 && not (is_dot_segment s)) ≡ false → kept (ended t) n ≡ kept (ended a) (removing s n)
 last-goes t a s n h k e g =
     one-last t a s n h k e ∙ (ap (λ l. kept (ended a) (removing s n) ++ l) (gone s n g) ∙ append-nil (kept (ended a) (removing s n)))
 
@@ -48,16 +52,11 @@ drop-part t a b e = ap (drop (length a)) e ∙ drop_at a b (length a) refl
 pub part-whole : (t a b : List ℕ) → t ≡ a ++ b → t ≡ a ++ drop (length a) t
 part-whole t a b e = e ∙ ap (λ l. a ++ l) (sym (drop-part t a b e))
 
-pub drop-all : (t : List ℕ) → t ≡ t ++ drop (length t) t
-drop-all t = part-whole t t [] (sym (append-nil t))
-
-pub none-dropped : (t : List ℕ) (x : List ℕ) → x ≡ x ++ drop (length t) t
-none-dropped t x = sym (ap (λ l. x ++ l) (drop-part t t [] (sym (append-nil t))) ∙ append-nil x)
-
 -- of a part of the front, too
 pub part-more : (x t a b y : List ℕ) → x ≡ t ++ y → t ≡ a ++ b → x ≡ a ++ (b ++ y)
 part-more x t a b y e f = e ∙ (ap (λ l. l ++ y) f ∙ append_assoc a b y)
 
 -- what stays before a text's end, and the end
 pub kept-more : (x t a b y k m : List ℕ) → x ≡ t ++ y → t ≡ a ++ b → k ≡ m ++ b → k ++ y ≡ m ++ drop (length a) x
-kept-more x t a b y k m e f g = ap (λ l. l ++ y) g ∙ (append_assoc m b y ∙ ap (λ l. m ++ l) (sym (drop-part x a (b ++ y) (part-more x t a b y e f))))
+kept-more x t a b y k m e f g = ap (λ l. l ++ y) g
+    ∙ (append_assoc m b y ∙ ap (λ l. m ++ l) (sym (drop-part x a (b ++ y) (part-more x t a b y e f))))

@@ -1,15 +1,13 @@
 -- The last slash of a path.
-use Rattle.std.proofs.Common.{◌≡◌, ℕ, zero, suc, ◌+◌, ◌<◌, Bool, true, false, cond, not, ◌&&◌, List, [], ◌∷◌, Some, None, Option, MatchOption, length, take, refl, ◌∙◌, ap, arith, add-one}
+use Rattle.std.proofs.Common.{◌≡◌, ℕ, zero, suc, ◌+◌, ◌<◌, true, false, cond, not, ◌&&◌, List, [], ◌∷◌, Some, None, Option, MatchOption}
+use Rattle.std.proofs.Common.{length, take, refl, ◌∙◌, ap, arith, add-one}
 use Rattle.std.specs.Prelude.{◌==◌, slice_index}
 use Rattle.std.proofs.lemmas.Bool.Decides.{nat_tests}
 use Rattle.memchr.specs.Find.{is_byte, IsLastByte}
 use Rattle.iri_grammar.specs.Cut.{lacks}
 use Rattle.iri_grammar.specs.Parts.{is_empty}
 use Rattle.iri_resolve.specs.Target.{to_last_slash, ends_at_slash, LastSlash, NoSlash}
-
-false-where : (b : Bool) → (b ≡ true → ⊥) → b ≡ false
-false-where true n = absurd (n refl)
-false-where false n = refl
+use Rattle.iri_grammar.proofs.CutLemmas.{false-where}
 
 equal-where : (x c : ℕ) → (x == c) ≡ true → x ≡ c
 equal-where x c h = grind (arith, nat_tests)
@@ -21,7 +19,8 @@ none_at (x ∷ xs) n =
     let h = none_at xs (λ j b. n (suc j) (omega arith)) in
     record { front = rw (miss, h.has) refl; has = rw miss h.has }
 
-last_at : (bs : List ℕ) (k : ℕ) → k < length bs → ((j : ℕ) → k < j → j < length bs → (slice_index bs j == 47) ≡ true → ⊥) → (slice_index bs k == 47) ≡ true → LastSlash bs k
+last_at : (bs : List ℕ) (k : ℕ) → k < length bs → ((j : ℕ) → k < j → j < length bs → (slice_index bs j == 47) ≡ true → ⊥)
+    → (slice_index bs k == 47) ≡ true → LastSlash bs k
 last_at [] k l n p = absurd (omega arith)
 last_at (x ∷ xs) zero l n p =
     let rest = none_at xs (λ j b. n (suc j) (omega arith) (omega arith)) in
@@ -60,7 +59,8 @@ ends (x ∷ xs) =
           | false ↦ λ _. refl
         ] refl
 
-    at_more : ends_at_slash (to_last_slash xs) ≡ true → lacks 47 xs ≡ false → ends_at_slash (cond (not (x == 47) && false) [] (x ∷ to_last_slash xs)) ≡ true
+    at_more : ends_at_slash (to_last_slash xs) ≡ true → lacks 47 xs ≡ false
+        → ends_at_slash (cond (not (x == 47) && false) [] (x ∷ to_last_slash xs)) ≡ true
     at_more r e =
         elim (x == 47) as (λ v. ends_at_slash (cond (not v && false) [] (x ∷ to_last_slash xs)) ≡ true) [
           | true ↦ rw (has_front xs e) r

@@ -6,15 +6,15 @@ use Rattle.iri_grammar.specs.Authority.{authority_parts, is_authority}
 use Rattle.iri_grammar.specs.Classes.{Tests, IsSpec}
 use Rattle.iri_grammar.specs.Components.{if_there, is_path, is_query, is_fragment}
 use Rattle.iri_grammar.specs.Parts.{Parts, Fits}
-use Rattle.iri_percent.specs.WholeLaws.{path-whole, query-whole, fragment-whole}
-use Rattle.iri_resolve.specs.ChangeKeeps.{TripletChange}
-use Rattle.iri_resolve.specs.ChangeOf.{change_of, change-keeps}
-use Rattle.iri_resolve.specs.Changes.{with_capital_digit, with_decoded}
+use Rattle.iri_percent.proofs.WholeLaws.{path-whole, query-whole, fragment-whole}
+use Rattle.iri_resolve.specs.inside.ChangeOf.{change_of}
+use Rattle.iri_resolve.proofs.ChangeOf.{change-keeps}
 use Rattle.iri_resolve.specs.DotRemoval.{dots}
 use Rattle.iri_resolve.specs.Guard.{guard}
-use Rattle.iri_resolve.specs.PartTexts.{part_text, with_part, is_part_whole, changed_in_part, at_place-part}
+use Rattle.iri_resolve.specs.inside.PartTexts.{part_text, with_part, is_part_whole, changed_in_part}
+use Rattle.iri_resolve.proofs.PartTexts.{at_place-part}
 use Rattle.iri_resolve.specs.Steps.{placed, in_part, at_place, step, with_small_letter_in_host, without_empty_port, with_dots_removed}
-use Rattle.iri_resolve.specs.StepsKept.{Valid, Kept, change-kept, step-kept}
+use Rattle.iri_resolve.proofs.StepsKept.{Valid, change-kept, step-kept}
 use Rattle.iri_resolve.specs.declared.change.Change.{Change}
 use Rattle.iri_resolve.specs.declared.change.Change.TheVariants.{CapitalDigit, Decoded}
 use Rattle.iri_resolve.specs.declared.step.Part.{Part}
@@ -22,16 +22,20 @@ use Rattle.iri_resolve.specs.declared.step.Part.TheVariants.{Authority, Path, Qu
 use Rattle.iri_resolve.specs.declared.step.Step.{Step}
 use Rattle.iri_resolve.specs.declared.step.Step.TheVariants.{HostLetter, HexDigit, Decode, EmptyPort, Dots}
 
-pub part-whole : (s : Tests) (part : Part) (t : Parts) (x : List ℕ) → IsSpec s → Fits s t → part_text part t ≡ Some x → is_part_whole s part x ≡ true
+pub part-whole : (s : Tests) (part : Part) (t : Parts) (x : List ℕ) → IsSpec s → Fits s t → part_text part t ≡ Some x
+    → is_part_whole s part x ≡ true
 part-whole s Authority t x k f e = ap (if_there (is_authority s)) (sym e) ∙ f.authority
 part-whole s Path t x k f e = path-whole s x k (ap (if_there (is_path s)) (sym e) ∙ f.path)
 part-whole s Query t x k f e = query-whole s x k (ap (if_there (is_query s)) (sym e) ∙ f.query)
 part-whole s Fragment t x k f e = fragment-whole s x k (ap (if_there (is_fragment s)) (sym e) ∙ f.fragment)
 
-pub part-fits : (s : Tests) (change : Change) (part : Part) (t : Parts) (i : ℕ) (x y : List ℕ) → IsSpec s → Valid s t → part_text part t ≡ Some x → changed_in_part (change_of s change) part i x ≡ Some y → Fits s (with_part part t y)
+pub part-fits : (s : Tests) (change : Change) (part : Part) (t : Parts) (i : ℕ) (x y : List ℕ) → IsSpec s → Valid s t
+    → part_text part t ≡ Some x → changed_in_part (change_of s change) part i x ≡ Some y → Fits s (with_part part t y)
 part-fits s change part t i x y k v e h =
     (change-kept s (change_of s change) t (with_part part t y) part i k (change-keeps s change k) v
-    (at_place-part (change_of s change) t part i ∙ ap (λ o. placed (with_part part t) (in_part (changed_in_part (change_of s change) part i) o)) e ∙ ap (placed (with_part part t)) h)).fits
+    (at_place-part (change_of s change) t part i ∙ ap
+    (λ o. placed (with_part part t) (in_part (changed_in_part (change_of s change) part i) o)) e
+    ∙ ap (placed (with_part part t)) h)).fits
 
 pub step-fits : (s : Tests) (t u : Parts) (x : Step) → IsSpec s → Valid s t → step s t x ≡ Some u → Fits s u
 step-fits s t u x k v h = (step-kept s t u x k v h).fits
@@ -41,23 +45,29 @@ pub host-none : (s : Tests) (t : Parts) (i : ℕ) → t.authority ≡ None → s
 unfolding step
 host-none s t i e = ap (λ o. placed (with_part Authority t) (in_part (λ a. with_small_letter_in_host i (authority_parts a)) o)) e
 
-pub host-stepped : (s : Tests) (t : Parts) (i : ℕ) (a : List ℕ) (o : Option (List ℕ)) → t.authority ≡ Some a → o ≡ with_small_letter_in_host i (authority_parts a) → step s t (HostLetter i) ≡ placed (with_part Authority t) o
+pub host-stepped : (s : Tests) (t : Parts) (i : ℕ) (a : List ℕ) (o : Option (List ℕ)) → t.authority ≡ Some a
+    → o ≡ with_small_letter_in_host i (authority_parts a) → step s t (HostLetter i) ≡ placed (with_part Authority t) o
 unfolding step
-host-stepped s t i a o e h = ap (λ o. placed (with_part Authority t) (in_part (λ a. with_small_letter_in_host i (authority_parts a)) o)) e ∙ ap (placed (with_part Authority t)) (sym h)
+host-stepped s t i a o e h = ap (λ o. placed (with_part Authority t) (in_part (λ a. with_small_letter_in_host i (authority_parts a)) o)) e
+    ∙ ap (placed (with_part Authority t)) (sym h)
 
 pub port-none : (s : Tests) (t : Parts) → t.authority ≡ None → step s t EmptyPort ≡ None
 unfolding step
-port-none s t e = ap (λ o. placed (with_part Authority t) (in_part (λ a. without_empty_port (authority_parts a) (authority_parts a).port) o)) e
+port-none s t e = ap (λ o. placed (with_part Authority t)
+    (in_part (λ a. without_empty_port (authority_parts a) (authority_parts a).port) o)) e
 
-pub port-stepped : (s : Tests) (t : Parts) (a : List ℕ) (o : Option (List ℕ)) → t.authority ≡ Some a → o ≡ without_empty_port (authority_parts a) (authority_parts a).port → step s t EmptyPort ≡ placed (with_part Authority t) o
+pub port-stepped : (s : Tests) (t : Parts) (a : List ℕ) (o : Option (List ℕ)) → t.authority ≡ Some a
+    → o ≡ without_empty_port (authority_parts a) (authority_parts a).port → step s t EmptyPort ≡ placed (with_part Authority t) o
 unfolding step
-port-stepped s t a o e h = ap (λ o. placed (with_part Authority t) (in_part (λ a. without_empty_port (authority_parts a) (authority_parts a).port) o)) e ∙ ap (placed (with_part Authority t)) (sym h)
+port-stepped s t a o e h = ap (λ o. placed (with_part Authority t)
+    (in_part (λ a. without_empty_port (authority_parts a) (authority_parts a).port) o)) e ∙ ap (placed (with_part Authority t)) (sym h)
 
 pub dots-stepped : (s : Tests) (t : Parts) (o : Option (List ℕ)) → o ≡ with_dots_removed t → step s t Dots ≡ placed (with_part Path t) o
 unfolding step
 dots-stepped s t o h = ap (placed (with_part Path t)) (sym h)
 
-pub digit-stepped : (s : Tests) (t : Parts) (part : Part) (i : ℕ) → at_place (change_of s CapitalDigit) t part i ≡ step s t (HexDigit part i)
+pub digit-stepped : (s : Tests) (t : Parts) (part : Part) (i : ℕ)
+    → at_place (change_of s CapitalDigit) t part i ≡ step s t (HexDigit part i)
 unfolding step
 digit-stepped s t Authority i = refl
 digit-stepped s t Path i = refl
@@ -72,12 +82,16 @@ decode-stepped s t Query i = refl
 decode-stepped s t Fragment i = refl
 
 -- ---- dot segments
-pub dots-same : (t : Parts) (g p : List ℕ) (stands : Bool) → p ≡ t.path → stands ≡ is_some t.authority → g ≡ guard (dots p) stands → bytes_eq g p ≡ true → None ≡ with_dots_removed t
+pub dots-same : (t : Parts) (g p : List ℕ) (stands : Bool) → p ≡ t.path → stands ≡ is_some t.authority → g ≡ guard (dots p) stands
+    → bytes_eq g p ≡ true → None ≡ with_dots_removed t
 dots-same t g p stands q a e h =
     let w : g ≡ guard (dots t.path) (is_some t.authority) = e ∙ ap (λ z. guard (dots z) stands) q ∙ ap (guard (dots t.path)) a in
-    sym (ap (λ b. cond b None (Some (guard (dots t.path) (is_some t.authority)))) (ap (λ z. bytes_eq z t.path) (sym w) ∙ ap (bytes_eq g) (sym q) ∙ h))
+    sym (ap (λ b. cond b None (Some (guard (dots t.path) (is_some t.authority))))
+    (ap (λ z. bytes_eq z t.path) (sym w) ∙ ap (bytes_eq g) (sym q) ∙ h))
 
-pub dots-other : (t : Parts) (g p : List ℕ) (stands : Bool) → p ≡ t.path → stands ≡ is_some t.authority → g ≡ guard (dots p) stands → bytes_eq g p ≡ false → Some g ≡ with_dots_removed t
+pub dots-other : (t : Parts) (g p : List ℕ) (stands : Bool) → p ≡ t.path → stands ≡ is_some t.authority → g ≡ guard (dots p) stands
+    → bytes_eq g p ≡ false → Some g ≡ with_dots_removed t
 dots-other t g p stands q a e h =
     let w : g ≡ guard (dots t.path) (is_some t.authority) = e ∙ ap (λ z. guard (dots z) stands) q ∙ ap (guard (dots t.path)) a in
-    ap Some w ∙ sym (ap (λ b. cond b None (Some (guard (dots t.path) (is_some t.authority)))) (ap (λ z. bytes_eq z t.path) (sym w) ∙ ap (bytes_eq g) (sym q) ∙ h))
+    ap Some w ∙ sym (ap (λ b. cond b None (Some (guard (dots t.path) (is_some t.authority))))
+    (ap (λ z. bytes_eq z t.path) (sym w) ∙ ap (bytes_eq g) (sym q) ∙ h))

@@ -16,7 +16,7 @@ pub record IsCanonicalText (s : Tests) (base reference text : List ℕ) : Type 0
   pub splits : split_of text ≡ canonical_parts s base reference
   pub own : (other : List ℕ) → IsAbsolute s other → canonical s other text ≡ text
 
--- The cause of a refusal, by the first faults of base and reference: the base is judged first, and memory is taken only where
+-- The cause of a refusal, by the first faults of base and reference: the base is validated first, and memory is taken only where
 -- both are valid.
 abbrev pub CausedBy : CanonError → Option ErrorKind → Option ErrorKind → Type 0
 CausedBy (BadBase e) base reference = base ≡ Some e.kind

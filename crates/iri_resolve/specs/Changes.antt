@@ -1,6 +1,7 @@
 -- Changes of a text at one place (RFC 3986 sections 6.2.2.1 and 6.2.2.2). A place is a number of bytes.
 use Rattle.std.specs.Prelude.{ℕ, ◌+◌, ◌*◌, Bool, not, cond, ◌&&◌, List, ◌++◌, Option, Some, None, take, drop, slice_index, slice_set}
-use Rattle.std.specs.Char.{is_ascii_hexdigit, is_ascii_lowercase, is_ascii_uppercase, to_ascii_lowercase, to_ascii_uppercase, len_utf8, encode_utf8}
+use Rattle.std.specs.Char.{is_ascii_hexdigit, is_ascii_lowercase, is_ascii_uppercase, to_ascii_lowercase, to_ascii_uppercase, len_utf8}
+use Rattle.std.specs.Char.{encode_utf8}
 use Rattle.iri_grammar.specs.Classes.{Tests}
 use Rattle.iri_percent.specs.Units.{octets, whole_triplets}
 use Rattle.iri_percent.specs.NormalLaws.{decoded}
@@ -22,7 +23,8 @@ is_small_digit x = is_ascii_hexdigit x && is_ascii_lowercase x
 
 -- the small hex digit at i, inside a triplet, becomes a capital
 unfoldable pub with_capital_digit : ℕ → List ℕ → Option (List ℕ)
-with_capital_digit i t = cond (is_in_triplet i t && is_small_digit (slice_index t i)) (Some (slice_set t i (to_ascii_uppercase (slice_index t i)))) None
+with_capital_digit i t = cond (is_in_triplet i t && is_small_digit (slice_index t i))
+    (Some (slice_set t i (to_ascii_uppercase (slice_index t i)))) None
 
 -- a character stands in the place of the triplets from i on that spell it
 abbrev pub with_character : ℕ → List ℕ → Option ℕ → Option (List ℕ)

@@ -3,6 +3,7 @@ use Rattle.std.specs.Prelude.{◌≡◌, ℕ, Bool, true, false, cond, ◌==◌,
 use Rattle.iri_grammar.specs.Cut.{before, from, lacks}
 use Rattle.iri_grammar.specs.Pieces.{pieces}
 use Rattle.iri_resolve.specs.Dots.{behind_dot, is_dot_segment}
+use Rattle.iri_grammar.specs.Characters.{slash}
 
 abbrev pub is_all : Option (List ℕ) → Bool
 is_all None = false
@@ -24,31 +25,38 @@ is_two_dots segment = is_one_dot_behind (behind_dot segment)
 -- the output without its last segment and the `/` before it: what stands before the last `/`, or nothing where there is none
 abbrev pub without_last : List ℕ → List ℕ
 without_last [] = []
-without_last (x ∷ xs) = cond (lacks 47 xs) [] (x ∷ without_last xs)
+without_last (x ∷ xs) = cond (lacks slash xs) [] (x ∷ without_last xs)
 
 -- the first segment of the input, without a `/` before it
 abbrev pub first_segment : ℕ → List ℕ → List ℕ
-first_segment x xs = cond (x == 47) (before 47 xs) (x ∷ before 47 xs)
+first_segment x xs = cond (x == slash) (before slash xs) (x ∷ before slash xs)
 
 -- one step, from an input and an output buffer to the next ones. The cases exclude one another
 pub data Step (input output next_input next_output : List ℕ) : Type 0 where
   -- A: a prefix `../` or `./` is removed from the input
-  remove_prefix : (d : List ℕ) → is_dot_segment d ≡ true → input ≡ d ++ 47 ∷ next_input → next_output ≡ output → Step input output next_input next_output
+  remove_prefix : (d : List ℕ) → is_dot_segment d ≡ true → input ≡ d ++ slash ∷ next_input → next_output ≡ output
+      → Step input output next_input next_output
   -- B: a prefix `/./`, or `/.` as the whole input, is replaced by `/`
-  replace_dot : (d rest : List ℕ) → is_one_dot d ≡ true → input ≡ 47 ∷ (d ++ 47 ∷ rest) → next_input ≡ 47 ∷ rest → next_output ≡ output → Step input output next_input next_output
-  replace_last_dot : (d : List ℕ) → is_one_dot d ≡ true → input ≡ 47 ∷ d → next_input ≡ 47 ∷ [] → next_output ≡ output → Step input output next_input next_output
+  replace_dot : (d rest : List ℕ) → is_one_dot d ≡ true → input ≡ slash ∷ (d ++ slash ∷ rest) → next_input ≡ slash ∷ rest
+      → next_output ≡ output → Step input output next_input next_output
+  replace_last_dot : (d : List ℕ) → is_one_dot d ≡ true → input ≡ slash ∷ d → next_input ≡ slash ∷ [] → next_output ≡ output
+      → Step input output next_input next_output
   -- C: a prefix `/../`, or `/..` as the whole input, is replaced by `/`, and the output loses its last segment and the `/` before it
-  replace_dots : (d rest : List ℕ) → is_two_dots d ≡ true → input ≡ 47 ∷ (d ++ 47 ∷ rest) → next_input ≡ 47 ∷ rest → next_output ≡ without_last output → Step input output next_input next_output
-  replace_last_dots : (d : List ℕ) → is_two_dots d ≡ true → input ≡ 47 ∷ d → next_input ≡ 47 ∷ [] → next_output ≡ without_last output → Step input output next_input next_output
+  replace_dots : (d rest : List ℕ) → is_two_dots d ≡ true → input ≡ slash ∷ (d ++ slash ∷ rest) → next_input ≡ slash ∷ rest
+      → next_output ≡ without_last output → Step input output next_input next_output
+  replace_last_dots : (d : List ℕ) → is_two_dots d ≡ true → input ≡ slash ∷ d → next_input ≡ slash ∷ [] → next_output ≡ without_last output
+      → Step input output next_input next_output
   -- D: `.` or `..` as the whole input is removed
   remove_all : is_dot_segment input ≡ true → next_input ≡ [] → next_output ≡ output → Step input output next_input next_output
   -- E: otherwise the first segment, with a `/` before it and up to the next `/`, moves to the end of the output
-  move_segment : (x : ℕ) (xs : List ℕ) → is_dot_segment (first_segment x xs) ≡ false → input ≡ x ∷ xs → next_input ≡ from 47 xs → next_output ≡ output ++ x ∷ before 47 xs → Step input output next_input next_output
+  move_segment : (x : ℕ) (xs : List ℕ) → is_dot_segment (first_segment x xs) ≡ false → input ≡ x ∷ xs → next_input ≡ from slash xs
+      → next_output ≡ output ++ x ∷ before slash xs → Step input output next_input next_output
 
 -- steps lead from the two buffers to an empty input and the result as output
 pub data LeadsTo (result : List ℕ) : List ℕ → List ℕ → Type 0 where
   ended : (input output : List ℕ) → input ≡ [] → output ≡ result → LeadsTo result input output
-  onward : (input output next_input next_output : List ℕ) → Step input output next_input next_output → LeadsTo result next_input next_output → LeadsTo result input output
+  onward : (input output next_input next_output : List ℕ) → Step input output next_input next_output → LeadsTo result next_input next_output
+      → LeadsTo result input output
 
 -- the result is what dot removal makes of the path: the steps begin with the path as input and an empty output
 abbrev pub IsWithoutDots : List ℕ → List ℕ → Type 0
@@ -70,9 +78,10 @@ closed (s ∷ ss) output = output
 -- the segments that follow a `/`
 abbrev pub remove_behind : List (List ℕ) → List (List ℕ) → List (List ℕ)
 remove_behind output [] = output
-remove_behind output (s ∷ ss) = cond (is_dot_segment s) (remove_behind (closed ss (cond (is_two_dots s) (without_top output) output)) ss) (remove_behind (s ∷ output) ss)
+remove_behind output (s ∷ ss) = cond (is_dot_segment s) (remove_behind (closed ss (cond (is_two_dots s) (without_top output) output)) ss)
+    (remove_behind (s ∷ output) ss)
 
--- dot segments at the front go
+-- dot segments at the start go
 abbrev pub remove_dots : List (List ℕ) → List (List ℕ)
 remove_dots [] = [] ∷ []
 remove_dots (s ∷ ss) = cond (is_dot_segment s) (remove_dots ss) (remove_behind (s ∷ []) ss)
@@ -81,8 +90,8 @@ remove_dots (s ∷ ss) = cond (is_dot_segment s) (remove_dots ss) (remove_behind
 abbrev pub path_text : List (List ℕ) → List ℕ
 path_text [] = []
 path_text (s ∷ []) = s
-path_text (s ∷ t ∷ ss) = path_text (t ∷ ss) ++ 47 ∷ s
+path_text (s ∷ t ∷ ss) = path_text (t ∷ ss) ++ slash ∷ s
 
 -- the path with its dot segments removed
 unfoldable pub dots : List ℕ → List ℕ
-dots path = path_text (remove_dots (pieces 47 path))
+dots path = path_text (remove_dots (pieces slash path))

@@ -1,13 +1,15 @@
 -- Dot segments (RFC 3986 section 5.2.4). `%2E` and `%2e` count as a dot.
 use Rattle.std.specs.Prelude.{ℕ, Bool, true, false, cond, ◌&&◌, ◌||◌, ◌==◌, List, [], ◌∷◌, Option, Some, None}
 use Rattle.iri_grammar.specs.Pieces.{pieces}
+use Rattle.iri_grammar.specs.Characters.{dot, percent_sign, slash}
 
--- what follows a dot at the front, where there is one, in any spelling
+-- what follows a dot at the start, where there is one, in any spelling
 abbrev pub behind_dot : List ℕ → Option (List ℕ)
 behind_dot [] = None
-behind_dot (x ∷ []) = cond (x == 46) (Some []) None
-behind_dot (x ∷ y ∷ []) = cond (x == 46) (Some (y ∷ [])) None
-behind_dot (x ∷ y ∷ z ∷ xs) = cond (x == 46) (Some (y ∷ z ∷ xs)) (cond (x == 37 && y == 50 && (z == 69 || z == 101)) (Some xs) None)
+behind_dot (x ∷ []) = cond (x == dot) (Some []) None
+behind_dot (x ∷ y ∷ []) = cond (x == dot) (Some (y ∷ [])) None
+behind_dot (x ∷ y ∷ z ∷ xs) = cond (x == dot) (Some (y ∷ z ∷ xs))
+    (cond (x == percent_sign && y == 50 && (z == 69 || z == 101)) (Some xs) None)
 
 -- nothing, or one dot more
 abbrev pub is_dot_or_nothing : List ℕ → Bool
@@ -33,4 +35,4 @@ any_dot_segment (s ∷ ss) = is_dot_segment s || any_dot_segment ss
 
 -- a dot segment stands among the segments of the path, between its slashes
 abbrev pub has_dot_segment : List ℕ → Bool
-has_dot_segment path = any_dot_segment (pieces 47 path)
+has_dot_segment path = any_dot_segment (pieces slash path)

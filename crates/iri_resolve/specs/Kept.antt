@@ -3,6 +3,7 @@ use Rattle.std.specs.Prelude.{ℕ, ◌+◌, ◌-◌, Bool, false, cond, not, ◌
 use Rattle.iri_grammar.specs.Parts.{is_empty}
 use Rattle.iri_resolve.specs.Dots.{is_dot_segment}
 use Rattle.iri_resolve.specs.DotRemoval.{is_two_dots}
+use Rattle.iri_grammar.specs.Characters.{slash}
 
 abbrev pub grown : ℕ → List (List ℕ) → List (List ℕ)
 grown x [] = []
@@ -11,7 +12,7 @@ grown x (s ∷ ss) = (x ∷ s) ∷ ss
 -- the segments that end with a slash
 abbrev pub ended : List ℕ → List (List ℕ)
 ended [] = []
-ended (x ∷ xs) = cond (x == 47) ([] ∷ ended xs) (grown x (ended xs))
+ended (x ∷ xs) = cond (x == slash) ([] ∷ ended xs) (grown x (ended xs))
 
 -- how many segments are removed in front of a segment, where n are removed in front of what follows it: `..` removes one more,
 -- and another segment that isn't a dot segment may be one of the n
@@ -25,7 +26,7 @@ removed (s ∷ ss) n = removing s (removed ss n)
 
 -- what stays of a segment and its slash, where n segments are removed in front of what follows it
 abbrev pub kept_one : List ℕ → ℕ → List ℕ
-kept_one s n = cond (is_dot_segment s) [] (cond (n == 0) (s ++ 47 ∷ []) [])
+kept_one s n = cond (is_dot_segment s) [] (cond (n == 0) (s ++ slash ∷ []) [])
 
 -- what stays of segments, each with its slash
 abbrev pub kept : List (List ℕ) → ℕ → List ℕ
@@ -39,9 +40,9 @@ bottom s n = cond (n == 0) s []
 -- what stays of the segments of a path, the first of which is no dot segment
 abbrev pub kept_from_first : List (List ℕ) → ℕ → List ℕ
 kept_from_first [] n = []
-kept_from_first (s ∷ ss) n = bottom s (removed ss n) ++ 47 ∷ kept ss n
+kept_from_first (s ∷ ss) n = bottom s (removed ss n) ++ slash ∷ kept ss n
 
--- dot segments at the front go
+-- dot segments at the start go
 abbrev pub behind_front_dots : List (List ℕ) → List (List ℕ)
 behind_front_dots [] = []
 behind_front_dots (s ∷ ss) = cond (is_dot_segment s) (behind_front_dots ss) (s ∷ ss)
@@ -53,7 +54,7 @@ kept_last s = cond (is_dot_segment s) [] s
 -- whether a text begins with a slash, where `more` says so of what follows it
 abbrev pub begins : List ℕ → Bool → Bool
 begins [] more = more
-begins (x ∷ xs) more = x == 47
+begins (x ∷ xs) more = x == slash
 
 -- the same of what stays of one segment and its slash
 abbrev pub one_begins : List ℕ → ℕ → Bool → Bool

@@ -9,7 +9,7 @@ use Rattle.iri_resolve.specs.Target.{target}
 use Rattle.iri_resolve.specs.DotRemoval.{dots}
 use Rattle.iri_resolve.specs.Guard.{guard}
 use Rattle.iri_resolve.specs.Modes.{is_normalizing}
-use Rattle.iri_resolve.specs.Normal.{lowered, where_there}
+use Rattle.iri_resolve.specs.LowerCase.{lowered, where_there}
 use Rattle.iri_resolve.specs.declared.mode.Mode.{Mode}
 use Rattle.iri_resolve.specs.declared.mode.Mode.TheVariants.{Plain, Normal, Preserving}
 
@@ -40,13 +40,20 @@ part_in normal f part = cond normal (where_there f part) part
 unfoldable pub form : Tests → Mode → Bool → Parts → Parts
 form s mode whole t =
     let normal = is_normalizing mode in
-    record { scheme = part_in normal lowered t.scheme; authority = part_in normal (normal_authority s) t.authority; path = path_in s mode whole t.authority t.path; query = part_in normal (pct s) t.query; fragment = part_in normal (pct s) t.fragment }
+    record {
+      scheme = part_in normal lowered t.scheme;
+      authority = part_in normal (normal_authority s) t.authority;
+      path = path_in s mode whole t.authority t.path;
+      query = part_in normal (pct s) t.query;
+      fragment =
+          part_in normal (pct s) t.fragment;
+    }
 
 -- the normal form
 unfoldable pub normal_form : Tests → Parts → Parts
 normal_form s t = form s Normal false t
 
--- no authority stands, and without its dot segments the path would be read as one. A base's path taken whole isn't judged
+-- no authority stands, and without its dot segments the path would be read as one. A base's path taken whole isn't validated
 abbrev pub is_unresolvable : Bool → Parts → Bool
 is_unresolvable whole t = not whole && (not (is_some t.authority) && starts_with_slashes (dots t.path))
 

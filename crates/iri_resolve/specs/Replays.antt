@@ -1,8 +1,8 @@
 -- What a replay of steps answers.
-use Rattle.std.specs.Prelude.{◌≡◌, ◌<◌, ℕ, List, Option, Some, None, length, take, slice_get}
+use Rattle.std.specs.Prelude.{◌≡◌, ℕ, List, Some, None, take, slice_get}
 use Rattle.iri_grammar.specs.Classes.{Tests}
 use Rattle.iri_grammar.specs.Parts.{Parts}
-use Rattle.iri_resolve.specs.Steps.{step, onward, replayed}
+use Rattle.iri_resolve.specs.Steps.{step, replayed}
 use Rattle.iri_resolve.specs.declared.step.Step.{Step}
 use Rattle.iri_resolve.specs.declared.replay.ReplayError.{ReplayError}
 use Rattle.iri_resolve.specs.declared.replay.ReplayError.TheVariants.{Illegal, Memory}
@@ -19,10 +19,6 @@ pub record IsIllegal (s : Tests) (t : Parts) (l : List Step) (k : ℕ) : Type 0 
 abbrev pub EndsBy : Tests → Parts → List Step → ReplayError → Type 0
 EndsBy s t l (Illegal k) = IsIllegal s t l k
 EndsBy s t l Memory = Unit {0}
-
--- the parts reached after the first k steps
-abbrev pub Reached : Tests → Parts → List Step → ℕ → Parts → Type 0
-Reached s t l k u = replayed s t (take k l) ≡ Some u
 
 -- why a step gives no parts
 abbrev pub StopsAt : Tests → Parts → Step → ℕ → ReplayError → Type 0

@@ -17,12 +17,15 @@ use Rattle.iri_resolve.specs.declared.step.Step.TheVariants.{SchemeLetter, HostL
 abbrev link : Parts
 link = record { scheme = Some (codes "HTTP"); authority = Some (codes "H"); path = codes "/%7e"; query = None; fragment = None }
 
-to_normal : replayed uri_tests link (SchemeLetter 0 ∷ SchemeLetter 1 ∷ SchemeLetter 2 ∷ SchemeLetter 3 ∷ HostLetter 0 ∷ Decode Path 1 ∷ []) ≡ Some (record { scheme = Some (codes "http"); authority = Some (codes "h"); path = codes "/~"; query = None; fragment = None })
-unfolding replayed step with_small_letter with_small_host_letter with_decoded whole_triplets is_ascii_host authority_parts recompose_authority first_char chars encode unreserved is_ascii_unreserved
+to_normal : replayed uri_tests link (SchemeLetter 0 ∷ SchemeLetter 1 ∷ SchemeLetter 2 ∷ SchemeLetter 3 ∷ HostLetter 0 ∷ Decode Path 1 ∷ [])
+    ≡ Some (record { scheme = Some (codes "http"); authority = Some (codes "h"); path = codes "/~"; query = None; fragment = None })
+unfolding replayed step with_small_letter with_small_host_letter with_decoded whole_triplets is_ascii_host authority_parts
+    recompose_authority first_char chars encode unreserved is_ascii_unreserved
 to_normal = refl
 
 -- there is no empty port, no dot segment, no small digit outside triplets, and no letter behind the end
-no_step : (step uri_tests link EmptyPort ∷ step uri_tests link Dots ∷ step uri_tests link (HexDigit Path 0) ∷ step uri_tests link (SchemeLetter 4) ∷ step uri_tests link (HexDigit Query 1) ∷ []) ≡ None ∷ None ∷ None ∷ None ∷ None ∷ []
+no_step : (step uri_tests link EmptyPort ∷ step uri_tests link Dots ∷ step uri_tests link (HexDigit Path 0)
+    ∷ step uri_tests link (SchemeLetter 4) ∷ step uri_tests link (HexDigit Query 1) ∷ []) ≡ None ∷ None ∷ None ∷ None ∷ None ∷ []
 unfolding step with_small_letter with_capital_digit whole_triplets authority_parts recompose_authority dots is_dot_segment
 no_step = refl
 
@@ -30,27 +33,41 @@ abbrev named : Parts
 named = record link { authority = Some (codes "U%3a@H%2d:") }
 
 -- the userinfo keeps its letters, and `:` stays in its triplet
-kept : (step uri_tests named (HostLetter 0) ∷ step uri_tests named (Decode Authority 1) ∷ step uri_tests named (HostLetter 8) ∷ []) ≡ None ∷ None ∷ None ∷ []
-unfolding step with_small_letter with_small_host_letter with_decoded whole_triplets is_ascii_host authority_parts recompose_authority first_char chars encode unreserved is_ascii_unreserved
+kept : (step uri_tests named (HostLetter 0) ∷ step uri_tests named (Decode Authority 1) ∷ step uri_tests named (HostLetter 8) ∷ [])
+    ≡ None ∷ None ∷ None ∷ []
+unfolding step with_small_letter with_small_host_letter with_decoded whole_triplets is_ascii_host authority_parts recompose_authority
+    first_char chars encode unreserved is_ascii_unreserved
 kept = refl
 
-changed : replayed uri_tests named (HexDigit Authority 3 ∷ HostLetter 5 ∷ Decode Authority 6 ∷ EmptyPort ∷ []) ≡ Some (record link { authority = Some (codes "U%3A@h-") })
-unfolding replayed step with_small_letter with_small_host_letter with_capital_digit with_decoded whole_triplets is_ascii_host authority_parts recompose_authority first_char chars encode unreserved is_ascii_unreserved
+changed : replayed uri_tests named (HexDigit Authority 3 ∷ HostLetter 5 ∷ Decode Authority 6 ∷ EmptyPort ∷ [])
+    ≡ Some (record link { authority = Some (codes "U%3A@h-") })
+unfolding replayed step with_small_letter with_small_host_letter with_capital_digit with_decoded whole_triplets is_ascii_host
+    authority_parts recompose_authority first_char chars encode unreserved is_ascii_unreserved
 changed = refl
 
 abbrev past_ascii : Parts
 past_ascii = record link { authority = Some (codes "H%C3%89") }
 
 -- a host past ASCII keeps its letters; a character past ASCII is decoded in an IRI, not in a URI
-past : (step iri_tests past_ascii (HostLetter 0) ∷ step iri_tests past_ascii (Decode Authority 1) ∷ step uri_tests past_ascii (Decode Authority 1) ∷ step iri_tests past_ascii (Decode Authority 4) ∷ []) ≡ None ∷ Some (record link { authority = Some (codes "H" ++ encode 0xC9) }) ∷ None ∷ None ∷ []
-unfolding step with_small_letter with_small_host_letter with_decoded whole_triplets is_ascii_host authority_parts recompose_authority first_char chars encode unreserved is_ascii_unreserved is_ucschar is_ucschar_plane
+past : (step iri_tests past_ascii (HostLetter 0) ∷ step iri_tests past_ascii (Decode Authority 1)
+    ∷ step uri_tests past_ascii (Decode Authority 1) ∷ step iri_tests past_ascii (Decode Authority 4) ∷ [])
+    ≡ None ∷ Some (record link { authority = Some (codes "H" ++ encode 0xC9) }) ∷ None ∷ None ∷ []
+unfolding step with_small_letter with_small_host_letter with_decoded whole_triplets is_ascii_host authority_parts recompose_authority
+    first_char chars encode unreserved is_ascii_unreserved is_ucschar is_ucschar_plane
 past = refl
 
 abbrev without_authority : Parts
-without_authority = record { scheme = Some (codes "foo"); authority = None; path = codes "/..//b"; query = Some (codes "%aB"); fragment = Some (codes "a%b") }
+without_authority = record {
+  scheme = Some (codes "foo");
+  authority = None;
+  path = codes "/..//b";
+  query = Some (codes "%aB");
+  fragment = Some (codes "a%b");
+}
 
 -- the guard is put once; a digit inside a triplet is not that of another text
-guarded : replayed uri_tests without_authority (Dots ∷ HexDigit Query 1 ∷ []) ≡ Some (record without_authority { path = codes "/.//b"; query = Some (codes "%AB") })
+guarded : replayed uri_tests without_authority (Dots ∷ HexDigit Query 1 ∷ [])
+    ≡ Some (record without_authority { path = codes "/.//b"; query = Some (codes "%AB") })
 unfolding replayed step with_capital_digit whole_triplets dots is_dot_segment
 guarded = refl
 

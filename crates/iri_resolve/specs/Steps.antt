@@ -29,11 +29,13 @@ host_start a = length (userinfo_text a.userinfo)
 
 -- a change at the place i of an authority, in its host
 abbrev pub in_host : (ℕ → List ℕ → Option (List ℕ)) → ℕ → AuthorityParts → Option (List ℕ)
-in_host change i a = cond (nat_lt i (host_start a)) None (placed (λ h. recompose_authority (record a { host = h })) (change (i - host_start a) a.host))
+in_host change i a = cond (nat_lt i (host_start a)) None
+    (placed (λ h. recompose_authority (record a { host = h })) (change (i - host_start a) a.host))
 
 -- a change at the place i of an authority, in its userinfo or its host
 abbrev pub in_userinfo_or_host : (ℕ → List ℕ → Option (List ℕ)) → ℕ → AuthorityParts → Option (List ℕ)
-in_userinfo_or_host change i a = cond (nat_lt i (host_start a)) (placed (λ u. recompose_authority (record a { userinfo = Some u })) (in_part (change i) a.userinfo)) (in_host change i a)
+in_userinfo_or_host change i a = cond (nat_lt i (host_start a))
+    (placed (λ u. recompose_authority (record a { userinfo = Some u })) (in_part (change i) a.userinfo)) (in_host change i a)
 
 -- an authority without its empty port
 abbrev pub without_empty_port : AuthorityParts → Option (List ℕ) → Option (List ℕ)
@@ -46,11 +48,13 @@ with_small_letter_in_host i a = cond (is_ascii_host a.host) (in_host with_small_
 
 -- the path without dot segments, guarded, where that is another path
 abbrev pub with_dots_removed : Parts → Option (List ℕ)
-with_dots_removed t = cond (bytes_eq (guard (dots t.path) (is_some t.authority)) t.path) None (Some (guard (dots t.path) (is_some t.authority)))
+with_dots_removed t = cond (bytes_eq (guard (dots t.path) (is_some t.authority)) t.path) None
+    (Some (guard (dots t.path) (is_some t.authority)))
 
 -- a change of triplets at the place i of a part
 abbrev pub at_place : (ℕ → List ℕ → Option (List ℕ)) → Parts → Part → ℕ → Option Parts
-at_place change t Authority i = placed (λ a. record t { authority = Some a }) (in_part (λ a. in_userinfo_or_host change i (authority_parts a)) t.authority)
+at_place change t Authority i = placed (λ a. record t { authority = Some a })
+    (in_part (λ a. in_userinfo_or_host change i (authority_parts a)) t.authority)
 at_place change t Path i = placed (λ p. record t { path = p }) (change i t.path)
 at_place change t Query i = placed (λ q. record t { query = Some q }) (in_part (change i) t.query)
 at_place change t Fragment i = placed (λ f. record t { fragment = Some f }) (in_part (change i) t.fragment)
@@ -58,10 +62,12 @@ at_place change t Fragment i = placed (λ f. record t { fragment = Some f }) (in
 -- the parts after a step; none where it is no step from these parts
 unfoldable pub step : Tests → Parts → Step → Option Parts
 step s t (SchemeLetter i) = placed (λ x. record t { scheme = Some x }) (in_part (with_small_letter i) t.scheme)
-step s t (HostLetter i) = placed (λ a. record t { authority = Some a }) (in_part (λ a. with_small_letter_in_host i (authority_parts a)) t.authority)
+step s t (HostLetter i) = placed (λ a. record t { authority = Some a })
+    (in_part (λ a. with_small_letter_in_host i (authority_parts a)) t.authority)
 step s t (HexDigit part i) = at_place with_capital_digit t part i
 step s t (Decode part i) = at_place (with_decoded s) t part i
-step s t EmptyPort = placed (λ a. record t { authority = Some a }) (in_part (λ a. without_empty_port (authority_parts a) (authority_parts a).port) t.authority)
+step s t EmptyPort = placed (λ a. record t { authority = Some a })
+    (in_part (λ a. without_empty_port (authority_parts a) (authority_parts a).port) t.authority)
 step s t Dots = placed (λ p. record t { path = p }) (with_dots_removed t)
 
 abbrev pub onward : Option Parts → (Parts → Option Parts) → Option Parts

@@ -1,38 +1,40 @@
 -- The target of a reference against a base (RFC 3986 sections 5.2.2 and 5.2.3). No dot is removed.
-use Rattle.std.specs.Prelude.{◌≡◌, ℕ, ◌+◌, ◌<◌, length, take, slice_index, Bool, true, false, cond, ◌&&◌, ◌||◌, not, ◌==◌, List, [], ◌∷◌, ◌++◌, Option, Some, None, is_some}
+use Rattle.std.specs.Prelude.{◌≡◌, ℕ, ◌+◌, ◌<◌, length, take, slice_index, Bool, true, false, cond, ◌&&◌, ◌||◌, not, ◌==◌, List, [], ◌∷◌}
+use Rattle.std.specs.Prelude.{◌++◌, Option, Some, None, is_some}
 use Rattle.iri_grammar.specs.Cut.{lacks}
 use Rattle.iri_grammar.specs.Parts.{Parts, is_empty, starts_with_slash}
+use Rattle.iri_grammar.specs.Characters.{slash}
 
 -- a path up to and with its last `/`, or nothing where it has none
 abbrev pub to_last_slash : List ℕ → List ℕ
 to_last_slash [] = []
-to_last_slash (x ∷ xs) = cond (lacks 47 (x ∷ xs)) [] (x ∷ to_last_slash xs)
+to_last_slash (x ∷ xs) = cond (lacks slash (x ∷ xs)) [] (x ∷ to_last_slash xs)
 
 -- the last `/` stands at k
 pub record LastSlash (path : List ℕ) (k : ℕ) : Type 0 where
   pub inside : k < length path
-  pub byte : slice_index path k ≡ 47
+  pub byte : slice_index path k ≡ slash
   pub front : take (k + 1) path ≡ to_last_slash path
-  pub has : lacks 47 path ≡ false
+  pub has : lacks slash path ≡ false
 
 -- there is no `/`
 pub record NoSlash (path : List ℕ) : Type 0 where
   pub front : [] ≡ to_last_slash path
-  pub has : lacks 47 path ≡ true
+  pub has : lacks slash path ≡ true
 
 -- nothing, or a text that ends with a `/`
 abbrev pub ends_at_slash : List ℕ → Bool
 ends_at_slash [] = true
-ends_at_slash (x ∷ xs) = cond (is_empty xs) (x == 47) (ends_at_slash xs)
+ends_at_slash (x ∷ xs) = cond (is_empty xs) (x == slash) (ends_at_slash xs)
 
--- the front that a relative path is put behind (section 5.2.3): `/` beside an authority with an empty path, otherwise
+-- the prefix that a relative path is put behind (section 5.2.3): `/` beside an authority with an empty path, otherwise
 -- the base's path up to its last `/`
-abbrev pub merge_front : Parts → List ℕ
-merge_front base = cond (is_some base.authority && is_empty base.path) (47 ∷ []) (to_last_slash base.path)
+abbrev pub merge_prefix : Parts → List ℕ
+merge_prefix base = cond (is_some base.authority && is_empty base.path) (slash ∷ []) (to_last_slash base.path)
 
 -- of a path that isn't empty: itself where it begins with `/`, otherwise merged with the base's
 abbrev pub merged : Parts → List ℕ → List ℕ
-merged base path = cond (starts_with_slash path) path (merge_front base ++ path)
+merged base path = cond (starts_with_slash path) path (merge_prefix base ++ path)
 
 abbrev pub or_base : Option (List ℕ) → Option (List ℕ) → Option (List ℕ)
 or_base None base = base
@@ -49,9 +51,21 @@ target_query base reference = cond (is_empty reference.path) (or_base reference.
 -- the four cases of section 5.2.2; the fragment is always the reference's
 abbrev pub target_under : Parts → Parts → Option (List ℕ) → Option (List ℕ) → Parts
 target_under base r (Some scheme) authority = r
-target_under base r None (Some authority) = record { scheme = base.scheme; authority = Some authority; path = r.path; query = r.query; fragment = r.fragment }
+target_under base r None (Some authority) = record {
+  scheme = base.scheme;
+  authority = Some authority;
+  path = r.path;
+  query = r.query;
+  fragment = r.fragment;
+}
 target_under base r None None =
-    record { scheme = base.scheme; authority = base.authority; path = target_path base r.path; query = target_query base r; fragment = r.fragment }
+    record {
+      scheme = base.scheme;
+      authority = base.authority;
+      path = target_path base r.path;
+      query = target_query base r;
+      fragment = r.fragment;
+    }
 
 unfoldable pub target : Parts → Parts → Parts
 target base reference = target_under base reference reference.scheme reference.authority

@@ -3,15 +3,16 @@ ghost use Rattle.std.specs.Prelude.{◌≡◌, ◌++◌, IfOk, Some, None, is_so
 ghost use Rattle.iri_grammar.specs.Authority.{authority_parts, is_authority};
 ghost use Rattle.iri_grammar.specs.Components.{if_there, is_path};
 ghost use Rattle.iri_grammar.specs.Parts.{Fits};
-ghost use Rattle.iri_grammar.specs.Views.{now_of};
+ghost use Rattle.iri_grammar.specs.OptionalSlices.{now_of};
 ghost use Rattle.iri_percent.specs.Units.{whole_triplets};
-ghost use Rattle.iri_resolve.specs.ChangeOf.{change_of};
+ghost use Rattle.iri_resolve.specs.inside.ChangeOf.{change_of};
 ghost use Rattle.iri_resolve.specs.DotRemoval.{dots};
 ghost use Rattle.iri_resolve.specs.Guard.{guard};
-ghost use Rattle.iri_resolve.specs.PartTexts.{changed_in_part, is_part_whole, part_text, with_part};
+ghost use Rattle.iri_resolve.specs.inside.PartTexts.{changed_in_part, is_part_whole, part_text, with_part};
 ghost use Rattle.iri_resolve.specs.Resolver.{bytes_of};
 ghost use Rattle.iri_resolve.specs.Slices.{slices};
-ghost use Rattle.iri_resolve.specs.Steps.{placed, in_part, at_place, step, without_empty_port, with_dots_removed, with_small_letter_in_host};
+ghost use Rattle.iri_resolve.specs.Steps.{placed, in_part, at_place, step, without_empty_port, with_dots_removed};
+ghost use Rattle.iri_resolve.specs.Steps.{with_small_letter_in_host};
 ghost use Rattle.iri_resolve.specs.declared.step.Part.TheVariants.{Authority, Path};
 ghost use Rattle.iri_resolve.specs.declared.step.Step.TheVariants.{SchemeLetter, HostLetter, EmptyPort, Dots};
 
@@ -129,7 +130,7 @@ fn changed_in_part<S: Spec>(
 }
 
 // The path without its dot segments, guarded.
-pub(crate) fn guarded_path<S: Spec>(
+fn guarded_path<S: Spec>(
     alloc: Global,
     path: &str,
     authority_stands: bool,
@@ -227,7 +228,7 @@ fn dots_step<S: Spec>(alloc: Global, target: &Target<S>) -> Result<Option<Target
     with_part(alloc, target, Part::Path, path)
 }
 
-/// The parts after a step; none exactly where it is no step from these parts. Want of memory is the only error.
+/// The parts after a step; none exactly where it is no step from these parts. Allocation failure is the only error.
 pub(crate) fn after_step<S: Spec>(
     alloc: Global,
     target: &Target<S>,

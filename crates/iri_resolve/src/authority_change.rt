@@ -1,15 +1,18 @@
 // Changes of an authority at one place.
 ghost use Rattle.std.specs.Prelude.{◌≡◌, ◌∷◌, [], ◌<◌, ◌≤◌, ◌++◌, IfOk, None, OnOk, cond, length, string_bytes, true};
-ghost use Rattle.iri_grammar.specs.Authority.{AuthorityParts, FitsAuthority, authority_parts, is_authority, recompose_authority, userinfo_text};
+ghost use Rattle.iri_grammar.specs.Authority.{AuthorityParts, FitsAuthority, authority_parts, is_authority};
+ghost use Rattle.iri_grammar.specs.Authority.{recompose_authority, userinfo_text};
 ghost use Rattle.iri_grammar.specs.Cut.{marked};
 ghost use Rattle.iri_grammar.specs.Spans.{span_parts};
-ghost use Rattle.iri_grammar.specs.Views.{now_of};
+ghost use Rattle.iri_grammar.specs.OptionalSlices.{now_of};
 ghost use Rattle.iri_percent.specs.NormalHost.{is_ascii_host};
 ghost use Rattle.iri_percent.specs.Units.{whole_triplets};
-ghost use Rattle.iri_resolve.specs.ChangeOf.{change_of};
+ghost use Rattle.iri_resolve.specs.inside.ChangeOf.{change_of};
 ghost use Rattle.iri_resolve.specs.Changes.{with_small_host_letter};
 ghost use Rattle.iri_resolve.specs.Resolver.{bytes_of};
-ghost use Rattle.iri_resolve.specs.Steps.{host_start, in_host, in_part, in_userinfo_or_host, placed, with_small_letter_in_host, without_empty_port};
+ghost use Rattle.iri_resolve.specs.Steps.{host_start, in_host, in_part, in_userinfo_or_host, placed};
+ghost use Rattle.iri_resolve.specs.Steps.{with_small_letter_in_host, without_empty_port};
+ghost use Rattle.iri_grammar.specs.Characters.{colon};
 
 use crate::change::{Change, changed, small_host_letter};
 use iri_grammar::authority::AuthoritySpan;
@@ -30,7 +33,7 @@ fn push_userinfo(text: &mut String, userinfo: Option<&str>) -> Result<(), AllocE
 
 // The port and the colon before it, where it stands.
 fn push_port(text: &mut String, port: Option<&str>) -> Result<(), AllocError>
-    ensures { OnOk result (string_bytes text.new ≡ string_bytes text.old ++ marked 58 (now_of port.entry)) }
+    ensures { OnOk result (string_bytes text.new ≡ string_bytes text.old ++ marked colon (now_of port.entry)) }
 {
     let Some(port) = port else {
         return Ok(());
@@ -47,7 +50,12 @@ fn recomposed(
     host: &str,
     port: Option<&str>,
 ) -> Result<String, AllocError>
-    ensures { IfOk result (λ text. string_bytes text ≡ recompose_authority (record { userinfo = now_of userinfo.entry; host = host.now; port = now_of port.entry })) }
+    ensures { IfOk result (λ text. string_bytes text
+        ≡ recompose_authority (record {
+          userinfo = now_of userinfo.entry;
+          host = host.now;
+          port = now_of port.entry;
+        })) }
 {
     let mut text = String::new(alloc);
     push_userinfo(&mut text, userinfo)?;
@@ -72,7 +80,8 @@ fn with_userinfo(
     span: &AuthoritySpan<'_>,
     userinfo: Option<String>,
 ) -> Result<Option<String>, AllocError>
-    ensures { IfOk result (λ o. bytes_of o ≡ placed (λ u. recompose_authority (record (span_parts span.now) { userinfo = Some u })) (bytes_of userinfo)) }
+    ensures { IfOk result (λ o. bytes_of o ≡ placed
+        (λ u. recompose_authority (record (span_parts span.now) { userinfo = Some u })) (bytes_of userinfo)) }
 {
     match userinfo {
         Some(userinfo) => {
@@ -89,7 +98,8 @@ fn with_host(
     span: &AuthoritySpan<'_>,
     host: Option<String>,
 ) -> Result<Option<String>, AllocError>
-    ensures { IfOk result (λ o. bytes_of o ≡ placed (λ h. recompose_authority (record (span_parts span.now) { host = h })) (bytes_of host)) }
+    ensures { IfOk result (λ o. bytes_of o ≡ placed
+        (λ h. recompose_authority (record (span_parts span.now) { host = h })) (bytes_of host)) }
 {
     match host {
         Some(host) => Ok(Some(recomposed(alloc, span.userinfo(), host.as_str(), span.port())?)),
@@ -105,7 +115,9 @@ fn changed_in_userinfo<S: Spec>(
     i: usize,
 ) -> Result<Option<String>, AllocError>
     requires { FitsAuthority S.tests (span_parts span.now) }
-    ensures { IfOk result (λ o. bytes_of o ≡ placed (λ u. recompose_authority (record (span_parts span.now) { userinfo = Some u })) (in_part (change_of S.tests change i) (span_parts span.now).userinfo)) }
+    ensures { IfOk result (λ o. bytes_of o ≡ placed
+        (λ u. recompose_authority (record (span_parts span.now) { userinfo = Some u }))
+        (in_part (change_of S.tests change i) (span_parts span.now).userinfo)) }
 {
     let Some(userinfo) = span.userinfo() else {
         return Ok(None);
@@ -122,7 +134,9 @@ fn changed_in_host<S: Spec>(
     i: usize,
 ) -> Result<Option<String>, AllocError>
     requires { FitsAuthority S.tests (span_parts span.now) }
-    ensures { IfOk result (λ o. bytes_of o ≡ placed (λ h. recompose_authority (record (span_parts span.now) { host = h })) (change_of S.tests change i (span_parts span.now).host)) }
+    ensures { IfOk result (λ o. bytes_of o ≡ placed
+        (λ h. recompose_authority (record (span_parts span.now) { host = h }))
+        (change_of S.tests change i (span_parts span.now).host)) }
 {
     let host = changed::<S>(alloc, change, span.host(), i)?;
     with_host(alloc, span, host)
@@ -136,7 +150,8 @@ pub(crate) fn changed_in_authority<S: Spec>(
     i: usize,
 ) -> Result<Option<String>, AllocError>
     requires { is_authority S.tests authority.now ≡ true }
-    ensures { IfOk result (λ o. bytes_of o ≡ in_userinfo_or_host (change_of S.tests change) i (authority_parts authority.now)) }
+    ensures { IfOk result (λ o. bytes_of o ≡ in_userinfo_or_host (change_of S.tests change) i
+        (authority_parts authority.now)) }
 {
     let span = AuthoritySpan::of::<S>(authority);
     let start = host_start(&span);
@@ -171,7 +186,8 @@ pub(crate) fn without_empty_port<S: Spec>(
     authority: &str,
 ) -> Result<Option<String>, AllocError>
     requires { is_authority S.tests authority.now ≡ true }
-    ensures { IfOk result (λ o. bytes_of o ≡ without_empty_port (authority_parts authority.now) (authority_parts authority.now).port) }
+    ensures { IfOk result (λ o. bytes_of o ≡ without_empty_port (authority_parts authority.now)
+        (authority_parts authority.now).port) }
 {
     let span = AuthoritySpan::of::<S>(authority);
     match span.port() {

@@ -29,7 +29,7 @@ pub enum CanonError {
     /// The base is valid; the reference isn't UTF-8 or no reference: its first fault.
     #[error("bad reference: {0}")]
     BadReference(GrammarError),
-    /// Memory was refused. Both were found valid.
+    /// Allocation failed. Both were found valid.
     #[error("out of memory")]
     Memory,
 }
@@ -41,7 +41,8 @@ pub fn show_canonical<'a, S: Spec, W: TextSink>(
     resolver: &FixedBaseResolver<'a, S>,
     reference: &SplitView<'a, S, Reference>,
 ) -> Result<(), Stop>
-    ensures { Shows W.puts W.halts W.stops sink.old (canonical S.tests (base_text resolver.now) (split_text reference.now)) sink.new result }
+    ensures { Shows W.puts W.halts W.stops sink.old
+        (canonical S.tests (base_text resolver.now) (split_text reference.now)) sink.new result }
 {
     resolver.resolve_split(reference).and_normalize().show(sink)
 }
@@ -54,7 +55,8 @@ pub fn write_canonical<'a, S: Spec>(
     resolver: &FixedBaseResolver<'a, S>,
     reference: &SplitView<'a, S, Reference>,
 ) -> Result<(), AllocError>
-    ensures text { OnOk result (string_bytes buffer.new ≡ canonical S.tests (base_text resolver.now) (split_text reference.now)) }
+    ensures text { OnOk result (string_bytes buffer.new
+        ≡ canonical S.tests (base_text resolver.now) (split_text reference.now)) }
     ensures valid { OnOk result (iri_fault S.tests (string_bytes buffer.new) ≡ None) }
 {
     buffer.clear();
@@ -67,7 +69,8 @@ fn canonicalize_against<S: Spec>(
     base: RiAbsoluteStr<'_, S>,
     reference: &[u8],
 ) -> Result<RiString<S>, CanonError>
-    ensures { MatchResult result (λ t. (bytes_fault (reference_fault S.tests) reference.now ≡ None) × (t.text ≡ canonical S.tests (text base.entry) reference.now))
+    ensures { MatchResult result (λ t. (bytes_fault (reference_fault S.tests) reference.now ≡ None)
+        × (t.text ≡ canonical S.tests (text base.entry) reference.now))
         (λ e. CausedBy e None (bytes_fault (reference_fault S.tests) reference.now)) }
 {
     match SplitView::<S, Reference>::try_from_bytes(reference) {
@@ -82,14 +85,16 @@ fn canonicalize_against<S: Spec>(
     }
 }
 
-/// The canonical text of a reference against a base, both as bytes. The base is judged first.
+/// The canonical text of a reference against a base, both as bytes. The base is validated first.
 pub fn canonicalize<S: Spec>(
     alloc: Global,
     base: &[u8],
     reference: &[u8],
 ) -> Result<RiString<S>, CanonError>
-    ensures causes { MatchResult result (λ _. (bytes_fault (absolute_fault S.tests) base.now ≡ None) × (bytes_fault (reference_fault S.tests) reference.now ≡ None))
-        (λ e. CausedBy e (bytes_fault (absolute_fault S.tests) base.now) (bytes_fault (reference_fault S.tests) reference.now)) }
+    ensures causes { MatchResult result (λ _. (bytes_fault (absolute_fault S.tests) base.now ≡ None)
+        × (bytes_fault (reference_fault S.tests) reference.now ≡ None))
+        (λ e. CausedBy e (bytes_fault (absolute_fault S.tests) base.now)
+        (bytes_fault (reference_fault S.tests) reference.now)) }
     ensures text { IfOk result (λ t. IsCanonicalText S.tests base.now reference.now t.text) }
 {
     match RiAbsoluteStr::<S>::try_from_bytes(base) {

@@ -1,11 +1,13 @@
 // Changes of a text at one place.
-ghost use Rattle.std.specs.Prelude.{◌≡◌, ◌<◌, ◌≤◌, ◌+◌, ◌-◌, ◌++◌, IfOk, take, drop, length, slice_index, string_bytes, true};
+ghost use Rattle.std.specs.Prelude.{◌≡◌, ◌<◌, ◌≤◌, ◌+◌, ◌-◌, ◌++◌, IfOk, take, drop, length, slice_index, string_bytes};
+ghost use Rattle.std.specs.Prelude.{true};
 ghost use Rattle.std.specs.Char.{encode_utf8, is_ascii_uppercase};
 ghost use Rattle.iri_percent.specs.Units.{whole_triplets};
 ghost use Rattle.iri_resolve.specs.Resolver.{bytes_of};
-ghost use Rattle.iri_resolve.specs.Changes.{is_in_triplet, is_small_digit, with_capital_digit, with_decoded, with_small_host_letter, with_small_letter};
-ghost use Rattle.iri_resolve.specs.ChangeOf.{change_of};
-ghost use Rattle.iri_resolve.specs.LookBack.{percent_before};
+ghost use Rattle.iri_resolve.specs.Changes.{is_in_triplet, is_small_digit, with_capital_digit, with_decoded};
+ghost use Rattle.iri_resolve.specs.Changes.{with_small_host_letter, with_small_letter};
+ghost use Rattle.iri_resolve.specs.inside.ChangeOf.{change_of};
+ghost use Rattle.iri_resolve.specs.inside.LookBack.{percent_before};
 
 use iri_grammar::spec::Spec;
 use iri_percent::character::decoded_char;

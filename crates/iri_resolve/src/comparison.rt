@@ -1,18 +1,18 @@
 // A text compared with one that is shown, without memory.
 ghost use Rattle.std.specs.Prelude.{◌≡◌, ◌↔◌, ◌++◌, true, MatchOption};
-ghost use Rattle.iri_resolve.specs.Compared.{IsApart};
+ghost use Rattle.iri_resolve.specs.inside.Comparison.{IsApart};
 ghost use Rattle.iri_text.specs.Shown.{Shows};
 
 use iri_text::{Show, Stop, TextSink};
 
-/// What is left of a text to compare with what is put. It stops at the first piece that doesn't stand at the front of that.
+/// What is left of a text to compare with what is put. It stops at the first piece that doesn't stand at the start of that.
 #[derive(Drop)]
 pub(crate) struct Comparison<'a> {
     left: &'a [u8],
     stops: u64,
 }
 
-// What follows a piece at the front of a text.
+// What follows a piece at the start of a text.
 fn behind<'a>(text: &'a [u8], piece: &[u8]) -> Option<&'a [u8]>
     ensures { MatchOption result (IsApart text.now piece.now) (λ rest. text.now ≡ piece.now ++ rest.now) }
 {
@@ -20,7 +20,8 @@ fn behind<'a>(text: &'a [u8], piece: &[u8]) -> Option<&'a [u8]>
 }
 
 impl<'a> TextSink for Comparison<'a> {
-    ghost use Rattle.iri_resolve.specs.Compared.{Leaves, Differs, leaves_none, leaves_both, differs_until, differs_within};
+    ghost use Rattle.iri_resolve.specs.inside.Comparison.{Leaves, Differs, leaves_none, leaves_both, differs_until};
+    ghost use Rattle.iri_resolve.specs.inside.Comparison.{differs_within};
 
     ghost puts = { Leaves };
 

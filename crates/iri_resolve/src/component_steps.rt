@@ -4,7 +4,7 @@ ghost use Rattle.std.specs.Prelude.{◌≡◌, ◌<◌, ◌≤◌, ◌+◌, ◌*
 ghost use Rattle.std.specs.Char.{is_ascii_uppercase};
 ghost use Rattle.iri_percent.specs.Units.{whole_triplets};
 ghost use Rattle.iri_resolve.specs.Changes.{is_small_digit};
-ghost use Rattle.iri_resolve.specs.ComponentSteps.{Moves, Walked, IsLed, letter_steps, digit_steps};
+ghost use Rattle.iri_resolve.specs.inside.ComponentSteps.{Moves, Walked, IsLed, letter_steps, digit_steps};
 ghost use Rattle.iri_resolve.specs.declared.step.Step.TheVariants.{Decode};
 
 use crate::change::is_small_digit;
@@ -15,7 +15,7 @@ use iri_grammar::spec::Spec;
 use iri_percent::character::decoded_char;
 use std::alloc::AllocError;
 
-// What stands at the front of a text: how many bytes it has, and how many of them its normal form.
+// What stands at the start of a text: how many bytes it has, and how many of them its normal form.
 #[derive(Clone, Copy)]
 struct Front {
     len: usize,
@@ -77,7 +77,7 @@ fn push_decoded(
     push_letter(steps, is_capital, at)
 }
 
-// The steps of what stands at the front, `at` bytes behind the beginning of the part in normal form.
+// The steps of what stands at the start, `at` bytes behind the beginning of the part in normal form.
 fn push_front<S: Spec>(
     steps: &mut StepList,
     component: Component,
@@ -87,7 +87,8 @@ fn push_front<S: Spec>(
     requires whole { whole_triplets rest.now ≡ true }
     requires some { 0 < length rest.now }
     requires room { at + length rest.now < 2 ^ 64 }
-    ensures { IfOk result (λ front. Moves S.tests component at rest.now front.len front.normal_len steps.old steps.new) }
+    ensures { IfOk result
+        (λ front. Moves S.tests component at rest.now front.len front.normal_len steps.old steps.new) }
 {
     let first = rest[0];
     if first != b'%' {
@@ -112,7 +113,7 @@ fn push_front<S: Spec>(
     })
 }
 
-/// Appends the steps of a component, and says where its normal form ends. Want of memory is the only error.
+/// Appends the steps of a component, and says where its normal form ends. Allocation failure is the only error.
 pub(crate) fn push_component<S: Spec>(
     steps: &mut StepList,
     component: Component,

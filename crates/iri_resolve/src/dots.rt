@@ -2,14 +2,15 @@
 ghost use Rattle.std.specs.Prelude.{◌≡◌};
 ghost use Rattle.iri_grammar.specs.Cut.{before, behind};
 ghost use Rattle.iri_grammar.specs.Parts.{is_empty};
-ghost use Rattle.iri_grammar.specs.Views.{now_of};
+ghost use Rattle.iri_grammar.specs.OptionalSlices.{now_of};
 ghost use Rattle.iri_resolve.specs.Dots.{behind_dot, is_dot_segment, has_dot_segment};
 ghost use Rattle.iri_resolve.specs.DotRemoval.{is_two_dots};
-ghost use Rattle.iri_resolve.specs.DotSearch.{dots_in_front, slash_and_dots, dots_behind};
+ghost use Rattle.iri_resolve.specs.inside.DotSearch.{dots_in_front, slash_and_dots, dots_behind};
+ghost use Rattle.iri_grammar.specs.Characters.{slash};
 
 use memchr::memchr;
 
-// What follows a dot at the front, in any spelling.
+// What follows a dot at the start, in any spelling.
 fn behind_dot(s: &[u8]) -> Option<&[u8]>
     ensures { now_of result ≡ behind_dot s.now }
 {
@@ -42,9 +43,9 @@ pub fn is_two_dots(segment: &str) -> bool
     }
 }
 
-// Whether a segment ends at the front.
+// Whether a segment ends at the start.
 fn ends_segment(path: &[u8]) -> bool
-    ensures { result ≡ is_empty (before 47 path.now) }
+    ensures { result ≡ is_empty (before slash path.now) }
 {
     matches!(path, [] | [b'/', ..])
 }
@@ -65,7 +66,7 @@ fn begins_with_dot_segment(path: &[u8]) -> bool
     }
 }
 
-// Whether a slash stands at the front, and a dot segment behind it.
+// Whether a slash stands at the start, and a dot segment behind it.
 fn begins_with_slash_and_dots(path: &[u8]) -> bool
     ensures { result ≡ slash_and_dots path.now }
 {
@@ -97,7 +98,7 @@ fn has_dots_by_pairs(path: &[u8]) -> bool
 
 // What follows the first slash.
 fn behind_slash(path: &[u8]) -> Option<&[u8]>
-    ensures { now_of result ≡ behind 47 path.now }
+    ensures { now_of result ≡ behind slash path.now }
 {
     match memchr(b'/', path) {
         Some(i) => Some(&path[i + 1..]),

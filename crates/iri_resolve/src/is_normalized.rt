@@ -34,7 +34,8 @@ pub trait IsNormalized: Sized {
     /// Whether it is, and RFC 3986 alone has a normal form of it: without an authority, its path doesn't begin with `//` once its dot
     /// segments are removed.
     fn is_normalized_rfc3986(self) -> bool
-        ensures { (result ≡ true) ↔ (IsInMode tests Normal (bytes self) × (is_unresolvable false (split_of (bytes self)) ≡ false)) };
+        ensures { (result ≡ true) ↔ (IsInMode tests Normal (bytes self)
+            × (is_unresolvable false (split_of (bytes self)) ≡ false)) };
 
     /// Whether the text is its own normal form where a path without authority that doesn't begin with a slash keeps its dot
     /// segments.

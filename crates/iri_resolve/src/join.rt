@@ -44,7 +44,8 @@ fn have_one_normal_text<S: Spec>(
     a: &Target<S>,
     b: &Target<S>,
 ) -> Result<bool, AllocError>
-    ensures { IfOk result (λ same. same ≡ bytes_eq (recompose (normal_form S.tests a.now)) (recompose (normal_form S.tests b.now))) }
+    ensures { IfOk result (λ same. same ≡ bytes_eq (recompose (normal_form S.tests a.now))
+        (recompose (normal_form S.tests b.now))) }
 {
     let first = normal_text(alloc, a)?;
     let second = normal_text(alloc, b)?;
@@ -52,13 +53,14 @@ fn have_one_normal_text<S: Spec>(
 }
 
 /// Two lists of steps, one from each target, that lead to one target: their common normal form. There are none exactly where no
-/// two lists of steps lead to one target, which is where their canonical texts differ. Want of memory is the only error.
+/// two lists of steps lead to one target, which is where their canonical texts differ. Allocation failure is the only error.
 pub fn join_steps<S: Spec>(
     alloc: Global,
     a: &Target<S>,
     b: &Target<S>,
 ) -> Result<Option<(StepList, StepList)>, AllocError>
-    ensures { IfOk result (λ lists. MatchOption lists (AreApart S.tests a.now b.now) (λ l. LeadToOne S.tests a.now b.now l.0 l.1)) }
+    ensures { IfOk result (λ lists. MatchOption lists (AreApart S.tests a.now b.now)
+        (λ l. LeadToOne S.tests a.now b.now l.0 l.1)) }
 {
     let _first = a.slices();
     let _second = b.slices();

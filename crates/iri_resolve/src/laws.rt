@@ -22,7 +22,8 @@ use iri_grammar::spec::Spec;
 
 /// The target of a reference against parts with a scheme fits and has a scheme.
 pub fn target_fits<S: Spec>()
-    ensures { (base reference : Parts) → Fits S.tests base → IsSome base.scheme → Fits S.tests reference → Fits S.tests (target base reference) × IsSome (target base reference).scheme }
+    ensures { (base reference : Parts) → Fits S.tests base → IsSome base.scheme → Fits S.tests reference
+        → Fits S.tests (target base reference) × IsSome (target base reference).scheme }
 {}
 
 /// The steps of dot removal lead from each path to one result, and `dots` is that result.
@@ -48,45 +49,56 @@ pub fn dot_removal_commutes_with_triplets<S: Spec>()
 
 /// The normal form of parts that fit and have a scheme fits and has a scheme.
 pub fn normal_form_fits<S: Spec>()
-    ensures { (parts : Parts) → Fits S.tests parts → IsSome parts.scheme → Fits S.tests (normal_form S.tests parts) × IsSome (normal_form S.tests parts).scheme }
+    ensures { (parts : Parts) → Fits S.tests parts → IsSome parts.scheme
+        → Fits S.tests (normal_form S.tests parts) × IsSome (normal_form S.tests parts).scheme }
 {}
 
 /// The normal form of parts that fit is its own normal form.
 pub fn normal_form_is_stable<S: Spec>()
-    ensures { (parts : Parts) → Fits S.tests parts → normal_form S.tests (normal_form S.tests parts) ≡ normal_form S.tests parts }
+    ensures { (parts : Parts) → Fits S.tests parts
+        → normal_form S.tests (normal_form S.tests parts) ≡ normal_form S.tests parts }
 {}
 
 /// Parts that fit and have a scheme do so in every mode.
 pub fn every_form_fits<S: Spec>()
-    ensures { (mode : Mode) (whole : Bool) (parts : Parts) → Fits S.tests parts → IsSome parts.scheme → Fits S.tests (form S.tests mode whole parts) × IsSome (form S.tests mode whole parts).scheme }
+    ensures { (mode : Mode) (whole : Bool) (parts : Parts) → Fits S.tests parts → IsSome parts.scheme
+        → Fits S.tests (form S.tests mode whole parts) × IsSome (form S.tests mode whole parts).scheme }
 {}
 
 /// The preserving form of parts that fit is its own preserving form.
 pub fn preserving_form_is_stable<S: Spec>()
-    ensures { (whole again : Bool) (parts : Parts) → Fits S.tests parts → form S.tests Preserving again (form S.tests Preserving whole parts) ≡ form S.tests Preserving whole parts }
+    ensures { (whole again : Bool) (parts : Parts) → Fits S.tests parts
+        → form S.tests Preserving again (form S.tests Preserving whole parts) ≡ form S.tests Preserving whole parts }
 {}
 
 /// The canonical text of a reference against an absolute base is a URI of the spec, and its split is the normal form of the target.
 pub fn canonical_text_splits_into_normal_parts<S: Spec>()
-    ensures uri { (base reference : List ℕ) → IsAbsolute S.tests base → IsReference S.tests reference → IsIri S.tests (canonical S.tests base reference) }
-    ensures splits { (base reference : List ℕ) → IsAbsolute S.tests base → IsReference S.tests reference → Splits S.tests (canonical S.tests base reference) (canonical_parts S.tests base reference) }
-    ensures split { (base reference : List ℕ) → IsAbsolute S.tests base → IsReference S.tests reference → split_of (canonical S.tests base reference) ≡ canonical_parts S.tests base reference }
+    ensures uri { (base reference : List ℕ) → IsAbsolute S.tests base → IsReference S.tests reference
+        → IsIri S.tests (canonical S.tests base reference) }
+    ensures splits { (base reference : List ℕ) → IsAbsolute S.tests base → IsReference S.tests reference
+        → Splits S.tests (canonical S.tests base reference) (canonical_parts S.tests base reference) }
+    ensures split { (base reference : List ℕ) → IsAbsolute S.tests base → IsReference S.tests reference
+        → split_of (canonical S.tests base reference) ≡ canonical_parts S.tests base reference }
 {}
 
 /// The canonical text is its own canonical form, against every base.
 pub fn canonical_text_is_its_own<S: Spec>()
-    ensures { (base reference other : List ℕ) → IsAbsolute S.tests base → IsReference S.tests reference → canonical S.tests other (canonical S.tests base reference) ≡ canonical S.tests base reference }
+    ensures { (base reference other : List ℕ) → IsAbsolute S.tests base → IsReference S.tests reference
+        → canonical S.tests other (canonical S.tests base reference) ≡ canonical S.tests base reference }
 {}
 
 /// The canonical text has at most 3 bytes more than base and reference together.
 pub fn canonical_text_is_short<S: Spec>()
-    ensures { (base reference : List ℕ) → IsAbsolute S.tests base → IsReference S.tests reference → length (canonical S.tests base reference) ≤ length base + length reference + 3 }
+    ensures { (base reference : List ℕ) → IsAbsolute S.tests base → IsReference S.tests reference
+        → length (canonical S.tests base reference) ≤ length base + length reference + 3 }
 {}
 
 /// The parts after a step are valid again, have a scheme, and have the same normal form.
 pub fn steps_keep_the_normal_form<S: Spec>()
-    ensures fits { (t u : Parts) (x : Step) → Fits S.tests t → IsSome t.scheme → step S.tests t x ≡ Some u → Fits S.tests u × IsSome u.scheme }
-    ensures form { (t u : Parts) (x : Step) → Fits S.tests t → IsSome t.scheme → step S.tests t x ≡ Some u → normal_form S.tests u ≡ normal_form S.tests t }
+    ensures fits { (t u : Parts) (x : Step) → Fits S.tests t → IsSome t.scheme → step S.tests t x ≡ Some u
+        → Fits S.tests u × IsSome u.scheme }
+    ensures form { (t u : Parts) (x : Step) → Fits S.tests t → IsSome t.scheme → step S.tests t x ≡ Some u
+        → normal_form S.tests u ≡ normal_form S.tests t }
 {}
 
 /// A step changes the parts: what would change nothing is no step.
@@ -96,7 +108,8 @@ pub fn steps_change_something<S: Spec>()
 
 /// Where triplets are decoded, an unreserved character stands among the units of the text.
 pub fn decoded_places_are_characters<S: Spec>()
-    ensures { (t u : List ℕ) (i : ℕ) → whole_triplets t ≡ true → with_decoded S.tests i t ≡ Some u → IsCharacterAt S.tests i t }
+    ensures { (t u : List ℕ) (i : ℕ) → whole_triplets t ≡ true → with_decoded S.tests i t ≡ Some u
+        → IsCharacterAt S.tests i t }
 {}
 
 /// From all valid parts, steps lead to their normal form.
@@ -106,16 +119,21 @@ pub fn steps_lead_to_the_normal_form<S: Spec>()
 
 /// Steps join exactly the valid parts that have one normal form, which are those with one canonical text.
 pub fn steps_join_what_has_one_normal_form<S: Spec>()
-    ensures joined { (t u : Parts) → Fits S.tests t → IsSome t.scheme → Fits S.tests u → IsSome u.scheme → Joined S.tests t u ↔ (normal_form S.tests t ≡ normal_form S.tests u) }
-    ensures texts { (t u : Parts) → Fits S.tests t → IsSome t.scheme → Fits S.tests u → IsSome u.scheme → (recompose (normal_form S.tests t) ≡ recompose (normal_form S.tests u)) ↔ (normal_form S.tests t ≡ normal_form S.tests u) }
+    ensures joined { (t u : Parts) → Fits S.tests t → IsSome t.scheme → Fits S.tests u → IsSome u.scheme
+        → Joined S.tests t u ↔ (normal_form S.tests t ≡ normal_form S.tests u) }
+    ensures texts { (t u : Parts) → Fits S.tests t → IsSome t.scheme → Fits S.tests u → IsSome u.scheme
+        → (recompose (normal_form S.tests t) ≡ recompose (normal_form S.tests u))
+        ↔ (normal_form S.tests t ≡ normal_form S.tests u) }
 {}
 
 /// Mapping and normal form may be done in either order.
 pub fn mapping_commutes_with_normal_form<S: Spec>()
-    ensures { (t : Parts) → Fits S.tests t → mapped_parts (normal_form S.tests t) ≡ normal_form uri_tests (mapped_parts t) }
+    ensures { (t : Parts) → Fits S.tests t → mapped_parts (normal_form S.tests t)
+        ≡ normal_form uri_tests (mapped_parts t) }
 {}
 
 /// The canonical text, mapped, is the canonical text of the mapped base and reference.
 pub fn mapping_commutes_with_canonical_texts<S: Spec>()
-    ensures { (base reference : List ℕ) → IsAbsolute S.tests base → IsReference S.tests reference → mapped (canonical S.tests base reference) ≡ canonical uri_tests (mapped base) (mapped reference) }
+    ensures { (base reference : List ℕ) → IsAbsolute S.tests base → IsReference S.tests reference
+        → mapped (canonical S.tests base reference) ≡ canonical uri_tests (mapped base) (mapped reference) }
 {}

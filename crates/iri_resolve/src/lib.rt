@@ -21,7 +21,7 @@
 //! A text is told to be in normal form exactly where it is, without memory. Steps keep parts valid, keep their normal form, and
 //! change something; those to the normal form replay to it; two targets are joined exactly where their canonical texts are equal.
 //!
-//! Not proved: that memory is had, which tests show; the words of `Display` of `CanonError` and `ReplayError`, which `thiserror`
+//! Not proved: that memory is allocated, which tests show; the words of `Display` of `CanonError` and `ReplayError`, which `thiserror`
 //! makes; any bound on time. A path is written from its end, in O(n log n) looks at its bytes.
 #![tactic(auto)]
 
@@ -44,6 +44,7 @@ pub mod normal_steps;
 pub mod normalized;
 pub mod owned_target;
 mod path_writer;
+mod prefix;
 pub mod replay;
 pub mod resolver;
 #[cfg(test)]

@@ -40,7 +40,8 @@ fn mapped_canonical<S: Spec>(
     base: RiAbsoluteStr<'_, S>,
     reference: RiReferenceStr<'_, S>,
 ) -> Result<UriString, AllocError>
-    ensures { IfOk result (λ t. t.text ≡ canonical uri_tests (mapped (text base.entry)) (mapped (text reference.entry))) }
+    ensures { IfOk result (λ t. t.text ≡ canonical uri_tests (mapped (text base.entry))
+        (mapped (text reference.entry))) }
 {
     let base = MappedToUri::of(base).try_to_dedicated_string(alloc)?;
     let reference = MappedToUri::of(reference).try_to_dedicated_string(alloc)?;
@@ -52,13 +53,14 @@ fn mapped_canonical<S: Spec>(
 }
 
 /// The canonical text of a reference against a base, mapped, and the canonical text of both mapped: they are one text, of
-/// every base and reference. It fails for want of memory alone.
+/// every base and reference. It fails on allocation failure alone.
 pub fn canonicalize_commutes_with_mapping<S: Spec>(
     alloc: Global,
     base: RiAbsoluteStr<'_, S>,
     reference: RiReferenceStr<'_, S>,
 ) -> Result<(UriString, UriString), AllocError>
-    ensures { IfOk result (λ r. (r.0.text ≡ mapped (canonical S.tests (text base.entry) (text reference.entry))) × (r.1.text ≡ r.0.text)) }
+    ensures { IfOk result (λ r. (r.0.text ≡ mapped (canonical S.tests (text base.entry) (text reference.entry)))
+        × (r.1.text ≡ r.0.text)) }
 {
     let last = canonical_mapped(alloc, base, reference)?;
     let first = mapped_canonical(alloc, base, reference)?;

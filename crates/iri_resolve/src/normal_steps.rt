@@ -1,27 +1,33 @@
 //! Steps from a target to its normal form (RFC 3986 section 6.2.2).
-ghost use Rattle.std.specs.Prelude.{◌≡◌, ◌<◌, ◌+◌, ◌^◌, ◌++◌, ◌||◌, IfOk, OnOk, Some, length, not, true};
+ghost use Rattle.std.specs.Prelude.{◌≡◌, ◌<◌, ◌+◌, ◌^◌, ◌++◌, ◌&&◌, ◌||◌, IfOk, OnOk, Some, length, not, true};
 ghost use Rattle.std.specs.Char.{is_ascii_uppercase};
-ghost use Rattle.std.specs.Str.{bytes_eq};
-ghost use Rattle.iri_grammar.specs.Authority.{AuthorityParts, FitsAuthority, authority_parts, is_authority, userinfo_text};
+ghost use Rattle.iri_grammar.specs.Authority.{AuthorityParts, FitsAuthority, authority_parts, is_authority};
+ghost use Rattle.iri_grammar.specs.Authority.{userinfo_text};
 ghost use Rattle.iri_grammar.specs.Components.{if_there, is_path};
 ghost use Rattle.iri_grammar.specs.Host.{is_host};
-ghost use Rattle.iri_grammar.specs.Parts.{Parts, starts_with_slashes};
-ghost use Rattle.iri_grammar.specs.Views.{now_of};
+ghost use Rattle.iri_grammar.specs.Parts.{Parts, is_empty, starts_with_slash, starts_with_slashes};
+ghost use Rattle.iri_grammar.specs.Pieces.{pieces};
+ghost use Rattle.iri_grammar.specs.OptionalSlices.{now_of};
 ghost use Rattle.iri_percent.specs.NormalHost.{normal_authority};
 ghost use Rattle.iri_percent.specs.Units.{whole_triplets};
+ghost use Rattle.iri_resolve.specs.DotRemoval.{is_two_dots};
+ghost use Rattle.iri_resolve.specs.Dots.{has_dot_segment, is_dot_segment};
 ghost use Rattle.iri_resolve.specs.NormalForm.{normal_form};
-ghost use Rattle.iri_resolve.specs.NormalSteps.{AuthorityLed, HostLed, PartLed, PathLed, PortLed, SchemeLed, UserinfoLed, dots_steps, scheme_steps};
+ghost use Rattle.iri_resolve.specs.inside.NormalSteps.{AuthorityLed, HostLed, PartLed, PathLed, PortLed, SchemeLed};
+ghost use Rattle.iri_resolve.specs.inside.NormalSteps.{UserinfoLed, dots_steps, is_guard_alone, loses_dots};
+ghost use Rattle.iri_resolve.specs.inside.NormalSteps.{scheme_steps};
 ghost use Rattle.iri_resolve.specs.Steps.{replayed};
 ghost use Rattle.iri_resolve.specs.declared.step.Part.{Part};
+ghost use Rattle.iri_grammar.specs.Characters.{slash};
 
-use crate::after_step::guarded_path;
 use crate::component::Component;
 use crate::component_steps::push_component;
-use crate::dots::has_dot_segment;
+use crate::dots::{has_dot_segment, is_dot_segment, is_two_dots};
 use crate::owned_target::Target;
 use crate::step::{Part, Step};
 use crate::step_list::StepList;
 use iri_grammar::authority::AuthoritySpan;
+use iri_grammar::cutting::cut;
 use iri_grammar::spec::Spec;
 use iri_percent::is_ascii_host;
 use std::alloc::{AllocError, Global};
@@ -119,35 +125,62 @@ fn push_authority_there<S: Spec>(
     }
 }
 
-// The step of dot segments, where the path is another one without them.
-fn push_dots(steps: &mut StepList, path: &str, without_dots: &str) -> Result<(), AllocError>
-    ensures { OnOk result (steps.new ≡ steps.old ++ dots_steps (bytes_eq without_dots.now path.now)) }
+// Whether the segment is `.`, in any spelling.
+fn is_one_dot(segment: &str) -> bool
+    ensures { result ≡ (is_dot_segment segment.now && not (is_two_dots segment.now)) }
 {
-    if without_dots == path {
+    is_dot_segment(segment) && !is_two_dots(segment)
+}
+
+// Whether a slash stands at the start, and no dot segment behind it.
+fn begins_plain(path: &str) -> bool
+    ensures { result ≡ (starts_with_slash path.now && not (has_dot_segment path.now)) }
+{
+    path.as_bytes().first() == Some(&b'/') && !has_dot_segment(path)
+}
+
+// Whether these are the first segments of a guarded path, and what follows them has no dot segment.
+fn is_guard(front: &str, dot: &str, rest: &str) -> bool
+    ensures { result ≡ (is_empty front.now && (is_dot_segment dot.now && not (is_two_dots dot.now))
+        && (starts_with_slash rest.now && not (has_dot_segment rest.now))) }
+{
+    front.is_empty() && is_one_dot(dot) && begins_plain(rest)
+}
+
+// Whether the path begins with its guard, which is `/.` before `//`, in any spelling, and has no other dot segment.
+fn is_guard_alone(path: &str) -> bool
+    ensures { result ≡ is_guard_alone (pieces slash path.now) }
+{
+    let (front, behind) = cut(path, b'/');
+    let Some(rest) = behind else {
+        return false;
+    };
+    let (dot, behind) = cut(rest, b'/');
+    let Some(rest) = behind else {
+        return false;
+    };
+    is_guard(front, dot, rest)
+}
+
+// Whether the path loses dot segments. A guard stays, where it is needed.
+fn loses_dots(path: &str, authority_stands: bool) -> bool
+    ensures { result ≡ loses_dots path.now authority_stands }
+{
+    has_dot_segment(path) && (authority_stands || !is_guard_alone(path))
+}
+
+// The step of dot segments, where some go.
+fn push_dots(steps: &mut StepList, go: bool) -> Result<(), AllocError>
+    ensures { OnOk result (steps.new ≡ steps.old ++ dots_steps go) }
+{
+    if !go {
         return Ok(());
     }
     steps.push(Step::Dots)
 }
 
-// The steps of a path that may have dot segments.
-fn push_dotted_path<S: Spec>(
-    alloc: Global,
-    steps: &mut StepList,
-    path: &str,
-    authority_stands: bool,
-) -> Result<(), AllocError>
-    requires { is_path S.tests path.now ≡ true }
-    ensures { OnOk result (PathLed S.tests authority_stands path.now steps.old steps.new) }
-{
-    let guarded = guarded_path::<S>(alloc, path, authority_stands)?;
-    push_dots(steps, path, guarded.as_str())?;
-    push_triplets::<S>(steps, Part::Path, Some(guarded.as_str()))?;
-    Ok(())
-}
-
-// The steps of a path. One without dot segments is read as it stands.
+// The steps of a path: those of its triplets on the path as it stands, and then that of its dot segments.
 fn push_path<S: Spec>(
-    alloc: Global,
     steps: &mut StepList,
     path: &str,
     authority_stands: bool,
@@ -156,10 +189,8 @@ fn push_path<S: Spec>(
     requires unguarded { (authority_stands || not (starts_with_slashes path.now)) ≡ true }
     ensures { OnOk result (PathLed S.tests authority_stands path.now steps.old steps.new) }
 {
-    if has_dot_segment(path) {
-        return push_dotted_path::<S>(alloc, steps, path, authority_stands);
-    }
     push_triplets::<S>(steps, Part::Path, Some(path))?;
+    push_dots(steps, loses_dots(path, authority_stands))?;
     Ok(())
 }
 
@@ -184,7 +215,8 @@ fn push_triplets<S: Spec>(
     Ok(())
 }
 
-/// Steps that lead from a target to its normal form, part by part and from left to right. Want of memory is the only error.
+/// Steps that lead from a target to its normal form, part by part and from left to right; the dot segments go behind the other
+/// steps of the path. Places count bytes of what is in normal form already. Allocation failure is the only error.
 pub fn steps_to_normal<S: Spec>(alloc: Global, target: &Target<S>) -> Result<StepList, AllocError>
     ensures { IfOk result (λ l. replayed S.tests target.now l ≡ Some (normal_form S.tests target.now)) }
 {
@@ -193,7 +225,7 @@ pub fn steps_to_normal<S: Spec>(alloc: Global, target: &Target<S>) -> Result<Ste
     push_scheme::<S>(&mut steps, target.scheme())?;
     push_authority_there::<S>(&mut steps, target.authority())?;
     let stands = target.authority().is_some();
-    push_path::<S>(alloc, &mut steps, target.path(), stands)?;
+    push_path::<S>(&mut steps, target.path(), stands)?;
     push_triplets::<S>(&mut steps, Part::Query, target.query())?;
     push_triplets::<S>(&mut steps, Part::Fragment, target.fragment())?;
     Ok(steps)

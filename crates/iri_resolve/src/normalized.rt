@@ -1,10 +1,13 @@
 //! Texts that show themselves resolved (RFC 3986 section 5.2) or in normal form (section 6.2.2). They take no memory.
 ghost use Rattle.std.specs.Prelude.{◌≡◌, ◌↔◌, true, Some, IsErr};
+ghost use Rattle.std.proofs.Props.{props};
+ghost use Rattle.iri_grammar.specs.OptionalSlices.{now_of};
 ghost use Rattle.iri_resolve.specs.Normalized.{AreSound, Written, written_text, has_no_normal_form};
+ghost use Rattle.iri_resolve.specs.Prefix.{IsPrefix};
 ghost use Rattle.iri_resolve.specs.Slices.{slices};
 ghost use Rattle.iri_resolve.specs.declared.mode.Mode.TheVariants.{Normal, Preserving};
 
-use crate::form::show_form;
+use crate::form::{show_behind, show_form};
 use crate::mode::Mode;
 use crate::normal_kind::NormalKind;
 use crate::path_writer::is_unresolvable;
@@ -18,14 +21,16 @@ use std::alloc::{AllocError, Global};
 use std::fmt;
 use std::marker::PhantomData;
 
-/// Parts, lent, that show themselves as one text of the kind `K` in a mode: without dot segments alone, or in normal form.
+/// Parts, borrowed, that show themselves as one text of the kind `K` in a mode: without dot segments alone, or in normal form.
 pub struct NormalizedText<'a, S: Spec, K: NormalKind> {
+    prefix: Option<&'a str>,
     target: TargetSlices<'a>,
     whole: bool,
     mode: Mode,
     spec: PhantomData<S>,
     kind: PhantomData<K>,
     pub ghost sound: { ∥ AreSound S.tests K.fault target ∥₁ },
+    pub ghost prefixed: { IsPrefix S.tests (slices target) (now_of prefix) } by { Prim.hlevel props },
 }
 
 /// The same, as a `URI` of `S`.
@@ -54,7 +59,22 @@ impl<'a, S: Spec, K: NormalKind> NormalizedText<'a, S, K> {
         requires { ∥ AreSound S.tests K.fault target ∥₁ }
         ensures { written result ≡ record { parts = slices target.entry; whole = whole; mode = mode } }
     {
+        NormalizedText::behind(None, target, whole, mode)
+    }
+
+    // The same, with their prefix, where that is in normal form as it stands.
+    pub(crate) fn behind(
+        prefix: Option<&'a str>,
+        target: TargetSlices<'a>,
+        whole: bool,
+        mode: Mode,
+    ) -> Self
+        requires sound { ∥ AreSound S.tests K.fault target ∥₁ }
+        requires prefix { IsPrefix S.tests (slices target) (now_of prefix) }
+        ensures { written result ≡ record { parts = slices target.entry; whole = whole; mode = mode } }
+    {
         NormalizedText {
+            prefix,
             target,
             whole,
             mode,
@@ -81,14 +101,14 @@ impl<'a, S: Spec, K: NormalKind> NormalizedText<'a, S, K> {
     pub fn and_normalize(self) -> Self
         ensures { written result ≡ record (written self.entry) { mode = Normal } }
     {
-        NormalizedText::new(self.target, self.whole, Mode::Normal)
+        NormalizedText::behind(self.prefix, self.target, self.whole, Mode::Normal)
     }
 
     /// The same parts in normal form, but a path without authority that doesn't begin with a slash keeps its dot segments.
     pub fn and_normalize_but_preserve_authorityless_relative_path(self) -> Self
         ensures { written result ≡ record (written self.entry) { mode = Preserving } }
     {
-        NormalizedText::new(self.target, self.whole, Mode::Preserving)
+        NormalizedText::behind(self.prefix, self.target, self.whole, Mode::Preserving)
     }
 
     /// Whether RFC 3986 alone has a normal form of the parts, without the `/.` before a path that would be read as an authority.
@@ -110,7 +130,12 @@ impl<S: Spec, K: NormalKind> Show for NormalizedText<'_, S, K> {
     ghost text = { λ n. written_text S.tests (written n) };
 
     fn show<W: TextSink>(&self, sink: &mut W) -> Result<(), Stop> {
-        show_form::<S, W>(sink, &self.target, self.mode, self.whole)
+        match self.prefix {
+            Some(prefix) => {
+                show_behind::<S, W>(sink, prefix, &self.target, self.mode, self.whole)
+            }
+            None => show_form::<S, W>(sink, &self.target, self.mode, self.whole),
+        }
     }
 }
 
@@ -129,6 +154,7 @@ impl<S: Spec, K: NormalKind> ToDedicatedString for NormalizedText<'_, S, K> {
 
     fn try_to_dedicated_string(&self, alloc: Global) -> Result<Owned<S, K>, AllocError> {
         let text = self.try_to_string(alloc)?;
+        K::forms_are_valid();
         Ok(Owned::from_valid(text))
     }
 }

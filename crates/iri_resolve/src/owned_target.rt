@@ -1,7 +1,7 @@
 //! The target of a reference, owned.
 ghost use Rattle.std.specs.Prelude.{◌≡◌, ◌++◌, IfOk, IsSome, Some, string_bytes};
 ghost use Rattle.iri_grammar.specs.Parts.{Fits};
-ghost use Rattle.iri_grammar.specs.Views.{now_of};
+ghost use Rattle.iri_grammar.specs.OptionalSlices.{now_of};
 ghost use Rattle.iri_resolve.specs.Resolver.{bytes_of};
 ghost use Rattle.iri_resolve.specs.Slices.{slices};
 
@@ -29,9 +29,22 @@ impl<S: Spec> Model for Target<S> {
 
     ghost Value = { Parts };
 
-    ghost view = { λ t. record { scheme = Some (string_bytes t.scheme); authority = bytes_of t.authority; path = string_bytes t.path; query = bytes_of t.query; fragment = bytes_of t.fragment } };
+    ghost view = { λ t. record {
+      scheme = Some (string_bytes t.scheme);
+      authority = bytes_of t.authority;
+      path = string_bytes t.path;
+      query = bytes_of t.query;
+      fragment = bytes_of t.fragment;
+    } };
 
-    ghost invariant = { λ t. Fits S.tests (record { scheme = Some (string_bytes t.scheme); authority = bytes_of t.authority; path = string_bytes t.path; query = bytes_of t.query; fragment = bytes_of t.fragment }) };
+    ghost invariant = { λ t. Fits S.tests (record {
+      scheme = Some (string_bytes t.scheme);
+      authority = bytes_of t.authority;
+      path = string_bytes t.path;
+      query = bytes_of t.query;
+      fragment =
+          bytes_of t.fragment;
+    }) };
 }
 
 // A copy of a part that may stand.
@@ -44,7 +57,7 @@ fn copied(alloc: Global, part: Option<&str>) -> Result<Option<String>, AllocErro
     }
 }
 
-// A part that may stand, lent.
+// A part that may stand, borrowed.
 fn lent(part: &Option<String>) -> Option<&str>
     ensures { now_of result ≡ bytes_of part.now }
 {
@@ -85,7 +98,7 @@ impl<S: Spec> Target<S> {
         })
     }
 
-    // The parts, lent.
+    // The parts, borrowed.
     pub(crate) fn slices(&self) -> TargetSlices<'_>
         ensures parts { slices result ≡ self.now }
         ensures fits { Fits S.tests self.now }

@@ -9,16 +9,18 @@ ghost use Rattle.iri_percent.specs.Units.{whole_triplets};
 ghost use Rattle.iri_resolve.specs.DotRemoval.{dots};
 ghost use Rattle.iri_resolve.specs.Dots.{has_dot_segment};
 ghost use Rattle.iri_resolve.specs.Guard.{guard};
-ghost use Rattle.iri_resolve.specs.Kept.{begin_from_first, behind_front_dots, bottom, ended, kept, kept_from_first, kept_last};
+ghost use Rattle.iri_resolve.specs.Kept.{begin_from_first, behind_front_dots, bottom, ended, kept, kept_from_first};
+ghost use Rattle.iri_resolve.specs.Kept.{kept_last};
 ghost use Rattle.iri_resolve.specs.NormalForm.{is_unresolvable, normal_path, path_in, plain_path, preserved_path};
 ghost use Rattle.iri_resolve.specs.PathForm.{in_form};
 ghost use Rattle.iri_resolve.specs.Slices.{slices, is_cut_at_segment};
 ghost use Rattle.iri_resolve.specs.Target.{ends_at_slash};
 ghost use Rattle.iri_text.specs.Shown.{Shows};
+ghost use Rattle.iri_grammar.specs.Characters.{slash};
 
 use self::runs::last_run;
 use self::segments::{
-    begins_with_slash, behind_front_dots, halves, removed, removing, split_last,
+    begins_with_slash, behind_front_dots, first_segments, halves, removed, removing, split_last,
     without_last_segments,
 };
 use crate::dots::{has_dot_segment, is_dot_segment};
@@ -40,6 +42,9 @@ pub fn show_part<S: Spec, W: TextSink>(sink: &mut W, part: &str, normal: bool) -
     requires { whole_triplets part.now ≡ true }
     ensures { Shows W.puts W.halts W.stops sink.old (in_form S.tests normal part.now) sink.new result }
 {
+    if part.is_empty() {
+        return Ok(());
+    }
     if normal {
         PctCaseNormalized::<S>::new(part).show(sink)
     } else {
@@ -57,7 +62,8 @@ fn show_short<S: Spec, W: TextSink>(
     requires ends { ends_at_slash text.now ≡ true }
     requires whole { whole_triplets text.now ≡ true }
     requires room { count + length text.now < 2 ^ 64 }
-    ensures { Shows W.puts W.halts W.stops sink.old (in_form S.tests normal (kept (ended text.now) count)) sink.new result }
+    ensures { Shows W.puts W.halts W.stops sink.old
+        (in_form S.tests normal (kept (ended text.now) count)) sink.new result }
 {
     if text.is_empty() {
         return Ok(());
@@ -77,7 +83,8 @@ fn show_segments<S: Spec, W: TextSink>(
     requires ends { ends_at_slash text.now ≡ true }
     requires whole { whole_triplets text.now ≡ true }
     requires room { count + length text.now < 2 ^ 64 }
-    ensures { Shows W.puts W.halts W.stops sink.old (in_form S.tests normal (kept (ended text.now) count)) sink.new result }
+    ensures { Shows W.puts W.halts W.stops sink.old
+        (in_form S.tests normal (kept (ended text.now) count)) sink.new result }
 {
     if text.len() <= SHORT {
         return show_short::<S, W>(sink, text, count, normal);
@@ -102,7 +109,8 @@ fn show_bottom<S: Spec, W: TextSink>(
     normal: bool,
 ) -> Result<(), Stop>
     requires { whole_triplets segment.now ≡ true }
-    ensures { Shows W.puts W.halts W.stops sink.old (in_form S.tests normal (bottom segment.now count ++ 47 ∷ [])) sink.new result }
+    ensures { Shows W.puts W.halts W.stops sink.old
+        (in_form S.tests normal (bottom segment.now count ++ slash ∷ [])) sink.new result }
 {
     if count > 0 {
         return sink.put("/");
@@ -121,8 +129,12 @@ fn show_from_first<S: Spec, W: TextSink>(
     requires ends { ends_at_slash text.now ≡ true }
     requires whole { whole_triplets text.now ≡ true }
     requires room { count + length text.now < 2 ^ 64 }
-    ensures { Shows W.puts W.halts W.stops sink.old (in_form S.tests normal (kept_from_first (ended text.now) count)) sink.new result }
+    ensures { Shows W.puts W.halts W.stops sink.old
+        (in_form S.tests normal (kept_from_first (ended text.now) count)) sink.new result }
 {
+    if !has_dot_segment(text) {
+        return show_part::<S, W>(sink, first_segments(text, count), normal);
+    }
     let (segment, more) = cut(text, b'/');
     match more {
         Some(rest) => {
@@ -133,7 +145,7 @@ fn show_from_first<S: Spec, W: TextSink>(
     }
 }
 
-// The segments of two texts, without the dot segments at their front.
+// The segments of two texts, without the dot segments at their start.
 fn show_two<S: Spec, W: TextSink>(
     sink: &mut W,
     front: &str,
@@ -146,7 +158,9 @@ fn show_two<S: Spec, W: TextSink>(
     requires whole { whole_triplets front.now ≡ true }
     requires text_whole { whole_triplets text.now ≡ true }
     requires room { count + length text.now + length front.now < 2 ^ 64 }
-    ensures { Shows W.puts W.halts W.stops sink.old (in_form S.tests normal (kept_from_first (behind_front_dots (ended front.now ++ ended text.now)) count)) sink.new result }
+    ensures { Shows W.puts W.halts W.stops sink.old
+        (in_form S.tests normal (kept_from_first
+        (behind_front_dots (ended front.now ++ ended text.now)) count)) sink.new result }
 {
     let front = behind_front_dots(front);
     if front.is_empty() {
@@ -177,7 +191,8 @@ fn show_pieces<S: Spec, W: TextSink>(
 ) -> Result<(), Stop>
     requires ends { ends_at_slash front.now ≡ true }
     requires whole { whole_triplets (front.now ++ path.now) ≡ true }
-    ensures { Shows W.puts W.halts W.stops sink.old (in_form S.tests normal (dots (front.now ++ path.now))) sink.new result }
+    ensures { Shows W.puts W.halts W.stops sink.old
+        (in_form S.tests normal (dots (front.now ++ path.now))) sink.new result }
 {
     let (text, last) = split_last(path);
     show_two::<S, W>(sink, front, text, removing(last, 0), normal)?;
@@ -204,7 +219,7 @@ fn has_dots(front: &str, path: &str) -> bool
     requires { (is_empty path.now || ends_at_slash front.now) ≡ true }
     ensures { result ≡ has_dot_segment (front.now ++ path.now) }
 {
-    has_dot_segment(front) || has_dot_segment(path)
+    has_dot_segment(path) || has_dot_segment(front)
 }
 
 /// A path in two pieces, cut where a segment ends or with nothing behind the cut, without its dot segments.
@@ -216,7 +231,8 @@ pub fn show_without_dots<S: Spec, W: TextSink>(
 ) -> Result<(), Stop>
     requires cut { (is_empty path.now || ends_at_slash front.now) ≡ true }
     requires whole { whole_triplets (front.now ++ path.now) ≡ true }
-    ensures { Shows W.puts W.halts W.stops sink.old (in_form S.tests normal (dots (front.now ++ path.now))) sink.new result }
+    ensures { Shows W.puts W.halts W.stops sink.old
+        (in_form S.tests normal (dots (front.now ++ path.now))) sink.new result }
 {
     if !has_dots(front, path) {
         return show_as_it_stands::<S, W>(sink, front, path, normal);
@@ -251,7 +267,7 @@ fn begin_from_first(text: &str, count: usize, more: bool) -> bool
     }
 }
 
-// The same of the segments of two texts, without the dot segments at their front.
+// The same of the segments of two texts, without the dot segments at their start.
 fn begin_in_two(front: &str, text: &str, count: usize) -> bool
     requires ends { ends_at_slash front.now ≡ true }
     requires text_ends { ends_at_slash text.now ≡ true }
@@ -307,7 +323,8 @@ pub fn show_guarded<S: Spec, W: TextSink>(
 ) -> Result<(), Stop>
     requires cut { (is_empty path.now || ends_at_slash front.now) ≡ true }
     requires path { is_path S.tests (front.now ++ path.now) ≡ true }
-    ensures { Shows W.puts W.halts W.stops sink.old (guard (in_form S.tests normal (dots (front.now ++ path.now))) authority_stands) sink.new result }
+    ensures { Shows W.puts W.halts W.stops sink.old
+        (guard (in_form S.tests normal (dots (front.now ++ path.now))) authority_stands) sink.new result }
 {
     if !is_guarded(front, path, authority_stands) {
         return show_without_dots::<S, W>(sink, front, path, normal);
@@ -334,7 +351,8 @@ pub fn show_normal_path<S: Spec, W: TextSink>(
 ) -> Result<(), Stop>
     requires path { is_path S.tests (slices target.now).path ≡ true }
     requires cut { is_cut_at_segment target.now ≡ true }
-    ensures { Shows W.puts W.halts W.stops sink.old (normal_path S.tests (slices target.now).authority (slices target.now).path) sink.new result }
+    ensures { Shows W.puts W.halts W.stops sink.old
+        (normal_path S.tests (slices target.now).authority (slices target.now).path) sink.new result }
 {
     let stands = target.authority.is_some();
     show_guarded::<S, W>(sink, target.front, target.path, stands, true)
@@ -344,7 +362,8 @@ pub fn show_normal_path<S: Spec, W: TextSink>(
 fn show_preserved<S: Spec, W: TextSink>(sink: &mut W, target: &TargetSlices<'_>) -> Result<(), Stop>
     requires path { is_path S.tests (slices target.now).path ≡ true }
     requires cut { is_cut_at_segment target.now ≡ true }
-    ensures { Shows W.puts W.halts W.stops sink.old (preserved_path S.tests (slices target.now).authority (slices target.now).path) sink.new result }
+    ensures { Shows W.puts W.halts W.stops sink.old
+        (preserved_path S.tests (slices target.now).authority (slices target.now).path) sink.new result }
 {
     if target.authority.is_some() || is_rooted(target.front, target.path) {
         return show_normal_path::<S, W>(sink, target);
@@ -360,7 +379,8 @@ fn show_plain<S: Spec, W: TextSink>(
 ) -> Result<(), Stop>
     requires path { is_path S.tests (slices target.now).path ≡ true }
     requires cut { is_cut_at_segment target.now ≡ true }
-    ensures { Shows W.puts W.halts W.stops sink.old (plain_path whole (slices target.now).authority (slices target.now).path) sink.new result }
+    ensures { Shows W.puts W.halts W.stops sink.old
+        (plain_path whole (slices target.now).authority (slices target.now).path) sink.new result }
 {
     if whole {
         return show_as_it_stands::<S, W>(sink, target.front, target.path, false);
@@ -378,7 +398,8 @@ pub fn show_path<S: Spec, W: TextSink>(
 ) -> Result<(), Stop>
     requires path { is_path S.tests (slices target.now).path ≡ true }
     requires cut { is_cut_at_segment target.now ≡ true }
-    ensures { Shows W.puts W.halts W.stops sink.old (path_in S.tests mode whole (slices target.now).authority (slices target.now).path) sink.new result }
+    ensures { Shows W.puts W.halts W.stops sink.old
+        (path_in S.tests mode whole (slices target.now).authority (slices target.now).path) sink.new result }
 {
     match mode {
         Mode::Normal => show_normal_path::<S, W>(sink, target),

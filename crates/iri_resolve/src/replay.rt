@@ -17,7 +17,7 @@ pub enum ReplayError {
     /// The step of this number, from 0 on, is the first that is no step from the parts reached.
     #[error("step {0} is no step from the parts reached")]
     Illegal(usize),
-    /// Memory was refused.
+    /// Allocation failed.
     #[error("out of memory")]
     Memory,
 }
@@ -39,13 +39,14 @@ fn after_numbered<S: Spec>(
 }
 
 /// The parts after all of these steps, one after the other. Illegal(k) comes exactly where step k, from 0, is the first that is no
-/// step from the parts reached (RFC 3986 section 6.2.2); the other error is want of memory.
+/// step from the parts reached (RFC 3986 section 6.2.2); the other error is allocation failure.
 pub fn replay<S: Spec>(
     alloc: Global,
     target: &Target<S>,
     steps: &StepList,
 ) -> Result<Target<S>, ReplayError>
-    ensures { MatchResult result (λ t. replayed S.tests target.now steps.now ≡ Some t) (EndsBy S.tests target.now steps.now) }
+    ensures { MatchResult result (λ t. replayed S.tests target.now steps.now ≡ Some t)
+        (EndsBy S.tests target.now steps.now) }
 {
     let mut reached = match copied(alloc, target) {
         Ok(reached) => reached,

@@ -2,30 +2,34 @@
 ghost use Rattle.std.specs.Prelude.{◌≡◌, IfOk, IsSome, Some, true};
 ghost use Rattle.iri_grammar.specs.Parts.{Fits};
 ghost use Rattle.iri_grammar.specs.Split.{split_of};
-ghost use Rattle.iri_grammar.specs.Views.{now_of};
+ghost use Rattle.iri_grammar.specs.OptionalSlices.{now_of};
 ghost use Rattle.iri_types.specs.SplitText.{split_text};
 ghost use Rattle.iri_types.specs.Texts.{text, text_of};
+ghost use Rattle.iri_resolve.specs.Prefix.{IsPrefix};
 ghost use Rattle.iri_resolve.specs.Slices.{slices, is_cut_at_segment};
-ghost use Rattle.iri_resolve.specs.Target.{ends_at_slash, merge_front, target, takes_base_path};
+ghost use Rattle.iri_resolve.specs.Target.{ends_at_slash, merge_prefix, target, takes_base_path};
 ghost use Rattle.std.proofs.Props.{props};
 ghost use Rattle.iri_resolve.specs.declared.mode.Mode.TheVariants.{Plain};
 
 use crate::mode::Mode;
 use crate::normalized::{Normalized, NormalizedText};
 use crate::owned_target::Target;
-use crate::target::{TargetSlices, merge_front, takes_base_path, target};
+use crate::prefix::normal_prefix;
+use crate::target::{TargetSlices, merge_prefix, takes_base_path, target};
 use iri_grammar::spec::Spec;
 use iri_types::kind::{Absolute, Reference};
 use iri_types::split::SplitView;
 use iri_types::view::{RiAbsoluteStr, RiQueryStr, RiReferenceStr};
 use std::alloc::{AllocError, Global};
 
-/// A base, against which references are resolved. It is cut into its parts once, and the front that relative paths are put behind is
-/// found once.
+/// A base, against which references are resolved. It is cut into its parts once; whether its scheme and authority are in normal form
+/// is told once, and the prefix that relative paths are put behind is found once.
 pub struct FixedBaseResolver<'a, S: Spec> {
     base: SplitView<'a, S, Absolute>,
     front: &'a str,
-    pub ghost prepared: { (front.now ≡ merge_front (split_of (split_text base))) × (ends_at_slash front.now ≡ true) } by { Prim.hlevel props },
+    prefix: Option<&'a str>,
+    pub ghost prepared: { (front.now ≡ merge_prefix (split_of (split_text base))) × (ends_at_slash front.now ≡ true)
+        × IsPrefix S.tests (split_of (split_text base)) (now_of prefix) } by { Prim.hlevel props },
 }
 
 impl<S: Spec> Clone for FixedBaseResolver<'_, S> {
@@ -49,8 +53,13 @@ impl<'a, S: Spec> FixedBaseResolver<'a, S> {
         ensures { base_text result ≡ text base.entry }
     {
         let base = SplitView::of(base);
-        let front = merge_front(base.parts());
-        FixedBaseResolver { base, front }
+        let front = merge_prefix(base.parts());
+        let prefix = normal_prefix(&base);
+        FixedBaseResolver {
+            base,
+            front,
+            prefix,
+        }
     }
 
     /// The base.
@@ -105,23 +114,48 @@ impl<'a, S: Spec> FixedBaseResolver<'a, S> {
         target(self.base.parts(), self.front, reference.parts())
     }
 
+    // The prefix of a reference's target, where it is the base's and in normal form.
+    fn prefix(&self, reference: &SplitView<'a, S, Reference>) -> Option<&'a str>
+        ensures { IsPrefix S.tests (target (split_of (base_text self.now)) (split_of (split_text reference.now)))
+            (now_of result) }
+    {
+        let parts = reference.parts();
+        match (parts.scheme(), parts.authority()) {
+            (None, None) => self.prefix,
+            _ => None,
+        }
+    }
+
     /// The text of a reference resolved against the base (RFC 3986 section 5.2): its dot segments are removed, but the base's path
     /// stays as it is where the reference's is empty. It takes no memory.
     pub fn resolve(&self, reference: RiReferenceStr<'a, S>) -> Normalized<'a, S>
-        ensures { written result ≡ record { parts = target (split_of (base_text self.now)) (split_of (text reference.entry)); whole = takes_base_path (split_of (text reference.entry)); mode = Plain } }
+        ensures { written result ≡ record {
+          parts = target (split_of (base_text self.now))
+              (split_of (text reference.entry));
+          whole =
+              takes_base_path (split_of (text reference.entry));
+          mode = Plain;
+        } }
     {
         self.resolve_split(&SplitView::of(reference))
     }
 
     /// The same of a reference that was cut into its parts before.
     pub fn resolve_split(&self, reference: &SplitView<'a, S, Reference>) -> Normalized<'a, S>
-        ensures { written result ≡ record { parts = target (split_of (base_text self.now)) (split_of (split_text reference.now)); whole = takes_base_path (split_of (split_text reference.now)); mode = Plain } }
+        ensures { written result ≡ record {
+          parts = target (split_of (base_text self.now))
+              (split_of (split_text reference.now));
+          whole =
+              takes_base_path (split_of (split_text reference.now));
+          mode = Plain;
+        } }
     {
         let whole = takes_base_path(reference.parts());
-        NormalizedText::new(self.slices(reference), whole, Mode::Plain)
+        let prefix = self.prefix(reference);
+        NormalizedText::behind(prefix, self.slices(reference), whole, Mode::Plain)
     }
 
-    /// The target of a reference (RFC 3986 section 5.2.2), with its dots kept. Want of memory is the only error.
+    /// The target of a reference (RFC 3986 section 5.2.2), with its dots kept. Allocation failure is the only error.
     pub fn target(
         &self,
         alloc: Global,

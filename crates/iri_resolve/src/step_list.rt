@@ -30,7 +30,7 @@ impl StepList {
         }
     }
 
-    /// Puts a step at the end. After want of memory the list is as it was.
+    /// Puts a step at the end. After allocation failure the list is as it was.
     pub fn push(&mut self, step: Step) -> Result<(), AllocError>
         ensures ok { IfOk result (λ _. self.new ≡ self.old ++ step ∷ []) }
         ensures err { IfErr result (λ _. self.new ≡ self.old) }

@@ -3,9 +3,11 @@ ghost use Rattle.std.specs.Prelude.{◌≡◌, ◌++◌, ◌||◌, cond, is_some
 ghost use Rattle.iri_grammar.specs.Parts.{starts_with_slash};
 ghost use Rattle.memchr.specs.Find.{IsLastByte, is_byte};
 ghost use Rattle.iri_grammar.specs.Splitters.{parts};
-ghost use Rattle.iri_grammar.specs.Views.{now_of};
-ghost use Rattle.iri_resolve.specs.Target.{takes_base_path, target, target_under, to_last_slash, merge_front, ends_at_slash, LastSlash, NoSlash};
+ghost use Rattle.iri_grammar.specs.OptionalSlices.{now_of};
+ghost use Rattle.iri_resolve.specs.Target.{takes_base_path, target, target_under, to_last_slash, merge_prefix};
+ghost use Rattle.iri_resolve.specs.Target.{ends_at_slash, LastSlash, NoSlash};
 ghost use Rattle.iri_resolve.specs.Slices.{slices, is_cut_at_segment};
+ghost use Rattle.iri_grammar.specs.Characters.{slash};
 
 use iri_grammar::splitter::Splitter;
 use memchr::memrchr;
@@ -23,7 +25,7 @@ pub struct TargetSlices<'a> {
 
 // Where the last slash stands.
 fn rfind(path: &str) -> Option<usize>
-    ensures { IsLastByte (is_byte 47) path.now result }
+    ensures { IsLastByte (is_byte slash) path.now result }
 {
     memrchr(b'/', path.as_bytes())
 }
@@ -46,10 +48,10 @@ fn to_last_slash(path: &str) -> &str
     }
 }
 
-/// The front that a relative path is put behind.
-pub fn merge_front<'a>(base: &Splitter<'a>) -> &'a str
+/// The prefix that a relative path is put behind.
+pub fn merge_prefix<'a>(base: &Splitter<'a>) -> &'a str
     ensures ends { ends_at_slash result.now ≡ true }
-    ensures front { result.now ≡ merge_front (parts base.now) }
+    ensures front { result.now ≡ merge_prefix (parts base.now) }
 {
     if base.authority().is_some() && base.path().is_empty() {
         "/"
@@ -58,7 +60,7 @@ pub fn merge_front<'a>(base: &Splitter<'a>) -> &'a str
     }
 }
 
-// The front of the path of a reference that has one, with neither scheme nor authority.
+// The prefix of the path of a reference that has one, with neither scheme nor authority.
 fn path_front<'a>(front: &'a str, path: &str) -> &'a str
     requires { ends_at_slash front.now ≡ true }
     ensures ends { ends_at_slash result.now ≡ true }
@@ -74,7 +76,7 @@ fn behind_base<'a>(
     front: &'a str,
     reference: &Splitter<'a>,
 ) -> TargetSlices<'a>
-    requires front { front.now ≡ merge_front (parts base.now) }
+    requires front { front.now ≡ merge_prefix (parts base.now) }
     requires ends { ends_at_slash front.now ≡ true }
     ensures cut { is_cut_at_segment result ≡ true }
     ensures parts { slices result ≡ target_under (parts base.now) (parts reference.now) None None }
@@ -118,10 +120,10 @@ fn under_scheme<'a>(scheme: Option<&'a str>, reference: &Splitter<'a>) -> Target
 }
 
 /// The target of a reference against a base (RFC 3986 sections 5.2.2 and 5.2.3), with its dots kept. `front` is the base's, by
-/// `merge_front`.
+/// `merge_prefix`.
 #[tactic(auto, unfolding(crate::specs::Target::target))]
 pub fn target<'a>(base: &Splitter<'a>, front: &'a str, reference: &Splitter<'a>) -> TargetSlices<'a>
-    requires front { front.now ≡ merge_front (parts base.now) }
+    requires front { front.now ≡ merge_prefix (parts base.now) }
     requires ends { ends_at_slash front.now ≡ true }
     ensures cut { is_cut_at_segment result ≡ true }
     ensures parts { slices result ≡ target (parts base.now) (parts reference.now) }

@@ -64,7 +64,11 @@ pub trait ResolveAgainst: Sized {
 
     /// The text resolved against the base: its dot segments are removed, but the base's path stays as it is where its own is empty.
     fn resolve_against(self, base: Self::Base) -> Self::Text
-        ensures { shown result ≡ record { parts = target (split_of (base_bytes base)) (split_of (bytes self)); whole = takes_base_path (split_of (bytes self)); mode = Plain } };
+        ensures { shown result ≡ record {
+          parts = target (split_of (base_bytes base)) (split_of (bytes self));
+          whole = takes_base_path (split_of (bytes self));
+          mode = Plain;
+        } };
 }
 
 // The slices of a view's parts, in a mode.

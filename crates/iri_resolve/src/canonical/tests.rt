@@ -32,6 +32,50 @@ fn canonical_texts_and_refusals(rt: HostRuntime) -> Result<(), Fail> {
     Ok(())
 }
 
+// The two links of RFC 3986 section 6.2.2 that normalization of syntax makes one.
+#[test]
+fn links_that_syntax_makes_one(rt: HostRuntime) -> Result<(), Fail> {
+    for link in [
+        "example://a/b/c/%7Bfoo%7D",
+        "eXAMPLE://a/./b/../b/%63/%7bfoo%7d",
+    ] {
+        assert!(rt;
+            is_canonical(
+                &rt,
+                b"http://h/",
+                link.as_bytes(),
+                "example://a/b/c/%7Bfoo%7D"
+            )?,
+            "{link}"
+        );
+    }
+    Ok(())
+}
+
+#[test]
+fn refusals_in_words(rt: HostRuntime) -> Result<(), Fail> {
+    let rows = [
+        (
+            "a/b",
+            "%",
+            "bad base: invalid IRI: expected an absolute IRI but got a relative IRI",
+        ),
+        ("http://a/", "%", "bad reference: invalid IRI: invalid path"),
+    ];
+    for (base, reference, words) in rows {
+        let error = canonicalize::<UriSpec>(
+            rt.alloc(),
+            base.as_bytes(),
+            reference.as_bytes(),
+        ).err();
+        match error {
+            Some(error) => assert_eq!(rt; format!(in rt.alloc(); "{error}")?.as_str(), words),
+            None => return Err("a fault is taken")?,
+        }
+    }
+    Ok(())
+}
+
 #[test]
 fn targets(rt: HostRuntime) -> Result<(), Fail> {
     let Ok(base) = UriAbsoluteStr::new("http://a/b/") else {

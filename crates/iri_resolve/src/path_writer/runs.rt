@@ -24,7 +24,8 @@ fn last_kept(text: &str, count: usize) -> (&str, &str)
     ensures ends { ends_at_slash result.0.now ≡ true }
     ensures whole { whole_triplets result.1.now ≡ true }
     ensures shorter { 0 < length text.now → length result.0.now < length text.now }
-    ensures kept { kept (ended text.now) count ≡ kept (ended result.0.now) 0 ++ drop (length result.0.now) result.1.now }
+    ensures kept { kept (ended text.now) count
+        ≡ kept (ended result.0.now) 0 ++ drop (length result.0.now) result.1.now }
 {
     let mut rest = text;
     let mut pending = count;
@@ -57,7 +58,7 @@ fn before_run(text: &str) -> &str
     rest
 }
 
-// What follows the front of a text.
+// What follows the prefix of a text.
 fn behind<'a>(text: &'a str, front: &str) -> &'a str
     requires ends { ends_at_slash front.now ≡ true }
     requires whole { text.now ≡ front.now ++ drop (length front.now) text.now }

@@ -1,10 +1,12 @@
 // A path cut between its segments, and how many of them later dot segments remove.
-ghost use Rattle.std.specs.Prelude.{◌≡◌, ◌<◌, ◌≤◌, ◌+◌, ◌^◌, ◌++◌, [], ◌∷◌, false, true, length, slice_index, MatchOption};
+ghost use Rattle.std.specs.Prelude.{◌≡◌, ◌<◌, ◌≤◌, ◌+◌, ◌^◌, ◌++◌, [], ◌∷◌, false, true, length, slice_index};
+ghost use Rattle.std.specs.Prelude.{MatchOption};
 ghost use Rattle.memchr.specs.Find.{IsLastByte, is_byte};
 ghost use Rattle.iri_grammar.specs.Cut.{lacks};
 ghost use Rattle.iri_percent.specs.Units.{whole_triplets};
 ghost use Rattle.iri_resolve.specs.Dots.{any_dot_segment};
-ghost use Rattle.iri_resolve.specs.Kept.{begins, behind_front_dots, ended, kept, one_begins, removed, removing};
+ghost use Rattle.iri_resolve.specs.Kept.{begins, behind_front_dots, ended, kept, kept_from_first, one_begins, removed};
+ghost use Rattle.iri_resolve.specs.Kept.{removing};
 ghost use Rattle.iri_resolve.specs.Target.{ends_at_slash, LastSlash, NoSlash};
 
 use crate::dots::{is_dot_segment, is_two_dots};
@@ -162,7 +164,32 @@ pub fn without_last_segments(text: &str, count: usize) -> &str
     rest
 }
 
-/// The text without the dot segments at its front.
+/// What stays of segments from the first one on, where `count` are removed in front of what follows them. None of them is a dot
+/// segment.
+pub fn first_segments(text: &str, count: usize) -> &str
+    requires ends { ends_at_slash text.now ≡ true }
+    requires no_dots { any_dot_segment (ended text.now) ≡ false }
+    requires whole { whole_triplets text.now ≡ true }
+    ensures kept { kept_from_first (ended text.now) count ≡ result.now }
+    ensures whole { whole_triplets result.now ≡ true }
+{
+    let mut rest = text;
+    let mut pending = count;
+    'segments: while pending > 0 {
+        if rest.is_empty() {
+            return rest;
+        }
+        let (front, _) = cut_last(rest);
+        if front.is_empty() {
+            return "/";
+        }
+        pending -= 1;
+        rest = front;
+    }
+    rest
+}
+
+/// The text without the dot segments at its start.
 pub fn behind_front_dots(text: &str) -> &str
     requires ends { ends_at_slash text.now ≡ true }
     requires whole { whole_triplets text.now ≡ true }

@@ -228,10 +228,20 @@ fn steps_to_normal_forms(rt: HostRuntime) -> Result<(), Fail> {
     Ok(())
 }
 
+// Whether these are the steps to the normal form.
+fn has_steps(alloc: Global, reference: &str, wanted: &[Step]) -> Result<bool, Fail> {
+    let target = target::<UriSpec>(alloc, reference)?;
+    let steps = steps_to_normal(alloc, &target)?;
+    for (i, step) in wanted.iter().enumerate() {
+        if steps.get(i) != Some(*step) {
+            return Ok(false);
+        }
+    }
+    Ok(steps.len() == wanted.len())
+}
+
 #[test]
 fn places_count_what_is_in_normal_form(rt: HostRuntime) -> Result<(), Fail> {
-    let target = target::<UriSpec>(rt.alloc(), "HTTP://%41@H/%41%42c%3d")?;
-    let steps = steps_to_normal(rt.alloc(), &target)?;
     let wanted = [
         Step::SchemeLetter(0),
         Step::SchemeLetter(1),
@@ -243,11 +253,46 @@ fn places_count_what_is_in_normal_form(rt: HostRuntime) -> Result<(), Fail> {
         Step::Decode(Part::Path, 2),
         Step::HexDigit(Part::Path, 6),
     ];
-    assert_eq!(rt; steps.len(), wanted.len());
-    for (i, step) in wanted.iter().enumerate() {
-        assert!(rt; steps.get(i) == Some(*step), "at {i}");
+    assert!(rt; has_steps(rt.alloc(), "HTTP://%41@H/%41%42c%3d", &wanted)?);
+    Ok(())
+}
+
+#[test]
+fn dot_segments_go_behind_the_triplets(rt: HostRuntime) -> Result<(), Fail> {
+    let wanted = [
+        Step::Decode(Part::Path, 1),
+        Step::Decode(Part::Path, 3),
+        Step::Decode(Part::Path, 8),
+        Step::Dots,
+        Step::Decode(Part::Query, 0),
+    ];
+    assert!(rt; has_steps(rt.alloc(), "/%2e/%41/../%42?%43", &wanted)?);
+    let guarded = [
+        Step::Decode(Part::Path, 1),
+        Step::HexDigit(Part::Path, 8),
+        Step::Dots,
+    ];
+    assert!(rt; has_steps(rt.alloc(), "foo:/%2E//./%3ab", &guarded)?);
+    assert!(rt; has_steps(rt.alloc(), "foo:/%2e//b", &[Step::Decode(Part::Path, 1)])?);
+    assert!(rt; has_steps(rt.alloc(), "foo:/.//b", &[])?);
+    Ok(())
+}
+
+#[test]
+fn dot_segments_go_but_for_the_guard(rt: HostRuntime) -> Result<(), Fail> {
+    for reference in [
+        "//h/.//b",
+        "foo:/./b",
+        "foo:.//b",
+        "foo:/..//b",
+        "foo:/./",
+        "foo:/.",
+    ] {
+        assert!(rt;
+            has_steps(rt.alloc(), reference, &[Step::Dots])?,
+            "at {reference}"
+        );
     }
-    assert!(rt; steps.get(wanted.len()).is_none());
     Ok(())
 }
 

@@ -11,12 +11,18 @@ guarded_path-requires g c = ap (is_path g.S.Spec.tests) c.path.ensures ∙ c.sli
 
 pub returns-then-eq : goal.returns-then-eq
 returns-then-eq g c =
-    let stands : c.is_some-stands.result ≡ is_some c.args.target.now.authority = c.is_some-stands.ensures ∙ sym (is_some-now_of c.authority.result) ∙ ap is_some c.authority.ensures in
-    dots-same c.args.target.now (string_bytes c.in_ok-path.path) c.path.result.now c.is_some-stands.result c.path.ensures stands c.in_ok-path.ensures
-    (ap (λ p. bytes_eq p c.path.result.now) (sym c.as_str.ensures.value) ∙ ap (bytes_eq c.as_str.result.now) (c.path.ensures ∙ sym c.path-2.ensures) ∙ sym c.eq.ensures ∙ c.if-eq.true)
+    let stands : c.is_some-stands.result ≡ is_some c.args.target.now.authority =
+    c.is_some-stands.ensures ∙ sym (is_some-now_of c.authority.result) ∙ ap is_some c.authority.ensures in
+    dots-same c.args.target.now
+    (string_bytes c.in_ok-path.path) c.path.result.now c.is_some-stands.result c.path.ensures stands c.in_ok-path.ensures
+    (ap (λ p. bytes_eq p c.path.result.now) (sym c.as_str.ensures.value)
+    ∙ ap (bytes_eq c.as_str.result.now) (c.path.ensures ∙ sym c.path-2.ensures) ∙ sym c.eq.ensures ∙ c.if-eq.true)
 
 pub returns : goal.returns
 returns g c =
-    let stands : c.is_some-stands.result ≡ is_some c.args.target.now.authority = c.is_some-stands.ensures ∙ sym (is_some-now_of c.authority.result) ∙ ap is_some c.authority.ensures in
-    dots-other c.args.target.now (string_bytes c.in_ok-path.path) c.path.result.now c.is_some-stands.result c.path.ensures stands c.in_ok-path.ensures
-    (ap (λ p. bytes_eq p c.path.result.now) (sym c.as_str.ensures.value) ∙ ap (bytes_eq c.as_str.result.now) (c.path.ensures ∙ sym c.path-2.ensures) ∙ sym c.eq.ensures ∙ c.if-eq.false)
+    let stands : c.is_some-stands.result ≡ is_some c.args.target.now.authority =
+    c.is_some-stands.ensures ∙ sym (is_some-now_of c.authority.result) ∙ ap is_some c.authority.ensures in
+    dots-other c.args.target.now
+    (string_bytes c.in_ok-path.path) c.path.result.now c.is_some-stands.result c.path.ensures stands c.in_ok-path.ensures
+    (ap (λ p. bytes_eq p c.path.result.now) (sym c.as_str.ensures.value)
+    ∙ ap (bytes_eq c.as_str.result.now) (c.path.ensures ∙ sym c.path-2.ensures) ∙ sym c.eq.ensures ∙ c.if-eq.false)

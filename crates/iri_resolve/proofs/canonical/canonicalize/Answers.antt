@@ -4,4 +4,5 @@ use Rattle.iri_resolve.proofs.canonical.canonicalize.Goals as goal
 
 pub returns-in-Ok-clause-text : goal.returns-in-Ok-clause-text
 returns-in-Ok-clause-text g c =
-    all_canonical g.S.Spec.tests g.met.S.Spec.lawful c.args.base.now (text c.in-Ok.base) c.args.reference.now c.in-Ok.ensures.text c.in-Ok.ensures.fault c.canonicalize_against.result c.canonicalize_against.ensures
+    all_canonical g.S.Spec.tests g.met.S.Spec.lawful c.args.base.now
+    (text c.in-Ok.base) c.args.reference.now c.in-Ok.ensures.text c.in-Ok.ensures.fault c.canonicalize_against.result c.canonicalize_against.ensures

@@ -15,6 +15,7 @@ returns-in-Ok-try_to_dedicated_string g c =
     let r = split_text c.in-Ok.reference in (
       c.in-Ok.ensures.fault,
       c.in-Ok-try_to_dedicated_string.ensures
-          ∙ (written-canonical s b r (takes_base_path (split_of r)) (written c.and_normalize.result) (c.and_normalize.ensures ∙ ap made-normal c.resolve_split-target.ensures)
+          ∙ (written-canonical s b r (takes_base_path (split_of r)) (written c.and_normalize.result)
+          (c.and_normalize.ensures ∙ ap made-normal c.resolve_split-target.ensures)
           ∙ (ap (λ x. canonical s x r) c.new.ensures ∙ ap (canonical s _) c.in-Ok.ensures.text)),
     )

@@ -13,4 +13,5 @@ returns g c =
     let b = base_text c.args.resolver.now in
     let r = split_text c.args.reference.now in
     subst (λ x. Shows g.W.TextSink.puts g.W.TextSink.halts g.W.TextSink.stops c.args.sink.now x c.show.new.sink c.show.result)
-    (written-canonical g.S.Spec.tests b r (takes_base_path (split_of r)) (written c.and_normalize.result) (c.and_normalize.ensures ∙ ap made-normal c.resolve_split.ensures)) c.show.ensures
+    (written-canonical g.S.Spec.tests b r (takes_base_path (split_of r)) (written c.and_normalize.result)
+    (c.and_normalize.ensures ∙ ap made-normal c.resolve_split.ensures)) c.show.ensures

@@ -22,7 +22,8 @@ returns-clause-text g c =
     let r = split_text c.args.reference.now in
     let w = written c.and_normalize.result in
     subst (λ t. OnOk c.try_append_to_string.result (string_bytes c.try_append_to_string.new.dest ≡ t))
-    (ap (λ o. o ++ written_text s w) c.clear.ensures.bytes ∙ written-canonical s b r (takes_base_path (split_of r)) w (c.and_normalize.ensures ∙ ap made-normal c.resolve_split.ensures))
+    (ap (λ o. o ++ written_text s w) c.clear.ensures.bytes
+    ∙ written-canonical s b r (takes_base_path (split_of r)) w (c.and_normalize.ensures ∙ ap made-normal c.resolve_split.ensures))
     c.try_append_to_string.ensures.whole
 
 on_ok : {A B : Type 0} (r : Result (Unit {0}) AllocError) → (A → B) → OnOk r A → OnOk r B
@@ -37,4 +38,5 @@ returns-clause-valid g c =
     let base : absolute_fault s b ≡ None = ∥∥₁_elim c.args.resolver.now.base.view.valid (hlevel props) (λ e. e) in
     let reference : reference_fault s r ≡ None = ∥∥₁_elim c.args.reference.now.view.valid (hlevel props) (λ e. e) in
     let valid = canonical_valid s g.met.S.Spec.lawful b r base reference in
-    on_ok {A = string_bytes c.try_append_to_string.new.dest ≡ canonical s b r} c.try_append_to_string.result (λ e. subst (λ t. iri_fault s t ≡ None) (sym e) valid) (returns-clause-text g c)
+    on_ok {A = string_bytes c.try_append_to_string.new.dest ≡ canonical s b r} c.try_append_to_string.result
+    (λ e. subst (λ t. iri_fault s t ≡ None) (sym e) valid) (returns-clause-text g c)

@@ -3,5 +3,8 @@ use Rattle.iri_resolve.proofs.ComparedLemmas.{stopped}
 use Rattle.iri_resolve.proofs.comparison.is_text.Goals as goal
 
 pub returns-in-Err : goal.returns-in-Err
-returns-in-Err g c =
-    (λ h. cc, λ e. absurd (stopped c.show.result _ _ _ _ c.in-Err.is c.show.ensures.stops_within [] (c.as_bytes.ensures.value ∙ sym e ∙ sym (append-nil _))))
+returns-in-Err g c = (
+  λ h. cc,
+  λ e. absurd (stopped c.show.result _ _ _ _ c.in-Err.is c.show.ensures.stops_within []
+      (c.as_bytes.ensures.value ∙ sym e ∙ sym (append-nil _))),
+)

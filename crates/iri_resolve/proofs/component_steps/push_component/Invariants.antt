@@ -1,5 +1,5 @@
 use Rattle.std.proofs.Common.{length}
-use Rattle.iri_resolve.specs.ComponentSteps.{Walked}
+use Rattle.iri_resolve.specs.inside.ComponentSteps.{Walked}
 use Rattle.iri_resolve.proofs.component_steps.push_component.Given as goal
 
 -- all but the rest is in normal form

@@ -1,6 +1,6 @@
 use Rattle.std.proofs.Common.{◌∙◌, ◌||◌, sym, ap}
 use Rattle.iri_resolve.proofs.DotLemmas.{first_or_behind}
-use Rattle.iri_resolve.specs.DotSearch.{dots_behind}
+use Rattle.iri_resolve.specs.inside.DotSearch.{dots_behind}
 use Rattle.iri_resolve.proofs.dots.has_dot_segment.Goals as goal
 
 pub returns-then-begins_with_dot_segment : goal.returns-then-begins_with_dot_segment

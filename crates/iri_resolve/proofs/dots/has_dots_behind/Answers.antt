@@ -1,7 +1,7 @@
 use Rattle.std.proofs.Common.{◌∙◌, ◌||◌, sym, ap, arith}
-use Rattle.iri_grammar.specs.PiecesLaws.{behind_shorter}
-use Rattle.iri_grammar.specs.Views.{now_of}
-use Rattle.iri_resolve.specs.DotSearch.{dots_behind}
+use Rattle.iri_grammar.proofs.PiecesLaws.{behind_shorter}
+use Rattle.iri_grammar.specs.OptionalSlices.{now_of}
+use Rattle.iri_resolve.specs.inside.DotSearch.{dots_behind}
 use Rattle.iri_resolve.proofs.DotLemmas.{slash_at, no_slash}
 use Rattle.iri_resolve.proofs.dots.has_dots_behind.Goals as goal
 
@@ -11,7 +11,8 @@ returns-in-None c =
     sym (no_slash c.slashes.rest.now e) ∙ c.slashes.invariant
 
 pub slashes-smaller : goal.slashes-smaller
-slashes-smaller c = let e = sym c.behind_slash.ensures ∙ ap now_of c.in-Some.is in omega (arith, behind_shorter 47 c.slashes.rest.now c.in-Some.next.now e)
+slashes-smaller c = let e = sym c.behind_slash.ensures ∙ ap now_of c.in-Some.is in
+    omega (arith, behind_shorter 47 c.slashes.rest.now c.in-Some.next.now e)
 
 pub returns-then-begins_with_dot_segment : goal.returns-then-begins_with_dot_segment
 returns-then-begins_with_dot_segment c =

@@ -1,5 +1,5 @@
 use Rattle.std.proofs.Common.{◌≡◌, length}
-use Rattle.iri_resolve.specs.DotSearch.{dots_behind}
+use Rattle.iri_resolve.specs.inside.DotSearch.{dots_behind}
 use Rattle.iri_resolve.proofs.dots.has_dots_behind.Given as goal
 
 -- what is left decides as the whole does

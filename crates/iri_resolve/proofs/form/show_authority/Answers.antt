@@ -1,5 +1,5 @@
 use Rattle.std.proofs.Common.{cond, subst}
-use Rattle.iri_text.specs.Compose.{shows_exit, shows_then}
+use Rattle.iri_text.proofs.Compose.{shows_exit, shows_then}
 use Rattle.iri_text.specs.Shown.{Shows}
 use Rattle.iri_percent.specs.NormalHost.{normal_authority}
 use Rattle.iri_resolve.proofs.FormLemmas.{authority-in}
@@ -10,7 +10,8 @@ returns-in_err-put g c =
     let a = c.in-Some.authority.now in
     subst (λ t. Shows g.W.TextSink.puts g.W.TextSink.halts g.W.TextSink.stops c.args.sink.now t c.put.new.self c.from_residual.result)
     (authority-in c.args.normal (normal_authority g.S.Spec.tests) c.args.authority c.in-Some.authority c.in-Some.is)
-    (shows_exit g.met.W.TextSink.rules (cond c.args.normal (normal_authority g.S.Spec.tests a) a) c.from_residual.ensures.0 c.in_err-put.ensures)
+    (shows_exit g.met.W.TextSink.rules (cond c.args.normal
+    (normal_authority g.S.Spec.tests a) a) c.from_residual.ensures.0 c.in_err-put.ensures)
 
 pub returns : goal.returns
 returns g c =

@@ -1,6 +1,6 @@
 use Rattle.std.proofs.Common.{◌∙◌, cond, sym, subst, ap}
 use Rattle.iri_grammar.specs.Authority.{FitsAuthority}
-use Rattle.iri_grammar.specs.AuthorityLaws.{reads}
+use Rattle.iri_grammar.proofs.AuthorityLaws.{reads}
 use Rattle.iri_grammar.specs.Spans.{span_parts}
 use Rattle.iri_text.specs.Shown.{Shows}
 use Rattle.iri_percent.specs.NormalHost.{normal_authority}
@@ -15,4 +15,5 @@ returns-then-normal g c =
     let s = g.S.Spec.tests in
     let a = c.args.authority.now in
     subst (λ t. Shows g.W.TextSink.puts g.W.TextSink.halts g.W.TextSink.stops c.args.sink.now t c.show_span.new.sink c.show_span.result)
-    (authority_is s a (span_parts c.of.result) c.of.ensures ∙ sym (ap (λ b. cond b (normal_authority s a) a) c.if-normal.true)) c.show_span.ensures
+    (authority_is s a (span_parts c.of.result) c.of.ensures
+    ∙ sym (ap (λ b. cond b (normal_authority s a) a) c.if-normal.true)) c.show_span.ensures

@@ -1,6 +1,6 @@
 use Rattle.std.proofs.Common.{◌<◌, length, subst, arith}
 use Rattle.std.proofs.lemmas.Bool.Decides.{nat_tests}
-use Rattle.iri_text.specs.Compose.{shows_exit, shows_then}
+use Rattle.iri_text.proofs.Compose.{shows_exit, shows_then}
 use Rattle.iri_text.specs.Shown.{Shows}
 use Rattle.iri_resolve.proofs.FormLemmas.{port-in}
 use Rattle.iri_resolve.proofs.form.show_digits.Goals as goal

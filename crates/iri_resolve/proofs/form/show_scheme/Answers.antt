@@ -1,7 +1,7 @@
 use Rattle.std.proofs.Common.{◌∷◌, [], subst}
-use Rattle.iri_text.specs.Compose.{shows_exit, shows_then}
+use Rattle.iri_text.proofs.Compose.{shows_exit, shows_then}
 use Rattle.iri_text.specs.Shown.{Shows}
-use Rattle.iri_resolve.specs.Normal.{lowered}
+use Rattle.iri_resolve.specs.LowerCase.{lowered}
 use Rattle.iri_resolve.proofs.FormLemmas.{scheme-in}
 use Rattle.iri_resolve.proofs.form.show_scheme.Goals as goal
 

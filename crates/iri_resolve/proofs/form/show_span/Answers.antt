@@ -2,10 +2,12 @@ use Rattle.std.proofs.Common.{◌≡◌, true, sym, subst}
 use Rattle.iri_grammar.specs.Components.{if_there, is_userinfo}
 use Rattle.iri_grammar.specs.Spans.{span_parts}
 use Rattle.iri_percent.specs.Units.{whole_triplets}
-use Rattle.iri_percent.specs.WholeLaws.{userinfo-whole}
+use Rattle.iri_percent.proofs.WholeLaws.{userinfo-whole}
 use Rattle.iri_resolve.proofs.NormalLemmas.{part_whole}
 use Rattle.iri_resolve.proofs.form.show_span.Goals as goal
 
 pub show_userinfo-requires : goal.show_userinfo-requires
 show_userinfo-requires g c =
-    subst (λ o. if_there whole_triplets o ≡ true) (sym c.userinfo.ensures) (part_whole (is_userinfo g.S.Spec.tests) (span_parts c.args.span.now).userinfo (λ x h. userinfo-whole g.S.Spec.tests x g.met.S.Spec.lawful h) c.requires.userinfo)
+    subst (λ o. if_there whole_triplets o ≡ true) (sym c.userinfo.ensures)
+    (part_whole (is_userinfo g.S.Spec.tests) (span_parts c.args.span.now).userinfo
+    (λ x h. userinfo-whole g.S.Spec.tests x g.met.S.Spec.lawful h) c.requires.userinfo)

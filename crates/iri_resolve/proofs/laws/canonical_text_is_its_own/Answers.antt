@@ -1,4 +1,4 @@
-use Rattle.iri_resolve.specs.FormLaws.{canonical-own}
+use Rattle.iri_resolve.proofs.FormLaws.{canonical-own}
 use Rattle.iri_resolve.proofs.laws.canonical_text_is_its_own.Goals as goal
 
 pub returns : goal.returns

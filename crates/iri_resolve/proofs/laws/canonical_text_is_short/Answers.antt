@@ -1,4 +1,4 @@
-use Rattle.iri_resolve.specs.LengthLaws.{length-canonical}
+use Rattle.iri_resolve.proofs.LengthLaws.{length-canonical}
 use Rattle.iri_resolve.proofs.laws.canonical_text_is_short.Goals as goal
 
 pub returns : goal.returns

@@ -1,4 +1,4 @@
-use Rattle.iri_resolve.specs.FormLaws.{canonical-iri, canonical-splits, canonical-split}
+use Rattle.iri_resolve.proofs.FormLaws.{canonical-iri, canonical-splits, canonical-split}
 use Rattle.iri_resolve.proofs.laws.canonical_text_splits_into_normal_parts.Goals as goal
 
 pub returns : goal.returns

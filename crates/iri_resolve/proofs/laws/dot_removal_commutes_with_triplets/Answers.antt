@@ -1,4 +1,4 @@
-use Rattle.iri_resolve.specs.TripletPaths.{dots-pct}
+use Rattle.iri_resolve.proofs.TripletPaths.{dots-pct}
 use Rattle.iri_resolve.proofs.laws.dot_removal_commutes_with_triplets.Goals as goal
 
 pub returns : goal.returns

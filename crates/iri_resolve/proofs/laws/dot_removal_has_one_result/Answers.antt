@@ -1,4 +1,4 @@
-use Rattle.iri_resolve.specs.StepLaws.{one_result}
+use Rattle.iri_resolve.proofs.StepLaws.{one_result}
 use Rattle.iri_resolve.proofs.laws.dot_removal_has_one_result.Goals as goal
 
 pub returns : goal.returns

@@ -1,4 +1,4 @@
-use Rattle.iri_resolve.specs.StableLaws.{guarded-stable}
+use Rattle.iri_resolve.proofs.StableLaws.{guarded-stable}
 use Rattle.iri_resolve.proofs.laws.dot_removal_is_stable.Goals as goal
 
 pub returns : goal.returns

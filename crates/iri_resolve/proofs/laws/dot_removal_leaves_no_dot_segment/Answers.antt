@@ -1,4 +1,4 @@
-use Rattle.iri_resolve.specs.StableLaws.{no_dots_left, no_dots-same}
+use Rattle.iri_resolve.proofs.StableLaws.{no_dots_left, no_dots-same}
 use Rattle.iri_resolve.proofs.laws.dot_removal_leaves_no_dot_segment.Goals as goal
 
 pub returns : goal.returns

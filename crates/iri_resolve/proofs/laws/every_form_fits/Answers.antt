@@ -1,4 +1,4 @@
-use Rattle.iri_resolve.specs.ModeLaws.{mode-fits}
+use Rattle.iri_resolve.proofs.ModeLaws.{mode-fits}
 use Rattle.iri_resolve.proofs.laws.every_form_fits.Goals as goal
 
 pub returns : goal.returns

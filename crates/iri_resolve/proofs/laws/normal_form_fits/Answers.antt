@@ -1,4 +1,4 @@
-use Rattle.iri_resolve.specs.FormLaws.{form-fits}
+use Rattle.iri_resolve.proofs.FormLaws.{form-fits}
 use Rattle.iri_resolve.proofs.laws.normal_form_fits.Goals as goal
 
 pub returns : goal.returns

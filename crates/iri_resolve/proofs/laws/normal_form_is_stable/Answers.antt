@@ -1,4 +1,4 @@
-use Rattle.iri_resolve.specs.FormLaws.{form-stable}
+use Rattle.iri_resolve.proofs.FormLaws.{form-stable}
 use Rattle.iri_resolve.proofs.laws.normal_form_is_stable.Goals as goal
 
 pub returns : goal.returns

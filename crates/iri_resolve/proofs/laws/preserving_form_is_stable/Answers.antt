@@ -1,4 +1,4 @@
-use Rattle.iri_resolve.specs.ModeLaws.{preserving-stable}
+use Rattle.iri_resolve.proofs.ModeLaws.{preserving-stable}
 use Rattle.iri_resolve.proofs.laws.preserving_form_is_stable.Goals as goal
 
 pub returns : goal.returns

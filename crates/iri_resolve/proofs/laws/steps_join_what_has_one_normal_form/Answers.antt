@@ -1,4 +1,4 @@
-use Rattle.iri_resolve.specs.Confluence.{joined-exactly, texts-exactly}
+use Rattle.iri_resolve.proofs.Confluence.{joined-exactly, texts-exactly}
 use Rattle.iri_resolve.proofs.laws.steps_join_what_has_one_normal_form.Goals as goal
 
 pub returns : goal.returns

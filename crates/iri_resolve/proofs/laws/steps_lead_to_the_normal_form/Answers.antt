@@ -1,4 +1,4 @@
-use Rattle.iri_resolve.specs.Confluence.{normal-leads}
+use Rattle.iri_resolve.proofs.Confluence.{normal-leads}
 use Rattle.iri_resolve.proofs.laws.steps_lead_to_the_normal_form.Goals as goal
 
 pub returns : goal.returns

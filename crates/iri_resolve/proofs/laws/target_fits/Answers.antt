@@ -1,4 +1,4 @@
-use Rattle.iri_resolve.specs.TargetLaws.{target-fits}
+use Rattle.iri_resolve.proofs.TargetLaws.{target-fits}
 use Rattle.iri_resolve.proofs.laws.target_fits.Goals as goal
 
 pub returns : goal.returns

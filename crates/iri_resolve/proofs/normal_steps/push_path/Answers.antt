@@ -1,6 +1,7 @@
-use Rattle.std.proofs.Common.{sym, ◌∙◌}
-use Rattle.iri_percent.specs.WholeLaws.{path-whole}
-use Rattle.iri_resolve.proofs.NormalStepLemmas.{path-plain}
+use Rattle.std.proofs.Common.{◌++◌, ◌∙◌, ap}
+use Rattle.iri_percent.proofs.WholeLaws.{path-whole}
+use Rattle.iri_resolve.specs.inside.NormalSteps.{dots_steps}
+use Rattle.iri_resolve.proofs.NormalStepLemmas.{path-led}
 use Rattle.iri_resolve.proofs.normal_steps.push_path.Goals as goal
 
 pub push_triplets-requires : goal.push_triplets-requires
@@ -8,4 +9,4 @@ push_triplets-requires g c = path-whole g.S.Spec.tests c.args.path.now g.met.S.S
 
 pub returns : goal.returns
 returns g c =
-    path-plain g.S.Spec.tests c.args.path.now c.args.authority_stands c.args.steps.now c.push_triplets.new.steps g.met.S.Spec.lawful c.requires.path (sym c.has_dot_segment.ensures ∙ c.if-has_dot_segment.false) c.requires.unguarded c.in_ok-push_triplets.ensures
+    path-led g.S.Spec.tests c.args.path.now c.args.authority_stands c.args.steps.now c.push_triplets.new.steps c.push_dots.new.steps g.met.S.Spec.lawful c.requires.path c.requires.unguarded c.in_ok-push_triplets.ensures (c.in_ok-push_dots.ensures ∙ ap (λ b. c.push_triplets.new.steps ++ dots_steps b) c.loses_dots.ensures)

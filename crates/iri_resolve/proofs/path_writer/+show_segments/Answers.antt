@@ -1,6 +1,6 @@
 use Rattle.std.proofs.Common.{◌≡◌, ◌∙◌, ◌+◌, ◌<◌, ◌^◌, Ok, true, length, length-append, sym, subst, ap, arith, rules}
 use Rattle.std.proofs.lemmas.Bool.Decides.{nat_tests}
-use Rattle.iri_text.specs.Compose.{shown_none, shows_all, shows_exit, shows_then}
+use Rattle.iri_text.proofs.Compose.{shown_none, shows_all, shows_exit, shows_then}
 use Rattle.iri_text.specs.Shown.{Shows}
 use Rattle.iri_percent.specs.Units.{whole_triplets}
 use Rattle.iri_resolve.specs.Kept.{ended, kept}
@@ -19,20 +19,24 @@ pub returns-then-not-has_dot_segment : goal.returns-then-not-has_dot_segment
 returns-then-not-has_dot_segment g t c =
     let u = c.behind_front_dots-text.result.now in
     subst (λ x. Shows g.W.TextSink.puts g.W.TextSink.halts g.W.TextSink.stops c.args.sink.now x c.show_part.new.sink c.show_part.result)
-    (ap (in_form g.S.Spec.tests c.args.normal) (sym c.without_last_segments.ensures.kept) ∙ form-behind g.S.Spec.tests c.args.normal c.args.text.now u c.args.count c.behind_front_dots-text.ensures.segments)
+    (ap (in_form g.S.Spec.tests c.args.normal) (sym c.without_last_segments.ensures.kept)
+    ∙ form-behind g.S.Spec.tests c.args.normal c.args.text.now u c.args.count c.behind_front_dots-text.ensures.segments)
     c.show_part.ensures
 
 pub halves-requires-clause-some : goal.halves-requires-clause-some
-halves-requires-clause-some g t c = dotted-some c.behind_front_dots-text.result.now (sym c.has_dot_segment.ensures ∙ c.if-not-has_dot_segment.false)
+halves-requires-clause-some g t c = dotted-some c.behind_front_dots-text.result.now
+    (sym c.has_dot_segment.ensures ∙ c.if-not-has_dot_segment.false)
 
 pub returns-then-is_empty : goal.returns-then-is_empty
 returns-then-is_empty g t c =
     let h = c.halves.ensures in
     let u = c.behind_front_dots-text.result.now in
     let z : length c.halves.result.0.now ≡ 0 = grind (arith, nat_tests) in
-    let e = form-one g.S.Spec.tests c.args.normal u c.halves.result.0.now c.halves.result.1.now c.args.count h.whole z h.rest (h.one z) (sym c.has_dot_segment.ensures ∙ c.if-not-has_dot_segment.false) in
+    let e = form-one g.S.Spec.tests c.args.normal u c.halves.result.0.now c.halves.result.1.now c.args.count h.whole z h.rest (h.one z)
+    (sym c.has_dot_segment.ensures ∙ c.if-not-has_dot_segment.false) in
     let b = form-behind g.S.Spec.tests c.args.normal c.args.text.now u c.args.count c.behind_front_dots-text.ensures.segments in
-    subst (λ x. Shows g.W.TextSink.puts g.W.TextSink.halts g.W.TextSink.stops c.args.sink.now x c.args.sink.now (Ok tt)) (sym e ∙ b) (shows_all (shown_none g.met.W.TextSink.rules c.args.sink.now))
+    subst (λ x. Shows g.W.TextSink.puts g.W.TextSink.halts g.W.TextSink.stops c.args.sink.now x c.args.sink.now (Ok tt)) (sym e ∙ b)
+    (shows_all (shown_none g.met.W.TextSink.rules c.args.sink.now))
 
 pub show_segments-requires : goal.show_segments-requires
 show_segments-requires g t c =
@@ -52,7 +56,8 @@ returns-in_err-show_segments g t c =
     let b = form-behind g.S.Spec.tests c.args.normal c.args.text.now u c.args.count c.behind_front_dots-text.ensures.segments in
     subst (λ x. Shows g.W.TextSink.puts g.W.TextSink.halts g.W.TextSink.stops c.args.sink.now x c.show_segments.new.sink c.from_residual.result)
     (form-halves g.S.Spec.tests c.args.normal u c.halves.result.0.now c.halves.result.1.now c.args.count c.removed.result h.whole h.ends c.removed.ensures.count ∙ b)
-    (shows_exit g.met.W.TextSink.rules (in_form g.S.Spec.tests c.args.normal (kept (ended c.halves.result.1.now) c.args.count)) c.from_residual.ensures.0 c.in_err-show_segments.ensures)
+    (shows_exit g.met.W.TextSink.rules (in_form g.S.Spec.tests c.args.normal
+    (kept (ended c.halves.result.1.now) c.args.count)) c.from_residual.ensures.0 c.in_err-show_segments.ensures)
 
 pub show_segments-requires-2 : goal.show_segments-requires-2
 show_segments-requires-2 g t c =

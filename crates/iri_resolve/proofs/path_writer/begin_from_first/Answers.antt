@@ -1,7 +1,7 @@
 use Rattle.std.proofs.Common.{◌≡◌, ◌++◌, ◌∷◌, [], ◌∙◌, ◌&&◌, true, sym, subst, ap, arith}
 use Rattle.iri_grammar.specs.Cut.{before}
-use Rattle.iri_grammar.specs.PiecesLaws.{behind_shorter}
-use Rattle.iri_grammar.specs.Views.{now_of}
+use Rattle.iri_grammar.proofs.PiecesLaws.{behind_shorter}
+use Rattle.iri_grammar.specs.OptionalSlices.{now_of}
 use Rattle.iri_resolve.specs.Kept.{begins, ended, kept}
 use Rattle.iri_resolve.specs.Target.{ends_at_slash}
 use Rattle.iri_resolve.proofs.EndedLemmas.{rest-ends, first_whole}
@@ -12,7 +12,8 @@ pub removed-requires-clause-ends : goal.removed-requires-clause-ends
 removed-requires-clause-ends c =
     let t = c.args.text.now in
     let e = sym c.cut.ensures.behind ∙ ap now_of c.in-Some.is in
-    rest-ends (before 47 t ++ 47 ∷ []) c.in-Some.rest.now (subst (λ l. ends_at_slash l ≡ true) (first_whole t c.in-Some.rest.now e) c.requires.ends)
+    rest-ends (before 47 t ++ 47 ∷ []) c.in-Some.rest.now
+    (subst (λ l. ends_at_slash l ≡ true) (first_whole t c.in-Some.rest.now e) c.requires.ends)
 
 pub removed-requires-clause-room : goal.removed-requires-clause-room
 removed-requires-clause-room c =
@@ -23,7 +24,8 @@ pub begins_with_slash-requires-clause-ends : goal.begins_with_slash-requires-cla
 begins_with_slash-requires-clause-ends c =
     let t = c.args.text.now in
     let e = sym c.cut.ensures.behind ∙ ap now_of c.in-Some.is in
-    rest-ends (before 47 t ++ 47 ∷ []) c.in-Some.rest.now (subst (λ l. ends_at_slash l ≡ true) (first_whole t c.in-Some.rest.now e) c.requires.ends)
+    rest-ends (before 47 t ++ 47 ∷ []) c.in-Some.rest.now
+    (subst (λ l. ends_at_slash l ≡ true) (first_whole t c.in-Some.rest.now e) c.requires.ends)
 
 pub begins_with_slash-requires-clause-room : goal.begins_with_slash-requires-clause-room
 begins_with_slash-requires-clause-room c =

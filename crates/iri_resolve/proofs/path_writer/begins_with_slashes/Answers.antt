@@ -11,7 +11,8 @@ begin_in_two-requires-clause-whole c = (whole_two c.args.front.now c.args.path.n
 pub begin_in_two-requires-clause-text_whole : goal.begin_in_two-requires-clause-text_whole
 begin_in_two-requires-clause-text_whole c =
     let p = (whole_two c.args.front.now c.args.path.now c.requires.ends c.requires.whole).1 in
-    (whole_two c.split_last.result.0.now c.split_last.result.1.now c.split_last.ensures.ends (subst (λ l. whole_triplets l ≡ true) c.split_last.ensures.whole p)).0
+    (whole_two c.split_last.result.0.now c.split_last.result.1.now c.split_last.ensures.ends
+    (subst (λ l. whole_triplets l ≡ true) c.split_last.ensures.whole p)).0
 
 pub begin_in_two-requires-clause-room : goal.begin_in_two-requires-clause-room
 begin_in_two-requires-clause-room c =
@@ -22,4 +23,5 @@ begin_in_two-requires-clause-room c =
 pub returns : goal.returns
 returns c =
     let h = c.split_last.ensures in
-    c.begin_in_two.ensures ∙ pieces-begin c.args.front.now c.args.path.now c.split_last.result.0.now c.split_last.result.1.now c.removing.result c.requires.ends h.whole h.ends h.last c.removing.ensures
+    c.begin_in_two.ensures
+    ∙ pieces-begin c.args.front.now c.args.path.now c.split_last.result.0.now c.split_last.result.1.now c.removing.result c.requires.ends h.whole h.ends h.last c.removing.ensures

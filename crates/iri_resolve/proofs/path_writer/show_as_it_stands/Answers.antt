@@ -1,5 +1,5 @@
 use Rattle.std.proofs.Common.{subst}
-use Rattle.iri_text.specs.Compose.{shows_exit, shows_then}
+use Rattle.iri_text.proofs.Compose.{shows_exit, shows_then}
 use Rattle.iri_text.specs.Shown.{Shows}
 use Rattle.iri_resolve.specs.PathForm.{in_form}
 use Rattle.iri_resolve.proofs.NormalLemmas.{whole_parts}
@@ -16,7 +16,8 @@ pub returns-in_err-show_part : goal.returns-in_err-show_part
 returns-in_err-show_part g c =
     subst (λ x. Shows g.W.TextSink.puts g.W.TextSink.halts g.W.TextSink.stops c.args.sink.now x c.show_part.new.sink c.from_residual.result)
     (form-parts g.S.Spec.tests c.args.normal c.args.front.now c.args.path.now c.requires.cut)
-    (shows_exit g.met.W.TextSink.rules (in_form g.S.Spec.tests c.args.normal c.args.path.now) c.from_residual.ensures.0 c.in_err-show_part.ensures)
+    (shows_exit g.met.W.TextSink.rules
+    (in_form g.S.Spec.tests c.args.normal c.args.path.now) c.from_residual.ensures.0 c.in_err-show_part.ensures)
 
 pub returns : goal.returns
 returns g c =

@@ -1,5 +1,5 @@
 use Rattle.std.proofs.Common.{◌∷◌, [], subst}
-use Rattle.iri_text.specs.Compose.{shows_exit, shows_then}
+use Rattle.iri_text.proofs.Compose.{shows_exit, shows_then}
 use Rattle.iri_text.specs.Shown.{Shows}
 use Rattle.iri_resolve.proofs.WriterLemmas.{form-stays, form-goes}
 use Rattle.iri_resolve.proofs.path_writer.show_bottom.Goals as goal

@@ -1,6 +1,6 @@
 use Rattle.std.proofs.Common.{◌≡◌, ◌++◌, ◌∙◌, sym, subst, ap}
 use Rattle.std.specs.Prelude.{is_some}
-use Rattle.iri_grammar.specs.Views.{now_of}
+use Rattle.iri_grammar.specs.OptionalSlices.{now_of}
 use Rattle.iri_percent.specs.Triplets.{pct}
 use Rattle.iri_text.specs.Shown.{Shows}
 use Rattle.iri_resolve.specs.DotRemoval.{dots}

@@ -1,5 +1,5 @@
 use Rattle.std.proofs.Common.{◌≡◌, ◌∙◌, true, length, length-append, subst, ap, arith}
-use Rattle.iri_text.specs.Compose.{shows_exit, shows_then}
+use Rattle.iri_text.proofs.Compose.{shows_exit, shows_then}
 use Rattle.iri_text.specs.Shown.{Shows}
 use Rattle.iri_percent.specs.Units.{whole_triplets}
 use Rattle.iri_resolve.specs.Kept.{kept_last}
@@ -15,7 +15,8 @@ show_two-requires-clause-whole g c = (whole_two c.args.front.now c.args.path.now
 pub show_two-requires-clause-text_whole : goal.show_two-requires-clause-text_whole
 show_two-requires-clause-text_whole g c =
     let p = (whole_two c.args.front.now c.args.path.now c.requires.ends c.requires.whole).1 in
-    (whole_two c.split_last.result.0.now c.split_last.result.1.now c.split_last.ensures.ends (subst (λ l. whole_triplets l ≡ true) c.split_last.ensures.whole p)).0
+    (whole_two c.split_last.result.0.now c.split_last.result.1.now c.split_last.ensures.ends
+    (subst (λ l. whole_triplets l ≡ true) c.split_last.ensures.whole p)).0
 
 pub show_two-requires-clause-room : goal.show_two-requires-clause-room
 show_two-requires-clause-room g c =
@@ -26,14 +27,16 @@ show_two-requires-clause-room g c =
 pub show_last-requires : goal.show_last-requires
 show_last-requires g c =
     let p = (whole_two c.args.front.now c.args.path.now c.requires.ends c.requires.whole).1 in
-    (whole_two c.split_last.result.0.now c.split_last.result.1.now c.split_last.ensures.ends (subst (λ l. whole_triplets l ≡ true) c.split_last.ensures.whole p)).1
+    (whole_two c.split_last.result.0.now c.split_last.result.1.now c.split_last.ensures.ends
+    (subst (λ l. whole_triplets l ≡ true) c.split_last.ensures.whole p)).1
 
 pub returns-in_err-show_two : goal.returns-in_err-show_two
 returns-in_err-show_two g c =
     let h = c.split_last.ensures in
     let e = form-pieces g.S.Spec.tests c.args.normal c.args.front.now c.args.path.now c.split_last.result.0.now c.split_last.result.1.now c.removing.result c.requires.ends h.whole h.ends h.last c.removing.ensures in
     subst (λ x. Shows g.W.TextSink.puts g.W.TextSink.halts g.W.TextSink.stops c.args.sink.now x c.show_two.new.sink c.from_residual.result) e
-    (shows_exit g.met.W.TextSink.rules (in_form g.S.Spec.tests c.args.normal (kept_last c.split_last.result.1.now)) c.from_residual.ensures.0 c.in_err-show_two.ensures)
+    (shows_exit g.met.W.TextSink.rules (in_form g.S.Spec.tests c.args.normal
+    (kept_last c.split_last.result.1.now)) c.from_residual.ensures.0 c.in_err-show_two.ensures)
 
 pub returns : goal.returns
 returns g c =

@@ -1,6 +1,6 @@
 use Rattle.std.proofs.Common.{◌≡◌, ◌<◌, length, subst, arith}
 use Rattle.std.proofs.lemmas.Bool.Decides.{nat_tests}
-use Rattle.iri_text.specs.Compose.{shows_exit, shows_then}
+use Rattle.iri_text.proofs.Compose.{shows_exit, shows_then}
 use Rattle.iri_text.specs.Shown.{Shows}
 use Rattle.iri_resolve.specs.Kept.{ended, kept}
 use Rattle.iri_resolve.specs.PathForm.{in_form}
@@ -18,7 +18,8 @@ returns-in_err-show_from_first g c =
     let some : 0 < length c.behind_front_dots-front.result.now = grind (arith, nat_tests) in
     let e = form-both g.S.Spec.tests c.args.normal c.args.front.now c.args.text.now c.behind_front_dots-front.result.now c.args.count c.removed.result some c.behind_front_dots-front.ensures.ends c.behind_front_dots-front.ensures.segments c.removed.ensures.count in
     subst (λ x. Shows g.W.TextSink.puts g.W.TextSink.halts g.W.TextSink.stops c.args.sink.now x c.show_from_first-2.new.sink c.from_residual.result) e
-    (shows_exit g.met.W.TextSink.rules (in_form g.S.Spec.tests c.args.normal (kept (ended c.args.text.now) c.args.count)) c.from_residual.ensures.0 c.in_err-show_from_first.ensures)
+    (shows_exit g.met.W.TextSink.rules (in_form g.S.Spec.tests c.args.normal
+    (kept (ended c.args.text.now) c.args.count)) c.from_residual.ensures.0 c.in_err-show_from_first.ensures)
 
 pub returns : goal.returns
 returns g c =

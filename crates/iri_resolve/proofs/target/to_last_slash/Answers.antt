@@ -7,7 +7,10 @@ use Rattle.iri_resolve.proofs.target.to_last_slash.Goals as goal
 
 pub range-requires-clause-end_boundary : goal.range-requires-clause-end_boundary
 range-requires-clause-end_boundary c =
-    let at = c.in-Some.ensures in (omega (arith, at.inside), λ l h. lead_after_ascii c.args.path.now c.in-Some.i c.utf8.path (omega (arith, at.byte)) l h)
+    let at = c.in-Some.ensures in (
+      omega (arith, at.inside),
+      λ l h. lead_after_ascii c.args.path.now c.in-Some.i c.utf8.path (omega (arith, at.byte)) l h,
+    )
 
 pub returns-in-Some-clause-ends : goal.returns-in-Some-clause-ends
 returns-in-Some-clause-ends c =

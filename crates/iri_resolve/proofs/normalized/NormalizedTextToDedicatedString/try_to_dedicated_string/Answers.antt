@@ -8,4 +8,5 @@ from_valid-requires g c =
     let s = g.S.Spec.tests in
     let n = c.args.self.now in
     subst (λ x. g.K.Kind.fault s x ≡ None) (sym c.in_ok-text.ensures)
-    (g.met.K.NormalKind.stays s g.met.S.Spec.lawful n.mode n.whole (slices n.target) (sound-fits s g.K.Kind.fault n.target g.met.S.Spec.lawful n.sound) (sound-valid s g.K.Kind.fault n.target n.sound))
+    (c.forms_are_valid.ensures s g.met.S.Spec.lawful n.mode n.whole (slices n.target)
+    (sound-fits s g.K.Kind.fault n.target g.met.S.Spec.lawful n.sound) (sound-valid s g.K.Kind.fault n.target n.sound))

@@ -19,5 +19,6 @@ segments-preserved c =
       utf8 = utf8-front a (s ++ 47 ∷ []) e.ends (subst IsUtf8 e.whole i.utf8);
       ends = e.ends;
       front = part-whole x a ((s ++ 47 ∷ []) ++ y) (part-more x t a (s ++ 47 ∷ []) y i.front e.whole);
-      same = i.same ∙ kept-more x t a (s ++ 47 ∷ []) y (kept (ended t) 0) (kept (ended a) 0) i.front e.whole (last-stays t a s e.ends e.last e.whole d);
+      same = i.same ∙ kept-more x t a (s ++ 47 ∷ []) y (kept (ended t) 0) (kept (ended a) 0) i.front e.whole
+          (last-stays t a s e.ends e.last e.whole d);
     }

@@ -7,4 +7,5 @@ pub range_from-requires : goal.range_from-requires
 range_from-requires c _ =
     let a = c.args.front.now in
     let t = c.args.text.now in
-    subst (λ x. IsCharBoundary x (length a)) (sym c.requires.whole) (cut-boundary a (drop (length a) t) c.requires.ends (subst IsUtf8 c.requires.whole c.utf8.text))
+    subst (λ x. IsCharBoundary x (length a)) (sym c.requires.whole)
+    (cut-boundary a (drop (length a) t) c.requires.ends (subst IsUtf8 c.requires.whole c.utf8.text))

@@ -21,7 +21,8 @@ segments-preserved c =
       utf8 = utf8-front a (s ++ 47 ∷ []) e.ends (subst IsUtf8 e.whole i.utf8);
       ends = e.ends;
       whole = (whole_two a (s ++ 47 ∷ []) e.ends (subst (λ l. whole_triplets l ≡ true) e.whole i.whole)).0;
-      same = i.same ∙ (last-goes t a s n e.ends e.last e.whole (sym c.stays.ensures ∙ c.if-stays.false) ∙ ap (kept (ended a)) (sym c.removing-pending.ensures));
+      same = i.same ∙ (last-goes t a s n e.ends e.last e.whole (sym c.stays.ensures ∙ c.if-stays.false)
+          ∙ ap (kept (ended a)) (sym c.removing-pending.ensures));
       within = omega (arith, i.within, size);
       room = omega (arith, i.room, removing-le s n, size, c.removing-pending.ensures);
     }
@@ -34,4 +35,5 @@ returns-then-stays-clause-kept c =
     let s = c.cut_last.result.1.now in
     let e = c.cut_last.ensures in
     let z = zero-stays c.segments.pending (is_dot_segment s) (sym c.stays.ensures ∙ c.if-stays.true) in
-    i.same ∙ (ap (kept (ended t)) z.0 ∙ (last-stays t a s e.ends e.last e.whole z.1 ∙ ap (λ l. kept (ended a) 0 ++ l) (sym (drop-part t a (s ++ 47 ∷ []) e.whole))))
+    i.same ∙ (ap (kept (ended t)) z.0 ∙ (last-stays t a s e.ends e.last e.whole z.1
+    ∙ ap (λ l. kept (ended a) 0 ++ l) (sym (drop-part t a (s ++ 47 ∷ []) e.whole))))

@@ -1,7 +1,7 @@
 use Rattle.std.proofs.Common.{◌≡◌, ◌++◌, [], ◌∷◌, ◌∙◌, true, subst, sym, ap, arith}
 use Rattle.iri_grammar.specs.Cut.{before}
-use Rattle.iri_grammar.specs.Views.{now_of}
-use Rattle.iri_grammar.specs.PiecesLaws.{behind_shorter}
+use Rattle.iri_grammar.specs.OptionalSlices.{now_of}
+use Rattle.iri_grammar.proofs.PiecesLaws.{behind_shorter}
 use Rattle.iri_grammar.proofs.Marks.{text_behind}
 use Rattle.iri_percent.specs.Units.{whole_triplets}
 use Rattle.iri_resolve.specs.Dots.{is_dot_segment}
@@ -12,7 +12,8 @@ use Rattle.iri_resolve.proofs.NormalLemmas.{whole_two}
 use Rattle.iri_resolve.proofs.path_writer.segments.behind_front_dots.Goals as goal
 
 pub dots-smaller : goal.dots-smaller
-dots-smaller c = let e = sym c.cut.ensures.behind ∙ ap now_of c.in-Some.is in omega (arith, behind_shorter 47 c.dots.rest.now c.in-Some.next.now e)
+dots-smaller c = let e = sym c.cut.ensures.behind ∙ ap now_of c.in-Some.is in
+    omega (arith, behind_shorter 47 c.dots.rest.now c.in-Some.next.now e)
 
 pub dots-preserved : goal.dots-preserved
 dots-preserved c =

@@ -8,7 +8,8 @@ use Rattle.iri_resolve.proofs.KeptLemmas.{ended-one}
 use Rattle.iri_resolve.proofs.path_writer.segments.halves.Goals as goal
 
 pub returns-then-i-text-clause-rest : goal.returns-then-i-text-clause-rest
-returns-then-i-text-clause-rest c = rest-ends c.cut_at.result.0.now c.cut_at.result.1.now (subst (λ l. ends_at_slash l ≡ true) c.cut_at.ensures.whole c.requires.ends)
+returns-then-i-text-clause-rest c = rest-ends c.cut_at.result.0.now c.cut_at.result.1.now
+    (subst (λ l. ends_at_slash l ≡ true) c.cut_at.ensures.whole c.requires.ends)
 
 pub range_from-requires : goal.range_from-requires
 range_from-requires c _ =

@@ -14,6 +14,7 @@ segments-preserved c =
     record {
       utf8 = utf8-front a (s ++ 47 ∷ []) e.ends (subst IsUtf8 e.whole i.utf8);
       ends = e.ends;
-      same = i.same ∙ (removed-last t a s c.segments.pending e.ends e.last e.whole ∙ ap (removed (ended a)) (sym c.removing-pending.ensures));
+      same = i.same ∙ (removed-last t a s c.segments.pending e.ends e.last e.whole
+          ∙ ap (removed (ended a)) (sym c.removing-pending.ensures));
       room = omega (arith, i.room, removing-le s c.segments.pending, length-last t a s e.whole, c.removing-pending.ensures);
     }

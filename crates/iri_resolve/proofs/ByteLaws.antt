@@ -1,0 +1,180 @@
+-- Changes of one byte: what stays, and the class of the text.
+use Rattle.std.proofs.Common.{◌≡◌, ℕ, zero, suc, ◌<◌, Bool, true, false, cond, ◌&&◌, List, [], ◌∷◌, ◌++◌, Some, None, refl, sym, ◌∙◌, ap}
+use Rattle.std.proofs.Common.{arith, append-nil}
+use Rattle.std.specs.Prelude.{◌==◌, nat_lt, take, drop, slice_index, slice_set}
+use Rattle.std.specs.Char.{is_ascii_hexdigit, is_ascii_uppercase, to_ascii_lowercase, to_ascii_uppercase}
+use Rattle.std.specs.Str.{chars}
+use lib.Utf8.{encode, scalar, scalars}
+use Rattle.std.proofs.lemmas.Str.{IsUtf8-append, chars-append, chars-encodes, encode_ascii}
+use Rattle.std.proofs.lemmas.Bool.Decides.{nat_tests}
+use Rattle.iri_grammar.proofs.AuthorityTexts.{text_over-utf8, marked-utf8, one_byte-utf8}
+use Rattle.iri_grammar.proofs.CutLaws.{both}
+use Rattle.iri_grammar.specs.Over.{over_from, over, text_over}
+use Rattle.iri_resolve.proofs.TextLaws.{utf8-front, utf8-from, utf8-behind, is_utf8-of, over-of}
+use Rattle.iri_resolve.specs.Changes.{is_in_triplet, is_small_digit, with_small_letter, with_small_host_letter, with_capital_digit}
+
+-- ---- one byte
+-- u is t with the byte at i, which passes the test, changed by f
+pub record ByteChange (test : ℕ → Bool) (f : ℕ → ℕ) (i : ℕ) (t u : List ℕ) : Type 0 where
+  pub byte : ℕ
+  pub back : List ℕ
+  pub passes : test byte ≡ true
+  pub old : t ≡ take i t ++ byte ∷ back
+  pub new : u ≡ take i t ++ f byte ∷ back
+
+pub cut : (i : ℕ) (t : List ℕ) (y : ℕ) → nat_lt 0 (slice_index t i) ≡ true
+    → (t ≡ take i t ++ slice_index t i ∷ drop (suc i) t) × (slice_set t i y ≡ take i t ++ y ∷ drop (suc i) t)
+cut zero [] y h = cc
+cut (suc i) [] y h = cc
+cut zero (x ∷ xs) y h = (refl, refl)
+cut (suc i) (x ∷ xs) y h = let r = cut i xs y h in (ap (λ z. x ∷ z) r.0, ap (λ z. x ∷ z) r.1)
+
+changed : (test : ℕ → Bool) (f : ℕ → ℕ) (i : ℕ) (t u : List ℕ) → nat_lt 0 (slice_index t i) ≡ true → test (slice_index t i) ≡ true
+    → slice_set t i (f (slice_index t i)) ≡ u → ByteChange test f i t u
+changed test f i t u h p e = let c = cut i t (f (slice_index t i)) h in
+    record { byte = slice_index t i; back = drop (suc i) t; passes = p; old = c.0; new = sym e ∙ c.1 }
+
+pub capital_some : (x : ℕ) → is_ascii_uppercase x ≡ true → nat_lt 0 x ≡ true
+capital_some x h = grind (arith, nat_tests)
+
+pub digit_some : (x : ℕ) → is_small_digit x ≡ true → nat_lt 0 x ≡ true
+digit_some x h = grind (arith, nat_tests)
+
+pub small_letter : (i : ℕ) (t u : List ℕ) → with_small_letter i t ≡ Some u → ByteChange is_ascii_uppercase to_ascii_lowercase i t u
+unfolding with_small_letter
+small_letter i t u h =
+    elim (is_ascii_uppercase (slice_index t i)) as (λ b. is_ascii_uppercase (slice_index t i) ≡ b
+    → cond b (Some (slice_set t i (to_ascii_lowercase (slice_index t i)))) None ≡ Some u
+    → ByteChange is_ascii_uppercase to_ascii_lowercase i t u) [
+      | true ↦ λ e k. let same : slice_set t i (to_ascii_lowercase (slice_index t i)) ≡ u = cc in
+          changed is_ascii_uppercase to_ascii_lowercase i t u (capital_some (slice_index t i) e) e same
+      | false ↦ λ _ k. cc
+    ] refl h
+
+-- such a change, and where it stands among the triplets
+pub record PlacedChange (inside : Bool) (test : ℕ → Bool) (f : ℕ → ℕ) (i : ℕ) (t u : List ℕ) : Type 0 where
+  pub place : is_in_triplet i t ≡ inside
+  pub change : ByteChange test f i t u
+
+pub small_host_letter : (i : ℕ) (t u : List ℕ) → with_small_host_letter i t ≡ Some u
+    → PlacedChange false is_ascii_uppercase to_ascii_lowercase i t u
+unfolding with_small_host_letter
+small_host_letter i t u h =
+    elim (is_in_triplet i t) as (λ b. is_in_triplet i t ≡ b → cond b None (with_small_letter i t) ≡ Some u
+    → PlacedChange false is_ascii_uppercase to_ascii_lowercase i t u) [
+      | true ↦ λ _ k. cc
+      | false ↦ λ e k. record { place = e; change = small_letter i t u k }
+    ] refl h
+
+pub capital_digit : (i : ℕ) (t u : List ℕ) → with_capital_digit i t ≡ Some u → PlacedChange true is_small_digit to_ascii_uppercase i t u
+unfolding with_capital_digit
+capital_digit i t u h =
+    elim (is_in_triplet i t && is_small_digit (slice_index t i)) as (λ b. (is_in_triplet i t && is_small_digit (slice_index t i)) ≡ b
+    → cond b (Some (slice_set t i (to_ascii_uppercase (slice_index t i)))) None ≡ Some u
+    → PlacedChange true is_small_digit to_ascii_uppercase i t u) [
+      | true ↦ λ e k.
+          let p = both (is_in_triplet i t) (is_small_digit (slice_index t i)) e in
+          let same : slice_set t i (to_ascii_uppercase (slice_index t i)) ≡ u = cc in
+          record { place = p.0; change = changed is_small_digit to_ascii_uppercase i t u (digit_some (slice_index t i) p.1) p.1 same }
+      | false ↦ λ _ k. cc
+    ] refl h
+
+-- ---- the class
+-- a byte y that may stand where x stands
+pub record IsAsGood (p : ℕ → Bool) (x y : ℕ) : Type 0 where
+  pub low : x < 128
+  pub still_low : y < 128
+  pub plain : (x == 37) ≡ false
+  pub still_plain : (y == 37) ≡ false
+  pub digit : is_ascii_hexdigit x ≡ true → is_ascii_hexdigit y ≡ true
+  pub class : p x ≡ true → p y ≡ true
+
+over-changed : (p : ℕ → Bool) (x y : ℕ) → IsAsGood p x y → (n : ℕ) (xs ys : List ℕ) → over_from p n (xs ++ x ∷ ys) ≡ true
+    → over_from p n (xs ++ y ∷ ys) ≡ true
+unfolding over_from
+over-changed p x y g zero [] ys h =
+    let k = both (p x) (over_from p 0 ys) (sym (ap (λ b. cond b (over_from p 2 ys) (p x && over_from p 0 ys)) g.plain) ∙ h) in
+    rw (g.still_plain, g.class k.0) k.1
+over-changed p x y g (suc n) [] ys h = let k = both (is_ascii_hexdigit x) (over_from p n ys) h in rw (g.digit k.0) k.1
+over-changed p x y g zero (z ∷ zs) ys h =
+    elim (z == 37) as (λ b. cond b (over_from p 2 (zs ++ x ∷ ys)) (p z && over_from p 0 (zs ++ x ∷ ys)) ≡ true
+    → cond b (over_from p 2 (zs ++ y ∷ ys)) (p z && over_from p 0 (zs ++ y ∷ ys)) ≡ true) [
+      | true ↦ λ k. over-changed p x y g 2 zs ys k
+      | false ↦ λ k. let m = both (p z) (over_from p 0 (zs ++ x ∷ ys)) k in rw m.0 (over-changed p x y g 0 zs ys m.1)
+    ] h
+over-changed p x y g (suc n) (z ∷ zs) ys h =
+    let m = both (is_ascii_hexdigit z) (over_from p n (zs ++ x ∷ ys)) h in rw m.0 (over-changed p x y g n zs ys m.1)
+
+pub chars-ascii : (c : ℕ) (rest : List ℕ) → c < 128 → chars (c ∷ rest) ≡ c ∷ chars rest
+chars-ascii c rest l =
+    let one : scalars (c ∷ []) ≡ true = rw (low_scalar c l) refl in
+    let alone : chars (c ∷ []) ≡ c ∷ [] = ap chars (sym (append-nil (encode c) ∙ encode_ascii c l)) ∙ chars-encodes (c ∷ []) one in
+    chars-append (c ∷ []) rest (one_byte-utf8 c l) ∙ ap (λ cs. cs ++ chars rest) alone
+  where
+    low_scalar : (c : ℕ) → c < 128 → scalar c ≡ true
+    low_scalar c h = grind (arith, nat_tests)
+
+pub text_over-changed : (p : ℕ → Bool) (x y : ℕ) (a b : List ℕ) → IsAsGood p x y → text_over p (a ++ x ∷ b) ≡ true
+    → text_over p (a ++ y ∷ b) ≡ true
+text_over-changed p x y a b g h =
+    let u = text_over-utf8 p (a ++ x ∷ b) h in
+    let front = utf8-front x a b g.low u in
+    let back = utf8-behind x a b g.low u in
+    let old : chars (a ++ x ∷ b) ≡ chars a ++ x ∷ chars b = chars-append a (x ∷ b) front ∙ ap (λ z. chars a ++ z) (chars-ascii x b g.low) in
+    let new : chars (a ++ y ∷ b) ≡ chars a ++ y ∷ chars b =
+    chars-append a (y ∷ b) front ∙ ap (λ z. chars a ++ z) (chars-ascii y b g.still_low) in
+    is_utf8-of p (a ++ y ∷ b) (IsUtf8-append a (y ∷ b) front (marked-utf8 y b g.still_low back))
+    (ap (over p) new ∙ over-changed p x y g 0 (chars a) (chars b) (ap (over p) (sym old) ∙ over-of p (a ++ x ∷ b) h))
+
+pub byte_change-over : (p test : ℕ → Bool) (f : ℕ → ℕ) (i : ℕ) (t u : List ℕ) → ((x : ℕ) → test x ≡ true → IsAsGood p x (f x))
+    → ByteChange test f i t u → text_over p t ≡ true → text_over p u ≡ true
+byte_change-over p test f i t u g c h =
+    ap (text_over p) c.new ∙ text_over-changed p c.byte (f c.byte) (take i t) c.back (g c.byte c.passes) (ap (text_over p) (sym c.old) ∙ h)
+
+-- ---- a triplet in a text over a class
+over-percent : (p : ℕ → Bool) (n : ℕ) (xs ys : List ℕ) → over_from p n (xs ++ 37 ∷ ys) ≡ true
+    → (over_from p n xs ≡ true) × (over_from p 0 (37 ∷ ys) ≡ true)
+unfolding over_from
+over-percent p zero [] ys h = (refl, h)
+over-percent p (suc n) [] ys h = cc
+over-percent p zero (x ∷ xs) ys h =
+    elim (x == 37) as (λ b. cond b (over_from p 2 (xs ++ 37 ∷ ys)) (p x && over_from p 0 (xs ++ 37 ∷ ys)) ≡ true
+    → (cond b (over_from p 2 xs) (p x && over_from p 0 xs) ≡ true) × (over_from p 2 ys ≡ true)) [
+      | true ↦ λ k. over-percent p 2 xs ys k
+      | false ↦ λ k. let m = both (p x) (over_from p 0 (xs ++ 37 ∷ ys)) k in let r = over-percent p 0 xs ys m.1 in (rw m.0 r.0, r.1)
+    ] h
+over-percent p (suc n) (x ∷ xs) ys h = let m = both (is_ascii_hexdigit x) (over_from p n (xs ++ 37 ∷ ys)) h in
+    let r = over-percent p n xs ys m.1 in (rw m.0 r.0, r.1)
+
+-- on both sides of a `%`
+pub text_over-percent : (p : ℕ → Bool) (a r : List ℕ) → text_over p (a ++ 37 ∷ r) ≡ true
+    → (text_over p a ≡ true) × (text_over p (37 ∷ r) ≡ true)
+text_over-percent p a r h =
+    let u = text_over-utf8 p (a ++ 37 ∷ r) h in
+    let front = utf8-front 37 a r (omega arith) u in
+    let e : chars (a ++ 37 ∷ r) ≡ chars a ++ 37 ∷ chars r =
+    chars-append a (37 ∷ r) front ∙ ap (λ z. chars a ++ z) (chars-ascii 37 r (omega arith)) in
+    let k = over-percent p 0 (chars a) (chars r) (ap (over p) (sym e) ∙ over-of p (a ++ 37 ∷ r) h) in (
+      is_utf8-of p a front k.0,
+      is_utf8-of p (37 ∷ r) (utf8-from 37 a r (omega arith) u)
+          (ap (over p) (chars-ascii 37 r (omega arith)) ∙ k.1),
+    )
+
+-- behind a triplet
+pub text_over-behind : (p : ℕ → Bool) (a b : ℕ) (r : List ℕ) → is_ascii_hexdigit a ≡ true → is_ascii_hexdigit b ≡ true
+    → text_over p (37 ∷ a ∷ b ∷ r) ≡ true → text_over p r ≡ true
+unfolding over_from
+text_over-behind p a b r ha hb h =
+    let la = digit_below a ha in
+    let lb = digit_below b hb in
+    let u = text_over-utf8 p (37 ∷ a ∷ b ∷ r) h in
+    let e : chars (37 ∷ a ∷ b ∷ r) ≡ 37 ∷ a ∷ b ∷ chars r =
+    chars-ascii 37 (a ∷ b ∷ r) (omega arith) ∙ ap (λ z. 37 ∷ z) (chars-ascii a (b ∷ r) la ∙ ap (λ z. a ∷ z) (chars-ascii b r lb)) in
+    let k : (is_ascii_hexdigit a && (is_ascii_hexdigit b && over_from p 0 (chars r))) ≡ true =
+    ap (over p) (sym e) ∙ over-of p (37 ∷ a ∷ b ∷ r) h in
+    is_utf8-of p r (utf8-behind b (37 ∷ a ∷ []) r lb u)
+    (both (is_ascii_hexdigit b) (over_from p 0 (chars r))
+    (both (is_ascii_hexdigit a) (is_ascii_hexdigit b && over_from p 0 (chars r)) k).1).1
+  where
+    digit_below : (x : ℕ) → is_ascii_hexdigit x ≡ true → x < 128
+    digit_below x h = grind (arith, nat_tests)

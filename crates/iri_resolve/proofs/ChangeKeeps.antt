@@ -1,0 +1,140 @@
+-- What a change of triplets keeps.
+use Rattle.std.proofs.Common.{◌≡◌, ℕ, Bool, true, false, not, ◌&&◌, ◌||◌, List, [], ◌∷◌, ◌++◌, Option, Some, None, refl, sym, ◌∙◌, ap}
+use Rattle.std.proofs.Common.{arith, append-nil}
+use Rattle.std.specs.Prelude.{◌==◌, take}
+use Rattle.std.specs.Char.{encode_utf8}
+use Rattle.std.proofs.lemmas.Bool.Decides.{nat_tests}
+use Rattle.iri_grammar.specs.Classes.{Tests, IsSpec, unreserved}
+use Rattle.iri_grammar.specs.Cut.{lacks}
+use Rattle.iri_grammar.proofs.CutBytes.{lacks-encodes}
+use Rattle.iri_grammar.proofs.CutLaws.{both, lacks-other, test_apart}
+use Rattle.iri_grammar.specs.Over.{text_over}
+use Rattle.iri_grammar.specs.Parts.{path_rules, is_empty, starts_with_slash, starts_with_slashes}
+use Rattle.iri_percent.specs.Units.{whole_triplets}
+use Rattle.iri_percent.specs.Triplets.{normal}
+use Rattle.iri_percent.proofs.UnitLaws.{encode_bytes}
+use Rattle.iri_percent.proofs.WholeLaws.{lacks-whole}
+use Rattle.iri_resolve.proofs.TripletPaths.{slash-delimits}
+use Rattle.iri_resolve.specs.Changes.{is_small_digit, with_capital_digit, with_decoded}
+use Rattle.iri_resolve.proofs.ByteLaws.{capital_digit}
+use Rattle.iri_resolve.proofs.ChangeLaws.{digit-normal, digit-over, decoding, decoded-normal, decoded-over, some_triplets}
+
+-- texts that differ from a place on, where both go on with another byte than `/`
+pub record Differ (t u : List ℕ) : Type 0 where
+  pub front : List ℕ
+  pub x : ℕ
+  pub y : ℕ
+  pub xs : List ℕ
+  pub ys : List ℕ
+  pub old : t ≡ front ++ x ∷ xs
+  pub new : u ≡ front ++ y ∷ ys
+  pub no_slash : (x == 47) ≡ false
+  pub no_new_slash : (y == 47) ≡ false
+
+-- a change that keeps the class, the triplet normal form, and where the slashes stand; it changes a text with a `%`
+pub record TripletChange (s : Tests) (change : ℕ → List ℕ → Option (List ℕ)) : Type 0 where
+  pub over : (p : ℕ → Bool) (i : ℕ) (t u : List ℕ) → p 37 ≡ false → ((c : ℕ) → unreserved s c ≡ true → p c ≡ true) → change i t ≡ Some u
+      → text_over p t ≡ true → text_over p u ≡ true
+  pub form : (f : ℕ → ℕ) (i : ℕ) (t u : List ℕ) → change i t ≡ Some u → whole_triplets t ≡ true → whole_triplets u ≡ true
+      → normal s f u ≡ normal s f t
+  pub percent : (i : ℕ) (t u : List ℕ) → change i t ≡ Some u → lacks 37 t ≡ false
+  pub slashes : (i : ℕ) (t u : List ℕ) → change i t ≡ Some u → Differ t u
+
+-- ---- a text with a `%`
+some-percent : (a r : List ℕ) → lacks 37 (a ++ 37 ∷ r) ≡ false
+some-percent [] r = refl
+some-percent (x ∷ a) r = elim (x == 37) as (λ b. (not b && lacks 37 (a ++ 37 ∷ r)) ≡ false) [ true ↦ refl | false ↦ some-percent a r ]
+
+percent-inside : (t : List ℕ) (i : ℕ) → not (whole_triplets (take i t)) ≡ true → lacks 37 (take i t) ≡ false
+percent-inside t i h =
+    elim (lacks 37 (take i t)) as (λ b. lacks 37 (take i t) ≡ b
+    → b ≡ false) [ true ↦ λ e. let no : not true ≡ true = ap not (sym (lacks-whole (take i t) e)) ∙ h in cc | false ↦ λ _. refl ] refl
+
+front-lacks : (a r : List ℕ) → lacks 37 a ≡ false → lacks 37 (a ++ r) ≡ false
+front-lacks [] r h = cc
+front-lacks (x ∷ a) r h = elim (x == 37) as (λ b. (not b && lacks 37 a) ≡ false
+    → (not b && lacks 37 (a ++ r)) ≡ false) [ true ↦ λ _. refl | false ↦ λ k. front-lacks a r k ] h
+
+-- ---- the two changes
+digit_slash : (x : ℕ) → is_small_digit x ≡ true → (x == 47) ≡ false
+digit_slash x h = grind (arith, nat_tests)
+
+capital_slash : (x : ℕ) → is_small_digit x ≡ true → (Rattle.std.specs.Char.to_ascii_uppercase x == 47) ≡ false
+capital_slash x h = grind (arith, nat_tests)
+
+pub capital-keeps : (s : Tests) → TripletChange s with_capital_digit
+unfolding unreserved
+capital-keeps s = record {
+  over = λ p i t u n q h o. digit-over p i t u (λ c k. q c (ap (λ b. b || s.ucs c) k)) h o;
+  form = λ f i t u h w v. digit-normal s f i t u h w v;
+  percent = λ i t u h. let c = capital_digit i t u h in ap (lacks 37) c.change.old ∙ front-lacks (take i t) _ (percent-inside t i c.place);
+  slashes = λ i t u h.
+      let c = capital_digit i t u h in
+      record {
+        front = take i t;
+        x = c.change.byte;
+        y = Rattle.std.specs.Char.to_ascii_uppercase c.change.byte;
+        xs = c.change.back;
+        ys = c.change.back;
+        old = c.change.old;
+        new = c.change.new;
+        no_slash = digit_slash c.change.byte c.change.passes;
+        no_new_slash =
+            capital_slash c.change.byte c.change.passes;
+      };
+}
+
+not-true : (b : Bool) → not b ≡ true → b ≡ false
+not-true true h = cc
+not-true false h = refl
+
+pub encode-slash : (c : ℕ) (lead : ℕ) (tail : List ℕ) → (c == 47) ≡ false → encode_utf8 c ≡ lead ∷ tail → (lead == 47) ≡ false
+encode-slash c lead tail n e =
+    let l : lacks 47 (encode_utf8 c) ≡ true = ap (lacks 47) (sym (append-nil (encode_utf8 c)))
+    ∙ lacks-encodes 47 (c ∷ []) (omega arith) (lacks-other 47 c [] n refl) in
+    not-true (lead == 47) (both (not (lead == 47)) (lacks 47 tail) (ap (lacks 47) (sym e) ∙ l)).0
+
+pub decoding-keeps : (s : Tests) → IsSpec s → TripletChange s (with_decoded s)
+decoding-keeps s k = record {
+  over = λ p i t u n q h o. decoded-over s p i t u k n q h o;
+  form = λ f i t u h w v. decoded-normal s f i t u k h w;
+  percent = λ i t u h.
+      let d = decoding s i t u h in
+      let g = some_triplets d.c d.sp (encode_utf8 d.c) d.spells refl in
+      ap (lacks 37) (d.old ∙ ap (λ z. take i t ++ (z ++ d.back)) g.text) ∙ some-percent (take i t) (g.rest ++ d.back);
+  slashes = λ i t u h.
+      let d = decoding s i t u h in
+      let g = some_triplets d.c d.sp (encode_utf8 d.c) d.spells refl in
+      let b = encode_bytes d.c in
+      record {
+        front = take i t;
+        x = 37;
+        y = b.lead;
+        xs = g.rest ++ d.back;
+        ys = b.tail ++ d.back;
+        old = d.old ∙ ap (λ z. take i t ++ (z ++ d.back)) g.text;
+        new = d.new ∙ ap (λ z. take i t ++ (z ++ d.back)) b.split;
+        no_slash = refl;
+        no_new_slash = encode-slash d.c b.lead b.tail (test_apart (unreserved s) 47 d.c (slash-delimits s k).reserved d.free) b.split;
+      };
+}
+
+-- ---- the rules of a path
+slash-same : (a xs ys : List ℕ) (x y : ℕ) → (x == 47) ≡ false → (y == 47) ≡ false
+    → starts_with_slash (a ++ y ∷ ys) ≡ starts_with_slash (a ++ x ∷ xs)
+slash-same [] xs ys x y n m = m ∙ sym n
+slash-same (z ∷ a) xs ys x y n m = refl
+
+slashes-same : (a xs ys : List ℕ) (x y : ℕ) → (x == 47) ≡ false → (y == 47) ≡ false
+    → starts_with_slashes (a ++ y ∷ ys) ≡ starts_with_slashes (a ++ x ∷ xs)
+slashes-same [] xs ys x y n m = rw (n, m) refl
+slashes-same (z ∷ a) xs ys x y n m = ap (λ b. (z == 47) && b) (slash-same a xs ys x y n m)
+
+empty-same : (a xs ys : List ℕ) (x y : ℕ) → is_empty (a ++ y ∷ ys) ≡ is_empty (a ++ x ∷ xs)
+empty-same [] xs ys x y = refl
+empty-same (z ∷ a) xs ys x y = refl
+
+pub rules-same : (sch : List ℕ) (o : Option (List ℕ)) (t u : List ℕ) → Differ t u → path_rules (Some sch) o u ≡ path_rules (Some sch) o t
+rules-same sch (Some a) t u d = rw (d.old, d.new) (rw
+    (empty-same d.front d.xs d.ys d.x d.y, slash-same d.front d.xs d.ys d.x d.y d.no_slash d.no_new_slash) refl)
+rules-same sch None t u d = rw (d.old, d.new) (ap not (slashes-same d.front d.xs d.ys d.x d.y d.no_slash d.no_new_slash))

@@ -1,0 +1,280 @@
+-- Each step keeps the parts valid, and their normal form.
+use Rattle.std.proofs.Common.{◌≡◌, ℕ, true, false, cond, ◌||◌, List, [], ◌∷◌, ◌++◌, Option, Some, None, refl, sym, ◌∙◌, ap, subst}
+use Rattle.std.specs.Prelude.{IsSome, is_some, take}
+use Rattle.std.specs.Char.{to_ascii_lowercase}
+use Rattle.std.specs.List.{list_all}
+use Rattle.std.specs.Str.{bytes_eq}
+use Rattle.iri_grammar.specs.Authority.{authority_parts, is_authority}
+use Rattle.iri_grammar.specs.Classes.{Tests, IsSpec, path_char, query_char, fragment_char, is_ascii_unreserved, is_ascii_reg_name}
+use Rattle.iri_grammar.specs.Classes.{is_ascii_pchar, is_ascii_path, is_sub_delim}
+use Rattle.iri_grammar.specs.Components.{if_there, is_scheme, is_scheme_char, is_letter, is_path, is_query, is_fragment}
+use Rattle.iri_grammar.proofs.CutLaws.{both}
+use Rattle.iri_grammar.specs.Parts.{Parts, Fits, path_rules, is_empty, starts_with_slash}
+use Rattle.iri_percent.specs.Triplets.{as_it_is, pct}
+use Rattle.iri_percent.proofs.WholeLaws.{path-whole, query-whole, fragment-whole, path_percent, query_percent, fragment_percent}
+use Rattle.iri_resolve.specs.DotRemoval.{dots}
+use Rattle.iri_resolve.specs.Guard.{guard}
+use Rattle.iri_resolve.specs.NormalForm.{normal_path, normal_form, form}
+use Rattle.iri_resolve.proofs.PathLaws.{dots-over, dots-slash, dots-nothing}
+use Rattle.iri_resolve.proofs.StableLaws.{guarded-stable}
+use Rattle.iri_resolve.proofs.TargetLaws.{slash_in_path}
+use Rattle.iri_resolve.proofs.TripletPaths.{dots-pct}
+use Rattle.iri_resolve.specs.Changes.{with_small_letter, with_capital_digit, with_decoded}
+use Rattle.iri_resolve.specs.Steps.{in_part, in_userinfo_or_host, without_empty_port, with_small_letter_in_host, with_dots_removed}
+use Rattle.iri_resolve.specs.Steps.{at_place, step, onward, replayed, Joined}
+use Rattle.iri_resolve.proofs.ByteLaws.{small_letter}
+use Rattle.iri_resolve.proofs.ChangeKeeps.{TripletChange, rules-same, capital-keeps, decoding-keeps}
+use Rattle.iri_resolve.proofs.AuthoritySteps.{AuthorityChange, authority-kept, triplets-changed, letter-changed, port-changed}
+use Rattle.iri_resolve.proofs.AuthoritySteps.{lowered-change, placed-is, in_part-is}
+use Rattle.iri_resolve.specs.declared.step.Part.{Part}
+use Rattle.iri_resolve.specs.declared.step.Part.TheVariants.{Authority, Path, Query, Fragment}
+use Rattle.iri_resolve.specs.declared.step.Step.{Step}
+use Rattle.iri_resolve.specs.declared.step.Step.TheVariants.{SchemeLetter, HostLetter, HexDigit, Decode, EmptyPort, Dots}
+use Rattle.iri_percent.proofs.ClassLaws.{in_fragment}
+use Rattle.iri_percent.proofs.ClassLaws.{in_path}
+use Rattle.iri_percent.proofs.ClassLaws.{in_query}
+use Rattle.iri_resolve.proofs.FormLaws.{lower-letter}
+use Rattle.iri_resolve.proofs.FormLaws.{lower-scheme_char}
+use Rattle.iri_resolve.proofs.PathLaws.{guard-over}
+use Rattle.iri_resolve.proofs.PathLaws.{guarded}
+
+-- u is valid, has a scheme, and has the normal form of t
+pub record Kept (s : Tests) (t u : Parts) : Type 0 where
+  pub fits : Fits s u
+  pub scheme : IsSome u.scheme
+  pub form : normal_form s u ≡ normal_form s t
+
+-- valid parts with a scheme
+pub record Valid (s : Tests) (t : Parts) : Type 0 where
+  pub fits : Fits s t
+  pub scheme : IsSome t.scheme
+
+-- ---- the scheme
+all-changed : (a b : List ℕ) (x : ℕ) → list_all is_scheme_char (a ++ x ∷ b) ≡ true
+    → list_all is_scheme_char (a ++ to_ascii_lowercase x ∷ b) ≡ true
+all-changed [] b x h = let k = both (is_scheme_char x) (list_all is_scheme_char b) h in rw (lower-scheme_char x k.0) k.1
+all-changed (y ∷ a) b x h = let k = both (is_scheme_char y) (list_all is_scheme_char (a ++ x ∷ b)) h in rw k.0 (all-changed a b x k.1)
+
+scheme-changed : (a b : List ℕ) (x : ℕ) → is_scheme (a ++ x ∷ b) ≡ true → is_scheme (a ++ to_ascii_lowercase x ∷ b) ≡ true
+scheme-changed [] b x h = let k = both (is_letter x) (list_all is_scheme_char b) h in rw (lower-letter x k.0) k.1
+scheme-changed (y ∷ a) b x h = let k = both (is_letter y) (list_all is_scheme_char (a ++ x ∷ b)) h in rw k.0 (all-changed a b x k.1)
+
+path_rules-scheme : (o : Option (List ℕ)) (v : List ℕ) (a : Option (List ℕ)) (p : List ℕ) → IsSome o → path_rules o a p ≡ true
+    → path_rules (Some v) a p ≡ true
+path_rules-scheme None v a p i h = cc
+path_rules-scheme (Some w) v (Some a) p i h = h
+path_rules-scheme (Some w) v None p i h = h
+
+pub scheme-step : (s : Tests) (t : Parts) (i : ℕ) (w v : List ℕ) → Valid s t → t.scheme ≡ Some w → with_small_letter i w ≡ Some v
+    → Kept s t (record t { scheme = Some v })
+unfolding normal_form form
+scheme-step s t i w v k e h =
+    let c = small_letter i w v h in
+    let old : is_scheme w ≡ true = ap (if_there is_scheme) (sym e) ∙ k.fits.scheme in
+    let new : is_scheme v ≡ true = ap is_scheme c.new ∙ scheme-changed (take i w) c.back c.byte (ap is_scheme (sym c.old) ∙ old) in
+    record {
+      fits = record {
+        scheme = new;
+        authority = k.fits.authority;
+        path = k.fits.path;
+        query = k.fits.query;
+        fragment = k.fits.fragment;
+        rules = path_rules-scheme t.scheme v t.authority t.path k.scheme k.fits.rules;
+      };
+      scheme = refl;
+      form = rw (e, lowered-change i w v c) refl;
+    }
+
+-- ---- the authority
+authority-rules : (o : Option (List ℕ)) (a b p : List ℕ) → path_rules o (Some a) p ≡ true → path_rules o (Some b) p ≡ true
+authority-rules None a b p h = h
+authority-rules (Some x) a b p h = h
+
+authority-step : (s : Tests) (t : Parts) (a b : List ℕ) → IsSpec s → Valid s t → t.authority ≡ Some a
+    → (is_authority s a ≡ true → AuthorityChange s a b) → Kept s t (record t { authority = Some b })
+unfolding normal_form form normal_path
+authority-step s t a b k v e go =
+    let old : is_authority s a ≡ true = ap (if_there (is_authority s)) (sym e) ∙ v.fits.authority in
+    let r = authority-kept s a b k (go old) in
+    record {
+      fits = record {
+        scheme = v.fits.scheme;
+        authority = r.0;
+        path = v.fits.path;
+        query = v.fits.query;
+        fragment = v.fits.fragment;
+        rules = authority-rules t.scheme a b t.path (ap (λ o. path_rules t.scheme o t.path) (sym e) ∙ v.fits.rules);
+      };
+      scheme = v.scheme;
+      form = rw (e, r.1) refl;
+    }
+
+-- ---- the path
+triplet_rules : (o a : Option (List ℕ)) (t u : List ℕ) → IsSome o → ((sch : List ℕ) → path_rules (Some sch) a u ≡ path_rules (Some sch) a t)
+    → path_rules o a t ≡ true → path_rules o a u ≡ true
+triplet_rules None a t u i e h = cc
+triplet_rules (Some x) a t u i e h = e x ∙ h
+
+pub path-triplets : (s : Tests) (change : ℕ → List ℕ → Option (List ℕ)) (t : Parts) (i : ℕ) (u : List ℕ) → IsSpec s → TripletChange s change
+    → Valid s t → change i t.path ≡ Some u → Kept s t (record t { path = u })
+unfolding normal_form form normal_path
+path-triplets s change t i u k c v h =
+    let new : is_path s u ≡ true = c.over (path_char s) i t.path u (path_percent s k) (in_path s) h v.fits.path in
+    let w = path-whole s t.path k v.fits.path in
+    let x = path-whole s u k new in
+    let same : pct s (dots u) ≡ pct s (dots t.path) =
+    sym (dots-pct s u k x) ∙ ap dots (c.form as_it_is i t.path u h w x) ∙ dots-pct s t.path k w in
+    record {
+      fits = record {
+        scheme = v.fits.scheme;
+        authority = v.fits.authority;
+        path = new;
+        query = v.fits.query;
+        fragment = v.fits.fragment;
+        rules = triplet_rules t.scheme t.authority t.path u v.scheme
+            (λ sch. rules-same sch t.authority t.path u (c.slashes i t.path u h)) v.fits.rules;
+      };
+      scheme = v.scheme;
+      form = rw same refl;
+    }
+
+pub point_in_path : (s : Tests) → path_char s 46 ≡ true
+unfolding path_char is_ascii_path is_ascii_pchar is_ascii_reg_name is_ascii_unreserved is_sub_delim
+point_in_path s = refl
+
+rooted : (p : List ℕ) → (is_empty p || starts_with_slash p) ≡ true → (is_empty (dots p) || starts_with_slash (dots p)) ≡ true
+rooted [] h = rw dots-nothing refl
+rooted (x ∷ xs) h = slashed (dots (x ∷ xs)) (dots-slash (x ∷ xs) h)
+  where
+    slashed : (q : List ℕ) → starts_with_slash q ≡ true → (is_empty q || starts_with_slash q) ≡ true
+    slashed [] k = refl
+    slashed (y ∷ ys) k = k
+
+dots-rules : (o a : Option (List ℕ)) (p : List ℕ) → IsSome o → path_rules o a p ≡ true → path_rules o a (guard (dots p) (is_some a)) ≡ true
+dots-rules None a p i h = cc
+dots-rules (Some x) (Some a) p i h = rooted p h
+dots-rules (Some x) None p i h = guarded (dots p)
+
+pub dots-step : (s : Tests) (t : Parts) → IsSpec s → Valid s t → Kept s t (record t { path = guard (dots t.path) (is_some t.authority) })
+unfolding normal_form form normal_path
+dots-step s t k v = record {
+  fits = record {
+    scheme = v.fits.scheme;
+    authority = v.fits.authority;
+    path = guard-over (path_char s) (dots t.path) (is_some t.authority) (slash_in_path s) (point_in_path s)
+        (dots-over (path_char s) t.path (slash_in_path s) v.fits.path);
+    query = v.fits.query;
+    fragment = v.fits.fragment;
+    rules = dots-rules t.scheme t.authority t.path v.scheme v.fits.rules;
+  };
+  scheme = v.scheme;
+  form = rw (guarded-stable t.path (is_some t.authority)) refl;
+}
+
+dots-removed : (t : Parts) (u : List ℕ) → with_dots_removed t ≡ Some u → guard (dots t.path) (is_some t.authority) ≡ u
+dots-removed t u h =
+    let p = guard (dots t.path) (is_some t.authority) in
+    elim (bytes_eq p t.path) as (λ b. cond b None (Some p) ≡ Some u → p ≡ u) [ true ↦ λ k. cc | false ↦ λ k. cc ] h
+
+-- ---- query and fragment
+query-triplets : (s : Tests) (change : ℕ → List ℕ → Option (List ℕ)) (t : Parts) (i : ℕ) (q u : List ℕ) → IsSpec s → TripletChange s change
+    → Valid s t → t.query ≡ Some q → change i q ≡ Some u → Kept s t (record t { query = Some u })
+unfolding normal_form form
+query-triplets s change t i q u k c v e h =
+    let old : is_query s q ≡ true = ap (if_there (is_query s)) (sym e) ∙ v.fits.query in
+    let new : is_query s u ≡ true = c.over (query_char s) i q u (query_percent s k) (in_query s) h old in
+    record {
+      fits = record {
+        scheme = v.fits.scheme;
+        authority = v.fits.authority;
+        path = v.fits.path;
+        query = new;
+        fragment = v.fits.fragment;
+        rules = v.fits.rules;
+      };
+      scheme = v.scheme;
+      form = rw (e, c.form as_it_is i q u h (query-whole s q k old) (query-whole s u k new)) refl;
+    }
+
+fragment-triplets : (s : Tests) (change : ℕ → List ℕ → Option (List ℕ)) (t : Parts) (i : ℕ) (q u : List ℕ) → IsSpec s
+    → TripletChange s change → Valid s t → t.fragment ≡ Some q → change i q ≡ Some u → Kept s t (record t { fragment = Some u })
+unfolding normal_form form
+fragment-triplets s change t i q u k c v e h =
+    let old : is_fragment s q ≡ true = ap (if_there (is_fragment s)) (sym e) ∙ v.fits.fragment in
+    let new : is_fragment s u ≡ true = c.over (fragment_char s) i q u (fragment_percent s k) (in_fragment s) h old in
+    record {
+      fits = record {
+        scheme = v.fits.scheme;
+        authority = v.fits.authority;
+        path = v.fits.path;
+        query = v.fits.query;
+        fragment = new;
+        rules = v.fits.rules;
+      };
+      scheme = v.scheme;
+      form = rw (e, c.form as_it_is i q u h (fragment-whole s q k old) (fragment-whole s u k new)) refl;
+    }
+
+-- ---- each step
+pub change-kept : (s : Tests) (change : ℕ → List ℕ → Option (List ℕ)) (t u : Parts) (part : Part) (i : ℕ) → IsSpec s
+    → TripletChange s change → Valid s t → at_place change t part i ≡ Some u → Kept s t u
+change-kept s change t u Authority i k c v h =
+    let r = placed-is (λ a. record t { authority = Some a })
+    (in_part (λ a. in_userinfo_or_host change i (authority_parts a)) t.authority) u h in
+    let q = in_part-is (λ a. in_userinfo_or_host change i (authority_parts a)) t.authority r.0 r.1 in
+    subst (λ z. Kept s t z) r.2 (authority-step s t q.0 r.0 k v q.1 (λ o. triplets-changed s change i q.0 r.0 k c o q.2))
+change-kept s change t u Path i k c v h =
+    let r = placed-is (λ p. record t { path = p }) (change i t.path) u h in
+    subst (λ z. Kept s t z) r.2 (path-triplets s change t i r.0 k c v r.1)
+change-kept s change t u Query i k c v h =
+    let r = placed-is (λ p. record t { query = Some p }) (in_part (change i) t.query) u h in
+    let q = in_part-is (change i) t.query r.0 r.1 in
+    subst (λ z. Kept s t z) r.2 (query-triplets s change t i q.0 r.0 k c v q.1 q.2)
+change-kept s change t u Fragment i k c v h =
+    let r = placed-is (λ p. record t { fragment = Some p }) (in_part (change i) t.fragment) u h in
+    let q = in_part-is (change i) t.fragment r.0 r.1 in
+    subst (λ z. Kept s t z) r.2 (fragment-triplets s change t i q.0 r.0 k c v q.1 q.2)
+
+pub step-kept : (s : Tests) (t u : Parts) (x : Step) → IsSpec s → Valid s t → step s t x ≡ Some u → Kept s t u
+unfolding step
+step-kept s t u (SchemeLetter i) k v h =
+    let r = placed-is (λ x. record t { scheme = Some x }) (in_part (with_small_letter i) t.scheme) u h in
+    let q = in_part-is (with_small_letter i) t.scheme r.0 r.1 in
+    subst (λ z. Kept s t z) r.2 (scheme-step s t i q.0 r.0 v q.1 q.2)
+step-kept s t u (HostLetter i) k v h =
+    let r = placed-is (λ a. record t { authority = Some a })
+    (in_part (λ a. with_small_letter_in_host i (authority_parts a)) t.authority) u h in
+    let q = in_part-is (λ a. with_small_letter_in_host i (authority_parts a)) t.authority r.0 r.1 in
+    subst (λ z. Kept s t z) r.2 (authority-step s t q.0 r.0 k v q.1 (λ o. letter-changed s i q.0 r.0 k o q.2))
+step-kept s t u (HexDigit part i) k v h = change-kept s with_capital_digit t u part i k (capital-keeps s) v h
+step-kept s t u (Decode part i) k v h = change-kept s (with_decoded s) t u part i k (decoding-keeps s k) v h
+step-kept s t u EmptyPort k v h =
+    let r = placed-is (λ a. record t { authority = Some a })
+    (in_part (λ a. without_empty_port (authority_parts a) (authority_parts a).port) t.authority) u h in
+    let q = in_part-is (λ a. without_empty_port (authority_parts a) (authority_parts a).port) t.authority r.0 r.1 in
+    subst (λ z. Kept s t z) r.2 (authority-step s t q.0 r.0 k v q.1 (λ o. port-changed s q.0 r.0 k o q.2))
+step-kept s t u Dots k v h =
+    let r = placed-is (λ p. record t { path = p }) (with_dots_removed t) u h in
+    subst (λ z. Kept s t z) (ap (λ p. record t { path = p }) (dots-removed t r.0 r.1) ∙ r.2) (dots-step s t k v)
+
+-- ---- lists of steps
+pub valid-kept : (s : Tests) (t u : Parts) → Kept s t u → Valid s u
+valid-kept s t u k = record { fits = k.fits; scheme = k.scheme }
+
+pub replayed-kept : (s : Tests) (t u : Parts) (l : List Step) → IsSpec s → Valid s t → replayed s t l ≡ Some u → Kept s t u
+unfolding replayed
+replayed-kept s t u [] k v h = let same : t ≡ u = cc in
+    subst (λ z. Kept s t z) same (record { fits = v.fits; scheme = v.scheme; form = refl })
+replayed-kept s t u (x ∷ xs) k v h = at (step s t x) refl h (λ w o j. replayed-kept s w u xs k o j)
+  where
+    at : (o : Option Parts) → step s t x ≡ o → onward o (λ w. replayed s w xs) ≡ Some u
+        → ((w : Parts) → Valid s w → replayed s w xs ≡ Some u → Kept s w u) → Kept s t u
+    at None e j go = cc
+    at (Some w) e j go =
+        let one = step-kept s t w x k v e in
+        let rest = go w (valid-kept s t w one) j in
+        record { fits = rest.fits; scheme = rest.scheme; form = rest.form ∙ one.form }
+
+-- joined parts have one normal form
+pub joined-form : (s : Tests) (t u : Parts) → IsSpec s → Valid s t → Valid s u → Joined s t u → normal_form s t ≡ normal_form s u
+joined-form s t u k v w j = sym (replayed-kept s t j.2 j.0 k v j.3).form ∙ (replayed-kept s u j.2 j.1 k w j.4).form

@@ -1,0 +1,8 @@
+-- What private contracts cite, and laws that an `impl` cites.
+pub mod ChangeOf
+pub mod Comparison
+pub mod ComponentSteps
+pub mod DotSearch
+pub mod LookBack
+pub mod NormalSteps
+pub mod PartTexts
