@@ -2,35 +2,32 @@
 use Rattle.std.proofs.Common.{◌≡◌, ℕ, Bool, true, false, cond, List, [], Option, Some, None, refl, sym, ◌∙◌, ap}
 use Rattle.std.specs.Prelude.{◌&&◌, ◌||◌, is_some, IsSome}
 use Rattle.std.specs.Str.{chars, is_utf8}
-use Rattle.iri_grammar.specs.Authority.{is_authority, recompose_authority}
+use Rattle.iri_grammar.specs.Authority.{is_authority}
 use Rattle.iri_grammar.specs.Classes.{Tests, IsSpec}
 use Rattle.iri_grammar.specs.Components.{if_there, is_scheme, is_userinfo, is_port, is_path, is_query, is_fragment}
-use Rattle.iri_grammar.specs.CutLaws.{both}
-use Rattle.iri_grammar.specs.Fault.{first, unless, part_fault, scheme_fault, userinfo_fault, host_fault, port_fault, path_fault, query_fault, fragment_fault}
-use Rattle.iri_grammar.specs.FaultLaws.{passed}
+use Rattle.iri_grammar.proofs.CutLaws.{both}
+use Rattle.iri_grammar.specs.Fault.{part_fault, scheme_fault, userinfo_fault, host_fault, port_fault, path_fault, query_fault}
+use Rattle.iri_grammar.specs.Fault.{fragment_fault}
+use Rattle.iri_grammar.proofs.FaultLaws.{passed}
 use Rattle.iri_grammar.specs.Host.{is_host}
-use Rattle.iri_grammar.specs.MadeLaws.{made-authority, made-iri, made-split}
+use Rattle.iri_grammar.proofs.MadeLaws.{made-authority, made-iri, made-split}
 use Rattle.iri_grammar.specs.Over.{over_from}
-use Rattle.iri_grammar.specs.Parts.{Parts, Fits, path_rules, recompose}
+use Rattle.iri_grammar.specs.Parts.{Fits, path_rules, recompose}
 use Rattle.iri_grammar.specs.Split.{split_of}
 use Rattle.iri_grammar.specs.WholeFault.{iri_fault}
 use Rattle.iri_grammar.specs.declared.error.ErrorKind.{ErrorKind}
-use Rattle.iri_grammar.specs.declared.error.ErrorKind.TheVariants.{InvalidScheme, InvalidUserInfo, InvalidHost, InvalidPort, InvalidPath, InvalidQuery, InvalidFragment}
-use Rattle.iri_resolve.specs.FormLaws.{form-fits}
+use Rattle.iri_grammar.specs.declared.error.ErrorKind.TheVariants.{InvalidScheme, InvalidUserInfo, InvalidHost, InvalidPort, InvalidPath}
+use Rattle.iri_grammar.specs.declared.error.ErrorKind.TheVariants.{InvalidQuery, InvalidFragment}
+use Rattle.iri_resolve.proofs.FormLaws.{form-fits}
 use Rattle.iri_percent.specs.Triplets.{pct}
-use Rattle.iri_resolve.specs.Normal.{lowered, where_there}
+use Rattle.iri_resolve.specs.LowerCase.{lowered}
 use Rattle.iri_resolve.specs.NormalForm.{canonical, form, normal_form}
-use Rattle.iri_resolve.specs.Target.{target, target_under}
 use Rattle.iri_edit.specs.Built.{Given, built_fault, built_text, components_fault, given_authority, given_parts, or_empty}
 use Rattle.iri_edit.proofs.KindLemmas.{IsWhole}
-
-neither : (a b : Option ErrorKind) → first a b ≡ None → (a ≡ None) × (b ≡ None)
-neither None b h = (refl, h)
-neither (Some e) b h = cc
-
-there : (f : List ℕ → Bool) (k : ErrorKind) (o : Option (List ℕ)) → part_fault (λ x. unless (f x) k) o ≡ None → if_there f o ≡ true
-there f k None h = refl
-there f k (Some x) h = passed (f x) k h
+use Rattle.iri_grammar.proofs.FaultLaws.{neither}
+use Rattle.iri_resolve.proofs.NormalStepLemmas.{stands-still as same-some}
+use Rattle.iri_resolve.proofs.FormLaws.{own-target as target-same}
+use Rattle.iri_grammar.proofs.FaultLaws.{part-passed as there}
 
 empty_host : (s : Tests) → is_host s [] ≡ true
 unfolding over_from chars is_utf8
@@ -44,7 +41,8 @@ where_asked : (p : List ℕ → Bool) (b : Bool) (x : List ℕ) → p x ≡ true
 where_asked p true x h = h
 where_asked p false x h = refl
 
-components-fit : (s : Tests) → IsSpec s → (g : Given) → components_fault s g ≡ None → path_rules g.scheme (given_authority g) g.path ≡ true → Fits s (given_parts g)
+components-fit : (s : Tests) → IsSpec s → (g : Given) → components_fault s g ≡ None → path_rules g.scheme (given_authority g) g.path ≡ true
+    → Fits s (given_parts g)
 unfolding components_fault
 components-fit s k g h rules =
     let one = neither (part_fault scheme_fault g.scheme) _ h in
@@ -53,7 +51,12 @@ components-fit s k g h rules =
     let four = neither (part_fault port_fault g.port) _ three.1 in
     let five = neither (path_fault s g.path) _ four.1 in
     let six = neither (part_fault (query_fault s) g.query) (part_fault (fragment_fault s) g.fragment) five.1 in
-    let authority = made-authority s k (record { userinfo = g.userinfo; host = or_empty g.host; port = g.port }) (record { userinfo = there (is_userinfo s) InvalidUserInfo g.userinfo two.0; host = host-there s g.host (there (is_host s) InvalidHost g.host three.0); port = there is_port InvalidPort g.port four.0 }) in
+    let authority = made-authority s k (record { userinfo = g.userinfo; host = or_empty g.host; port = g.port })
+    (record {
+      userinfo = there (is_userinfo s) InvalidUserInfo g.userinfo two.0;
+      host = host-there s g.host (there (is_host s) InvalidHost g.host three.0);
+      port = there is_port InvalidPort g.port four.0;
+    }) in
     record {
       scheme = there is_scheme InvalidScheme g.scheme one.0;
       authority = where_asked (is_authority s) (is_some g.userinfo || (is_some g.host || is_some g.port)) _ authority;
@@ -62,10 +65,6 @@ components-fit s k g h rules =
       fragment = there (is_fragment s) InvalidFragment g.fragment six.1;
       rules = rules;
     }
-
-same-some : (f : List ℕ → List ℕ) (o : Option (List ℕ)) → is_some (where_there f o) ≡ is_some o
-same-some f None = refl
-same-some f (Some x) = refl
 
 -- ---- what a builder makes
 module _ (s : Tests) (k : IsSpec s) (refusal : Bool → Bool → Option ErrorKind) (g : Given) (h : built_fault s refusal g ≡ None) where
@@ -78,38 +77,37 @@ module _ (s : Tests) (k : IsSpec s) (refusal : Bool → Bool → Option ErrorKin
   unrefused : refusal (is_some g.scheme) (is_some g.fragment) ≡ None
   unrefused = (neither (refusal (is_some g.scheme) (is_some g.fragment)) _ (neither (components_fault s g) _ h).1).0
 
-  pub built-valid : (fault : Tests → List ℕ → Option ErrorKind) (allows : Bool → Bool → Bool) → IsWhole s fault allows → ((scheme fragment : Bool) → refusal scheme fragment ≡ None → allows scheme fragment ≡ true) → fault s (built_text s g) ≡ None
+  pub built-valid : (fault : Tests → List ℕ → Option ErrorKind) (allows : Bool → Bool → Bool) → IsWhole s fault allows
+      → ((scheme fragment : Bool) → refusal scheme fragment ≡ None → allows scheme fragment ≡ true) → fault s (built_text s g) ≡ None
   unfolding normal_form form
   built-valid fault allows kind free =
       let allowed : allows (is_some g.scheme) (is_some g.fragment) ≡ true = free (is_some g.scheme) (is_some g.fragment) unrefused in
       let plain = kind.made (given_parts g) built-fits allowed in
-      elim (g.normal && is_some g.scheme) as (λ b. (g.normal && is_some g.scheme) ≡ b → fault s (cond b (recompose (normal_form s (given_parts g))) (recompose (given_parts g))) ≡ None) [
+      elim (g.normal && is_some g.scheme) as (λ b. (g.normal && is_some g.scheme) ≡ b
+      → fault s (cond b (recompose (normal_form s (given_parts g))) (recompose (given_parts g))) ≡ None) [
         | true ↦ λ e.
             let i = (both g.normal (is_some g.scheme) e).1 in
             let normal = normal_form s (given_parts g) in
             let scheme : is_some normal.scheme ≡ is_some g.scheme = same-some lowered g.scheme in
             let fragment : is_some normal.fragment ≡ is_some g.fragment = same-some (pct s) g.fragment in
-            kind.made normal (form-fits s (given_parts g) k built-fits i).0 (ap (λ b. allows b (is_some normal.fragment)) scheme ∙ (ap (λ b. allows (is_some g.scheme) b) fragment ∙ allowed))
+            kind.made normal (form-fits s (given_parts g) k built-fits i).0
+            (ap (λ b. allows b (is_some normal.fragment)) scheme ∙ (ap (λ b. allows (is_some g.scheme) b) fragment ∙ allowed))
         | false ↦ λ _. plain
       ] refl
 
 -- ---- the normal form of a text with a scheme is its canonical text
-target-same : (base r : Parts) → IsSome r.scheme → target base r ≡ r
-unfolding target
-target-same base r i = at r.scheme i
-  where
-    at : (o : Option (List ℕ)) → IsSome o → target_under base r o r.authority ≡ r
-    at None n = cc
-    at (Some x) n = refl
-
-pub canonical-form : (s : Tests) (base t : List ℕ) → IsSome (split_of t).scheme → canonical s base t ≡ recompose (normal_form s (split_of t))
+pub canonical-form : (s : Tests) (base t : List ℕ) → IsSome (split_of t).scheme
+    → canonical s base t ≡ recompose (normal_form s (split_of t))
 unfolding canonical
 canonical-form s base t i = ap (λ p. recompose (normal_form s p)) (target-same (split_of base) (split_of t) i)
 
-pub normal-built : (s : Tests) → IsSpec s → (g : Given) (t : List ℕ) → Fits s (given_parts g) → t ≡ recompose (given_parts g) → (g.normal && is_some g.scheme) ≡ true → recompose (normal_form s (split_of t)) ≡ built_text s g
+pub normal-built : (s : Tests) → IsSpec s → (g : Given) (t : List ℕ) → Fits s (given_parts g) → t ≡ recompose (given_parts g)
+    → (g.normal && is_some g.scheme) ≡ true → recompose (normal_form s (split_of t)) ≡ built_text s g
 normal-built s k g t f e n =
     ap (λ z. recompose (normal_form s (split_of z))) e
-    ∙ (ap (λ p. recompose (normal_form s p)) (made-split s k (given_parts g) f) ∙ sym (ap (λ b. cond b (recompose (normal_form s (given_parts g))) (recompose (given_parts g))) n))
+    ∙ (ap (λ p. recompose (normal_form s p)) (made-split s k (given_parts g) f)
+    ∙ sym (ap (λ b. cond b (recompose (normal_form s (given_parts g))) (recompose (given_parts g))) n))
 
-pub normal-iri : (s : Tests) → IsSpec s → (g : Given) (t : List ℕ) → Fits s (given_parts g) → t ≡ recompose (given_parts g) → (g.normal && is_some g.scheme) ≡ true → iri_fault s t ≡ None
+pub normal-iri : (s : Tests) → IsSpec s → (g : Given) (t : List ℕ) → Fits s (given_parts g) → t ≡ recompose (given_parts g)
+    → (g.normal && is_some g.scheme) ≡ true → iri_fault s t ≡ None
 normal-iri s k g t f e n = ap (iri_fault s) e ∙ made-iri s k (given_parts g) f (both g.normal (is_some g.scheme) n).1

@@ -1,20 +1,21 @@
 -- Where a fragment stands in a text.
-use Rattle.std.proofs.Common.{◌≡◌, ℕ, ◌+◌, ◌≤◌, true, List, [], ◌∷◌, ◌++◌, length, Option, Some, None, refl, sym, ◌∙◌, ap, subst, arith, append_assoc, length-append}
+use Rattle.std.proofs.Common.{◌≡◌, ℕ, ◌+◌, ◌≤◌, true, List, [], ◌∷◌, ◌++◌, length, Option, Some, None, refl, sym, ◌∙◌, ap, subst, arith}
+use Rattle.std.proofs.Common.{append_assoc, length-append}
 use Rattle.std.specs.Str.{IsCharBoundary, chars, is_utf8}
 use Rattle.std.proofs.lemmas.List.{append-nil}
 use Rattle.std.proofs.lemmas.Str.{IsCharBoundary-end}
 use Rattle.iri_grammar.specs.Classes.{Tests, IsSpec}
 use Rattle.iri_grammar.specs.Components.{is_fragment}
 use Rattle.iri_grammar.specs.Cut.{before, behind, marked}
-use Rattle.iri_grammar.specs.CutLaws.{joined}
-use Rattle.iri_grammar.specs.FaultLaws.{splits_where_no_fault}
-use Rattle.iri_grammar.specs.KindLaws.{splits_without_fragment, without_fragment}
+use Rattle.iri_grammar.proofs.CutLaws.{joined}
+use Rattle.iri_grammar.proofs.FaultLaws.{splits_where_no_fault}
+use Rattle.iri_grammar.proofs.KindLaws.{splits_without_fragment}
 use Rattle.iri_grammar.specs.Over.{over_from}
 use Rattle.iri_grammar.specs.Parts.{recompose, scheme_text, authority_text}
 use Rattle.iri_grammar.specs.Split.{split_of}
 use Rattle.iri_grammar.specs.WholeFault.{reference_fault}
 use Rattle.iri_edit.specs.Fragment.{with_fragment}
-use Rattle.iri_edit.specs.Places.{IsFragmentAt}
+use Rattle.iri_edit.specs.inside.Places.{IsFragmentAt}
 use Rattle.iri_edit.proofs.PlaceLemmas.{ascii-boundary}
 use Rattle.iri_edit.proofs.SpliceLemmas.{spliced-at}
 use Rattle.iri_owned.specs.Spliced.{spliced}
@@ -26,7 +27,8 @@ module _ (s : Tests) (k : IsSpec s) (t : List ℕ) (h : reference_fault s t ≡ 
 
   behind-front : (f : List ℕ) → with_fragment t (Some f) ≡ with_fragment t None ++ 35 ∷ f
   unfolding with_fragment recompose
-  behind-front f = regroup (scheme_text (split_of t).scheme) (authority_text (split_of t).authority) (split_of t).path (marked 63 (split_of t).query) (35 ∷ f)
+  behind-front f = regroup (scheme_text (split_of t).scheme) (authority_text (split_of t).authority) (split_of t).path
+      (marked 63 (split_of t).query) (35 ∷ f)
     where
       regroup : (a b c d e : List ℕ) → a ++ (b ++ (c ++ (d ++ e))) ≡ (a ++ (b ++ (c ++ (d ++ [])))) ++ e
       regroup a b c d e = simp (append_assoc, append-nil)
@@ -43,14 +45,17 @@ fragment-boundary t = at (behind 35 t) (joined 35 t)
 
 pub fragment-place : (t : List ℕ) → IsFragmentAt t (length (before 35 t)) (length t)
 fragment-place t =
-    let all : before 35 t ++ (marked 35 (behind 35 t) ++ []) ≡ t = ap (λ z. before 35 t ++ z) (append-nil (marked 35 (behind 35 t))) ∙ joined 35 t in
-    let n : length (before 35 t) + length (marked 35 (behind 35 t)) ≡ length t = sym (length-append (before 35 t) (marked 35 (behind 35 t))) ∙ ap length (joined 35 t) in
+    let all : before 35 t ++ (marked 35 (behind 35 t) ++ []) ≡ t =
+    ap (λ z. before 35 t ++ z) (append-nil (marked 35 (behind 35 t))) ∙ joined 35 t in
+    let n : length (before 35 t) + length (marked 35 (behind 35 t)) ≡ length t =
+    sym (length-append (before 35 t) (marked 35 (behind 35 t))) ∙ ap length (joined 35 t) in
     record {
       ordered = omega (arith, n);
       at_end = refl;
       low = fragment-boundary t;
       high = IsCharBoundary-end t;
-      replaces = λ new. spliced-at (before 35 t) (marked 35 (behind 35 t)) [] new t (length (before 35 t)) (length t) all refl n ∙ ap (λ z. before 35 t ++ z) (append-nil new);
+      replaces = λ new. spliced-at (before 35 t) (marked 35 (behind 35 t)) [] new t (length (before 35 t)) (length t) all refl n
+          ∙ ap (λ z. before 35 t ++ z) (append-nil new);
     }
 
 -- a text put behind another
@@ -60,8 +65,10 @@ spliced-end t new n e =
     spliced-at t [] [] new t n n all (sym e) (omega arith) ∙ ap (λ z. t ++ z) (append-nil new)
 
 -- a fragment put behind a text that ends with a number sign
-pub put-behind : (s : Tests) → IsSpec s → (t : List ℕ) → reference_fault s t ≡ None → (signed f : List ℕ) (n : ℕ) → signed ≡ before 35 t ++ 35 ∷ [] → n ≡ length signed → spliced signed n n f ≡ with_fragment t (Some f)
-put-behind s k t h signed f n e l = spliced-end signed f n l ∙ (ap (λ z. z ++ f) e ∙ (append_assoc (before 35 t) (35 ∷ []) f ∙ sym (fragment-put s k t h f)))
+pub put-behind : (s : Tests) → IsSpec s → (t : List ℕ) → reference_fault s t ≡ None → (signed f : List ℕ) (n : ℕ)
+    → signed ≡ before 35 t ++ 35 ∷ [] → n ≡ length signed → spliced signed n n f ≡ with_fragment t (Some f)
+put-behind s k t h signed f n e l = spliced-end signed f n l
+    ∙ (ap (λ z. z ++ f) e ∙ (append_assoc (before 35 t) (35 ∷ []) f ∙ sym (fragment-put s k t h f)))
 
 pub empty_fragment : (s : Tests) → is_fragment s [] ≡ true
 unfolding over_from chars is_utf8

@@ -1,14 +1,12 @@
 -- What edits keep of a text.
-use Rattle.std.proofs.Common.{◌≡◌, ℕ, Bool, true, false, cond, List, [], ◌∷◌, ◌++◌, Option, Some, None, refl, sym, ◌∙◌, ap}
+use Rattle.std.proofs.Common.{◌≡◌, ℕ, true, List, [], ◌∷◌, ◌++◌, Option, Some, None, refl, ◌∙◌, ap}
 use Rattle.iri_grammar.specs.Authority.{AuthorityParts, FitsAuthority, authority_parts, is_authority, recompose_authority}
-use Rattle.iri_grammar.specs.AuthorityLaws.{reads}
+use Rattle.iri_grammar.proofs.AuthorityLaws.{reads}
 use Rattle.iri_grammar.specs.Classes.{Tests, IsSpec}
 use Rattle.iri_grammar.specs.Components.{if_there, is_fragment, is_userinfo}
-use Rattle.iri_grammar.specs.Cut.{before, behind, lacks}
-use Rattle.iri_grammar.specs.CutLaws.{before-marked}
 use Rattle.iri_grammar.specs.Host.{is_host}
-use Rattle.iri_grammar.specs.MadeLaws.{made-reading, made-split, split-fits}
-use Rattle.iri_grammar.specs.Parts.{Parts, Fits, recompose}
+use Rattle.iri_grammar.proofs.MadeLaws.{made-reading, made-split, split-fits}
+use Rattle.iri_grammar.specs.Parts.{recompose}
 use Rattle.iri_grammar.specs.Split.{split_of}
 use Rattle.iri_grammar.specs.WholeFault.{reference_fault}
 use Rattle.iri_edit.specs.Edited.{edited, edited_authority, edited_parts}
@@ -19,23 +17,29 @@ use Rattle.iri_edit.proofs.KindLemmas.{edited-fits, fragment-fits, host_replaced
 use Rattle.iri_edit.proofs.UserLemmas.{nothing-fits, user_alone-fits, user_with-fits, with_userinfo-fits, user_with-twice}
 
 module _ (s : Tests) (k : IsSpec s) where
-  pub edited-split : (f : AuthorityParts → AuthorityParts) → ((a : AuthorityParts) → FitsAuthority s a → FitsAuthority s (f a)) → (t : List ℕ) → reference_fault s t ≡ None → split_of (edited f t) ≡ edited_parts f (split_of t)
+  pub edited-split : (f : AuthorityParts → AuthorityParts) → ((a : AuthorityParts) → FitsAuthority s a → FitsAuthority s (f a))
+      → (t : List ℕ) → reference_fault s t ≡ None → split_of (edited f t) ≡ edited_parts f (split_of t)
   unfolding edited
   edited-split f keeps t h = made-split s k (edited_parts f (split_of t)) (edited-fits s k f keeps (split_of t) (split-fits s t h))
 
-  pub with-split : (t w : List ℕ) → reference_fault s t ≡ None → is_userinfo s w ≡ true → split_of (with_password t w) ≡ edited_parts (with_userinfo (user_with w)) (split_of t)
+  pub with-split : (t w : List ℕ) → reference_fault s t ≡ None → is_userinfo s w ≡ true
+      → split_of (with_password t w) ≡ edited_parts (with_userinfo (user_with w)) (split_of t)
   with-split t w h v = edited-split (with_userinfo (user_with w)) (with_userinfo-fits s (user_with w) (user_with-fits s w v)) t h
 
-  pub masked-split : (t : List ℕ) → reference_fault s t ≡ None → split_of (masked t) ≡ edited_parts (with_userinfo (user_with [])) (split_of t)
+  pub masked-split : (t : List ℕ) → reference_fault s t ≡ None
+      → split_of (masked t) ≡ edited_parts (with_userinfo (user_with [])) (split_of t)
   masked-split t h = with-split t [] h (nothing-fits s)
 
-  pub without-split : (t : List ℕ) → reference_fault s t ≡ None → split_of (without_password t) ≡ edited_parts (with_userinfo user_alone) (split_of t)
+  pub without-split : (t : List ℕ) → reference_fault s t ≡ None
+      → split_of (without_password t) ≡ edited_parts (with_userinfo user_alone) (split_of t)
   without-split t h = edited-split (with_userinfo user_alone) (with_userinfo-fits s user_alone (user_alone-fits s)) t h
 
-  pub host-split : (t host : List ℕ) → reference_fault s t ≡ None → is_host s host ≡ true → split_of (with_host t host) ≡ edited_parts (host_replaced host) (split_of t)
+  pub host-split : (t host : List ℕ) → reference_fault s t ≡ None → is_host s host ≡ true
+      → split_of (with_host t host) ≡ edited_parts (host_replaced host) (split_of t)
   host-split t host h v = edited-split (host_replaced host) (host_replaced-fits s host v) t h
 
-  pub fragment-split : (t : List ℕ) (f : Option (List ℕ)) → reference_fault s t ≡ None → if_there (is_fragment s) f ≡ true → split_of (with_fragment t f) ≡ fragment_replaced f (split_of t)
+  pub fragment-split : (t : List ℕ) (f : Option (List ℕ)) → reference_fault s t ≡ None → if_there (is_fragment s) f ≡ true
+      → split_of (with_fragment t f) ≡ fragment_replaced f (split_of t)
   unfolding with_fragment
   fragment-split t f h v = made-split s k (fragment_replaced f (split_of t)) (fragment-fits s f v (split_of t) (split-fits s t h))
 
@@ -51,15 +55,23 @@ module _ (s : Tests) (k : IsSpec s) where
   unfolding mask
   mask-again a = ap (λ o. record { userinfo = o; host = a.host; port = a.port }) (user-again a.userinfo)
 
-  authority-again : (o : Option (List ℕ)) → if_there (is_authority s) o ≡ true → edited_authority mask (edited_authority mask o) ≡ edited_authority mask o
+  authority-again : (o : Option (List ℕ)) → if_there (is_authority s) o ≡ true
+      → edited_authority mask (edited_authority mask o) ≡ edited_authority mask o
   unfolding mask
   authority-again None h = refl
   authority-again (Some a) h =
       let fits = with_userinfo-fits s (user_with []) (user_with-fits s [] (nothing-fits s)) (authority_parts a) (reads s a h).0 in
-      ap Some (ap (λ z. recompose_authority (mask z)) (made-reading s k (mask (authority_parts a)) fits) ∙ ap recompose_authority (mask-again (authority_parts a)))
+      ap Some (ap (λ z. recompose_authority (mask z)) (made-reading s k (mask (authority_parts a)) fits)
+      ∙ ap recompose_authority (mask-again (authority_parts a)))
 
   pub masked-again : (t : List ℕ) → reference_fault s t ≡ None → masked (masked t) ≡ masked t
   unfolding edited mask
   masked-again t h =
       ap (λ p. recompose (edited_parts mask p)) (masked-split t h)
-      ∙ ap (λ o. recompose (record { scheme = (split_of t).scheme; authority = o; path = (split_of t).path; query = (split_of t).query; fragment = (split_of t).fragment })) (authority-again (split_of t).authority (split-fits s t h).authority)
+      ∙ ap (λ o. recompose (record {
+        scheme = (split_of t).scheme;
+        authority = o;
+        path = (split_of t).path;
+        query = (split_of t).query;
+        fragment = (split_of t).fragment;
+      })) (authority-again (split_of t).authority (split-fits s t h).authority)

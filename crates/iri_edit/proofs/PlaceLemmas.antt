@@ -1,30 +1,33 @@
 -- Where the parts of an authority stand in a whole text.
-use Rattle.std.proofs.Common.{◌≡◌, ℕ, ◌+◌, ◌<◌, ◌≤◌, ◌^◌, Bool, true, false, cond, not, ◌&&◌, List, [], ◌∷◌, ◌++◌, length, get_or, take, drop, Option, Some, None, refl, sym, ◌∙◌, ap, subst, arith, append_assoc, length-append}
+use Rattle.std.proofs.Common.{◌≡◌, ℕ, ◌+◌, ◌<◌, ◌≤◌, ◌^◌, true, false, cond, not, ◌&&◌, List, [], ◌∷◌, ◌++◌, length, get_or, take, drop}
+use Rattle.std.proofs.Common.{Option, Some, None, refl, sym, ◌∙◌, ap, subst, arith, append_assoc, length-append}
 use Rattle.std.specs.Str.{IsUtf8, IsCharBoundary}
-use Rattle.std.proofs.lemmas.Str.{IsUtf8-append, IsUtf8-drop, IsUtf8-take, IsCharBoundary-before_ascii, IsCharBoundary-after_ascii, IsCharBoundary-from_take}
+use Rattle.std.proofs.lemmas.Str.{IsUtf8-append, IsUtf8-drop, IsUtf8-take, IsCharBoundary-before_ascii, IsCharBoundary-after_ascii}
+use Rattle.std.proofs.lemmas.Str.{IsCharBoundary-from_take}
 use Rattle.std.proofs.lemmas.List.{append-nil}
 use Rattle.std.proofs.Math.Seq.{drop-append_seam, get_or-append_seam, take-append_seam}
-use Rattle.iri_grammar.specs.Authority.{AuthorityParts, authority_parts, recompose_authority, userinfo_text}
-use Rattle.iri_grammar.specs.AuthorityLaws.{authority_recomposed}
-use Rattle.iri_grammar.specs.AuthorityTexts.{host-utf8}
+use Rattle.iri_grammar.specs.Authority.{authority_parts, recompose_authority, userinfo_text}
+use Rattle.iri_grammar.proofs.AuthorityLaws.{authority_recomposed}
+use Rattle.iri_grammar.proofs.AuthorityTexts.{host-utf8}
 use Rattle.iri_grammar.specs.Classes.{Tests}
 use Rattle.iri_grammar.specs.Cut.{before, behind, lacks, marked}
-use Rattle.iri_grammar.specs.CutLaws.{joined, by_test}
+use Rattle.iri_grammar.proofs.CutLaws.{joined, by_test}
 use Rattle.iri_grammar.specs.Host.{is_host}
 use Rattle.iri_grammar.specs.Parts.{recompose, scheme_text, authority_text}
 use Rattle.iri_grammar.specs.Split.{split_of}
-use Rattle.iri_grammar.specs.SplitLaws.{recompose_split}
+use Rattle.iri_grammar.proofs.SplitLaws.{recompose_split}
 use Rattle.iri_edit.specs.Edited.{edited, edited_authority}
-use Rattle.iri_edit.specs.Host.{host_in, host_of_text, host_replaced, with_host}
-use Rattle.iri_edit.specs.Password.{password_of, password_in, userinfo_in, user_with, user_alone, where_userinfo, with_userinfo, with_password, without_password}
-use Rattle.iri_edit.specs.Places.{IsAuthorityAt, IsPasswordAt, IsHostAt}
+use Rattle.iri_edit.specs.Host.{host_in, host_replaced}
+use Rattle.iri_edit.specs.Password.{password_of, password_in, userinfo_in, user_with, user_alone, where_userinfo, with_userinfo}
+use Rattle.iri_edit.specs.inside.Places.{IsAuthorityAt, IsPasswordAt, IsHostAt}
 
 -- ---- the authority
 module _ (t a : List ℕ) (u : IsUtf8 t) (l : length t < 2 ^ 64) (h : (split_of t).authority ≡ Some a) where
   tail : List ℕ
   tail = (split_of t).path ++ (marked 63 (split_of t).query ++ marked 35 (split_of t).fragment)
 
-  regroup : (x : List ℕ) → (scheme_text (split_of t).scheme ++ 47 ∷ 47 ∷ []) ++ (x ++ tail) ≡ scheme_text (split_of t).scheme ++ (authority_text (Some x) ++ tail)
+  regroup : (x : List ℕ) → (scheme_text (split_of t).scheme ++ 47 ∷ 47 ∷ []) ++ (x ++ tail)
+      ≡ scheme_text (split_of t).scheme ++ (authority_text (Some x) ++ tail)
   regroup x = append_assoc (scheme_text (split_of t).scheme) (47 ∷ 47 ∷ []) (x ++ tail)
 
   pub authority-place : IsAuthorityAt t a (length (scheme_text (split_of t).scheme) + 2)
@@ -41,7 +44,8 @@ module _ (t a : List ℕ) (u : IsUtf8 t) (l : length t < 2 ^ 64) (h : (split_of 
         stands = h;
         utf8 = u;
         short = l;
-        edits = λ f. ap (λ o. sch ++ (authority_text (edited_authority f o) ++ tail)) h ∙ sym (regroup (recompose_authority (f (authority_parts a))));
+        edits = λ f. ap (λ o. sch ++ (authority_text (edited_authority f o) ++ tail)) h
+            ∙ sym (regroup (recompose_authority (f (authority_parts a))));
       }
 
 -- ---- the userinfo
@@ -51,16 +55,19 @@ rest_of a = (authority_parts a).host ++ marked 58 (authority_parts a).port
 
 userinfo-place : (a u : List ℕ) → (authority_parts a).userinfo ≡ Some u → u ++ 64 ∷ rest_of a ≡ a
 unfolding recompose_authority rest_of
-userinfo-place a u h = sym (append_assoc u (64 ∷ []) (rest_of a)) ∙ (ap (λ o. userinfo_text o ++ rest_of a) (sym h) ∙ authority_recomposed a)
+userinfo-place a u h = sym (append_assoc u (64 ∷ []) (rest_of a))
+    ∙ (ap (λ o. userinfo_text o ++ rest_of a) (sym h) ∙ authority_recomposed a)
 
-userinfo-edited : (f : List ℕ → List ℕ) (a u : List ℕ) → (authority_parts a).userinfo ≡ Some u → recompose_authority (with_userinfo f (authority_parts a)) ≡ f u ++ 64 ∷ rest_of a
+userinfo-edited : (f : List ℕ → List ℕ) (a u : List ℕ) → (authority_parts a).userinfo ≡ Some u
+    → recompose_authority (with_userinfo f (authority_parts a)) ≡ f u ++ 64 ∷ rest_of a
 unfolding recompose_authority rest_of
 userinfo-edited f a u h = ap (λ o. userinfo_text (where_userinfo f o) ++ rest_of a) h ∙ append_assoc (f u) (64 ∷ []) (rest_of a)
 
 pub behind-lacks : (u p : List ℕ) → behind 58 u ≡ Some p → lacks 58 u ≡ false
 behind-lacks [] p h = cc
 behind-lacks (x ∷ xs) p h =
-    by_test x 58 (λ b. cond b (Some xs) (behind 58 xs) ≡ Some p → (not b && lacks 58 xs) ≡ false) (λ _ _. refl) (λ _ k. behind-lacks xs p k) h
+    by_test x 58 (λ b. cond b (Some xs) (behind 58 xs) ≡ Some p → (not b && lacks 58 xs) ≡ false) (λ _ _. refl)
+    (λ _ k. behind-lacks xs p k) h
 
 pub ascii-boundary : (t xs ys : List ℕ) (c : ℕ) → c < 128 → xs ++ c ∷ ys ≡ t → IsCharBoundary t (length xs)
 ascii-boundary t xs ys c l e =
@@ -79,7 +86,8 @@ module _ (t a u p : List ℕ) (start : ℕ) (h : (authority_parts a).userinfo �
   regrouped front x y back = ap (λ z. front ++ z) (append_assoc x (64 ∷ y) back)
 
   moved : (front b w y back : List ℕ) → front ++ ((b ++ 58 ∷ w) ++ 64 ∷ (y ++ back)) ≡ (front ++ b) ++ 58 ∷ (w ++ 64 ∷ (y ++ back))
-  moved front b w y back = ap (λ z. front ++ z) (append_assoc b (58 ∷ w) (64 ∷ (y ++ back))) ∙ sym (append_assoc front b (58 ∷ (w ++ 64 ∷ (y ++ back))))
+  moved front b w y back = ap (λ z. front ++ z) (append_assoc b (58 ∷ w) (64 ∷ (y ++ back)))
+      ∙ sym (append_assoc front b (58 ∷ (w ++ 64 ∷ (y ++ back))))
 
   cut-user : before 58 u ++ 58 ∷ p ≡ u
   cut-user = ap (λ o. before 58 u ++ marked 58 o) (sym k) ∙ joined 58 u
@@ -125,7 +133,8 @@ module _ (t a u p : List ℕ) (start : ℕ) (h : (authority_parts a).userinfo �
 -- the place lies in the text
 pub password-inside : (t : List ℕ) (colon end : ℕ) → IsPasswordAt t colon end → end ≤ length t
 password-inside t colon end i =
-    let e : length i.front + length (58 ∷ (i.password ++ i.back)) ≡ length t = sym (length-append i.front (58 ∷ (i.password ++ i.back))) ∙ ap length i.text in
+    let e : length i.front + length (58 ∷ (i.password ++ i.back)) ≡ length t =
+    sym (length-append i.front (58 ∷ (i.password ++ i.back))) ∙ ap length i.text in
     omega (arith, i.at_colon, i.at_end, length-append i.password i.back, e)
 
 -- ---- texts without password
@@ -137,23 +146,30 @@ pub no_userinfo : (t a : List ℕ) → (split_of t).authority ≡ Some a → Non
 unfolding password_of
 no_userinfo t a h k = ap (λ o. password_in (userinfo_in o)) h ∙ ap password_in (sym k)
 
-pub no_colon : (t a u : List ℕ) → (split_of t).authority ≡ Some a → Some u ≡ (authority_parts a).userinfo → None ≡ behind 58 u → password_of t ≡ None
+pub no_colon : (t a u : List ℕ) → (split_of t).authority ≡ Some a → Some u ≡ (authority_parts a).userinfo → None ≡ behind 58 u
+    → password_of t ≡ None
 unfolding password_of
 no_colon t a u h k n = ap (λ o. password_in (userinfo_in o)) h ∙ (ap password_in (sym k) ∙ sym n)
 
 -- ---- the host
-host_front : (t a : List ℕ) (start : ℕ) (i : IsAuthorityAt t a start) (o : Option (List ℕ)) (rest : List ℕ) → (i.front ++ userinfo_text o) ++ rest ≡ t → IsCharBoundary t (length (i.front ++ userinfo_text o))
+host_front : (t a : List ℕ) (start : ℕ) (i : IsAuthorityAt t a start) (o : Option (List ℕ)) (rest : List ℕ)
+    → (i.front ++ userinfo_text o) ++ rest ≡ t → IsCharBoundary t (length (i.front ++ userinfo_text o))
 host_front t a start i None rest e =
     let nothing : (xs : List ℕ) → xs ++ [] ≡ xs = λ xs. simp append-nil in
-    let f : i.lead ++ 47 ∷ rest ≡ t = sym (append_assoc i.lead (47 ∷ []) rest) ∙ (ap (λ z. z ++ rest) (i.ends ∙ sym (nothing i.front)) ∙ e) in
-    let n : length i.lead + 1 ≡ length (i.front ++ []) = omega (arith, length-append i.lead (47 ∷ []), ap length i.ends, ap length (nothing i.front)) in
+    let f : i.lead ++ 47 ∷ rest ≡ t = sym (append_assoc i.lead (47 ∷ []) rest)
+    ∙ (ap (λ z. z ++ rest) (i.ends ∙ sym (nothing i.front)) ∙ e) in
+    let n : length i.lead + 1 ≡ length (i.front ++ []) =
+    omega (arith, length-append i.lead (47 ∷ []), ap length i.ends, ap length (nothing i.front)) in
     subst (IsCharBoundary t) n (behind-boundary t i.lead rest 47 (omega arith) i.utf8 f)
 host_front t a start i (Some x) rest e =
-    let f : (i.front ++ x) ++ 64 ∷ rest ≡ t = sym (append_assoc (i.front ++ x) (64 ∷ []) rest) ∙ (ap (λ z. z ++ rest) (append_assoc i.front x (64 ∷ [])) ∙ e) in
-    let n : length (i.front ++ x) + 1 ≡ length (i.front ++ (x ++ 64 ∷ [])) = omega (arith, length-append (i.front ++ x) (64 ∷ []), ap length (append_assoc i.front x (64 ∷ []))) in
+    let f : (i.front ++ x) ++ 64 ∷ rest ≡ t = sym (append_assoc (i.front ++ x) (64 ∷ []) rest)
+    ∙ (ap (λ z. z ++ rest) (append_assoc i.front x (64 ∷ [])) ∙ e) in
+    let n : length (i.front ++ x) + 1 ≡ length (i.front ++ (x ++ 64 ∷ [])) =
+    omega (arith, length-append (i.front ++ x) (64 ∷ []), ap length (append_assoc i.front x (64 ∷ []))) in
     subst (IsCharBoundary t) n (behind-boundary t (i.front ++ x) rest 64 (omega arith) i.utf8 f)
 
-pub host-place : (s : Tests) (t a : List ℕ) (start : ℕ) → IsAuthorityAt t a start → is_host s (authority_parts a).host ≡ true → IsHostAt s t (authority_parts a).host (start + length (userinfo_text (authority_parts a).userinfo))
+pub host-place : (s : Tests) (t a : List ℕ) (start : ℕ) → IsAuthorityAt t a start → is_host s (authority_parts a).host ≡ true
+    → IsHostAt s t (authority_parts a).host (start + length (userinfo_text (authority_parts a).userinfo))
 unfolding recompose_authority
 host-place s t a start i valid =
     let user = userinfo_text (authority_parts a).userinfo in
@@ -166,14 +182,16 @@ host-place s t a start i valid =
     let long : length front ≡ start + length user = length-append i.front user ∙ ap (λ n. n + length user) i.at in
     let low = host_front t a start i (authority_parts a).userinfo (h ++ back) whole in
     let later : (front ++ h) ++ back ≡ t = append_assoc front h back ∙ whole in
-    let ahead : take (length (front ++ h)) t ≡ front ++ h = ap (take (length (front ++ h))) (sym later) ∙ take-append_seam (front ++ h) back in
+    let ahead : take (length (front ++ h)) t ≡ front ++ h =
+    ap (take (length (front ++ h))) (sym later) ∙ take-append_seam (front ++ h) back in
     let ahead_front : take (length front) t ≡ front = ap (take (length front)) (sym whole) ∙ take-append_seam front (h ++ back) in
     let front_utf8 = subst (λ z. IsUtf8 z) ahead_front (IsUtf8-take t (length front) i.utf8 low) in
     let both_utf8 = subst (λ z. IsUtf8 z) (sym ahead) (IsUtf8-append front h front_utf8 (host-utf8 s h valid)) in
     let within : length (front ++ h) ≤ length t = omega (arith, length-append (front ++ h) back, ap length later) in
     let end : length (front ++ h) ≡ start + length user + length h = length-append front h ∙ ap (λ n. n + length h) long in
     let high = IsCharBoundary-from_take t (length (front ++ h)) i.utf8 within both_utf8 in
-    let behind_it : drop (length (front ++ h)) t ≡ back = ap (drop (length (front ++ h))) (sym later) ∙ drop-append_seam (front ++ h) back in
+    let behind_it : drop (length (front ++ h)) t ≡ back =
+    ap (drop (length (front ++ h))) (sym later) ∙ drop-append_seam (front ++ h) back in
     record {
       front = front;
       back = back;

@@ -3,18 +3,20 @@ use Rattle.std.proofs.Common.{◌≡◌, ℕ, true, cond, List, [], ◌∷◌, �
 use Rattle.std.specs.Prelude.{not, ◌&&◌}
 use Rattle.std.proofs.lemmas.List.{append-nil}
 use Rattle.iri_grammar.specs.Authority.{authority_parts, recompose_authority}
-use Rattle.iri_grammar.specs.AuthorityLaws.{authority_recomposed}
+use Rattle.iri_grammar.proofs.AuthorityLaws.{authority_recomposed}
 use Rattle.iri_grammar.specs.Cut.{before, behind, lacks, marked}
-use Rattle.iri_grammar.specs.CutLaws.{joined, by_test}
+use Rattle.iri_grammar.proofs.CutLaws.{joined, by_test}
 use Rattle.iri_grammar.specs.Parts.{recompose}
 use Rattle.iri_grammar.specs.Split.{split_of}
-use Rattle.iri_grammar.specs.SplitLaws.{recompose_split}
-use Rattle.iri_edit.specs.Edited.{edited, edited_authority, edited_parts}
-use Rattle.iri_edit.specs.Password.{password_of, password_in, userinfo_in, user_with, user_alone, where_userinfo, with_userinfo, with_password, without_password}
+use Rattle.iri_grammar.proofs.SplitLaws.{recompose_split}
+use Rattle.iri_edit.specs.Edited.{edited, edited_authority}
+use Rattle.iri_edit.specs.Password.{password_of, password_in, userinfo_in, user_with, user_alone, where_userinfo, with_userinfo}
+use Rattle.iri_edit.specs.Password.{with_password, without_password}
 
 lacking : (u : List ℕ) → behind 58 u ≡ None → lacks 58 u ≡ true
 lacking [] h = refl
-lacking (x ∷ xs) h = by_test x 58 (λ b. cond b (Some xs) (behind 58 xs) ≡ None → (not b && lacks 58 xs) ≡ true) (λ _ k. cc) (λ _ k. lacking xs k) h
+lacking (x ∷ xs) h = by_test x 58 (λ b. cond b (Some xs) (behind 58 xs) ≡ None → (not b && lacks 58 xs) ≡ true) (λ _ k. cc)
+    (λ _ k. lacking xs k) h
 
 user_with-same : (w u : List ℕ) → behind 58 u ≡ None → user_with w u ≡ u
 user_with-same w u h = ap (λ b. cond b u (before 58 u ++ 58 ∷ w)) (lacking u h)
@@ -30,12 +32,19 @@ module _ (f : List ℕ → List ℕ) (same : (u : List ℕ) → behind 58 u ≡ 
   same-authority : (o : Option (List ℕ)) → password_in (userinfo_in o) ≡ None → edited_authority (with_userinfo f) o ≡ o
   same-authority None h = refl
   same-authority (Some a) h =
-      ap Some (ap (λ o. recompose_authority (record { userinfo = o; host = (authority_parts a).host; port = (authority_parts a).port })) (same-userinfo (authority_parts a).userinfo h) ∙ authority_recomposed a)
+      ap Some (ap (λ o. recompose_authority (record { userinfo = o; host = (authority_parts a).host; port = (authority_parts a).port }))
+      (same-userinfo (authority_parts a).userinfo h) ∙ authority_recomposed a)
 
   pub edited-same : (t : List ℕ) → password_of t ≡ None → edited (with_userinfo f) t ≡ t
   unfolding edited password_of
   edited-same t h =
-      ap (λ o. recompose (record { scheme = (split_of t).scheme; authority = o; path = (split_of t).path; query = (split_of t).query; fragment = (split_of t).fragment })) (same-authority (split_of t).authority h) ∙ recompose_split t
+      ap (λ o. recompose (record {
+        scheme = (split_of t).scheme;
+        authority = o;
+        path = (split_of t).path;
+        query = (split_of t).query;
+        fragment = (split_of t).fragment;
+      })) (same-authority (split_of t).authority h) ∙ recompose_split t
 
 pub with_password-same : (t w : List ℕ) → password_of t ≡ None → with_password t w ≡ t
 with_password-same t w h = edited-same (user_with w) (user_with-same w) t h

@@ -1,33 +1,36 @@
 -- A userinfo whose password is changed stays a userinfo.
-use Rattle.std.proofs.Common.{◌≡◌, ℕ, zero, suc, ◌<◌, Bool, true, false, cond, ◌&&◌, List, [], ◌∷◌, ◌++◌, Option, Some, None, refl, sym, ◌∙◌, ap, subst, arith}
-use Rattle.std.specs.Prelude.{◌==◌, not}
+use Rattle.std.proofs.Common.{◌≡◌, ℕ, zero, suc, ◌<◌, Bool, true, false, cond, ◌&&◌, List, [], ◌∷◌, ◌++◌, Option, Some, None, refl, sym}
+use Rattle.std.proofs.Common.{◌∙◌, ap, subst, arith}
+use Rattle.std.specs.Prelude.{◌==◌}
 use Rattle.std.specs.Char.{is_ascii_hexdigit}
 use Rattle.std.specs.Str.{chars, is_utf8}
 use Rattle.std.proofs.lemmas.List.{append-nil}
 use Rattle.std.proofs.lemmas.Str.{chars-append}
 use Rattle.iri_grammar.specs.Authority.{AuthorityParts, FitsAuthority}
-use Rattle.iri_grammar.specs.AuthorityTexts.{one_byte-utf8, text_over-utf8}
+use Rattle.iri_grammar.proofs.AuthorityTexts.{one_byte-utf8, text_over-utf8}
 use Rattle.iri_grammar.specs.Classes.{Tests, IsSpec, userinfo_char, is_ascii_userinfo, is_ascii_reg_name, is_ascii_unreserved, is_sub_delim}
 use Rattle.iri_grammar.specs.Components.{if_there, is_userinfo}
 use Rattle.iri_grammar.specs.Cut.{before, behind, lacks, marked}
-use Rattle.iri_grammar.specs.CutLaws.{before-marked, both, by_test, joined}
-use Rattle.iri_grammar.specs.Over.{over_from, over, text_over}
-use Rattle.iri_resolve.specs.TextLaws.{is_utf8-of, over-of, text_over-append, utf8-front}
+use Rattle.iri_grammar.proofs.CutLaws.{before-marked, both, by_test, joined}
+use Rattle.iri_grammar.specs.Over.{over_from, text_over}
+use Rattle.iri_resolve.proofs.TextLaws.{is_utf8-of, over-of, text_over-append, utf8-front}
 use Rattle.iri_grammar.specs.declared.error.ErrorKind.{ErrorKind}
 use Rattle.iri_edit.specs.Password.{masked, user_with, user_alone, where_userinfo, with_userinfo, without_password}
 use Rattle.iri_edit.proofs.KindLemmas.{IsWhole, edited-valid}
-use Rattle.iri_edit.proofs.PlaceLemmas.{behind-lacks}
+use Rattle.iri_grammar.proofs.FaultLaws.{lacks-joined}
 
 over-front : (p : ℕ → Bool) (n : ℕ) (xs ys : List ℕ) → over_from p n (xs ++ 58 ∷ ys) ≡ true → over_from p n xs ≡ true
 unfolding over_from
 over-front p zero [] ys h = refl
 over-front p (suc n) [] ys h = cc
 over-front p zero (x ∷ xs) ys h =
-    by_test x 37 (λ b. cond b (over_from p 2 (xs ++ 58 ∷ ys)) (p x && over_from p 0 (xs ++ 58 ∷ ys)) ≡ true → cond b (over_from p 2 xs) (p x && over_from p 0 xs) ≡ true)
+    by_test x 37 (λ b. cond b (over_from p 2 (xs ++ 58 ∷ ys)) (p x && over_from p 0 (xs ++ 58 ∷ ys)) ≡ true
+    → cond b (over_from p 2 xs) (p x && over_from p 0 xs) ≡ true)
     (λ _ l. over-front p 2 xs ys l)
     (λ _ l. let k = both (p x) (over_from p 0 (xs ++ 58 ∷ ys)) l in rw k.0 (over-front p 0 xs ys k.1))
     h
-over-front p (suc n) (x ∷ xs) ys h = let k = both (is_ascii_hexdigit x) (over_from p n (xs ++ 58 ∷ ys)) h in rw k.0 (over-front p n xs ys k.1)
+over-front p (suc n) (x ∷ xs) ys h = let k = both (is_ascii_hexdigit x) (over_from p n (xs ++ 58 ∷ ys)) h in
+    rw k.0 (over-front p n xs ys k.1)
 
 chars-one_colon : chars (58 ∷ []) ≡ 58 ∷ []
 unfolding chars
@@ -39,25 +42,29 @@ chars-colon ys = chars-append (58 ∷ []) ys (one_byte-utf8 58 (omega arith)) �
 text_over-front : (p : ℕ → Bool) (xs ys : List ℕ) → text_over p (xs ++ 58 ∷ ys) ≡ true → text_over p xs ≡ true
 text_over-front p xs ys h =
     let front = utf8-front 58 xs ys (omega arith) (text_over-utf8 p (xs ++ 58 ∷ ys) h) in
-    let e : chars (xs ++ 58 ∷ ys) ≡ chars xs ++ 58 ∷ chars ys = chars-append xs (58 ∷ ys) front ∙ ap (λ z. chars xs ++ z) (chars-colon ys) in
+    let e : chars (xs ++ 58 ∷ ys) ≡ chars xs ++ 58 ∷ chars ys =
+    chars-append xs (58 ∷ ys) front ∙ ap (λ z. chars xs ++ z) (chars-colon ys) in
     is_utf8-of p xs front (over-front p 0 (chars xs) (chars ys) (subst (λ z. over_from p 0 z ≡ true) e (over-of p (xs ++ 58 ∷ ys) h)))
 
 colon_over : (s : Tests) → is_userinfo s (58 ∷ []) ≡ true
 unfolding over_from chars userinfo_char is_ascii_userinfo is_ascii_reg_name is_ascii_unreserved is_sub_delim
 colon_over s = is_utf8-of (userinfo_char s) (58 ∷ []) (one_byte-utf8 58 (omega arith)) refl
 
-alone-at : (s : Tests) (u : List ℕ) (o : Option (List ℕ)) → before 58 u ++ marked 58 o ≡ u → is_userinfo s u ≡ true → is_userinfo s (before 58 u) ≡ true
+alone-at : (s : Tests) (u : List ℕ) (o : Option (List ℕ)) → before 58 u ++ marked 58 o ≡ u → is_userinfo s u ≡ true
+    → is_userinfo s (before 58 u) ≡ true
 alone-at s u None e h = subst (λ z. is_userinfo s z ≡ true) (sym e ∙ append-nil (before 58 u)) h
 alone-at s u (Some p) e h = text_over-front (userinfo_char s) (before 58 u) p (subst (λ z. is_userinfo s z ≡ true) (sym e) h)
 
 pub user_alone-fits : (s : Tests) (u : List ℕ) → is_userinfo s u ≡ true → is_userinfo s (user_alone u) ≡ true
 user_alone-fits s u h = alone-at s u (behind 58 u) (joined 58 u) h
 
-pub user_with-fits : (s : Tests) (w : List ℕ) → is_userinfo s w ≡ true → (u : List ℕ) → is_userinfo s u ≡ true → is_userinfo s (user_with w u) ≡ true
+pub user_with-fits : (s : Tests) (w : List ℕ) → is_userinfo s w ≡ true → (u : List ℕ) → is_userinfo s u ≡ true
+    → is_userinfo s (user_with w u) ≡ true
 user_with-fits s w v u h =
     elim (lacks 58 u) as (λ b. is_userinfo s (cond b u (before 58 u ++ 58 ∷ w)) ≡ true) [
       | true ↦ h
-      | false ↦ text_over-append (userinfo_char s) (before 58 u) (58 ∷ w) (user_alone-fits s u h) (text_over-append (userinfo_char s) (58 ∷ []) w (colon_over s) v)
+      | false ↦ text_over-append (userinfo_char s) (before 58 u) (58 ∷ w) (user_alone-fits s u h)
+          (text_over-append (userinfo_char s) (58 ∷ []) w (colon_over s) v)
     ]
 
 pub nothing-fits : (s : Tests) → is_userinfo s [] ≡ true
@@ -65,17 +72,21 @@ unfolding over_from chars is_utf8
 nothing-fits s = refl
 
 -- ---- the parts of an authority
-where-fits : (s : Tests) (f : List ℕ → List ℕ) → ((u : List ℕ) → is_userinfo s u ≡ true → is_userinfo s (f u) ≡ true) → (o : Option (List ℕ)) → if_there (is_userinfo s) o ≡ true → if_there (is_userinfo s) (where_userinfo f o) ≡ true
+where-fits : (s : Tests) (f : List ℕ → List ℕ) → ((u : List ℕ) → is_userinfo s u ≡ true → is_userinfo s (f u) ≡ true)
+    → (o : Option (List ℕ)) → if_there (is_userinfo s) o ≡ true → if_there (is_userinfo s) (where_userinfo f o) ≡ true
 where-fits s f keeps None h = refl
 where-fits s f keeps (Some u) h = keeps u h
 
-pub with_userinfo-fits : (s : Tests) (f : List ℕ → List ℕ) → ((u : List ℕ) → is_userinfo s u ≡ true → is_userinfo s (f u) ≡ true) → (a : AuthorityParts) → FitsAuthority s a → FitsAuthority s (with_userinfo f a)
+pub with_userinfo-fits : (s : Tests) (f : List ℕ → List ℕ) → ((u : List ℕ) → is_userinfo s u ≡ true → is_userinfo s (f u) ≡ true)
+    → (a : AuthorityParts) → FitsAuthority s a → FitsAuthority s (with_userinfo f a)
 with_userinfo-fits s f keeps a h = record { userinfo = where-fits s f keeps a.userinfo h.userinfo; host = h.host; port = h.port }
 
 -- ---- texts of a kind
-module _ (s : Tests) (fault : Tests → List ℕ → Option ErrorKind) (allows : Bool → Bool → Bool) (k : IsSpec s) (kind : IsWhole s fault allows) (t : List ℕ) (h : fault s t ≡ None) where
+module _ (s : Tests) (fault : Tests → List ℕ → Option ErrorKind) (allows : Bool → Bool → Bool) (k : IsSpec s)
+    (kind : IsWhole s fault allows) (t : List ℕ) (h : fault s t ≡ None) where
   pub masked-valid : fault s (masked t) ≡ None
-  masked-valid = edited-valid s fault allows k kind (with_userinfo (user_with [])) (with_userinfo-fits s (user_with []) (user_with-fits s [] (nothing-fits s))) t h
+  masked-valid = edited-valid s fault allows k kind (with_userinfo (user_with []))
+      (with_userinfo-fits s (user_with []) (user_with-fits s [] (nothing-fits s))) t h
 
   pub without-valid : fault s (without_password t) ≡ None
   without-valid = edited-valid s fault allows k kind (with_userinfo user_alone) (with_userinfo-fits s user_alone (user_alone-fits s)) t h
@@ -83,11 +94,8 @@ module _ (s : Tests) (fault : Tests → List ℕ → Option ErrorKind) (allows :
 -- ---- changed twice
 before-lacks : (u : List ℕ) → lacks 58 (before 58 u) ≡ true
 before-lacks [] = refl
-before-lacks (x ∷ xs) = by_test x 58 (λ b. (x == 58) ≡ b → lacks 58 (cond b [] (x ∷ before 58 xs)) ≡ true) (λ _ _. refl) (λ _ e. rw e (before-lacks xs)) refl
-
-lacks-joined : (xs ys : List ℕ) → lacks 58 (xs ++ 58 ∷ ys) ≡ false
-lacks-joined [] ys = refl
-lacks-joined (x ∷ xs) ys = elim (x == 58) as (λ b. (not b && lacks 58 (xs ++ 58 ∷ ys)) ≡ false) [ true ↦ refl | false ↦ lacks-joined xs ys ]
+before-lacks (x ∷ xs) = by_test x 58 (λ b. (x == 58) ≡ b → lacks 58 (cond b [] (x ∷ before 58 xs)) ≡ true) (λ _ _. refl)
+    (λ _ e. rw e (before-lacks xs)) refl
 
 -- what stands in place of a password is replaced in its turn
 pub user_with-twice : (w u : List ℕ) → user_with w (user_with w u) ≡ user_with w u

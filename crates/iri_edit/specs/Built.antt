@@ -1,8 +1,9 @@
 -- Texts built from parts (RFC 3986 section 5.3).
-use Rattle.std.specs.Prelude.{ℕ, Bool, true, false, cond, not, ◌&&◌, ◌||◌, List, [], Option, Some, None, is_some}
+use Rattle.std.specs.Prelude.{ℕ, Bool, false, cond, not, ◌&&◌, ◌||◌, List, [], Option, Some, None, is_some}
 use Rattle.iri_grammar.specs.Authority.{recompose_authority}
 use Rattle.iri_grammar.specs.Classes.{Tests}
-use Rattle.iri_grammar.specs.Fault.{first, unless, part_fault, scheme_fault, userinfo_fault, host_fault, port_fault, path_fault, query_fault, fragment_fault}
+use Rattle.iri_grammar.specs.Fault.{first, unless, part_fault, scheme_fault, userinfo_fault, host_fault, port_fault, path_fault}
+use Rattle.iri_grammar.specs.Fault.{query_fault, fragment_fault}
 use Rattle.iri_grammar.specs.Parts.{Parts, path_rules, recompose}
 use Rattle.iri_grammar.specs.declared.error.ErrorKind.{ErrorKind}
 use Rattle.iri_grammar.specs.declared.error.ErrorKind.TheVariants.{InvalidPath, InvalidScheme, UnexpectedFragment, UnexpectedRelative}
@@ -21,7 +22,16 @@ pub record Given : Type 0 where
 
 -- nothing is given: the path is empty
 abbrev pub nothing_given : Given
-nothing_given = record { scheme = None; userinfo = None; host = None; port = None; path = []; query = None; fragment = None; normal = false }
+nothing_given = record {
+  scheme = None;
+  userinfo = None;
+  host = None;
+  port = None;
+  path = [];
+  query = None;
+  fragment = None;
+  normal = false;
+}
 
 abbrev pub or_empty : Option (List ℕ) → List ℕ
 or_empty None = []
@@ -29,7 +39,8 @@ or_empty (Some x) = x
 
 -- an authority stands where userinfo, host or port is given; a host that isn't given is empty
 abbrev pub given_authority : Given → Option (List ℕ)
-given_authority g = cond (is_some g.userinfo || (is_some g.host || is_some g.port)) (Some (recompose_authority (record { userinfo = g.userinfo; host = or_empty g.host; port = g.port }))) None
+given_authority g = cond (is_some g.userinfo || (is_some g.host || is_some g.port))
+    (Some (recompose_authority (record { userinfo = g.userinfo; host = or_empty g.host; port = g.port }))) None
 
 -- the five parts
 abbrev pub given_parts : Given → Parts
@@ -61,7 +72,8 @@ components_fault s g =
 -- the first fault: of the parts, then what the kind refuses, then the rules of the path
 abbrev pub built_fault : Tests → (Bool → Bool → Option ErrorKind) → Given → Option ErrorKind
 built_fault s refusal g =
-    first (components_fault s g) (first (refusal (is_some g.scheme) (is_some g.fragment)) (unless (path_rules g.scheme (given_authority g) g.path) InvalidPath))
+    first (components_fault s g) (first (refusal (is_some g.scheme) (is_some g.fragment))
+    (unless (path_rules g.scheme (given_authority g) g.path) InvalidPath))
 
 -- the parts recomposed, or their normal form where it is asked for and a scheme is given
 abbrev pub built_text : Tests → Given → List ℕ

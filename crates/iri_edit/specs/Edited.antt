@@ -11,7 +11,13 @@ edited_authority f (Some a) = Some (recompose_authority (f (authority_parts a)))
 
 -- the five parts, with those of the authority changed by f
 abbrev pub edited_parts : (AuthorityParts → AuthorityParts) → Parts → Parts
-edited_parts f p = record { scheme = p.scheme; authority = edited_authority f p.authority; path = p.path; query = p.query; fragment = p.fragment }
+edited_parts f p = record {
+  scheme = p.scheme;
+  authority = edited_authority f p.authority;
+  path = p.path;
+  query = p.query;
+  fragment = p.fragment;
+}
 
 -- the text with the parts of its authority changed by f; a text without authority stays
 unfoldable pub edited : (AuthorityParts → AuthorityParts) → List ℕ → List ℕ

@@ -1,5 +1,6 @@
 -- A whole text with another host (RFC 3986 section 3.2.2).
-use Rattle.std.specs.Prelude.{◌≡◌, ℕ, ◌+◌, Bool, true, false, not, ◌&&◌, ◌||◌, List, length, slice_range, Option, Some, None, Result, Ok, Err}
+use Rattle.std.specs.Prelude.{◌≡◌, ℕ, ◌+◌, Bool, true, false, not, ◌&&◌, ◌||◌, List, length, slice_range, Option, Some, None, Result, Ok}
+use Rattle.std.specs.Prelude.{Err}
 use Rattle.std.specs.Borrow.{Bor}
 use Rattle.std.specs.Str.{IsCharBoundary}
 use Rattle.std.specs.declared.alloc.AllocError.{AllocError}
@@ -39,7 +40,9 @@ is_replaced s names_only new (Some old) = is_host s new && (not names_only || is
 abbrev pub HostReplaced : Tests → Bool → OwnedText → OwnedText → List ℕ → Result (Option ℕ) AllocError → Type 0
 HostReplaced s names_only old new host (Ok None) = (is_replaced s names_only host (host_of_text old.text) ≡ false) × (new ≡ old)
 HostReplaced s names_only old new host (Ok (Some start)) =
-    (is_replaced s names_only host (host_of_text old.text) ≡ true) × (new.text ≡ with_host old.text host) × (slice_range new.text start (start + length host) ≡ host) × IsCharBoundary new.text start × IsCharBoundary new.text (start + length host)
+    (is_replaced s names_only host (host_of_text old.text) ≡ true) × (new.text ≡ with_host old.text host)
+    × (slice_range new.text start (start + length host) ≡ host) × IsCharBoundary new.text start
+    × IsCharBoundary new.text (start + length host)
 HostReplaced s names_only old new host (Err e) = (is_replaced s names_only host (host_of_text old.text) ≡ true) × (new ≡ old)
 
 -- the same, with the new host's slice in place of where it begins

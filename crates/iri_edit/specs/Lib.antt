@@ -2,10 +2,8 @@ pub mod Edited
 pub mod Password
 pub mod Host
 pub mod Fragment
-pub mod Places
 pub mod Shown
 pub mod Built
-pub mod Rules
 pub mod Builders
-pub mod BuildKinds
 pub mod Examples
+pub mod inside

@@ -4,6 +4,7 @@ use Rattle.iri_grammar.specs.Authority.{AuthorityParts, authority_parts}
 use Rattle.iri_grammar.specs.Cut.{before, behind, lacks}
 use Rattle.iri_grammar.specs.Split.{split_of}
 use Rattle.iri_edit.specs.Edited.{edited}
+use Rattle.iri_grammar.specs.Characters.{colon}
 
 -- the userinfo of an authority that may stand
 abbrev pub userinfo_in : Option (List ℕ) → Option (List ℕ)
@@ -13,7 +14,7 @@ userinfo_in (Some a) = (authority_parts a).userinfo
 -- what follows the first colon of a userinfo that may stand
 abbrev pub password_in : Option (List ℕ) → Option (List ℕ)
 password_in None = None
-password_in (Some u) = behind 58 u
+password_in (Some u) = behind colon u
 
 -- the password of a text, where its userinfo has a colon
 unfoldable pub password_of : List ℕ → Option (List ℕ)
@@ -21,11 +22,11 @@ password_of t = password_in (userinfo_in (split_of t).authority)
 
 -- a userinfo with w in place of what follows its first colon; one without a colon stays
 abbrev pub user_with : List ℕ → List ℕ → List ℕ
-user_with w u = cond (lacks 58 u) u (before 58 u ++ 58 ∷ w)
+user_with w u = cond (lacks colon u) u (before colon u ++ colon ∷ w)
 
 -- a userinfo without its first colon and what follows it
 abbrev pub user_alone : List ℕ → List ℕ
-user_alone u = before 58 u
+user_alone u = before colon u
 
 abbrev pub where_userinfo : (List ℕ → List ℕ) → Option (List ℕ) → Option (List ℕ)
 where_userinfo f None = None

@@ -1,6 +1,7 @@
-//! The kinds of texts that a builder makes, and the components that it judges.
+//! The kinds of texts that a builder makes, and the components that it validates.
 ghost use Rattle.std.specs.Prelude.{◌≡◌, Bool, ℕ, List, None, Option, true};
-ghost use Rattle.iri_edit.specs.BuildKinds.{reference-allows, iri-allows, absolute-allows, relative-allows, host-within, userinfo-within};
+ghost use Rattle.iri_edit.specs.inside.BuildKinds.{reference-allows, iri-allows, absolute-allows, relative-allows};
+ghost use Rattle.iri_edit.specs.inside.BuildKinds.{host-within, userinfo-within};
 ghost use Rattle.iri_edit.specs.Built.{reference_refusal, iri_refusal, absolute_refusal, relative_refusal};
 ghost use Rattle.iri_grammar.specs.Fault.{host_fault, port_fault, scheme_fault, userinfo_fault};
 ghost use Rattle.iri_grammar.specs.declared.error.ErrorKind.{ErrorKind};

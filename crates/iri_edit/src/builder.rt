@@ -1,9 +1,11 @@
 //! Whole texts built from parts (RFC 3986 section 5.3).
-ghost use Rattle.std.specs.Prelude.{◌≡◌, ◌++◌, ◌||◌, ◌&&◌, IfOk, MatchResult, None, OnOk, Some, is_some, string_bytes, true, false};
-ghost use Rattle.iri_edit.specs.Built.{absolute_refusal, built_fault, built_text, components_fault, given_authority, given_parts, iri_refusal, nothing_given, reference_refusal, relative_refusal};
+ghost use Rattle.std.specs.Prelude.{◌≡◌, ◌++◌, ◌||◌, ◌&&◌, IfOk, MatchResult, None, OnOk, Some, is_some, string_bytes};
+ghost use Rattle.std.specs.Prelude.{true, false};
+ghost use Rattle.iri_edit.specs.Built.{absolute_refusal, built_fault, built_text, components_fault, given_authority};
+ghost use Rattle.iri_edit.specs.Built.{given_parts, iri_refusal, nothing_given, reference_refusal, relative_refusal};
 ghost use Rattle.iri_grammar.specs.Fault.{Answers, part_fault};
 ghost use Rattle.iri_grammar.specs.Parts.{Fits, authority_text, recompose};
-ghost use Rattle.iri_grammar.specs.Views.{now_of};
+ghost use Rattle.iri_grammar.specs.OptionalSlices.{now_of};
 
 use crate::build_kind::{BuildKind, Host, Port, Scheme, Userinfo};
 use crate::recomposed::{keeps_rules, normal_text, or_nothing, push_ended, push_marked};
@@ -14,7 +16,7 @@ use iri_owned::owned::{Owned, RiAbsoluteString, RiReferenceString, RiRelativeStr
 use iri_types::kind::{Absolute, Fragment, Iri, Kind, Query, Reference, Relative};
 use std::alloc::{AllocError, Global};
 
-/// The parts of a text that is to be built. Setting a part judges nothing; `build_reference` and its kin judge all parts. It has
+/// The parts of a text that is to be built. Setting a part validates nothing; `build_reference` and its kin validate all parts. It has
 /// no `Debug`, so that none shows a password.
 #[derive(Clone, Copy)]
 pub struct Builder<'a> {
@@ -33,7 +35,7 @@ pub struct Builder<'a> {
 pub enum BuildError {
     /// The parts make no text of the kind: the first fault.
     Invalid(Error),
-    /// Memory was refused. The parts make a text of the kind.
+    /// Allocation failed. The parts make a text of the kind.
     Memory(AllocError),
 }
 
@@ -166,7 +168,9 @@ impl<'a> Builder<'a> {
     /// The text of the kind `K` that the parts make. `Invalid` exactly where they make none, with the first fault: the parts one by
     /// one, scheme, userinfo, host, port, path, query, fragment; then what the kind refuses; then the rules of the path.
     pub fn build<S: Spec, K: BuildKind>(self, alloc: Global) -> Result<Owned<S, K>, BuildError>
-        ensures { MatchResult result (λ t. (built_fault S.tests K.refusal (given self.entry) ≡ None) × (t.text ≡ built_text S.tests (given self.entry))) (λ e. RefusedFor e (built_fault S.tests K.refusal (given self.entry))) }
+        ensures { MatchResult result (λ t. (built_fault S.tests K.refusal (given self.entry) ≡ None)
+            × (t.text ≡ built_text S.tests (given self.entry)))
+            (λ e. RefusedFor e (built_fault S.tests K.refusal (given self.entry))) }
     {
         match self.judge_whole::<S, K>() {
             Ok(()) => self.text_of::<S, K>(alloc).map_err(BuildError::Memory),
@@ -176,28 +180,36 @@ impl<'a> Builder<'a> {
 
     /// The reference that the parts make.
     pub fn build_reference<S: Spec>(self, alloc: Global) -> Result<RiReferenceString<S>, BuildError>
-        ensures { MatchResult result (λ t. (built_fault S.tests reference_refusal (given self.entry) ≡ None) × (t.text ≡ built_text S.tests (given self.entry))) (λ e. RefusedFor e (built_fault S.tests reference_refusal (given self.entry))) }
+        ensures { MatchResult result (λ t. (built_fault S.tests reference_refusal (given self.entry) ≡ None)
+            × (t.text ≡ built_text S.tests (given self.entry)))
+            (λ e. RefusedFor e (built_fault S.tests reference_refusal (given self.entry))) }
     {
         self.build::<S, Reference>(alloc)
     }
 
     /// The URI that the parts make: a scheme must be set.
     pub fn build_iri<S: Spec>(self, alloc: Global) -> Result<RiString<S>, BuildError>
-        ensures { MatchResult result (λ t. (built_fault S.tests iri_refusal (given self.entry) ≡ None) × (t.text ≡ built_text S.tests (given self.entry))) (λ e. RefusedFor e (built_fault S.tests iri_refusal (given self.entry))) }
+        ensures { MatchResult result (λ t. (built_fault S.tests iri_refusal (given self.entry) ≡ None)
+            × (t.text ≡ built_text S.tests (given self.entry)))
+            (λ e. RefusedFor e (built_fault S.tests iri_refusal (given self.entry))) }
     {
         self.build::<S, Iri>(alloc)
     }
 
     /// The absolute URI that the parts make: a scheme must be set, and no fragment.
     pub fn build_absolute<S: Spec>(self, alloc: Global) -> Result<RiAbsoluteString<S>, BuildError>
-        ensures { MatchResult result (λ t. (built_fault S.tests absolute_refusal (given self.entry) ≡ None) × (t.text ≡ built_text S.tests (given self.entry))) (λ e. RefusedFor e (built_fault S.tests absolute_refusal (given self.entry))) }
+        ensures { MatchResult result (λ t. (built_fault S.tests absolute_refusal (given self.entry) ≡ None)
+            × (t.text ≡ built_text S.tests (given self.entry)))
+            (λ e. RefusedFor e (built_fault S.tests absolute_refusal (given self.entry))) }
     {
         self.build::<S, Absolute>(alloc)
     }
 
     /// The relative reference that the parts make: no scheme may be set.
     pub fn build_relative<S: Spec>(self, alloc: Global) -> Result<RiRelativeString<S>, BuildError>
-        ensures { MatchResult result (λ t. (built_fault S.tests relative_refusal (given self.entry) ≡ None) × (t.text ≡ built_text S.tests (given self.entry))) (λ e. RefusedFor e (built_fault S.tests relative_refusal (given self.entry))) }
+        ensures { MatchResult result (λ t. (built_fault S.tests relative_refusal (given self.entry) ≡ None)
+            × (t.text ≡ built_text S.tests (given self.entry)))
+            (λ e. RefusedFor e (built_fault S.tests relative_refusal (given self.entry))) }
     {
         self.build::<S, Relative>(alloc)
     }
@@ -234,7 +246,8 @@ impl<'a> Builder<'a> {
     // `//` and the authority, where it stands.
     #[tactic(auto, unfolding(iri_grammar::specs::Authority::recompose_authority))]
     fn push_authority(&self, text: &mut String) -> Result<(), AllocError>
-        ensures { OnOk result (string_bytes text.new ≡ string_bytes text.old ++ authority_text (given_authority (given self.now))) }
+        ensures { OnOk result (string_bytes text.new
+            ≡ string_bytes text.old ++ authority_text (given_authority (given self.now))) }
     {
         if !self.has_authority() {
             return Ok(());
@@ -290,7 +303,8 @@ impl<'a> Builder<'a> {
     }
 
     fn has_authority(&self) -> bool
-        ensures { result ≡ (is_some (given self.now).userinfo || (is_some (given self.now).host || is_some (given self.now).port)) }
+        ensures { result ≡ (is_some (given self.now).userinfo
+            || (is_some (given self.now).host || is_some (given self.now).port)) }
     {
         self.userinfo.is_some() || self.host.is_some() || self.port.is_some()
     }

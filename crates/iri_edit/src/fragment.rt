@@ -1,7 +1,7 @@
 //! Fragments of owned texts changed in place (RFC 3986 section 3.5).
 ghost use Rattle.std.specs.Prelude.{◌≡◌, IsSome, None, OnErr, OnOk, Some};
 ghost use Rattle.iri_edit.specs.Fragment.{with_fragment};
-ghost use Rattle.iri_edit.specs.Places.{IsFragmentAt};
+ghost use Rattle.iri_edit.specs.inside.Places.{IsFragmentAt};
 ghost use Rattle.iri_types.specs.Texts.{text, text_of};
 
 use crate::change::{cut_out, put_in_room, reference_of};

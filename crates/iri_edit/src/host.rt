@@ -62,7 +62,8 @@ fn replace_host<'a, S: Spec, K: WholeKind>(
     new_host: &str,
     names_only: bool,
 ) -> Result<Option<&'a str>, AllocError>
-    ensures* { sem 𝓛 (follows_so (the_row S.row K.row S.Spec K.Kind) (the_row S.row K.row S.Spec K.Kind) owned.entry.ghost_name none (λ _ _. ⊤)
+    ensures* { sem 𝓛 (follows_so (the_row S.row K.row S.Spec K.Kind)
+        (the_row S.row K.row S.Spec K.Kind) owned.entry.ghost_name none (λ _ _. ⊤)
         (λ after. HostChange S.tests names_only owned.old after new_host.now result)) }
 {
     match put_host(owned, new_host, names_only) {
@@ -74,14 +75,16 @@ fn replace_host<'a, S: Spec, K: WholeKind>(
 
 impl<S: Spec, K: WholeKind> ReplaceHost for Owned<S, K> {
     fn try_replace_host(&mut self, new_host: &str) -> Result<Option<&str>, AllocError>
-        ensures* { sem 𝓛 (follows_so (the_row S.row K.row S.Spec K.Kind) (the_row S.row K.row S.Spec K.Kind) self.entry.ghost_name none (λ _ _. ⊤)
+        ensures* { sem 𝓛 (follows_so (the_row S.row K.row S.Spec K.Kind)
+            (the_row S.row K.row S.Spec K.Kind) self.entry.ghost_name none (λ _ _. ⊤)
             (λ after. HostChange S.tests false self.old after new_host.now result)) }
     {
         replace_host(self, new_host, false)
     }
 
     fn try_replace_host_reg_name(&mut self, new_host: &str) -> Result<Option<&str>, AllocError>
-        ensures* { sem 𝓛 (follows_so (the_row S.row K.row S.Spec K.Kind) (the_row S.row K.row S.Spec K.Kind) self.entry.ghost_name none (λ _ _. ⊤)
+        ensures* { sem 𝓛 (follows_so (the_row S.row K.row S.Spec K.Kind)
+            (the_row S.row K.row S.Spec K.Kind) self.entry.ghost_name none (λ _ _. ⊤)
             (λ after. HostChange S.tests true self.old after new_host.now result)) }
     {
         replace_host(self, new_host, true)

@@ -9,12 +9,12 @@
 //! Proved: what is shown, and what an owned text becomes, is the text with that one part changed; a text without password, or
 //! without authority, stays. An edited text stays in the production of its kind. A host is replaced exactly where an authority
 //! stands, the new host is one of the grammar, and, for registered names, the old host is a name; otherwise nothing changes.
-//! After want of memory the text and its capacity are as they were. Passwords and fragments are taken out without memory. A
+//! After allocation failure the text and its capacity are as they were. Passwords and fragments are taken out without memory. A
 //! builder refuses exactly parts that make no text of the kind, with the first fault in the order of `build`, and otherwise
 //! gives their recomposition, or that of their normal form where it is asked for and a scheme is set.
 //!
 //! Not proved: that a text with a replaced password is valid, which nobody promises; that the closure isn't called where no
-//! password stands, which a test shows; that memory is had, which tests show.
+//! password stands, which a test shows; that memory is allocated, which tests show.
 #![tactic(auto)]
 
 pub mod build_kind;

@@ -74,7 +74,8 @@ fn show_replaced<S: Spec, D: Show, W: TextSink>(
     alt: &D,
     sink: &mut W,
 ) -> Result<(), Stop>
-    ensures { Shows W.puts W.halts W.stops sink.old (with_password (text reference.entry) (D.text alt.now)) sink.new result }
+    ensures { Shows W.puts W.halts W.stops sink.old
+        (with_password (text reference.entry) (D.text alt.now)) sink.new result }
 {
     let text = reference.as_str();
     let Some((colon, end)) = password_at(reference) else {
@@ -106,7 +107,8 @@ impl<'a, S: Spec, K: WholeKind> PasswordMasked<'a, View<'a, S, K>> {
     ) -> PasswordReplaced<'a, View<'a, S, K>, D>
         requires { F.IsAlwaysCallable replace }
         ensures view { replaced_view result ≡ masked_view self.now }
-        ensures alt { GivenFor (λ p d. FnOnceReturnsAt F.FnOnce replace p d) (password_of (text (masked_view self.now))) (alternative result) }
+        ensures alt { GivenFor (λ p d. FnOnceReturnsAt F.FnOnce replace p d) (password_of (text (masked_view self.now)))
+            (alternative result) }
     {
         let text = self.view.as_str();
         let alt = match password_at(self.view.as_reference()) {

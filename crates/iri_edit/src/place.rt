@@ -2,11 +2,11 @@
 ghost use Rattle.std.specs.Prelude.{◌≡◌, ◌+◌, drop, length, take, MatchOption, None, Some, true};
 ghost use Rattle.std.specs.Str.{IsCharBoundary};
 ghost use Rattle.iri_edit.specs.Password.{password_of};
-ghost use Rattle.iri_edit.specs.Places.{IsAuthorityAt, IsHostAt, IsPasswordAt};
+ghost use Rattle.iri_edit.specs.inside.Places.{IsAuthorityAt, IsHostAt, IsPasswordAt};
 ghost use Rattle.iri_grammar.specs.Authority.{authority_parts, is_authority, userinfo_text};
 ghost use Rattle.iri_grammar.specs.Parts.{scheme_text};
 ghost use Rattle.iri_grammar.specs.Split.{split_of};
-ghost use Rattle.iri_grammar.specs.Views.{now_of};
+ghost use Rattle.iri_grammar.specs.OptionalSlices.{now_of};
 ghost use Rattle.iri_types.specs.Texts.{text};
 
 use iri_grammar::authority::AuthoritySpan;
@@ -27,7 +27,8 @@ fn bytes_before(scheme: Option<&str>) -> usize
 
 // The authority, and where it begins.
 fn authority_at<'a, S: Spec>(reference: RiReferenceStr<'a, S>) -> Option<(usize, &'a str)>
-    ensures { MatchOption result ((split_of (text reference.entry)).authority ≡ None) (λ r. IsAuthorityAt (text reference.entry) r.1.now r.0 × (is_authority S.tests r.1.now ≡ true)) }
+    ensures { MatchOption result ((split_of (text reference.entry)).authority ≡ None)
+        (λ r. IsAuthorityAt (text reference.entry) r.1.now r.0 × (is_authority S.tests r.1.now ≡ true)) }
 {
     let parts = Splitter::of::<S>(reference.as_str());
     match parts.authority() {
@@ -38,7 +39,8 @@ fn authority_at<'a, S: Spec>(reference: RiReferenceStr<'a, S>) -> Option<(usize,
 
 // Where the colon before the password stands, and where the password ends.
 pub(crate) fn password_at<S: Spec>(reference: RiReferenceStr<'_, S>) -> Option<(usize, usize)>
-    ensures { MatchOption result (password_of (text reference.entry) ≡ None) (λ r. IsPasswordAt (text reference.entry) r.0 r.1) }
+    ensures { MatchOption result (password_of (text reference.entry) ≡ None)
+        (λ r. IsPasswordAt (text reference.entry) r.0 r.1) }
 {
     let Some((start, authority)) = authority_at(reference) else {
         return None;
@@ -66,7 +68,8 @@ fn userinfo_bytes(userinfo: Option<&str>) -> usize
 
 // The host, and where it begins.
 pub(crate) fn host_at<'a, S: Spec>(reference: RiReferenceStr<'a, S>) -> Option<(usize, &'a str)>
-    ensures { MatchOption result ((split_of (text reference.entry)).authority ≡ None) (λ r. IsHostAt S.tests (text reference.entry) r.1.now r.0) }
+    ensures { MatchOption result ((split_of (text reference.entry)).authority ≡ None)
+        (λ r. IsHostAt S.tests (text reference.entry) r.1.now r.0) }
 {
     let Some((start, authority)) = authority_at(reference) else {
         return None;

@@ -1,12 +1,12 @@
 // Parts written one behind the other (RFC 3986 section 5.3), and the normal form of a text.
 ghost use Rattle.std.specs.Prelude.{◌≡◌, ◌++◌, [], ◌∷◌, ◌||◌, IfOk, None, OnOk, string_bytes};
 ghost use Rattle.iri_edit.specs.Built.{or_empty};
-ghost use Rattle.iri_edit.specs.Rules.{ended, rules_by};
+ghost use Rattle.iri_edit.specs.inside.Rules.{ended, rules_by};
 ghost use Rattle.iri_grammar.specs.Authority.{recompose_authority};
 ghost use Rattle.iri_grammar.specs.Cut.{marked};
 ghost use Rattle.iri_grammar.specs.Parts.{recompose, starts_with_slash, starts_with_slashes, is_empty};
 ghost use Rattle.iri_grammar.specs.Split.{split_of};
-ghost use Rattle.iri_grammar.specs.Views.{now_of};
+ghost use Rattle.iri_grammar.specs.OptionalSlices.{now_of};
 ghost use Rattle.iri_grammar.specs.WholeFault.{iri_fault};
 ghost use Rattle.iri_resolve.specs.NormalForm.{normal_form};
 
@@ -18,7 +18,7 @@ use iri_types::split::SplitView;
 use iri_types::view::RiStr;
 use std::alloc::{AllocError, Global};
 
-// A part and the mark behind it, where the part stands.
+// A part and the delimiter behind it, where the part stands.
 pub(crate) fn push_ended(
     text: &mut String,
     part: Option<&str>,
@@ -35,7 +35,7 @@ pub(crate) fn push_ended(
     text.push_str(mark)
 }
 
-// A mark and the part behind it, where the part stands.
+// A delimiter and the part behind it, where the part stands.
 pub(crate) fn push_marked(
     text: &mut String,
     mark: &str,

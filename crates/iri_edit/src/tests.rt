@@ -187,7 +187,7 @@ fn fragments_set(rt: HostRuntime) -> Result<(), Fail> {
     Ok(())
 }
 
-// Where memory is refused the text is as it was.
+// Where allocation fails the text is as it was.
 #[test]
 fn kept_where_memory_is_refused(rt: HostRuntime) -> Result<(), Fail> {
     let mut uri = UriString::try_from_str(rt.alloc(), "http://a/#f")?;

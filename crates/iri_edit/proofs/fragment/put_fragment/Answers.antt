@@ -3,13 +3,13 @@ use Rattle.std.specs.Str.{IsCharBoundary}
 use Rattle.std.proofs.lemmas.Str.{IsCharBoundary-end}
 use Rattle.iri_grammar.specs.Components.{is_fragment}
 use Rattle.iri_grammar.specs.Cut.{before}
-use Rattle.iri_grammar.specs.FaultLaws.{passed}
+use Rattle.iri_grammar.proofs.FaultLaws.{passed}
 use Rattle.iri_grammar.specs.WholeFault.{reference_fault}
 use Rattle.iri_grammar.specs.declared.error.ErrorKind.TheVariants.{InvalidFragment}
 use Rattle.iri_owned.specs.Spliced.{spliced}
 use Rattle.iri_types.specs.Texts.{text}
 use Rattle.iri_edit.specs.Fragment.{with_fragment}
-use Rattle.iri_edit.specs.Places.{IsFragmentAt}
+use Rattle.iri_edit.specs.inside.Places.{IsFragmentAt}
 use Rattle.iri_edit.proofs.FragmentLemmas.{fragment-put, put-behind, empty_fragment}
 use Rattle.iri_edit.proofs.KindLemmas.{IsWhole, fragment-valid}
 use Rattle.iri_edit.proofs.fragment.put_fragment.Given as given
@@ -17,22 +17,33 @@ use Rattle.iri_edit.proofs.fragment.put_fragment.Goals as goal
 use Rattle.iri_edit.proofs.fragment.put_fragment.Goals.{After-try_reserve}
 
 -- where the fragment stands, and the text's kind
-at : (g : given.Over) (c : After-try_reserve g) → IsFragmentAt c.try_reserve.new.self.text c.fragment_at-start.result.0 c.fragment_at-start.result.1
-at g c = subst (λ z. IsFragmentAt z c.fragment_at-start.result.0 c.fragment_at-start.result.1) (c.reference_of.ensures.text ∙ sym c.try_reserve.ensures.text) c.fragment_at-start.ensures
+at : (g : given.Over) (c : After-try_reserve g)
+    → IsFragmentAt c.try_reserve.new.self.text c.fragment_at-start.result.0 c.fragment_at-start.result.1
+at g c = subst (λ z. IsFragmentAt z c.fragment_at-start.result.0 c.fragment_at-start.result.1)
+    (c.reference_of.ensures.text ∙ sym c.try_reserve.ensures.text) c.fragment_at-start.ensures
 
 valid : (g : given.Over) (c : After-try_reserve g) → g.K.Kind.fault g.S.Spec.tests c.try_reserve.new.self.text ≡ None
 valid g c = subst (λ z. g.K.Kind.fault g.S.Spec.tests z ≡ None) (sym c.try_reserve.ensures.text) c.reference_of.ensures.valid
 
 kind : (g : given.Over) → IsWhole g.S.Spec.tests g.K.Kind.fault g.K.WholeKind.allows
-kind g = record { whole = g.met.K.WholeKind.whole g.S.Spec.tests g.met.S.Spec.lawful; made = g.met.K.WholeKind.made g.S.Spec.tests g.met.S.Spec.lawful; allowed = g.met.K.WholeKind.allowed g.S.Spec.tests g.met.S.Spec.lawful }
+kind g = record {
+  whole = g.met.K.WholeKind.whole g.S.Spec.tests g.met.S.Spec.lawful;
+  made = g.met.K.WholeKind.made g.S.Spec.tests g.met.S.Spec.lawful;
+  allowed =
+      g.met.K.WholeKind.allowed g.S.Spec.tests g.met.S.Spec.lawful;
+}
 
-with-valid : (g : given.Over) (c : After-try_reserve g) (f : List ℕ) → is_fragment g.S.Spec.tests f ≡ true → g.K.Kind.fault g.S.Spec.tests (with_fragment c.try_reserve.new.self.text (Some f)) ≡ None
-with-valid g c f v = fragment-valid g.S.Spec.tests g.K.Kind.fault g.K.WholeKind.allows g.met.S.Spec.lawful (kind g) g.met.K.FragmentKind.free_fragment (Some f) v c.try_reserve.new.self.text (valid g c)
+with-valid : (g : given.Over) (c : After-try_reserve g) (f : List ℕ) → is_fragment g.S.Spec.tests f ≡ true
+    → g.K.Kind.fault g.S.Spec.tests (with_fragment c.try_reserve.new.self.text (Some f)) ≡ None
+with-valid g c f v = fragment-valid g.S.Spec.tests g.K.Kind.fault g.K.WholeKind.allows g.met.S.Spec.lawful
+    (kind g) g.met.K.FragmentKind.free_fragment (Some f) v c.try_reserve.new.self.text (valid g c)
 
 whole : (g : given.Over) (c : After-try_reserve g) → reference_fault g.S.Spec.tests c.try_reserve.new.self.text ≡ None
 whole g c = (kind g).whole c.try_reserve.new.self.text (valid g c)
 
-signed : (g : given.Over) (c : After-try_reserve g) → spliced c.try_reserve.new.self.text c.fragment_at-start.result.0 c.fragment_at-start.result.1 (35 ∷ []) ≡ before 35 c.try_reserve.new.self.text ++ 35 ∷ []
+signed : (g : given.Over) (c : After-try_reserve g)
+    → spliced c.try_reserve.new.self.text c.fragment_at-start.result.0 c.fragment_at-start.result.1 (35 ∷ [])
+    ≡ before 35 c.try_reserve.new.self.text ++ 35 ∷ []
 signed g c = (at g c).replaces (35 ∷ [])
 
 pub put_in_room-requires-clause-ordered : goal.put_in_room-requires-clause-ordered
@@ -51,21 +62,27 @@ put_in_room-requires-clause-valid g c =
     subst (λ z. g.K.Kind.fault g.S.Spec.tests z ≡ None) (sym e) (with-valid g r [] (empty_fragment g.S.Spec.tests))
 
 pub put_in_room-requires-2-clause-low : goal.put_in_room-requires-2-clause-low
-put_in_room-requires-2-clause-low g c = subst (λ z. IsCharBoundary c.put_in_room.new.owned.text (length z)) (sym c.as_str-end.ensures.text) (IsCharBoundary-end c.put_in_room.new.owned.text)
+put_in_room-requires-2-clause-low g c = subst (λ z. IsCharBoundary c.put_in_room.new.owned.text (length z)) (sym c.as_str-end.ensures.text)
+    (IsCharBoundary-end c.put_in_room.new.owned.text)
 
 pub put_in_room-requires-2-clause-high : goal.put_in_room-requires-2-clause-high
-put_in_room-requires-2-clause-high g c = subst (λ z. IsCharBoundary c.put_in_room.new.owned.text (length z)) (sym c.as_str-end.ensures.text) (IsCharBoundary-end c.put_in_room.new.owned.text)
+put_in_room-requires-2-clause-high g c = subst (λ z. IsCharBoundary c.put_in_room.new.owned.text (length z)) (sym c.as_str-end.ensures.text)
+    (IsCharBoundary-end c.put_in_room.new.owned.text)
 
 pub put_in_room-requires-2-clause-valid : goal.put_in_room-requires-2-clause-valid
 put_in_room-requires-2-clause-valid g c =
     let r = (goal.at.put_in_room-requires-2-clause-valid g c).After-try_reserve in
     let f = c.as_str.result.now in
-    let e = put-behind g.S.Spec.tests g.met.S.Spec.lawful r.try_reserve.new.self.text (whole g r) c.put_in_room.new.owned.text f (length c.as_str-end.result.now) (c.put_in_room.ensures.text ∙ signed g r) (ap length c.as_str-end.ensures.text) in
-    subst (λ z. g.K.Kind.fault g.S.Spec.tests z ≡ None) (sym e) (with-valid g r f (passed (is_fragment g.S.Spec.tests f) InvalidFragment c.as_str.ensures.valid))
+    let e = put-behind g.S.Spec.tests g.met.S.Spec.lawful r.try_reserve.new.self.text (whole g r) c.put_in_room.new.owned.text f
+    (length c.as_str-end.result.now) (c.put_in_room.ensures.text ∙ signed g r) (ap length c.as_str-end.ensures.text) in
+    subst (λ z. g.K.Kind.fault g.S.Spec.tests z ≡ None) (sym e)
+    (with-valid g r f (passed (is_fragment g.S.Spec.tests f) InvalidFragment c.as_str.ensures.valid))
 
 pub returns-clause-ok : goal.returns-clause-ok
 returns-clause-ok g c =
     let r = (goal.at.returns-clause-ok g c).After-try_reserve in
     let f = c.as_str.result.now in
-    let e = put-behind g.S.Spec.tests g.met.S.Spec.lawful r.try_reserve.new.self.text (whole g r) c.put_in_room.new.owned.text f (length c.as_str-end.result.now) (c.put_in_room.ensures.text ∙ signed g r) (ap length c.as_str-end.ensures.text) in
-    c.put_in_room-2.ensures.text ∙ (e ∙ (ap (λ z. with_fragment z (Some f)) c.try_reserve.ensures.text ∙ ap (λ z. with_fragment c.args.owned.now.text (Some z)) c.as_str.ensures.text))
+    let e = put-behind g.S.Spec.tests g.met.S.Spec.lawful r.try_reserve.new.self.text (whole g r) c.put_in_room.new.owned.text f
+    (length c.as_str-end.result.now) (c.put_in_room.ensures.text ∙ signed g r) (ap length c.as_str-end.ensures.text) in
+    c.put_in_room-2.ensures.text ∙ (e ∙ (ap (λ z. with_fragment z (Some f)) c.try_reserve.ensures.text
+    ∙ ap (λ z. with_fragment c.args.owned.now.text (Some z)) c.as_str.ensures.text))

@@ -1,6 +1,5 @@
 use Rattle.std.proofs.Common.{◌+◌, length, subst, sym}
 use Rattle.std.specs.Str.{IsCharBoundary}
-use Rattle.iri_edit.specs.Host.{HostReplaced}
 use Rattle.iri_edit.proofs.host.replace_host.Given as given
 use Rattle.iri_edit.proofs.host.replace_host.Goals as goal
 

@@ -9,7 +9,8 @@ use Rattle.iri_edit.proofs.password.show_replaced.Goals as goal
 pub returns-in_default : goal.returns-in_default
 returns-in_default g c =
     let t = text c.args.reference in
-    let e : c.as_str-text.result.now ≡ with_password t (g.D.Show.text c.args.alt.now) = c.as_str-text.ensures.text ∙ sym (with_password-same t (g.D.Show.text c.args.alt.now) c.in_default.ensures) in
+    let e : c.as_str-text.result.now ≡ with_password t (g.D.Show.text c.args.alt.now) =
+    c.as_str-text.ensures.text ∙ sym (with_password-same t (g.D.Show.text c.args.alt.now) c.in_default.ensures) in
     subst (λ z. Shows g.W.TextSink.puts g.W.TextSink.halts g.W.TextSink.stops c.args.sink.now z c.put.new.self c.put.result) e c.put.ensures
 
 pub returns : goal.returns
@@ -18,7 +19,9 @@ returns g c =
     let same = c.as_str-text.ensures.text in
     let front : c.around.result.0.now ≡ take (c.in-Some.colon + 1) t = c.around.ensures.front ∙ ap (take (c.in-Some.colon + 1)) same in
     let back : c.around.result.1.now ≡ drop c.in-Some.end t = c.around.ensures.back ∙ ap (drop c.in-Some.end) same in
-    let e : c.around.result.0.now ++ ((g.D.Show.text c.args.alt.now) ++ c.around.result.1.now) ≡ with_password t (g.D.Show.text c.args.alt.now) =
+    let e : c.around.result.0.now ++ ((g.D.Show.text c.args.alt.now) ++ c.around.result.1.now)
+    ≡ with_password t (g.D.Show.text c.args.alt.now) =
     ap (λ z. z ++ ((g.D.Show.text c.args.alt.now) ++ c.around.result.1.now)) front
-    ∙ (ap (λ z. take (c.in-Some.colon + 1) t ++ ((g.D.Show.text c.args.alt.now) ++ z)) back ∙ password-spliced t c.in-Some.colon c.in-Some.end c.in-Some.ensures (g.D.Show.text c.args.alt.now)) in
+    ∙ (ap (λ z. take (c.in-Some.colon + 1) t ++ ((g.D.Show.text c.args.alt.now) ++ z)) back
+    ∙ password-spliced t c.in-Some.colon c.in-Some.end c.in-Some.ensures (g.D.Show.text c.args.alt.now)) in
     subst (λ z. Shows g.W.TextSink.puts g.W.TextSink.halts g.W.TextSink.stops c.args.sink.now z c.show_three.new.sink c.show_three.result) e c.show_three.ensures

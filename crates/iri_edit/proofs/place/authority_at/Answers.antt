@@ -1,6 +1,5 @@
 use Rattle.std.proofs.Common.{◌≡◌, ◌+◌, ◌∙◌, ap, length, subst, sym, true, Some}
-use Rattle.std.specs.Str.{IsUtf8}
-use Rattle.iri_edit.specs.Places.{IsAuthorityAt}
+use Rattle.iri_edit.specs.inside.Places.{IsAuthorityAt}
 use Rattle.iri_edit.proofs.PlaceLemmas.{authority-place}
 use Rattle.iri_grammar.specs.Authority.{is_authority}
 use Rattle.iri_grammar.specs.Components.{if_there}
@@ -15,6 +14,10 @@ returns-in-Some g c =
     let same = c.as_str.ensures.text in
     let value = c.of-parts.ensures.value in
     let stands : (split_of t).authority ≡ Some c.in-Some.authority.now = sym (c.in-Some.ensures ∙ ap (λ p. p.authority) value) in
-    let start : length (scheme_text (split_of t).scheme) + 2 ≡ c.bytes_before.result = sym (c.bytes_before.ensures ∙ ap (λ o. length (scheme_text o) + 2) (c.scheme.ensures ∙ ap (λ p. p.scheme) value)) in
-    let at = subst (IsAuthorityAt t c.in-Some.authority.now) start (authority-place t c.in-Some.authority.now c.as_str.utf8 c.as_str.type_inv.0 stands) in
-    (subst (λ z. IsAuthorityAt z c.in-Some.authority.now c.bytes_before.result) same at, subst (λ o. if_there (is_authority g.S.Spec.tests) o ≡ true) (sym c.in-Some.ensures) c.of-parts.ensures.split.fits.authority)
+    let start : length (scheme_text (split_of t).scheme) + 2 ≡ c.bytes_before.result =
+    sym (c.bytes_before.ensures ∙ ap (λ o. length (scheme_text o) + 2) (c.scheme.ensures ∙ ap (λ p. p.scheme) value)) in
+    let at = subst (IsAuthorityAt t c.in-Some.authority.now) start
+    (authority-place t c.in-Some.authority.now c.as_str.utf8 c.as_str.type_inv.0 stands) in (
+      subst (λ z. IsAuthorityAt z c.in-Some.authority.now c.bytes_before.result) same at,
+      subst (λ o. if_there (is_authority g.S.Spec.tests) o ≡ true) (sym c.in-Some.ensures) c.of-parts.ensures.split.fits.authority,
+    )

@@ -1,8 +1,8 @@
-use Rattle.std.proofs.Common.{◌≡◌, ◌+◌, ◌∙◌, ap, length, subst, sym, true}
-use Rattle.iri_edit.specs.Places.{IsHostAt}
+use Rattle.std.proofs.Common.{◌≡◌, ◌+◌, ◌∙◌, ap, length, subst, sym}
+use Rattle.iri_edit.specs.inside.Places.{IsHostAt}
 use Rattle.iri_edit.proofs.PlaceLemmas.{host-place}
 use Rattle.iri_grammar.specs.Authority.{authority_parts, userinfo_text}
-use Rattle.iri_grammar.specs.AuthorityLaws.{reads}
+use Rattle.iri_grammar.proofs.AuthorityLaws.{reads}
 use Rattle.iri_types.specs.Texts.{text}
 use Rattle.iri_edit.proofs.place.host_at.Goals as goal
 
@@ -12,7 +12,9 @@ returns g c =
     let t = text c.args.reference in
     let a = c.in-Some.authority.now in
     let host : (authority_parts a).host ≡ c.host.result.now = sym (c.host.ensures ∙ ap (λ p. p.host) c.of-span.ensures) in
-    let bytes : length (userinfo_text (authority_parts a).userinfo) ≡ c.userinfo_bytes.result = sym (c.userinfo_bytes.ensures ∙ ap (λ o. length (userinfo_text o)) (c.userinfo.ensures ∙ ap (λ p. p.userinfo) c.of-span.ensures)) in
+    let bytes : length (userinfo_text (authority_parts a).userinfo) ≡ c.userinfo_bytes.result =
+    sym (c.userinfo_bytes.ensures ∙ ap (λ o. length (userinfo_text o)) (c.userinfo.ensures ∙ ap (λ p. p.userinfo) c.of-span.ensures)) in
     let valid = (reads s a c.in-Some.ensures.1).0.host in
     let at = host-place s t a c.in-Some.start c.in-Some.ensures.0 valid in
-    subst (λ h. IsHostAt s t h (c.in-Some.start + c.userinfo_bytes.result)) host (subst (λ n. IsHostAt s t (authority_parts a).host (c.in-Some.start + n)) bytes at)
+    subst (λ h. IsHostAt s t h (c.in-Some.start + c.userinfo_bytes.result)) host
+    (subst (λ n. IsHostAt s t (authority_parts a).host (c.in-Some.start + n)) bytes at)

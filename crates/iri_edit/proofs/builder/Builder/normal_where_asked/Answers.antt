@@ -14,5 +14,6 @@ pub returns-then-is_normal : goal.returns-then-is_normal
 returns-then-is_normal g c =
     let b = given c.args.self.now in
     let asked : (b.normal && is_some b.scheme) ≡ true = sym c.is_normal.ensures ∙ c.if-is_normal.true in
-    let e = normal-built g.S.Spec.tests g.met.S.Spec.lawful b c.deref.result.now c.requires.fits (c.deref.ensures ∙ c.requires.text) asked in
+    let e = normal-built g.S.Spec.tests g.met.S.Spec.lawful b c.deref.result.now c.requires.fits
+    (c.deref.ensures ∙ c.requires.text) asked in
     subst (λ z. IfOk c.normal_text.result (λ t. string_bytes t ≡ z)) e c.normal_text.ensures

@@ -3,9 +3,9 @@ use Rattle.std.proofs.Common.{◌≡◌, ℕ, Bool, true, false, List, None, ref
 use Rattle.iri_grammar.specs.Classes.{Tests, IsSpec, uri_tests}
 use Rattle.iri_grammar.specs.Components.{is_userinfo}
 use Rattle.iri_grammar.specs.Fault.{userinfo_fault, host_fault}
-use Rattle.iri_grammar.specs.FaultLaws.{no_fault, passed}
+use Rattle.iri_grammar.proofs.FaultLaws.{no_fault, passed}
 use Rattle.iri_grammar.specs.Host.{is_host}
-use Rattle.iri_grammar.specs.UriLaws.{host-wider, userinfo-wider}
+use Rattle.iri_grammar.proofs.UriLaws.{host-wider, userinfo-wider}
 use Rattle.iri_grammar.specs.declared.error.ErrorKind.TheVariants.{InvalidHost, InvalidUserInfo}
 use Rattle.iri_types.specs.Allowed.{allows_reference, allows_iri, allows_absolute, allows_relative}
 use Rattle.iri_edit.specs.Built.{reference_refusal, iri_refusal, absolute_refusal, relative_refusal}
@@ -27,7 +27,8 @@ relative-allows true fragment h = cc
 relative-allows false fragment h = refl
 
 pub userinfo-within : (s : Tests) → IsSpec s → (t : List ℕ) → userinfo_fault uri_tests t ≡ None → userinfo_fault s t ≡ None
-userinfo-within s k t h = no_fault (is_userinfo s t) InvalidUserInfo (userinfo-wider s t (passed (is_userinfo uri_tests t) InvalidUserInfo h))
+userinfo-within s k t h = no_fault (is_userinfo s t) InvalidUserInfo
+    (userinfo-wider s t (passed (is_userinfo uri_tests t) InvalidUserInfo h))
 
 pub host-within : (s : Tests) → IsSpec s → (t : List ℕ) → host_fault uri_tests t ≡ None → host_fault s t ≡ None
 host-within s k t h = no_fault (is_host s t) InvalidHost (host-wider s t (passed (is_host uri_tests t) InvalidHost h))
