@@ -1,20 +1,23 @@
 -- What stands between braces.
-use Rattle.std.proofs.Common.{◌≡◌, ℕ, ◌+◌, true, false, cond, not, ◌&&◌, List, [], ◌∷◌, ◌++◌, length, drop, Some, None, refl, sym, ◌∙◌, ap, arith, length-append}
+use Rattle.std.proofs.Common.{◌≡◌, ℕ, ◌+◌, true, false, cond, not, ◌&&◌, List, [], ◌∷◌, ◌++◌, length, drop, Some, None, refl, sym, ◌∙◌, ap}
+use Rattle.std.proofs.Common.{arith, length-append}
 use Rattle.iri_grammar.specs.Cut.{before, behind, lacks, marked, tail}
-use Rattle.iri_grammar.specs.CutLaws.{joined, by_test}
+use Rattle.iri_grammar.proofs.CutLaws.{joined, by_test}
 use Rattle.iri_template.specs.Reading.{first_of, body_of}
 use Rattle.iri_template.specs.Fault.{fault, moved, operator_fault}
-use Rattle.iri_template.specs.Parts.{front_fault}
+use Rattle.iri_template.specs.inside.Parts.{front_fault}
 use Rattle.iri_template.specs.declared.error.ErrorKind.TheVariants.{ExpressionNotClosed}
 use Rattle.iri_template.proofs.FaultLemmas.{moved_moved}
 
 pub has_mark : (c : ℕ) (t r : List ℕ) → behind c t ≡ Some r → lacks c t ≡ false
 has_mark c [] r h = cc
-has_mark c (x ∷ xs) r h = by_test x c (λ b. cond b (Some xs) (behind c xs) ≡ Some r → (not b && lacks c xs) ≡ false) (λ _ _. refl) (λ _ k. has_mark c xs r k) h
+has_mark c (x ∷ xs) r h = by_test x c (λ b. cond b (Some xs) (behind c xs) ≡ Some r → (not b && lacks c xs) ≡ false) (λ _ _. refl)
+    (λ _ k. has_mark c xs r k) h
 
 pub no_mark : (c : ℕ) (t : List ℕ) → behind c t ≡ None → lacks c t ≡ true
 no_mark c [] h = refl
-no_mark c (x ∷ xs) h = by_test x c (λ b. cond b (Some xs) (behind c xs) ≡ None → (not b && lacks c xs) ≡ true) (λ _ k. cc) (λ _ k. no_mark c xs k) h
+no_mark c (x ∷ xs) h = by_test x c (λ b. cond b (Some xs) (behind c xs) ≡ None → (not b && lacks c xs) ≡ true) (λ _ k. cc)
+    (λ _ k. no_mark c xs k) h
 
 pub tail_drop : (t : List ℕ) → tail t ≡ drop 1 t
 tail_drop [] = refl

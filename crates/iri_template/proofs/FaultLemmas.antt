@@ -22,9 +22,6 @@ first_first (Some e) g h = refl
 pub first_at : (f g : Option Error) → f ≡ None → first f g ≡ g
 first_at f g h = ap (λ x. first x g) h
 
-pub first_is : (f g : Option Error) (e : Error) → f ≡ Some e → first f g ≡ Some e
-first_is f g e h = ap (λ x. first x g) h
-
 pub neither : (f g : Option Error) → first f g ≡ None → (f ≡ None) × (g ≡ None)
 neither None g h = (refl, h)
 neither (Some e) g h = cc

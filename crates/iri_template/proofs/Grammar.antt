@@ -1,5 +1,6 @@
 -- A text has no fault exactly where pieces spell it, and then they are the pieces that are read.
-use Rattle.std.proofs.Common.{◌≡◌, ◌≢◌, ◌⊎◌, ℕ, zero, suc, ◌+◌, ◌-◌, ◌<◌, ◌≤◌, inl, inr, true, false, cond, Bool, not, ◌&&◌, ◌||◌, List, [], ◌∷◌, ◌++◌, length, map, drop, Option, Some, None, refl, sym, ◌∙◌, ap, subst, arith, append_assoc}
+use Rattle.std.proofs.Common.{◌≡◌, ◌≢◌, ◌⊎◌, ℕ, zero, suc, ◌+◌, ◌-◌, ◌<◌, ◌≤◌, inl, inr, true, false, cond, Bool, not, ◌&&◌, ◌||◌, List}
+use Rattle.std.proofs.Common.{[], ◌∷◌, ◌++◌, length, map, drop, Option, Some, None, refl, sym, ◌∙◌, ap, subst, arith, append_assoc}
 use Rattle.std.specs.Prelude.{◌==◌}
 use Rattle.std.specs.Char.{encode_utf8, is_ascii_hexdigit, IsScalar}
 use Rattle.std.specs.List.{list_all}
@@ -7,33 +8,41 @@ use Rattle.std.specs.Str.Lossy.{utf8_valid_len}
 use Rattle.std.specs.Str.{chars, IsUtf8, is_utf8}
 use Rattle.std.proofs.lemmas.Bool.{and_parts as both, cases_eq}
 use Rattle.std.proofs.lemmas.Bool.Decides.{nat_tests}
-use Rattle.std.proofs.lemmas.Str.{IsUtf8-nil, IsUtf8-append, IsUtf8-encode, chars_from_encodes, is_utf8-from_IsUtf8, IsUtf8-from_is_utf8, encode_ascii}
+use Rattle.std.proofs.lemmas.Str.{IsUtf8-nil, IsUtf8-append, IsUtf8-encode, chars_from_encodes, is_utf8-from_IsUtf8, IsUtf8-from_is_utf8}
+use Rattle.std.proofs.lemmas.Str.{encode_ascii}
 use lib.Utf8.{scalar, scalars, encodes}
 use Rattle.iri_grammar.specs.Classes.{any_char, is_ascii_any}
 use Rattle.iri_grammar.specs.declared.class.Class.TheVariants.{Any}
-use Rattle.iri_grammar.specs.ClassLaws.{ascii_test_below}
+use Rattle.iri_grammar.proofs.ClassLaws.{ascii_test_below}
 use Rattle.iri_grammar.specs.Cut.{before, behind, lacks, marked}
-use Rattle.iri_grammar.specs.CutLaws.{before-marked, behind-marked, all-lacks, by_test, joined, lacks-append}
-use Rattle.iri_grammar.specs.Ipv6Laws.{one_piece, joined_pieces}
+use Rattle.iri_grammar.proofs.CutLaws.{before-marked, behind-marked, all-lacks, by_test, joined, lacks-append}
+use Rattle.iri_grammar.proofs.Ipv6Laws.{one_piece, joined_pieces}
 use Rattle.iri_grammar.specs.Over.{over, over_from}
 use Rattle.iri_grammar.specs.Pieces.{pieces}
 use Rattle.iri_grammar.specs.Pieces as split
-use Rattle.iri_grammar.specs.PiecesLaws.{pieces_cut, more_pieces}
+use Rattle.iri_grammar.proofs.PiecesLaws.{pieces_cut}
 use Rattle.iri_grammar.proofs.Marks.{text_behind}
 use Rattle.iri_grammar.proofs.Units.{text_after_ascii}
 use Rattle.iri_template.specs.Names.{is_name_char, is_varname}
-use Rattle.iri_template.specs.Template.{Piece, literal, triplet, expression, VarSpec, literal_char, is_varspec, has_varspecs, is_piece, operator_text, varspec_text, modifier_text, body_text, piece_text, template_text, Spells, IsTemplate}
-use Rattle.iri_template.specs.Reading.{operator_at, operator_of, behind_operator, varspec_of, expression_of, body_of, first_of, pieces_of, pieces_from}
-use Rattle.iri_template.specs.Fault.{fault, moved, first, is_reserved_operator, operator_fault, body_fault, expression_fault, triplet_fault, literal_fault, piece_fault, fault_at, varspecs_fault, fault_from, text_fault, template_fault}
+use Rattle.iri_template.specs.Template.{Piece, literal, triplet, expression, VarSpec, literal_char, is_varspec, has_varspecs, is_piece}
+use Rattle.iri_template.specs.Template.{operator_text, varspec_text, modifier_text, body_text, piece_text, template_text, Spells}
+use Rattle.iri_template.specs.Template.{IsTemplate}
+use Rattle.iri_template.specs.Reading.{operator_at, operator_of, behind_operator, varspec_of, expression_of, body_of, first_of, pieces_of}
+use Rattle.iri_template.specs.Reading.{pieces_from}
+use Rattle.iri_template.specs.Fault.{fault, moved, first, is_reserved_operator, operator_fault, body_fault, expression_fault}
+use Rattle.iri_template.specs.Fault.{triplet_fault, literal_fault, piece_fault, fault_at, varspecs_fault, fault_from, text_fault}
+use Rattle.iri_template.specs.Fault.{template_fault}
 use Rattle.iri_template.specs.declared.error.Error.{Error}
 use Rattle.iri_template.specs.declared.error.ErrorKind.TheVariants.{ExpressionNotClosed, InvalidUtf8, UnsupportedOperator}
 use Rattle.iri_template.specs.declared.operator.Operator.{Operator}
-use Rattle.iri_template.specs.declared.operator.Operator.TheVariants.{Simple, Reserved, Fragment, Label, PathSegment, PathParameter, FormQuery, FormContinuation}
+use Rattle.iri_template.specs.declared.operator.Operator.TheVariants.{Simple, Reserved, Fragment, Label, PathSegment, PathParameter}
+use Rattle.iri_template.specs.declared.operator.Operator.TheVariants.{FormQuery, FormContinuation}
 use Rattle.iri_template.proofs.FaultLemmas.{neither, unmoved, still_none}
 use Rattle.iri_template.proofs.VarSpecLemmas.{inner, varspec_bytes, varspecs_fine, varspecs_are}
 use Rattle.iri_template.proofs.Steps.{Begins, Fine, begins_fault, begins_pieces, literal_begins, triplet_begins, expression_begins}
 use Rattle.iri_template.proofs.Walks.{nothing_left, fine_there, none_anywhere}
 use Rattle.iri_template.proofs.Bodies.{has_mark}
+use Rattle.iri_grammar.proofs.Ipv6Laws.{pieces_before}
 
 -- ---- operators
 Good : ℕ → Operator → Type 0
@@ -46,7 +55,9 @@ pick c d o rest e g = by_test c d (λ b. Good c (cond b o rest)) (λ s. inr (e �
 good : (c : ℕ) → Good c (operator_at c)
 unfolding Good
 good c =
-    pick c 43 Reserved _ refl (pick c 35 Fragment _ refl (pick c 46 Label _ refl (pick c 47 PathSegment _ refl (pick c 59 PathParameter _ refl (pick c 63 FormQuery _ refl (pick c 38 FormContinuation Simple refl (inl refl)))))))
+    pick c 43 Reserved _ refl (pick c 35 Fragment _ refl
+    (pick c 46 Label _ refl (pick c 47 PathSegment _ refl
+    (pick c 59 PathParameter _ refl (pick c 63 FormQuery _ refl (pick c 38 FormContinuation Simple refl (inl refl)))))))
 
 operator_joined : (t : List ℕ) → operator_text (operator_of t) ++ behind_operator t ≡ t
 unfolding Good
@@ -75,16 +86,15 @@ unfolding is_reserved_operator
 percent_plain = record { operator = refl; reserved = refl }
 
 -- ---- pieces between commas
-pieces_before : (c : ℕ) (p t : List ℕ) → lacks c p ≡ true → pieces c (p ++ c ∷ t) ≡ p ∷ pieces c t
-pieces_before c p t h = pieces_cut c (p ++ c ∷ t) ∙ (ap (λ x. x ∷ more_pieces c (behind c (p ++ c ∷ t))) (before-marked c p (Some t) h) ∙ ap (λ o. p ∷ more_pieces c o) (behind-marked c p (Some t) h))
-
 pieces_joined : (c : ℕ) (p : List ℕ) (ps : List (List ℕ)) → list_all (lacks c) (p ∷ ps) ≡ true → pieces c (split.joined c (p ∷ ps)) ≡ p ∷ ps
 pieces_joined c p [] h = one_piece c p (both (lacks c p) true h).0
 pieces_joined c p (q ∷ ps) h =
     let k = both (lacks c p) (list_all (lacks c) (q ∷ ps)) h in
     pieces_before c p (split.joined c (q ∷ ps)) k.0 ∙ ap (λ rs. p ∷ rs) (pieces_joined c q ps k.1)
 
-joined_bytes : (ps : List (List ℕ)) → list_all (list_all inner) ps ≡ true → (lacks 125 (split.joined 44 ps) ≡ true) × (list_all (λ c. inner c || c == 44) (split.joined 44 ps) ≡ true) × (list_all (lacks 44) ps ≡ true)
+joined_bytes : (ps : List (List ℕ)) → list_all (list_all inner) ps ≡ true
+    → (lacks 125 (split.joined 44 ps) ≡ true) × (list_all (λ c. inner c || c == 44) (split.joined 44 ps) ≡ true)
+    × (list_all (lacks 44) ps ≡ true)
 joined_bytes [] h = (refl, refl, refl)
 joined_bytes (p ∷ []) h =
     let k = (both (list_all inner p) true h).0 in
@@ -95,10 +105,14 @@ joined_bytes (p ∷ []) h =
     wider (y ∷ ys) j = let i = both (inner y) (list_all inner ys) j in rw i.0 (wider ys i.1)
 joined_bytes (p ∷ q ∷ ps) h =
     let k = both (list_all inner p) (list_all (list_all inner) (q ∷ ps)) h in
-    let more = joined_bytes (q ∷ ps) k.1 in
-    (lacks-append 125 p (44 ∷ split.joined 44 (q ∷ ps)) (all-lacks inner 125 p refl k.0) more.0, wider p _ k.0 more.1, rw (all-lacks inner 44 p refl k.0) more.2)
+    let more = joined_bytes (q ∷ ps) k.1 in (
+      lacks-append 125 p (44 ∷ split.joined 44 (q ∷ ps)) (all-lacks inner 125 p refl k.0) more.0,
+      wider p _ k.0 more.1,
+      rw (all-lacks inner 44 p refl k.0) more.2,
+    )
   where
-    wider : (x y : List ℕ) → list_all inner x ≡ true → list_all (λ c. inner c || c == 44) y ≡ true → list_all (λ c. inner c || c == 44) (x ++ 44 ∷ y) ≡ true
+    wider : (x y : List ℕ) → list_all inner x ≡ true → list_all (λ c. inner c || c == 44) y ≡ true
+        → list_all (λ c. inner c || c == 44) (x ++ 44 ∷ y) ≡ true
     wider [] y j i = i
     wider (z ∷ zs) y j i = let l = both (inner z) (list_all inner zs) j in rw l.0 (wider zs y l.1 i)
 
@@ -120,7 +134,8 @@ unfolding is_varname
 name_first [] m h = cc
 name_first (c ∷ cs) m h =
     let k = both (not (c == 46)) (over is_name_char (c ∷ cs)) h in
-    let dot : c ≢ 46 = λ e. let z : (c == 46) ≡ true = grind (arith, nat_tests) in let clash : not true ≡ true = ap not (sym z) ∙ k.0 in cc in
+    let dot : c ≢ 46 = λ e. let z : (c == 46) ≡ true = grind (arith, nat_tests) in
+    let clash : not true ≡ true = ap not (sym z) ∙ k.0 in cc in
     (char_first c cs dot k.1, omega arith)
 
 pub record IsBodyOf (o : Operator) (vs : List VarSpec) (b : List ℕ) : Type 0 where
@@ -138,27 +153,34 @@ ascii_text [] h = IsUtf8-nil
 ascii_text (c ∷ cs) h =
     let k = both (inner c || c == 44) (list_all (λ d. inner d || d == 44) cs) h in
     let low : c < 128 = grind (arith, nat_tests) in
-    subst IsUtf8 (ap (λ l. l ++ cs) (encode_ascii c low)) (IsUtf8-append (encode_utf8 c) cs (IsUtf8-encode c (low_scalar c low)) (ascii_text cs k.1))
+    subst IsUtf8 (ap (λ l. l ++ cs) (encode_ascii c low))
+    (IsUtf8-append (encode_utf8 c) cs (IsUtf8-encode c (low_scalar c low)) (ascii_text cs k.1))
 
 low_first : (c : ℕ) (t : List ℕ) → c < 128 → IsUtf8 t → IsUtf8 (c ∷ t)
-low_first c t low u = subst IsUtf8 (ap (λ l. l ++ t) (encode_ascii c low)) (IsUtf8-append (encode_utf8 c) t (IsUtf8-encode c (low_scalar c low)) u)
+low_first c t low u = subst IsUtf8 (ap (λ l. l ++ t) (encode_ascii c low))
+    (IsUtf8-append (encode_utf8 c) t (IsUtf8-encode c (low_scalar c low)) u)
 
 -- an operator that is written, and what follows it
-written_body : (o : Operator) (c : ℕ) (vs : List VarSpec) (j : List ℕ) → operator_text o ≡ c ∷ [] → operator_at c ≡ o → is_reserved_operator c ≡ false → c < 128 → (c == 125) ≡ false → map varspec_of (pieces 44 j) ≡ vs → varspecs_fault 1 (pieces 44 j) ≡ None → lacks 125 j ≡ true → IsUtf8 j → IsBodyOf o vs (c ∷ j)
+written_body : (o : Operator) (c : ℕ) (vs : List VarSpec) (j : List ℕ) → operator_text o ≡ c ∷ [] → operator_at c ≡ o
+    → is_reserved_operator c ≡ false → c < 128 → (c == 125) ≡ false → map varspec_of (pieces 44 j) ≡ vs
+    → varspecs_fault 1 (pieces 44 j) ≡ None → lacks 125 j ≡ true → IsUtf8 j → IsBodyOf o vs (c ∷ j)
 written_body o c vs j e a r low b m f l u =
     let text : operator_text (operator_at c) ≡ c ∷ [] = ap operator_text a ∙ e in
     let behind_is : behind_operator (c ∷ j) ≡ j = ap (λ k. drop (length k) (c ∷ j)) text in
     record {
       operator = a;
       rest = ap (λ k. map varspec_of (pieces 44 k)) behind_is ∙ m;
-      fault = ap (λ q. first (cond q (fault UnsupportedOperator 0) None) (varspecs_fault (length (operator_text (operator_at c))) (pieces 44 (behind_operator (c ∷ j))))) r
-          ∙ (ap (λ k. varspecs_fault (length k) (pieces 44 (behind_operator (c ∷ j)))) text ∙ (ap (λ k. varspecs_fault 1 (pieces 44 k)) behind_is ∙ f));
+      fault = ap (λ q. first (cond q (fault UnsupportedOperator 0) None)
+          (varspecs_fault (length (operator_text (operator_at c))) (pieces 44 (behind_operator (c ∷ j))))) r
+          ∙ (ap (λ k. varspecs_fault (length k) (pieces 44 (behind_operator (c ∷ j)))) text
+          ∙ (ap (λ k. varspecs_fault 1 (pieces 44 k)) behind_is ∙ f));
       closed = ap (λ q. not q && lacks 125 j) b ∙ l;
       ascii = low_first c j low u;
     }
 
 -- no operator is written
-simple_body : (vs : List VarSpec) (j : List ℕ) → IsPlain (first_of j) → 0 < length j → map varspec_of (pieces 44 j) ≡ vs → varspecs_fault 0 (pieces 44 j) ≡ None → lacks 125 j ≡ true → IsUtf8 j → IsBodyOf Simple vs j
+simple_body : (vs : List VarSpec) (j : List ℕ) → IsPlain (first_of j) → 0 < length j → map varspec_of (pieces 44 j) ≡ vs
+    → varspecs_fault 0 (pieces 44 j) ≡ None → lacks 125 j ≡ true → IsUtf8 j → IsBodyOf Simple vs j
 simple_body vs [] p n m f l u = absurd (omega arith)
 simple_body vs (c ∷ cs) p n m f l u =
     let text : operator_text (operator_at c) ≡ [] = ap operator_text p.operator in
@@ -166,18 +188,22 @@ simple_body vs (c ∷ cs) p n m f l u =
     record {
       operator = p.operator;
       rest = ap (λ k. map varspec_of (pieces 44 k)) behind_is ∙ m;
-      fault = ap (λ q. first (cond q (fault UnsupportedOperator 0) None) (varspecs_fault (length (operator_text (operator_at c))) (pieces 44 (behind_operator (c ∷ cs))))) p.reserved
-          ∙ (ap (λ k. varspecs_fault (length k) (pieces 44 (behind_operator (c ∷ cs)))) text ∙ (ap (λ k. varspecs_fault 0 (pieces 44 k)) behind_is ∙ f));
+      fault = ap (λ q. first (cond q (fault UnsupportedOperator 0) None)
+          (varspecs_fault (length (operator_text (operator_at c))) (pieces 44 (behind_operator (c ∷ cs))))) p.reserved
+          ∙ (ap (λ k. varspecs_fault (length k) (pieces 44 (behind_operator (c ∷ cs)))) text
+          ∙ (ap (λ k. varspecs_fault 0 (pieces 44 k)) behind_is ∙ f));
       closed = l;
       ascii = u;
     }
 
-first_joined : (v : VarSpec) (vs : List VarSpec) → is_varspec v ≡ true → IsPlain (first_of (split.joined 44 (map varspec_text (v ∷ vs)))) × (0 < length (split.joined 44 (map varspec_text (v ∷ vs))))
+first_joined : (v : VarSpec) (vs : List VarSpec) → is_varspec v ≡ true
+    → IsPlain (first_of (split.joined 44 (map varspec_text (v ∷ vs)))) × (0 < length (split.joined 44 (map varspec_text (v ∷ vs))))
 first_joined v [] h = name_first v.name _ (both (is_varname v.name) _ h).0
 first_joined v (w ∷ vs) h =
     let rest = 44 ∷ split.joined 44 (map varspec_text (w ∷ vs)) in
     let k = name_first v.name (modifier_text v.modifier ++ rest) (both (is_varname v.name) _ h).0 in
-    let e : v.name ++ (modifier_text v.modifier ++ rest) ≡ (v.name ++ modifier_text v.modifier) ++ rest = sym (append_assoc v.name (modifier_text v.modifier) rest) in
+    let e : v.name ++ (modifier_text v.modifier ++ rest) ≡ (v.name ++ modifier_text v.modifier) ++ rest =
+    sym (append_assoc v.name (modifier_text v.modifier) rest) in
     (subst (λ l. IsPlain (first_of l)) e k.0, subst (λ l. 0 < length l) e k.1)
 
 free : (c : ℕ) → (c == 61 || c == 44 || c == 33 || c == 64 || c == 124) ≡ false → is_reserved_operator c ≡ false
@@ -207,7 +233,8 @@ body_fine o (v ∷ vs) h k = go o
     text = ascii_text j bytes.1
 
     go : (p : Operator) → IsBodyOf p (v ∷ vs) (body_text p (v ∷ vs))
-    go Simple = let f = first_joined v vs (both (is_varspec v) (list_all is_varspec vs) k).0 in simple_body (v ∷ vs) j f.0 f.1 read (fine 0) bytes.0 text
+    go Simple = let f = first_joined v vs (both (is_varspec v) (list_all is_varspec vs) k).0 in
+        simple_body (v ∷ vs) j f.0 f.1 read (fine 0) bytes.0 text
     go Reserved = written_body Reserved 43 (v ∷ vs) j refl refl (free 43 refl) (omega arith) refl read (fine 1) bytes.0 text
     go Fragment = written_body Fragment 35 (v ∷ vs) j refl refl (free 35 refl) (omega arith) refl read (fine 1) bytes.0 text
     go Label = written_body Label 46 (v ∷ vs) j refl refl (free 46 refl) (omega arith) refl read (fine 1) bytes.0 text
@@ -216,12 +243,18 @@ body_fine o (v ∷ vs) h k = go o
     go FormQuery = written_body FormQuery 63 (v ∷ vs) j refl refl (free 63 refl) (omega arith) refl read (fine 1) bytes.0 text
     go FormContinuation = written_body FormContinuation 38 (v ∷ vs) j refl refl (free 38 refl) (omega arith) refl read (fine 1) bytes.0 text
 
-pub body_is : (b : List ℕ) → body_fault b ≡ None → (is_piece (expression_of b) ≡ true) × (piece_text (expression_of b) ≡ 123 ∷ (b ++ 125 ∷ []))
+pub body_is : (b : List ℕ) → body_fault b ≡ None → (is_piece (expression_of b) ≡ true)
+    × (piece_text (expression_of b) ≡ 123 ∷ (b ++ 125 ∷ []))
 body_is b h =
     let k = neither (operator_fault b) (varspecs_fault (length (operator_text (operator_of b))) (pieces 44 (behind_operator b))) h in
     let vs = varspecs_are (length (operator_text (operator_of b))) (pieces 44 (behind_operator b)) k.1 in
-    let some : has_varspecs (map varspec_of (pieces 44 (behind_operator b))) ≡ true = ap (λ l. has_varspecs (map varspec_of l)) (pieces_cut 44 (behind_operator b)) in
-    (rw (some, vs.0) refl, ap (λ l. 123 ∷ (l ++ 125 ∷ [])) (ap (λ l. operator_text (operator_of b) ++ split.joined 44 l) vs.1 ∙ (ap (λ l. operator_text (operator_of b) ++ l) (joined_pieces 44 (behind_operator b)) ∙ operator_joined b)))
+    let some : has_varspecs (map varspec_of (pieces 44 (behind_operator b))) ≡ true =
+    ap (λ l. has_varspecs (map varspec_of l)) (pieces_cut 44 (behind_operator b)) in (
+      rw (some, vs.0) refl,
+      ap (λ l. 123 ∷ (l ++ 125 ∷ []))
+          (ap (λ l. operator_text (operator_of b) ++ split.joined 44 l) vs.1
+          ∙ (ap (λ l. operator_text (operator_of b) ++ l) (joined_pieces 44 (behind_operator b)) ∙ operator_joined b)),
+    )
 
 -- ---- a template that pieces spell
 skip_nothing : pieces_of [] ≡ []
@@ -253,7 +286,8 @@ hex_low c h = grind (arith, nat_tests)
 one_more : (p : Piece) (ps : List Piece) (t r : List ℕ) → IsUtf8 t → Fine p t r → IsRead ps r → IsRead (p ∷ ps) t
 one_more p ps t r u f k = record {
   text = u;
-  fault = begins_fault p 0 t r f.begins ∙ (ap (λ e. first (moved 0 e) (fault_from 0 (0 + (length t - length r)) r)) f.fault ∙ fine_there (0 + (length t - length r)) r k.fault);
+  fault = begins_fault p 0 t r f.begins ∙ (ap (λ e. first (moved 0 e) (fault_from 0 (0 + (length t - length r)) r)) f.fault
+      ∙ fine_there (0 + (length t - length r)) r k.fault);
   pieces = begins_pieces p t r f.begins ∙ ap (λ qs. p ∷ qs) k.pieces;
 }
 
@@ -264,10 +298,13 @@ body_begins o vs b r k =
     let body : body_of t ≡ b = before-marked 125 b (Some r) k.closed in
     let there : behind 125 (b ++ 125 ∷ r) ≡ Some r = behind-marked 125 b (Some r) k.closed in
     let begins = expression_begins t r (ap (λ l. 123 ∷ (l ++ 125 ∷ r)) body) in
-    let same : expression_of (body_of t) ≡ expression o vs = ap expression_of body ∙ (ap (λ q. expression q (map varspec_of (pieces 44 (behind_operator b)))) k.operator ∙ ap (expression o) k.rest) in
+    let same : expression_of (body_of t) ≡ expression o vs =
+    ap expression_of body ∙ (ap (λ q. expression q (map varspec_of (pieces 44 (behind_operator b)))) k.operator
+    ∙ ap (expression o) k.rest) in
     record {
       begins = subst (λ p. Begins p t r) same begins;
-      fault = ap (λ l. cond l (fault ExpressionNotClosed 0) (moved 1 (body_fault (body_of t)))) (has_mark 125 (b ++ 125 ∷ r) r there) ∙ (ap (λ l. moved 1 (body_fault l)) body ∙ still_none 1 (body_fault b) k.fault);
+      fault = ap (λ l. cond l (fault ExpressionNotClosed 0) (moved 1 (body_fault (body_of t)))) (has_mark 125 (b ++ 125 ∷ r) r there)
+          ∙ (ap (λ l. moved 1 (body_fault l)) body ∙ still_none 1 (body_fault b) k.fault);
     }
 
 pub spelled_is_read : (ps : List Piece) → list_all is_piece ps ≡ true → IsRead ps (template_text ps)
@@ -294,10 +331,11 @@ spelled_is_read (expression o vs ∷ ps) h =
     let body = body_fine o vs specs.0 specs.1 in
     let same : 123 ∷ (b ++ 125 ∷ r) ≡ (123 ∷ (b ++ 125 ∷ [])) ++ r = ap (λ l. 123 ∷ l) (sym (append_assoc b (125 ∷ []) r)) in
     let u = low_first 123 (b ++ 125 ∷ r) (omega arith) (IsUtf8-append b (125 ∷ r) body.ascii (low_first 125 r (omega arith) more.text)) in
-    subst (λ t. IsRead (expression o vs ∷ ps) t) same (one_more (expression o vs) ps (123 ∷ (b ++ 125 ∷ r)) r u (body_begins o vs b r body) more)
+    subst (λ t. IsRead (expression o vs ∷ ps) t) same
+    (one_more (expression o vs) ps (123 ∷ (b ++ 125 ∷ r)) r u (body_begins o vs b r body) more)
 
 -- ---- a template without a fault
--- the piece at its front
+-- the piece at its start
 pub record Splits (t : List ℕ) : Type 0 where
   pub piece : Piece
   pub rest : List ℕ
@@ -333,7 +371,8 @@ triplet_splits (x ∷ a ∷ b ∷ cs) u e h =
       fine = rw (hex.0, hex.1) refl;
       begins = (triplet_begins (x ∷ a ∷ b ∷ cs) e h).begins;
       joined = ap (λ n. n ∷ a ∷ b ∷ cs) (sym e);
-      text = text_after_ascii b cs (text_after_ascii a (b ∷ cs) (text_after_ascii x (a ∷ b ∷ cs) u (omega (arith, e))) (hex_low a hex.0)) (hex_low b hex.1);
+      text = text_after_ascii b cs (text_after_ascii a (b ∷ cs) (text_after_ascii x (a ∷ b ∷ cs) u (omega (arith, e))) (hex_low a hex.0))
+          (hex_low b hex.1);
     }
   where
     digits : (i j : Bool) (d f : Error) → cond i (cond j None (Some d)) (Some f) ≡ None → (i ≡ true) × (j ≡ true)
@@ -344,7 +383,8 @@ triplet_splits (x ∷ a ∷ b ∷ cs) u e h =
 mark_there : (c : ℕ) (t : List ℕ) → lacks c t ≡ false → (r : List ℕ) × (behind c t ≡ Some r)
 mark_there c [] h = cc
 mark_there c (x ∷ xs) h =
-    by_test x c (λ b. (not b && lacks c xs) ≡ false → (r : List ℕ) × (cond b (Some xs) (behind c xs) ≡ Some r)) (λ _ _. (xs, refl)) (λ _ k. mark_there c xs k) h
+    by_test x c (λ b. (not b && lacks c xs) ≡ false → (r : List ℕ) × (cond b (Some xs) (behind c xs) ≡ Some r)) (λ _ _. (xs, refl))
+    (λ _ k. mark_there c xs k) h
 
 expression_splits : (t : List ℕ) → IsUtf8 t → first_of t ≡ 123 → expression_fault t ≡ None → Splits t
 expression_splits [] u e h = absurd (omega (arith, e))
@@ -399,7 +439,9 @@ within (suc n) (x ∷ xs) l u h =
     let t = x ∷ xs in
     let s = piece_splits t u (omega arith) (first_fine t (omega arith) h) in
     let r = s.rest in
-    let rest_fine = none_anywhere (0 + (length t - length r)) r (neither (moved 0 (piece_fault t)) (fault_from 0 (0 + (length t - length r)) r) (sym (begins_fault s.piece 0 t r s.begins) ∙ h)).1 in
+    let rest_fine = none_anywhere (0 + (length t - length r)) r
+    (neither (moved 0 (piece_fault t)) (fault_from 0 (0 + (length t - length r)) r)
+    (sym (begins_fault s.piece 0 t r s.begins) ∙ h)).1 in
     let more = within n r (omega (arith, s.begins.len, s.begins.some)) s.text rest_fine in
     let are = begins_pieces s.piece t r s.begins in
     record {
@@ -431,7 +473,8 @@ all_more (p ∷ ps) qs h k = let j = both (is_piece p) (list_all is_piece ps) h 
 
 text_more : (ps qs : List Piece) → template_text (ps ++ qs) ≡ template_text ps ++ template_text qs
 text_more [] qs = refl
-text_more (p ∷ ps) qs = ap (λ l. piece_text p ++ l) (text_more ps qs) ∙ sym (append_assoc (piece_text p) (template_text ps) (template_text qs))
+text_more (p ∷ ps) qs = ap (λ l. piece_text p ++ l) (text_more ps qs)
+    ∙ sym (append_assoc (piece_text p) (template_text ps) (template_text qs))
 
 -- a template and another behind it
 pub joined_templates : (a b : List ℕ) → IsUtf8 a → IsUtf8 b → text_fault a ≡ None → text_fault b ≡ None → text_fault (a ++ b) ≡ None

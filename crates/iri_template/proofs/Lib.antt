@@ -8,3 +8,17 @@ pub mod VarSpecFaults
 pub mod Walks
 pub mod VarSpecLemmas
 pub mod Grammar
+pub mod VisitsCompose
+pub mod VisitsEach
+pub mod UnitLaws
+pub mod Drains
+pub mod FrontUnits
+pub mod FrontChars
+pub mod EqualsLaws
+pub mod UnitShows
+pub mod Telling
+pub mod VarSpecWalk
+pub mod PartWalk
+pub mod PlainChars
+pub mod WriterShows
+pub mod ThroughEach

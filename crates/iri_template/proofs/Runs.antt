@@ -1,4 +1,4 @@
--- Literals at the front of a text.
+-- Literals at the start of a text.
 use Rattle.std.proofs.Common.{◌≡◌, ℕ, suc, ◌<◌, true, false, cond, Bool, List, [], ◌∷◌, ◌++◌, length, take, drop, refl, sym, ◌∙◌, ap, arith}
 use Rattle.std.specs.List.{list_all}
 use Rattle.std.specs.Char.{encode_utf8}
@@ -7,14 +7,14 @@ use Rattle.std.proofs.lemmas.Bool.{and_parts as both}
 use Rattle.std.proofs.lemmas.List.{take-append-drop, append-nil}
 use Rattle.std.proofs.lemmas.Str.{encode_ascii, chars-nil}
 use Rattle.iri_grammar.specs.Classes.{any_char, is_ascii_any, is_ascii_reg_name, is_ascii_unreserved, is_sub_delim, is_gen_delim, uri_tests}
-use Rattle.iri_grammar.specs.ClassLaws.{class_has_ascii}
-use Rattle.iri_grammar.specs.Laws.{uri_is_spec}
+use Rattle.iri_grammar.proofs.ClassLaws.{class_has_ascii}
+use Rattle.iri_grammar.specs.inside.Laws.{uri_is_spec}
 use Rattle.iri_grammar.specs.Runs.{run_of}
 use Rattle.iri_grammar.specs.declared.class.Class.TheVariants.{Any}
 use Rattle.iri_grammar.proofs.Units.{char_shorter}
 use Rattle.iri_template.specs.Template.{literal_char}
 use Rattle.iri_template.specs.Reading.{first_of}
-use Rattle.iri_template.specs.Parts.{IsPastLiterals}
+use Rattle.iri_template.specs.inside.Parts.{IsPastLiterals}
 
 run_front : (q : ℕ → Bool) (t : List ℕ) → list_all q (take (run_of q t) t) ≡ true
 run_front q [] = refl

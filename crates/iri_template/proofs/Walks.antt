@@ -1,16 +1,18 @@
 -- A walk over a template without a fault.
-use Rattle.std.proofs.Common.{◌≡◌, ℕ, zero, suc, ◌+◌, ◌-◌, true, false, List, [], ◌∷◌, ◌++◌, length, map, Option, Some, None, refl, sym, ◌∙◌, ap, subst, arith, append_assoc}
+use Rattle.std.proofs.Common.{◌≡◌, ℕ, zero, suc, ◌+◌, ◌-◌, true, false, List, [], ◌∷◌, ◌++◌, length, map, Option, Some, None, refl, sym}
+use Rattle.std.proofs.Common.{◌∙◌, ap, subst, arith, append_assoc}
 use Rattle.std.specs.Prelude.{is_some}
 use Rattle.std.specs.Str.{chars}
 use denote.Ref.{Bor}
 use Rattle.iri_grammar.specs.Cut.{before, behind}
 use Rattle.iri_grammar.specs.Pieces.{pieces}
-use Rattle.iri_grammar.specs.PiecesLaws.{pieces_cut, more_pieces}
-use Rattle.iri_grammar.specs.Views.{now_of}
+use Rattle.iri_grammar.specs.inside.PiecesLaws.{more_pieces}
+use Rattle.iri_grammar.proofs.PiecesLaws.{pieces_cut}
+use Rattle.iri_grammar.specs.OptionalSlices.{now_of}
 use Rattle.iri_template.specs.Template.{Piece, literal, names_of, piece_names}
 use Rattle.iri_template.specs.Reading.{name_of, varspec_of, pieces_from, pieces_of, piece_len}
 use Rattle.iri_template.specs.Fault.{moved, first, piece_fault, varspec_fault, varspecs_fault, fault_from, text_fault}
-use Rattle.iri_template.specs.Parts.{part_pieces, part_fault, IsFront}
+use Rattle.iri_template.specs.inside.Parts.{part_pieces, part_fault, IsFront}
 use Rattle.iri_template.specs.Left.{varspecs_left, names_among, AreFine, IsTaken, Has}
 use Rattle.iri_template.specs.declared.error.Error.{Error}
 use Rattle.iri_template.specs.declared.part.Part.{Part}
@@ -27,7 +29,8 @@ nothing_left at (x ∷ xs) h = absurd (omega arith)
 pub fault_moved : (a skip at : ℕ) (t : List ℕ) → fault_from skip (a + at) t ≡ moved a (fault_from skip at t)
 unfolding fault_from
 fault_moved a skip at [] = refl
-fault_moved a (suc skip) at (x ∷ xs) = let z : a + at + 1 ≡ a + (at + 1) = omega arith in ap (λ n. fault_from skip n xs) z ∙ fault_moved a skip (at + 1) xs
+fault_moved a (suc skip) at (x ∷ xs) = let z : a + at + 1 ≡ a + (at + 1) = omega arith in
+    ap (λ n. fault_from skip n xs) z ∙ fault_moved a skip (at + 1) xs
 fault_moved a zero at (x ∷ xs) =
     let n = piece_len (x ∷ xs) - 1 in
     let z : a + at + 1 ≡ a + (at + 1) = omega arith in
@@ -36,29 +39,34 @@ fault_moved a zero at (x ∷ xs) =
     ∙ sym (moved_first a (moved at (piece_fault (x ∷ xs))) (fault_from n (at + 1) xs)))
 
 pub none_anywhere : (at : ℕ) (t : List ℕ) → fault_from 0 at t ≡ None → text_fault t ≡ None
-none_anywhere at t h = let z : at + 0 ≡ at = omega arith in unmoved at (text_fault t) (sym (fault_moved at 0 0 t) ∙ (ap (λ n. fault_from 0 n t) z ∙ h))
+none_anywhere at t h = let z : at + 0 ≡ at = omega arith in
+    unmoved at (text_fault t) (sym (fault_moved at 0 0 t) ∙ (ap (λ n. fault_from 0 n t) z ∙ h))
 
 pub fine_there : (at : ℕ) (t : List ℕ) → text_fault t ≡ None → fault_from 0 at t ≡ None
 fine_there at t h = let z : at + 0 ≡ at = omega arith in sym (ap (λ n. fault_from 0 n t) z) ∙ (fault_moved at 0 0 t ∙ ap (moved at) h)
 
-varspecs_anywhere : (at : ℕ) (vs : List (List ℕ)) → varspecs_fault at vs ≡ None → varspecs_fault 0 vs ≡ None
-varspecs_anywhere at vs h = let z : at + 0 ≡ at = omega arith in unmoved at (varspecs_fault 0 vs) (sym (varspecs_moved at 0 vs) ∙ (ap (λ n. varspecs_fault n vs) z ∙ h))
+pub varspecs_anywhere : (at : ℕ) (vs : List (List ℕ)) → varspecs_fault at vs ≡ None → varspecs_fault 0 vs ≡ None
+varspecs_anywhere at vs h = let z : at + 0 ≡ at = omega arith in
+    unmoved at (varspecs_fault 0 vs) (sym (varspecs_moved at 0 vs) ∙ (ap (λ n. varspecs_fault n vs) z ∙ h))
 
 -- ---- the first of the varspecs
-pub taken : (t name : List ℕ) (o : Option (Bor (List ℕ))) → now_of o ≡ behind 44 t → name ≡ name_of (before 44 t) → moved 0 (varspec_fault (before 44 t)) ≡ None → varspecs_fault 0 (pieces 44 t) ≡ None → IsTaken name (pieces 44 t) (varspecs_left o)
+pub taken : (t name : List ℕ) (o : Option (Bor (List ℕ))) → now_of o ≡ behind 44 t → name ≡ name_of (before 44 t)
+    → moved 0 (varspec_fault (before 44 t)) ≡ None → varspecs_fault 0 (pieces 44 t) ≡ None → IsTaken name (pieces 44 t) (varspecs_left o)
 taken t name None e n h k = record {
   names = names_cut t ∙ (ap (λ r. name_of (before 44 t) ∷ map name_of (more_pieces 44 r)) (sym e) ∙ ap (λ x. x ∷ []) (sym n));
   fine = refl;
 }
 taken t name (Some r) e n h k = record {
-  names = names_cut t ∙ (ap (λ q. name_of (before 44 t) ∷ map name_of (more_pieces 44 q)) (sym e) ∙ ap (λ x. x ∷ map name_of (pieces 44 r.now)) (sym n));
+  names = names_cut t ∙ (ap (λ q. name_of (before 44 t) ∷ map name_of (more_pieces 44 q)) (sym e)
+      ∙ ap (λ x. x ∷ map name_of (pieces 44 r.now)) (sym n));
   fine = varspecs_anywhere (0 + (length t - length r.now)) (pieces 44 r.now) (sym (more_varspecs 0 t r.now e h) ∙ k);
 }
 
 -- ---- the parts
 names_append : (ps qs : List Piece) → names_of (ps ++ qs) ≡ names_of ps ++ names_of qs
 names_append [] qs = refl
-names_append (p ∷ ps) qs = ap (λ l. piece_names p ++ l) (names_append ps qs) ∙ sym (append_assoc (piece_names p) (names_of ps) (names_of qs))
+names_append (p ∷ ps) qs = ap (λ l. piece_names p ++ l) (names_append ps qs)
+    ∙ sym (append_assoc (piece_names p) (names_of ps) (names_of qs))
 
 literals_have_none : (cs : List ℕ) → names_of (map literal cs) ≡ []
 literals_have_none [] = refl
@@ -78,7 +86,8 @@ over_part p at t r k h n =
     let both = neither (part_fault p) (fault_from 0 (at + (length t - length r)) r) (sym k.fault ∙ fine_there at t h) in
     record {
       fine = none_anywhere (at + (length t - length r)) r both.1;
-      names = ap (λ l. l ++ names_of (pieces_of r)) (sym n) ∙ (sym (names_append (part_pieces p) (pieces_of r)) ∙ ap names_of (sym k.pieces));
+      names = ap (λ l. l ++ names_of (pieces_of r)) (sym n)
+          ∙ (sym (names_append (part_pieces p) (pieces_of r)) ∙ ap names_of (sym k.pieces));
     }
 
 passed_over : (p : Part) (at : ℕ) (t r : List ℕ) → IsFront p t at r → text_fault t ≡ None → Has p None → Over t r
@@ -103,11 +112,13 @@ found (part.Expression e) s at t r k h n =
       names = ap (λ l. l ++ names_of (pieces_of r)) (sym (names_of_varspecs ws)) ∙ ap names_of (sym k.pieces);
     })
 
-pub found_some : (p : Part) (o : Option (Bor (List ℕ))) (at : ℕ) (t r : List ℕ) → IsFront p t at r → text_fault t ≡ None → Has p o → is_some o ≡ true → Found o t r
+pub found_some : (p : Part) (o : Option (Bor (List ℕ))) (at : ℕ) (t r : List ℕ) → IsFront p t at r → text_fault t ≡ None → Has p o
+    → is_some o ≡ true → Found o t r
 found_some p None at t r k h n s = cc
 found_some p (Some v) at t r k h n s = found p v at t r k h n
 
-pub over_none : (p : Part) (o : Option (Bor (List ℕ))) (at : ℕ) (t r : List ℕ) → IsFront p t at r → text_fault t ≡ None → Has p o → is_some o ≡ false → Over t r
+pub over_none : (p : Part) (o : Option (Bor (List ℕ))) (at : ℕ) (t r : List ℕ) → IsFront p t at r → text_fault t ≡ None → Has p o
+    → is_some o ≡ false → Over t r
 over_none p None at t r k h n s = passed_over p at t r k h n
 over_none p (Some v) at t r k h n s = cc
 
@@ -125,7 +136,8 @@ no_names [] h = refl
 no_names (x ∷ xs) h = absurd (omega arith)
 
 -- an iterator whose varspecs have run out, and that found no more
-pub ended : (o : Option (Bor (List ℕ))) (r t : List ℕ) → varspecs_left o ≡ [] → (o ≡ None → length r ≡ 0) → names_among o r ≡ names_of (pieces_of t) → (names_of (pieces_of t) ≡ []) × (names_of (pieces_of r) ≡ [])
+pub ended : (o : Option (Bor (List ℕ))) (r t : List ℕ) → varspecs_left o ≡ [] → (o ≡ None → length r ≡ 0)
+    → names_among o r ≡ names_of (pieces_of t) → (names_of (pieces_of t) ≡ []) × (names_of (pieces_of r) ≡ [])
 ended o r t e n h =
     let left = no_names r (n (none_left o e)) in
     (sym h ∙ (ap (λ vs. map name_of vs ++ names_of (pieces_of r)) e ∙ left), left)

@@ -1,5 +1,6 @@
 -- The first fault of a template, read from the left, and how many bytes stand before it.
-use Rattle.std.specs.Prelude.{◌≡◌, ℕ, zero, suc, ◌+◌, ◌-◌, Bool, cond, ◌&&◌, ◌||◌, ◌==◌, nat_lt, List, [], ◌∷◌, length, Option, Some, None, Result, MatchResult}
+use Rattle.std.specs.Prelude.{◌≡◌, ℕ, zero, suc, ◌+◌, ◌-◌, Bool, cond, ◌&&◌, ◌||◌, ◌==◌, nat_lt, List, [], ◌∷◌, length, Option, Some, None}
+use Rattle.std.specs.Prelude.{Result, MatchResult}
 use Rattle.std.specs.Char.{is_ascii_digit, is_ascii_hexdigit}
 use Rattle.std.specs.Str.{is_utf8}
 use Rattle.std.specs.Str.Lossy.{utf8_valid_len}
@@ -13,7 +14,10 @@ use Rattle.iri_template.specs.Template.{literal_char, operator_text}
 use Rattle.iri_template.specs.Reading.{ends_name, name_of, operator_of, behind_operator, body_of, first_of, piece_len}
 use Rattle.iri_template.specs.declared.error.Error.{Error}
 use Rattle.iri_template.specs.declared.error.ErrorKind.{ErrorKind}
-use Rattle.iri_template.specs.declared.error.ErrorKind.TheVariants.{ExpressionNotClosed, InvalidCharacter, InvalidExpression, InvalidPercentEncoding, InvalidUtf8, UnsupportedOperator}
+use Rattle.iri_template.specs.declared.error.ErrorKind.TheVariants.{ExpressionNotClosed, InvalidCharacter, InvalidExpression}
+use Rattle.iri_template.specs.declared.error.ErrorKind.TheVariants.{InvalidPercentEncoding, InvalidUtf8, UnsupportedOperator}
+use Rattle.iri_grammar.specs.Characters.{at_sign, colon, comma, equals_sign, exclamation_mark, left_brace, percent_sign, right_brace}
+use Rattle.iri_grammar.specs.Characters.{vertical_bar}
 
 -- ---- faults
 abbrev pub fault : ErrorKind → ℕ → Option Error
@@ -41,17 +45,19 @@ name_fault t = unless (is_varname t) (fault InvalidExpression 0)
 abbrev pub max_length_fault : List ℕ → Option Error
 max_length_fault ds =
     cond (nat_lt 0 (length ds) && nat_lt (length ds) 5)
-    (cond (run_of is_ascii_digit ds == length ds) (cond (first_of ds == 48) (fault InvalidExpression 2) None) (fault InvalidExpression (run_of is_ascii_digit ds + 2)))
+    (cond (run_of is_ascii_digit ds == length ds) (cond (first_of ds == 48) (fault InvalidExpression 2) None)
+    (fault InvalidExpression (run_of is_ascii_digit ds + 2)))
     (fault InvalidExpression 2)
 
 -- what follows the name: nothing, `:` and a length, or `*` and nothing
 abbrev pub modifier_fault : List ℕ → Option Error
 modifier_fault [] = None
-modifier_fault (c ∷ cs) = cond (c == 58) (max_length_fault cs) (unless (length cs == 0) (fault InvalidExpression 1))
+modifier_fault (c ∷ cs) = cond (c == colon) (max_length_fault cs) (unless (length cs == 0) (fault InvalidExpression 1))
 
 -- what stands before the first `:` or `*`, or all, is no name; or what follows is no modifier
 unfoldable pub varspec_fault : List ℕ → Option Error
-varspec_fault t = cond (is_varname (name_of t)) (moved (length (name_of t)) (modifier_fault (from_any ends_name t))) (fault InvalidExpression 0)
+varspec_fault t = cond (is_varname (name_of t)) (moved (length (name_of t)) (modifier_fault (from_any ends_name t)))
+    (fault InvalidExpression 0)
 
 -- the first fault of varspecs parted by commas, where so many bytes stand before them
 abbrev pub varspecs_fault : ℕ → List (List ℕ) → Option Error
@@ -61,7 +67,7 @@ varspecs_fault at (v ∷ vs) = first (moved at (varspec_fault v)) (varspecs_faul
 -- ---- expressions (section 2.2)
 -- `op-reserve`: `=`, a comma, `!`, `@`, a vertical bar
 unfoldable pub is_reserved_operator : ℕ → Bool
-is_reserved_operator c = c == 61 || c == 44 || c == 33 || c == 64 || c == 124
+is_reserved_operator c = c == equals_sign || c == comma || c == exclamation_mark || c == at_sign || c == vertical_bar
 
 -- the body is empty, or it begins with an operator that is kept for later
 abbrev pub operator_fault : List ℕ → Option Error
@@ -70,23 +76,24 @@ operator_fault (c ∷ cs) = cond (is_reserved_operator c) (fault UnsupportedOper
 
 -- that, or the fault of a varspec
 abbrev pub body_fault : List ℕ → Option Error
-body_fault t = first (operator_fault t) (varspecs_fault (length (operator_text (operator_of t))) (pieces 44 (behind_operator t)))
+body_fault t = first (operator_fault t) (varspecs_fault (length (operator_text (operator_of t))) (pieces comma (behind_operator t)))
 
 -- no `}` follows; or the body has a fault
 abbrev pub expression_fault : List ℕ → Option Error
-expression_fault t = cond (lacks 125 (tail t)) (fault ExpressionNotClosed 0) (moved 1 (body_fault (body_of t)))
+expression_fault t = cond (lacks right_brace (tail t)) (fault ExpressionNotClosed 0) (moved 1 (body_fault (body_of t)))
 
--- ---- the piece at the front
+-- ---- the piece at the start
 -- fewer than two bytes follow; the first is no hex digit; the second is none
 abbrev pub triplet_fault : List ℕ → Option Error
-triplet_fault (c ∷ a ∷ b ∷ cs) = cond (is_ascii_hexdigit a) (unless (is_ascii_hexdigit b) (fault InvalidPercentEncoding 2)) (fault InvalidPercentEncoding 1)
+triplet_fault (c ∷ a ∷ b ∷ cs) = cond (is_ascii_hexdigit a) (unless (is_ascii_hexdigit b) (fault InvalidPercentEncoding 2))
+    (fault InvalidPercentEncoding 1)
 triplet_fault t = fault InvalidPercentEncoding 0
 
 abbrev pub literal_fault : List ℕ → Option Error
 literal_fault t = unless (literal_char (first_of (chars t))) (fault InvalidCharacter 0)
 
 abbrev pub fault_at : ℕ → List ℕ → Option Error
-fault_at c t = cond (c == 123) (expression_fault t) (cond (c == 37) (triplet_fault t) (literal_fault t))
+fault_at c t = cond (c == left_brace) (expression_fault t) (cond (c == percent_sign) (triplet_fault t) (literal_fault t))
 
 abbrev pub piece_fault : List ℕ → Option Error
 piece_fault t = fault_at (first_of t) t
@@ -102,7 +109,7 @@ fault_from (suc skip) at (c ∷ cs) = fault_from skip (at + 1) cs
 abbrev pub text_fault : List ℕ → Option Error
 text_fault t = fault_from 0 0 t
 
--- of bytes: they are no UTF-8 behind the longest front that is; or the text has a fault
+-- of bytes: they are no UTF-8 behind the longest prefix that is; or the text has a fault
 abbrev pub template_fault : List ℕ → Option Error
 template_fault bs = cond (is_utf8 bs) (text_fault bs) (fault InvalidUtf8 (utf8_valid_len bs))
 

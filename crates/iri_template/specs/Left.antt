@@ -7,11 +7,12 @@ use Rattle.iri_template.specs.Reading.{name_of, pieces_of}
 use Rattle.iri_template.specs.Fault.{varspecs_fault, text_fault}
 use Rattle.iri_template.specs.declared.part.Part.{Part}
 use Rattle.iri_template.specs.declared.part.Part.TheVariants as part
+use Rattle.iri_grammar.specs.Characters.{comma}
 
 -- varspecs parted by commas, where some are left
 abbrev pub varspecs_left : Option (Bor (List ℕ)) → List (List ℕ)
 varspecs_left None = []
-varspecs_left (Some s) = pieces 44 s.now
+varspecs_left (Some s) = pieces comma s.now
 
 -- the names of those, and of what follows them
 abbrev pub names_among : Option (Bor (List ℕ)) → List ℕ → List (List ℕ)

@@ -6,7 +6,10 @@ use Rattle.iri_grammar.specs.Classes.{any_char, uri_tests}
 use Rattle.iri_grammar.specs.Pieces.{joined}
 use Rattle.iri_template.specs.Names.{is_varname}
 use Rattle.iri_template.specs.declared.operator.Operator.{Operator}
-use Rattle.iri_template.specs.declared.operator.Operator.TheVariants.{Simple, Reserved, Fragment, Label, PathSegment, PathParameter, FormQuery, FormContinuation}
+use Rattle.iri_template.specs.declared.operator.Operator.TheVariants.{Simple, Reserved, Fragment, Label, PathSegment, PathParameter}
+use Rattle.iri_template.specs.declared.operator.Operator.TheVariants.{FormQuery, FormContinuation}
+use Rattle.iri_grammar.specs.Characters.{ampersand, asterisk, colon, comma, dot, left_brace, number_sign, percent_sign, plus_sign}
+use Rattle.iri_grammar.specs.Characters.{question_mark, right_brace, semicolon, slash}
 
 -- ---- what a template is made of
 -- how much of a value is meant (section 2.4): all of it, its members one by one, or its first characters, so many as a number says
@@ -57,8 +60,8 @@ is_piece (expression operator vs) = has_varspecs vs && list_all is_varspec vs
 -- ---- what they spell
 abbrev pub modifier_text : Modifier → List ℕ
 modifier_text whole = []
-modifier_text explode = 42 ∷ []
-modifier_text (prefix ds) = 58 ∷ ds
+modifier_text explode = asterisk ∷ []
+modifier_text (prefix ds) = colon ∷ ds
 
 abbrev pub varspec_text : VarSpec → List ℕ
 varspec_text v = v.name ++ modifier_text v.modifier
@@ -66,22 +69,22 @@ varspec_text v = v.name ++ modifier_text v.modifier
 -- `operator` (section 2.2): a simple expression has none
 abbrev pub operator_text : Operator → List ℕ
 operator_text Simple = []
-operator_text Reserved = 43 ∷ []
-operator_text Fragment = 35 ∷ []
-operator_text Label = 46 ∷ []
-operator_text PathSegment = 47 ∷ []
-operator_text PathParameter = 59 ∷ []
-operator_text FormQuery = 63 ∷ []
-operator_text FormContinuation = 38 ∷ []
+operator_text Reserved = plus_sign ∷ []
+operator_text Fragment = number_sign ∷ []
+operator_text Label = dot ∷ []
+operator_text PathSegment = slash ∷ []
+operator_text PathParameter = semicolon ∷ []
+operator_text FormQuery = question_mark ∷ []
+operator_text FormContinuation = ampersand ∷ []
 
 -- what stands between the braces: an operator, and varspecs parted by commas
 abbrev pub body_text : Operator → List VarSpec → List ℕ
-body_text operator vs = operator_text operator ++ joined 44 (map varspec_text vs)
+body_text operator vs = operator_text operator ++ joined comma (map varspec_text vs)
 
 abbrev pub piece_text : Piece → List ℕ
 piece_text (literal c) = encode_utf8 c
-piece_text (triplet a b) = 37 ∷ a ∷ b ∷ []
-piece_text (expression operator vs) = 123 ∷ (body_text operator vs ++ 125 ∷ [])
+piece_text (triplet a b) = percent_sign ∷ a ∷ b ∷ []
+piece_text (expression operator vs) = left_brace ∷ (body_text operator vs ++ right_brace ∷ [])
 
 -- ---- templates
 abbrev pub template_text : List Piece → List ℕ

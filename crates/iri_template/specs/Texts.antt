@@ -1,4 +1,4 @@
--- What lent templates hold.
+-- What borrowed templates hold.
 use Rattle.std.specs.Prelude.{ℕ, List}
 use Rattle.iri_template.specs.declared.template.UriTemplateStr.{UriTemplateStr}
 

@@ -8,7 +8,7 @@ use denote.Ref.{Bor}
 abbrev pub pair_of : String Global × String Global → List ℕ × List ℕ
 pair_of p = (string_bytes p.0, string_bytes p.1)
 
--- a lent pair that may be there
+-- a borrowed pair that may be there
 abbrev pub lent_pair : Option (Bor (List ℕ) × Bor (List ℕ)) → Option (List ℕ × List ℕ)
 lent_pair None = None
 lent_pair (Some p) = Some (p.0.now, p.1.now)

@@ -1,19 +1,19 @@
 //! Why no owned template was made.
 ghost use Rattle.std.specs.Prelude.{◌≡◌, Some};
-ghost use Rattle.iri_template.specs.Kinds.{displayed};
+ghost use Rattle.iri_template.specs.ErrorTexts.{displayed};
 
 use crate::error::Error;
 use std::alloc::AllocError;
 use std::fmt;
 use thiserror::Error as ThisError;
 
-/// Why no owned template was made of a lent text.
+/// Why no owned template was made of a borrowed text.
 #[derive(Debug, Drop, ThisError)]
 pub enum CreateTemplateError {
     /// The text is no template.
     #[error(transparent)]
     Invalid(Error),
-    /// Memory was refused.
+    /// Allocation failed.
     #[error(transparent)]
     Memory(AllocError),
 }

@@ -22,12 +22,12 @@ pub enum ErrorKind {
     UnexpectedValueType,
     /// An operator that is reserved for later (section 2.2).
     UnsupportedOperator,
-    /// Memory was refused.
+    /// Allocation failed.
     Memory,
 }
 
 impl ErrorKind {
-    ghost use Rattle.iri_template.specs.Kinds.{description};
+    ghost use Rattle.iri_template.specs.ErrorTexts.{description};
 
     /// The kind in words, as they stand in `Error`'s `Display`.
     pub fn description(self) -> &'static str
@@ -77,7 +77,7 @@ impl Error {
 }
 
 impl fmt::Display for Error {
-    ghost use Rattle.iri_template.specs.Kinds.{displayed};
+    ghost use Rattle.iri_template.specs.ErrorTexts.{displayed};
 
     ghost output = { λ e. Some (displayed e) };
 

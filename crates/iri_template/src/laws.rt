@@ -4,6 +4,8 @@ ghost use Rattle.std.specs.Ordering.{nat_cmp};
 ghost use Rattle.std.specs.Cmp.Lexicographic.{slice_cmp};
 ghost use Rattle.std.specs.Hash as fed;
 ghost use Rattle.std.specs.Str.{IsUtf8};
+ghost use Rattle.iri_percent.specs.CharUnits.{char_units};
+ghost use Rattle.iri_template.specs.Expansion.{text_units};
 ghost use Rattle.iri_template.specs.Template.{Piece, Spells, IsTemplate};
 ghost use Rattle.iri_template.specs.Reading.{pieces_of};
 ghost use Rattle.iri_template.specs.Fault.{text_fault, template_fault};
@@ -26,6 +28,12 @@ pub fn no_fault_of_templates()
 /// Two templates one behind the other are a template.
 pub fn joined_templates()
     ensures { (a b : List ℕ) → template_fault a ≡ None → template_fault b ≡ None → template_fault (a ++ b) ≡ None }
+{}
+
+/// The units that an expansion counts and keeps are those of the text: each character outside triplets, each character
+/// in triplets, each other triplet, and each `%` that begins none.
+pub fn units_of_values()
+    ensures { (t : List ℕ) → IsUtf8 t → text_units t ≡ char_units t }
 {}
 
 /// Templates are equal exactly where their texts are.

@@ -1,4 +1,4 @@
-//! URI templates (RFC 6570): the grammar, template texts, and values by name.
+//! URI templates (RFC 6570): the grammar, template texts, values by name, and expansion (level 4).
 //!
 //! A [`UriTemplateStr`](template::UriTemplateStr) is a `&str` that is a template, with its
 //! [`variables`](template::UriTemplateStr::variables); a [`UriTemplateString`](owned::UriTemplateString) owns one.
@@ -7,12 +7,22 @@
 //! [`SimpleContext`](simple_context::SimpleContext) maps names to values, which `value` has. `laws` says what holds of
 //! the definitions.
 //!
+//! [`expand`](template::UriTemplateStr::expand) gives an [`Expanded`](expanded::Expanded), whose text is the expansion
+//! with the values of a [`Context`](context::Context). A context tells the value of a name to a
+//! [`Visitor`](visitor::Visitor), call by call; [`VisitValueNaive`](naive::VisitValueNaive) tells numbers, texts,
+//! options, lists, sets and maps.
+//!
 //! Proved: bytes have no fault exactly where literals, triplets and expressions spell them, and one list of these does
 //! (`laws::no_fault_of_templates`); each constructor refuses exactly the other texts, with the first fault and its
 //! place. `variables` gives the names from left to right, each as often as it stands there, and ends. An owned template
-//! is one; what is joined is one; after want of memory it is as it was. `SimpleContext` is a map: `insert` answers the
-//! old value, changes nothing where the key is no name, and hands key and value back where memory is refused. Equality,
+//! is one; what is joined is one; after an allocation failure it is as it was. `SimpleContext` is a map: `insert` answers the
+//! old value, changes nothing where the key is no name, and hands key and value back where allocation fails. Equality,
 //! order and hash of templates are those of their texts, and so is what is shown and displayed.
+//!
+//! `expand` refuses exactly where a varspec with a length has a list or an associative array that isn't empty, and
+//! tells the first one's place before anything is written. The text of an `Expanded` is the definition's (`expansion`),
+//! in whatever pieces a value puts its text; it takes no memory, and where the sink stops, it stops within that text.
+//! The conversions refuse exactly what is outside their production, and `try_into_text_within` what is longer.
 //!
 //! Literals are those of URIs: ASCII alone. One class says so, `literal_char`, and one word of `part`.
 //!
@@ -20,19 +30,41 @@
 //! ample memory; the text of `Debug`.
 #![tactic(auto)]
 
-pub mod compared;
+mod behind_name;
+mod char_front;
+mod char_front_sink;
+pub mod comparison;
+pub mod context;
 pub mod creation;
+mod equals_sink;
 pub mod error;
+pub mod expanded;
+mod front_unit;
+mod held;
 pub mod laws;
+mod length;
+pub mod naive;
 mod operator;
 pub mod owned;
 mod part;
+mod part_writer;
+mod place;
+mod row;
+mod shown;
 pub mod simple_context;
 pub mod template;
 #[cfg(test)]
 mod tests;
+mod type_check;
+mod type_fault;
+mod unit_sink;
+mod units;
 pub mod value;
+mod value_writer;
 pub mod var_name;
 mod var_spec;
 pub mod variables;
+mod varspec_writer;
 mod varspecs;
+pub mod visitor;
+mod writer;

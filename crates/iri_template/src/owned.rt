@@ -1,6 +1,6 @@
 //! Owned templates.
 ghost use Rattle.std.specs.Prelude.{◌≡◌, ◌≤◌, ◌<◌, ◌+◌, ◌++◌, length, MatchResult, None, Some, IfOk, OnOk, OnErr, IsOk};
-ghost use Rattle.std.specs.String.{string_bytes};
+ghost use Rattle.std.specs.String.{string_bytes, string_capacity};
 ghost use Rattle.iri_owned.specs.OwnedText.{owned_text};
 ghost use Rattle.iri_template.specs.Fault.{text_fault, template_fault};
 ghost use Rattle.iri_template.specs.Refusals.{RefusedFor};
@@ -31,6 +31,20 @@ impl Model for UriTemplateString {
     ghost invariant = { λ t. text_fault (string_bytes t.text) ≡ None };
 }
 
+// Puts a template behind a text that is one. What comes out is one, whether there is memory or not.
+fn push_template(whole: &mut String, other: UriTemplateStr<'_>) -> Result<(), AllocError>
+    requires { text_fault (string_bytes whole.old) ≡ None }
+    ensures valid { text_fault (string_bytes whole.new) ≡ None }
+    ensures text { OnOk result (string_bytes whole.new ≡ string_bytes whole.old ++ text other.entry) }
+    ensures capacity { string_capacity whole.old ≤ string_capacity whole.new }
+    ensures same { OnErr result (owned_text whole.new ≡ owned_text whole.old) }
+    ensures full { OnErr result (string_capacity whole.old
+        < length (string_bytes whole.old) + length (text other.entry)) }
+{
+    whole.try_reserve(other.len())?;
+    whole.push_str(other.as_str())
+}
+
 impl UriTemplateString {
     /// A copy of a text, where it is a template: otherwise its first fault.
     pub fn try_from_str(alloc: Global, s: &str) -> Result<Self, CreateTemplateError>
@@ -58,7 +72,8 @@ impl UriTemplateString {
 
     /// The template of a string: otherwise its first fault, with the string handed back. It takes no memory.
     pub fn try_from_string(s: String) -> Result<Self, CreationError<String>>
-        ensures { MatchResult result (λ t. t ≡ owned_text s) (λ e. (e.source ≡ s) × (text_fault (string_bytes s) ≡ Some e.error)) }
+        ensures { MatchResult result (λ t. t ≡ owned_text s)
+            (λ e. (e.source ≡ s) × (text_fault (string_bytes s) ≡ Some e.error)) }
     {
         match validate(s.as_str()) {
             Ok(()) => Ok(UriTemplateString { text: s }),
@@ -66,7 +81,7 @@ impl UriTemplateString {
         }
     }
 
-    /// A copy of a lent template.
+    /// A copy of a borrowed template.
     pub fn from_view(alloc: Global, view: UriTemplateStr<'_>) -> Result<Self, AllocError>
         ensures { IfOk result (λ t. t.text ≡ text view.entry) }
     {
@@ -74,7 +89,7 @@ impl UriTemplateString {
         Ok(UriTemplateString { text })
     }
 
-    /// The template, lent.
+    /// The template, borrowed.
     pub fn as_slice(&self) -> UriTemplateStr<'_>
         ensures { text result ≡ self.now.text }
     {
@@ -124,8 +139,7 @@ impl UriTemplateString {
         ensures same { OnErr result (self.new ≡ self.old) }
         ensures full { OnErr result (self.old.capacity < length self.old.text + length (text other.entry)) }
     {
-        self.text.try_reserve(other.len())?;
-        self.text.push_str(other.as_str())
+        push_template(&mut self.text, other)
     }
 
     /// A copy.

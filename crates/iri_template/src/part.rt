@@ -1,8 +1,10 @@
 //! The walk over a template: its parts, from left to right (RFC 6570 section 2).
 ghost use Rattle.std.specs.Prelude.{◌≡◌, ◌<◌, ◌+◌, ◌^◌, ◌++◌, true, length, MatchResult, IfOk, Some, None};
 ghost use Rattle.iri_template.specs.Reading.{first_of, operator_of, behind_operator};
-ghost use Rattle.iri_template.specs.Fault.{Answers, moved, operator_fault, is_reserved_operator, triplet_fault, fault_from};
-ghost use Rattle.iri_template.specs.Parts.{front_fault, IsExpression, IsTriplet, IsPastLiterals, IsFront};
+ghost use Rattle.iri_template.specs.Fault.{Answers, moved, operator_fault, is_reserved_operator, triplet_fault};
+ghost use Rattle.iri_template.specs.Fault.{fault_from};
+ghost use Rattle.iri_template.specs.inside.Parts.{front_fault, IsExpression, IsTriplet, IsPastLiterals, IsFront};
+ghost use Rattle.iri_grammar.specs.Characters.{percent_sign};
 
 use crate::error::{Error, ErrorKind};
 use crate::operator::Operator;
@@ -69,7 +71,7 @@ fn is_reserved_operator(b: u8) -> bool
     b == b'=' || b == b',' || b == b'!' || b == b'@' || b == b'|'
 }
 
-/// The expression at the front, and what follows it. `at` is its place.
+/// The expression at the start, and what follows it. `at` is its place.
 fn read_expression(s: &str, at: usize) -> Result<(Expression<'_>, &str), Error>
     requires brace { first_of s.now ≡ 123 }
     requires fits { at + length s.now < 2 ^ 64 }
@@ -85,9 +87,9 @@ fn read_expression(s: &str, at: usize) -> Result<(Expression<'_>, &str), Error>
     }
 }
 
-/// The triplet at the front, and what follows it. `at` is its place.
+/// The triplet at the start, and what follows it. `at` is its place.
 fn read_triplet(s: &str, at: usize) -> Result<(&str, &str), Error>
-    requires percent { first_of s.now ≡ 37 }
+    requires percent { first_of s.now ≡ percent_sign }
     requires fits { at + length s.now < 2 ^ 64 }
     ensures { MatchResult result (λ p. IsTriplet p.0.now s.now p.1.now) (λ e. moved at (triplet_fault s.now) ≡ Some e) }
 {
@@ -122,7 +124,7 @@ fn past_literal(s: &str) -> &str
     }
 }
 
-/// What follows literals at the front, as many as were found at once, or the text as it is where none stands
+/// What follows literals at the start, as many as were found at once, or the text as it is where none stands
 /// there.
 fn past_literals(s: &str) -> &str
     ensures { IsPastLiterals s.now result.now }
@@ -135,7 +137,7 @@ fn past_literals(s: &str) -> &str
     }
 }
 
-/// The part at the front, which may still have faults where it is an expression, and what follows it. `at` is
+/// The part at the start, which may still have faults where it is an expression, and what follows it. `at` is
 /// its place in the template.
 pub(crate) fn read_part(s: &str, at: usize) -> Result<(Part<'_>, &str), Error>
     requires some { 0 < length s.now }

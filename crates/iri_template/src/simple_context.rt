@@ -5,8 +5,12 @@ ghost use Rattle.std.specs.Str.{bytes_eq};
 ghost use Rattle.iri_template.specs.Names.{is_varname};
 ghost use Rattle.iri_template.specs.Contexts.{value_at, is_undefined, kept};
 
+use crate::context::Context;
+use crate::naive::VisitValueNaive;
 use crate::value::Value;
 use crate::var_name::{VarName, is_varname};
+use crate::visitor::Visitor;
+use iri_text::Stop;
 use std::alloc::Global;
 use std::collections::BTreeMap;
 
@@ -47,11 +51,14 @@ impl SimpleContext {
     }
 
     /// Gives a name a value, or takes the name out where the value is `Undefined`, and answers the old value. Where
-    /// the key is no variable's name, it answers none and nothing changes. It fails for want of memory alone, only for
+    /// the key is no variable's name, it answers none and nothing changes. It fails on allocation failure alone, only for
     /// a name that the map hasn't: then key and value are handed back, and nothing changes.
     pub fn insert(&mut self, key: String, value: Value) -> Result<Option<Value>, InsertError>
-        ensures old { IfOk result (λ o. o ≡ cond (is_varname (string_bytes key)) (value_at self.old (string_bytes key)) None) }
-        ensures set { OnOk result ((q : List ℕ) → value_at self.new q ≡ cond (is_varname (string_bytes key) && bytes_eq q (string_bytes key)) (kept value) (value_at self.old q)) }
+        ensures old { IfOk result (λ o. o ≡ cond (is_varname (string_bytes key))
+            (value_at self.old (string_bytes key)) None) }
+        ensures set { OnOk result ((q : List ℕ)
+            → value_at self.new q ≡ cond (is_varname (string_bytes key) && bytes_eq q (string_bytes key)) (kept value)
+            (value_at self.old q)) }
         ensures handed_back { IfErr result (λ e. (e.key ≡ key) × (e.value ≡ value)) }
         ensures same { OnErr result ((q : List ℕ) → value_at self.new q ≡ value_at self.old q) }
         ensures new_name { OnErr result (value_at self.old (string_bytes key) ≡ None) }
@@ -83,5 +90,18 @@ impl SimpleContext {
         ensures { option_copied result ≡ value_at self.now key.entry.text.now }
     {
         self.map.get(key.as_str())
+    }
+}
+
+impl Context for SimpleContext {
+    ghost use Rattle.iri_template.specs.Contexts.{value_in};
+
+    ghost value_of = { value_in };
+
+    fn visit<V: Visitor>(&self, visitor: &mut V) -> Result<(), Stop> {
+        match self.get(visitor.var_name()) {
+            Some(value) => value.visit_value(visitor),
+            None => visitor.visit_undefined(),
+        }
     }
 }

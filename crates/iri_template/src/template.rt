@@ -3,14 +3,20 @@ ghost use Rattle.std.specs.Prelude.{◌≡◌, ◌==◌, length, IfOk, None, Som
 ghost use Rattle.iri_template.specs.Fault.{Answers, text_fault, template_fault};
 ghost use Rattle.iri_template.specs.Reading.{pieces_of};
 ghost use Rattle.iri_template.specs.Template.{names_of};
+ghost use Rattle.iri_template.specs.TypeFaults.{type_fault};
 ghost use Rattle.iri_template.specs.Variables.{names_left};
 
+use crate::context::Context;
 use crate::error::{Error, ErrorKind};
+use crate::expanded::Expanded;
 use crate::part::{Part, read_part};
+use crate::type_fault::find_type_fault;
 use crate::variables::UriTemplateVariables;
 use crate::varspecs;
+use iri_grammar::spec::Spec;
 use iri_text::{FormatSink, Show, Stop, TextSink};
 use std::alloc::AllocError;
+use std::marker::PhantomData;
 use std::{fmt, str};
 
 /// Whether the text is a template: otherwise its first fault.
@@ -32,7 +38,7 @@ pub(crate) fn validate(s: &str) -> Result<(), Error>
     Ok(())
 }
 
-/// A URI template, lent (RFC 6570 section 2). It is as small as a `&str`. Templates are equal, ordered and hashed
+/// A URI template, borrowed (RFC 6570 section 2). It is as small as a `&str`. Templates are equal, ordered and hashed
 /// as their texts.
 #[derive(Debug, PartialEq, Eq, PartialOrd, Ord, Hash)]
 pub struct UriTemplateStr<'a> {
@@ -66,7 +72,7 @@ impl<'a> UriTemplateStr<'a> {
         }
     }
 
-    /// The template of bytes, where they are the UTF-8 of its text: otherwise `InvalidUtf8` behind the longest front
+    /// The template of bytes, where they are the UTF-8 of its text: otherwise `InvalidUtf8` behind the longest prefix
     /// that is UTF-8, or the text's first fault.
     pub fn try_from_bytes(b: &'a [u8]) -> Result<Self, Error>
         ensures fault { Answers result (template_fault b.now) }
@@ -113,6 +119,23 @@ impl<'a> UriTemplateStr<'a> {
         ensures { names_left result ≡ names_of (pieces_of (text self.entry)) }
     {
         UriTemplateVariables::of(self.text)
+    }
+
+    /// The expansion for URIs or IRIs, with the values of a context (RFC 6570 section 3). It is refused by
+    /// `UnexpectedValueType` exactly where a variable with a prefix length has a list or an associative array that
+    /// isn't empty, at the first byte of the first such varspec. Nothing is written and no memory is taken.
+    pub fn expand<S: Spec, C: Context>(self, context: &'a C) -> Result<Expanded<'a, S, C>, Error>
+        ensures fault { Answers result (type_fault (C.value_of context.now) (pieces_of (text self.entry))) }
+        ensures expanded { IfOk result (λ e. (text e.template ≡ text self.entry) × (e.context.now ≡ context.now)) }
+    {
+        match find_type_fault(context, self.text) {
+            Some(error) => Err(error),
+            None => Ok(Expanded {
+                template: self,
+                context,
+                spec: PhantomData,
+            }),
+        }
     }
 }
 

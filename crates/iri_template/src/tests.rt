@@ -1,4 +1,5 @@
 mod contexts;
+mod expansions;
 mod faults;
 mod names;
 mod templates;

@@ -1,11 +1,13 @@
 //! The values of variables (RFC 6570 section 2.3), owned.
-ghost use Rattle.std.specs.Prelude.{◌≡◌, ◌++◌, ◌∷◌, [], length, OnOk, OnErr, IfErr};
+ghost use Rattle.std.specs.Prelude.{◌≡◌, ◌++◌, ◌∷◌, [], length, map, OnOk, OnErr, IfErr};
 ghost use Rattle.std.specs.String.{string_bytes};
 ghost use Rattle.std.specs.List.{slice_get};
-ghost use Rattle.iri_grammar.specs.Views.{now_of};
-ghost use Rattle.iri_template.specs.Values.{lent_pair};
+ghost use Rattle.iri_grammar.specs.OptionalSlices.{now_of};
+ghost use Rattle.iri_template.specs.Values.{lent_pair, pair_of};
 
-use iri_text::Text;
+use crate::naive::VisitValueNaive;
+use crate::visitor::Visitor;
+use iri_text::{Stop, Text};
 use std::alloc::Global;
 use std::marker::Model;
 
@@ -34,7 +36,7 @@ impl TextList {
         }
     }
 
-    /// Puts an item at the end. It fails for want of memory alone: then the item is handed back, and nothing changes.
+    /// Puts an item at the end. It fails on allocation failure alone: then the item is handed back, and nothing changes.
     pub fn push(&mut self, item: String) -> Result<(), String>
         ensures pushed { OnOk result (self.new ≡ self.old ++ string_bytes item ∷ []) }
         ensures same { OnErr result (self.new ≡ self.old) }
@@ -61,6 +63,12 @@ impl TextList {
             Some(item) => Some(item.as_str()),
             None => None,
         }
+    }
+
+    fn as_slice(&self) -> &[String]
+        ensures { map string_bytes result.now ≡ self.now }
+    {
+        self.items.as_slice()
     }
 }
 
@@ -90,7 +98,7 @@ impl PairList {
         }
     }
 
-    /// Puts a pair at the end. It fails for want of memory alone: then key and value are handed back, and nothing
+    /// Puts a pair at the end. It fails on allocation failure alone: then key and value are handed back, and nothing
     /// changes.
     pub fn push(&mut self, key: String, value: String) -> Result<(), (String, String)>
         ensures pushed { OnOk result (self.new ≡ self.old ++ (string_bytes key, string_bytes value) ∷ []) }
@@ -119,6 +127,12 @@ impl PairList {
             None => None,
         }
     }
+
+    fn as_slice(&self) -> &[(String, String)]
+        ensures { map pair_of result.now ≡ self.now }
+    {
+        self.pairs.as_slice()
+    }
 }
 
 /// The value of a variable.
@@ -132,4 +146,19 @@ pub enum Value {
     List(TextList),
     /// An associative array: a list of pairs.
     Assoc(PairList),
+}
+
+impl VisitValueNaive for Value {
+    ghost use Rattle.iri_template.specs.HeldValues.{shown_value};
+
+    ghost naive_value = { shown_value };
+
+    fn visit_value<V: Visitor>(&self, visitor: &mut V) -> Result<(), Stop> {
+        match self {
+            Value::Undefined => visitor.visit_undefined(),
+            Value::String(text) => visitor.visit_string(text),
+            Value::List(items) => visitor.visit_list_direct(items.as_slice()),
+            Value::Assoc(entries) => visitor.visit_assoc_direct(entries.as_slice()),
+        }
+    }
 }

@@ -86,7 +86,8 @@ fn find_varspecs(text: &str) -> (Option<&str>, &str)
 /// The name in the first varspec, and the other varspecs, where there are some.
 fn take_name(varspecs: Option<&str>) -> Option<(VarName<'_>, Option<&str>)>
     requires { varspecs_fault 0 (varspecs_left varspecs) ≡ None }
-    ensures { MatchOption result (varspecs_left varspecs.entry ≡ []) (λ p. IsTaken p.0.text.now (varspecs_left varspecs.entry) (varspecs_left p.1)) }
+    ensures { MatchOption result (varspecs_left varspecs.entry ≡ [])
+        (λ p. IsTaken p.0.text.now (varspecs_left varspecs.entry) (varspecs_left p.1)) }
 {
     match varspecs {
         Some(varspecs) => match read_first(varspecs, 0) {

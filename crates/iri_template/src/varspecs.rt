@@ -2,7 +2,7 @@
 ghost use Rattle.std.specs.Prelude.{◌≡◌, ◌<◌, ◌+◌, ◌^◌, length, MatchResult, IfOk, Some, None};
 ghost use Rattle.iri_grammar.specs.Cut.{before, behind};
 ghost use Rattle.iri_grammar.specs.Pieces.{pieces};
-ghost use Rattle.iri_grammar.specs.Views.{now_of};
+ghost use Rattle.iri_grammar.specs.OptionalSlices.{now_of};
 ghost use Rattle.iri_template.specs.Reading.{varspec_of};
 ghost use Rattle.iri_template.specs.Fault.{Answers, moved, varspec_fault, varspecs_fault};
 ghost use Rattle.iri_template.specs.VarSpecs.{IsHeld};

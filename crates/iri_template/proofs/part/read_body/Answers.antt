@@ -27,6 +27,7 @@ range_from-requires c _ =
     let t = c.args.body.now in
     let byte = ap (λ l. operator_at (get_or l 0 0)) c.as_bytes-bytes.ensures.value in
     let ascii : get_or t 0 0 < 128 = operator_ascii (get_or t 0 0) (λ k. c.in_default.not-Simple (c.at.ensures ∙ (byte ∙ k))) in
-    let some : (length t == 0) ≡ false = ap (λ l. length l == 0) (sym c.as_bytes-bytes.ensures.value) ∙ (sym c.is_empty.ensures ∙ c.if-is_empty.false) in
+    let some : (length t == 0) ≡ false = ap (λ l. length l == 0) (sym c.as_bytes-bytes.ensures.value)
+    ∙ (sym c.is_empty.ensures ∙ c.if-is_empty.false) in
     let long : 0 < length t = grind (arith, nat_tests) in
     IsCharBoundary-after_ascii t 0 c.utf8.body long ascii

@@ -1,9 +1,9 @@
 use Rattle.std.proofs.Common.{◌≡◌, ◌<◌, ℕ, List, [], ◌∷◌, length, Some, sym, ◌∙◌, ap, arith}
 use Rattle.std.proofs.lemmas.Str.{IsCharBoundary-after_ascii}
 use Rattle.iri_grammar.specs.Cut.{lacks}
-use Rattle.iri_grammar.specs.Views.{now_of}
+use Rattle.iri_grammar.specs.OptionalSlices.{now_of}
 use Rattle.iri_template.specs.Reading.{first_of, operator_of, behind_operator}
-use Rattle.iri_template.specs.Parts.{front_fault}
+use Rattle.iri_template.specs.inside.Parts.{front_fault}
 use Rattle.iri_template.proofs.FaultLemmas.{unmoved}
 use Rattle.iri_template.proofs.Steps.{first_get}
 use Rattle.iri_template.proofs.Bodies.{body_cut, front_of_body, front_not_closed, no_mark, tail_drop}

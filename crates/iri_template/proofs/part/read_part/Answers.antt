@@ -16,7 +16,8 @@ range-requires-clause-end_boundary c =
     subst (IsCharBoundary t) z (IsCharBoundary-at_seam t front r (sym k.text) c.past_literals-rest.utf8)
 
 pub returns-then-rest-s : goal.returns-then-rest-s
-returns-then-rest-s c = literals_front c.range.result c.args.at c.args.s.now c.past_literals-rest.result.now c.utf8.s c.range.utf8 c.past_literals-rest.ensures c.if-rest-s.true c.range.ensures.value
+returns-then-rest-s c =
+    literals_front c.range.result c.args.at c.args.s.now c.past_literals-rest.result.now c.utf8.s c.range.utf8 c.past_literals-rest.ensures c.if-rest-s.true c.range.ensures.value
 
 pub returns-in-Ok : goal.returns-in-Ok
 returns-in-Ok c = expression_front c.in-Ok.expression c.args.at c.args.s.now c.in-Ok.rest.now c.in-Ok.ensures
@@ -45,5 +46,11 @@ returns-in_default c =
     let e = first_get t ∙ ap (λ l. get_or l 0 0) (sym c.as_bytes.ensures.value) in
     let brace : get_or c.as_bytes.result.now 0 0 ≢ 123 = omega arith in
     let percent : get_or c.as_bytes.result.now 0 0 ≢ 37 = omega arith in
-    let same : length c.past_literals-rest.result.now ≡ length t = omega (arith, ap length c.past_literals-rest.ensures.text, length-append (encode_utf8_all c.past_literals-rest.ensures.literals) c.past_literals-rest.result.now) in
-    character_error c.args.at t c.requires.some (λ h. brace (sym e ∙ h)) (λ h. percent (sym e ∙ h)) (c.past_literals-rest.ensures.stops same) ∙ ap Some (sym c.new.ensures)
+    let same : length c.past_literals-rest.result.now ≡ length t =
+    omega (
+      arith,
+      ap length c.past_literals-rest.ensures.text,
+      length-append (encode_utf8_all c.past_literals-rest.ensures.literals) c.past_literals-rest.result.now,
+    ) in
+    character_error c.args.at t c.requires.some (λ h. brace (sym e ∙ h)) (λ h. percent (sym e ∙ h))
+    (c.past_literals-rest.ensures.stops same) ∙ ap Some (sym c.new.ensures)

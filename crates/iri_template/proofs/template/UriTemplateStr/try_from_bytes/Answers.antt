@@ -14,8 +14,10 @@ of_bytes : (b : List ℕ) → ¬ (IsUtf8 b) → template_fault b ≡ fault Inval
 of_bytes b other = let e : is_utf8 b ≡ false = false_from_ne_true (is_utf8 b) (λ h. other (IsUtf8-from_is_utf8 b h)) in rw e refl
 
 pub returns-in-Ok-clause-fault : goal.returns-in-Ok-clause-fault
-returns-in-Ok-clause-fault c = subst (Answers c.new.result) (ap text_fault c.in-Ok.ensures.cases.0 ∙ sym (of_text c.args.b.now c.in-Ok.ensures.cases.1)) c.new.ensures.fault
+returns-in-Ok-clause-fault c = subst (Answers c.new.result)
+    (ap text_fault c.in-Ok.ensures.cases.0 ∙ sym (of_text c.args.b.now c.in-Ok.ensures.cases.1)) c.new.ensures.fault
 
 pub returns-in-Err-clause-fault : goal.returns-in-Err-clause-fault
 returns-in-Err-clause-fault c =
-    of_bytes c.args.b.now c.in-Err.ensures.cases.0 ∙ (ap (fault InvalidUtf8) (sym c.in-Err.ensures.valid_len ∙ sym c.valid_up_to.ensures) ∙ ap Some (sym c.new-in-Err.ensures))
+    of_bytes c.args.b.now c.in-Err.ensures.cases.0
+    ∙ (ap (fault InvalidUtf8) (sym c.in-Err.ensures.valid_len ∙ sym c.valid_up_to.ensures) ∙ ap Some (sym c.new-in-Err.ensures))

@@ -11,6 +11,8 @@ returns-in-None-take_name-clause-steps c =
     elim c.match-self.branch [
       | in-Some w ↦ absurd (some_left w.in-Some.varspecs (ap (λ p. varspecs_left p.0) (sym w.t-8-is) ∙ c.in-None-take_name.ensures))
       | in-None w ↦
-          let k = ended w.find_varspecs.result.0 w.find_varspecs.result.1.now c.args.self.now.rest.now (ap (λ p. varspecs_left p.0) (sym w.t-8-is) ∙ c.in-None-take_name.ensures) w.find_varspecs.ensures.none w.find_varspecs.ensures.names in
+          let k = ended w.find_varspecs.result.0 w.find_varspecs.result.1.now c.args.self.now.rest.now
+          (ap (λ p. varspecs_left p.0) (sym w.t-8-is)
+          ∙ c.in-None-take_name.ensures) w.find_varspecs.ensures.none w.find_varspecs.ensures.names in
           (ap (λ o. names_among o c.args.self.now.rest.now) w.in-None.is ∙ k.0, ap (λ p. names_of (pieces_of p.1.now)) w.t-8-is ∙ k.1)
     ]

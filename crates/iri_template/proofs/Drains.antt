@@ -1,0 +1,189 @@
+-- How a loop writes the units that are told of what is held back.
+use Rattle.std.proofs.Common.{◌≡◌, ◌≤◌, ℕ, zero, suc, ◌+◌, ◌-◌, Bool, true, false, cond, List, [], ◌∷◌, ◌++◌, Option, Some, None, length}
+use Rattle.std.proofs.Common.{take, drop, refl, sym, ◌∙◌, ap, subst, arith, append_assoc, append-nil, length-append, Result, Ok, Err}
+use Rattle.std.specs.Prelude.{OnOk, OnErr}
+use Rattle.std.specs.Char.{encode_utf8}
+use Rattle.std.specs.Str.{IsUtf8}
+use Rattle.std.proofs.lemmas.Str.{chars-nil}
+use Rattle.iri_text.proofs.CharSteps.{first_char}
+use Rattle.iri_percent.specs.Encoding.{encoded_char, encoded}
+use Rattle.std.specs.List.{flat_map}
+use Rattle.iri_text.specs.Shown.{AreSinkLaws, Shows}
+use Rattle.iri_text.proofs.Compose.{HasShown, shown_none, shown_more, shown_exit, shows_all}
+use Rattle.iri_text.specs.declared.shown.show.Stop.{Stop}
+use Rattle.iri_grammar.specs.Classes.{Tests, any_char}
+use Rattle.iri_percent.specs.Units.{TextUnit, Plain, first_unit, units}
+use Rattle.iri_template.specs.Expansion.{kept_unit}
+use Rattle.iri_template.specs.inside.UnitSteps.{is_part, behind_unit, told_units, left_over, fewer, step_units, step_held, written_units}
+use Rattle.iri_template.specs.inside.UnitSteps.{unit_step_text}
+use Rattle.iri_template.specs.inside.UnitViews.{unit_at, unit_as, TellsNone, IsUnit, is_used_up}
+use Rattle.iri_template.proofs.UnitLaws.{behind_shorter, all_told, left_short, written-append}
+
+take_nil : {U : Type 0} (n : ℕ) → take {A = U} n [] ≡ []
+take_nil zero = refl
+take_nil (suc n) = refl
+
+-- one unit, where one more may be written
+pub one_unit : (s : Tests) (left : Option ℕ) (u : TextUnit) (t : List ℕ) → kept_unit s u ≡ t
+    → written_units s left (u ∷ []) ≡ cond (is_used_up left) [] t
+one_unit s None u t h = append-nil (kept_unit s u) ∙ h
+one_unit s (Some zero) u t h = refl
+one_unit s (Some (suc n)) u t h = ap (λ l. kept_unit s u ++ flat_map (kept_unit s) l) (take_nil n) ∙ append-nil (kept_unit s u) ∙ h
+
+-- the first of what is told, and the rest
+pub record Tells (end : Bool) (k : ℕ) (h : List ℕ) (len : ℕ) : Type 0 where
+  pub units : told_units end (suc k) h ≡ unit_at h ∷ told_units end k (drop len h)
+  pub over : left_over end (suc k) h ≡ left_over end k (drop len h)
+
+pub tells_one : (s : Tests) (end : Bool) (k : ℕ) (h : List ℕ) (len : ℕ) (stands : Bool) → IsUnit s end h len stands → Tells end k h len
+tells_one s end k [] len stands i = absurd (omega (arith, i.some, i.within))
+tells_one s end k (x ∷ xs) len stands i = record {
+  units = ap (λ b. cond b (first_unit x xs ∷ told_units end k (behind_unit x xs)) []) i.told
+      ∙ ap (λ n. first_unit x xs ∷ told_units end k (drop n (x ∷ xs))) i.all;
+  over = ap (λ b. cond b (left_over end k (behind_unit x xs)) (x ∷ xs)) i.told ∙ ap (λ n. left_over end k (drop n (x ∷ xs))) i.all;
+}
+
+-- so many more units may be told of what is held now, after some were written
+pub record Drained {W : Type 0} (s : Tests) (puts : W → List ℕ → W → Type 0) (stops : W → ℕ) (end : Bool) (first : List ℕ) (most : Option ℕ)
+    (old : W) (k : ℕ) (held : List ℕ) (left : Option ℕ) (new : W) : Type 0 where
+  pub before : List ℕ
+  pub put : HasShown puts stops old before new
+  pub split : written_units s most (told_units end 12 first) ≡ before ++ written_units s left (told_units end k held)
+  pub lefts : fewer most (length (told_units end 12 first)) ≡ fewer left (length (told_units end k held))
+  pub over : left_over end 12 first ≡ left_over end k held
+
+fewer_more : (left : Option ℕ) (n : ℕ) → fewer left (suc n) ≡ fewer (fewer left 1) n
+fewer_more None n = refl
+fewer_more (Some m) n = let e : m - suc n ≡ m - 1 - n = omega arith in ap Some e
+
+fewer_none : (left : Option ℕ) → fewer left 0 ≡ left
+fewer_none None = refl
+fewer_none (Some m) = let e : m - 0 ≡ m = omega arith in ap Some e
+
+-- what is written of the unit at the start and those behind it
+split_one : (s : Tests) (end : Bool) (k : ℕ) (held : List ℕ) (left : Option ℕ) (len : ℕ) (t : List ℕ) → Tells end k held len
+    → kept_unit s (unit_at held) ≡ t
+    → written_units s left (told_units end (suc k) held)
+    ≡ cond (is_used_up left) [] t ++ written_units s (fewer left 1) (told_units end k (drop len held))
+split_one s end k held left len t i e =
+    ap (written_units s left) i.units ∙ written-append s left (unit_at held ∷ []) (told_units end k (drop len held))
+    ∙ ap (λ l. l ++ written_units s (fewer left 1) (told_units end k (drop len held))) (one_unit s left (unit_at held) t e)
+
+-- no more is told
+pub record Ended {W : Type 0} (s : Tests) (puts halts : W → List ℕ → W → Type 0) (stops : W → ℕ) (end : Bool) (first : List ℕ)
+    (most : Option ℕ) (a : W) (held : List ℕ) (left : Option ℕ) (b : W) : Type 0 where
+  pub shows : Shows puts halts stops a (written_units s most (told_units end 12 first)) b (Ok tt)
+  pub holds : held ≡ left_over end 12 first
+  pub lefts : left ≡ fewer most (length (told_units end 12 first))
+
+module _ {W : Type 0} {puts halts : W → List ℕ → W → Type 0} {stops : W → ℕ} (laws : AreSinkLaws puts halts) (s : Tests) (end : Bool)
+    (first : List ℕ) (most : Option ℕ) where
+  pub drained_none : (a : W) → Drained s puts stops end first most a 12 first most a
+  drained_none a = record { before = []; put = shown_none laws a; split = refl; lefts = refl; over = refl }
+
+  pub drained_more : {a b c : W} {x : Unit {0}} (j k : ℕ) (held now : List ℕ) (left fewer_left : Option ℕ) (len : ℕ) (stands : Bool)
+      → j ≡ suc k → IsUnit s end held len stands → now ≡ drop len held → fewer_left ≡ fewer left 1
+      → Drained s puts stops end first most a j held left b
+      → Shows puts halts stops b (cond (is_used_up left) [] (unit_as s stands (take len held))) c (Ok x)
+      → Drained s puts stops end first most a k now fewer_left c
+  drained_more {a = a} {b = b} {c = c} {x = x} j k held now left fewer_left len stands e i is less d q =
+      let one = tells_one s end k held len stands i in
+      let t = cond (is_used_up left) [] (unit_as s stands (take len held)) in
+      let at : Drained s puts stops end first most a (suc k) held left b =
+      subst (λ n. Drained s puts stops end first most a n held left b) e d in
+      subst (λ (h : List ℕ). Drained s puts stops end first most a k h fewer_left c) (sym is)
+      (subst (λ (m : Option ℕ). Drained s puts stops end first most a k (drop len held) m c) (sym less) (record {
+        before = at.before ++ t;
+        put = shown_more laws at.put q;
+        split = at.split ∙ ap (λ l. at.before ++ l) (split_one s end k held left len (unit_as s stands (take len held)) one i.text)
+            ∙ sym (append_assoc at.before t (written_units s (fewer left 1) (told_units end k (drop len held))));
+        lefts = at.lefts ∙ ap (λ us. fewer left (length us)) one.units ∙ fewer_more left (length (told_units end k (drop len held)));
+        over = at.over ∙ one.over;
+      }))
+
+  pub drained_exit : {a b c : W} {e : Stop} (j k : ℕ) (held : List ℕ) (left : Option ℕ) (len : ℕ) (stands : Bool) → j ≡ suc k
+      → IsUnit s end held len stands
+      → Drained s puts stops end first most a j held left b
+      → Shows puts halts stops b (cond (is_used_up left) [] (unit_as s stands (take len held))) c (Err e)
+      → Shows puts halts stops a (written_units s most (told_units end 12 first)) c (Err e)
+  drained_exit {a = a} {b = b} {c = c} {e = stop} j k held left len stands e i d q =
+      let one = tells_one s end k held len stands i in
+      let t = cond (is_used_up left) [] (unit_as s stands (take len held)) in
+      let rest = written_units s (fewer left 1) (told_units end k (drop len held)) in
+      let at : Drained s puts stops end first most a (suc k) held left b =
+      subst (λ n. Drained s puts stops end first most a n held left b) e d in
+      subst (λ l. Shows puts halts stops a l c (Err stop))
+      (append_assoc at.before t rest ∙ sym (at.split
+      ∙ ap (λ l. at.before ++ l) (split_one s end k held left len (unit_as s stands (take len held)) one i.text)))
+      (shown_exit laws {r = Err stop} rest refl at.put q)
+
+  ended : {a b : W} (k : ℕ) (held : List ℕ) (left : Option ℕ) → told_units end k held ≡ [] → left_over end k held ≡ held
+      → Drained s puts stops end first most a k held left b → Ended s puts halts stops end first most a held left b
+  ended {a = a} {b = b} k held left none same d = record {
+    shows = subst (λ l. Shows puts halts stops a l b (Ok tt))
+        (sym (append-nil d.before) ∙ sym (d.split ∙ ap (λ us. d.before ++ written_units s left us) none
+        ∙ ap (λ l. d.before ++ l) (nothing left))) (shows_all d.put);
+    holds = sym (d.over ∙ same);
+    lefts = sym (d.lefts ∙ ap (λ us. fewer left (length us)) none ∙ fewer_none left);
+  }
+    where
+      nothing : (m : Option ℕ) → written_units s m [] ≡ []
+      nothing None = refl
+      nothing (Some zero) = refl
+      nothing (Some (suc n)) = refl
+
+  pub drained_end : {a b : W} (k : ℕ) (held : List ℕ) (left : Option ℕ) → TellsNone end held
+      → Drained s puts stops end first most a k held left b → Ended s puts halts stops end first most a held left b
+  drained_end k held left none d = ended k held left (none k).0 (none k).1 d
+
+  pub drained_out : {a b : W} (k : ℕ) (held : List ℕ) (left : Option ℕ) → k ≡ 0 → Drained s puts stops end first most a k held left b
+      → Ended s puts halts stops end first most a held left b
+  drained_out zero held left e d = ended 0 held left refl refl d
+  drained_out (suc k) held left e d = absurd (omega arith)
+
+fewer_both : (left : Option ℕ) (n m k : ℕ) → k ≡ n + m → fewer (fewer left n) m ≡ fewer left k
+fewer_both None n m k e = refl
+fewer_both (Some l) n m k e = let same : l - n - m ≡ l - k = omega arith in ap Some same
+
+pub all_left : (k : ℕ) (t : List ℕ) → length t ≤ k → left_over true k t ≡ []
+all_left zero [] h = refl
+all_left zero (x ∷ xs) h = absurd (omega arith)
+all_left (suc k) [] h = refl
+all_left (suc k) (x ∷ xs) h = all_left k (behind_unit x xs) (omega (arith, behind_shorter x xs))
+
+-- a character that is no part of a triplet: what is held ends, and the character follows
+pub record EndsHeld (s : Tests) (h : List ℕ) (left : Option ℕ) (c : ℕ) : Type 0 where
+  pub text : written_units s left (told_units true 12 h) ++ written_units s (fewer left (length (told_units true 12 h))) (Plain c ∷ [])
+      ≡ unit_step_text s (record { held = h; left = left }) c
+  pub lefts : fewer (fewer left (length (told_units true 12 h))) 1 ≡ fewer left (length (step_units h c))
+  pub none : left_over true 12 h ≡ []
+  pub held : step_held h c ≡ []
+
+pub ends_held : (s : Tests) (h : List ℕ) (left : Option ℕ) (c : ℕ) → length h ≤ 11 → is_part c ≡ false → EndsHeld s h left c
+ends_held s h left c short n =
+    let us : step_units h c ≡ told_units true 12 h ++ Plain c ∷ [] =
+    ap (λ b. cond b (told_units false 12 (h ++ c ∷ [])) (units h ++ Plain c ∷ [])) n
+    ∙ ap (λ l. l ++ Plain c ∷ []) (sym (all_told 12 h (omega arith))) in
+    let count : length (step_units h c) ≡ length (told_units true 12 h) + 1 =
+    ap length us ∙ length-append (told_units true 12 h) (Plain c ∷ []) in
+    record {
+      text = sym (written-append s left (told_units true 12 h) (Plain c ∷ [])) ∙ ap (written_units s left) (sym us);
+      lefts = fewer_both left (length (told_units true 12 h)) 1 (length (step_units h c)) count;
+      none = all_left 12 h (omega arith);
+      held = ap (λ b. cond b (left_over false 12 (h ++ c ∷ [])) []) n;
+    }
+
+pub part_short : (h left : List ℕ) (c : ℕ) (r : Result (Unit {0}) Stop) (now : List ℕ) → length h ≤ 11 → left ≡ h ++ c ∷ []
+    → OnOk r (now ≡ left_over false 12 left) → OnErr r (now ≡ []) → length now ≤ 11
+part_short h left c (Ok x) now short is p q =
+    let e : length left ≡ length h + 1 = ap length is ∙ length-append h (c ∷ []) in
+    let k = left_short 12 left (omega arith) in
+    omega (arith, ap length p, k)
+part_short h left c (Err e) now short is p q = omega (arith, ap length q)
+
+-- a plain character
+pub plain_unit : (s : Tests) (c : ℕ) (t : List ℕ) → IsUtf8 t → t ≡ encode_utf8 c → kept_unit s (Plain c) ≡ unit_as s false t
+unfolding encoded
+plain_unit s c t u e =
+    let f = first_char t [] c u (e ∙ sym (append-nil (encode_utf8 c))) in
+    sym (ap (flat_map (encoded_char (any_char s))) (f.first ∙ ap (λ l. c ∷ l) chars-nil) ∙ append-nil (encoded_char (any_char s) c))

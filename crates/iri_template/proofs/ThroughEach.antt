@@ -1,0 +1,46 @@
+-- How a loop writes the texts of things one by one, with those that are left.
+use Rattle.std.proofs.Common.{◌≡◌, ℕ, ◌+◌, ◌<◌, List, [], ◌∷◌, ◌++◌, ◌∙◌, ap, sym, subst, refl, append_assoc, append-nil, Result, Ok, Err}
+use Rattle.std.proofs.Common.{IsErr}
+use Rattle.iri_text.specs.Shown.{AreSinkLaws, Shows}
+use Rattle.iri_text.proofs.Compose.{HasShown, shown_none, shown_more, shown_exit, shows_all}
+use Rattle.iri_text.specs.declared.shown.show.Stop.{Stop}
+use Rattle.iri_text.specs.inside.Through.{after, texts}
+
+-- the texts of what is in front of the rest went in, and this is the state behind them
+pub record HasPutUpTo {X S W : Type 0} (step : S → X → S) (text : S → X → List ℕ) (puts : W → List ℕ → W → Type 0) (stops : W → ℕ)
+    (first : S) (all : List X) (old : W) (now : S) (rest : List X) (new : W) : Type 0 where
+  pub before : List ℕ
+  pub put : HasShown puts stops old before new
+  pub split : texts step text first all ≡ before ++ texts step text now rest
+  pub goes_on : after step text first all ≡ after step text now rest
+
+module _ {X S W : Type 0} (step : S → X → S) (text : S → X → List ℕ) {puts halts : W → List ℕ → W → Type 0} {stops : W → ℕ}
+    (laws : AreSinkLaws puts halts) (first : S) (all : List X) where
+  pub up_to_none : (a : W) → HasPutUpTo step text puts stops first all a first all a
+  up_to_none a = record { before = []; put = shown_none laws a; split = refl; goes_on = refl }
+
+  pub up_to_more : {a b c : W} {s n : S} {rest left : List X} {y : Unit {0}} (x : X) → rest ≡ x ∷ left → n ≡ step s x
+      → HasPutUpTo step text puts stops first all a s rest b → Shows puts halts stops b (text s x) c (Ok y)
+      → HasPutUpTo step text puts stops first all a n left c
+  up_to_more {a = a} {c = c} {s = s} {left = left} x is then p q =
+      subst (λ m. HasPutUpTo step text puts stops first all a m left c) (sym then) (record {
+        before = p.before ++ text s x;
+        put = shown_more laws p.put q;
+        split = p.split ∙ ap (λ l. p.before ++ texts step text s l) is
+            ∙ sym (append_assoc p.before (text s x) (texts step text (step s x) left));
+        goes_on = p.goes_on ∙ ap (λ l. after step text s l) is;
+      })
+
+  pub up_to_exit : {a b c : W} {s : S} {rest left : List X} {e : Stop} {r : Result (Unit {0}) Stop} (x : X) → rest ≡ x ∷ left → IsErr r
+      → HasPutUpTo step text puts stops first all a s rest b → Shows puts halts stops b (text s x) c (Err e)
+      → Shows puts halts stops a (texts step text first all) c r
+  up_to_exit {a = a} {c = c} {s = s} {left = left} {r = r} x is err p q =
+      subst (λ l. Shows puts halts stops a l c r) (append_assoc p.before (text s x) (texts step text (step s x) left)
+      ∙ sym (p.split ∙ ap (λ l. p.before ++ texts step text s l) is))
+      (shown_exit laws (texts step text (step s x) left) err p.put q)
+
+  pub up_to_end : {a b : W} {s : S} {rest : List X} → rest ≡ [] → HasPutUpTo step text puts stops first all a s rest b
+      → Shows puts halts stops a (texts step text first all) b (Ok tt)
+  up_to_end {a = a} {b = b} {s = s} is p =
+      subst (λ l. Shows puts halts stops a l b (Ok tt))
+      (sym (append-nil p.before) ∙ ap (λ l. p.before ++ texts step text s l) (sym is) ∙ sym p.split) (shows_all p.put)

@@ -1,0 +1,248 @@
+-- What is written for a text that comes character by character is what its units are written as.
+use Rattle.std.proofs.Common.{◌≡◌, ℕ, zero, suc, ◌*◌, ◌-◌, ◌<◌, ◌≤◌, Bool, true, false, cond, not, ◌&&◌, ◌||◌, List, [], ◌∷◌, ◌++◌, Option}
+use Rattle.std.proofs.Common.{Some, None, length, take, drop, refl, sym, ◌∙◌, ap, arith, append_assoc, append-nil, length-drop}
+use Rattle.std.specs.Prelude.{◌==◌, is_some, nat_le}
+use Rattle.std.specs.List.{flat_map}
+use Rattle.std.specs.Char.{is_ascii_hexdigit, len_utf8, encode_utf8}
+use Rattle.std.proofs.lemmas.Bool.Decides.{nat_tests}
+use Rattle.std.proofs.lemmas.Grind.{flat_map-append}
+use Rattle.std.proofs.lemmas.List.{take-append-le}
+use Rattle.std.proofs.lemmas.Str.{len_utf8_bounds, chars-nil}
+use Rattle.iri_grammar.specs.Classes.{Tests}
+use Rattle.iri_percent.specs.Units.{TextUnit, Plain, Char, Stray, is_triplet, octet, octets, well_formed, first_char, triplet_unit}
+use Rattle.iri_percent.specs.Units.{byte_unit, first_unit, unit_text, units_from, units}
+use Rattle.iri_percent.proofs.UnitLaws.{first_char_is, char_first, octets_other, byte_other, units_from_drop}
+use Rattle.iri_percent.specs.MarkLaws.{IsMark}
+use Rattle.iri_percent.proofs.MarkLaws.{char_within, unit_within, units_mark}
+use Rattle.iri_percent.proofs.Characters.{first_of_four}
+use Rattle.iri_text.specs.inside.Through.{after, texts}
+use Rattle.iri_template.specs.Expansion.{front, kept_unit}
+use Rattle.iri_template.specs.inside.UnitSteps.{is_part, is_closed, is_settled, behind_unit, told_units, left_over, UnitState, fewer}
+use Rattle.iri_template.specs.inside.UnitSteps.{step_units, step_held, unit_step, written_units, unit_step_text}
+
+-- ---- octets, whatever follows
+more_octets : (t r : List ℕ) → (zs : List ℕ) × (octets (t ++ r) ≡ octets t ++ zs)
+more_octets [] r = (octets r, refl)
+more_octets (x ∷ []) r = (octets (x ∷ r), refl)
+more_octets (x ∷ a ∷ []) r = (octets (x ∷ a ∷ r), refl)
+more_octets (x ∷ a ∷ b ∷ t) r =
+    elim (is_triplet x a b) as (λ v. (zs : List ℕ) × (cond v (octet a b ∷ octets (t ++ r)) [] ≡ cond v (octet a b ∷ octets t) [] ++ zs)) [
+      | true ↦ let m = more_octets t r in (m.0, ap (λ l. octet a b ∷ l) m.1)
+      | false ↦ ([], refl)
+    ]
+
+octets_taken : (n : ℕ) (t r : List ℕ) → 3 * n ≤ length t → take n (octets (t ++ r)) ≡ take n (octets t)
+octets_taken zero t r h = refl
+octets_taken (suc n) [] r h = absurd (omega arith)
+octets_taken (suc n) (x ∷ []) r h = absurd (omega arith)
+octets_taken (suc n) (x ∷ a ∷ []) r h = absurd (omega arith)
+octets_taken (suc n) (x ∷ a ∷ b ∷ t) r h =
+    elim (is_triplet x a b) as (λ v. take (suc n) (cond v (octet a b ∷ octets (t ++ r)) [])
+    ≡ take (suc n) (cond v (octet a b ∷ octets t) [])) [
+      | true ↦ ap (λ l. octet a b ∷ l) (octets_taken n t r (omega arith))
+      | false ↦ refl
+    ]
+
+not_true : (b : Bool) → not b ≡ true → b ≡ false
+not_true true h = cc
+not_true false h = refl
+
+and_more : (p q : Bool) (z : Bool) → (p && q) ≡ false → (p && (q && z)) ≡ false
+and_more true true z h = cc
+and_more true false z h = refl
+and_more false q z h = refl
+
+octets_closed : (t r : List ℕ) → is_closed t ≡ true → octets (t ++ r) ≡ octets t
+octets_closed [] r h = cc
+octets_closed (x ∷ []) r h = octets_other x r (not_true (x == 37) h)
+octets_closed (x ∷ a ∷ []) [] h = refl
+octets_closed (x ∷ a ∷ []) (b ∷ r) h = ap (λ v. cond v (octet a b ∷ octets r) [])
+    (and_more (x == 37) (is_ascii_hexdigit a) (is_ascii_hexdigit b) (not_true (x == 37 && is_ascii_hexdigit a) h))
+octets_closed (x ∷ a ∷ b ∷ t) r h =
+    elim (is_triplet x a b) as (λ v. cond v (is_closed t) true ≡ true
+    → cond v (octet a b ∷ octets (t ++ r)) [] ≡ cond v (octet a b ∷ octets t) []) [
+      | true ↦ λ k. ap (λ l. octet a b ∷ l) (octets_closed t r k)
+      | false ↦ λ k. refl
+    ] h
+
+-- ---- the character at the start, whatever follows
+or_cases : (a b : Bool) → (a || b) ≡ true → a ≡ false → b ≡ true
+or_cases true b h n = cc
+or_cases false b h n = h
+
+settled_char : (t r : List ℕ) → is_settled t ≡ true → first_char (octets (t ++ r)) ≡ first_char (octets t)
+settled_char t r h =
+    elim (first_char (octets t)) as (λ o. first_char (octets t) ≡ o → is_some o || (nat_le 12 (length t) || is_closed t) ≡ true
+    → first_char (octets (t ++ r)) ≡ o) [
+      | Some c ↦ λ e _.
+          let g = first_char_is (octets t) c e in
+          let m = more_octets t r in
+          ap first_char (m.1 ∙ ap (λ l. l ++ m.0) g.split ∙ append_assoc (encode_utf8 c) g.rest m.0)
+          ∙ char_first c (g.rest ++ m.0) g.is_scalar
+      | None ↦ λ e k. at e k
+    ] refl h
+  where
+    at : first_char (octets t) ≡ None → (nat_le 12 (length t) || is_closed t) ≡ true → first_char (octets (t ++ r)) ≡ None
+    at e k =
+        elim (nat_le 12 (length t)) as (λ b. nat_le 12 (length t) ≡ b → (b || is_closed t) ≡ true → first_char (octets (t ++ r)) ≡ None) [
+          | true ↦ λ n _.
+              let long : 3 * 4 ≤ length t = grind (arith, nat_tests) in
+              sym (first_of_four (octets (t ++ r))) ∙ ap first_char (octets_taken 4 t r long) ∙ first_of_four (octets t) ∙ e
+          | false ↦ λ _ c. ap first_char (octets_closed t r c) ∙ e
+        ] refl k
+
+-- ---- the unit at the start, whatever follows
+unit_more : (a b : ℕ) (t r : List ℕ) (o : Option ℕ) → first_char (octets t) ≡ o → triplet_unit a b (t ++ r) o ≡ triplet_unit a b t o
+unit_more a b t r None h = refl
+unit_more a b t r (Some c) h = ap (λ l. Char c l) (take-append-le (3 * len_utf8 c) t r (char_within t c h))
+
+pub no_char : first_char [] ≡ None
+unfolding first_char
+no_char = ap (well_formed []) chars-nil
+
+settled_short : (t : List ℕ) (b : Bool) → octets t ≡ [] → is_some (first_char (octets t)) || b ≡ true → b ≡ true
+settled_short t b e h = or_cases (is_some (first_char (octets t))) b h (ap is_some (ap first_char e ∙ no_char))
+
+first_settled : (x : ℕ) (xs r : List ℕ) → is_settled (x ∷ xs) ≡ true → first_unit x (xs ++ r) ≡ first_unit x xs
+first_settled x [] r h = let other = not_true (x == 37) (settled_short (x ∷ []) (not (x == 37)) refl h) in
+    byte_other x r other ∙ sym (byte_other x [] other)
+first_settled x (a ∷ []) [] h = refl
+first_settled x (a ∷ []) (b ∷ r) h =
+    let none = not_true (x == 37 && is_ascii_hexdigit a) (settled_short (x ∷ a ∷ []) (not (x == 37 && is_ascii_hexdigit a)) refl h) in
+    ap (λ v. cond v (triplet_unit a b (x ∷ a ∷ b ∷ r) (first_char (octets (x ∷ a ∷ b ∷ r)))) (byte_unit x))
+    (and_more (x == 37) (is_ascii_hexdigit a) (is_ascii_hexdigit b) none)
+first_settled x (a ∷ b ∷ xs) r h =
+    ap (λ u. cond (is_triplet x a b) u (byte_unit x))
+    (ap (triplet_unit a b (x ∷ a ∷ b ∷ (xs ++ r))) (settled_char (x ∷ a ∷ b ∷ xs) r h)
+    ∙ unit_more a b (x ∷ a ∷ b ∷ xs) r (first_char (octets (x ∷ a ∷ b ∷ xs))) refl)
+
+-- a unit has bytes
+some_taken : (n x : ℕ) (xs : List ℕ) → 0 < n → 0 < length (take n (x ∷ xs))
+some_taken zero x xs h = absurd (omega arith)
+some_taken (suc n) x xs h = omega arith
+
+some_byte : (x : ℕ) → 0 < length (unit_text (byte_unit x))
+some_byte x = elim (x == 37) as (λ v. 0 < length (unit_text (cond v Stray (Plain x)))) [ true ↦ omega arith | false ↦ omega arith ]
+
+some_triplet : (x a b : ℕ) (xs : List ℕ) (o : Option ℕ) → 0 < length (unit_text (triplet_unit a b (x ∷ a ∷ b ∷ xs) o))
+some_triplet x a b xs None = omega arith
+some_triplet x a b xs (Some c) = some_taken (3 * len_utf8 c) x (a ∷ b ∷ xs) (omega (arith, len_utf8_bounds c))
+
+pub unit_some : (x : ℕ) (xs : List ℕ) → 0 < length (unit_text (first_unit x xs))
+unit_some x [] = some_byte x
+unit_some x (a ∷ []) = some_byte x
+unit_some x (a ∷ b ∷ xs) =
+    elim (is_triplet x a b) as (λ v. 0 < length (unit_text
+    (cond v (triplet_unit a b (x ∷ a ∷ b ∷ xs) (first_char (octets (x ∷ a ∷ b ∷ xs)))) (byte_unit x)))) [
+      | true ↦ some_triplet x a b xs (first_char (octets (x ∷ a ∷ b ∷ xs)))
+      | false ↦ some_byte x
+    ]
+
+drop_front : (n : ℕ) (xs r : List ℕ) → n ≤ length xs → drop n (xs ++ r) ≡ drop n xs ++ r
+drop_front zero xs r h = refl
+drop_front (suc n) [] r h = absurd (omega arith)
+drop_front (suc n) (x ∷ xs) r h = drop_front n xs r (omega arith)
+
+drop_within : (n x : ℕ) (xs r : List ℕ) → 0 < n → n ≤ length (x ∷ xs) → drop (n - 1) (xs ++ r) ≡ drop n (x ∷ xs) ++ r
+drop_within zero x xs r h k = absurd (omega arith)
+drop_within (suc n) x xs r h k = let e : suc n - 1 ≡ n = omega arith in ap (λ m. drop m (xs ++ r)) e ∙ drop_front n xs r (omega arith)
+
+-- the unit at the start, and the units behind it
+units_first : (x : ℕ) (xs r : List ℕ) → first_unit x (xs ++ r) ≡ first_unit x xs
+    → units (x ∷ (xs ++ r)) ≡ first_unit x xs ∷ units (behind_unit x xs ++ r)
+unfolding units_from
+units_first x xs r h =
+    let n = length (unit_text (first_unit x xs)) in
+    ap (λ u. u ∷ units_from (length (unit_text u) - 1) (xs ++ r)) h
+    ∙ ap (λ us. first_unit x xs ∷ us) (units_from_drop (n - 1) (xs ++ r)
+    ∙ ap units (drop_within n x xs r (unit_some x xs) (unit_within x xs)))
+
+pub units_one : (x : ℕ) (xs : List ℕ) → units (x ∷ xs) ≡ first_unit x xs ∷ units (behind_unit x xs)
+units_one x xs = ap (λ l. units (x ∷ l)) (sym (append-nil xs)) ∙ units_first x xs [] (ap (first_unit x) (append-nil xs))
+    ∙ ap (λ l. first_unit x xs ∷ units l) (append-nil (behind_unit x xs))
+
+pub behind_shorter : (x : ℕ) (xs : List ℕ) → length (behind_unit x xs) < length (x ∷ xs)
+behind_shorter x xs = omega (arith, length-drop (length (unit_text (first_unit x xs))) (x ∷ xs), unit_some x xs, unit_within x xs)
+
+-- ---- units that are told as long as they are settled, and all of them
+drained : (k : ℕ) (t r : List ℕ) → units (t ++ r) ≡ told_units false k t ++ units (left_over false k t ++ r)
+drained zero t r = refl
+drained (suc k) [] r = refl
+drained (suc k) (x ∷ xs) r =
+    elim (is_settled (x ∷ xs)) as (λ b. is_settled (x ∷ xs) ≡ b
+    → units (x ∷ (xs ++ r)) ≡ cond b (first_unit x xs ∷ told_units false k (behind_unit x xs)) []
+    ++ units (cond b (left_over false k (behind_unit x xs)) (x ∷ xs) ++ r)) [
+      | true ↦ λ e. units_first x xs r (first_settled x xs r e) ∙ ap (λ us. first_unit x xs ∷ us) (drained k (behind_unit x xs) r)
+      | false ↦ λ _. refl
+    ] refl
+
+pub all_told : (k : ℕ) (t : List ℕ) → length t ≤ k → told_units true k t ≡ units t
+unfolding units_from
+all_told zero [] h = refl
+all_told zero (x ∷ xs) h = absurd (omega arith)
+all_told (suc k) [] h = refl
+all_told (suc k) (x ∷ xs) h = ap (λ us. first_unit x xs ∷ us) (all_told k (behind_unit x xs) (omega (arith, behind_shorter x xs)))
+    ∙ sym (units_one x xs)
+
+unsettled_short : (t : List ℕ) → is_settled t ≡ false → length t ≤ 11
+unsettled_short t h =
+    let n : nat_le 12 (length t) ≡ false = neither (is_some (first_char (octets t))) (nat_le 12 (length t)) (is_closed t) h in
+    grind (arith, nat_tests)
+  where
+    neither : (a b c : Bool) → a || (b || c) ≡ false → b ≡ false
+    neither true b c k = cc
+    neither false true c k = cc
+    neither false false c k = refl
+
+pub left_short : (k : ℕ) (t : List ℕ) → length t ≤ k → length (left_over false k t) ≤ 11
+left_short zero [] h = omega arith
+left_short zero (x ∷ xs) h = absurd (omega arith)
+left_short (suc k) [] h = omega arith
+left_short (suc k) (x ∷ xs) h =
+    elim (is_settled (x ∷ xs)) as (λ b. is_settled (x ∷ xs) ≡ b → length (cond b (left_over false k (behind_unit x xs)) (x ∷ xs)) ≤ 11) [
+      | true ↦ λ _. left_short k (behind_unit x xs) (omega (arith, behind_shorter x xs))
+      | false ↦ λ e. unsettled_short (x ∷ xs) e
+    ] refl
+
+-- ---- the step
+no_part : (c : ℕ) → is_part c ≡ false → IsMark c
+no_part c h = elim (c == 37) as (λ b. (c == 37) ≡ b → b || is_ascii_hexdigit c ≡ false
+    → IsMark c) [ true ↦ λ _ k. cc | false ↦ λ e k. record { percent = e; digit = k } ] refl h
+
+step_law : (h : List ℕ) (c : ℕ) (r : List ℕ) → units (h ++ c ∷ r) ≡ step_units h c ++ units (step_held h c ++ r)
+step_law h c r =
+    elim (is_part c) as (λ b. is_part c ≡ b → units (h ++ c ∷ r)
+    ≡ cond b (told_units false 12 (h ++ c ∷ [])) (units h ++ Plain c ∷ [])
+    ++ units (cond b (left_over false 12 (h ++ c ∷ [])) [] ++ r)) [
+      | true ↦ λ _. ap units (sym (append_assoc h (c ∷ []) r)) ∙ drained 12 (h ++ c ∷ []) r
+      | false ↦ λ e. units_mark c h r (no_part c e) ∙ sym (append_assoc (units h) (Plain c ∷ []) (units r))
+    ] refl
+
+-- the first of two lists in a row
+take_front : {U : Type 0} (n : ℕ) (us vs : List U) → take n (us ++ vs) ≡ take n us ++ take (n - length us) vs
+take_front zero us vs = let e : 0 ≡ 0 - length us = omega arith in ap (λ k. take k vs) e
+take_front (suc n) [] vs = let e : suc n ≡ suc n - 0 = omega arith in ap (λ k. take k vs) e
+take_front (suc n) (u ∷ us) vs = let e : n - length us ≡ suc n - suc (length us) = omega arith in
+    ap (λ l. u ∷ l) (take_front n us vs ∙ ap (λ k. take n us ++ take k vs) e)
+
+front_both : {U : Type 0} (left : Option ℕ) (us vs : List U) → front left (us ++ vs) ≡ front left us ++ front (fewer left (length us)) vs
+front_both None us vs = refl
+front_both (Some n) us vs = take_front n us vs
+
+pub written-append : (s : Tests) (left : Option ℕ) (us vs : List TextUnit)
+    → written_units s left (us ++ vs) ≡ written_units s left us ++ written_units s (fewer left (length us)) vs
+written-append s left us vs = ap (flat_map (kept_unit s)) (front_both left us vs)
+    ∙ flat_map-append (kept_unit s) (front left us) (front (fewer left (length us)) vs)
+
+-- ---- the whole: what was written for a text, and what is held behind it
+pub units_all : (s : Tests) (u : UnitState) (t : List ℕ)
+    → texts unit_step (unit_step_text s) u t ++ written_units s (after unit_step (unit_step_text s) u t).left
+    (units (after unit_step (unit_step_text s) u t).held) ≡ written_units s u.left (units (u.held ++ t))
+units_all s u [] = ap (λ l. written_units s u.left (units l)) (sym (append-nil u.held))
+units_all s u (c ∷ t) =
+    let n = unit_step u c in
+    let end = written_units s (after unit_step (unit_step_text s) n t).left (units (after unit_step (unit_step_text s) n t).held) in
+    append_assoc (unit_step_text s u c) (texts unit_step (unit_step_text s) n t) end
+    ∙ ap (λ l. unit_step_text s u c ++ l) (units_all s n t)
+    ∙ sym (written-append s u.left (step_units u.held c) (units (n.held ++ t)))
+    ∙ ap (written_units s u.left) (sym (step_law u.held c t))

@@ -1,0 +1,116 @@
+-- A walk over varspecs without a fault: what is written of them, and their values' types.
+use Rattle.std.proofs.Common.{◌≡◌, ℕ, ◌+◌, Bool, true, false, cond, ◌||◌, List, [], ◌∷◌, ◌++◌, Option, Some, None, length, map, refl, sym}
+use Rattle.std.proofs.Common.{◌∙◌, ap}
+use Rattle.std.specs.List.{flat_map}
+use denote.Ref.{Bor}
+use Rattle.iri_grammar.specs.Classes.{Tests}
+use Rattle.iri_grammar.specs.Cut.{before, behind}
+use Rattle.iri_grammar.specs.Pieces.{pieces}
+use Rattle.iri_grammar.specs.inside.PiecesLaws.{more_pieces}
+use Rattle.iri_grammar.proofs.PiecesLaws.{pieces_cut}
+use Rattle.iri_grammar.specs.OptionalSlices.{now_of}
+use Rattle.iri_text.specs.inside.Through.{texts}
+use Rattle.iri_template.specs.Template as template
+use Rattle.iri_template.specs.Template.{varspec_text}
+use Rattle.iri_template.specs.Expansion.{row_of, varspec_texts, expression_text}
+use Rattle.iri_template.specs.Fault.{moved, varspec_fault, varspecs_fault, fault}
+use Rattle.iri_template.specs.Left.{varspecs_left}
+use Rattle.iri_template.specs.Reading.{name_of, varspec_of}
+use Rattle.iri_template.specs.ShownValues.{ShownValue}
+use Rattle.iri_template.specs.TypeFaults.{is_mistyped, is_mistyped_as, varspecs_type_fault}
+use Rattle.iri_template.specs.VarSpecs.{held, IsHeld}
+use Rattle.iri_template.specs.inside.Written.{led, has_texts, told_texts}
+use Rattle.iri_template.specs.declared.error.ErrorKind.TheVariants.{UnexpectedValueType}
+use Rattle.iri_template.specs.declared.operator.Operator.{Operator}
+use Rattle.iri_template.specs.declared.var_spec.VarSpec.{VarSpec}
+use Rattle.iri_template.proofs.FaultLemmas.{moved_none}
+use Rattle.iri_template.proofs.Telling.{held_texts, led_expression, led-append}
+use Rattle.iri_template.proofs.VarSpecLemmas.{varspec_is}
+use Rattle.iri_template.proofs.Walks.{taken}
+
+-- ---- the first varspec
+pub cut_spec : (t : List ℕ) (o : Option (Bor (List ℕ))) → now_of o ≡ behind 44 t → pieces 44 t ≡ before 44 t ∷ varspecs_left o
+cut_spec t None e = pieces_cut 44 t ∙ ap (λ o. before 44 t ∷ more_pieces 44 o) (sym e)
+cut_spec t (Some r) e = pieces_cut 44 t ∙ ap (λ o. before 44 t ∷ more_pieces 44 o) (sym e)
+
+pub fine_left : (t : List ℕ) (o : Option (Bor (List ℕ))) → now_of o ≡ behind 44 t → moved 0 (varspec_fault (before 44 t)) ≡ None
+    → varspecs_fault 0 (pieces 44 t) ≡ None → varspecs_fault 0 (varspecs_left o) ≡ None
+fine_left t o e h k = (taken t (name_of (before 44 t)) o e refl h k).fine
+
+-- ---- what is written
+abbrev pub spec_texts : Tests → Operator → (List ℕ → ShownValue) → List ℕ → List (List ℕ)
+spec_texts s operator value p = varspec_texts s operator value (varspec_of p)
+
+abbrev pub spec_step : Tests → Operator → (List ℕ → ShownValue) → Bool → List ℕ → Bool
+spec_step s operator value written p = written || has_texts (spec_texts s operator value p)
+
+abbrev pub spec_text : Tests → Operator → (List ℕ → ShownValue) → Bool → List ℕ → List ℕ
+spec_text s operator value written p = led (row_of operator) written (spec_texts s operator value p)
+
+pub held_spec : (s : Tests) (operator : Operator) (value : List ℕ → ShownValue) (v : VarSpec) (w : template.VarSpec) → IsHeld v w
+    → told_texts s (row_of operator) v.name.text.now v.modifier (value v.name.text.now) ≡ varspec_texts s operator value w
+held_spec s operator value v w i =
+    ap (λ n. told_texts s (row_of operator) n v.modifier (value n)) i.name
+    ∙ ap (λ m. told_texts s (row_of operator) w.name m (value w.name)) i.modifier
+    ∙ held_texts s (row_of operator) w.name w.modifier (value w.name)
+
+all_specs : (s : Tests) (operator : Operator) (value : List ℕ → ShownValue) (written : Bool) (ps : List (List ℕ))
+    → texts (spec_step s operator value) (spec_text s operator value) written ps
+    ≡ led (row_of operator) written (flat_map (varspec_texts s operator value) (map varspec_of ps))
+all_specs s operator value written [] = refl
+all_specs s operator value written (p ∷ ps) =
+    ap (λ l. spec_text s operator value written p ++ l) (all_specs s operator value (spec_step s operator value written p) ps)
+    ∙ sym (led-append (row_of operator) written (spec_texts s operator value p)
+    (flat_map (varspec_texts s operator value) (map varspec_of ps)))
+
+pub whole_expression : (s : Tests) (operator : Operator) (value : List ℕ → ShownValue) (ps : List (List ℕ))
+    → texts (spec_step s operator value) (spec_text s operator value) false ps
+    ≡ expression_text (row_of operator) (flat_map (varspec_texts s operator value) (map varspec_of ps))
+whole_expression s operator value ps = all_specs s operator value false ps
+    ∙ led_expression (row_of operator) (flat_map (varspec_texts s operator value) (map varspec_of ps))
+
+-- ---- types
+pub spec_len : (p : List ℕ) → moved 0 (varspec_fault p) ≡ None → length (varspec_text (varspec_of p)) ≡ length p
+spec_len p h = ap length (varspec_is p (sym (moved_none (varspec_fault p)) ∙ h)).1
+
+held_mistyped : (m : template.Modifier) (v : ShownValue) → is_mistyped_as (held m) v ≡ is_mistyped m v
+held_mistyped template.whole v = refl
+held_mistyped template.explode v = refl
+held_mistyped (template.prefix ds) v = refl
+
+pub mistyped_spec : (value : List ℕ → ShownValue) (v : VarSpec) (w : template.VarSpec) → IsHeld v w
+    → is_mistyped_as v.modifier (value v.name.text.now) ≡ is_mistyped w.modifier (value w.name)
+mistyped_spec value v w i = ap (λ n. is_mistyped_as v.modifier (value n)) i.name ∙ ap (λ m. is_mistyped_as m (value w.name)) i.modifier
+    ∙ held_mistyped w.modifier (value w.name)
+
+pub types_spec : (value : List ℕ → ShownValue) (at : ℕ) (t : List ℕ) (o : Option (Bor (List ℕ))) → now_of o ≡ behind 44 t
+    → moved 0 (varspec_fault (before 44 t)) ≡ None
+    → varspecs_type_fault value at (map varspec_of (pieces 44 t))
+    ≡ cond (is_mistyped (varspec_of (before 44 t)).modifier (value (varspec_of (before 44 t)).name)) (fault UnexpectedValueType at)
+    (varspecs_type_fault value (at + length (before 44 t) + 1) (map varspec_of (varspecs_left o)))
+types_spec value at t o e h =
+    let w = varspec_of (before 44 t) in
+    ap (λ ps. varspecs_type_fault value at (map varspec_of ps)) (cut_spec t o e)
+    ∙ ap (λ n. cond (is_mistyped w.modifier (value w.name)) (fault UnexpectedValueType at)
+    (varspecs_type_fault value (at + n + 1) (map varspec_of (varspecs_left o)))) (spec_len (before 44 t) h)
+
+-- the value of the first is of the right type
+pub next_spec : (value : List ℕ → ShownValue) (at : ℕ) (t : List ℕ) (v : VarSpec) (o : Option (Bor (List ℕ))) → now_of o ≡ behind 44 t
+    → moved 0 (varspec_fault (before 44 t)) ≡ None → IsHeld v (varspec_of (before 44 t))
+    → is_mistyped_as v.modifier (value v.name.text.now) ≡ false
+    → varspecs_type_fault value at (map varspec_of (pieces 44 t))
+    ≡ varspecs_type_fault value (at + length (before 44 t) + 1) (map varspec_of (varspecs_left o))
+next_spec value at t v o e h i n =
+    types_spec value at t o e h ∙ ap (λ b. cond b (fault UnexpectedValueType at)
+    (varspecs_type_fault value (at + length (before 44 t) + 1) (map varspec_of (varspecs_left o))))
+    (sym (mistyped_spec value v (varspec_of (before 44 t)) i) ∙ n)
+
+-- it isn't
+pub wrong_spec : (value : List ℕ → ShownValue) (at : ℕ) (t : List ℕ) (v : VarSpec) (o : Option (Bor (List ℕ))) → now_of o ≡ behind 44 t
+    → moved 0 (varspec_fault (before 44 t)) ≡ None → IsHeld v (varspec_of (before 44 t))
+    → is_mistyped_as v.modifier (value v.name.text.now) ≡ true
+    → varspecs_type_fault value at (map varspec_of (pieces 44 t)) ≡ fault UnexpectedValueType at
+wrong_spec value at t v o e h i n =
+    types_spec value at t o e h ∙ ap (λ b. cond b (fault UnexpectedValueType at)
+    (varspecs_type_fault value (at + length (before 44 t) + 1) (map varspec_of (varspecs_left o))))
+    (sym (mistyped_spec value v (varspec_of (before 44 t)) i) ∙ n)

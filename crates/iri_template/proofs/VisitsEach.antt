@@ -1,0 +1,63 @@
+-- How a loop tells the members of a value one by one, with those that are left.
+use Rattle.std.proofs.Common.{◌≡◌, ℕ, List, [], ◌∷◌, ◌++◌, map, ◌∙◌, ap, sym, subst, refl, append_assoc, append-nil, Result, Ok, Err, IsErr}
+use Rattle.std.proofs.lemmas.List.{map-append}
+use Rattle.iri_text.specs.Shown.{AreSinkLaws}
+use Rattle.iri_text.specs.declared.shown.show.Stop.{Stop}
+use Rattle.iri_template.specs.Events.{Event, Finished}
+use Rattle.iri_template.specs.Visits.{Visits}
+use Rattle.iri_template.proofs.VisitsCompose.{HasHeard, heard_first, heard_more, heard_then, heard_exit}
+use Rattle.iri_template.specs.declared.visitor.VisitPurpose.{VisitPurpose}
+use Rattle.iri_template.specs.declared.visitor.Phase.{Phase}
+
+-- of these members those in front of the rest were told
+pub record HasHeardUpTo {V X Y : Type 0} (name : V → List ℕ) (aim : V → VisitPurpose) (phase : V → Phase)
+    (hears : V → List Event → V → Type 0) (stops : V → ℕ) (begun : Event) (h : Y → Event) (f : X → Y) (inside : Phase) (old : V)
+    (members rest : List X) (new : V) : Type 0 where
+  pub told : List X
+  pub split : told ++ rest ≡ members
+  pub heard : HasHeard name aim phase hears stops old (begun ∷ map h (map f told)) inside new
+
+module _ {X Y : Type 0} (h : Y → Event) (f : X → Y) where
+  told_more : (told : List X) (x : X) → map h (map f told) ++ (h (f x) ∷ []) ≡ map h (map f (told ++ (x ∷ [])))
+  told_more told x = sym (ap (map h) (map-append f told (x ∷ [])) ∙ map-append h (map f told) (f x ∷ []))
+
+  members_split : (told left members : List X) (x : X) → told ++ (x ∷ left) ≡ members
+      → (map h (map f told) ++ (h (f x) ∷ [])) ++ (map h (map f left) ++ (Finished ∷ [])) ≡ map h (map f members) ++ (Finished ∷ [])
+  members_split told left members x is =
+      sym (append_assoc (map h (map f told) ++ (h (f x) ∷ [])) (map h (map f left)) (Finished ∷ []))
+      ∙ ap (λ es. es ++ (Finished ∷ [])) (append_assoc (map h (map f told)) (h (f x) ∷ []) (map h (map f left))
+      ∙ sym (ap (map h) (map-append f told (x ∷ left)) ∙ map-append h (map f told) (map f (x ∷ left))) ∙ ap (λ l. map h (map f l)) is)
+
+module _ {V X Y : Type 0} {name : V → List ℕ} {aim : V → VisitPurpose} {phase : V → Phase} {hears halts : V → List Event → V
+    → Type 0} {stops : V → ℕ} (laws : AreSinkLaws hears halts) (begun : Event) (h : Y → Event) (f : X → Y) (inside : Phase) where
+  pub up_to_none : {a b : V} {x : Unit {0}} (members : List X) → Visits name aim phase hears halts stops a (begun ∷ []) inside b (Ok x)
+      → HasHeardUpTo name aim phase hears stops begun h f inside a members members b
+  up_to_none members q = record { told = []; split = refl; heard = heard_first laws q }
+
+  pub up_to_more : {a b c : V} {members rest left : List X} {y : Unit {0}} (x : X) → rest ≡ x ∷ left
+      → HasHeardUpTo name aim phase hears stops begun h f inside a members rest b
+      → Visits name aim phase hears halts stops b (h (f x) ∷ []) inside c (Ok y)
+      → HasHeardUpTo name aim phase hears stops begun h f inside a members left c
+  up_to_more {a = a} {c = c} {left = left} x is p q = record {
+    told = p.told ++ (x ∷ []);
+    split = append_assoc p.told (x ∷ []) left ∙ ap (λ l. p.told ++ l) (sym is) ∙ p.split;
+    heard = subst (λ es. HasHeard name aim phase hears stops a (begun ∷ es) inside c) (told_more h f p.told x) (heard_more laws p.heard q);
+  }
+
+  pub up_to_exit : {a b c : V} {members rest left : List X} {e : Stop} {r : Result (Unit {0}) Stop} (x : X) (end : Phase) → rest ≡ x ∷ left
+      → IsErr r → HasHeardUpTo name aim phase hears stops begun h f inside a members rest b
+      → Visits name aim phase hears halts stops b (h (f x) ∷ []) inside c (Err e)
+      → Visits name aim phase hears halts stops a (begun ∷ (map h (map f members) ++ (Finished ∷ []))) end c r
+  up_to_exit {a = a} {c = c} {members = members} {left = left} {r = r} x end is err p q =
+      subst (λ es. Visits name aim phase hears halts stops a (begun ∷ es) end c r)
+      (members_split h f p.told left members x (ap (λ l. p.told ++ l) (sym is) ∙ p.split))
+      (heard_exit laws (map h (map f left) ++ (Finished ∷ [])) end err p.heard q)
+
+  pub up_to_end : {a b c : V} {members rest : List X} {r : Result (Unit {0}) Stop} (end : Phase) → rest ≡ []
+      → HasHeardUpTo name aim phase hears stops begun h f inside a members rest b
+      → Visits name aim phase hears halts stops b (Finished ∷ []) end c r
+      → Visits name aim phase hears halts stops a (begun ∷ (map h (map f members) ++ (Finished ∷ []))) end c r
+  up_to_end {a = a} {c = c} {members = members} {r = r} end is p q =
+      subst (λ l. Visits name aim phase hears halts stops a (begun ∷ (map h (map f l) ++ (Finished ∷ []))) end c r)
+      (sym (append-nil p.told) ∙ ap (λ l. p.told ++ l) (sym is) ∙ p.split)
+      (heard_then laws p.heard q)

@@ -1,0 +1,48 @@
+use Rattle.std.proofs.Common.{◌∙◌, sym, subst, ap}
+use Rattle.std.specs.Str.{IsUtf8, chars}
+use Rattle.std.specs.Str.Iter.{chars_rest}
+use Rattle.iri_text.proofs.CharSteps.{first_char, no_chars}
+use Rattle.iri_template.specs.inside.CharFront.{front_step, char_text}
+use Rattle.iri_text.specs.inside.Through.{after}
+use Rattle.iri_template.proofs.ThroughEach.{HasPutUpTo, up_to_none, up_to_more, up_to_exit, up_to_end}
+use Rattle.iri_template.proofs.char_front.put_front.Goals as goal
+
+pub loop-c-init : goal.loop-c-init
+loop-c-init g c =
+    let e = ap chars_rest c.into_iter-c-iterator.ensures.into_iter_gives ∙ c.chars-c-items.ensures.rest in
+    record {
+      can = tt;
+      ends = tt;
+      utf8 = subst IsUtf8 (sym e) c.utf8.text;
+      far =
+          subst (λ l. HasPutUpTo front_step (char_text g.S.Spec.tests) g.W.TextSink.puts g.W.TextSink.stops c.args.left.now
+          (chars c.args.text.now) c.args.sink.now c.args.left.now (chars l) c.args.sink.now) (sym e)
+          (up_to_none front_step (char_text g.S.Spec.tests) g.met.W.TextSink.rules c.args.left.now (chars c.args.text.now) c.args.sink.now);
+    }
+
+pub loop-c-preserved : goal.loop-c-preserved
+loop-c-preserved g c =
+    let i = c.loop-c.invariant in
+    let f = first_char _ _ c.in-Some.c i.utf8 c.in-Some.ensures.steps.0 in
+    record {
+      can = tt;
+      ends = tt;
+      utf8 = f.utf8;
+      far = up_to_more front_step (char_text g.S.Spec.tests) g.met.W.TextSink.rules c.args.left.now
+          (chars c.args.text.now) c.in-Some.c f.first c.saturating_sub.ensures i.far c.in_ok-put_if_left.ensures;
+    }
+
+pub returns-in_err-put_if_left-clause-shows : goal.returns-in_err-put_if_left-clause-shows
+returns-in_err-put_if_left-clause-shows g c =
+    let i = c.loop-c.invariant in
+    let f = first_char _ _ c.in-Some.c i.utf8 c.in-Some.ensures.steps.0 in
+    up_to_exit front_step (char_text g.S.Spec.tests) g.met.W.TextSink.rules c.args.left.now
+    (chars c.args.text.now) c.in-Some.c f.first c.from_residual.ensures.0 i.far c.in_err-put_if_left.ensures
+
+pub returns-clause-shows : goal.returns-clause-shows
+returns-clause-shows g c = up_to_end front_step (char_text g.S.Spec.tests) g.met.W.TextSink.rules c.args.left.now (chars c.args.text.now)
+    (no_chars _ c.in-None.ensures.steps.0.0) c.loop-c.invariant.far
+
+pub returns-clause-left : goal.returns-clause-left
+returns-clause-left g c = sym (c.loop-c.invariant.far.goes_on
+    ∙ ap (λ l. after front_step (char_text g.S.Spec.tests) c.loop-c.left l) (no_chars _ c.in-None.ensures.steps.0.0))

@@ -1,0 +1,10 @@
+use Rattle.iri_template.specs.Events.{ListBegun, Item}
+use Rattle.iri_template.proofs.VisitsEach.{HasHeardUpTo}
+use Rattle.iri_template.specs.declared.visitor.Phase.TheVariants.{InList}
+use Rattle.iri_template.proofs.naive.BTreeSetVisitValueNaive.visit_value.Given as goal
+
+-- the items in front of those that are left were told
+abbrev pub invariant-loop-item : goal.invariant-loop-item
+invariant-loop-item g l =
+    let v = g.V.Visitor in
+    HasHeardUpTo v.name v.aim v.phase v.hears v.stops ListBegun Item g.T.Show.text InList l.fn.visitor l.self.keys l.item-iterator l.visitor

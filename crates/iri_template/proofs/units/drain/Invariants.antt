@@ -1,0 +1,13 @@
+use Rattle.std.proofs.Common.{◌-◌, ◌≤◌}
+use Rattle.iri_template.proofs.Drains.{Drained}
+use Rattle.iri_template.proofs.units.drain.Given as goal
+
+-- so many units were told, and those in front of the rest were written
+abbrev pub invariant-units : goal.invariant-units
+invariant-units g l = record {
+  most : l.told ≤ 12;
+  far : Drained g.S.Spec.tests g.W.TextSink.puts g.W.TextSink.stops l.end l.fn.held l.fn.left l.fn.sink (12 - l.told) l.held l.left l.sink;
+}
+
+abbrev pub decreases-units : goal.decreases-units
+decreases-units g l = 12 - l.told

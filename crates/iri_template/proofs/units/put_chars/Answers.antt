@@ -1,0 +1,67 @@
+use Rattle.std.proofs.Common.{◌≡◌, ℕ, List, Option, ◌∙◌, sym, subst, ap, length}
+use Rattle.std.specs.Str.{IsUtf8, chars}
+use Rattle.std.specs.Str.Iter.{chars_rest}
+use Rattle.iri_text.proofs.CharSteps.{first_char, no_chars}
+use Rattle.iri_template.proofs.ThroughEach.{HasPutUpTo, up_to_none, up_to_more, up_to_exit, up_to_end}
+use Rattle.iri_text.specs.inside.Through.{after}
+use Rattle.iri_template.specs.inside.UnitSteps.{UnitState, fewer, step_units, step_held, unit_step, unit_step_text}
+use Rattle.iri_template.proofs.units.put_chars.Goals as goal
+
+abbrev state : List ℕ → Option ℕ → UnitState
+state h l = record { held = h; left = l }
+
+same_state : (h k : List ℕ) (l m : Option ℕ) → h ≡ k → l ≡ m → state h l ≡ state k m
+same_state h k l m p q = ap (λ x. state x l) p ∙ ap (λ y. state k y) q
+
+pub loop-c-init : goal.loop-c-init
+loop-c-init g c =
+    let e = ap chars_rest c.into_iter-c-iterator.ensures.into_iter_gives ∙ c.chars-c-items.ensures.rest in
+    let first : UnitState = record { held = c.args.held.now; left = c.args.left.now } in
+    record {
+      can = tt;
+      ends = tt;
+      utf8 = subst IsUtf8 (sym e) c.utf8.text;
+      short = c.requires;
+      far =
+          subst (λ l. HasPutUpTo unit_step (unit_step_text g.S.Spec.tests) g.W.TextSink.puts g.W.TextSink.stops first
+          (chars c.args.text.now) c.args.sink.now first (chars l) c.args.sink.now) (sym e)
+          (up_to_none unit_step (unit_step_text g.S.Spec.tests) g.met.W.TextSink.rules first (chars c.args.text.now) c.args.sink.now);
+    }
+
+pub loop-c-preserved : goal.loop-c-preserved
+loop-c-preserved g c =
+    let i = c.loop-c.invariant in
+    let f = first_char _ _ c.in-Some.c i.utf8 c.in-Some.ensures.steps.0 in
+    let first : UnitState = record { held = c.args.held.now; left = c.args.left.now } in
+    let now : UnitState = record { held = c.loop-c.held; left = c.loop-c.left } in
+    let next : UnitState = record { held = c.put_char.new.held; left = c.put_char.new.left } in
+    let goes : next ≡ unit_step now c.in-Some.c = same_state c.put_char.new.held (step_held c.loop-c.held c.in-Some.c) c.put_char.new.left
+    (fewer c.loop-c.left (length (step_units c.loop-c.held c.in-Some.c))) c.in_ok-put_char.ensures.held c.in_ok-put_char.ensures.left in
+    record {
+      can = tt;
+      ends = tt;
+      utf8 = f.utf8;
+      short = c.put_char.ensures.short;
+      far = up_to_more unit_step (unit_step_text g.S.Spec.tests) g.met.W.TextSink.rules first
+          (chars c.args.text.now) c.in-Some.c f.first goes i.far c.in_ok-put_char.ensures.shows;
+    }
+
+pub returns-in_err-put_char-clause-shows : goal.returns-in_err-put_char-clause-shows
+returns-in_err-put_char-clause-shows g c =
+    let i = c.loop-c.invariant in
+    let f = first_char _ _ c.in-Some.c i.utf8 c.in-Some.ensures.steps.0 in
+    let first : UnitState = record { held = c.args.held.now; left = c.args.left.now } in
+    up_to_exit unit_step (unit_step_text g.S.Spec.tests) g.met.W.TextSink.rules first
+    (chars c.args.text.now) c.in-Some.c f.first c.from_residual.ensures.0 i.far c.in_err-put_char.ensures.shows
+
+pub returns-clause-shows : goal.returns-clause-shows
+returns-clause-shows g c =
+    let first : UnitState = record { held = c.args.held.now; left = c.args.left.now } in
+    up_to_end unit_step (unit_step_text g.S.Spec.tests) g.met.W.TextSink.rules first (chars c.args.text.now)
+    (no_chars _ c.in-None.ensures.steps.0.0) c.loop-c.invariant.far
+
+pub returns-clause-state : goal.returns-clause-state
+returns-clause-state g c =
+    let now : UnitState = record { held = c.loop-c.held; left = c.loop-c.left } in
+    sym (c.loop-c.invariant.far.goes_on ∙ ap (λ l. after unit_step (unit_step_text g.S.Spec.tests) now l)
+    (no_chars _ c.in-None.ensures.steps.0.0))

@@ -1,0 +1,18 @@
+use Rattle.std.proofs.Common.{◌≤◌, length}
+use Rattle.std.specs.Str.{IsUtf8, chars}
+use Rattle.std.specs.Str.Iter.{chars_rest}
+use Rattle.iri_template.proofs.ThroughEach.{HasPutUpTo}
+use Rattle.iri_template.specs.inside.UnitSteps.{unit_step, unit_step_text}
+use Rattle.iri_template.proofs.units.put_chars.Given as goal
+
+-- what the characters in front of those that are left settled was written
+abbrev pub invariant-loop-c : goal.invariant-loop-c
+invariant-loop-c g l = record {
+  can : (goal.iterator-loop-c g).can_next l.c-iterator;
+  ends : (goal.iterator-loop-c g).is_finite l.c-iterator;
+  utf8 : IsUtf8 (chars_rest l.c-iterator);
+  short : length l.held ≤ 11;
+  far : HasPutUpTo unit_step (unit_step_text g.S.Spec.tests) g.W.TextSink.puts g.W.TextSink.stops
+      (record { held = l.fn.held; left = l.fn.left }) (chars l.text) l.fn.sink (record { held = l.held; left = l.left })
+      (chars (chars_rest l.c-iterator)) l.sink;
+}

@@ -1,0 +1,13 @@
+-- What private contracts cite, and laws that an `impl` cites.
+pub mod CharFront
+pub mod CharFrontText
+pub mod Equals
+pub mod Lengths
+pub mod Members
+pub mod Parts
+pub mod TypeHears
+pub mod UnitSteps
+pub mod UnitText
+pub mod UnitViews
+pub mod WriterHears
+pub mod Written

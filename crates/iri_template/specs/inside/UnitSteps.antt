@@ -1,0 +1,68 @@
+-- Units of a text that comes character by character: what is held back, which units each character tells, and what is written for them.
+use Rattle.std.specs.Prelude.{ℕ, zero, suc, ◌-◌, Bool, true, false, cond, not, ◌&&◌, ◌||◌, ◌==◌, nat_le, List, [], ◌∷◌, ◌++◌, Option, Some}
+use Rattle.std.specs.Prelude.{None, is_some, length, drop}
+use Rattle.std.specs.List.{flat_map}
+use Rattle.std.specs.Char.{is_ascii_hexdigit}
+use Rattle.iri_grammar.specs.Classes.{Tests}
+use Rattle.iri_percent.specs.Units.{TextUnit, Plain, is_triplet, octets, first_char, first_unit, unit_text, units}
+use Rattle.iri_template.specs.Expansion.{front, kept_unit}
+
+-- a `%` or a hex digit, which may be part of a triplet
+abbrev pub is_part : ℕ → Bool
+is_part c = c == 37 || is_ascii_hexdigit c
+
+abbrev pub begins_triplet : List ℕ → Bool
+begins_triplet (x ∷ a ∷ b ∷ xs) = is_triplet x a b
+begins_triplet t = false
+
+-- the triplets at the start end within the text
+abbrev pub is_closed : List ℕ → Bool
+is_closed [] = false
+is_closed (x ∷ []) = not (x == 37)
+is_closed (x ∷ a ∷ []) = not (x == 37 && is_ascii_hexdigit a)
+is_closed (x ∷ a ∷ b ∷ xs) = cond (is_triplet x a b) (is_closed xs) true
+
+-- the unit at the start is the same whatever follows: a character stands there, or as many triplets as one can have, or the triplets end
+abbrev pub is_settled : List ℕ → Bool
+is_settled t = is_some (first_char (octets t)) || (nat_le 12 (length t) || is_closed t)
+
+abbrev pub behind_unit : ℕ → List ℕ → List ℕ
+behind_unit x xs = drop (length (unit_text (first_unit x xs))) (x ∷ xs)
+
+-- at most so many units, as long as they are settled, or to the end; and what is left
+abbrev pub told_units : Bool → ℕ → List ℕ → List TextUnit
+told_units end zero t = []
+told_units end (suc k) [] = []
+told_units end (suc k) (x ∷ xs) = cond (end || is_settled (x ∷ xs)) (first_unit x xs ∷ told_units end k (behind_unit x xs)) []
+
+abbrev pub left_over : Bool → ℕ → List ℕ → List ℕ
+left_over end zero t = t
+left_over end (suc k) [] = []
+left_over end (suc k) (x ∷ xs) = cond (end || is_settled (x ∷ xs)) (left_over end k (behind_unit x xs)) (x ∷ xs)
+
+-- ---- the steps
+-- what is held back, and how many units may still be written
+pub record UnitState : Type 0 where
+  pub held : List ℕ
+  pub left : Option ℕ
+
+-- so many units fewer
+abbrev pub fewer : Option ℕ → ℕ → Option ℕ
+fewer None n = None
+fewer (Some m) n = Some (m - n)
+
+-- a character that is no part of a triplet ends what is held
+abbrev pub step_units : List ℕ → ℕ → List TextUnit
+step_units h c = cond (is_part c) (told_units false 12 (h ++ c ∷ [])) (units h ++ Plain c ∷ [])
+
+abbrev pub step_held : List ℕ → ℕ → List ℕ
+step_held h c = cond (is_part c) (left_over false 12 (h ++ c ∷ [])) []
+
+abbrev pub unit_step : UnitState → ℕ → UnitState
+unit_step u c = record { held = step_held u.held c; left = fewer u.left (length (step_units u.held c)) }
+
+abbrev pub written_units : Tests → Option ℕ → List TextUnit → List ℕ
+written_units s left us = flat_map (kept_unit s) (front left us)
+
+abbrev pub unit_step_text : Tests → UnitState → ℕ → List ℕ
+unit_step_text s u c = written_units s u.left (step_units u.held c)

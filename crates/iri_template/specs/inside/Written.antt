@@ -1,0 +1,83 @@
+-- What is written for the events of a value, one by one.
+use Rattle.std.specs.Prelude.{ℕ, Bool, true, false, cond, not, ◌&&◌, List, [], ◌∷◌, ◌++◌, Option, None, Some, map}
+use Rattle.iri_grammar.specs.Classes.{Tests}
+use Rattle.iri_template.specs.Events.{Event, StringTold, Item, Entry}
+use Rattle.iri_template.specs.Expansion.{Row, row_of, shown_text, shown_pair, string_text, named_text, pair_with, in_one}
+use Rattle.iri_template.specs.ShownValues.{ShownValue, undefined, string, list, pairs}
+use Rattle.iri_template.specs.declared.operator.Operator.{Operator}
+use Rattle.iri_template.specs.declared.place.Place.{Place}
+use Rattle.iri_template.specs.declared.var_spec.Modifier.{Modifier}
+use Rattle.iri_template.specs.declared.var_spec.Modifier.TheVariants.{Whole, Explode, Prefix}
+
+-- how a variable is written; whether the expression has a text before, and this value a member
+pub record WriteState : Type 0 where
+  pub operator : Operator
+  pub name : List ℕ
+  pub modifier : Modifier
+  pub written : Bool
+  pub member : Bool
+
+abbrev pub state_at : Place → WriteState
+state_at p = record { operator = p.operator; name = p.name.text.now; modifier = p.modifier; written = p.written; member = p.member }
+
+abbrev pub explodes : Modifier → Bool
+explodes Whole = false
+explodes Explode = true
+explodes (Prefix n) = false
+
+abbrev pub count_of : Modifier → Option ℕ
+count_of Whole = None
+count_of Explode = None
+count_of (Prefix n) = Some n
+
+-- the operator's first text, or its separator
+abbrev pub lead : Row → Bool → List ℕ
+lead row written = cond written (row.sep ∷ []) row.first
+
+abbrev pub name_mark : Row → List ℕ → List ℕ
+name_mark row name = cond row.named (name ++ 61 ∷ []) []
+
+-- what stands before a member: that, with the name where names are written; in one text, a comma behind the first
+abbrev pub item_lead : WriteState → List ℕ
+item_lead w = cond (w.member && not (explodes w.modifier)) (44 ∷ [])
+    (lead (row_of w.operator) w.written ++ name_mark (row_of w.operator) w.name)
+
+abbrev pub entry_lead : WriteState → List ℕ
+entry_lead w = cond (explodes w.modifier) (lead (row_of w.operator) w.written) (item_lead w)
+
+abbrev pub entry_mark : Modifier → ℕ
+entry_mark m = cond (explodes m) 61 44
+
+abbrev pub event_step : WriteState → Event → WriteState
+event_step w (StringTold t) = record { operator = w.operator; name = w.name; modifier = w.modifier; written = true; member = w.member }
+event_step w (Item t) = record { operator = w.operator; name = w.name; modifier = w.modifier; written = true; member = true }
+event_step w (Entry k t) = record { operator = w.operator; name = w.name; modifier = w.modifier; written = true; member = true }
+event_step w e = w
+
+abbrev pub event_text : Tests → WriteState → Event → List ℕ
+event_text s w (StringTold t) = lead (row_of w.operator) w.written
+    ++ string_text (row_of w.operator) w.name (shown_text s (row_of w.operator).allow (count_of w.modifier) t)
+event_text s w (Item t) = item_lead w ++ shown_text s (row_of w.operator).allow None t
+event_text s w (Entry k t) = entry_lead w ++ pair_with (entry_mark w.modifier)
+    (shown_text s (row_of w.operator).allow None k, shown_text s (row_of w.operator).allow None t)
+event_text s w e = []
+
+-- ---- texts of an expression, each behind the operator's first text or its separator
+abbrev pub led : Row → Bool → List (List ℕ) → List ℕ
+led row written [] = []
+led row written (t ∷ ts) = (lead row written ++ t) ++ led row true ts
+
+abbrev pub has_texts : List (List ℕ) → Bool
+has_texts [] = false
+has_texts (t ∷ ts) = true
+
+-- what a variable writes, by its varspec as it is held
+abbrev pub told_texts : Tests → Row → List ℕ → Modifier → ShownValue → List (List ℕ)
+told_texts s row name m undefined = []
+told_texts s row name m (string t) = string_text row name (shown_text s row.allow (count_of m) t) ∷ []
+told_texts s row name m (list items) =
+    cond (explodes m) (map (named_text row name) (map (shown_text s row.allow None) items))
+    (in_one row name (map (shown_text s row.allow None) items))
+told_texts s row name m (pairs entries) =
+    cond (explodes m) (map (pair_with 61) (map (shown_pair s row.allow) entries))
+    (in_one row name (map (pair_with 44) (map (shown_pair s row.allow) entries)))

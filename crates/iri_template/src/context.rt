@@ -1,0 +1,21 @@
+//! Contexts: what has the values of variables.
+ghost use Rattle.std.specs.Prelude.{◌≡◌, ℕ, List};
+ghost use Rattle.iri_template.specs.ShownValues.{ShownValue};
+ghost use Rattle.iri_template.specs.Events.{telling};
+ghost use Rattle.iri_template.specs.Visits.{Visits};
+ghost use Rattle.iri_template.specs.declared.visitor.Phase.TheVariants.{Fresh, Done};
+
+use crate::visitor::Visitor;
+use iri_text::Stop;
+
+/// What has the values of variables.
+pub trait Context {
+    /// The value of the variable of this name.
+    ghost value_of: { Self → List ℕ → ShownValue };
+
+    /// Tells the visitor the value of the variable that it names. It answers `Stop` only where the visitor did.
+    fn visit<V: Visitor>(&self, visitor: &mut V) -> Result<(), Stop>
+        requires { V.phase visitor.old ≡ Fresh }
+        ensures { Visits V.name V.aim V.phase V.hears V.halts V.stops visitor.old
+            (telling (value_of self.now (V.name visitor.old))) Done visitor.new result };
+}

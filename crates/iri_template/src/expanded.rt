@@ -1,0 +1,125 @@
+//! Templates that are expanded (RFC 6570 section 3).
+ghost use Rattle.std.specs.Prelude.{◌≡◌, IfOk, MatchResult, Some};
+ghost use Rattle.iri_grammar.specs.WholeFault.{reference_fault, iri_fault, absolute_fault, relative_fault};
+ghost use Rattle.iri_template.specs.ExpandedTexts.{expanded_text, RefusedAs, IsWithin};
+
+use crate::context::Context;
+use crate::length::is_within;
+use crate::part_writer::write_expansion;
+use crate::template::UriTemplateStr;
+use iri_grammar::spec::Spec;
+use iri_owned::error::CreationError;
+use iri_owned::owned::{Owned, RiAbsoluteString, RiReferenceString, RiRelativeString, RiString};
+use iri_text::{FormatSink, Show, Stop, TextSink, ToStringFallible};
+use iri_types::kind::Kind;
+use std::alloc::{AllocError, Global};
+use std::fmt;
+use std::marker::PhantomData;
+
+/// A template whose expansion for a URI or an IRI is shown, with the values of a context (RFC 6570 section 3). It
+/// takes no memory, and the values may put their texts in any pieces.
+#[derive(Drop)]
+pub struct Expanded<'a, S, C> {
+    pub(crate) template: UriTemplateStr<'a>,
+    pub(crate) context: &'a C,
+    pub(crate) spec: PhantomData<S>,
+}
+
+/// Why an expansion was made no owned text of its kind.
+#[derive(Drop)]
+pub enum ExpandedError {
+    /// It isn't in the production of that kind. It is handed out.
+    Invalid(CreationError<String>),
+    /// Allocation failed.
+    Memory(AllocError),
+}
+
+impl<'a, S: Spec, C: Context> Show for Expanded<'a, S, C> {
+    ghost use Rattle.iri_template.specs.ExpandedTexts.{expanded_text};
+
+    ghost text = { λ e. expanded_text S.tests C.value_of e };
+
+    fn show<W: TextSink>(&self, sink: &mut W) -> Result<(), Stop> {
+        write_expansion::<C, S, W>(sink, self.context, self.template.as_str())
+    }
+}
+
+impl<'a, S: Spec, C: Context> fmt::Display for Expanded<'a, S, C> {
+    ghost use Rattle.iri_template.specs.ExpandedTexts.{expanded_text};
+
+    ghost output = { λ e. Some (expanded_text S.tests C.value_of e) };
+
+    fn fmt<W: fmt::Write>(&self, f: &mut fmt::Formatter<W>) -> fmt::Result {
+        FormatSink::new(f).display(self)
+    }
+}
+
+impl<'a, S: Spec, C: Context> Expanded<'a, S, C> {
+    /// The expansion as an owned text of a kind.
+    fn into_owned<K: Kind>(&self, alloc: Global) -> Result<Owned<S, K>, ExpandedError>
+        ensures { MatchResult result (λ t. t.text ≡ expanded_text S.tests C.value_of self.now)
+            (λ e. RefusedAs e (expanded_text S.tests C.value_of self.now)
+            (K.fault S.tests (expanded_text S.tests C.value_of self.now))) }
+    {
+        match self.try_to_string(alloc) {
+            Ok(text) => match Owned::try_from_string(text) {
+                Ok(owned) => Ok(owned),
+                Err(error) => Err(ExpandedError::Invalid(error)),
+            },
+            Err(error) => Err(ExpandedError::Memory(error)),
+        }
+    }
+
+    /// The expansion as a reference: otherwise the text, with its first fault, or `Memory`.
+    pub fn try_into_reference(&self, alloc: Global) -> Result<RiReferenceString<S>, ExpandedError>
+        ensures { MatchResult result (λ t. t.text ≡ expanded_text S.tests C.value_of self.now)
+            (λ e. RefusedAs e (expanded_text S.tests C.value_of self.now)
+            (reference_fault S.tests (expanded_text S.tests C.value_of self.now))) }
+    {
+        self.into_owned(alloc)
+    }
+
+    /// The expansion as an IRI: otherwise the text, with its first fault, or `Memory`.
+    pub fn try_into_iri(&self, alloc: Global) -> Result<RiString<S>, ExpandedError>
+        ensures { MatchResult result (λ t. t.text ≡ expanded_text S.tests C.value_of self.now)
+            (λ e. RefusedAs e (expanded_text S.tests C.value_of self.now)
+            (iri_fault S.tests (expanded_text S.tests C.value_of self.now))) }
+    {
+        self.into_owned(alloc)
+    }
+
+    /// The expansion as an absolute IRI, which has no fragment: otherwise the text, with its first fault, or `Memory`.
+    pub fn try_into_absolute(&self, alloc: Global) -> Result<RiAbsoluteString<S>, ExpandedError>
+        ensures { MatchResult result (λ t. t.text ≡ expanded_text S.tests C.value_of self.now)
+            (λ e. RefusedAs e (expanded_text S.tests C.value_of self.now)
+            (absolute_fault S.tests (expanded_text S.tests C.value_of self.now))) }
+    {
+        self.into_owned(alloc)
+    }
+
+    /// The expansion as a relative reference: otherwise the text, with its first fault, or `Memory`.
+    pub fn try_into_relative(&self, alloc: Global) -> Result<RiRelativeString<S>, ExpandedError>
+        ensures { MatchResult result (λ t. t.text ≡ expanded_text S.tests C.value_of self.now)
+            (λ e. RefusedAs e (expanded_text S.tests C.value_of self.now)
+            (relative_fault S.tests (expanded_text S.tests C.value_of self.now))) }
+    {
+        self.into_owned(alloc)
+    }
+
+    /// The expansion as a string, where it has at most so many bytes: otherwise none, and no memory is taken for it.
+    pub fn try_into_text_within(
+        &self,
+        alloc: Global,
+        limit: usize,
+    ) -> Result<Option<String>, AllocError>
+        ensures { IfOk result (λ o. IsWithin limit (expanded_text S.tests C.value_of self.now) o) }
+    {
+        if !is_within(self, limit) {
+            return Ok(None);
+        }
+        match self.try_to_string(alloc) {
+            Ok(text) => Ok(Some(text)),
+            Err(error) => Err(error),
+        }
+    }
+}

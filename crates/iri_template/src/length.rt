@@ -1,0 +1,47 @@
+//! How many bytes a text has.
+ghost use Rattle.std.specs.Prelude.{◌≡◌, length, nat_le};
+
+use iri_text::{Show, Stop, TextSink};
+
+/// Counts the bytes of what is put, and stops where they are more than so many.
+#[derive(Drop)]
+pub(crate) struct LengthSink {
+    /// How many bytes more it takes.
+    pub(crate) room: usize,
+    pub(crate) stops: u64,
+}
+
+impl TextSink for LengthSink {
+    ghost use Rattle.iri_template.specs.inside.Lengths.{LengthPuts, LengthHalts, length_rules};
+
+    ghost puts = { LengthPuts };
+
+    ghost halts = { LengthHalts };
+
+    ghost stops = { λ s. s.stops };
+
+    ghost rules = { length_rules };
+
+    fn put(&mut self, piece: &str) -> Result<(), Stop> {
+        if self.room < piece.len() {
+            self.stops = self.stops.saturating_add(1);
+            return Err(Stop);
+        }
+        self.room -= piece.len();
+        Ok(())
+    }
+}
+
+/// Whether the text of a value has at most so many bytes.
+pub(crate) fn is_within<T: Show>(value: &T, limit: usize) -> bool
+    ensures { result ≡ nat_le (length (T.text value.now)) limit }
+{
+    let mut sink = LengthSink {
+        room: limit,
+        stops: 0,
+    };
+    match value.show(&mut sink) {
+        Ok(()) => true,
+        Err(_) => false,
+    }
+}

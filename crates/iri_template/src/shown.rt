@@ -1,0 +1,81 @@
+//! The text of a value, encoded (RFC 6570 section 3.2.1).
+ghost use Rattle.std.specs.Prelude.{◌≡◌, false, None};
+ghost use Rattle.iri_text.specs.Shown.{Shows};
+ghost use Rattle.iri_percent.specs.Encoding.{keeps, encoded};
+ghost use Rattle.iri_template.specs.Expansion.{shown_text};
+ghost use Rattle.iri_percent.specs.declared.context.Context.TheVariants.{Unreserved};
+
+use crate::char_front::show_front;
+use crate::units::show_kept;
+use iri_grammar::spec::Spec;
+use iri_percent::PercentEncoded;
+use iri_text::{Show, Stop, TextSink};
+use std::marker::PhantomData;
+
+/// A lent value.
+#[derive(Drop)]
+struct Lent<'v, T> {
+    value: &'v T,
+}
+
+impl<'v, T: Show> Show for Lent<'v, T> {
+    ghost text = { λ l. T.text l.value.now };
+
+    fn show<W: TextSink>(&self, sink: &mut W) -> Result<(), Stop> {
+        self.value.show(sink)
+    }
+}
+
+fn show_unreserved<T: Show, S: Spec, W: TextSink>(sink: &mut W, value: &T) -> Result<(), Stop>
+    ensures { Shows W.puts W.halts W.stops sink.old
+        (encoded (keeps S.tests Unreserved) (T.text value.now)) sink.new result }
+{
+    PercentEncoded::<Lent<'_, T>, S>::unreserve(Lent { value }).show(sink)
+}
+
+fn show_all<T: Show, S: Spec, W: TextSink>(sink: &mut W, value: &T) -> Result<(), Stop>
+    ensures { Shows W.puts W.halts W.stops sink.old (shown_text S.tests false None (T.text value.now)) sink.new result }
+{
+    show_unreserved::<T, S, W>(sink, value)
+}
+
+/// A value, or its first characters or units, encoded as it is shown.
+#[derive(Drop)]
+pub(crate) struct Shown<'v, T, S> {
+    value: &'v T,
+    /// Whether reserved characters and triplets stay.
+    allow: bool,
+    count: Option<u16>,
+    spec: PhantomData<S>,
+}
+
+impl<'v, T: Show, S: Spec> Shown<'v, T, S> {
+    pub(crate) fn new(value: &'v T, allow: bool, count: Option<u16>) -> Shown<'v, T, S>
+        ensures value { result.value.now ≡ value.now }
+        ensures allow { result.allow ≡ allow }
+        ensures count { result.count ≡ count }
+    {
+        Shown {
+            value,
+            allow,
+            count,
+            spec: PhantomData,
+        }
+    }
+}
+
+impl<'v, T: Show, S: Spec> Show for Shown<'v, T, S> {
+    ghost use Rattle.iri_template.specs.Expansion.{shown_text};
+
+    ghost text = { λ v. shown_text S.tests v.allow v.count (T.text v.value.now) };
+
+    fn show<W: TextSink>(&self, sink: &mut W) -> Result<(), Stop> {
+        if self.allow {
+            return show_kept::<T, S, W>(sink, self.value, self.count);
+        }
+        match self.count {
+            Some(count) => show_front::<T, S, W>(sink, self.value, count),
+            None => show_all::<T, S, W>(sink, self.value),
+        }
+    }
+}

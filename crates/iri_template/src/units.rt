@@ -1,0 +1,214 @@
+//! Texts in which triplets and reserved characters are kept (RFC 6570 section 3.2.1), in whatever pieces they come.
+ghost use Rattle.std.specs.Prelude.{◌≡◌, ◌≤◌, ◌<◌, ◌∷◌, [], ◌||◌, ◌==◌, true, cond, length, OnOk, OnErr};
+ghost use Rattle.std.specs.Str.{chars};
+ghost use Rattle.iri_text.specs.Shown.{Shows};
+ghost use Rattle.iri_text.specs.inside.Through.{after, texts};
+ghost use Rattle.iri_percent.specs.Units.{Plain, units};
+ghost use Rattle.iri_template.specs.Expansion.{text_units};
+ghost use Rattle.iri_template.specs.inside.UnitSteps.{is_part, told_units, left_over, fewer, step_units, step_held};
+ghost use Rattle.iri_template.specs.inside.UnitSteps.{unit_step, unit_step_text, written_units};
+ghost use Rattle.iri_template.specs.inside.UnitViews.{unit_as, is_used_up};
+
+use crate::front_unit::front_unit;
+use crate::held::Held;
+use crate::unit_sink::UnitSink;
+use iri_grammar::spec::Spec;
+use iri_percent::PercentEncoded;
+use iri_text::{Show, Stop, TextSink};
+
+#[tactic(auto, using(std::proofs::lemmas::Bool::Decides::nat_tests))]
+fn is_part(c: char) -> bool
+    ensures value { result ≡ is_part c }
+    ensures ascii { result ≡ true → c < 128 }
+{
+    c == '%' || c.is_ascii_hexdigit()
+}
+
+fn is_used_up(left: Option<u16>) -> bool
+    ensures { result ≡ is_used_up left }
+{
+    match left {
+        Some(n) => n == 0,
+        None => false,
+    }
+}
+
+fn one_fewer(left: Option<u16>) -> Option<u16>
+    ensures { result ≡ fewer left 1 }
+{
+    match left {
+        Some(n) => Some(n.saturating_sub(1)),
+        None => None,
+    }
+}
+
+fn put_as<S: Spec, W: TextSink>(sink: &mut W, text: &str, stands: bool) -> Result<(), Stop>
+    ensures { Shows W.puts W.halts W.stops sink.old (unit_as S.tests stands text.now) sink.new result }
+{
+    if stands {
+        sink.put(text)
+    } else {
+        PercentEncoded::<&str, S>::characters(text).show(sink)
+    }
+}
+
+/// Writes a unit if one more may be written.
+fn put_unit<S: Spec, W: TextSink>(
+    sink: &mut W,
+    left: Option<u16>,
+    text: &str,
+    stands: bool,
+) -> Result<(), Stop>
+    ensures { Shows W.puts W.halts W.stops sink.old
+        (cond (is_used_up left) [] (unit_as S.tests stands text.now)) sink.new result }
+{
+    if is_used_up(left) {
+        sink.put("")
+    } else {
+        put_as::<S, W>(sink, text, stands)
+    }
+}
+
+/// Writes the units that are settled, or all, and holds the rest back.
+fn drain<S: Spec, W: TextSink>(
+    sink: &mut W,
+    held: &mut Held,
+    left: &mut Option<u16>,
+    end: bool,
+) -> Result<(), Stop>
+    ensures shows { Shows W.puts W.halts W.stops sink.old
+        (written_units S.tests left.old (told_units end 12 held.old)) sink.new result }
+    ensures held { OnOk result (held.new ≡ left_over end 12 held.old) }
+    ensures left { OnOk result (left.new ≡ fewer left.old (length (told_units end 12 held.old))) }
+    ensures cleared { OnErr result (held.new ≡ []) }
+{
+    let mut told = 0u8;
+    'units: while told < 12 {
+        match front_unit::<S>(held.as_bytes(), end) {
+            Some(unit) => {
+                match put_unit::<S, W>(sink, *left, held.front(unit.len), unit.stands) {
+                    Ok(()) => {
+                        held.drop_front(unit.len);
+                        *left = one_fewer(*left);
+                        told += 1;
+                    }
+                    Err(stop) => {
+                        held.clear();
+                        return Err(stop);
+                    }
+                }
+            }
+            None => return Ok(()),
+        }
+    }
+    Ok(())
+}
+
+/// Writes a character that is no part of a triplet.
+fn put_plain<S: Spec, W: TextSink>(
+    sink: &mut W,
+    left: &mut Option<u16>,
+    c: char,
+) -> Result<(), Stop>
+    ensures shows { Shows W.puts W.halts W.stops sink.old
+        (written_units S.tests left.old (Plain c ∷ [])) sink.new result }
+    ensures left { OnOk result (left.new ≡ fewer left.old 1) }
+{
+    let mut buf = [0u8; 4];
+    match put_unit::<S, W>(sink, *left, c.encode_utf8(&mut buf), false) {
+        Ok(()) => {
+            *left = one_fewer(*left);
+            Ok(())
+        }
+        Err(stop) => Err(stop),
+    }
+}
+
+/// Writes what a character settles.
+fn put_char<S: Spec, W: TextSink>(
+    sink: &mut W,
+    held: &mut Held,
+    left: &mut Option<u16>,
+    c: char,
+) -> Result<(), Stop>
+    requires { length held.old ≤ 11 }
+    ensures shows { Shows W.puts W.halts W.stops sink.old
+        (unit_step_text S.tests (record { held = held.old; left = left.old }) c) sink.new result }
+    ensures held { OnOk result (held.new ≡ step_held held.old c) }
+    ensures left { OnOk result (left.new ≡ fewer left.old (length (step_units held.old c))) }
+    ensures short { length held.new ≤ 11 }
+{
+    if is_part(c) {
+        held.push(c as u8);
+        return drain::<S, W>(sink, held, left, false);
+    }
+    match drain::<S, W>(sink, held, left, true) {
+        Ok(()) => put_plain::<S, W>(sink, left, c),
+        Err(stop) => Err(stop),
+    }
+}
+
+fn put_chars<S: Spec, W: TextSink>(
+    sink: &mut W,
+    held: &mut Held,
+    left: &mut Option<u16>,
+    text: &str,
+) -> Result<(), Stop>
+    requires { length held.old ≤ 11 }
+    ensures shows { Shows W.puts W.halts W.stops sink.old
+        (texts unit_step (unit_step_text S.tests) (record { held = held.old; left = left.old })
+        (chars text.now)) sink.new result }
+    ensures state { OnOk result (record { held = held.new; left = left.new }
+        ≡ after unit_step (unit_step_text S.tests) (record { held = held.old; left = left.old }) (chars text.now)) }
+    ensures short { length held.new ≤ 11 }
+{
+    for c in text.chars() {
+        put_char::<S, W>(sink, held, left, c)?;
+    }
+    Ok(())
+}
+
+impl<'s, S: Spec, W: TextSink> TextSink for UnitSink<'s, S, W> {
+    ghost use Rattle.iri_template.specs.inside.UnitText.{UnitPuts, UnitHalts, unit_rules};
+
+    ghost puts = { UnitPuts S.tests W.puts };
+
+    ghost halts = { UnitHalts S.tests W.halts };
+
+    ghost stops = { λ u. W.stops u.to.now };
+
+    ghost rules = { unit_rules S.tests W.rules };
+
+    fn put(&mut self, piece: &str) -> Result<(), Stop> {
+        put_chars::<S, W>(&mut *self.to, &mut self.held, &mut self.left, piece)
+    }
+}
+
+/// Shows a value, and writes what is held back at its end.
+fn show_units<T: Show, S: Spec, W: TextSink>(
+    units: &mut UnitSink<S, W>,
+    value: &T,
+) -> Result<(), Stop>
+    requires { units.old.held ≡ [] }
+    ensures shows { Shows W.puts W.halts W.stops units.old.to.now
+        (written_units S.tests units.old.left (text_units (T.text value.now))) units.new.to.now result }
+    ensures same { units.new.to.ghost_name ≡ units.old.to.ghost_name }
+{
+    match value.show(units) {
+        Ok(()) => drain::<S, W>(&mut *units.to, &mut units.held, &mut units.left, true),
+        Err(stop) => Err(stop),
+    }
+}
+
+/// Shows a value, or its first units, encoded but for reserved characters and triplets.
+pub(crate) fn show_kept<T: Show, S: Spec, W: TextSink>(
+    sink: &mut W,
+    value: &T,
+    count: Option<u16>,
+) -> Result<(), Stop>
+    ensures { Shows W.puts W.halts W.stops sink.old
+        (written_units S.tests count (text_units (T.text value.now))) sink.new result }
+{
+    let mut units = UnitSink::<S, W>::new(sink, count);
+    show_units(&mut units, value)
+}
