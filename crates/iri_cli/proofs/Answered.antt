@@ -1,16 +1,18 @@
 -- Lines that were answered one after the other, and how that ends.
-use Rattle.std.proofs.Common.{◌≡◌, ◌==◌, ℕ, ◌≤◌, List, [], ◌∷◌, ◌++◌, ◌&&◌, length, Bool, true, false, if◌then◌else◌, Option, None, Some, Ok, Err, refl, sym, ◌∙◌, ap, subst, arith, append_assoc}
+use Rattle.std.proofs.Common.{◌≡◌, ◌≢◌, ◌==◌, ℕ, ◌≤◌, List, [], ◌∷◌, ◌++◌, ◌&&◌, length, Bool, true, false, if◌then◌else◌, Option, None}
+use Rattle.std.proofs.Common.{Some, Result, Ok, Err, refl, sym, ◌∙◌, ap, subst, arith, append_assoc}
 use Rattle.std.specs.List.{concat, list_all}
 use Rattle.std.proofs.lemmas.List.{append-nil}
 use Rattle.iri_text.specs.Count.{Rose}
 use Rattle.iri_text.specs.Lines.{no_cr}
 use Rattle.iri_text.specs.Source.{Consumes, IsAtEnd}
-use Rattle.iri_text.specs.Sink.{Appends, AppendsFront}
+use Rattle.iri_text.specs.Sink.{Appends, AppendsPrefix, KeepsRoom}
 use Rattle.iri_text.specs.Line.{LineState}
 use Rattle.iri_text.specs.Reader.{Advances}
-use Rattle.iri_text.specs.declared.reader.LineFault.{LineFault}
-use Rattle.iri_text.specs.declared.reader.LineFault.TheVariants.{Source, LineTooLong as FaultLineTooLong, InputTooLong as FaultInputTooLong}
-use Rattle.iri_text.proofs.Puts.{Appends-append, Appends-none, front-after, front-longer}
+use Rattle.iri_text.specs.declared.streams.reader.LineFault.{LineFault}
+use Rattle.iri_text.specs.declared.streams.reader.LineFault.TheVariants.{Source, LineTooLong as FaultLineTooLong}
+use Rattle.iri_text.specs.declared.streams.reader.LineFault.TheVariants.{InputTooLong as FaultInputTooLong}
+use Rattle.iri_text.proofs.Puts.{Appends-append, Appends-none, front-after, front-longer, room-then, room-longer, room-so}
 use Rattle.iri_cli.specs.Ending.{Rules, Ending, answers, answered, IsBaseTaken, ending}
 use Rattle.iri_cli.specs.Read.{HasRead, ReadsAll, ReadsSome, ReadsPast, IsGoing}
 use Rattle.iri_cli.specs.Run.{outside, Finishes, Decides, StopsShort, RanTo, Ran}
@@ -23,8 +25,8 @@ use Rattle.iri_cli.specs.declared.end.End.TheVariants.{Done, SomeBad, BadBase, S
 use Rattle.iri_cli.proofs.Reading.{left_is, reads_line, reads_all, reads_some, reads_long, reads_over, goes_on}
 use Rattle.iri_cli.proofs.Ends.{one_more, one_more_good, first_read, ends_all, ends_past}
 
--- all of these bytes are a front of them
-pub whole_front : {a b : Option (List ℕ)} {xs : List ℕ} → Appends a b xs → AppendsFront a b xs
+-- all of these bytes are a prefix of them
+pub whole_front : {a b : Option (List ℕ)} {xs : List ℕ} → Appends a b xs → AppendsPrefix a b xs
 whole_front {xs = xs} p = record { front = xs; rest = []; split = append-nil xs; appended = p }
 
 -- what was taken to the end is all
@@ -48,18 +50,34 @@ abbrev answered_to : Rules → List ℕ → List (List ℕ) → List ℕ
 answered_to rules base rest = concat (answers rules base rest)
 
 -- The lines that were given behind the base were answered.
-pub record Goes (stands_at : Answering → Type 0) (start : Answering) (reader_old reader : LineState) (left_old left written_old written : Option (List ℕ)) (source_old source sink_old sink : ℕ) (good : Bool) : Type 0 where
+pub record Goes (stands_at : Answering → Type 0) (start : Answering) (reader_old reader : LineState)
+    (left_old left written_old written : Option (List ℕ)) (source_old source sink_old sink : ℕ) (room_old room_new : Option ℕ)
+    (good : Bool) : Type 0 where
   pub between : List (List ℕ)
   pub at : stands_at (record start { between = between })
   pub going : IsGoing start.rules reader
-  pub read : (before : Option (List ℕ)) → HasRead start.rules before left_old reader_old (start.base ∷ []) → HasRead start.rules before left reader (start.base ∷ between)
+  pub read : (before : Option (List ℕ)) → HasRead start.rules before left_old reader_old (start.base ∷ [])
+      → HasRead start.rules before left reader (start.base ∷ between)
   pub writes : Appends written_old written (answered_to start.rules start.base between)
   pub all_good : good ≡ list_all start.rules.is_good (answers start.rules start.base between)
   pub source_later : source_old ≤ source
   pub sink_same : sink ≡ sink_old
+  pub room : KeepsRoom room_old room_new (answered_to start.rules start.base between) (Unit {0})
 
-pub start_lines : (stands_at : Answering → Type 0) (start : Answering) (reader : LineState) (left wo w : Option (List ℕ)) (so ko k : ℕ) → stands_at start → start.between ≡ [] → IsGoing start.rules reader → w ≡ wo → k ≡ ko → Goes stands_at start reader reader left left wo w so so ko k true
-start_lines stands_at start reader left wo w so ko k at none is kept same = record {
+-- it isn't the sink that failed
+abbrev pub NotSink : Result Bool AnswerError → Type 0
+NotSink result = result ≢ Err AnswerFailed
+
+-- the sink isn't what ends a run at a fault of its reader
+pub not_sink : (fault : LineFault) → end_at fault ≢ SinkFailed
+not_sink Source h = cc h
+not_sink FaultLineTooLong h = cc h
+not_sink FaultInputTooLong h = cc h
+
+pub start_lines : (stands_at : Answering → Type 0) (start : Answering) (reader : LineState) (left wo w : Option (List ℕ)) (so ko k : ℕ)
+    (ro r : Option ℕ) → stands_at start → start.between ≡ [] → IsGoing start.rules reader → w ≡ wo → k ≡ ko → KeepsRoom ro r [] (Unit {0})
+    → Goes stands_at start reader reader left left wo w so so ko k ro r true
+start_lines stands_at start reader left wo w so ko k ro r at none is kept same room = record {
   between = [];
   at = subst (λ (b : List (List ℕ)). stands_at (record start { between = b })) none at;
   going = is;
@@ -68,9 +86,12 @@ start_lines stands_at start reader left wo w so ko k at none is kept same = reco
   all_good = refl;
   source_later = omega arith;
   sink_same = same;
+  room = room;
 }
 
-module _ (stands_at : Answering → Type 0) (start : Answering) (reader0 old new : LineState) (l0 lm ln wo wm : Option (List ℕ)) (so sm sn ko km : ℕ) (good : Bool) (taken : start.rules.refusal start.base ≡ None) (go : Goes stands_at start reader0 old l0 lm wo wm so sm ko km good) where
+module _ (stands_at : Answering → Type 0) (start : Answering) (reader0 old new : LineState) (l0 lm ln wo wm : Option (List ℕ))
+    (so sm sn ko km : ℕ) (ro rm : Option ℕ) (good : Bool) (taken : start.rules.refusal start.base ≡ None)
+    (go : Goes stands_at start reader0 old l0 lm wo wm so sm ko km ro rm good) where
   abbrev rules : Rules
   rules = start.rules
 
@@ -78,19 +99,26 @@ module _ (stands_at : Answering → Type 0) (start : Answering) (reader0 old new
   out = answered_to start.rules start.base go.between
 
   -- A line was given and answered.
-  pub one_line_more : (is_next : Answering → Type 0) (wn : Option (List ℕ)) (kn : ℕ) (answer_good : Bool) → Advances old new lm ln sm sn (Ok true) → ((at : Answering) → stands_at at → AnswersLine is_next at new.line wm wn km kn (Ok answer_good))
-      → Goes is_next start reader0 new l0 ln wo wn so sn ko kn (good && answer_good)
-  one_line_more is_next wn kn answer_good a p =
+  pub one_line_more : (is_next : Answering → Type 0) (wn : Option (List ℕ)) (kn : ℕ) (rn : Option ℕ) (answer_good : Bool)
+      → Advances old new lm ln sm sn (Ok true)
+      → ((at : Answering) → stands_at at → AnswersLine is_next at new.line wm wn km kn rm rn (Ok answer_good))
+      → Goes is_next start reader0 new l0 ln wo wn so sn ko kn ro rn (good && answer_good)
+  one_line_more is_next wn kn rn answer_good a p =
       let q = p (record start { between = go.between }) go.at in
       record {
         between = go.between ++ new.line ∷ [];
         at = q.next;
         going = goes_on start.rules lm ln sm sn old new go.going a;
         read = λ before h. reads_line start.rules before lm ln sm sn old new (start.base ∷ go.between) go.going (go.read before h) a;
-        writes = subst (Appends wo wn) (sym (one_more start.rules start.base taken go.between new.line)) (Appends-append wo wm wn out (start.rules.answer start.base go.between new.line) go.writes q.puts.0);
-        all_good = ap (λ (b : Bool). b && answer_good) go.all_good ∙ ap (λ (b : Bool). list_all start.rules.is_good (answers start.rules start.base go.between) && b) q.puts.2 ∙ sym (one_more_good start.rules start.base taken go.between new.line);
+        writes = subst (Appends wo wn) (sym (one_more start.rules start.base taken go.between new.line))
+            (Appends-append wo wm wn out (start.rules.answer start.base go.between new.line) go.writes q.puts.0);
+        all_good = ap (λ (b : Bool). b && answer_good) go.all_good
+            ∙ ap (λ (b : Bool). list_all start.rules.is_good (answers start.rules start.base go.between) && b) q.puts.2
+            ∙ sym (one_more_good start.rules start.base taken go.between new.line);
         source_later = omega (arith, go.source_later, a.later);
         sink_same = q.puts.1 ∙ go.sink_same;
+        room = subst (λ (t : List ℕ). KeepsRoom ro rn t (Unit {0})) (sym (one_more start.rules start.base taken go.between new.line))
+            (room-then go.room (room-so (λ _. tt) q.room));
       }
 
   -- a line that is given is within the limit
@@ -98,29 +126,50 @@ module _ (stands_at : Answering → Type 0) (start : Answering) (reader0 old new
   line_fits a =
       omega (arith, go.going.line_limit, a.line_limit, a.says.short, no_cr-shorter a.says.raw, ap length a.says.line)
 
-  module _ (before : Option (List ℕ)) (faults : ℕ) (first : HasRead start.rules before l0 reader0 (start.base ∷ [])) (earlier : faults ≤ so) where
+  module _ (before : Option (List ℕ)) (faults : ℕ) (first : HasRead start.rules before l0 reader0 (start.base ∷ []))
+      (earlier : faults ≤ so) where
     -- the outside at both ends of the run
-    abbrev Ends : Option (List ℕ) → ℕ → End → Type 0
-    Ends wn kn end = Ran start.rules (outside before wo faults ko) (outside ln wn sn kn) end
+    abbrev Ends : Option (List ℕ) → ℕ → Option ℕ → End → Type 0
+    Ends wn kn rn end = Ran start.rules (outside before wo faults ko) (outside ln wn sn kn) ro rn end
 
     -- The answer to a line failed.
-    pub fails_at : (is_next : Answering → Type 0) (wn : Option (List ℕ)) (kn : ℕ) (error : AnswerError) (end : End) → end ≡ end_of_error error → Advances old new lm ln sm sn (Ok true) → ((at : Answering) → stands_at at → AnswersLine is_next at new.line wm wn km kn (Err error)) → Ends wn kn end
-    fails_at is_next wn kn error end is a p = subst (Ends wn kn) (sym is) (by_error error (p (record start { between = go.between }) go.at).puts)
+    pub fails_at : (is_next : Answering → Type 0) (wn : Option (List ℕ)) (kn : ℕ) (rn : Option ℕ) (error : AnswerError) (end : End)
+        → end ≡ end_of_error error → Advances old new lm ln sm sn (Ok true)
+        → ((at : Answering) → stands_at at → AnswersLine is_next at new.line wm wn km kn rm rn (Err error)) → Ends wn kn rn end
+    fails_at is_next wn kn rn error end is a p = let q = p (record start { between = go.between }) go.at in
+        subst (Ends wn kn rn) (sym is) (by_error error q.puts q.room)
       where
         -- the whole output begins with the answers, this one among them
-        output : (x : List ℕ) → before ≡ Some x → (more : List ℕ) × ((ending start.rules x).output ≡ (out ++ start.rules.answer start.base go.between new.line) ++ more)
+        output : (x : List ℕ) → before ≡ Some x → (more : List ℕ)
+            × ((ending start.rules x).output ≡ (out ++ start.rules.answer start.base go.between new.line) ++ more)
         output x told =
-            let h = first_read start.rules start.base taken before ln new (go.between ++ new.line ∷ []) (reads_line start.rules before lm ln sm sn old new (start.base ∷ go.between) go.going (go.read before first) a) x told in
+            let h = first_read start.rules start.base taken before ln new (go.between ++ new.line ∷ [])
+            (reads_line start.rules before lm ln sm sn old new (start.base ∷ go.between) go.going (go.read before first) a) x told in
             (h.0, h.1 ∙ ap (λ (t : List ℕ). t ++ h.0) (one_more start.rules start.base taken go.between new.line))
 
-        by_error : (e : AnswerError) → PutsAnswer start.rules wm wn km kn (start.rules.answer start.base go.between new.line) (Err e) → Ends wn kn (end_of_error e)
-        by_error AnswerFailed q = record {
+        room_of : (e : AnswerError) → KeepsRoom rm rn (start.rules.answer start.base go.between new.line) (NotSink (Err e)) → (x : List ℕ)
+            → before ≡ Some x
+            → KeepsRoom ro rn (ending start.rules x).output (end_of_error e ≢ SinkFailed)
+        room_of e k x told =
+            let h = output x told in
+            subst (λ (t : List ℕ). KeepsRoom ro rn t (end_of_error e ≢ SinkFailed)) (sym h.1)
+            (room-longer h.0 (room-then go.room (room-so (goes e) k)))
+          where
+            goes : (e : AnswerError) → NotSink (Err e) → end_of_error e ≢ SinkFailed
+            goes AnswerFailed n = absurd (n refl)
+            goes AnswerMemory n = λ h. cc h
+
+        by_error : (e : AnswerError) → PutsAnswer start.rules wm wn km kn (start.rules.answer start.base go.between new.line) (Err e)
+            → KeepsRoom rm rn (start.rules.answer start.base go.between new.line) (NotSink (Err e)) → Ends wn kn rn (end_of_error e)
+        by_error AnswerFailed q k = record {
           to = omega (arith, q.1, go.sink_same);
-          front = λ x told. let h = output x told in subst (AppendsFront wo wn) (sym h.1) (front-longer h.0 (front-after out go.writes q.0));
+          front = λ x told. let h = output x told in
+              subst (AppendsPrefix wo wn) (sym h.1) (front-longer h.0 (front-after out go.writes q.0));
           source_later = omega (arith, earlier, go.source_later, a.later);
           sink_later = omega (arith, q.2, go.sink_same);
+          room = room_of AnswerFailed k;
         }
-        by_error AnswerMemory q = record {
+        by_error AnswerMemory q k = record {
           to = record {
             takes_memory = q.0;
             whole = start.base ∷ go.between;
@@ -130,49 +179,88 @@ module _ (stands_at : Answering → Type 0) (start : Answering) (reader0 old new
           };
           front = λ x told.
               let h = output x told in
-              subst (AppendsFront wo wn) (sym (h.1 ∙ append_assoc out (start.rules.answer start.base go.between new.line) h.0))
-              (front-longer (start.rules.answer start.base go.between new.line ++ h.0) (whole_front (subst (λ (w : Option (List ℕ)). Appends wo w out) (sym q.1) go.writes)));
+              subst (AppendsPrefix wo wn) (sym (h.1 ∙ append_assoc out (start.rules.answer start.base go.between new.line) h.0))
+              (front-longer (start.rules.answer start.base go.between new.line ++ h.0)
+              (whole_front (subst (λ (w : Option (List ℕ)). Appends wo w out) (sym q.1) go.writes)));
           source_later = omega (arith, earlier, go.source_later, a.later);
           sink_later = omega (arith, q.2, go.sink_same);
+          room = room_of AnswerMemory k;
         }
 
     -- There is no further line.
-    pub finishes : (wn : Option (List ℕ)) (kn : ℕ) (end : End) → Advances old new lm ln sm sn (Ok false) → ((at : Answering) → stands_at at → ClosesRun at.rules wm wn km kn good (at.rules.closing at.base at.between) end) → Ends wn kn end
-    finishes wn kn end a p = by_end end (p (record start { between = go.between }) go.at)
+    pub finishes : (wn : Option (List ℕ)) (kn : ℕ) (rn : Option ℕ) (end : End) → Advances old new lm ln sm sn (Ok false)
+        → ((at : Answering) → stands_at at → ClosesRun at.rules wm wn km kn good (at.rules.closing at.base at.between) end)
+        → ((at : Answering) → stands_at at → KeepsRoom rm rn (at.rules.closing at.base at.between) (end ≢ SinkFailed)) → Ends wn kn rn end
+    finishes wn kn rn end a p k = by_end end (p (record start { between = go.between }) go.at)
+        (k (record start { between = go.between }) go.at)
       where
         all : ReadsAll start.rules before ln (start.base ∷ go.between)
         all = reads_all start.rules before lm ln sm sn old new (start.base ∷ go.between) go.going (go.read before first) a
 
-        ends : ending start.rules all.taken ≡ record { status = if list_all start.rules.is_good (answers start.rules start.base go.between) then 0 else 1; output = out ++ start.rules.closing start.base go.between }
+        ends : ending start.rules all.taken ≡ record {
+          status = if list_all start.rules.is_good
+              (answers start.rules start.base go.between) then 0 else 1;
+          output = out ++ start.rules.closing start.base go.between;
+        }
         ends = ends_all start.rules start.base taken before ln go.between all
 
-        -- a front of the whole output
-        front_of : AppendsFront wo wn (out ++ start.rules.closing start.base go.between) → (x : List ℕ) → before ≡ Some x → AppendsFront wo wn (ending start.rules x).output
-        front_of f x told =
-            subst (λ (t : List ℕ). AppendsFront wo wn (ending start.rules t).output) (sym (taken_is before ln x all.taken told all.takes all.at_end))
-            (subst (AppendsFront wo wn) (sym (ap (λ (e : Ending). e.output) ends)) f)
+        -- the whole output
+        output : (x : List ℕ) → before ≡ Some x → (ending start.rules x).output ≡ out ++ start.rules.closing start.base go.between
+        output x told = ap (λ (t : List ℕ). (ending start.rules t).output) (taken_is before ln x all.taken told all.takes all.at_end)
+            ∙ ap (λ (e : Ending). e.output) ends
 
-        finished : (b : Bool) → good ≡ b → Appends wm wn (start.rules.closing start.base go.between) → kn ≡ km → Finishes start.rules (if b then 0 else 1) (outside before wo faults ko) (outside ln wn sn kn)
+        -- a prefix of it
+        front_of : AppendsPrefix wo wn (out ++ start.rules.closing start.base go.between) → (x : List ℕ) → before ≡ Some x
+            → AppendsPrefix wo wn (ending start.rules x).output
+        front_of f x told = subst (AppendsPrefix wo wn) (sym (output x told)) f
+
+        room_of : (e : End) → KeepsRoom rm rn (start.rules.closing start.base go.between) (e ≢ SinkFailed) → (x : List ℕ) → before ≡ Some x
+            → KeepsRoom ro rn (ending start.rules x).output (e ≢ SinkFailed)
+        room_of e f x told = subst (λ (t : List ℕ). KeepsRoom ro rn t (e ≢ SinkFailed)) (sym (output x told)) (room-then go.room f)
+
+        finished : (b : Bool) → good ≡ b → Appends wm wn (start.rules.closing start.base go.between) → kn ≡ km
+            → Finishes start.rules (if b then 0 else 1) (outside before wo faults ko) (outside ln wn sn kn)
         finished b is put same = record {
           taken = all.taken;
           takes = all.takes;
           at_end = all.at_end;
           ends = ap (λ (e : Ending). e.status) ends ∙ ap (λ (g : Bool). if g then 0 else 1) (sym go.all_good ∙ is);
-          writes = subst (Appends wo wn) (sym (ap (λ (e : Ending). e.output) ends)) (Appends-append wo wm wn out (start.rules.closing start.base go.between) go.writes put);
+          writes = subst (Appends wo wn) (sym (ap (λ (e : Ending). e.output) ends))
+              (Appends-append wo wm wn out (start.rules.closing start.base go.between) go.writes put);
           sink = same ∙ go.sink_same;
         }
 
-        put_whole : Appends wm wn (start.rules.closing start.base go.between) → AppendsFront wo wn (out ++ start.rules.closing start.base go.between)
+        put_whole : Appends wm wn (start.rules.closing start.base go.between)
+            → AppendsPrefix wo wn (out ++ start.rules.closing start.base go.between)
         put_whole put = whole_front (Appends-append wo wm wn out (start.rules.closing start.base go.between) go.writes put)
 
         source : faults ≤ sn
         source = omega (arith, earlier, go.source_later, a.later)
 
-        by_end : (e : End) → ClosesRun start.rules wm wn km kn good (start.rules.closing start.base go.between) e → Ends wn kn e
-        by_end Done q = record { to = finished true q.0 q.1 q.2; front = front_of (put_whole q.1); source_later = source; sink_later = omega (arith, q.2, go.sink_same) }
-        by_end SomeBad q = record { to = finished false q.0 q.1 q.2; front = front_of (put_whole q.1); source_later = source; sink_later = omega (arith, q.2, go.sink_same) }
-        by_end SinkFailed q = record { to = omega (arith, q.1, go.sink_same); front = front_of (front-after out go.writes q.0); source_later = source; sink_later = omega (arith, q.2, go.sink_same) }
-        by_end Memory q = record {
+        by_end : (e : End) → ClosesRun start.rules wm wn km kn good (start.rules.closing start.base go.between) e
+            → KeepsRoom rm rn (start.rules.closing start.base go.between) (e ≢ SinkFailed) → Ends wn kn rn e
+        by_end Done q f = record {
+          to = finished true q.0 q.1 q.2;
+          front = front_of (put_whole q.1);
+          source_later = source;
+          sink_later = omega (arith, q.2, go.sink_same);
+          room = room_of Done f;
+        }
+        by_end SomeBad q f = record {
+          to = finished false q.0 q.1 q.2;
+          front = front_of (put_whole q.1);
+          source_later = source;
+          sink_later = omega (arith, q.2, go.sink_same);
+          room = room_of SomeBad f;
+        }
+        by_end SinkFailed q f = record {
+          to = omega (arith, q.1, go.sink_same);
+          front = front_of (front-after out go.writes q.0);
+          source_later = source;
+          sink_later = omega (arith, q.2, go.sink_same);
+          room = room_of SinkFailed f;
+        }
+        by_end Memory q f = record {
           to = record {
             takes_memory = q.0;
             whole = start.base ∷ go.between;
@@ -180,34 +268,52 @@ module _ (stands_at : Answering → Type 0) (start : Answering) (reader0 old new
             writes = subst (λ (w : Option (List ℕ)). Appends wo w out) (sym q.1) go.writes;
             sink = q.2 ∙ go.sink_same;
           };
-          front = front_of (front-longer (start.rules.closing start.base go.between) (whole_front (subst (λ (w : Option (List ℕ)). Appends wo w out) (sym q.1) go.writes)));
+          front = front_of (front-longer (start.rules.closing start.base go.between)
+              (whole_front (subst (λ (w : Option (List ℕ)). Appends wo w out) (sym q.1) go.writes)));
           source_later = source;
           sink_later = omega (arith, q.2, go.sink_same);
+          room = room_of Memory f;
         }
-        by_end BadBase q = absurd q
-        by_end SourceFailed q = absurd q
-        by_end LineTooLong q = absurd q
-        by_end InputTooLong q = absurd q
+        by_end BadBase q f = absurd q
+        by_end SourceFailed q f = absurd q
+        by_end LineTooLong q f = absurd q
+        by_end InputTooLong q f = absurd q
 
     -- The reader answered a fault.
-    pub stops_at : (fault : LineFault) (end : End) → end ≡ end_at fault → Advances old new lm ln sm sn (Err fault) → Ends wm km end
-    stops_at fault end is a = subst (Ends wm km) (sym is) (record { to = by_fault fault a; front = front_of; source_later = omega (arith, earlier, go.source_later, a.later); sink_later = omega (arith, go.sink_same) })
+    pub stops_at : (fault : LineFault) (end : End) → end ≡ end_at fault → Advances old new lm ln sm sn (Err fault) → Ends wm km rm end
+    stops_at fault end is a = subst (Ends wm km rm) (sym is) (record {
+      to = by_fault fault a;
+      front = front_of;
+      source_later = omega (arith, earlier, go.source_later, a.later);
+      sink_later = omega (arith, go.sink_same);
+      room = room_of;
+    })
       where
-        front_of : (x : List ℕ) → before ≡ Some x → AppendsFront wo wm (ending start.rules x).output
+        room_of : (x : List ℕ) → before ≡ Some x → KeepsRoom ro rm (ending start.rules x).output (end_at fault ≢ SinkFailed)
+        room_of x told =
+            let h = first_read start.rules start.base taken before lm old go.between (go.read before first) x told in
+            subst (λ (t : List ℕ). KeepsRoom ro rm t (end_at fault ≢ SinkFailed)) (sym h.1)
+            (room-longer h.0 (room-so (λ _. not_sink fault) go.room))
+
+        front_of : (x : List ℕ) → before ≡ Some x → AppendsPrefix wo wm (ending start.rules x).output
         front_of x told =
             let h = first_read start.rules start.base taken before lm old go.between (go.read before first) x told in
-            subst (AppendsFront wo wm) (sym h.1) (front-longer h.0 (whole_front go.writes))
+            subst (AppendsPrefix wo wm) (sym h.1) (front-longer h.0 (whole_front go.writes))
 
-        decided : (status : ℕ) → ReadsPast start.rules status before ln (start.base ∷ go.between) → Decides start.rules status (outside before wo faults ko) (outside ln wm sn km)
+        decided : (status : ℕ) → ReadsPast start.rules status before ln (start.base ∷ go.between)
+            → Decides start.rules status (outside before wo faults ko) (outside ln wm sn km)
         decided status r = record {
           taken = r.taken;
           takes = r.takes;
           ends = λ more. ap (λ (e : Ending). e.status) (ends_past start.rules start.base taken status before ln go.between r more);
-          writes = λ more. subst (Appends wo wm) (sym (ap (λ (e : Ending). e.output) (ends_past start.rules start.base taken status before ln go.between r more))) go.writes;
+          writes = λ more. subst (Appends wo wm) (sym
+              (ap (λ (e : Ending). e.output) (ends_past start.rules start.base taken status before ln go.between r more))) go.writes;
           sink = go.sink_same;
         }
 
-        short : (f : LineFault) → f ≡ Source → Advances old new lm ln sm sn (Err f) → ReadsSome start.rules before ln (start.base ∷ go.between) → StopsShort start.rules (outside before wo faults ko) (outside ln wm sn km)
+        short : (f : LineFault) → f ≡ Source → Advances old new lm ln sm sn (Err f)
+            → ReadsSome start.rules before ln (start.base ∷ go.between)
+            → StopsShort start.rules (outside before wo faults ko) (outside ln wm sn km)
         short f is b r = record {
           taken = r.taken;
           takes = r.takes;
@@ -221,19 +327,27 @@ module _ (stands_at : Answering → Type 0) (start : Answering) (reader0 old new
             rose : Advances old new lm ln sm sn (Err Source) → Rose faults sn
             rose c = omega (arith, c.cause, earlier, go.source_later)
 
-        by_fault : (f : LineFault) → Advances old new lm ln sm sn (Err f) → RanTo start.rules (outside before wo faults ko) (outside ln wm sn km) (end_at f)
-        by_fault Source b = short Source refl b (reads_some start.rules before lm ln sm sn old new (start.base ∷ go.between) go.going (go.read before first) b)
-        by_fault FaultLineTooLong b = decided 7 (reads_long start.rules before lm ln sm sn old new (start.base ∷ go.between) go.going (go.read before first) b)
-        by_fault FaultInputTooLong b = decided 8 (reads_over start.rules before lm ln sm sn old new (start.base ∷ go.between) go.going (go.read before first) b)
+        by_fault : (f : LineFault) → Advances old new lm ln sm sn (Err f)
+            → RanTo start.rules (outside before wo faults ko) (outside ln wm sn km) (end_at f)
+        by_fault Source b = short Source refl b (reads_some start.rules before lm ln sm sn old new (start.base ∷ go.between) go.going
+            (go.read before first) b)
+        by_fault FaultLineTooLong b = decided 7 (reads_long start.rules before lm ln sm sn old new (start.base ∷ go.between) go.going
+            (go.read before first) b)
+        by_fault FaultInputTooLong b = decided 8 (reads_over start.rules before lm ln sm sn old new (start.base ∷ go.between) go.going
+            (go.read before first) b)
 
 -- The sink failed before the first line.
-pub fails_first : (start : Answering) (reader : LineState) (before left wo wn : Option (List ℕ)) (faults sn ko kn : ℕ) → start.rules.refusal start.base ≡ None → HasRead start.rules before left reader (start.base ∷ []) → wn ≡ wo
-    → Rose ko kn → faults ≤ sn → ko ≤ kn → Ran start.rules (outside before wo faults ko) (outside left wn sn kn) SinkFailed
-fails_first start reader before left wo wn faults sn ko kn taken read kept rose later sink = record {
+pub fails_first : (start : Answering) (reader : LineState) (before left wo wn : Option (List ℕ)) (faults sn ko kn : ℕ) (ro rn : Option ℕ)
+    → start.rules.refusal start.base ≡ None → HasRead start.rules before left reader (start.base ∷ []) → wn ≡ wo
+    → Rose ko kn → faults ≤ sn → ko ≤ kn → KeepsRoom ro rn [] ⊥
+    → Ran start.rules (outside before wo faults ko) (outside left wn sn kn) ro rn SinkFailed
+fails_first start reader before left wo wn faults sn ko kn ro rn taken read kept rose later sink room = record {
   to = rose;
   front = λ x told.
       let h = first_read start.rules start.base taken before left reader [] read x told in
-      subst (λ (w : Option (List ℕ)). AppendsFront wo w (ending start.rules x).output) (sym kept) (record { front = []; rest = (ending start.rules x).output; split = refl; appended = Appends-none wo });
+      subst (λ (w : Option (List ℕ)). AppendsPrefix wo w (ending start.rules x).output) (sym kept)
+      (record { front = []; rest = (ending start.rules x).output; split = refl; appended = Appends-none wo });
   source_later = later;
   sink_later = sink;
+  room = λ x told. room-longer (ending start.rules x).output (room-so (λ h. absurd h) room);
 }

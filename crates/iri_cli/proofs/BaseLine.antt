@@ -1,16 +1,19 @@
 -- The base line.
-use Rattle.std.proofs.Common.{◌≡◌, ◌⊎◌, ℕ, ◌+◌, ◌-◌, ◌≤◌, List, [], ◌∷◌, ◌++◌, length, take, true, false, Option, None, Some, Ok, Err, refl, sym, ◌∙◌, ap, subst, arith, inl, inr, ⊎_elim, append_assoc}
+use Rattle.std.proofs.Common.{◌≡◌, ◌≢◌, ◌⊎◌, ℕ, ◌+◌, ◌-◌, ◌≤◌, List, [], ◌∷◌, ◌++◌, length, take, true, false, Option, None, Some, Ok, Err}
+use Rattle.std.proofs.Common.{refl, sym, ◌∙◌, ap, subst, arith, inl, inr, ⊎_elim, append_assoc}
 use Rattle.std.proofs.lemmas.List.{append-nil}
 use Rattle.std.proofs.Math.Seq.{take-append-add}
 use Rattle.iri_text.specs.Count.{Rose}
 use Rattle.iri_text.specs.Source.{Consumes, IsAtEnd}
-use Rattle.iri_text.specs.Sink.{Appends, AppendsFront}
+use Rattle.iri_text.specs.Sink.{Appends, AppendsPrefix, KeepsRoom}
 use Rattle.iri_text.specs.Line.{LineState}
 use Rattle.iri_text.specs.Reader.{Advances}
-use Rattle.iri_text.specs.declared.reader.LineFault.{LineFault}
-use Rattle.iri_text.specs.declared.reader.LineFault.TheVariants.{Source, LineTooLong as FaultLineTooLong, InputTooLong as FaultInputTooLong}
-use Rattle.iri_text.proofs.Puts.{Appends-none}
-use Rattle.iri_cli.specs.Ending.{Rules, Ending, Passed, base_line, unless_refused, first_passed, ended_lines, completed, completed_lines, stopped, answered, IsBaseTaken, ending_by, ending}
+use Rattle.iri_text.specs.declared.streams.reader.LineFault.{LineFault}
+use Rattle.iri_text.specs.declared.streams.reader.LineFault.TheVariants.{Source, LineTooLong as FaultLineTooLong}
+use Rattle.iri_text.specs.declared.streams.reader.LineFault.TheVariants.{InputTooLong as FaultInputTooLong}
+use Rattle.iri_text.proofs.Puts.{Appends-none, room-same}
+use Rattle.iri_cli.specs.Ending.{Rules, Ending, Passed, base_line, unless_refused, first_passed, ended_lines, completed, completed_lines}
+use Rattle.iri_cli.specs.Ending.{stopped, answered, IsBaseTaken, ending_by, ending}
 use Rattle.iri_cli.specs.Read.{IsOpen, HasRead, ReadsSome, ReadsPast, IsGoing}
 use Rattle.iri_cli.specs.Run.{outside, Decides, StopsShort, RanTo, Ran}
 use Rattle.iri_cli.specs.Steps.{end_at, IsNew, GivesBase, ReadsBase}
@@ -20,10 +23,11 @@ use Rattle.iri_cli.specs.declared.end.End.TheVariants.{Done, SomeBad, BadBase, S
 use Rattle.iri_cli.proofs.Reading.{left_is, read_none, reads_line, reads_all, reads_some, reads_long, reads_over, goes_on}
 use Rattle.iri_cli.proofs.LineSteps.{place_later}
 use Rattle.iri_cli.proofs.Ends.{ends_past_none}
-use Rattle.iri_cli.proofs.Answered.{whole_front, taken_is, no_cr-shorter}
+use Rattle.iri_cli.proofs.Answered.{whole_front, taken_is, no_cr-shorter, not_sink}
 
 -- a line is within the limit of its reader
-pub line_short : (lo ln : Option (List ℕ)) (fo fn : ℕ) (old new : LineState) → Advances old new lo ln fo fn (Ok true) → length new.line ≤ old.line_limit
+pub line_short : (lo ln : Option (List ℕ)) (fo fn : ℕ) (old new : LineState) → Advances old new lo ln fo fn (Ok true)
+    → length new.line ≤ old.line_limit
 line_short lo ln fo fn old new a = omega (arith, a.line_limit, a.says.short, no_cr-shorter a.says.raw, ap length a.says.line)
 
 module _ (rules : Rules) where
@@ -36,10 +40,12 @@ module _ (rules : Rules) where
     before = read_none rules lo old is.held is.taken is.ended
 
     -- The base line was given.
-    pub gives_line : (buffer : List ℕ) (len : ℕ) → Advances old new lo ln fo fn (Ok true) → take len buffer ≡ new.line → len ≡ length new.line → len ≤ length buffer → ReadsBase rules lo ln fo fn new buffer (Ok len)
+    pub gives_line : (buffer : List ℕ) (len : ℕ) → Advances old new lo ln fo fn (Ok true) → take len buffer ≡ new.line
+        → len ≡ length new.line → len ≤ length buffer → ReadsBase rules lo ln fo fn new buffer (Ok len)
     gives_line buffer len a line_is size fits = (
       inl (
-        subst (λ (l : List ℕ). HasRead rules lo ln new (l ∷ [])) (sym line_is) (reads_line rules lo lo ln fo fn old new [] (new_going old is) before a),
+        subst (λ (l : List ℕ). HasRead rules lo ln new (l ∷ [])) (sym line_is)
+            (reads_line rules lo lo ln fo fn old new [] (new_going old is) before a),
         goes_on rules lo ln fo fn old new (new_going old is) a,
       ),
       omega (arith, size, is.line_limit, line_short lo ln fo fn old new a),
@@ -49,15 +55,22 @@ module _ (rules : Rules) where
 
     -- There is no line.
     pub gives_none : (buffer : List ℕ) → Advances old new lo ln fo fn (Ok false) → ReadsBase rules lo ln fo fn new buffer (Ok 0)
-    gives_none buffer a = (inr (reads_all rules lo lo ln fo fn old new [] (new_going old is) before a, refl), omega arith, omega arith, a.later)
+    gives_none buffer a = (
+      inr (reads_all rules lo lo ln fo fn old new [] (new_going old is) before a, refl),
+      omega arith,
+      omega arith,
+      a.later,
+    )
 
     -- The reader answered a fault.
-    pub gives_fault : (buffer : List ℕ) (fault : LineFault) → Advances old new lo ln fo fn (Err fault) → ReadsBase rules lo ln fo fn new buffer (Err fault)
-    gives_fault buffer fault a written k = record {
+    pub gives_fault : (buffer : List ℕ) (fault : LineFault) → Advances old new lo ln fo fn (Err fault)
+        → ReadsBase rules lo ln fo fn new buffer (Err fault)
+    gives_fault buffer fault a written k r = record {
       to = by_fault fault a;
       front = λ x told. record { front = []; rest = (ending rules x).output; split = refl; appended = Appends-none written };
       source_later = a.later;
       sink_later = omega arith;
+      room = λ x told. room-same r (ending rules x).output (λ _. not_sink fault);
     }
       where
         decided : (status : ℕ) → ReadsPast rules status lo ln [] → Decides rules status (outside lo written fo k) (outside ln written fn k)
@@ -65,7 +78,8 @@ module _ (rules : Rules) where
           taken = r.taken;
           takes = r.takes;
           ends = λ more. ap (λ (e : Ending). e.status) (ends_past_none rules status lo ln r more);
-          writes = λ more. subst (Appends written written) (sym (ap (λ (e : Ending). e.output) (ends_past_none rules status lo ln r more))) (Appends-none written);
+          writes = λ more. subst (Appends written written) (sym (ap (λ (e : Ending). e.output) (ends_past_none rules status lo ln r more)))
+              (Appends-none written);
           sink = refl;
         }
 
@@ -80,7 +94,8 @@ module _ (rules : Rules) where
           sink = refl;
         }
 
-        by_fault : (f : LineFault) → Advances old new lo ln fo fn (Err f) → RanTo rules (outside lo written fo k) (outside ln written fn k) (end_at f)
+        by_fault : (f : LineFault) → Advances old new lo ln fo fn (Err f)
+            → RanTo rules (outside lo written fo k) (outside ln written fn k) (end_at f)
         by_fault Source b = short b.cause (reads_some rules lo lo ln fo fn old new [] (new_going old is) before b)
         by_fault FaultLineTooLong b = decided 7 (reads_long rules lo lo ln fo fn old new [] (new_going old is) before b)
         by_fault FaultInputTooLong b = decided 8 (reads_over rules lo lo ln fo fn old new [] (new_going old is) before b)
@@ -90,15 +105,18 @@ module _ (rules : Rules) where
     refused_is : (e : Ending) → unless_refused (rules.refusal base) e ≡ record { status = 3; output = base_line words }
     refused_is e = ap (λ (o : Option (List ℕ)). unless_refused o e) refused
 
-    refused_open : (given : List ℕ) → IsOpen rules given (base ∷ []) → (y : List ℕ) → ending rules (given ++ y) ≡ record { status = 3; output = base_line words }
+    refused_open : (given : List ℕ) → IsOpen rules given (base ∷ []) → (y : List ℕ)
+        → ending rules (given ++ y) ≡ record { status = 3; output = base_line words }
     refused_open given o y = by_passed (first_passed rules (given ++ y)) refl
       where
-        by_passed : (p : Option Passed) → first_passed rules (given ++ y) ≡ p → ending_by rules (given ++ y) p ≡ record { status = 3; output = base_line words }
+        by_passed : (p : Option Passed) → first_passed rules (given ++ y) ≡ p
+            → ending_by rules (given ++ y) p ≡ record { status = 3; output = base_line words }
         by_passed None is = ap (completed_lines rules) (o.all y) ∙ refused_is _
         by_passed (Some p) is =
             let later : length given ≤ p.place = place_later rules (length given) 0 y p (sym (o.passes y) ∙ is) in
             let place : p.place ≡ length given + (p.place - length given) = omega (arith, later) in
-            let front : take p.place (given ++ y) ≡ given ++ take (p.place - length given) y = ap (λ (n : ℕ). take n (given ++ y)) place ∙ take-append-add given y (p.place - length given) in
+            let front : take p.place (given ++ y) ≡ given ++ take (p.place - length given) y =
+            ap (λ (n : ℕ). take n (given ++ y)) place ∙ take-append-add given y (p.place - length given) in
             ap (stopped rules p.status) (ap ended_lines front ∙ o.ended (take (p.place - length given) y)) ∙ refused_is _
 
     -- These bytes were taken, and have this ending however the source goes on.
@@ -115,9 +133,11 @@ module _ (rules : Rules) where
       ends : ending rules taken ≡ record { status = 3; output = base_line words }
 
     -- The base is refused.
-    pub refuses : (lo ln wo wn : Option (List ℕ)) (fo fn ko kn : ℕ) (reader : LineState) (end : End) → GivesBase rules lo ln reader base → fo ≤ fn
-        → RefusesBase words wo wn ko kn end → Ran rules (outside lo wo fo ko) (outside ln wn fn kn) end
-    refuses lo ln wo wn fo fn ko kn reader end gives later = by_end end
+    pub refuses : (lo ln wo wn : Option (List ℕ)) (fo fn ko kn : ℕ) (ro rn : Option ℕ) (reader : LineState) (end : End)
+        → GivesBase rules lo ln reader base → fo ≤ fn
+        → RefusesBase words wo wn ko kn end → KeepsRoom ro rn (base_line words) (end ≢ SinkFailed)
+        → Ran rules (outside lo wo fo ko) (outside ln wn fn kn) ro rn end
+    refuses lo ln wo wn fo fn ko kn ro rn reader end gives later = by_end end
       where
         ends : EndsOpen lo ln ⊎ EndsAll lo ln
         ends = ⊎_elim
@@ -138,20 +158,29 @@ module _ (rules : Rules) where
               taken = h.0.taken;
               takes = h.0.takes;
               at_end = h.0.at_end;
-              ends = ap (ending_by rules h.0.taken) h.0.passes ∙ ap (completed_lines rules) h.0.all ∙ ap (λ (b : List ℕ). completed rules b []) (sym h.1) ∙ refused_is _;
+              ends = ap (ending_by rules h.0.taken) h.0.passes ∙ ap (completed_lines rules) h.0.all
+                  ∙ ap (λ (b : List ℕ). completed rules b []) (sym h.1) ∙ refused_is _;
             }))
             gives
 
-        front_of : ((x : List ℕ) → ending rules x ≡ record { status = 3; output = base_line words } → AppendsFront wo wn (ending rules x).output)
-            → (x : List ℕ) → lo ≡ Some x → AppendsFront wo wn (ending rules x).output
-        front_of from x told =
+        output : (x : List ℕ) → lo ≡ Some x → (ending rules x).output ≡ base_line words
+        output x told =
             ⊎_elim
-            (λ e. let l = left_is ln x e.taken (subst (λ (s : Option (List ℕ)). Consumes s ln e.taken) told e.takes) in from x (ap (ending rules) l.2 ∙ e.ends l.0))
-            (λ e. from x (ap (ending rules) (taken_is lo ln x e.taken told e.takes e.at_end) ∙ e.ends))
+            (λ e. let l = left_is ln x e.taken (subst (λ (s : Option (List ℕ)). Consumes s ln e.taken) told e.takes) in
+            ap (λ (n : Ending). n.output) (ap (ending rules) l.2 ∙ e.ends l.0))
+            (λ e. ap (λ (n : Ending). n.output) (ap (ending rules) (taken_is lo ln x e.taken told e.takes e.at_end) ∙ e.ends))
             ends
 
-        by_end : (e : End) → RefusesBase words wo wn ko kn e → Ran rules (outside lo wo fo ko) (outside ln wn fn kn) e
-        by_end BadBase q = record {
+        front_of : AppendsPrefix wo wn (base_line words) → (x : List ℕ) → lo ≡ Some x → AppendsPrefix wo wn (ending rules x).output
+        front_of f x told = subst (AppendsPrefix wo wn) (sym (output x told)) f
+
+        room_of : (e : End) → KeepsRoom ro rn (base_line words) (e ≢ SinkFailed) → (x : List ℕ) → lo ≡ Some x
+            → KeepsRoom ro rn (ending rules x).output (e ≢ SinkFailed)
+        room_of e k x told = subst (λ (t : List ℕ). KeepsRoom ro rn t (e ≢ SinkFailed)) (sym (output x told)) k
+
+        by_end : (e : End) → RefusesBase words wo wn ko kn e → KeepsRoom ro rn (base_line words) (e ≢ SinkFailed)
+            → Ran rules (outside lo wo fo ko) (outside ln wn fn kn) ro rn e
+        by_end BadBase q k = record {
           to = ⊎_elim
               (λ e. inl (record {
                 taken = e.taken;
@@ -169,19 +198,21 @@ module _ (rules : Rules) where
                 sink = q.1;
               }))
               ends;
-          front = front_of (λ x is. subst (AppendsFront wo wn) (sym (ap (λ (n : Ending). n.output) is)) (whole_front q.0));
+          front = front_of (whole_front q.0);
           source_later = later;
           sink_later = omega (arith, q.1);
+          room = room_of BadBase k;
         }
-        by_end SinkFailed q = record {
+        by_end SinkFailed q k = record {
           to = q.1;
-          front = front_of (λ x is. subst (AppendsFront wo wn) (sym (ap (λ (n : Ending). n.output) is)) q.0);
+          front = front_of q.0;
           source_later = later;
           sink_later = q.2;
+          room = room_of SinkFailed k;
         }
-        by_end Done q = absurd q
-        by_end SomeBad q = absurd q
-        by_end SourceFailed q = absurd q
-        by_end Memory q = absurd q
-        by_end LineTooLong q = absurd q
-        by_end InputTooLong q = absurd q
+        by_end Done q k = absurd q
+        by_end SomeBad q k = absurd q
+        by_end SourceFailed q k = absurd q
+        by_end Memory q k = absurd q
+        by_end LineTooLong q k = absurd q
+        by_end InputTooLong q k = absurd q

@@ -1,23 +1,19 @@
 -- The first fault of bytes, and what follows where there is none.
-use Rattle.std.proofs.Common.{◌≡◌, ℕ, true, false, cond, List, Option, Some, None, refl}
-use Rattle.std.specs.Str.{is_utf8}
+use Rattle.std.proofs.Common.{◌≡◌, ℕ, List, Option, Some, None, refl}
 use Rattle.iri_grammar.specs.Classes.{Tests, IsSpec}
 use Rattle.iri_grammar.specs.Fault.{bytes_fault}
-use Rattle.iri_grammar.specs.FaultLaws.{absolute-law, reference-law}
+use Rattle.iri_grammar.proofs.FaultLaws.{absolute-law, reference-law}
 use Rattle.iri_grammar.specs.Parts.{IsAbsolute, IsReference}
-use Rattle.iri_resolve.specs.FormLaws.{canonical-iri, canonical-split, canonical-own}
+use Rattle.iri_resolve.proofs.FormLaws.{canonical-iri, canonical-split, canonical-own}
 use Rattle.iri_resolve.specs.NormalForm.{canonical}
 use Rattle.iri_grammar.specs.WholeFault.{absolute_fault, reference_fault}
 use Rattle.iri_grammar.specs.declared.error.ErrorKind.{ErrorKind}
-use Rattle.iri_grammar.specs.declared.error.ErrorKind.TheVariants.{InvalidUtf8}
-use Rattle.iri_grammar.specs.Laws.{uri_is_spec, iri_is_spec}
+use Rattle.iri_grammar.specs.inside.Laws.{uri_is_spec, iri_is_spec}
 use Rattle.iri_cli.specs.Words.{tests_of}
 use Rattle.iri_cli.specs.declared.command.Grammar.{Grammar}
 use Rattle.iri_cli.specs.declared.command.Grammar.TheVariants.{Uri, Iri}
 use Rattle.iri_cli.specs.Answer.{refusal, words_of_fault, answer, AnswersAreCanonical}
-
-pub fault_none : (f : List ℕ → Option ErrorKind) (bs : List ℕ) → bytes_fault f bs ≡ None → f bs ≡ None
-fault_none f bs = elim (is_utf8 bs) as (λ b. cond b (f bs) (Some InvalidUtf8) ≡ None → f bs ≡ None) [ true ↦ λ h. h | false ↦ λ h. cc ]
+use Rattle.iri_resolve.proofs.CanonLemmas.{fault_none}
 
 pub refused_none : (k : Option ErrorKind) → words_of_fault k ≡ None → k ≡ None
 refused_none None h = refl

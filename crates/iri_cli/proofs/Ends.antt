@@ -1,5 +1,6 @@
 -- The ending of an input by the lines that were read of it.
-use Rattle.std.proofs.Common.{◌≡◌, ℕ, ◌+◌, ◌-◌, ◌≤◌, List, [], ◌∷◌, ◌++◌, ◌&&◌, length, take, Bool, true, false, if◌then◌else◌, Option, None, Some, refl, sym, ◌∙◌, ap, subst, arith, ⊎_elim, append_assoc}
+use Rattle.std.proofs.Common.{◌≡◌, ℕ, ◌+◌, ◌-◌, ◌≤◌, List, [], ◌∷◌, ◌++◌, ◌&&◌, length, take, Bool, true, false, if◌then◌else◌, Option}
+use Rattle.std.proofs.Common.{None, Some, refl, sym, ◌∙◌, ap, subst, arith, ⊎_elim, append_assoc}
 use Rattle.std.specs.List.{concat, list_all}
 use Rattle.std.proofs.lemmas.List.{append-nil}
 use Rattle.std.proofs.lemmas.List.Folds.{concat-append, list_all-append}
@@ -7,29 +8,38 @@ use Rattle.std.proofs.Math.Seq.{take-append-add}
 use Rattle.iri_text.specs.Lines.{lines}
 use Rattle.iri_text.specs.Source.{Consumes, IsAtEnd}
 use Rattle.iri_text.specs.Line.{LineState}
-use Rattle.iri_cli.specs.Ending.{Rules, Ending, Passed, unless_refused, ended_lines, first_passed, answers_behind, answers, completed, completed_lines, stopped, ending_by, ending}
+use Rattle.iri_cli.specs.Ending.{Rules, Ending, Passed, unless_refused, ended_lines, first_passed, answers_behind, answers, completed}
+use Rattle.iri_cli.specs.Ending.{completed_lines, stopped, ending_by, ending}
 use Rattle.iri_cli.specs.Read.{IsOpen, HasRead, ReadsAll, ReadsPast}
 use Rattle.iri_cli.proofs.LineSteps.{place_later}
 use Rattle.iri_cli.proofs.Reading.{left_is}
 
 module _ (rules : Rules) where
   -- answers to more lines
-  pub answers-append : (base : List ℕ) (between xs ys : List (List ℕ)) → answers_behind rules base between (xs ++ ys) ≡ answers_behind rules base between xs ++ answers_behind rules base (between ++ xs) ys
+  pub answers-append : (base : List ℕ) (between xs ys : List (List ℕ))
+      → answers_behind rules base between (xs ++ ys) ≡ answers_behind rules base between xs ++ answers_behind rules base (between ++ xs) ys
   answers-append base between [] ys = ap (λ (b : List (List ℕ)). answers_behind rules base b ys) (sym (append-nil between))
   answers-append base between (x ∷ xs) ys =
       ap (λ (t : List (List ℕ)). rules.answer base between x ∷ t)
-      (answers-append base (between ++ x ∷ []) xs ys ∙ ap (λ (b : List (List ℕ)). answers_behind rules base (between ++ x ∷ []) xs ++ answers_behind rules base b ys) (append_assoc between (x ∷ []) xs))
+      (answers-append base (between ++ x ∷ []) xs ys
+      ∙ ap (λ (b : List (List ℕ)). answers_behind rules base (between ++ x ∷ []) xs ++ answers_behind rules base b ys)
+      (append_assoc between (x ∷ []) xs))
 
   module _ (base : List ℕ) (taken : rules.refusal base ≡ None) where
     -- one answer more
-    pub one_more : (rest : List (List ℕ)) (line : List ℕ) → concat (answers rules base (rest ++ line ∷ [])) ≡ concat (answers rules base rest) ++ rules.answer base rest line
+    pub one_more : (rest : List (List ℕ)) (line : List ℕ)
+        → concat (answers rules base (rest ++ line ∷ [])) ≡ concat (answers rules base rest) ++ rules.answer base rest line
     one_more rest line =
-        ap concat (answers-append base [] rest (line ∷ [])) ∙ concat-append (answers rules base rest) (answers_behind rules base rest (line ∷ []))
+        ap concat (answers-append base [] rest (line ∷ []))
+        ∙ concat-append (answers rules base rest) (answers_behind rules base rest (line ∷ []))
         ∙ ap (λ (t : List ℕ). concat (answers rules base rest) ++ t) (append-nil (rules.answer base rest line))
 
-    pub one_more_good : (rest : List (List ℕ)) (line : List ℕ) → list_all rules.is_good (answers rules base (rest ++ line ∷ [])) ≡ (list_all rules.is_good (answers rules base rest) && rules.is_good (rules.answer base rest line))
+    pub one_more_good : (rest : List (List ℕ)) (line : List ℕ)
+        → list_all rules.is_good (answers rules base (rest ++ line ∷ []))
+        ≡ (list_all rules.is_good (answers rules base rest) && rules.is_good (rules.answer base rest line))
     one_more_good rest line =
-        ap (list_all rules.is_good) (answers-append base [] rest (line ∷ [])) ∙ list_all-append rules.is_good (answers rules base rest) (answers_behind rules base rest (line ∷ []))
+        ap (list_all rules.is_good) (answers-append base [] rest (line ∷ []))
+        ∙ list_all-append rules.is_good (answers rules base rest) (answers_behind rules base rest (line ∷ []))
         ∙ ap (λ (b : Bool). list_all rules.is_good (answers rules base rest) && b) (and_true (rules.is_good (rules.answer base rest line)))
       where
         and_true : (b : Bool) → (b && true) ≡ b
@@ -44,57 +54,78 @@ module _ (rules : Rules) where
     abbrev pub IsFirst : List (List ℕ) → List ℕ → Type 0
     IsFirst rest output = (more : List ℕ) × (output ≡ concat (answers rules base rest) ++ more)
 
-    more_lines : (rest others : List (List ℕ)) → concat (answers rules base (rest ++ others)) ≡ concat (answers rules base rest) ++ concat (answers_behind rules base rest others)
-    more_lines rest others = ap concat (answers-append base [] rest others) ∙ concat-append (answers rules base rest) (answers_behind rules base rest others)
+    more_lines : (rest others : List (List ℕ)) → concat (answers rules base (rest ++ others))
+        ≡ concat (answers rules base rest) ++ concat (answers_behind rules base rest others)
+    more_lines rest others = ap concat (answers-append base [] rest others)
+        ∙ concat-append (answers rules base rest) (answers_behind rules base rest others)
 
     first_completed : (rest others : List (List ℕ)) → IsFirst rest (completed rules base (rest ++ others)).output
     first_completed rest others = (
       concat (answers_behind rules base rest others) ++ rules.closing base (rest ++ others),
       ap (λ (e : Ending). e.output) (is_taken _) ∙ ap (λ (t : List ℕ). t ++ rules.closing base (rest ++ others)) (more_lines rest others)
-          ∙ append_assoc (concat (answers rules base rest)) (concat (answers_behind rules base rest others)) (rules.closing base (rest ++ others)),
+          ∙ append_assoc (concat (answers rules base rest)) (concat (answers_behind rules base rest others))
+          (rules.closing base (rest ++ others)),
     )
 
     first_stopped : (status : ℕ) (rest others : List (List ℕ)) → IsFirst rest (stopped rules status (base ∷ (rest ++ others))).output
-    first_stopped status rest others = (concat (answers_behind rules base rest others), ap (λ (e : Ending). e.output) (is_taken _) ∙ more_lines rest others)
+    first_stopped status rest others = (
+      concat (answers_behind rules base rest others),
+      ap (λ (e : Ending). e.output) (is_taken _)
+          ∙ more_lines rest others,
+    )
 
     -- behind whole lines
-    first_open : (given : List ℕ) (rest : List (List ℕ)) → IsOpen rules given (base ∷ rest) → (y : List ℕ) → IsFirst rest (ending rules (given ++ y)).output
+    first_open : (given : List ℕ) (rest : List (List ℕ)) → IsOpen rules given (base ∷ rest) → (y : List ℕ)
+        → IsFirst rest (ending rules (given ++ y)).output
     first_open given rest o y = by_passed (first_passed rules (given ++ y)) refl
       where
         by_passed : (p : Option Passed) → first_passed rules (given ++ y) ≡ p → IsFirst rest (ending_by rules (given ++ y) p).output
-        by_passed None is = subst (λ (t : List (List ℕ)). IsFirst rest (completed_lines rules t).output) (sym (o.all y)) (first_completed rest (lines y))
+        by_passed None is = subst (λ (t : List (List ℕ)). IsFirst rest (completed_lines rules t).output) (sym (o.all y))
+            (first_completed rest (lines y))
         by_passed (Some p) is =
             let later : length given ≤ p.place = place_later rules (length given) 0 y p (sym (o.passes y) ∙ is) in
             let place : p.place ≡ length given + (p.place - length given) = omega (arith, later) in
-            let front : take p.place (given ++ y) ≡ given ++ take (p.place - length given) y = ap (λ (n : ℕ). take n (given ++ y)) place ∙ take-append-add given y (p.place - length given) in
+            let front : take p.place (given ++ y) ≡ given ++ take (p.place - length given) y =
+            ap (λ (n : ℕ). take n (given ++ y)) place ∙ take-append-add given y (p.place - length given) in
             subst (λ (t : List (List ℕ)). IsFirst rest (stopped rules p.status t).output)
-            (sym (ap ended_lines front ∙ o.ended (take (p.place - length given) y))) (first_stopped p.status rest (ended_lines (take (p.place - length given) y)))
+            (sym (ap ended_lines front ∙ o.ended (take (p.place - length given) y)))
+            (first_stopped p.status rest (ended_lines (take (p.place - length given) y)))
 
     -- of an input whose lines were read so far
-    pub first_read : (lo ln : Option (List ℕ)) (reader : LineState) (rest : List (List ℕ)) → HasRead rules lo ln reader (base ∷ rest) → (input : List ℕ) → lo ≡ Some input → IsFirst rest (ending rules input).output
+    pub first_read : (lo ln : Option (List ℕ)) (reader : LineState) (rest : List (List ℕ)) → HasRead rules lo ln reader (base ∷ rest)
+        → (input : List ℕ) → lo ≡ Some input → IsFirst rest (ending rules input).output
     first_read lo ln reader rest go input told =
-        let l = left_is ln input (go.given ++ reader.held) (subst (λ (s : Option (List ℕ)). Consumes s ln (go.given ++ reader.held)) told go.takes) in
+        let l = left_is ln input (go.given ++ reader.held)
+        (subst (λ (s : Option (List ℕ)). Consumes s ln (go.given ++ reader.held)) told go.takes) in
         ⊎_elim
-        (λ o. subst (λ (x : List ℕ). IsFirst rest (ending rules x).output) (sym (l.2 ∙ append_assoc go.given reader.held l.0)) (first_open go.given rest o.1 (reader.held ++ l.0)))
+        (λ o. subst (λ (x : List ℕ). IsFirst rest (ending rules x).output) (sym (l.2 ∙ append_assoc go.given reader.held l.0))
+        (first_open go.given rest o.1 (reader.held ++ l.0)))
         (λ c.
         let all : input ≡ go.given =
         l.2 ∙ ap (λ (t : List ℕ). (go.given ++ reader.held) ++ t) (subst IsAtEnd l.1 (c.1).at_end) ∙ append-nil (go.given ++ reader.held)
         ∙ ap (λ (t : List ℕ). go.given ++ t) (c.1).nothing ∙ append-nil go.given in
         subst (λ (x : List ℕ). IsFirst rest (ending rules x).output) (sym all)
         (subst (λ (p : Option Passed). IsFirst rest (ending_by rules go.given p).output) (sym (c.1).passes)
-        (subst (λ (t : List (List ℕ)). IsFirst rest (completed_lines rules t).output) (sym ((c.1).all ∙ ap (λ (t : List (List ℕ)). base ∷ t) (sym (append-nil rest)))) (first_completed rest []))))
+        (subst (λ (t : List (List ℕ)). IsFirst rest (completed_lines rules t).output)
+        (sym ((c.1).all ∙ ap (λ (t : List (List ℕ)). base ∷ t) (sym (append-nil rest)))) (first_completed rest []))))
         go.place
 
     -- the ending of a whole input
     pub ends_all : (lo ln : Option (List ℕ)) (rest : List (List ℕ)) → (r : ReadsAll rules lo ln (base ∷ rest))
-        → ending rules r.taken ≡ record { status = if list_all rules.is_good (answers rules base rest) then 0 else 1; output = concat (answers rules base rest) ++ rules.closing base rest }
+        → ending rules r.taken ≡ record {
+          status = if list_all rules.is_good (answers rules base rest) then 0 else 1;
+          output = concat (answers rules base rest) ++ rules.closing base rest;
+        }
     ends_all lo ln rest r = ap (ending_by rules r.taken) r.passes ∙ ap (completed_lines rules) r.all ∙ is_taken _
 
     -- the ending where a limit is passed
-    pub ends_past : (status : ℕ) (lo ln : Option (List ℕ)) (rest : List (List ℕ)) → (r : ReadsPast rules status lo ln (base ∷ rest)) → (more : List ℕ)
+    pub ends_past : (status : ℕ) (lo ln : Option (List ℕ)) (rest : List (List ℕ)) → (r : ReadsPast rules status lo ln (base ∷ rest))
+        → (more : List ℕ)
         → ending rules (r.taken ++ more) ≡ record { status = status; output = concat (answers rules base rest) }
-    ends_past status lo ln rest r more = ap (ending_by rules (r.taken ++ more)) (r.passes more) ∙ ap (stopped rules status) (r.ended more) ∙ is_taken _
+    ends_past status lo ln rest r more = ap (ending_by rules (r.taken ++ more)) (r.passes more) ∙ ap (stopped rules status) (r.ended more)
+        ∙ is_taken _
 
   -- the ending where a limit is passed in the base line
-  pub ends_past_none : (status : ℕ) (lo ln : Option (List ℕ)) → (r : ReadsPast rules status lo ln []) → (more : List ℕ) → ending rules (r.taken ++ more) ≡ record { status = status; output = [] }
+  pub ends_past_none : (status : ℕ) (lo ln : Option (List ℕ)) → (r : ReadsPast rules status lo ln []) → (more : List ℕ)
+      → ending rules (r.taken ++ more) ≡ record { status = status; output = [] }
   ends_past_none status lo ln r more = ap (ending_by rules (r.taken ++ more)) (r.passes more) ∙ ap (stopped rules status) (r.ended more)

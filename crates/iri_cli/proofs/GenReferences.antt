@@ -1,32 +1,35 @@
 -- No reference of `gen` has a fault: each segment of the table is over the characters of a registered name, which are of a path too.
-use Rattle.std.proofs.Common.{◌≡◌, ℕ, zero, suc, ◌<◌, ◌/◌, ◌%◌, ◌^◌, Bool, true, false, not, ◌&&◌, ◌||◌, List, [], ◌∷◌, ◌++◌, Some, None, refl, ◌∙◌, ap, subst, arith, append-nil}
+use Rattle.std.proofs.Common.{◌≡◌, ℕ, zero, suc, ◌<◌, ◌/◌, ◌%◌, ◌^◌, Bool, true, false, not, ◌&&◌, ◌||◌, List, [], ◌∷◌, ◌++◌, Some, None}
+use Rattle.std.proofs.Common.{refl, ◌∙◌, ap, subst, arith, append-nil}
 use Rattle.std.specs.Prelude.{◌==◌, get_or, nat_lt}
 use Rattle.std.specs.List.{list_all}
 use Rattle.std.specs.Str.{IsAscii, chars, is_utf8}
 use lib.Utf8.{encode}
 use Rattle.std.proofs.lemmas.Str.{IsAscii-append, IsUtf8-from_ascii, is_utf8-from_IsUtf8, chars-IsAscii}
 use Rattle.std.proofs.lemmas.Bool.Decides.{nat_tests}
-use Rattle.iri_grammar.specs.Classes.{Tests, IsSpec, uri_tests, is_ascii_unreserved, is_sub_delim, is_ascii_reg_name, is_ascii_pchar, is_ascii_path, is_ascii_query, reg_name_char, path_char, query_char}
-use Rattle.iri_grammar.specs.ClassLaws.{class_has_no_percent}
+use Rattle.iri_grammar.specs.Components.{is_path}
+use Rattle.iri_grammar.specs.Classes.{Tests, IsSpec, uri_tests, is_ascii_unreserved, is_sub_delim, is_ascii_reg_name, is_ascii_pchar}
+use Rattle.iri_grammar.specs.Classes.{is_ascii_path, is_ascii_query, reg_name_char, path_char, query_char}
+use Rattle.iri_grammar.proofs.ClassLaws.{class_has_no_percent}
 use Rattle.iri_grammar.specs.declared.class.Class.TheVariants.{RegName, Path}
 use Rattle.iri_grammar.specs.Over.{over, over_from, text_over, IsOver, done, plain, triplet}
-use Rattle.iri_grammar.specs.OverLaws.{over-from_units, units-from_over}
+use Rattle.iri_grammar.proofs.OverLaws.{over-from_units, units-from_over}
 use Rattle.iri_grammar.specs.Cut.{before, lacks}
-use Rattle.iri_grammar.specs.CutLaws.{both, before-at}
+use Rattle.iri_grammar.proofs.CutLaws.{both, before-at}
 use Rattle.iri_grammar.specs.Components.{is_letter, is_scheme_char}
 use Rattle.iri_grammar.specs.Ipv6.{is_group}
 use Rattle.iri_grammar.specs.IpLiteral.{is_ip_literal}
 use Rattle.iri_grammar.specs.Host.{is_reg_name}
 use Rattle.iri_grammar.specs.Authority.{is_authority, authority_parts, recompose_authority}
-use Rattle.iri_grammar.specs.AuthorityLaws.{passes}
-use Rattle.iri_grammar.specs.AuthorityTexts.{all_below}
+use Rattle.iri_grammar.proofs.AuthorityLaws.{passes}
+use Rattle.iri_grammar.proofs.AuthorityTexts.{all_below}
 use Rattle.iri_grammar.specs.Parts.{IsAbsolute, recompose, is_empty, starts_with_slash, starts_with_slashes}
-use Rattle.iri_grammar.specs.MadeLaws.{made-reference}
+use Rattle.iri_grammar.proofs.MadeLaws.{made-reference}
 use Rattle.iri_grammar.specs.Split.{split_of}
 use Rattle.iri_grammar.specs.WholeFault.{absolute_fault, reference_fault, front_fault, parts_fault}
-use Rattle.iri_grammar.specs.FaultLaws.{absolute-law, of_bytes, reference-utf8}
-use Rattle.iri_grammar.specs.UriLaws.{absolute-wider}
-use Rattle.iri_grammar.specs.Laws.{uri_is_spec}
+use Rattle.iri_grammar.proofs.FaultLaws.{absolute-law, of_bytes, reference-utf8}
+use Rattle.iri_grammar.proofs.UriLaws.{absolute-wider}
+use Rattle.iri_grammar.specs.inside.Laws.{uri_is_spec}
 use Rattle.iri_cli.specs.Answer.{refusal, words_of_fault}
 use Rattle.iri_cli.specs.Gen.{gen_segments, gen_segment, more_segments, gen_reference, gen_base}
 
@@ -126,10 +129,14 @@ module _ (s : Tests) (k : IsSpec s) where
   more_text zero number = record { ascii = no_bytes; over = done }
   more_text (suc count) number =
       joined (47 ∷ []) (gen_segment (number % 16) ++ more_segments count (number / 16)) slash_text
-      (joined (gen_segment (number % 16)) (more_segments count (number / 16)) (segment_text (gen_segment (number % 16)) (segment_is (number % 16))) (more_text count (number / 16)))
+      (joined (gen_segment (number % 16)) (more_segments count (number / 16))
+      (segment_text (gen_segment (number % 16)) (segment_is (number % 16))) (more_text count (number / 16)))
 
   is_path_of : (t : List ℕ) → IsPathText t → text_over (path_char s) t ≡ true
   is_path_of t h = text_is (path_char s) t (class_has_no_percent s k Path) h.ascii h.over
+
+  pub slash_is_path : is_path s (47 ∷ []) ≡ true
+  slash_is_path = is_path_of (47 ∷ []) slash_text
 
   -- ---- a path alone, and one behind an authority
   alone : (t : List ℕ) → IsPathText t → (not (starts_with_slashes t) && lacks 58 (before 47 t)) ≡ true → reference_fault s t ≡ None
@@ -139,13 +146,19 @@ module _ (s : Tests) (k : IsSpec s) where
       (made-reference s k (record { scheme = None; authority = None; path = t; query = None; fragment = None })
       (record { scheme = refl; authority = refl; path = is_path_of t h; query = refl; fragment = refl; rules = rules }))
 
+  pub lone_slash : reference_fault s (47 ∷ []) ≡ None
+  lone_slash = alone (47 ∷ []) slash_text refl
+
   authority_is : (x : List ℕ) → IsSegment x → is_authority s x ≡ true
   unfolding recompose_authority
   authority_is x h =
-      let name : is_reg_name s x ≡ true = text_is (reg_name_char s) x (class_has_no_percent s k RegName) h.ascii (over_wider is_ascii_reg_name (reg_name_char s) in_reg_name x h.over) in
-      passes s k x (record { userinfo = None; host = x; port = None }) (record { userinfo = refl; host = or_true (is_ip_literal x) (is_reg_name s x) name; port = refl }, append-nil x)
+      let name : is_reg_name s x ≡ true = text_is (reg_name_char s) x (class_has_no_percent s k RegName) h.ascii
+      (over_wider is_ascii_reg_name (reg_name_char s) in_reg_name x h.over) in
+      passes s k x (record { userinfo = None; host = x; port = None })
+      (record { userinfo = refl; host = or_true (is_ip_literal x) (is_reg_name s x) name; port = refl }, append-nil x)
 
-  beside : (a t : List ℕ) → IsSegment a → IsPathText t → (is_empty t || starts_with_slash t) ≡ true → reference_fault s (47 ∷ 47 ∷ (a ++ t)) ≡ None
+  beside : (a t : List ℕ) → IsSegment a → IsPathText t → (is_empty t || starts_with_slash t) ≡ true
+      → reference_fault s (47 ∷ 47 ∷ (a ++ t)) ≡ None
   unfolding recompose
   beside a t i h rules =
       subst (λ (z : List ℕ). reference_fault s (47 ∷ 47 ∷ (a ++ z)) ≡ None) (append-nil t)
@@ -153,7 +166,8 @@ module _ (s : Tests) (k : IsSpec s) where
       (record { scheme = refl; authority = authority_is a i; path = is_path_of t h; query = refl; fragment = refl; rules = rules }))
 
   -- ---- the segments joined
-  edge : (count number : ℕ) → (before 47 (more_segments count number) ≡ []) × ((is_empty (more_segments count number) || starts_with_slash (more_segments count number)) ≡ true)
+  edge : (count number : ℕ) → (before 47 (more_segments count number) ≡ [])
+      × ((is_empty (more_segments count number) || starts_with_slash (more_segments count number)) ≡ true)
   edge zero number = (refl, refl)
   edge (suc count) number = (refl, refl)
 
@@ -167,10 +181,13 @@ module _ (s : Tests) (k : IsSpec s) where
   -- the first segment is empty
   behind_slash : (x : List ℕ) → IsSegment x → (count number : ℕ) → reference_fault s (47 ∷ (x ++ more_segments count number)) ≡ None
   behind_slash (f ∷ fs) h count number =
-      alone (47 ∷ f ∷ (fs ++ more_segments count number)) (joined (47 ∷ []) (f ∷ (fs ++ more_segments count number)) slash_text (joined (f ∷ fs) (more_segments count number) (segment_text (f ∷ fs) h) (more_text count number)))
+      alone (47 ∷ f ∷ (fs ++ more_segments count number))
+      (joined (47 ∷ []) (f ∷ (fs ++ more_segments count number)) slash_text
+      (joined (f ∷ fs) (more_segments count number) (segment_text (f ∷ fs) h) (more_text count number)))
       (rw (first_apart f fs h.no_slash) refl)
-  behind_slash [] h zero number = alone (47 ∷ []) slash_text refl
-  behind_slash [] h (suc count) number = beside (gen_segment (number % 16)) (more_segments count (number / 16)) (segment_is (number % 16)) (more_text count (number / 16)) (edge count (number / 16)).1
+  behind_slash [] h zero number = lone_slash
+  behind_slash [] h (suc count) number = beside (gen_segment (number % 16)) (more_segments count (number / 16)) (segment_is (number % 16))
+      (more_text count (number / 16)) (edge count (number / 16)).1
 
   of_segments : (x : List ℕ) → IsSegment x → (count number : ℕ) → reference_fault s (x ++ more_segments count number) ≡ None
   of_segments [] h zero number = alone [] (more_text zero number) refl
@@ -186,11 +203,13 @@ module _ (s : Tests) (k : IsSpec s) where
 
 -- ---- the base
 base_of_uris : absolute_fault uri_tests gen_base ≡ None
-unfolding split_of front_fault parts_fault authority_parts over_from chars is_utf8 encode is_letter is_scheme_char reg_name_char path_char query_char is_ascii_query is_ascii_reg_name is_ascii_path is_ascii_pchar is_ascii_unreserved is_sub_delim is_group
+unfolding split_of front_fault parts_fault authority_parts over_from chars is_utf8 encode is_letter is_scheme_char reg_name_char path_char
+    query_char is_ascii_query is_ascii_reg_name is_ascii_path is_ascii_pchar is_ascii_unreserved is_sub_delim is_group
 base_of_uris = refl
 
 pub base_taken : (s : Tests) → IsSpec s → refusal s gen_base ≡ None
 unfolding refusal
 base_taken s k =
     let valid = absolute-wider s gen_base ((absolute-law uri_tests uri_is_spec gen_base).0 base_of_uris) in
-    ap words_of_fault ((of_bytes (absolute_fault s) (IsAbsolute s gen_base) gen_base (λ r. reference-utf8 s gen_base (r.0, r.1)) (absolute-law s k gen_base)).1 valid)
+    ap words_of_fault ((of_bytes (absolute_fault s) (IsAbsolute s gen_base) gen_base (λ r. reference-utf8 s gen_base (r.0, r.1))
+    (absolute-law s k gen_base)).1 valid)

@@ -1,27 +1,33 @@
 -- How limits and lines go over the bytes of one line.
-use Rattle.std.proofs.Common.{◌≡◌, ◌≢◌, ℕ, ◌+◌, ◌==◌, if◌then◌else◌, ◌<◌, ◌≤◌, nat_le, List, [], ◌∷◌, ◌++◌, length, Bool, true, false, Option, None, Some, add-zero, refl, sym, ◌∙◌, ap, arith, append_assoc}
+use Rattle.std.proofs.Common.{◌≡◌, ◌≢◌, ℕ, ◌+◌, ◌==◌, if◌then◌else◌, ◌<◌, ◌≤◌, nat_le, List, [], ◌∷◌, ◌++◌, length, Bool, true, false}
+use Rattle.std.proofs.Common.{Option, None, Some, add-zero, refl, sym, ◌∙◌, ap, arith, append_assoc}
 use Rattle.std.proofs.lemmas.List.{append-nil}
 use Rattle.std.proofs.lemmas.Bool.Decides.{nat_tests}
 use Rattle.iri_text.specs.Lines.{NoLf, no_cr, lines_from}
 use Rattle.iri_cli.specs.Ending.{Rules, Passed, passed_from, ended_from}
 
 module _ (rules : Rules) where
-  step : (place len b : ℕ) (y : List ℕ) → b ≢ 10 → place < rules.input_limit → len < rules.line_limit → passed_from rules place len (b ∷ y) ≡ passed_from rules (place + 1) (len + 1) y
+  step : (place len b : ℕ) (y : List ℕ) → b ≢ 10 → place < rules.input_limit → len < rules.line_limit
+      → passed_from rules place len (b ∷ y) ≡ passed_from rules (place + 1) (len + 1) y
   step place len b y h i l = grind (arith, nat_tests)
 
-  at_lf : (place len : ℕ) (y : List ℕ) → place < rules.input_limit → passed_from rules place len (10 ∷ y) ≡ passed_from rules (place + 1) 0 y
+  at_lf : (place len : ℕ) (y : List ℕ) → place < rules.input_limit
+      → passed_from rules place len (10 ∷ y) ≡ passed_from rules (place + 1) 0 y
   at_lf place len y i = grind (arith, nat_tests)
 
-  at_long : (place len b : ℕ) (y : List ℕ) → b ≢ 10 → place < rules.input_limit → rules.line_limit ≤ len → passed_from rules place len (b ∷ y) ≡ Some (record { status = 7; place = place })
+  at_long : (place len b : ℕ) (y : List ℕ) → b ≢ 10 → place < rules.input_limit → rules.line_limit ≤ len
+      → passed_from rules place len (b ∷ y) ≡ Some (record { status = 7; place = place })
   at_long place len b y h i l = grind (arith, nat_tests)
 
-  at_over : (place len b : ℕ) (y : List ℕ) → rules.input_limit ≤ place → passed_from rules place len (b ∷ y) ≡ Some (record { status = 8; place = place })
+  at_over : (place len b : ℕ) (y : List ℕ) → rules.input_limit ≤ place
+      → passed_from rules place len (b ∷ y) ≡ Some (record { status = 8; place = place })
   at_over place len b y i = grind (arith, nat_tests)
 
   -- the bytes of a line
   pub along : (place len : ℕ) (raw y : List ℕ) → NoLf raw → len + length raw ≤ rules.line_limit → place + length raw ≤ rules.input_limit
       → passed_from rules place len (raw ++ y) ≡ passed_from rules (place + length raw) (len + length raw) y
-  along place len [] y n l i = ap (λ (p : ℕ). passed_from rules p len y) (sym (add-zero place)) ∙ ap (λ (k : ℕ). passed_from rules (place + 0) k y) (sym (add-zero len))
+  along place len [] y n l i = ap (λ (p : ℕ). passed_from rules p len y) (sym (add-zero place))
+      ∙ ap (λ (k : ℕ). passed_from rules (place + 0) k y) (sym (add-zero len))
   along place len (b ∷ raw) y n l i =
       let there : (place + 1) + length raw ≡ place + length (b ∷ raw) = omega arith in
       let long : (len + 1) + length raw ≡ len + length (b ∷ raw) = omega arith in
@@ -40,18 +46,22 @@ module _ (rules : Rules) where
   past_line place raw y n l i = along place 0 raw (10 ∷ y) n (omega arith) (omega arith) ∙ at_lf (place + length raw) (0 + length raw) y i
 
   -- bytes with no LF, within the limits
-  pub past_bytes : (place : ℕ) (raw : List ℕ) → NoLf raw → length raw ≤ rules.line_limit → place + length raw ≤ rules.input_limit → passed_from rules place 0 raw ≡ None
+  pub past_bytes : (place : ℕ) (raw : List ℕ) → NoLf raw → length raw ≤ rules.line_limit → place + length raw ≤ rules.input_limit
+      → passed_from rules place 0 raw ≡ None
   past_bytes place raw n l i = ap (passed_from rules place 0) (sym (append-nil raw)) ∙ along place 0 raw [] n (omega arith) i
 
   -- a line that is too long
-  pub past_long : (place b : ℕ) (raw y : List ℕ) → NoLf raw → b ≢ 10 → length raw ≡ rules.line_limit → place + length raw < rules.input_limit
+  pub past_long : (place b : ℕ) (raw y : List ℕ) → NoLf raw → b ≢ 10 → length raw ≡ rules.line_limit
+      → place + length raw < rules.input_limit
       → passed_from rules place 0 (raw ++ b ∷ y) ≡ Some (record { status = 7; place = place + length raw })
-  past_long place b raw y n h l i = along place 0 raw (b ∷ y) n (omega arith) (omega arith) ∙ at_long (place + length raw) (0 + length raw) b y h i (omega arith)
+  past_long place b raw y n h l i = along place 0 raw (b ∷ y) n (omega arith) (omega arith)
+      ∙ at_long (place + length raw) (0 + length raw) b y h i (omega arith)
 
   -- an input that is too long
   pub past_over : (place b : ℕ) (raw y : List ℕ) → NoLf raw → length raw ≤ rules.line_limit → place + length raw ≡ rules.input_limit
       → passed_from rules place 0 (raw ++ b ∷ y) ≡ Some (record { status = 8; place = place + length raw })
-  past_over place b raw y n l i = along place 0 raw (b ∷ y) n (omega arith) (omega arith) ∙ at_over (place + length raw) (0 + length raw) b y (omega arith)
+  past_over place b raw y n l i = along place 0 raw (b ∷ y) n (omega arith) (omega arith)
+      ∙ at_over (place + length raw) (0 + length raw) b y (omega arith)
 
   abbrev place_of : Option Passed → ℕ
   place_of None = 0
@@ -61,9 +71,11 @@ module _ (rules : Rules) where
   pub place_later : (place len : ℕ) (y : List ℕ) (p : Passed) → passed_from rules place len y ≡ Some p → place ≤ p.place
   place_later place len [] p is = absurd (cc is)
   place_later place len (b ∷ y) p is =
-      by_tests (nat_le rules.input_limit place) (b == 10) (nat_le rules.line_limit len) (place_later (place + 1) 0 y p) (place_later (place + 1) (len + 1) y p) is
+      by_tests (nat_le rules.input_limit place) (b == 10) (nat_le rules.line_limit len) (place_later (place + 1) 0 y p)
+      (place_later (place + 1) (len + 1) y p) is
     where
-      by_tests : (over lf long : Bool) → (passed_from rules (place + 1) 0 y ≡ Some p → place + 1 ≤ p.place) → (passed_from rules (place + 1) (len + 1) y ≡ Some p → place + 1 ≤ p.place)
+      by_tests : (over lf long : Bool) → (passed_from rules (place + 1) 0 y ≡ Some p → place + 1 ≤ p.place)
+          → (passed_from rules (place + 1) (len + 1) y ≡ Some p → place + 1 ≤ p.place)
           → (if over then Some (record { status = 8; place = place }) else (if lf then passed_from rules (place + 1) 0 y
           else (if long then Some (record { status = 7; place = place }) else passed_from rules (place + 1) (len + 1) y))) ≡ Some p
           → place ≤ p.place
@@ -75,14 +87,16 @@ module _ (rules : Rules) where
 -- lines over the bytes of a line
 pub lines_along : (front raw y : List ℕ) → NoLf raw → lines_from front (raw ++ y) ≡ lines_from (front ++ raw) y
 lines_along front [] y n = ap (λ (f : List ℕ). lines_from f y) (sym (append-nil front))
-lines_along front (b ∷ raw) y n = other b (lines_from (front ++ b ∷ []) (raw ++ y)) n.0 ∙ lines_along (front ++ b ∷ []) raw y n.1 ∙ ap (λ (f : List ℕ). lines_from f y) (append_assoc front (b ∷ []) raw)
+lines_along front (b ∷ raw) y n = other b (lines_from (front ++ b ∷ []) (raw ++ y)) n.0 ∙ lines_along (front ++ b ∷ []) raw y n.1
+    ∙ ap (λ (f : List ℕ). lines_from f y) (append_assoc front (b ∷ []) raw)
   where
     other : (c : ℕ) (rest : List (List ℕ)) → c ≢ 10 → (if c == 10 then no_cr front ∷ lines_from [] (raw ++ y) else rest) ≡ rest
     other c rest h = grind (arith, nat_tests)
 
 pub ended_along : (front raw y : List ℕ) → NoLf raw → ended_from front (raw ++ y) ≡ ended_from (front ++ raw) y
 ended_along front [] y n = ap (λ (f : List ℕ). ended_from f y) (sym (append-nil front))
-ended_along front (b ∷ raw) y n = other b (ended_from (front ++ b ∷ []) (raw ++ y)) n.0 ∙ ended_along (front ++ b ∷ []) raw y n.1 ∙ ap (λ (f : List ℕ). ended_from f y) (append_assoc front (b ∷ []) raw)
+ended_along front (b ∷ raw) y n = other b (ended_from (front ++ b ∷ []) (raw ++ y)) n.0 ∙ ended_along (front ++ b ∷ []) raw y n.1
+    ∙ ap (λ (f : List ℕ). ended_from f y) (append_assoc front (b ∷ []) raw)
   where
     other : (c : ℕ) (rest : List (List ℕ)) → c ≢ 10 → (if c == 10 then no_cr front ∷ ended_from [] (raw ++ y) else rest) ≡ rest
     other c rest h = grind (arith, nat_tests)

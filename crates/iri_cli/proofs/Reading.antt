@@ -1,19 +1,22 @@
 -- Lines that a reader gives one after the other, and how that ends.
-use Rattle.std.proofs.Common.{◌≡◌, ◌≢◌, ℕ, ◌+◌, ◌-◌, ◌<◌, ◌≤◌, List, [], ◌∷◌, ◌++◌, length, take, Option, None, Some, Ok, Err, true, false, refl, sym, ◌∙◌, ap, subst, arith, inl, inr, ⊎_elim, append_assoc, length-append}
+use Rattle.std.proofs.Common.{◌≡◌, ◌≢◌, ℕ, ◌+◌, ◌-◌, ◌<◌, ◌≤◌, List, [], ◌∷◌, ◌++◌, length, take, Option, None, Some, Ok, Err, true, false}
+use Rattle.std.proofs.Common.{refl, sym, ◌∙◌, ap, subst, arith, inl, inr, ⊎_elim, append_assoc, length-append}
 use Rattle.std.proofs.lemmas.List.{append-nil, take_at}
 use Rattle.iri_text.specs.Lines.{NoLf, no_cr, lines}
 use Rattle.iri_text.specs.Source.{Consumes}
 use Rattle.iri_text.specs.Line.{LineState}
 use Rattle.iri_text.specs.Reader.{Advances}
-use Rattle.iri_text.specs.declared.reader.LineFault.TheVariants.{Source, LineTooLong, InputTooLong}
+use Rattle.iri_text.specs.declared.streams.reader.LineFault.TheVariants.{Source, LineTooLong, InputTooLong}
 use Rattle.iri_text.proofs.Moved.{Consumes-append, still_at_end}
 use Rattle.iri_cli.specs.Ending.{Rules, passed_from, first_passed, ended_lines}
 use Rattle.iri_cli.specs.Read.{IsOpen, HasRead, ReadsAll, ReadsSome, ReadsPast, IsGoing}
 use Rattle.iri_cli.proofs.LineSteps.{past_line, past_bytes, past_long, past_over, lines_along, ended_along, none_ended, one_line}
 
 -- what was taken before and now
-takes_more : (lo lm ln : Option (List ℕ)) (given held moved : List ℕ) → Consumes lo lm (given ++ held) → Consumes lm ln moved → Consumes lo ln (given ++ (held ++ moved))
-takes_more lo lm ln given held moved p q = subst (Consumes lo ln) (append_assoc given held moved) (Consumes-append lo lm ln (given ++ held) moved p q)
+takes_more : (lo lm ln : Option (List ℕ)) (given held moved : List ℕ) → Consumes lo lm (given ++ held) → Consumes lm ln moved
+    → Consumes lo ln (given ++ (held ++ moved))
+takes_more lo lm ln given held moved p q = subst (Consumes lo ln) (append_assoc given held moved)
+    (Consumes-append lo lm ln (given ++ held) moved p q)
 
 -- no byte was taken
 pub consumes_none : (l : Option (List ℕ)) → Consumes l l []
@@ -39,14 +42,22 @@ last_of [] n h p = absurd (omega arith)
 last_of (x ∷ []) n h p = record { front = []; last = x; split = refl; size = omega arith; whole = tt; other = p.0 }
 last_of (x ∷ y ∷ xs) n h p =
     let l = last_of (y ∷ xs) (n - 1) (omega arith) p.1 in
-    record { front = x ∷ l.front; last = l.last; split = ap (λ (t : List ℕ). x ∷ t) l.split; size = omega (arith, l.size); whole = (p.0, l.whole); other = l.other }
+    record {
+      front = x ∷ l.front;
+      last = l.last;
+      split = ap (λ (t : List ℕ). x ∷ t) l.split;
+      size = omega (arith, l.size);
+      whole = (p.0, l.whole);
+      other = l.other;
+    }
 
 module _ (rules : Rules) where
   -- before the first byte
   pub open_first : IsOpen rules [] []
   open_first = record { passes = λ y. refl; all = λ y. refl; ended = λ y. refl }
 
-  pub read_none : (left : Option (List ℕ)) (reader : LineState) → reader.held ≡ [] → reader.taken ≡ 0 → reader.ended ≡ false → HasRead rules left left reader []
+  pub read_none : (left : Option (List ℕ)) (reader : LineState) → reader.held ≡ [] → reader.taken ≡ 0 → reader.ended ≡ false
+      → HasRead rules left left reader []
   read_none left reader held taken ended = record {
     given = [];
     taken = omega (arith, taken, ap length held);
@@ -55,16 +66,19 @@ module _ (rules : Rules) where
   }
 
   -- a line that an LF ends
-  open_line : (given raw : List ℕ) (whole : List (List ℕ)) → IsOpen rules given whole → NoLf raw → length raw ≤ rules.line_limit → length given + length raw < rules.input_limit
+  open_line : (given raw : List ℕ) (whole : List (List ℕ)) → IsOpen rules given whole → NoLf raw → length raw ≤ rules.line_limit
+      → length given + length raw < rules.input_limit
       → IsOpen rules (given ++ (raw ++ 10 ∷ [])) (whole ++ no_cr raw ∷ [])
   open_line given raw whole o n l i = record {
     passes = λ y.
         ap (first_passed rules) (there y) ∙ o.passes (raw ++ 10 ∷ y) ∙ past_line rules (length given) raw y n l i
         ∙ ap (λ (p : ℕ). passed_from rules p 0 y) place;
     all = λ y.
-        ap lines (there y) ∙ o.all (raw ++ 10 ∷ y) ∙ ap (λ (t : List (List ℕ)). whole ++ t) (lines_along [] raw (10 ∷ y) n) ∙ sym (append_assoc whole (no_cr raw ∷ []) (lines y));
+        ap lines (there y) ∙ o.all (raw ++ 10 ∷ y) ∙ ap (λ (t : List (List ℕ)). whole ++ t) (lines_along [] raw (10 ∷ y) n)
+        ∙ sym (append_assoc whole (no_cr raw ∷ []) (lines y));
     ended = λ y.
-        ap ended_lines (there y) ∙ o.ended (raw ++ 10 ∷ y) ∙ ap (λ (t : List (List ℕ)). whole ++ t) (ended_along [] raw (10 ∷ y) n) ∙ sym (append_assoc whole (no_cr raw ∷ []) (ended_lines y));
+        ap ended_lines (there y) ∙ o.ended (raw ++ 10 ∷ y) ∙ ap (λ (t : List (List ℕ)). whole ++ t) (ended_along [] raw (10 ∷ y) n)
+        ∙ sym (append_assoc whole (no_cr raw ∷ []) (ended_lines y));
   }
     where
       there : (y : List ℕ) → (given ++ (raw ++ 10 ∷ [])) ++ y ≡ given ++ (raw ++ 10 ∷ y)
@@ -74,17 +88,20 @@ module _ (rules : Rules) where
       place = omega (arith, length-append given (raw ++ 10 ∷ []), length-append raw (10 ∷ []))
 
   -- bytes with no LF behind whole lines
-  open_bytes : (given raw : List ℕ) (whole : List (List ℕ)) → IsOpen rules given whole → NoLf raw → length raw ≤ rules.line_limit → length given + length raw ≤ rules.input_limit
+  open_bytes : (given raw : List ℕ) (whole : List (List ℕ)) → IsOpen rules given whole → NoLf raw → length raw ≤ rules.line_limit
+      → length given + length raw ≤ rules.input_limit
       → first_passed rules (given ++ raw) ≡ None
   open_bytes given raw whole o n l i = o.passes raw ∙ past_bytes rules (length given) raw n l i
 
   open_ended : (given raw : List ℕ) (whole : List (List ℕ)) → IsOpen rules given whole → NoLf raw → ended_lines (given ++ raw) ≡ whole
   open_ended given raw whole o n = o.ended raw ∙ ap (λ (t : List (List ℕ)). whole ++ t) (none_ended raw n) ∙ append-nil whole
 
-  module _ (lo lm ln : Option (List ℕ)) (fo fn : ℕ) (old new : LineState) (whole : List (List ℕ)) (is : IsGoing rules old) (go : HasRead rules lo lm old whole) where
+  module _ (lo lm ln : Option (List ℕ)) (fo fn : ℕ) (old new : LineState) (whole : List (List ℕ)) (is : IsGoing rules old)
+      (go : HasRead rules lo lm old whole) where
     -- A line was given.
     pub reads_line : Advances old new lm ln fo fn (Ok true) → HasRead rules lo ln new (whole ++ new.line ∷ [])
-    reads_line a = subst (λ (l : List ℕ). HasRead rules lo ln new (whole ++ l ∷ [])) (sym a.says.line) (⊎_elim from_open (λ c. absurd (cc ((a.done c.0).0))) go.place)
+    reads_line a = subst (λ (l : List ℕ). HasRead rules lo ln new (whole ++ l ∷ [])) (sym a.says.line)
+        (⊎_elim from_open (λ c. absurd (cc ((a.done c.0).0))) go.place)
       where
         short : length a.says.raw ≤ rules.line_limit
         short = omega (arith, a.says.short, a.line_limit, is.line_limit)
@@ -94,23 +111,64 @@ module _ (rules : Rules) where
             ⊎_elim
             (λ r. record {
               given = go.given ++ (a.says.raw ++ 10 ∷ []);
-              taken = omega (arith, a.counted, go.taken, ap length r.0, length-append old.held a.moved, length-append a.says.raw (10 ∷ new.held), length-append go.given (a.says.raw ++ 10 ∷ []), length-append a.says.raw (10 ∷ []));
-              takes = subst (Consumes lo ln) (ap (λ (t : List ℕ). go.given ++ t) (r.0 ∙ sym (append_assoc a.says.raw (10 ∷ []) new.held)) ∙ sym (append_assoc go.given (a.says.raw ++ 10 ∷ []) new.held)) (takes_more lo lm ln go.given old.held a.moved go.takes a.moves);
+              taken = omega (
+                arith,
+                a.counted,
+                go.taken,
+                ap length r.0,
+                length-append old.held a.moved,
+                length-append a.says.raw (10 ∷ new.held),
+                length-append go.given (a.says.raw ++ 10 ∷ []),
+                length-append a.says.raw (10 ∷ []),
+              );
+              takes = subst (Consumes lo ln) (ap (λ (t : List ℕ). go.given ++ t) (r.0 ∙ sym (append_assoc a.says.raw (10 ∷ []) new.held))
+                  ∙ sym (append_assoc go.given (a.says.raw ++ 10 ∷ []) new.held))
+                  (takes_more lo lm ln go.given old.held a.moved go.takes a.moves);
               place = inl (
                 r.1,
                 open_line go.given a.says.raw whole o.1 a.says.whole short
-                    (omega (arith, a.says.within, a.input_limit, is.input_limit, a.counted, go.taken, ap length r.0, length-append old.held a.moved, length-append a.says.raw (10 ∷ new.held))),
+                    (omega (
+                      arith,
+                      a.says.within,
+                      a.input_limit,
+                      is.input_limit,
+                      a.counted,
+                      go.taken,
+                      ap length r.0,
+                      length-append old.held a.moved,
+                      length-append a.says.raw (10 ∷ new.held),
+                    )),
               );
             })
             (λ r. record {
               given = go.given ++ a.says.raw;
-              taken = omega (arith, a.counted, go.taken, ap length r.0, ap length r.2, length-append old.held a.moved, length-append go.given a.says.raw);
-              takes = subst (Consumes lo ln) (ap (λ (t : List ℕ). go.given ++ t) r.0 ∙ sym (append-nil (go.given ++ a.says.raw)) ∙ ap (λ (t : List ℕ). (go.given ++ a.says.raw) ++ t) (sym r.2)) (takes_more lo lm ln go.given old.held a.moved go.takes a.moves);
+              taken = omega (
+                arith,
+                a.counted,
+                go.taken,
+                ap length r.0,
+                ap length r.2,
+                length-append old.held a.moved,
+                length-append go.given a.says.raw,
+              );
+              takes = subst (Consumes lo ln) (ap (λ (t : List ℕ). go.given ++ t) r.0 ∙ sym (append-nil (go.given ++ a.says.raw))
+                  ∙ ap (λ (t : List ℕ). (go.given ++ a.says.raw) ++ t) (sym r.2))
+                  (takes_more lo lm ln go.given old.held a.moved go.takes a.moves);
               place = inr (
                 r.4,
                 record {
                   passes = open_bytes go.given a.says.raw whole o.1 a.says.whole short
-                      (omega (arith, a.says.within, a.input_limit, is.input_limit, a.counted, go.taken, ap length r.0, ap length r.2, length-append old.held a.moved));
+                      (omega (
+                        arith,
+                        a.says.within,
+                        a.input_limit,
+                        is.input_limit,
+                        a.counted,
+                        go.taken,
+                        ap length r.0,
+                        ap length r.2,
+                        length-append old.held a.moved,
+                      ));
                   all = o.1.all a.says.raw ∙ ap (λ (t : List (List ℕ)). whole ++ t) (one_line a.says.raw a.says.whole r.1);
                   nothing = r.2;
                   at_end = r.3;
@@ -130,11 +188,18 @@ module _ (rules : Rules) where
           passes = ap (first_passed rules) (sym (append-nil go.given)) ∙ o.1.passes [];
           all = ap lines (sym (append-nil go.given)) ∙ o.1.all [] ∙ append-nil whole;
         })
-        (λ c. record { taken = go.given; takes = takes_all; at_end = still_at_end lm ln a.moved (c.1).at_end a.moves; passes = (c.1).passes; all = (c.1).all })
+        (λ c. record {
+          taken = go.given;
+          takes = takes_all;
+          at_end = still_at_end lm ln a.moved (c.1).at_end a.moves;
+          passes = (c.1).passes;
+          all = (c.1).all;
+        })
         go.place
       where
         takes_all : Consumes lo ln go.given
-        takes_all = subst (Consumes lo ln) (ap (λ (t : List ℕ). go.given ++ t) a.says.0 ∙ append-nil go.given) (takes_more lo lm ln go.given old.held a.moved go.takes a.moves)
+        takes_all = subst (Consumes lo ln) (ap (λ (t : List ℕ). go.given ++ t) a.says.0 ∙ append-nil go.given)
+            (takes_more lo lm ln go.given old.held a.moved go.takes a.moves)
 
     -- The source failed.
     pub reads_some : Advances old new lm ln fo fn (Err Source) → ReadsSome rules lo ln whole
@@ -149,9 +214,11 @@ module _ (rules : Rules) where
           ended = open_ended go.given (old.held ++ a.moved) whole o.1 a.says.1;
         }
 
-    -- behind whole lines and a front of the next one
-    past_front : (status : ℕ) (front rest : List ℕ) → IsOpen rules go.given whole → NoLf front → (moved : List ℕ) → old.held ++ moved ≡ front ++ rest → Consumes lm ln moved
-        → ((more : List ℕ) → passed_from rules (length go.given) 0 (front ++ (rest ++ more)) ≡ Some (record { status = status; place = length go.given + length front }))
+    -- behind whole lines and a prefix of the next one
+    past_front : (status : ℕ) (front rest : List ℕ) → IsOpen rules go.given whole → NoLf front → (moved : List ℕ)
+        → old.held ++ moved ≡ front ++ rest → Consumes lm ln moved
+        → ((more : List ℕ) → passed_from rules (length go.given) 0 (front ++ (rest ++ more))
+        ≡ Some (record { status = status; place = length go.given + length front }))
         → ReadsPast rules status lo ln whole
     past_front status front rest o n moved split moves passes = record {
       taken = go.given ++ (old.held ++ moved);
@@ -159,13 +226,15 @@ module _ (rules : Rules) where
       takes = takes_more lo lm ln go.given old.held moved go.takes moves;
       passes = λ more. ap (first_passed rules) (there more) ∙ o.passes (front ++ (rest ++ more)) ∙ passes more;
       ended = λ more.
-          ap (λ (t : List ℕ). ended_lines (take (length go.given + length front) t)) (there more ∙ sym (append_assoc go.given front (rest ++ more)))
+          ap (λ (t : List ℕ). ended_lines (take (length go.given + length front) t))
+          (there more ∙ sym (append_assoc go.given front (rest ++ more)))
           ∙ ap ended_lines (take_at (go.given ++ front) (rest ++ more) (length go.given + length front) (length-append go.given front))
           ∙ open_ended go.given front whole o n;
     }
       where
         there : (more : List ℕ) → (go.given ++ (old.held ++ moved)) ++ more ≡ go.given ++ (front ++ (rest ++ more))
-        there more = append_assoc go.given (old.held ++ moved) more ∙ ap (λ (t : List ℕ). go.given ++ (t ++ more)) split ∙ ap (λ (t : List ℕ). go.given ++ t) (append_assoc front rest more)
+        there more = append_assoc go.given (old.held ++ moved) more ∙ ap (λ (t : List ℕ). go.given ++ (t ++ more)) split
+            ∙ ap (λ (t : List ℕ). go.given ++ t) (append_assoc front rest more)
 
     -- A line is too long.
     pub reads_long : Advances old new lm ln fo fn (Err LineTooLong) → ReadsPast rules 7 lo ln whole
@@ -175,9 +244,22 @@ module _ (rules : Rules) where
         from_open o =
             let t = a.says.1 in
             let l = last_of t.front rules.line_limit (omega (arith, t.long, a.line_limit, is.line_limit)) t.whole in
-            past_front 7 l.front (l.last ∷ t.rest) o.1 l.whole a.moved (sym t.split ∙ ap (λ (b : List ℕ). b ++ t.rest) l.split ∙ append_assoc l.front (l.last ∷ []) t.rest) a.moves
+            past_front 7 l.front (l.last ∷ t.rest) o.1 l.whole a.moved
+            (sym t.split ∙ ap (λ (b : List ℕ). b ++ t.rest) l.split ∙ append_assoc l.front (l.last ∷ []) t.rest) a.moves
             (λ more. past_long rules (length go.given) l.last l.front (t.rest ++ more) l.whole l.other l.size
-            (omega (arith, l.size, t.within, t.long, a.line_limit, is.line_limit, a.input_limit, is.input_limit, a.counted, go.taken, length-append old.held a.moved)))
+            (omega (
+              arith,
+              l.size,
+              t.within,
+              t.long,
+              a.line_limit,
+              is.line_limit,
+              a.input_limit,
+              is.input_limit,
+              a.counted,
+              go.taken,
+              length-append old.held a.moved,
+            )))
 
     -- The input is too long.
     pub reads_over : Advances old new lm ln fo fn (Err InputTooLong) → ReadsPast rules 8 lo ln whole
@@ -188,16 +270,47 @@ module _ (rules : Rules) where
             let t = a.says.1 in
             past_front 8 t.front (t.last ∷ []) o.1 t.whole a.moved (sym t.split) a.moves
             (λ more. past_over rules (length go.given) t.last t.front more t.whole (omega (arith, t.short, a.line_limit, is.line_limit))
-            (omega (arith, t.over, ap length t.split, length-append t.front (t.last ∷ []), a.input_limit, is.input_limit, a.counted, go.taken, length-append old.held a.moved)))
+            (omega (
+              arith,
+              t.over,
+              ap length t.split,
+              length-append t.front (t.last ∷ []),
+              a.input_limit,
+              is.input_limit,
+              a.counted,
+              go.taken,
+              length-append old.held a.moved,
+            )))
 
   module _ (lm ln : Option (List ℕ)) (fo fn : ℕ) (old new : LineState) (is : IsGoing rules old) where
     -- A line that is given goes with at least one byte.
-    pub falls : Advances old new lm ln fo fn (Ok true) → (new.input_limit + length new.held) - new.taken < (old.input_limit + length old.held) - old.taken
+    pub falls : Advances old new lm ln fo fn (Ok true)
+        → (new.input_limit + length new.held) - new.taken < (old.input_limit + length old.held) - old.taken
     falls a =
         ⊎_elim
-        (λ r. omega (arith, a.says.within, a.input_limit, is.input_limit, is.within, a.counted, ap length r.0, length-append old.held a.moved, length-append a.says.raw (10 ∷ new.held)))
+        (λ r. omega (
+          arith,
+          a.says.within,
+          a.input_limit,
+          is.input_limit,
+          is.within,
+          a.counted,
+          ap length r.0,
+          length-append old.held a.moved,
+          length-append a.says.raw (10 ∷ new.held),
+        ))
         (λ r. let some : 0 < length a.says.raw = nonempty a.says.raw r.1 in
-        omega (arith, a.says.within, a.input_limit, is.input_limit, is.within, a.counted, ap length r.0, ap length r.2, length-append old.held a.moved))
+        omega (
+          arith,
+          a.says.within,
+          a.input_limit,
+          is.input_limit,
+          is.within,
+          a.counted,
+          ap length r.0,
+          ap length r.2,
+          length-append old.held a.moved,
+        ))
         a.says.rest
       where
         nonempty : (xs : List ℕ) → xs ≢ [] → 0 < length xs

@@ -1,8 +1,10 @@
 -- What each status of a run says.
-use Rattle.std.proofs.Common.{◌≡◌, ◌≢◌, ◌⊎◌, ℕ, ◌≤◌, List, true, false, Option, Some, refl, sym, ◌∙◌, ap, subst, arith, inl, inr, ⊎_elim}
+use Rattle.std.proofs.Common.{◌≡◌, ◌≢◌, ◌⊎◌, ℕ, ◌+◌, ◌≤◌, List, length, true, false, Option, Some, refl, sym, ◌∙◌, ap, subst, arith, inl}
+use Rattle.std.proofs.Common.{inr, ⊎_elim}
 use Rattle.iri_text.specs.Count.{Rose}
 use Rattle.iri_text.specs.Source.{Consumes, IsAtEnd}
-use Rattle.iri_text.specs.Sink.{Appends}
+use Rattle.iri_text.specs.Sink.{Appends, KeepsRoom}
+use Rattle.iri_text.proofs.Puts.{room-so, room-less}
 use Rattle.iri_cli.specs.Ending.{Rules, ending}
 use Rattle.iri_cli.specs.Run.{Outside, outside, Finishes, Decides, StopsShort, RunsOut, RanTo, Ran, Runs, status_of, IsDecided}
 use Rattle.iri_cli.specs.Closes.{Closes}
@@ -18,16 +20,21 @@ module _ (rules : Rules) (old new : Outside) where
 
   finished : (n : ℕ) → Finishes rules n old new → (x : List ℕ) → old.left ≡ Some x → Meets n x
   finished n p x told =
-      let all = taken_is old.left new.left x p.taken told p.takes p.at_end in
-      (sym p.ends ∙ ap (λ (t : List ℕ). (ending rules t).status) (sym all), subst (λ (t : List ℕ). Appends old.written new.written (ending rules t).output) (sym all) p.writes)
+      let all = taken_is old.left new.left x p.taken told p.takes p.at_end in (
+        sym p.ends ∙ ap (λ (t : List ℕ). (ending rules t).status) (sym all),
+        subst (λ (t : List ℕ). Appends old.written new.written (ending rules t).output) (sym all) p.writes,
+      )
 
   decided : (n : ℕ) → Decides rules n old new → (x : List ℕ) → old.left ≡ Some x → Meets n x
   decided n p x told =
-      let l = left_is new.left x p.taken (subst (λ (s : Option (List ℕ)). Consumes s new.left p.taken) told p.takes) in
-      (sym (p.ends l.0) ∙ ap (λ (t : List ℕ). (ending rules t).status) (sym l.2), subst (λ (t : List ℕ). Appends old.written new.written (ending rules t).output) (sym l.2) (p.writes l.0))
+      let l = left_is new.left x p.taken (subst (λ (s : Option (List ℕ)). Consumes s new.left p.taken) told p.takes) in (
+        sym (p.ends l.0) ∙ ap (λ (t : List ℕ). (ending rules t).status) (sym l.2),
+        subst (λ (t : List ℕ). Appends old.written new.written (ending rules t).output) (sym l.2) (p.writes l.0),
+      )
 
   not_decided : (n : ℕ) → (4 ≤ n) × (n ≤ 6) → IsDecided n → ⊥
-  not_decided n h d = ⊎_elim (λ e. omega (arith, e, h.0)) (λ r. ⊎_elim (λ e. omega (arith, e, h.0)) (λ q. ⊎_elim (λ e. omega (arith, e, h.1)) (λ e. omega (arith, e, h.1)) q) r) d
+  not_decided n h d = ⊎_elim (λ e. omega (arith, e, h.0))
+      (λ r. ⊎_elim (λ e. omega (arith, e, h.0)) (λ q. ⊎_elim (λ e. omega (arith, e, h.1)) (λ e. omega (arith, e, h.1)) q) r) d
 
   at_end_of : (e : End) → RanTo rules old new e → status_of e ≤ 1 → IsAtEnd new.left
   at_end_of Done p h = p.at_end
@@ -89,7 +96,8 @@ module _ (rules : Rules) (old new : Outside) where
   ran_out_of LineTooLong p h = absurd (omega (arith, h))
   ran_out_of InputTooLong p h = absurd (omega (arith, h))
 
-  completes_of : (e : End) → RanTo rules old new e → (x : List ℕ) → old.left ≡ Some x → ¬ (Rose old.source_faults new.source_faults) → ¬ (Rose old.sink_faults new.sink_faults)
+  completes_of : (e : End) → RanTo rules old new e → (x : List ℕ) → old.left ≡ Some x → ¬ (Rose old.source_faults new.source_faults)
+      → ¬ (Rose old.sink_faults new.sink_faults)
       → (status_of e ≡ (ending rules x).status) ⊎ ((status_of e ≡ 6) × (rules.takes_memory ≡ true))
   completes_of Done p x told f k = inl (finished 0 p x told).0
   completes_of SomeBad p x told f k = inl (finished 1 p x told).0
@@ -100,9 +108,33 @@ module _ (rules : Rules) (old new : Outside) where
   completes_of LineTooLong p x told f k = inl (decided 7 p x told).0
   completes_of InputTooLong p x told f k = inl (decided 8 p x told).0
 
+  -- only a sink that failed has its status
+  sink_of_five : (e : End) → status_of e ≡ 5 → e ≡ SinkFailed
+  sink_of_five Done h = absurd (omega (arith, h))
+  sink_of_five SomeBad h = absurd (omega (arith, h))
+  sink_of_five BadBase h = absurd (omega (arith, h))
+  sink_of_five SourceFailed h = absurd (omega (arith, h))
+  sink_of_five SinkFailed h = refl
+  sink_of_five Memory h = absurd (omega (arith, h))
+  sink_of_five LineTooLong h = absurd (omega (arith, h))
+  sink_of_five InputTooLong h = absurd (omega (arith, h))
+
+  in_room_of : (e : End) → RanTo rules old new e → (x : List ℕ) → old.left ≡ Some x → ¬ (Rose old.source_faults new.source_faults)
+      → e ≢ SinkFailed
+      → Meets (status_of e) x ⊎ ((status_of e ≡ 6) × (rules.takes_memory ≡ true))
+  in_room_of Done p x told f k = inl (finished 0 p x told)
+  in_room_of SomeBad p x told f k = inl (finished 1 p x told)
+  in_room_of BadBase p x told f k = inl (⊎_elim (λ q. decided 3 q x told) (λ q. finished 3 q x told) p)
+  in_room_of SourceFailed p x told f k = absurd (f p.source)
+  in_room_of SinkFailed p x told f k = absurd (k refl)
+  in_room_of Memory p x told f k = inr (refl, p.takes_memory)
+  in_room_of LineTooLong p x told f k = inl (decided 7 p x told)
+  in_room_of InputTooLong p x told f k = inl (decided 8 p x told)
+
   -- a run by its end
-  runs_by : (e : End) → Ran rules old new e → Runs rules old new (status_of e)
-  runs_by e r = record {
+  runs_by : (room_old room_new : Option ℕ) (e : End) → Ran rules old new room_old room_new e
+      → Runs rules old new room_old room_new (status_of e)
+  runs_by room_old room_new e r = record {
     end = e;
     told = refl;
     ran = r;
@@ -113,14 +145,18 @@ module _ (rules : Rules) (old new : Outside) where
     sink_same = sink_same_of e r.to;
     ran_out = ran_out_of e r.to;
     completes = completes_of e r.to;
+    room = λ x told. room-so (λ n is. n (sink_of_five e is)) (r.room x told);
+    completes_in_room = λ x told f k. in_room_of e r.to x told f ((r.room x told).holds k);
   }
 
-  pub runs_of : (e : End) (status : ℕ) → status ≡ status_of e → Ran rules old new e → Runs rules old new status
-  runs_of e status is r = subst (Runs rules old new) (sym is) (runs_by e r)
+  pub runs_of : (room_old room_new : Option ℕ) (e : End) (status : ℕ) → status ≡ status_of e → Ran rules old new room_old room_new e
+      → Runs rules old new room_old room_new status
+  runs_of room_old room_new e status is r = subst (Runs rules old new room_old room_new) (sym is) (runs_by room_old room_new e r)
 
-  -- memory is refused only where lines take it
-  pub never_six : rules.takes_memory ≡ false → (e : End) (status : ℕ) → status ≡ status_of e → Ran rules old new e → status ≢ 6
-  never_six none e status is r h = let m = (ran_out_of e r.to (sym is ∙ h)).takes_memory in cc
+  -- allocation fails only where lines take it
+  pub never_six : (room_old room_new : Option ℕ) → rules.takes_memory ≡ false → (e : End) (status : ℕ) → status ≡ status_of e
+      → Ran rules old new room_old room_new e → status ≢ 6
+  never_six room_old room_new none e status is r h = let m = (ran_out_of e r.to (sym is ∙ h)).takes_memory in cc
 
 -- no end has the status of words that are no command
 not_two : (e : End) → status_of e ≢ 2
@@ -137,20 +173,37 @@ pub never_two : (e : End) (status : ℕ) → status ≡ status_of e → status �
 never_two e status is h = not_two e (sym is ∙ h)
 
 -- A run that ended so, and whose sink was flushed then.
-pub closed : (rules : Rules) (lo ln wo wn wc : Option (List ℕ)) (so sn ko km kn : ℕ) (end last : End) → Ran rules (outside lo wo so ko) (outside ln wn sn km) end → Closes wn wc km kn end last
-    → Ran rules (outside lo wo so ko) (outside ln wc sn kn) last
-closed rules lo ln wo wn wc so sn ko km kn end last r c =
-    subst (λ (w : Option (List ℕ)). Ran rules (outside lo wo so ko) (outside ln w sn kn) last) (sym c.kept) (⊎_elim same broken c.ends)
+pub closed : (rules : Rules) (lo ln wo wn wc : Option (List ℕ)) (so sn ko km kn : ℕ) (ro rm rn : Option ℕ) (end last : End)
+    → Ran rules (outside lo wo so ko) (outside ln wn sn km) ro rm end → Closes wn wc km kn rm rn end last
+    → Ran rules (outside lo wo so ko) (outside ln wc sn kn) ro rn last
+closed rules lo ln wo wn wc so sn ko km kn ro rm rn end last r c =
+    subst (λ (w : Option (List ℕ)). Ran rules (outside lo wo so ko) (outside ln w sn kn) ro rn last) (sym c.kept)
+    (⊎_elim same broken c.ends)
   where
-    same : (last ≡ end) × (kn ≡ km) → Ran rules (outside lo wo so ko) (outside ln wn sn kn) last
-    same p =
-        subst (λ (e : End). Ran rules (outside lo wo so ko) (outside ln wn sn kn) e) (sym p.0)
-        (subst (λ (k : ℕ). Ran rules (outside lo wo so ko) (outside ln wn sn k) end) (sym p.1) r)
+    room : (x : List ℕ) → lo ≡ Some x → KeepsRoom ro rn (ending rules x).output (last ≢ SinkFailed)
+    room x told =
+        let k = r.room x told in
+        record {
+          holds = λ h failed. k.holds h (sym ((c.room).holds
+              (k.left 0 (room-less ro (length (ending rules x).output) (length (ending rules x).output + 0) (omega arith) h))) ∙ failed);
+          left = λ more h. (c.room).left more (room-less rm more (0 + more) (omega arith) (k.left more h));
+        }
 
-    broken : (last ≡ SinkFailed) × Rose km kn → Ran rules (outside lo wo so ko) (outside ln wn sn kn) last
-    broken p = subst (λ (e : End). Ran rules (outside lo wo so ko) (outside ln wn sn kn) e) (sym p.0) (record {
-      to = omega (arith, p.1, r.sink_later);
+    same : (last ≡ end) × (kn ≡ km) → Ran rules (outside lo wo so ko) (outside ln wn sn kn) ro rn last
+    same p = record {
+      to = subst (λ (e : End). RanTo rules (outside lo wo so ko) (outside ln wn sn kn) e) (sym p.0)
+          (subst (λ (k : ℕ). RanTo rules (outside lo wo so ko) (outside ln wn sn k) end) (sym p.1) r.to);
+      front = r.front;
+      source_later = r.source_later;
+      sink_later = omega (arith, p.1, r.sink_later);
+      room = room;
+    }
+
+    broken : (last ≡ SinkFailed) × Rose km kn → Ran rules (outside lo wo so ko) (outside ln wn sn kn) ro rn last
+    broken p = record {
+      to = subst (λ (e : End). RanTo rules (outside lo wo so ko) (outside ln wn sn kn) e) (sym p.0) (omega (arith, p.1, r.sink_later));
       front = r.front;
       source_later = r.source_later;
       sink_later = omega (arith, c.later, r.sink_later);
-    })
+      room = room;
+    }

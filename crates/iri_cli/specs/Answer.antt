@@ -2,12 +2,13 @@
 use Rattle.std.specs.Prelude.{◌≡◌, ℕ, codes, List, [], ◌∷◌, ◌++◌, Option, Some, None}
 use Rattle.iri_grammar.specs.Classes.{Tests}
 use Rattle.iri_grammar.specs.Fault.{bytes_fault}
-use Rattle.iri_grammar.specs.Kinds.{description}
+use Rattle.iri_grammar.specs.ErrorTexts.{description}
 use Rattle.iri_grammar.specs.Parts.{IsIri, IsAbsolute}
 use Rattle.iri_grammar.specs.Split.{split_of}
 use Rattle.iri_grammar.specs.WholeFault.{absolute_fault, reference_fault}
 use Rattle.iri_grammar.specs.declared.error.ErrorKind.{ErrorKind}
 use Rattle.iri_resolve.specs.NormalForm.{canonical, canonical_parts}
+use Rattle.iri_text.specs.LineEnds.{line_feed}
 
 abbrev pub words_of_fault : Option ErrorKind → Option (List ℕ)
 words_of_fault None = None
@@ -18,10 +19,10 @@ unfoldable pub refusal : Tests → List ℕ → Option (List ℕ)
 refusal s line = words_of_fault (bytes_fault (absolute_fault s) line)
 
 abbrev pub good_answer : List ℕ → List ℕ
-good_answer text = codes "ok " ++ (text ++ 10 ∷ [])
+good_answer text = codes "ok " ++ (text ++ line_feed ∷ [])
 
 abbrev pub bad_answer : ErrorKind → List ℕ
-bad_answer kind = codes "bad " ++ (description kind ++ 10 ∷ [])
+bad_answer kind = codes "bad " ++ (description kind ++ line_feed ∷ [])
 
 abbrev pub answer_by : Option ErrorKind → List ℕ → List ℕ
 answer_by None text = good_answer text

@@ -3,16 +3,18 @@ use Rattle.std.specs.Prelude.{◌≡◌, ◌≤◌, ℕ, Bool, List, length, Opt
 use Rattle.iri_grammar.specs.Classes.{Tests}
 use Rattle.iri_text.specs.Sink.{Appends}
 use Rattle.iri_text.specs.declared.Failed.{Failed}
-use Rattle.iri_cli.specs.Answer.{refusal}
+use Rattle.iri_cli.specs.Answer.{refusal, answer}
 use Rattle.iri_cli.specs.Answering.{Answering, FailsWithin}
 use Rattle.iri_cli.specs.Words.{canon_rules, is_ok}
 use Rattle.iri_cli.specs.declared.answers.AnswerError.{AnswerError}
 use Rattle.iri_cli.specs.declared.answers.AnswerError.TheVariants.{SinkFailed, Memory}
 
--- The whole answer was written, and it is said whether it is good; or the sink failed, and a front of it was written.
+-- The whole answer was written, and it is said whether it is good; or the sink failed, and a prefix of it was written.
 abbrev pub PutsLine : (written_old written_new : Option (List ℕ)) → (faults_old faults_new : ℕ) → List ℕ → Result Bool AnswerError → Type 0
-PutsLine written_old written_new faults_old faults_new answer (Ok good) = Appends written_old written_new answer × (faults_new ≡ faults_old) × (good ≡ is_ok answer)
-PutsLine written_old written_new faults_old faults_new answer (Err SinkFailed) = FailsWithin written_old written_new faults_old faults_new answer
+PutsLine written_old written_new faults_old faults_new answer (Ok good) =
+    Appends written_old written_new answer × (faults_new ≡ faults_old) × (good ≡ is_ok answer)
+PutsLine written_old written_new faults_old faults_new answer (Err SinkFailed) =
+    FailsWithin written_old written_new faults_old faults_new answer
 PutsLine written_old written_new faults_old faults_new answer (Err Memory) = ⊥
 
 -- what is said of an answer that is good or not, where its pieces were put or the sink failed
@@ -20,10 +22,10 @@ abbrev pub told_of : Bool → Result (Unit {0}) Failed → Result Bool AnswerErr
 told_of good (Ok x) = Ok good
 told_of good (Err failed) = Err SinkFailed
 
--- `canon` stands at a base that is taken, and has room for each answer.
+-- `canon` stands at a base that is taken, holds a text that has the same answers, and has room for each of them.
 pub record IsCanonAt (s : Tests) (base output : List ℕ) (at : Answering) : Type 0 where
   pub rules : at.rules ≡ canon_rules s
-  pub base_is : at.base ≡ base
+  pub same : (line : List ℕ) → answer s base line ≡ answer s at.base line
   pub taken : refusal s base ≡ None
   pub short : length base ≤ 65536
   pub room : length output ≡ 131076

@@ -3,6 +3,7 @@
 use Rattle.std.specs.Prelude.{◌≡◌, ℕ, ◌+◌, ◌==◌, nat_le, codes, Bool, List, [], ◌∷◌, ◌++◌, take, Option, None, Some, if◌then◌else◌}
 use Rattle.std.specs.List.{concat, list_all}
 use Rattle.iri_text.specs.Lines.{no_cr, lines}
+use Rattle.iri_text.specs.LineEnds.{line_feed}
 
 -- What a command says of the lines of its input.
 pub record Rules : Type 0 where
@@ -31,7 +32,7 @@ pub record Passed : Type 0 where
 
 -- the line that says why a base line is refused
 abbrev pub base_line : List ℕ → List ℕ
-base_line words = codes "base " ++ (words ++ 10 ∷ [])
+base_line words = codes "base " ++ (words ++ line_feed ∷ [])
 
 -- 3 where the base line is refused
 abbrev pub unless_refused : Option (List ℕ) → Ending → Ending
@@ -41,7 +42,7 @@ unless_refused (Some words) e = record { status = 3; output = base_line words }
 -- the lines that an LF ends in these bytes, where the first of them begins with the bytes of `front`
 abbrev pub ended_from : List ℕ → List ℕ → List (List ℕ)
 ended_from front [] = []
-ended_from front (b ∷ bs) = if b == 10 then no_cr front ∷ ended_from [] bs else ended_from (front ++ b ∷ []) bs
+ended_from front (b ∷ bs) = if b == line_feed then no_cr front ∷ ended_from [] bs else ended_from (front ++ b ∷ []) bs
 
 -- the lines that an LF ends in these bytes
 abbrev pub ended_lines : List ℕ → List (List ℕ)
@@ -53,7 +54,7 @@ module _ (rules : Rules) where
   passed_from place len [] = None
   passed_from place len (b ∷ bs) =
       if nat_le rules.input_limit place then Some (record { status = 8; place = place })
-      else (if b == 10 then passed_from (place + 1) 0 bs
+      else (if b == line_feed then passed_from (place + 1) 0 bs
       else (if nat_le rules.line_limit len then Some (record { status = 7; place = place })
       else passed_from (place + 1) (len + 1) bs))
 

@@ -19,10 +19,12 @@ small = record {
 }
 
 -- the last line has no LF, and the base line a CR before its LF
-pub answers_all_lines : ending small (codes "b" ++ 13 ∷ 10 ∷ (codes "ok x" ++ 10 ∷ codes "ok y")) ≡ record { status = 0; output = codes "ok x" ++ 10 ∷ (codes "ok y" ++ 10 ∷ []) }
+pub answers_all_lines : ending small (codes "b" ++ 13 ∷ 10 ∷ (codes "ok x" ++ 10 ∷ codes "ok y"))
+    ≡ record { status = 0; output = codes "ok x" ++ 10 ∷ (codes "ok y" ++ 10 ∷ []) }
 answers_all_lines = refl
 
-pub one_bad_answer : ending small (codes "b" ++ 10 ∷ (codes "no" ++ 10 ∷ (codes "ok y" ++ 10 ∷ []))) ≡ record { status = 1; output = codes "no" ++ 10 ∷ (codes "ok y" ++ 10 ∷ []) }
+pub one_bad_answer : ending small (codes "b" ++ 10 ∷ (codes "no" ++ 10 ∷ (codes "ok y" ++ 10 ∷ [])))
+    ≡ record { status = 1; output = codes "no" ++ 10 ∷ (codes "ok y" ++ 10 ∷ []) }
 one_bad_answer = refl
 
 pub base_alone : ending small (codes "b") ≡ record { status = 0; output = [] }
@@ -36,19 +38,22 @@ pub refused_base : ending small (10 ∷ codes "abcdefghijklmnop") ≡ record { s
 refused_base = refl
 
 -- a CR counts, and the answers before the line stand
-pub long_line : ending small (codes "b" ++ 10 ∷ (codes "c" ++ 10 ∷ (codes "abcd" ++ 13 ∷ 10 ∷ []))) ≡ record { status = 7; output = codes "c" ++ 10 ∷ [] }
+pub long_line : ending small (codes "b" ++ 10 ∷ (codes "c" ++ 10 ∷ (codes "abcd" ++ 13 ∷ 10 ∷ [])))
+    ≡ record { status = 7; output = codes "c" ++ 10 ∷ [] }
 long_line = refl
 
--- a base line that is too long isn't judged
+-- a base line that is too long isn't validated
 pub long_base : ending small (codes "abcde" ++ 10 ∷ []) ≡ record { status = 7; output = [] }
 long_base = refl
 
 -- the thirteenth byte is the fifth of its line, too
-pub over_before_long : ending small (codes "bbb" ++ 10 ∷ (codes "ccc" ++ 10 ∷ codes "abcde")) ≡ record { status = 8; output = codes "ccc" ++ 10 ∷ [] }
+pub over_before_long : ending small (codes "bbb" ++ 10 ∷ (codes "ccc" ++ 10 ∷ codes "abcde"))
+    ≡ record { status = 8; output = codes "ccc" ++ 10 ∷ [] }
 over_before_long = refl
 
 -- the thirteenth byte is an LF: the line before it isn't answered
-pub over_at_lf : ending small (codes "bbb" ++ 10 ∷ (codes "ccc" ++ 10 ∷ (codes "abcd" ++ 10 ∷ []))) ≡ record { status = 8; output = codes "ccc" ++ 10 ∷ [] }
+pub over_at_lf : ending small (codes "bbb" ++ 10 ∷ (codes "ccc" ++ 10 ∷ (codes "abcd" ++ 10 ∷ [])))
+    ≡ record { status = 8; output = codes "ccc" ++ 10 ∷ [] }
 over_at_lf = refl
 
 -- An answer may tell of the lines before, a line may have no answer, and a text may follow: here each line is answered by that before it.
@@ -60,5 +65,6 @@ last (line ∷ next ∷ between) = last (next ∷ between)
 abbrev behind : Rules
 behind = record small { answer = λ base between line. last between; closing = λ base between. base ++ 10 ∷ []; is_good = λ answer. true }
 
-pub answers_by_lines_before : ending behind (codes "b" ++ 10 ∷ (codes "x" ++ 10 ∷ (codes "y" ++ 10 ∷ codes "z"))) ≡ record { status = 0; output = codes "x" ++ 10 ∷ (codes "y" ++ 10 ∷ (codes "b" ++ 10 ∷ [])) }
+pub answers_by_lines_before : ending behind (codes "b" ++ 10 ∷ (codes "x" ++ 10 ∷ (codes "y" ++ 10 ∷ codes "z")))
+    ≡ record { status = 0; output = codes "x" ++ 10 ∷ (codes "y" ++ 10 ∷ (codes "b" ++ 10 ∷ [])) }
 answers_by_lines_before = refl

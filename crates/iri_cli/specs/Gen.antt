@@ -2,6 +2,7 @@
 use Rattle.std.specs.Prelude.{ℕ, zero, suc, ◌+◌, ◌*◌, ◌/◌, ◌%◌, ◌^◌, codes, decimal, sum, List, [], ◌∷◌, ◌++◌, length, get_or}
 use Rattle.iri_grammar.specs.Classes.{Tests}
 use Rattle.iri_resolve.specs.NormalForm.{canonical}
+use Rattle.iri_grammar.specs.Characters.{slash}
 
 -- the segments of which references are made, by number
 abbrev pub gen_segments : List (List ℕ)
@@ -15,7 +16,7 @@ gen_segment number = get_or gen_segments number []
 -- so many segments, each behind a slash, by the digits to base 16 of a number, the last digit first
 abbrev pub more_segments : ℕ → ℕ → List ℕ
 more_segments zero number = []
-more_segments (suc count) number = 47 ∷ (gen_segment (number % 16) ++ more_segments count (number / 16))
+more_segments (suc count) number = slash ∷ (gen_segment (number % 16) ++ more_segments count (number / 16))
 
 -- The reference of a state: its digits to base 16, the last one first, tell its segments, one more than its 16th digit.
 abbrev pub gen_reference : ℕ → List ℕ
@@ -44,4 +45,5 @@ gen_sum s (suc count) = gen_sum s count + sum (gen_canonical s (gen_state (suc c
 
 -- the three lines
 abbrev pub gen_text : Tests → ℕ → List ℕ
-gen_text s count = codes "lines " ++ decimal count ++ (codes "\nbytes " ++ decimal (gen_bytes s count) ++ (codes "\nsum " ++ decimal (gen_sum s count) ++ 10 ∷ []))
+gen_text s count = codes "lines " ++ decimal count
+    ++ (codes "\nbytes " ++ decimal (gen_bytes s count) ++ (codes "\nsum " ++ decimal (gen_sum s count) ++ 10 ∷ []))

@@ -13,10 +13,13 @@ pub first_reference : gen_reference (gen_state 1) ≡ codes "e/%2E"
 first_reference = refl
 
 -- one segment; two empty ones; two empty ones before an `a`, which is an authority
-pub other_references : (gen_reference 1 ≡ codes ".") × (gen_reference (2 ^ 60 + 0x66) ≡ codes "/") × (gen_reference (2 * 2 ^ 60 + 0x266) ≡ codes "//a")
+pub other_references : (gen_reference 1 ≡ codes ".") × (gen_reference (2 ^ 60 + 0x66) ≡ codes "/")
+    × (gen_reference (2 * 2 ^ 60 + 0x266) ≡ codes "//a")
 other_references = (refl, refl, refl)
 
 -- the three lines of that reference, whose canonical text has 15 bytes
-pub first_lines : gen_canonical uri_tests (gen_state 1) ≡ codes "http://a/b/c/e/" → gen_text uri_tests 1 ≡ codes "lines 1\nbytes 15\nsum 1183\n"
+pub first_lines : gen_canonical uri_tests (gen_state 1) ≡ codes "http://a/b/c/e/"
+    → gen_text uri_tests 1 ≡ codes "lines 1\nbytes 15\nsum 1183\n"
 unfolding digits
-first_lines e = ap (λ (t : List ℕ). codes "lines " ++ decimal 1 ++ (codes "\nbytes " ++ decimal (0 + length t) ++ (codes "\nsum " ++ decimal (0 + sum t) ++ 10 ∷ []))) e
+first_lines e = ap (λ (t : List ℕ). codes "lines " ++ decimal 1
+    ++ (codes "\nbytes " ++ decimal (0 + length t) ++ (codes "\nsum " ++ decimal (0 + sum t) ++ 10 ∷ []))) e

@@ -1,5 +1,6 @@
 pub mod Ending
 pub mod Answer
+pub mod Prepared
 pub mod Words
 pub mod Run
 pub mod Notices

@@ -1,8 +1,8 @@
 -- What a run over the lines of a source does to that source and to its sink.
-use Rattle.std.specs.Prelude.{◌≡◌, ◌≢◌, ◌⊎◌, ◌≤◌, ℕ, true, List, ◌++◌, Option, None, Some}
+use Rattle.std.specs.Prelude.{◌≡◌, ◌≢◌, ◌⊎◌, ◌≤◌, ℕ, true, List, ◌++◌, length, Option, None, Some}
 use Rattle.iri_text.specs.Count.{Rose}
 use Rattle.iri_text.specs.Source.{Consumes, IsAtEnd}
-use Rattle.iri_text.specs.Sink.{Appends, AppendsFront}
+use Rattle.iri_text.specs.Sink.{Appends, AppendsPrefix, HasRoom, KeepsRoom}
 use Rattle.iri_cli.specs.Ending.{Rules, ending, first_passed, ended_lines, IsBaseTaken, answered}
 use Rattle.iri_cli.specs.declared.end.End.{End}
 use Rattle.iri_cli.specs.declared.end.End.TheVariants.{Done, SomeBad, BadBase, SourceFailed, SinkFailed, Memory, LineTooLong, InputTooLong}
@@ -15,7 +15,12 @@ pub record Outside : Type 0 where
   pub sink_faults : ℕ
 
 abbrev pub outside : Option (List ℕ) → Option (List ℕ) → ℕ → ℕ → Outside
-outside left written source_faults sink_faults = record { left = left; written = written; source_faults = source_faults; sink_faults = sink_faults }
+outside left written source_faults sink_faults = record {
+  left = left;
+  written = written;
+  source_faults = source_faults;
+  sink_faults = sink_faults;
+}
 
 module _ (rules : Rules) where
   -- The source was read to its end, and its bytes have this ending.
@@ -45,7 +50,7 @@ module _ (rules : Rules) where
     pub source : Rose old.source_faults new.source_faults
     pub sink : new.sink_faults ≡ old.sink_faults
 
-  -- Memory was refused at a line. The lines before it were answered.
+  -- Allocation failed at a line. The lines before it were answered.
   pub record RunsOut (old new : Outside) : Type 0 where
     pub takes_memory : rules.takes_memory ≡ true
     pub whole : List (List ℕ)
@@ -64,12 +69,14 @@ module _ (rules : Rules) where
   RanTo old new LineTooLong = Decides 7 old new
   RanTo old new InputTooLong = Decides 8 old new
 
-  -- A run ended so. Whatever the end, what was written is a front of the input's output, and no count of faults fell.
-  pub record Ran (old new : Outside) (end : End) : Type 0 where
+  -- A run ended so. Whatever the end, what was written is a prefix of the input's output, and no count of faults fell. A sink that is known to
+  -- have room for that output didn't fail.
+  pub record Ran (old new : Outside) (room_old room_new : Option ℕ) (end : End) : Type 0 where
     pub to : RanTo old new end
-    pub front : (input : List ℕ) → old.left ≡ Some input → AppendsFront old.written new.written (ending rules input).output
+    pub front : (input : List ℕ) → old.left ≡ Some input → AppendsPrefix old.written new.written (ending rules input).output
     pub source_later : old.source_faults ≤ new.source_faults
     pub sink_later : old.sink_faults ≤ new.sink_faults
+    pub room : (input : List ℕ) → old.left ≡ Some input → KeepsRoom room_old room_new (ending rules input).output (end ≢ SinkFailed)
 
 -- the status of an end
 abbrev pub status_of : End → ℕ
@@ -87,22 +94,31 @@ abbrev pub IsDecided : ℕ → Type 0
 IsDecided status = (status ≤ 1) ⊎ (status ≡ 3) ⊎ (status ≡ 7) ⊎ (status ≡ 8)
 
 -- What a run over the lines of a source does, and what each status says.
-pub record Runs (rules : Rules) (old new : Outside) (status : ℕ) : Type 0 where
+pub record Runs (rules : Rules) (old new : Outside) (room_old room_new : Option ℕ) (status : ℕ) : Type 0 where
   -- it ended in one of the ways above, and the status tells which
   pub end : End
   pub told : status ≡ status_of end
-  pub ran : Ran rules old new end
+  pub ran : Ran rules old new room_old room_new end
   -- 0 and 1: the source was read to its end
   pub at_end : status ≤ 1 → IsAtEnd new.left
   -- 0, 1, 3, 7 and 8: where the source tells its bytes, status and output are those of their ending
-  pub meets : (input : List ℕ) → old.left ≡ Some input → IsDecided status → (status ≡ (ending rules input).status) × Appends old.written new.written (ending rules input).output
+  pub meets : (input : List ℕ) → old.left ≡ Some input → IsDecided status
+      → (status ≡ (ending rules input).status) × Appends old.written new.written (ending rules input).output
   -- 4: the source failed, and exactly the lines that an LF ends in the bytes taken were answered
   pub source_failed : status ≡ 4 → StopsShort rules old new
   -- 5: the sink failed; in every other status it didn't
   pub sink_failed : status ≡ 5 → Rose old.sink_faults new.sink_faults
   pub sink_same : status ≢ 5 → new.sink_faults ≡ old.sink_faults
-  -- 6: memory was refused at a line
+  -- 6: allocation failed at a line
   pub ran_out : status ≡ 6 → RunsOut rules old new
-  -- where the source tells its bytes and nothing fails, the run has their ending, or memory was refused
-  pub completes : (input : List ℕ) → old.left ≡ Some input → ¬ (Rose old.source_faults new.source_faults) → ¬ (Rose old.sink_faults new.sink_faults)
+  -- where the source tells its bytes and nothing fails, the run has their ending, or allocation failed
+  pub completes : (input : List ℕ) → old.left ≡ Some input → ¬ (Rose old.source_faults new.source_faults)
+      → ¬ (Rose old.sink_faults new.sink_faults)
       → (status ≡ (ending rules input).status) ⊎ ((status ≡ 6) × (rules.takes_memory ≡ true))
+  -- 5 never comes where the source tells its bytes and the sink is known to have room for the output of their ending
+  pub room : (input : List ℕ) → old.left ≡ Some input → KeepsRoom room_old room_new (ending rules input).output (status ≢ 5)
+  -- where the source doesn't fail either, status and output are those of that ending, or allocation failed
+  pub completes_in_room : (input : List ℕ) → old.left ≡ Some input → ¬ (Rose old.source_faults new.source_faults)
+      → HasRoom room_old (length (ending rules input).output)
+      → ((status ≡ (ending rules input).status) × Appends old.written new.written (ending rules input).output)
+      ⊎ ((status ≡ 6) × (rules.takes_memory ≡ true))

@@ -4,8 +4,9 @@ use Rattle.iri_text.specs.Line.{LineState}
 use Rattle.iri_cli.specs.Ending.{Rules}
 use Rattle.iri_cli.specs.Read.{HasRead, ReadsAll, IsGoing}
 use Rattle.iri_cli.specs.Run.{outside, Ran}
-use Rattle.iri_text.specs.declared.reader.LineFault.{LineFault}
-use Rattle.iri_text.specs.declared.reader.LineFault.TheVariants.{Source, LineTooLong as FaultLineTooLong, InputTooLong as FaultInputTooLong}
+use Rattle.iri_text.specs.declared.streams.reader.LineFault.{LineFault}
+use Rattle.iri_text.specs.declared.streams.reader.LineFault.TheVariants.{Source, LineTooLong as FaultLineTooLong}
+use Rattle.iri_text.specs.declared.streams.reader.LineFault.TheVariants.{InputTooLong as FaultInputTooLong}
 use Rattle.iri_cli.specs.declared.end.End.{End}
 use Rattle.iri_cli.specs.declared.end.End.TheVariants.{Done, SomeBad, SourceFailed, LineTooLong, InputTooLong}
 
@@ -37,6 +38,9 @@ GivesBase rules left_old left_new reader base =
 -- The base line was read into a buffer; or the run ended, and nothing was written.
 abbrev pub ReadsBase : Rules → Option (List ℕ) → Option (List ℕ) → ℕ → ℕ → LineState → List ℕ → Result ℕ LineFault → Type 0
 ReadsBase rules left_old left_new faults_old faults_new reader buffer (Ok len) =
-    GivesBase rules left_old left_new reader (take len buffer) × (len ≤ rules.line_limit) × (len ≤ length buffer) × (faults_old ≤ faults_new)
+    GivesBase rules left_old left_new reader (take len buffer) × (len ≤ rules.line_limit) × (len ≤ length buffer)
+    × (faults_old ≤ faults_new)
 ReadsBase rules left_old left_new faults_old faults_new reader buffer (Err fault) =
-    (written : Option (List ℕ)) (sink_faults : ℕ) → Ran rules (outside left_old written faults_old sink_faults) (outside left_new written faults_new sink_faults) (end_at fault)
+    (written : Option (List ℕ)) (sink_faults : ℕ) (sink_room : Option ℕ)
+    → Ran rules (outside left_old written faults_old sink_faults) (outside left_new written faults_new sink_faults) sink_room sink_room
+    (end_at fault)

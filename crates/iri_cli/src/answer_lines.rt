@@ -1,8 +1,10 @@
 // The lines behind the base line.
-ghost use Rattle.std.specs.Prelude.{◌≡◌, ◌≤◌, length};
+ghost use Rattle.std.specs.Prelude.{◌≡◌, ◌≢◌, ◌≤◌, length};
+ghost use Rattle.iri_text.specs.Sink.{KeepsRoom};
 ghost use Rattle.iri_cli.specs.Run.{outside};
 ghost use Rattle.iri_cli.specs.Steps.{end_at, end_of_all};
 ghost use Rattle.iri_cli.specs.Answering.{Answering, AnswersLine, AnswersLines, IsReady, ClosesRun, end_of_error};
+ghost use Rattle.iri_cli.specs.declared.end.End.TheVariants.{SinkFailed};
 
 use crate::answers::{AnswerError, Answers};
 use crate::end::End;
@@ -43,7 +45,9 @@ fn answer_line<A: Answers, O: Sink>(
     sink: &mut O,
 ) -> Result<bool, AnswerError>
     requires { (at : Answering) × (A.stands_at answers.old at) × (length reader.now.line ≤ at.rules.line_limit) }
-    ensures { (at : Answering) → A.stands_at answers.old at → AnswersLine (A.stands_at answers.new) at reader.now.line (O.written sink.old) (O.written sink.new) (O.faults sink.old) (O.faults sink.new) result }
+    ensures { (at : Answering) → A.stands_at answers.old at
+        → AnswersLine (A.stands_at answers.new) at reader.now.line (O.written sink.old) (O.written sink.new)
+        (O.faults sink.old) (O.faults sink.new) (O.room_left sink.old) (O.room_left sink.new) result }
 {
     let answer = answers.answer(reader.line(), sink);
     if reader.holds_lf() {
@@ -60,7 +64,12 @@ fn answer_line<A: Answers, O: Sink>(
 
 // Puts the text behind all answers.
 fn close_lines<A: Answers, O: Sink>(answers: &mut A, all_good: bool, sink: &mut O) -> End
-    ensures { (at : Answering) → A.stands_at answers.old at → ClosesRun at.rules (O.written sink.old) (O.written sink.new) (O.faults sink.old) (O.faults sink.new) all_good (at.rules.closing at.base at.between) result }
+    ensures closes { (at : Answering) → A.stands_at answers.old at
+        → ClosesRun at.rules (O.written sink.old) (O.written sink.new) (O.faults sink.old) (O.faults sink.new) all_good
+        (at.rules.closing at.base at.between) result }
+    ensures room { (at : Answering) → A.stands_at answers.old at
+        → KeepsRoom (O.room_left sink.old) (O.room_left sink.new) (at.rules.closing at.base at.between)
+        (result ≢ SinkFailed) }
 {
     match answers.close(sink) {
         Ok(()) => last_end(all_good),
@@ -76,8 +85,11 @@ pub fn answer_lines<A: Answers, I: Source, O: Sink>(
     sink: &mut O,
 ) -> End
     requires { (start : Answering) × IsReady (A.stands_at answers.old) start reader }
-    ensures { (start : Answering) → IsReady (A.stands_at answers.old) start reader → AnswersLines start reader (outside (I.left source.old) (O.written sink.old) (I.faults source.old) (O.faults sink.old))
-        (outside (I.left source.new) (O.written sink.new) (I.faults source.new) (O.faults sink.new)) result }
+    ensures { (start : Answering) → IsReady (A.stands_at answers.old) start reader
+        → AnswersLines start reader (outside (I.left source.old) (O.written sink.old) (I.faults source.old)
+        (O.faults sink.old))
+        (outside (I.left source.new) (O.written sink.new) (I.faults source.new) (O.faults sink.new))
+        (O.room_left sink.old) (O.room_left sink.new) result }
 {
     if let Err(Failed) = sink.flush() {
         return End::SinkFailed;

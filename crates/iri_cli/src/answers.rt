@@ -1,6 +1,8 @@
 // What answers lines.
-ghost use Rattle.std.specs.Prelude.{◌≤◌, length};
+ghost use Rattle.std.specs.Prelude.{◌≢◌, ◌≤◌, Err, length};
+ghost use Rattle.iri_text.specs.Sink.{KeepsRoom};
 ghost use Rattle.iri_cli.specs.Answering.{Answering, AnswersLine, PutsClosing};
+ghost use Rattle.iri_cli.specs.declared.answers.AnswerError.TheVariants.{SinkFailed};
 
 use iri_text::Sink;
 
@@ -9,7 +11,7 @@ use iri_text::Sink;
 pub enum AnswerError {
     /// The sink failed.
     SinkFailed,
-    /// Memory was refused, and nothing was put.
+    /// Allocation failed, and nothing was put.
     Memory,
 }
 
@@ -22,10 +24,15 @@ pub trait Answers {
     fn answer<O: Sink>(&mut self, line: &[u8], sink: &mut O) -> Result<bool, AnswerError>
         requires { (at : Answering) × (stands_at self.old at) × (length line.now ≤ at.rules.line_limit) }
         ensures { (at : Answering) → stands_at self.old at
-            → AnswersLine (stands_at self.new) at line.now (O.written sink.old) (O.written sink.new) (O.faults sink.old) (O.faults sink.new) result };
+            → AnswersLine (stands_at self.new) at line.now (O.written sink.old) (O.written sink.new) (O.faults sink.old)
+            (O.faults sink.new) (O.room_left sink.old) (O.room_left sink.new) result };
 
     /// Puts the text behind all answers.
     fn close<O: Sink>(&mut self, sink: &mut O) -> Result<(), AnswerError>
-        ensures { (at : Answering) → stands_at self.old at
-            → PutsClosing at.rules (O.written sink.old) (O.written sink.new) (O.faults sink.old) (O.faults sink.new) (at.rules.closing at.base at.between) result };
+        ensures puts { (at : Answering) → stands_at self.old at
+            → PutsClosing at.rules (O.written sink.old) (O.written sink.new) (O.faults sink.old) (O.faults sink.new)
+            (at.rules.closing at.base at.between) result }
+        ensures room { (at : Answering) → stands_at self.old at
+            → KeepsRoom (O.room_left sink.old) (O.room_left sink.new) (at.rules.closing at.base at.between)
+            (result ≢ Err SinkFailed) };
 }

@@ -1,4 +1,5 @@
 //! The memory of a run of `canon`.
+ghost use Rattle.std.specs.Prelude.{IfOk};
 ghost use Rattle.iri_cli.specs.Buffers.{AreBuffers};
 
 use iri_text::LineReader;
@@ -23,8 +24,11 @@ pub struct CanonBuffers {
 }
 
 impl CanonBuffers {
-    /// Takes the memory. It fails only where that is refused.
-    pub fn new(alloc: Global) -> Result<CanonBuffers, AllocError> {
+    /// Takes the memory: 131,072 bytes for a reader that took nothing yet, 65,536 for the base line, and 131,076 for the text of an
+    /// answer with its LF. It fails only where that is refused.
+    pub fn new(alloc: Global) -> Result<CanonBuffers, AllocError>
+        ensures { IfOk result (λ b. AreBuffers b.reader b.base.items b.output.items) }
+    {
         let reader = LineReader::new(alloc, LINE, INPUT)?;
         let base = vec![in alloc; 0; LINE]?;
         let output = vec![in alloc; 0; OUTPUT]?;

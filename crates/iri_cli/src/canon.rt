@@ -1,12 +1,14 @@
 // The answers of `canon`.
-ghost use Rattle.std.specs.Prelude.{◌≡◌, ◌≤◌, ◌+◌, [], ◌∷◌, ◌++◌, None, Some, Ok, codes, length, MatchResult};
-ghost use Rattle.iri_text.specs.Sink.{PutsAll};
+ghost use Rattle.std.specs.Prelude.{◌≡◌, ◌≢◌, ◌≤◌, ◌+◌, [], ◌∷◌, ◌++◌, None, Some, Ok, Err, codes, length, MatchResult};
+ghost use Rattle.iri_text.specs.Sink.{PutsAll, KeepsRoom};
 ghost use Rattle.iri_types.specs.SplitText.{split_text};
 ghost use Rattle.iri_types.specs.Texts.{text};
 ghost use Rattle.iri_resolve.specs.NormalForm.{canonical};
 ghost use Rattle.iri_resolve.specs.Resolver.{base_text};
 ghost use Rattle.iri_cli.specs.Answer.{refusal, answer};
 ghost use Rattle.iri_cli.specs.CanonAnswers.{PutsLine, told_of};
+ghost use Rattle.iri_cli.specs.declared.answers.AnswerError.TheVariants.{SinkFailed};
+ghost use Rattle.iri_text.specs.LineEnds.{line_feed};
 
 use crate::answers::{AnswerError, Answers};
 use iri_grammar::spec::Spec;
@@ -20,11 +22,23 @@ use iri_types::view::RiAbsoluteStr;
 /// The base of a base line, or in words why it is refused.
 #[tactic(auto, unfolding(crate::specs::Answer::refusal))]
 pub fn base_of<S: Spec>(line: &[u8]) -> Result<RiAbsoluteStr<'_, S>, &'static str>
-    ensures { MatchResult result (λ base. (text base ≡ line.now) × (refusal S.tests line.now ≡ None)) (λ words. refusal S.tests line.now ≡ Some words.now) }
+    ensures { MatchResult result (λ base. (text base ≡ line.now) × (refusal S.tests line.now ≡ None))
+        (λ words. refusal S.tests line.now ≡ Some words.now) }
 {
     match RiAbsoluteStr::<S>::try_from_bytes(line) {
         Ok(base) => Ok(base),
         Err(error) => Err(error.kind().description()),
+    }
+}
+
+/// The resolver of a base line that is taken.
+pub fn resolver_of<S: Spec>(line: &[u8]) -> FixedBaseResolver<'_, S>
+    requires { refusal S.tests line.now ≡ None }
+    ensures { base_text result ≡ line.now }
+{
+    match base_of::<S>(line) {
+        Ok(base) => FixedBaseResolver::new(base),
+        Err(_) => unreachable!(),
     }
 }
 
@@ -36,7 +50,7 @@ fn fill<'a, S: Spec>(
 )
     requires empty { line.old.taken ≡ [] }
     requires room { length (canonical S.tests (base_text resolver.now) (split_text reference.now)) + 1 ≤ line.old.room }
-    ensures { line.new.taken ≡ canonical S.tests (base_text resolver.now) (split_text reference.now) ++ 10 ∷ [] }
+    ensures { line.new.taken ≡ canonical S.tests (base_text resolver.now) (split_text reference.now) ++ line_feed ∷ [] }
 {
     if let Ok(()) = show_canonical(line, resolver, reference) {
         let _ = line.put("\n");
@@ -51,8 +65,9 @@ fn put_good<'a, S: Spec, O: Sink>(
     reference: &SplitView<'a, S, Reference>,
 ) -> Result<(), Failed>
     requires { length (canonical S.tests (base_text resolver.now) (split_text reference.now)) + 1 ≤ length output.old }
-    ensures { PutsAll (O.written sink.old) (O.written sink.new) (O.faults sink.old) (O.faults sink.new) result
-        (codes "ok " ++ (canonical S.tests (base_text resolver.now) (split_text reference.now) ++ 10 ∷ [])) }
+    ensures { PutsAll (O.written sink.old) (O.written sink.new) (O.faults sink.old) (O.faults sink.new)
+        (O.room_left sink.old) (O.room_left sink.new) result
+        (codes "ok " ++ (canonical S.tests (base_text resolver.now) (split_text reference.now) ++ line_feed ∷ [])) }
 {
     let mut line = SliceSink::new(output);
     fill(&mut line, resolver, reference);
@@ -62,7 +77,8 @@ fn put_good<'a, S: Spec, O: Sink>(
 
 // The prefix of a refused reference, the words for its fault and an LF.
 fn put_bad<O: Sink>(sink: &mut O, words: &str) -> Result<(), Failed>
-    ensures { PutsAll (O.written sink.old) (O.written sink.new) (O.faults sink.old) (O.faults sink.new) result (codes "bad " ++ (words.now ++ 10 ∷ [])) }
+    ensures { PutsAll (O.written sink.old) (O.written sink.new) (O.faults sink.old) (O.faults sink.new)
+        (O.room_left sink.old) (O.room_left sink.new) result (codes "bad " ++ (words.now ++ line_feed ∷ [])) }
 {
     sink.put_all(b"bad ")?;
     sink.put_all(words.as_bytes())?;
@@ -88,7 +104,10 @@ fn put_answer<'a, S: Spec, O: Sink>(
 ) -> Result<bool, AnswerError>
     requires base { refusal S.tests (base_text resolver) ≡ None }
     requires room { length (base_text resolver) + length line.now + 4 ≤ length output.old }
-    ensures { PutsLine (O.written sink.old) (O.written sink.new) (O.faults sink.old) (O.faults sink.new) (answer S.tests (base_text resolver.entry) line.now) result }
+    ensures puts { PutsLine (O.written sink.old) (O.written sink.new) (O.faults sink.old) (O.faults sink.new)
+        (answer S.tests (base_text resolver.entry) line.now) result }
+    ensures room { KeepsRoom (O.room_left sink.old) (O.room_left sink.new)
+        (answer S.tests (base_text resolver.entry) line.now) (result ≢ Err SinkFailed) }
 {
     match SplitView::<S, Reference>::try_from_bytes(line) {
         Ok(reference) => told(true, put_good(sink, output, &resolver, &reference)),

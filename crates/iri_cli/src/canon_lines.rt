@@ -8,31 +8,33 @@ ghost use Rattle.iri_cli.specs.Words.{canon_rules};
 use crate::answer_lines::{answer_lines, fault_end};
 use crate::base::{read_base, refuse_base};
 use crate::buffers::CanonBuffers;
-use crate::canon::{Canon, base_of};
-use crate::end::{End, close, status};
+use crate::canon::{Canon, resolver_of};
+use crate::end::{End, finish};
+use crate::prepared::prepare_base;
 use iri_grammar::spec::Spec;
-use iri_resolve::resolver::FixedBaseResolver;
 use iri_text::{LineReader, Sink, Source};
 
-// Reads the base line into a buffer, and answers the lines behind it.
+// Reads the base line into a buffer, prepares it there, and answers the lines behind it.
 fn answer_with<S: Spec, I: Source, O: Sink>(
     mut reader: LineReader,
     buffer: &mut [u8],
-    output: Vec<u8>,
+    mut output: Vec<u8>,
     source: &mut I,
     sink: &mut O,
 ) -> End
     requires { AreBuffers reader buffer.old output.items }
-    ensures { Ran (canon_rules S.tests) (outside (I.left source.old) (O.written sink.old) (I.faults source.old) (O.faults sink.old))
-        (outside (I.left source.new) (O.written sink.new) (I.faults source.new) (O.faults sink.new)) result }
+    ensures { Ran (canon_rules S.tests) (outside (I.left source.old) (O.written sink.old) (I.faults source.old)
+        (O.faults sink.old))
+        (outside (I.left source.new) (O.written sink.new) (I.faults source.new) (O.faults sink.new))
+        (O.room_left sink.old) (O.room_left sink.new) result }
 {
     let len = match read_base(&mut reader, source, buffer) {
         Ok(len) => len,
         Err(fault) => return fault_end(fault),
     };
-    match base_of::<S>(&buffer[..len]) {
-        Ok(base) => {
-            let resolver = FixedBaseResolver::new(base);
+    match prepare_base::<S>(buffer, len, &mut output) {
+        Ok(len) => {
+            let resolver = resolver_of::<S>(&buffer[..len]);
             let mut canon = Canon { resolver, output };
             answer_lines(&mut canon, reader, source, sink)
         }
@@ -46,8 +48,10 @@ fn answer_all<S: Spec, I: Source, O: Sink>(
     source: &mut I,
     sink: &mut O,
 ) -> End
-    ensures { Ran (canon_rules S.tests) (outside (I.left source.old) (O.written sink.old) (I.faults source.old) (O.faults sink.old))
-        (outside (I.left source.new) (O.written sink.new) (I.faults source.new) (O.faults sink.new)) result }
+    ensures { Ran (canon_rules S.tests) (outside (I.left source.old) (O.written sink.old) (I.faults source.old)
+        (O.faults sink.old))
+        (outside (I.left source.new) (O.written sink.new) (I.faults source.new) (O.faults sink.new))
+        (O.room_left sink.old) (O.room_left sink.new) result }
 {
     let CanonBuffers {
         reader,
@@ -69,8 +73,10 @@ pub fn canon_lines<S: Spec, I: Source, O: Sink>(
     source: &mut I,
     sink: &mut O,
 ) -> u8
-    ensures runs { Runs (canon_rules S.tests) (outside (I.left source.old) (O.written sink.old) (I.faults source.old) (O.faults sink.old))
-        (outside (I.left source.new) (O.written sink.new) (I.faults source.new) (O.faults sink.new)) result }
+    ensures runs { Runs (canon_rules S.tests)
+        (outside (I.left source.old) (O.written sink.old) (I.faults source.old) (O.faults sink.old))
+        (outside (I.left source.new) (O.written sink.new) (I.faults source.new) (O.faults sink.new))
+        (O.room_left sink.old) (O.room_left sink.new) result }
     ensures a_command { result ≢ 2 }
     ensures in_memory { result ≢ 6 }
 
@@ -78,5 +84,5 @@ pub fn canon_lines<S: Spec, I: Source, O: Sink>(
     ensures canonical { AnswersAreCanonical S.tests }
 {
     let end = answer_all::<S, I, O>(buffers, source, sink);
-    status(close(sink, end))
+    finish(sink, end)
 }

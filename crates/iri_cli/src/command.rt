@@ -29,7 +29,8 @@ pub enum Command {
 
 // The grammar of this name.
 fn grammar_of(word: &str) -> Option<Grammar>
-    ensures { MatchOption result ((grammar : Grammar) → word.now ≢ word_of grammar) (λ grammar. word.now ≡ word_of grammar) }
+    ensures { MatchOption result ((grammar : Grammar) → word.now ≢ word_of grammar)
+        (λ grammar. word.now ≡ word_of grammar) }
 {
     if word == "uri" {
         Some(Grammar::Uri)
@@ -66,7 +67,8 @@ fn count_of(word: &str) -> Option<u32>
 
 // The command of one word.
 fn command_of_one(word: &str) -> Option<Command>
-    ensures { MatchOption result ((command : Command) → ¬ (IsCommand (word.now ∷ []) command)) (IsCommand (word.now ∷ [])) }
+    ensures { MatchOption result ((command : Command) → ¬ (IsCommand (word.now ∷ []) command))
+        (IsCommand (word.now ∷ [])) }
 {
     match notice_of(word) {
         Some(notice) => Some(Command::Tell(notice)),
@@ -76,7 +78,8 @@ fn command_of_one(word: &str) -> Option<Command>
 
 // The command of two words.
 fn command_of_two(name: &str, grammar: &str) -> Option<Command>
-    ensures { MatchOption result ((command : Command) → ¬ (IsCommand (name.now ∷ grammar.now ∷ []) command)) (IsCommand (name.now ∷ grammar.now ∷ [])) }
+    ensures { MatchOption result ((command : Command) → ¬ (IsCommand (name.now ∷ grammar.now ∷ []) command))
+        (IsCommand (name.now ∷ grammar.now ∷ [])) }
 {
     if name != "canon" {
         return None;
@@ -89,7 +92,9 @@ fn command_of_two(name: &str, grammar: &str) -> Option<Command>
 
 // The command of three words.
 fn command_of_three(name: &str, grammar: &str, number: &str) -> Option<Command>
-    ensures { MatchOption result ((command : Command) → ¬ (IsCommand (name.now ∷ grammar.now ∷ number.now ∷ []) command)) (IsCommand (name.now ∷ grammar.now ∷ number.now ∷ [])) }
+    ensures { MatchOption result ((command : Command)
+        → ¬ (IsCommand (name.now ∷ grammar.now ∷ number.now ∷ []) command))
+        (IsCommand (name.now ∷ grammar.now ∷ number.now ∷ [])) }
 {
     if name != "gen" {
         return None;
@@ -101,7 +106,8 @@ fn command_of_three(name: &str, grammar: &str, number: &str) -> Option<Command>
 
 /// The command of these words, where they are one.
 pub fn command_of(words: &[String]) -> Option<Command>
-    ensures { MatchOption result ((command : Command) → ¬ (IsCommand (map string_bytes words.now) command)) (IsCommand (map string_bytes words.now)) }
+    ensures { MatchOption result ((command : Command) → ¬ (IsCommand (map string_bytes words.now) command))
+        (IsCommand (map string_bytes words.now)) }
 {
     match words {
         [word] => command_of_one(word.as_str()),

@@ -1,7 +1,7 @@
 // How a run ends.
 ghost use Rattle.std.specs.Prelude.{◌≡◌};
 ghost use Rattle.iri_cli.specs.Run.{status_of};
-ghost use Rattle.iri_cli.specs.Closes.{Closes};
+ghost use Rattle.iri_cli.specs.Closes.{Finishes};
 
 use iri_text::{Failed, Sink};
 
@@ -18,7 +18,7 @@ pub enum End {
     SourceFailed,
     /// The sink failed.
     SinkFailed,
-    /// Memory was refused.
+    /// Allocation failed.
     Memory,
     /// A line has too many bytes.
     LineTooLong,
@@ -42,15 +42,16 @@ pub fn status(end: End) -> u8
     }
 }
 
-/// How a run ends once its sink is flushed. A sink that failed isn't asked again.
-pub fn close<O: Sink>(sink: &mut O, end: End) -> End
-    ensures { Closes (O.written sink.old) (O.written sink.new) (O.faults sink.old) (O.faults sink.new) end result }
+/// The status of a run that ended so, once its sink is flushed. A sink that failed isn't asked again.
+pub fn finish<O: Sink>(sink: &mut O, end: End) -> u8
+    ensures { Finishes (O.written sink.old) (O.written sink.new) (O.faults sink.old) (O.faults sink.new)
+        (O.room_left sink.old) (O.room_left sink.new) end result }
 {
     match end {
-        End::SinkFailed => end,
+        End::SinkFailed => status(end),
         _ => match sink.flush() {
-            Ok(()) => end,
-            Err(Failed) => End::SinkFailed,
+            Ok(()) => status(end),
+            Err(Failed) => status(End::SinkFailed),
         },
     }
 }

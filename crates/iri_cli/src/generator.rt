@@ -1,11 +1,12 @@
 // The command `gen`: references that are made by a counter, and what is told of their canonical texts.
-ghost use Rattle.std.specs.Prelude.{◌≡◌, ◌≤◌, ◌<◌, ◌+◌, ◌*◌, ◌%◌, ◌^◌, ◌⊎◌, ◌++◌, None, OnOk, IfOk, length, sum, string_bytes};
+ghost use Rattle.std.specs.Prelude.{◌≡◌, ◌≤◌, ◌<◌, ◌+◌, ◌*◌, ◌%◌, ◌^◌, ◌⊎◌, ◌++◌, None, OnOk, IfOk, length, sum};
+ghost use Rattle.std.specs.Prelude.{string_bytes};
 ghost use Rattle.iri_grammar.specs.WholeFault.{reference_fault};
 ghost use Rattle.iri_resolve.specs.NormalForm.{canonical};
 ghost use Rattle.iri_resolve.specs.Resolver.{base_text};
 ghost use Rattle.iri_cli.specs.Gen.{gen_segment, more_segments, gen_reference, gen_base, gen_bytes, gen_sum, gen_text};
 
-use crate::canon::base_of;
+use crate::canon::resolver_of;
 use iri_grammar::spec::Spec;
 use iri_resolve::canonical::write_canonical;
 use iri_resolve::resolver::FixedBaseResolver;
@@ -134,10 +135,7 @@ fn totals_of<S: Spec>(
 fn base_resolver<S: Spec>() -> FixedBaseResolver<'static, S>
     ensures { base_text result ≡ gen_base }
 {
-    match base_of::<S>(BASE.as_bytes()) {
-        Ok(base) => FixedBaseResolver::new(base),
-        Err(_) => unreachable!(),
-    }
+    resolver_of::<S>(BASE.as_bytes())
 }
 
 /// The three lines that tell of the canonical texts of so many references.

@@ -1,10 +1,11 @@
 //! What the program tells of itself.
 ghost use Rattle.std.specs.Prelude.{◌≡◌, ◌≢◌, false, MatchOption};
-ghost use Rattle.iri_cli.specs.Notices.{text_of, PutsText};
+ghost use Rattle.iri_text.specs.Sink.{KeepsRoom};
+ghost use Rattle.iri_cli.specs.Notices.{notice_text, PutsText};
 ghost use Rattle.iri_cli.specs.Words.{notice_word};
 ghost use Rattle.iri_cli.specs.declared.notice.Notice.{Notice};
 
-use crate::end::{End, close, status};
+use crate::end::{End, finish, status};
 use iri_text::{Failed, Sink};
 
 /// A text that the program tells of itself.
@@ -34,7 +35,7 @@ const VERSION: &str = "irikit 0.1.0\n";
 
 // The text of a notice.
 fn text(notice: Notice) -> &'static str
-    ensures { result.now ≡ text_of notice }
+    ensures { result.now ≡ notice_text notice }
 {
     match notice {
         Notice::Help => HELP,
@@ -44,7 +45,8 @@ fn text(notice: Notice) -> &'static str
 
 /// The notice that is asked for by this word.
 pub(crate) fn notice_of(word: &str) -> Option<Notice>
-    ensures { MatchOption result ((notice : Notice) → word.now ≢ notice_word notice) (λ notice. word.now ≡ notice_word notice) }
+    ensures { MatchOption result ((notice : Notice) → word.now ≢ notice_word notice)
+        (λ notice. word.now ≡ notice_word notice) }
 {
     if word == "--help" {
         Some(Notice::Help)
@@ -57,17 +59,21 @@ pub(crate) fn notice_of(word: &str) -> Option<Notice>
 
 /// Writes a text, flushes the sink, and gives the program's status.
 pub(crate) fn put_text<O: Sink>(text: &str, sink: &mut O) -> u8
-    ensures { PutsText text.now (O.written sink.old) (O.written sink.new) (O.faults sink.old) (O.faults sink.new) result }
+    ensures puts { PutsText text.now (O.written sink.old) (O.written sink.new) (O.faults sink.old)
+        (O.faults sink.new) result }
+    ensures room { KeepsRoom (O.room_left sink.old) (O.room_left sink.new) text.now (result ≢ 5) }
 {
     match sink.put_all(text.as_bytes()) {
-        Ok(()) => status(close(sink, End::Done)),
+        Ok(()) => finish(sink, End::Done),
         Err(Failed) => status(End::SinkFailed),
     }
 }
 
 /// Writes a notice, flushes the sink, and gives the program's status.
 pub(crate) fn tell<O: Sink>(notice: Notice, sink: &mut O) -> u8
-    ensures { PutsText (text_of notice) (O.written sink.old) (O.written sink.new) (O.faults sink.old) (O.faults sink.new) result }
+    ensures puts { PutsText (notice_text notice) (O.written sink.old) (O.written sink.new) (O.faults sink.old)
+        (O.faults sink.new) result }
+    ensures room { KeepsRoom (O.room_left sink.old) (O.room_left sink.new) (notice_text notice) (result ≢ 5) }
 {
     put_text(text(notice), sink)
 }

@@ -2,6 +2,7 @@ ghost use Rattle.std.specs.Prelude.{◌<◌, length, All, None};
 
 use crate::buffers::CanonBuffers;
 use crate::canon_lines::canon_lines;
+use crate::prepared::prepare_base;
 use crate::run::run;
 use iri_grammar::spec::UriSpec;
 use iri_text::{Failed, MemorySink, MemorySource, PlainSource, Sink, Source};
@@ -104,6 +105,43 @@ fn failing_devices(rt: HostRuntime) -> Result<(), Fail> {
     );
     let mut source = PlainSource::new(input);
     assert!(rt; answers(&rt, &["canon", "uri"], &mut source, &[2], 5, b"ok ")?);
+    Ok(())
+}
+
+// A sink that has room for exactly the output takes it, and one with a byte less fails.
+#[test]
+fn room_for_the_output(rt: HostRuntime) -> Result<(), Fail> {
+    let rows: [(&[&str], &[u8], u8, &[u8]); 4] = [
+        (&["canon", "uri"], b"http://a/\nb\n", 0, b"ok http://a/b\n"),
+        (
+            &["canon", "uri"],
+            b"http://a/b\n##\n",
+            1,
+            b"bad invalid fragment\n",
+        ),
+        (
+            &["canon", "iri"],
+            b"http://a/#b\n",
+            3,
+            b"base unexpected fragment\n",
+        ),
+        (&["--version"], b"", 0, b"irikit 0.1.0\n"),
+    ];
+    for (words, input, status, output) in rows {
+        let mut list = Vec::new(rt.alloc());
+        for word in words {
+            list.push(String::from_str(rt.alloc(), word)?)?;
+        }
+        let mut room = vec![in rt.alloc(); 0; output.len()]?;
+        let mut sink = MemorySink::new(&mut room, &[]);
+        let mut source = PlainSource::new(input);
+        assert_eq!(rt; run(rt.alloc(), &list, &mut source, &mut sink), status);
+        assert_eq!(rt; sink.written(), output);
+        let mut less = vec![in rt.alloc(); 0; output.len().saturating_sub(1)]?;
+        let mut sink = MemorySink::new(&mut less, &[]);
+        let mut source = PlainSource::new(input);
+        assert_eq!(rt; run(rt.alloc(), &list, &mut source, &mut sink), 5);
+    }
     Ok(())
 }
 
@@ -352,6 +390,45 @@ fn bases_that_are_refused(rt: HostRuntime) -> Result<(), Fail> {
     assert!(rt; base_is_refused(&rt, b"", relative)?);
     assert!(rt; base_is_refused(&rt, b"http://a/#f\ng", b"base unexpected fragment\n")?);
     assert!(rt; base_is_refused(&rt, b"\xff\ng", b"base invalid utf-8 bytes\n")?);
+    Ok(())
+}
+
+// Scheme and authority of the base aren't in normal form: each kind of reference, by RFC 3986 sections 5.2 and 6.2.2.
+#[test]
+fn bases_that_are_prepared(rt: HostRuntime) -> Result<(), Fail> {
+    let input = b"HTTP://EX%41mple.COM:/a/b/../c?q\n\n?x\n#f\n";
+    let output =
+        b"ok http://example.com/a/c?q\nok http://example.com/a/c?x\nok http://example.com/a/c?q#f\n";
+    assert!(rt; canon_uri(&rt, input, 0, output)?);
+    let input = b"HTTP://EX%41mple.COM:/a/b/../c?q\nd\n../d\n/d\n//h\nx:y\n";
+    let output =
+        b"ok http://example.com/a/d\nok http://example.com/d\nok http://example.com/d\nok http://h\nok x:y\n";
+    assert!(rt; canon_uri(&rt, input, 0, output)?);
+    let input = b"HTTP://U%73:P@[2001:DB8::A]:8/p/q\n\nx\n";
+    let output = b"ok http://Us:P@[2001:db8::a]:8/p/q\nok http://Us:P@[2001:db8::a]:8/p/x\n";
+    assert!(rt; canon_uri(&rt, input, 0, output)?);
+    let input = b"HTTP://A.B:?q\n\nd\n";
+    assert!(rt; canon_uri(&rt, input, 0, b"ok http://a.b?q\nok http://a.b/d\n")?);
+    let input = b"URN:a:b?Q\n\nc\n/c\n//H/p\n";
+    let output = b"ok urn:a:b?Q\nok urn:c\nok urn:/c\nok urn://h/p\n";
+    assert!(rt; canon_uri(&rt, input, 0, output)?);
+    let mut input = long_line(&rt, b"HTTP://A/", 65527)?;
+    input.extend_from_slice(b"\n\n")?;
+    let mut output = long_line(&rt, b"ok http://a/", 65527)?;
+    output.push(b'\n')?;
+    assert!(rt; canon_uri(&rt, &input, 0, &output)?);
+    Ok(())
+}
+
+// A base is prepared in its buffer: the path stays as it stands.
+#[test]
+fn base_in_its_buffer(rt: HostRuntime) -> Result<(), Fail> {
+    let mut buffer = [0; 64];
+    buffer[..32].copy_from_slice(b"HTTP://EX%41mple.COM:/a/b/../c?q");
+    let mut output = vec![in rt.alloc(); 0; 131076]?;
+    let len = prepare_base::<UriSpec>(&mut buffer, 32, &mut output);
+    assert!(rt; len == Ok(29));
+    assert!(rt; buffer.starts_with(b"http://example.com/a/b/../c?q"));
     Ok(())
 }
 

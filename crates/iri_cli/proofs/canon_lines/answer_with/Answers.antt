@@ -1,71 +1,101 @@
-use Rattle.std.proofs.Common.{◌≤◌, ◌∙◌, [], sym, arith, subst, length, take}
+use Rattle.std.proofs.Common.{◌≤◌, ◌∙◌, [], refl, sym, ap, arith, subst, length, take}
 use Rattle.std.proofs.lemmas.List.{length-take-le}
+use Rattle.std.specs.Vec.{with_items}
 use Rattle.iri_resolve.specs.Resolver.{base_text}
 use Rattle.iri_cli.specs.Run.{outside, Ran}
 use Rattle.iri_cli.specs.Words.{canon_rules}
+use Rattle.iri_cli.specs.Prepared.{IsPrepared}
 use Rattle.iri_cli.proofs.BaseLine.{refuses}
 use Rattle.iri_cli.proofs.CanonLemmas.{new_reader, base_read, canon_ready}
+use Rattle.iri_cli.proofs.PreparedLaws.{kept_taken}
 use Rattle.iri_cli.proofs.canon_lines.answer_with.Goals as goal
 
 pub returns-in-Err : goal.returns-in-Err
 returns-in-Err g c =
     let s = g.S.Spec.tests in
     let is_new = new_reader s c.args.reader c.args.buffer.now c.args.output.items c.requires in
-    let n = c.in-Err.ensures (canon_rules s) is_new (g.O.Sink.written c.args.sink.now) (g.O.Sink.faults c.args.sink.now) in
-    subst (λ e. Ran (canon_rules s) (outside (g.I.Source.left c.args.source.now) (g.O.Sink.written c.args.sink.now) (g.I.Source.faults c.args.source.now) (g.O.Sink.faults c.args.sink.now))
-    (outside (g.I.Source.left c.read_base.new.source) (g.O.Sink.written c.args.sink.now) (g.I.Source.faults c.read_base.new.source) (g.O.Sink.faults c.args.sink.now)) e) (sym c.fault_end.ensures) n
+    let n = c.in-Err.ensures (canon_rules s) is_new (g.O.Sink.written c.args.sink.now) (g.O.Sink.faults c.args.sink.now)
+    (g.O.Sink.room_left c.args.sink.now) in
+    subst (λ e. Ran (canon_rules s) (outside (g.I.Source.left c.args.source.now) (g.O.Sink.written c.args.sink.now)
+    (g.I.Source.faults c.args.source.now) (g.O.Sink.faults c.args.sink.now))
+    (outside (g.I.Source.left c.read_base.new.source) (g.O.Sink.written c.args.sink.now) (g.I.Source.faults c.read_base.new.source)
+    (g.O.Sink.faults c.args.sink.now))
+    (g.O.Sink.room_left c.args.sink.now) (g.O.Sink.room_left c.args.sink.now) e) (sym c.fault_end.ensures) n
 
-pub slice_bounds-base_of-end : goal.slice_bounds-base_of-end
-slice_bounds-base_of-end g c =
-    let s = g.S.Spec.tests in
-    let is_new = new_reader s c.args.reader c.args.buffer.now c.args.output.items c.requires in
-    let n = c.in-Ok.ensures (canon_rules s) is_new in
-    let lo = g.I.Source.left c.args.source.now in
-    let lm = g.I.Source.left c.read_base.new.source in
-    let line = take c.in-Ok.len c.read_base.new.buffer in
-    n.2
-
-pub slice_bounds-base_of-end-2 : goal.slice_bounds-base_of-end-2
-slice_bounds-base_of-end-2 g c =
+pub prepare_base-requires-clause-inside : goal.prepare_base-requires-clause-inside
+prepare_base-requires-clause-inside g c =
     let s = g.S.Spec.tests in
     let n = c.in-Ok.ensures (canon_rules s) (new_reader s c.args.reader c.args.buffer.now c.args.output.items c.requires) in
-    sym (length-take-le c.in-Ok.len c.read_base.new.buffer n.2)
+    n.2
+
+pub prepare_base-requires-clause-short : goal.prepare_base-requires-clause-short
+prepare_base-requires-clause-short g c =
+    let s = g.S.Spec.tests in
+    let n = c.in-Ok.ensures (canon_rules s) (new_reader s c.args.reader c.args.buffer.now c.args.output.items c.requires) in
+    n.1
+
+pub slice_bounds-resolver_of-end : goal.slice_bounds-resolver_of-end
+slice_bounds-resolver_of-end g c =
+    let s = g.S.Spec.tests in
+    let n = c.in-Ok.ensures (canon_rules s) (new_reader s c.args.reader c.args.buffer.now c.args.output.items c.requires) in
+    omega (arith, c.in-Ok-prepare_base.ensures.0, n.2, c.prepare_base.auto.buffer)
+
+pub slice_bounds-resolver_of-end-in-Ok-prepare_base : goal.slice_bounds-resolver_of-end-in-Ok-prepare_base
+slice_bounds-resolver_of-end-in-Ok-prepare_base g c =
+    let s = g.S.Spec.tests in
+    let n = c.in-Ok.ensures (canon_rules s) (new_reader s c.args.reader c.args.buffer.now c.args.output.items c.requires) in
+    sym (length-take-le c.in-Ok-prepare_base.len c.prepare_base.new.buffer
+    (omega (arith, c.in-Ok-prepare_base.ensures.0, n.2, c.prepare_base.auto.buffer)))
+
+pub resolver_of-resolver-requires : goal.resolver_of-resolver-requires
+resolver_of-resolver-requires g c =
+    let p = c.in-Ok-prepare_base.ensures in
+    kept_taken g.S.Spec.tests (take c.in-Ok.len c.read_base.new.buffer) _ g.met.S.Spec.lawful p.1 p.2
 
 pub answer_lines-requires : goal.answer_lines-requires
 answer_lines-requires g c =
     let s = g.S.Spec.tests in
-    let is_new = new_reader s c.args.reader c.args.buffer.now c.args.output.items c.requires in
-    let n = c.in-Ok.ensures (canon_rules s) is_new in
+    let n = c.in-Ok.ensures (canon_rules s) (new_reader s c.args.reader c.args.buffer.now c.args.output.items c.requires) in
     let lo = g.I.Source.left c.args.source.now in
     let lm = g.I.Source.left c.read_base.new.source in
     let line = take c.in-Ok.len c.read_base.new.buffer in
-    let base = c.in-Ok-base_of.ensures in
-    let text = base_text c.new-resolver.result in
-    let is = c.new-resolver.ensures ∙ base.0 in
-    let short : length (take c.in-Ok.len c.read_base.new.buffer) ≤ 65536 = omega (arith, n.1, length-take-le c.in-Ok.len c.read_base.new.buffer n.2) in
-    (record { rules = canon_rules s; base = text; between = [] }, canon_ready s lo lm c.read_base.new.reader line text c.args.output.items n.0 is base.1 short c.requires.output_room)
+    let p = c.in-Ok-prepare_base.ensures in
+    let held = c.resolver_of-resolver.ensures in
+    let text = base_text c.resolver_of-resolver.result in
+    let inside = length-take-le c.in-Ok-prepare_base.len c.prepare_base.new.buffer
+    (omega (arith, p.0, n.2, c.prepare_base.auto.buffer)) in
+    let short : length text ≤ 65536 = omega (arith, ap length held, inside, p.0, n.1) in
+    let output = with_items c.args.output c.prepare_base.new.output in
+    let room = sym output.ok.0 ∙ (c.args.output.ok.0 ∙ c.requires.output_room) in
+    let ready = canon_ready s lo lm c.read_base.new.reader line text output.items g.met.S.Spec.lawful n.0
+    (subst (IsPrepared s line) (sym held) p.2) p.1 short room in
+    (record { rules = canon_rules s; base = line; between = [] }, ready)
 
-pub returns-in-Ok-base_of : goal.returns-in-Ok-base_of
-returns-in-Ok-base_of g c =
+pub returns-in-Ok-prepare_base : goal.returns-in-Ok-prepare_base
+returns-in-Ok-prepare_base g c =
     let s = g.S.Spec.tests in
-    let is_new = new_reader s c.args.reader c.args.buffer.now c.args.output.items c.requires in
-    let n = c.in-Ok.ensures (canon_rules s) is_new in
+    let n = c.in-Ok.ensures (canon_rules s) (new_reader s c.args.reader c.args.buffer.now c.args.output.items c.requires) in
     let lo = g.I.Source.left c.args.source.now in
     let lm = g.I.Source.left c.read_base.new.source in
     let line = take c.in-Ok.len c.read_base.new.buffer in
-    let base = c.in-Ok-base_of.ensures in
-    let text = base_text c.new-resolver.result in
-    let is = c.new-resolver.ensures ∙ base.0 in
-    let short : length (take c.in-Ok.len c.read_base.new.buffer) ≤ 65536 = omega (arith, n.1, length-take-le c.in-Ok.len c.read_base.new.buffer n.2) in
-    c.answer_lines.ensures (record { rules = canon_rules s; base = text; between = [] }) (canon_ready s lo lm c.read_base.new.reader line text c.args.output.items n.0 is base.1 short c.requires.output_room)
-    lo (g.I.Source.faults c.args.source.now) (base_read s lo lm c.read_base.new.reader line text n.0 is base.1).0 n.3
+    let p = c.in-Ok-prepare_base.ensures in
+    let held = c.resolver_of-resolver.ensures in
+    let text = base_text c.resolver_of-resolver.result in
+    let inside = length-take-le c.in-Ok-prepare_base.len c.prepare_base.new.buffer
+    (omega (arith, p.0, n.2, c.prepare_base.auto.buffer)) in
+    let short : length text ≤ 65536 = omega (arith, ap length held, inside, p.0, n.1) in
+    let output = with_items c.args.output c.prepare_base.new.output in
+    let room = sym output.ok.0 ∙ (c.args.output.ok.0 ∙ c.requires.output_room) in
+    let ready = canon_ready s lo lm c.read_base.new.reader line text output.items g.met.S.Spec.lawful n.0
+    (subst (IsPrepared s line) (sym held) p.2) p.1 short room in
+    c.answer_lines.ensures (record { rules = canon_rules s; base = line; between = [] }) ready lo (g.I.Source.faults c.args.source.now)
+    (base_read s lo lm c.read_base.new.reader line line n.0 refl p.1).0 n.3
 
-pub returns-in-Err-base_of : goal.returns-in-Err-base_of
-returns-in-Err-base_of g c =
+pub returns-in-Err-prepare_base : goal.returns-in-Err-prepare_base
+returns-in-Err-prepare_base g c =
     let s = g.S.Spec.tests in
-    let is_new = new_reader s c.args.reader c.args.buffer.now c.args.output.items c.requires in
-    let n = c.in-Ok.ensures (canon_rules s) is_new in
+    let n = c.in-Ok.ensures (canon_rules s) (new_reader s c.args.reader c.args.buffer.now c.args.output.items c.requires) in
     let lo = g.I.Source.left c.args.source.now in
     let lm = g.I.Source.left c.read_base.new.source in
     let line = take c.in-Ok.len c.read_base.new.buffer in
-    refuses (canon_rules s) line c.in-Err-base_of.words.now c.in-Err-base_of.ensures lo lm _ _ _ _ _ _ c.read_base.new.reader _ n.0 n.3 c.refuse_base.ensures
+    refuses (canon_rules s) line c.in-Err-prepare_base.words.now c.in-Err-prepare_base.ensures lo lm _ _ _ _ _ _ _ _ c.read_base.new.reader _ n.0 n.3 c.refuse_base.ensures.refuses c.refuse_base.ensures.room

@@ -10,16 +10,20 @@ use Rattle.iri_cli.proofs.GenLemmas.{one_gen, told}
 use Rattle.iri_cli.proofs.run.run.Goals as goal
 
 pub returns-in-Some-Canon-clause-canonical : goal.returns-in-Some-Canon-clause-canonical
-returns-in-Some-Canon-clause-canonical g c = λ grammar _ base line taken none. canonical_answers (tests_of grammar) (grammar_is_spec grammar) base line taken none
+returns-in-Some-Canon-clause-canonical g c = λ grammar _ base line taken none. canonical_answers (tests_of grammar)
+    (grammar_is_spec grammar) base line taken none
 
 pub returns-in-Some-Tell-clause-canonical : goal.returns-in-Some-Tell-clause-canonical
-returns-in-Some-Tell-clause-canonical g c = λ grammar _ base line taken none. canonical_answers (tests_of grammar) (grammar_is_spec grammar) base line taken none
+returns-in-Some-Tell-clause-canonical g c = λ grammar _ base line taken none. canonical_answers (tests_of grammar)
+    (grammar_is_spec grammar) base line taken none
 
 pub returns-in-Some-Gen-clause-canonical : goal.returns-in-Some-Gen-clause-canonical
-returns-in-Some-Gen-clause-canonical g c = λ grammar _ base line taken none. canonical_answers (tests_of grammar) (grammar_is_spec grammar) base line taken none
+returns-in-Some-Gen-clause-canonical g c = λ grammar _ base line taken none. canonical_answers (tests_of grammar)
+    (grammar_is_spec grammar) base line taken none
 
 pub returns-in-None-clause-canonical : goal.returns-in-None-clause-canonical
-returns-in-None-clause-canonical g c = λ grammar _ base line taken none. canonical_answers (tests_of grammar) (grammar_is_spec grammar) base line taken none
+returns-in-None-clause-canonical g c = λ grammar _ base line taken none. canonical_answers (tests_of grammar)
+    (grammar_is_spec grammar) base line taken none
 
 pub returns-in-None-clause-tells : goal.returns-in-None-clause-tells
 returns-in-None-clause-tells g c = λ notice is. absurd (c.in-None.ensures (Tell notice) is)
@@ -38,9 +42,17 @@ returns-in-Some-Gen-clause-gens g c = λ grammar count is.
     let wn = g.O.Sink.written c.generate.new.sink in
     let ko = g.O.Sink.faults c.args.sink.now in
     let kn = g.O.Sink.faults c.generate.new.sink in
+    let ro = g.O.Sink.room_left c.args.sink.now in
+    let rn = g.O.Sink.room_left c.generate.new.sink in
     let words = map string_bytes c.args.words.now in
-    let found : IsCommand words (Gen c.in-Some-Gen.grammar c.in-Some-Gen.count) = subst (IsCommand words) c.in-Some-Gen.field-0-is c.in-Some-Gen.ensures in
+    let found : IsCommand words (Gen c.in-Some-Gen.grammar c.in-Some-Gen.count) =
+    subst (IsCommand words) c.in-Some-Gen.field-0-is c.in-Some-Gen.ensures in
     let same = one_gen words grammar c.in-Some-Gen.grammar count c.in-Some-Gen.count is found in
-    let end = told (gen_text (tests_of c.in-Some-Gen.grammar) c.in-Some-Gen.count) left wo wn faults ko kn c.generate.result c.generate.ensures in
-    subst (λ (a : Grammar). Tells (gen_text (tests_of a) count) (outside left wo faults ko) (outside left wn faults kn) c.generate.result ⊎ ((c.generate.result ≡ 6) × (outside left wn faults kn ≡ outside left wo faults ko))) (sym same.0)
-    (subst (λ (n : ℕ). Tells (gen_text (tests_of c.in-Some-Gen.grammar) n) (outside left wo faults ko) (outside left wn faults kn) c.generate.result ⊎ ((c.generate.result ≡ 6) × (outside left wn faults kn ≡ outside left wo faults ko))) (sym same.1) end)
+    let end = told
+    (gen_text (tests_of c.in-Some-Gen.grammar) c.in-Some-Gen.count) left wo wn faults ko kn ro rn c.generate.result c.generate.ensures.puts c.generate.ensures.room in
+    subst (λ (a : Grammar). Tells (gen_text (tests_of a) count) (outside left wo faults ko)
+    (outside left wn faults kn) ro rn c.generate.result
+    ⊎ ((c.generate.result ≡ 6) × (outside left wn faults kn ≡ outside left wo faults ko))) (sym same.0)
+    (subst (λ (n : ℕ). Tells (gen_text (tests_of c.in-Some-Gen.grammar) n) (outside left wo faults ko)
+    (outside left wn faults kn) ro rn c.generate.result
+    ⊎ ((c.generate.result ≡ 6) × (outside left wn faults kn ≡ outside left wo faults ko))) (sym same.1) end)

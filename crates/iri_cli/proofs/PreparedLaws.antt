@@ -1,0 +1,211 @@
+-- A prepared base is an absolute URI again, is no longer than the base, and has the same canonical texts.
+use Rattle.std.proofs.Common.{◌≡◌, ℕ, ◌+◌, ◌≤◌, Bool, true, false, cond, ◌&&◌, List, [], ◌∷◌, ◌++◌, Option, Some, None, length}
+use Rattle.std.proofs.Common.{refl, ap, sym, subst, ◌∙◌, ⊎_elim, arith, append_assoc, append-nil}
+use Rattle.std.proofs.Common.{◌<◌, ◌↔◌, Result, Ok, Err, Bor, ◌||◌, not}
+use Rattle.std.proofs.lemmas.List.{append_cancel_right}
+use Rattle.std.specs.Prelude.{IsNone, IfOk, IsErr, MatchResult}
+use Rattle.iri_text.specs.Shown.{Shows}
+use Rattle.iri_text.specs.SliceText.{SliceText, SlicePuts, SliceHalts}
+use Rattle.iri_text.specs.declared.shown.show.Stop.{Stop}
+use Rattle.iri_resolve.specs.Dots.{is_dot_segment}
+use Rattle.iri_resolve.specs.DotRemoval.{dots}
+use Rattle.iri_resolve.proofs.NormalLemmas.{pct_nil, pct_two, dots_whole}
+use Rattle.iri_resolve.proofs.TripletPaths.{pieces-pct}
+use Rattle.iri_resolve.proofs.StableLaws.{unsplit, unsplit-pieces}
+use Rattle.iri_cli.proofs.GenReferences.{lone_slash, slash_is_path}
+use Rattle.std.specs.Prelude.{is_some, IsSome}
+use Rattle.iri_grammar.specs.Classes.{Tests, IsSpec}
+use Rattle.iri_grammar.specs.Parts.{Parts, Fits, Splits, IsAbsolute, path_rules, recompose, is_empty, starts_with_slash, scheme_text}
+use Rattle.iri_grammar.specs.Parts.{authority_text, starts_with_slashes}
+use Rattle.iri_grammar.specs.Cut.{marked}
+use Rattle.iri_grammar.specs.Components.{is_letter}
+use Rattle.iri_grammar.specs.Pieces.{pieces}
+use Rattle.iri_grammar.specs.Split.{split_of}
+use Rattle.iri_grammar.proofs.SplitUnique.{split_is}
+use Rattle.iri_resolve.specs.LowerCase.{where_there}
+use Rattle.iri_resolve.specs.Target.{target, target_under, target_path, to_last_slash}
+use Rattle.iri_resolve.specs.NormalForm.{normal_path, normal_form, form, canonical}
+use Rattle.iri_resolve.proofs.FormLaws.{form-fits, scheme-stable, authorities-stable}
+use Rattle.iri_resolve.specs.Prefix.{prefix_in}
+use Rattle.iri_resolve.proofs.LengthLaws.{length-canonical}
+use Rattle.iri_grammar.specs.Fault.{bytes_fault}
+use Rattle.iri_grammar.specs.WholeFault.{absolute_fault, reference_fault}
+use Rattle.iri_grammar.proofs.FaultLaws.{absolute-law, reference-law, of_bytes, reference-utf8}
+use Rattle.iri_resolve.proofs.NormalStepLemmas.{stands-still as same_there}
+use Rattle.iri_cli.specs.Answer.{refusal, words_of_fault, answer, answer_by}
+use Rattle.iri_cli.specs.Prepared.{prepared_parts, prepared, IsPrepared}
+use Rattle.iri_cli.proofs.BytesLemmas.{base_absolute}
+
+-- ---- the prepared base is valid
+rules-fit : (f g : List ℕ → List ℕ) (scheme authority : Option (List ℕ)) (path : List ℕ) → IsSome scheme
+    → path_rules scheme authority path ≡ true → path_rules (where_there f scheme) (where_there g authority) path ≡ true
+rules-fit f g None authority path i h = cc
+rules-fit f g (Some x) None path i h = h
+rules-fit f g (Some x) (Some a) path i h = h
+
+pub prepared_fits : (s : Tests) (t : Parts) → IsSpec s → Fits s t → IsSome t.scheme → Fits s (prepared_parts s t)
+unfolding normal_form form
+prepared_fits s t k f i =
+    let n = (form-fits s t k f i).0 in record {
+      scheme = n.scheme;
+      authority = n.authority;
+      path = f.path;
+      query = f.query;
+      fragment = f.fragment;
+      rules = rules-fit _ _ t.scheme t.authority t.path i f.rules;
+    }
+
+pub prepared_splits : (s : Tests) (base : List ℕ) → IsSpec s → IsAbsolute s base
+    → Splits s (prepared s base) (prepared_parts s (split_of base))
+unfolding prepared
+prepared_splits s base k b =
+    let e = split_is s base b.0 k b.1 in
+    record { fits = rw e (prepared_fits s b.0 k b.1.fits b.2); text = refl }
+
+pub prepared_absolute : (s : Tests) (base : List ℕ) → IsSpec s → IsAbsolute s base → IsAbsolute s (prepared s base)
+prepared_absolute s base k b =
+    let e = split_is s base b.0 k b.1 in (
+      prepared_parts s (split_of base),
+      prepared_splits s base k b,
+      rw e (form-fits s b.0 k b.1.fits b.2).1,
+      rw e b.3,
+    )
+
+-- ---- its canonical texts
+normal_there : (s : Tests) (t : Parts) → is_some (normal_form s t).authority ≡ is_some t.authority
+unfolding normal_form form
+normal_there s t = same_there _ t.authority
+
+same_path : (s : Tests) (t : Parts) (path : List ℕ) → target_path (prepared_parts s t) path ≡ target_path t path
+same_path s t [] = refl
+same_path s t (x ∷ xs) = ap (λ b. cond (starts_with_slash (x ∷ xs)) (x ∷ xs)
+    (cond (b && is_empty t.path) (47 ∷ []) (to_last_slash t.path) ++ x ∷ xs)) (normal_there s t)
+
+normal_same : (s : Tests) (t : Parts) (path : List ℕ)
+    → normal_path s (normal_form s t).authority (target_path (prepared_parts s t) path)
+    ≡ normal_path s t.authority (target_path t path)
+unfolding normal_path
+normal_same s t path = rw (same_path s t path, normal_there s t) refl
+
+form_under : (s : Tests) (t r : Parts) (scheme authority : Option (List ℕ)) → IsSpec s → Fits s t
+    → normal_form s (target_under (prepared_parts s t) r scheme authority) ≡ normal_form s (target_under t r scheme authority)
+unfolding normal_form form
+form_under s t r (Some x) authority k f = refl
+form_under s t r None (Some a) k f = rw (scheme-stable t.scheme) refl
+form_under s t r None None k f = rw (scheme-stable t.scheme, authorities-stable s t.authority k f.authority, normal_same s t r.path) refl
+
+pub same_canonical : (s : Tests) (base reference : List ℕ) → IsSpec s → IsAbsolute s base
+    → canonical s (prepared s base) reference ≡ canonical s base reference
+unfolding canonical target
+same_canonical s base reference k b =
+    let e = split_is s (prepared s base) (prepared_parts s (split_of base)) k (prepared_splits s base k b) in
+    let eb = split_is s base b.0 k b.1 in
+    let f : Fits s (split_of base) = rw eb b.1.fits in
+    let r = split_of reference in
+    ap (λ p. recompose (normal_form s (target p r))) e
+    ∙ ap recompose (form_under s (split_of base) r r.scheme r.authority k f)
+
+pub same_answer : (s : Tests) (base line : List ℕ) → IsSpec s → refusal s base ≡ None → answer s (prepared s base) line ≡ answer s base line
+unfolding answer
+same_answer s base line k taken =
+    ap (answer_by (bytes_fault (reference_fault s) line)) (same_canonical s base line k (base_absolute s k base taken))
+
+-- ---- it is taken where the base is
+pub prepared_taken : (s : Tests) (base : List ℕ) → IsSpec s → refusal s base ≡ None → refusal s (prepared s base) ≡ None
+unfolding refusal
+prepared_taken s base k taken =
+    let text = prepared s base in
+    let valid = prepared_absolute s base k (base_absolute s k base taken) in
+    ap words_of_fault ((of_bytes (absolute_fault s) (IsAbsolute s text) text (λ r. reference-utf8 s text (r.0, r.1))
+    (absolute-law s k text)).1 valid)
+
+-- ---- the text that is kept
+pub kept_taken : (s : Tests) (base text : List ℕ) → IsSpec s → refusal s base ≡ None → IsPrepared s base text → refusal s text ≡ None
+kept_taken s base text k taken is =
+    ⊎_elim (λ e. subst (λ (t : List ℕ). refusal s t ≡ None) (sym e) (prepared_taken s base k taken))
+    (λ h. subst (λ (t : List ℕ). refusal s t ≡ None) (sym h.1) taken) is
+
+pub kept_answers : (s : Tests) (base text line : List ℕ) → IsSpec s → refusal s base ≡ None → IsPrepared s base text
+    → answer s text line ≡ answer s base line
+kept_answers s base text line k taken is =
+    ⊎_elim (λ e. ap (λ (t : List ℕ). answer s t line) e ∙ same_answer s base line k taken)
+    (λ h. ap (λ (t : List ℕ). answer s t line) h.1) is
+
+-- ---- what is written
+-- `/` is a reference, and has no fault
+pub root_reference : (s : Tests) → IsSpec s → reference_fault s (47 ∷ []) ≡ None
+root_reference s k = lone_slash s k
+
+pub root_short : (s : Tests) (base : List ℕ) → IsSpec s → refusal s base ≡ None → length (canonical s base (47 ∷ [])) ≤ length base + 4
+root_short s base k taken =
+    let h = length-canonical s base (47 ∷ []) k (base_absolute s k base taken) ((reference-law s k (47 ∷ [])).0 (root_reference s k)) in
+    omega (arith, h)
+
+-- the canonical text of `/`
+lone : (x e : List ℕ) → pieces 47 x ≡ e ∷ e ∷ [] → e ≡ [] → x ≡ 47 ∷ []
+lone x e h n = sym (unsplit-pieces x) ∙ (ap unsplit h ∙ ap (λ y. y ++ 47 ∷ (y ++ [])) n)
+
+unguarded : (x : List ℕ) (b : Bool) → x ≡ 47 ∷ [] → cond (b || not (starts_with_slashes x)) x (47 ∷ 46 ∷ x) ≡ 47 ∷ []
+unguarded x true e = e
+unguarded x false e = rw e refl
+
+-- the text on the left of an equation
+abbrev left_of : {x y : List ℕ} → x ≡ y → List ℕ
+left_of {x} e = x
+
+slash_normal : (s : Tests) (authority : Option (List ℕ)) → IsSpec s → normal_path s authority (47 ∷ []) ≡ 47 ∷ []
+unfolding normal_path dots is_dot_segment
+slash_normal s authority k =
+    let w = dots_whole s k (47 ∷ []) (slash_is_path s k) in
+    let x = left_of (pct_two s (47 ∷ []) [] refl) in
+    unguarded x (is_some authority) (lone x (left_of (pct_nil s)) (pieces-pct s (47 ∷ []) k w) (pct_nil s))
+
+abbrev root : Parts
+root = record { scheme = None; authority = None; path = 47 ∷ []; query = None; fragment = None }
+
+root_split : split_of (47 ∷ []) ≡ root
+unfolding split_of is_letter
+root_split = refl
+
+root_under : (s : Tests) (t : Parts) → IsSpec s → recompose (normal_form s (target t root)) ≡ prefix_in s true t ++ 47 ∷ []
+unfolding recompose target normal_form form
+root_under s t k =
+    let scheme = scheme_text (normal_form s t).scheme in
+    let authority = authority_text (normal_form s t).authority in
+    ap (λ p. scheme ++ (authority ++ (p ++ []))) (slash_normal s t.authority k) ∙ sym (append_assoc scheme authority (47 ∷ []))
+
+pub root_text : (s : Tests) (base : List ℕ) → IsSpec s → canonical s base (47 ∷ []) ≡ prefix_in s true (split_of base) ++ 47 ∷ []
+unfolding canonical
+root_text s base k = ap (λ r. recompose (normal_form s (target (split_of base) r))) root_split ∙ root_under s (split_of base) k
+
+-- before the base's path and query
+pub prefixed : (s : Tests) (base prefix : List ℕ) → IsSpec s → IsAbsolute s base
+    → prefix_in s true (split_of base) ++ 47 ∷ [] ≡ prefix ++ 47 ∷ []
+    → prefix ++ ((split_of base).path ++ marked 63 (split_of base).query) ≡ prepared s base
+unfolding prepared recompose normal_form form
+prefixed s base prefix k b e =
+    let same = append_cancel_right (prefix_in s true (split_of base)) prefix (47 ∷ []) e in
+    let eb = split_is s base b.0 k b.1 in
+    let t = split_of base in
+    let none : t.fragment ≡ None = rw eb (no_fragment b.0.fragment b.3) in
+    let tail = t.path ++ marked 63 t.query in
+    ap (λ p. p ++ tail) (sym same)
+    ∙ (append_assoc (scheme_text (normal_form s t).scheme) (authority_text (normal_form s t).authority) tail
+    ∙ ap (λ q. scheme_text (normal_form s t).scheme ++ (authority_text (normal_form s t).authority ++ (t.path ++ q)))
+    (sym (ap (λ f. marked 63 t.query ++ marked 35 f) none ∙ append-nil (marked 63 t.query))))
+  where
+    no_fragment : (o : Option (List ℕ)) → IsNone o → o ≡ None
+    no_fragment None i = refl
+    no_fragment (Some x) i = cc
+
+-- a text that a slice has room for is shown whole
+pub shown_whole : (stops : SliceText → ℕ) (a b : SliceText) (t : List ℕ) (r : Result (Unit {0}) Stop)
+    → Shows SlicePuts SliceHalts stops a t b r → a.taken ≡ [] → length t ≤ a.room → b.taken ≡ t
+shown_whole stops a b t (Ok x) h e l = h.appends.taken ∙ ap (λ z. z ++ t) e
+shown_whole stops a b t (Err x) h e l = absurd (omega (arith, h.stops_within.long, l, ap length e))
+
+-- what is written to a slice is the text, which is no longer
+pub written : {E : Type 0} (r : Result (Bor (List ℕ)) E) (t p : List ℕ) (room n : ℕ) → IfOk r (λ x. x.now ≡ t) → IsErr r ↔ (room < length t)
+    → t ≡ p → room ≡ n → MatchResult r (λ x. (x.now ≡ p) × (length x.now ≤ n)) (λ _. n < length p)
+written (Ok x) t p room n ok exact e h = (ok ∙ e, let no = exact.1 in grind (arith, no, ap length ok, h))
+written (Err x) t p room n ok exact e h = let long = exact.0 refl in omega (arith, long, ap length e, h)
