@@ -1,0 +1,4 @@
+pub mod CommandLemmas
+pub mod GroupLemmas
+pub mod MapLemmas
+pub mod ShareLemmas

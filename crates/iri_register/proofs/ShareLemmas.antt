@@ -1,0 +1,137 @@
+-- Live lines have an entry, and share it exactly where steps join their targets.
+use Rattle.std.proofs.Common.{◌≡◌, ◌↔◌, ℕ, zero, suc, ◌+◌, List, [], ◌∷◌, true, false, not, cond, bytes_eq, Option, Some, None}
+use Rattle.std.proofs.Common.{option_map, slice_get, refl, sym, ◌∙◌, ap, subst, arith}
+use Rattle.std.specs.Prelude.{IsSome}
+use Rattle.iri_grammar.specs.Classes.{Tests, IsSpec}
+use Rattle.iri_grammar.specs.Parts.{Fits, IsReference, IsAbsolute}
+use Rattle.iri_grammar.specs.Split.{split_of}
+use Rattle.iri_grammar.proofs.SplitUnique.{split_is}
+use Rattle.iri_resolve.specs.NormalForm.{canonical}
+use Rattle.iri_resolve.specs.Target.{target}
+use Rattle.iri_resolve.proofs.Confluence.{joined-exactly, texts-exactly}
+use Rattle.iri_resolve.proofs.TargetLaws.{target-fits}
+use Rattle.iri_register.specs.Entries.{Entry, place}
+use Rattle.iri_register.specs.Commands.{Command, Line, live, numbers, entries_of_commands}
+use Rattle.iri_register.specs.Shared.{Share, IsLive, line_of, TargetsJoin}
+use Rattle.iri_register.proofs.GroupLemmas.{same, is_same, without, grouped, entries_grouped}
+use Rattle.iri_register.proofs.MapLemmas.{none_is_some, some_same}
+
+-- ---- places
+
+one_less : (o : Option ℕ) (k : ℕ) → option_map (λ j. j + 1) o ≡ Some k → (j : ℕ) × (o ≡ Some j) × (k ≡ j + 1)
+one_less None k h = absurd (none_is_some h)
+one_less (Some j) k h = (j, refl, sym (some_same h))
+
+above_zero : (es : List Entry) (t : List ℕ) → place es t ≡ Some 0 → ⊥
+above_zero [] t h = none_is_some h
+above_zero (e ∷ es) t h =
+    elim (bytes_eq t e.target) as (λ b. cond b (Some 1) (option_map (λ j. j + 1) (place es t)) ≡ Some 0 → ⊥) [
+      | true ↦ λ m. let n : 1 ≡ 0 = some_same m in omega (arith, n)
+      | false ↦ λ m. let l = one_less (place es t) 0 m in omega (arith, l.2)
+    ] h
+
+-- one place has one target
+pub one_target : (es : List Entry) (t u : List ℕ) (k : ℕ) → place es t ≡ Some k → place es u ≡ Some k → t ≡ u
+one_target [] t u k h i = absurd (none_is_some h)
+one_target (e ∷ es) t u k h i =
+    elim (bytes_eq t e.target) as (λ b. bytes_eq t e.target ≡ b → cond b (Some 1) (option_map (λ j. j + 1) (place es t)) ≡ Some k → t ≡ u) [
+      | true ↦ λ a m.
+          elim (bytes_eq u e.target) as (λ b. bytes_eq u e.target ≡ b → cond b (Some 1) (option_map (λ j. j + 1) (place es u)) ≡ Some k
+          → t ≡ u) [
+            | true ↦ λ c n. is_same t e.target a ∙ sym (is_same u e.target c)
+            | false ↦ λ c n.
+                let l = one_less (place es u) k n in
+                let first : 1 ≡ k = some_same m in
+                let zero_at : l.0 ≡ 0 = omega (arith, l.2, first) in
+                absurd (above_zero es u (l.1 ∙ ap Some zero_at))
+          ] refl i
+      | false ↦ λ a m.
+          elim (bytes_eq u e.target) as (λ b. bytes_eq u e.target ≡ b → cond b (Some 1) (option_map (λ j. j + 1) (place es u)) ≡ Some k
+          → t ≡ u) [
+            | true ↦ λ c n.
+                let l = one_less (place es t) k m in
+                let first : 1 ≡ k = some_same n in
+                let zero_at : l.0 ≡ 0 = omega (arith, l.2, first) in
+                absurd (above_zero es t (l.1 ∙ ap Some zero_at))
+            | false ↦ λ c n.
+                let l = one_less (place es t) k m in
+                let r = one_less (place es u) k n in
+                let equal : r.0 ≡ l.0 = omega (arith, l.2, r.2) in
+                one_target es t u l.0 l.1 (r.1 ∙ ap Some equal)
+          ] refl i
+    ] refl h
+
+abbrev IsPlaced : List Entry → List ℕ → Type 0
+IsPlaced es t = (k : ℕ) × (place es t ≡ Some k)
+
+-- behind an entry
+placed_behind : (e : Entry) (es : List Entry) (t : List ℕ) → IsPlaced es t → IsPlaced (e ∷ es) t
+placed_behind e es t h =
+    elim (bytes_eq t e.target) as (λ b. (k : ℕ) × (cond b (Some 1) (option_map (λ j. j + 1) (place es t)) ≡ Some k)) [
+      | true ↦ (1, refl)
+      | false ↦ (h.0 + 1, ap (option_map (λ j. j + 1)) h.1)
+    ]
+
+-- another target's entry stays where one target is taken out
+placed_without : (t u : List ℕ) → bytes_eq t u ≡ false → (es : List Entry) (k : ℕ) → place es u ≡ Some k → IsPlaced (without t es) u
+placed_without t u h [] k p = absurd (none_is_some p)
+placed_without t u h (e ∷ es) k p =
+    elim (bytes_eq u e.target) as (λ b. bytes_eq u e.target ≡ b → cond b (Some 1) (option_map (λ j. j + 1) (place es u)) ≡ Some k
+    → IsPlaced (without t (e ∷ es)) u) [
+      | true ↦ λ a m.
+          let stays : bytes_eq t e.target ≡ false = subst (λ v. bytes_eq t v ≡ false) (is_same u e.target a) h in
+          rw (stays, a) (1, refl)
+      | false ↦ λ a m.
+          let l = one_less (place es u) k m in
+          let rest = placed_without t u h es l.0 l.1 in
+          elim (bytes_eq t e.target) as (λ b. IsPlaced (cond (not b) (e ∷ without t es) (without t es)) u) [
+            | true ↦ rest
+            | false ↦ placed_behind e (without t es) u rest
+          ]
+    ] refl p
+
+-- each line has an entry
+placed_line : (ls : List Line) (i : ℕ) (l : Line) → slice_get ls i ≡ Some l → IsPlaced (grouped ls) l.target
+placed_line [] i l h = absurd (none_is_some h)
+placed_line (m ∷ ls) zero l h = subst (λ (x : Line). IsPlaced (grouped (m ∷ ls)) x.target) (some_same h) (1, rw (same m.target) refl)
+placed_line (m ∷ ls) (suc i) l h =
+    let rest = placed_line ls i l h in
+    elim (bytes_eq m.target l.target) as (λ b. bytes_eq m.target l.target ≡ b → IsPlaced (grouped (m ∷ ls)) l.target) [
+      | true ↦ λ a. subst (λ t. IsPlaced (grouped (m ∷ ls)) t) (is_same m.target l.target a) (1, rw (same m.target) refl)
+      | false ↦ λ a. placed_behind (record { target = m.target; lines = m.number ∷ numbers m.target ls })
+          (without m.target (grouped ls)) l.target (placed_without m.target l.target a (grouped ls) rest.0 rest.1)
+    ] refl
+
+pub share_exactly : (cs : List Command) (l m : Line) → IsLive cs l → Share (entries_of_commands cs) l m ↔ (l.target ≡ m.target)
+share_exactly cs l m h =
+    let placed = placed_line (live cs) h.0 l h.1 in
+    let here = subst (λ es. IsPlaced es l.target) (sym (entries_grouped (live cs))) placed in (
+      λ s. one_target (entries_of_commands cs) l.target m.target s.0 s.1 s.2,
+      λ e. (here.0, here.1, subst (λ t. place (entries_of_commands cs) t ≡ Some here.0) e here.1),
+    )
+
+-- ---- targets
+
+targets_fit : (s : Tests) (base r : List ℕ) → IsSpec s → IsAbsolute s base → IsReference s r
+    → Fits s (target (split_of base) (split_of r)) × IsSome (target (split_of base) (split_of r)).scheme
+targets_fit s base r k b h = rw (split_is s base b.0 k b.1, split_is s r h.0 k h.1) (target-fits s b.0 h.0 b.1.fits b.2 h.1.fits)
+
+pub joined_texts : (s : Tests) (base q r : List ℕ) → IsSpec s → IsAbsolute s base → IsReference s q → IsReference s r
+    → (canonical s base q ≡ canonical s base r) ↔ TargetsJoin s base q r
+unfolding canonical
+joined_texts s base q r k b hq hr =
+    let t = target (split_of base) (split_of q) in
+    let u = target (split_of base) (split_of r) in
+    let f = targets_fit s base q k b hq in
+    let g = targets_fit s base r k b hr in
+    let texts = texts-exactly s t u k f.0 f.1 g.0 g.1 in
+    let joined = joined-exactly s t u k f.0 f.1 g.0 g.1 in
+    (λ e. joined.1 (texts.0 e), λ j. texts.1 (joined.0 j))
+
+pub share_joined : (s : Tests) (cs : List Command) (base q r : List ℕ) (m n : ℕ) → IsSpec s → IsAbsolute s base → IsReference s q
+    → IsReference s r → IsLive cs (line_of s base q m)
+    → Share (entries_of_commands cs) (line_of s base q m) (line_of s base r n) ↔ TargetsJoin s base q r
+share_joined s cs base q r m n k b hq hr h =
+    let shared = share_exactly cs (line_of s base q m) (line_of s base r n) h in
+    let texts = joined_texts s base q r k b hq hr in
+    (λ x. texts.0 (shared.0 x), λ j. shared.1 (texts.1 j))

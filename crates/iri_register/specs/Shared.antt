@@ -1,0 +1,25 @@
+-- Lines that share an entry.
+use Rattle.std.specs.Prelude.{◌≡◌, ℕ, List, Some, slice_get}
+use Rattle.iri_grammar.specs.Classes.{Tests}
+use Rattle.iri_grammar.specs.Split.{split_of}
+use Rattle.iri_resolve.specs.NormalForm.{canonical}
+use Rattle.iri_resolve.specs.Steps.{Joined}
+use Rattle.iri_resolve.specs.Target.{target}
+use Rattle.iri_register.specs.Entries.{Entry, place}
+use Rattle.iri_register.specs.Commands.{Command, Line, live}
+
+-- one entry has the targets of both lines
+abbrev pub Share : List Entry → Line → Line → Type 0
+Share es l m = (k : ℕ) × (place es l.target ≡ Some k) × (place es m.target ≡ Some k)
+
+-- the line is live after the commands
+abbrev pub IsLive : List Command → Line → Type 0
+IsLive cs l = (i : ℕ) × (slice_get (live cs) i ≡ Some l)
+
+-- the line that adds a reference against a base
+abbrev pub line_of : Tests → List ℕ → List ℕ → ℕ → Line
+line_of s base reference number = record { target = canonical s base reference; number = number }
+
+-- steps lead the targets of two references against a base to the same parts
+abbrev pub TargetsJoin : Tests → List ℕ → List ℕ → List ℕ → Type 0
+TargetsJoin s base q r = Joined s (target (split_of base) (split_of q)) (target (split_of base) (split_of r))

@@ -1,0 +1,27 @@
+//! A register of links: each canonical target once, in first-seen order, with the numbers of the lines it stood on.
+//!
+//! A [`Register`](register::Register) has a base, and is seen as the base's text and the list of its entries. An entry
+//! is a canonical target and the numbers of its lines. [`add`](register::Register::add) puts a line,
+//! [`remove`](register::Register::remove) takes an entry out, and [`find`](register::Register::find) tells an entry's
+//! place; each takes a reference, whose canonical text against the base is compared. [`len`](register::Register::len),
+//! [`target_at`](register::Register::target_at) and [`lines_at`](register::Register::lines_at) read the entries by
+//! place. `laws` has what the entries of a whole list of commands are.
+//!
+//! Proved: each call changes or reads the entries as its sentence says. A reference is refused exactly where it isn't
+//! valid, with its first fault, or where allocation failed, and it was valid then; the register is unchanged in both
+//! cases. No two entries have one target. After commands in turn the entries are the distinct targets of the lines that
+//! no later command took out, in the order of the first such line of each, each with the numbers of these lines. Two
+//! such lines share an entry exactly where steps join the targets of their references.
+//!
+//! Tested, not proved: that memory is allocated; the words of `RegisterError`'s `Display`, which `thiserror` makes. Not
+//! proved, and not tested: how long a call takes. The map's hasher has a fixed seed, so whoever picks the references
+//! can make their targets collide.
+#![tactic(auto)]
+
+pub mod added;
+mod entries;
+pub mod error;
+pub mod laws;
+pub mod register;
+#[cfg(test)]
+mod tests;

@@ -1,0 +1,166 @@
+//! A base, and entries by canonical target (RFC 3986 sections 5.2 and 6.2.2).
+ghost use Rattle.std.specs.Prelude.{◌≡◌, [], length, map, option_map, string_bytes};
+ghost use Rattle.std.specs.Prelude.{IfOk, MatchResult, None, OnErr, OnOk};
+ghost use Rattle.std.specs.List.{IsDistinct};
+ghost use Rattle.std.specs.Str.{bytes_eq};
+ghost use Rattle.iri_grammar.specs.Fault.{bytes_fault};
+ghost use Rattle.iri_grammar.specs.WholeFault.{reference_fault};
+ghost use Rattle.iri_types.specs.Texts.{text};
+ghost use Rattle.iri_resolve.specs.NormalForm.{canonical};
+ghost use Rattle.iri_register.specs.Entries.{added, removed, place, line_count, entry_at, IsAdded};
+ghost use Rattle.iri_register.specs.Refusals.{CausedBy};
+
+use crate::added::Added;
+use crate::entries::{self, Map};
+use crate::error::RegisterError;
+use indexmap::IndexMap;
+use iri_grammar::spec::Spec;
+use iri_owned::owned::RiAbsoluteString;
+use iri_resolve::resolver::FixedBaseResolver;
+use iri_text::try_append_to_string;
+use iri_types::split::SplitView;
+use iri_types::view::RiAbsoluteStr;
+use std::alloc::Global;
+use std::marker::Model;
+
+/// A base, and each canonical target once, in first-seen order, with the numbers of its lines.
+///
+/// References are bytes. Each is resolved against the base and put into normal form (RFC 3986 sections 5.2 and 6.2.2),
+/// and this canonical text is compared. Places count from 1.
+#[derive(Drop)]
+pub struct Register<S: Spec> {
+    alloc: Global,
+    base: RiAbsoluteString<S>,
+    map: IndexMap<String, Vec<u64>>,
+}
+
+impl<S: Spec> Model for Register<S> {
+    ghost use Rattle.iri_register.specs.Kept.{Kept};
+    ghost use Rattle.iri_register.specs.Listed.{listed};
+
+    ghost Value = { Kept };
+
+    ghost view = { λ r. record { base = r.base.text; entries = listed r.map } };
+}
+
+// The canonical target of a reference.
+fn target<S: Spec>(
+    alloc: Global,
+    base: RiAbsoluteStr<'_, S>,
+    reference: &[u8],
+) -> Result<String, RegisterError>
+    ensures causes { MatchResult result (λ _. bytes_fault (reference_fault S.tests) reference.now ≡ None)
+        (λ e. CausedBy e (bytes_fault (reference_fault S.tests) reference.now)) }
+    ensures text { IfOk result (λ t. string_bytes t ≡ canonical S.tests (text base.entry) reference.now) }
+{
+    match SplitView::try_from_bytes(reference) {
+        Ok(reference) => {
+            let mut text = String::new(alloc);
+            let resolver = FixedBaseResolver::new(base);
+            let canonical = resolver.resolve_split(&reference).and_normalize();
+            match try_append_to_string(&mut text, &canonical) {
+                Ok(()) => Ok(text),
+                Err(_) => Err(RegisterError::Memory),
+            }
+        }
+        Err(error) => Err(RegisterError::Bad(error)),
+    }
+}
+
+impl<S: Spec> Register<S> {
+    /// The register of a base, with no entries.
+    pub fn new(alloc: Global, base: RiAbsoluteString<S>) -> Self
+        ensures base { result.base ≡ base.text }
+        ensures entries { result.entries ≡ [] }
+    {
+        Register {
+            alloc,
+            base,
+            map: IndexMap::new(alloc),
+        }
+    }
+
+    /// The number of entries. It takes no memory.
+    pub fn len(&self) -> usize
+        ensures len { result ≡ length self.now.entries }
+        ensures once { IsDistinct bytes_eq (map (λ e. e.target) self.now.entries) }
+    {
+        entries::len(&self.map)
+    }
+
+    /// The place, from 1, of the entry that has the reference's canonical target; none exactly where no entry has it.
+    ///
+    /// Fails with the first fault of a reference that isn't valid, or where allocation failed.
+    pub fn find(&self, reference: &[u8]) -> Result<Option<usize>, RegisterError>
+        ensures causes { MatchResult result (λ _. bytes_fault (reference_fault S.tests) reference.now ≡ None)
+            (λ e. CausedBy e (bytes_fault (reference_fault S.tests) reference.now)) }
+        ensures answer { IfOk result (λ k. k ≡ place self.now.entries (canonical S.tests self.now.base reference.now)) }
+    {
+        match target(self.alloc, self.base.as_slice(), reference) {
+            Ok(target) => Ok(entries::find(&self.map, target.as_str())),
+            Err(error) => Err(error),
+        }
+    }
+
+    /// Puts a line: at the end of the lines of the entry that has the reference's canonical target, or into a new entry
+    /// at the end. All other entries stay.
+    ///
+    /// Fails with the first fault of a reference that isn't valid, or where allocation failed; the register is then
+    /// unchanged.
+    pub fn add(&mut self, reference: &[u8], line: u64) -> Result<Added, RegisterError>
+        ensures causes { MatchResult result (λ _. bytes_fault (reference_fault S.tests) reference.now ≡ None)
+            (λ e. CausedBy e (bytes_fault (reference_fault S.tests) reference.now)) }
+        ensures answer { IfOk result (IsAdded self.old.entries
+            (canonical S.tests self.old.base reference.now)) }
+        ensures entries { OnOk result (self.new.entries
+            ≡ added self.old.entries (canonical S.tests self.old.base reference.now) line) }
+        ensures base { self.new.base ≡ self.old.base }
+        ensures unchanged { OnErr result (self.new ≡ self.old) }
+    {
+        match target(self.alloc, self.base.as_slice(), reference) {
+            Ok(target) => match entries::add(self.alloc, &mut self.map, target, line) {
+                Ok(answer) => Ok(answer),
+                Err(_) => Err(RegisterError::Memory),
+            },
+            Err(error) => Err(error),
+        }
+    }
+
+    /// Takes out the entry that has the reference's canonical target, and tells how many lines it had; none exactly
+    /// where no entry has it. Later entries move up by one: a removal takes time in the number of entries behind the
+    /// one that goes.
+    ///
+    /// Fails with the first fault of a reference that isn't valid, or where allocation failed; the register is then
+    /// unchanged.
+    pub fn remove(&mut self, reference: &[u8]) -> Result<Option<usize>, RegisterError>
+        ensures causes { MatchResult result (λ _. bytes_fault (reference_fault S.tests) reference.now ≡ None)
+            (λ e. CausedBy e (bytes_fault (reference_fault S.tests) reference.now)) }
+        ensures answer { IfOk result (λ n. n
+            ≡ line_count self.old.entries (canonical S.tests self.old.base reference.now)) }
+        ensures entries { OnOk result (self.new.entries
+            ≡ removed self.old.entries (canonical S.tests self.old.base reference.now)) }
+        ensures base { self.new.base ≡ self.old.base }
+        ensures unchanged { OnErr result (self.new ≡ self.old) }
+    {
+        match target(self.alloc, self.base.as_slice(), reference) {
+            Ok(target) => Ok(entries::remove(&mut self.map, target.as_str())),
+            Err(error) => Err(error),
+        }
+    }
+
+    /// The target of the entry at a place from 1; none exactly where the place is 0 or more than the number of entries.
+    /// It takes no memory.
+    pub fn target_at(&self, place: usize) -> Option<&str>
+        ensures { option_map (λ t. t.now) result ≡ option_map (λ e. e.target) (entry_at self.now.entries place) }
+    {
+        entries::target_at(&self.map, place)
+    }
+
+    /// The numbers of the lines of the entry at a place from 1, in order; none exactly where the place is 0 or more
+    /// than the number of entries. It takes no memory.
+    pub fn lines_at(&self, place: usize) -> Option<&[u64]>
+        ensures { option_map (λ l. l.now) result ≡ option_map (λ e. e.lines) (entry_at self.now.entries place) }
+    {
+        entries::lines_at(&self.map, place)
+    }
+}
