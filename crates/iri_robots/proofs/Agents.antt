@@ -1,0 +1,73 @@
+-- Agents are ASCII.
+use Rattle.std.proofs.Common.{◌≡◌, ℕ, zero, suc, ◌+◌, ◌<◌, Bool, true, false, cond, ◌∷◌, List, [], Option, Some, None, take, refl}
+use Rattle.std.proofs.Common.{subst, sym, arith}
+use Rattle.std.specs.Prelude.{codes}
+use Rattle.std.specs.List.{prefix_len}
+use Rattle.std.specs.Str.{IsAscii, is_utf8, bytes_eq, str_eq_ignore_ascii_case}
+use Rattle.std.proofs.lemmas.Bool.Decides.{nat_tests}
+use Rattle.std.proofs.lemmas.Slice.Eq.{bytes_eq-Decides}
+use Rattle.iri_grammar.specs.Cut.{before, behind}
+use Rattle.iri_robots.specs.FileLines.{FileLine, AgentLine, RuleLine, OtherLine, agent_of, is_token_char, keyed, parted, line_of}
+use Rattle.iri_robots.specs.FileLines.{line_of_text, trimmed, without_mark}
+
+token_char_ascii : (c : ℕ) → is_token_char c ≡ true → c < 128
+token_char_ascii c h = grind (arith, nat_tests)
+
+nothing_ascii : IsAscii []
+nothing_ascii zero = omega arith
+nothing_ascii (suc i) = omega arith
+
+more_ascii : (x : ℕ) (t : List ℕ) → x < 128 → IsAscii t → IsAscii (x ∷ t)
+more_ascii x t h k zero = h
+more_ascii x t h k (suc i) = k i
+
+one_more : (n : ℕ) → suc n ≡ 1 + n
+one_more n = omega arith
+
+prefix_ascii : (t : List ℕ) → IsAscii (take (prefix_len is_token_char t) t)
+prefix_ascii [] = nothing_ascii
+prefix_ascii (x ∷ t) =
+    elim (is_token_char x) as (λ b. is_token_char x ≡ b → IsAscii (take (cond b (1 + prefix_len is_token_char t) 0) (x ∷ t))) [
+      | true ↦ λ e. subst (λ n. IsAscii (take n (x ∷ t))) (one_more (prefix_len is_token_char t))
+          (more_ascii x (take (prefix_len is_token_char t) t) (token_char_ascii x e) (prefix_ascii t))
+      | false ↦ λ e. nothing_ascii
+    ] refl
+
+star_ascii : IsAscii (codes "*")
+star_ascii = more_ascii 42 [] (omega arith) nothing_ascii
+
+agent_ascii : (value : List ℕ) → IsAscii (agent_of value)
+agent_ascii value =
+    elim (bytes_eq value (codes "*")) as (λ b. bytes_eq value (codes "*") ≡ b
+    → IsAscii (cond b value (take (prefix_len is_token_char value) value))) [
+      | true ↦ λ e. subst IsAscii (sym ((bytes_eq-Decides value (codes "*")).0 e)) star_ascii
+      | false ↦ λ e. prefix_ascii value
+    ] refl
+
+-- an agent of a line is ASCII
+abbrev HasAsciiAgent : FileLine → Type 0
+HasAsciiAgent (AgentLine a) = IsAscii a
+HasAsciiAgent (RuleLine b p) = Unit {0}
+HasAsciiAgent OtherLine = Unit {0}
+
+either_ascii : (b : Bool) (x y : FileLine) → HasAsciiAgent x → HasAsciiAgent y → HasAsciiAgent (cond b x y)
+either_ascii true x y h k = h
+either_ascii false x y h k = k
+
+keyed_ascii : (key value : List ℕ) → HasAsciiAgent (keyed key value)
+keyed_ascii key value =
+    either_ascii (str_eq_ignore_ascii_case key (codes "user-agent")) (AgentLine (agent_of value)) _ (agent_ascii value)
+    (either_ascii (str_eq_ignore_ascii_case key (codes "allow")) (RuleLine true value) _ tt
+    (either_ascii (str_eq_ignore_ascii_case key (codes "disallow")) (RuleLine false value) OtherLine tt tt))
+
+parted_ascii : (key : List ℕ) (value : Option (List ℕ)) → HasAsciiAgent (parted key value)
+parted_ascii key None = tt
+parted_ascii key (Some value) = keyed_ascii (trimmed key) (trimmed value)
+
+line_ascii : (line : List ℕ) → HasAsciiAgent (line_of line)
+line_ascii line =
+    let t = before 35 (without_mark line) in
+    either_ascii (is_utf8 line) (line_of_text t) OtherLine (parted_ascii (before 58 t) (behind 58 t)) tt
+
+pub agent_of_line : (line a : List ℕ) → AgentLine a ≡ line_of line → IsAscii a
+agent_of_line line a h = subst HasAsciiAgent (sym h) (line_ascii line)

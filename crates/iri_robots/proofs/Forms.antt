@@ -1,0 +1,277 @@
+-- The compared form, from the left.
+use Rattle.std.proofs.Common.{◌≡◌, ℕ, ◌<◌, ◌≤◌, Bool, true, false, ◌&&◌, ◌||◌, List, [], ◌∷◌, ◌++◌, Option, Some, None, length, drop}
+use Rattle.std.proofs.Common.{get_or, map}
+use Rattle.std.proofs.Common.{refl, sym, ◌∙◌, ap, subst, arith, append_assoc, append-nil}
+use Rattle.std.specs.Prelude.{◌==◌, ◌/◌, ◌%◌, nat_lt}
+use Rattle.std.specs.Char.{is_ascii_hexdigit, to_ascii_uppercase, encode_utf8}
+use lib.Utf8.{scalar}
+use Rattle.std.proofs.lemmas.Str.{encode_ascii}
+use Rattle.std.proofs.lemmas.Bool.Decides.{nat_tests}
+use Rattle.iri_grammar.specs.Classes.{uri_tests, unreserved, is_ascii_unreserved}
+use Rattle.iri_percent.specs.Units.{octet, octets, two_digits, first_char}
+use Rattle.iri_percent.specs.Triplets.{normal, as_it_is}
+use Rattle.iri_percent.specs.ByteForm.{all_written}
+use Rattle.iri_percent.specs.Mapping.{capital_hex, triplet, mapped}
+use Rattle.iri_percent.specs.NormalLaws.{decoded, unreserved_only}
+use Rattle.iri_percent.proofs.CaseLaws.{is_decoded}
+use Rattle.iri_percent.proofs.CharLaws.{normal-by_bytes}
+use Rattle.iri_percent.proofs.CharUnits.{units_stray}
+use Rattle.iri_percent.proofs.MapTexts.{mapped-low, mapped-high, mapped-triplet, capital_is_hex, first_digit, second_digit}
+use Rattle.iri_percent.proofs.MapTexts.{octet_of}
+use Rattle.iri_percent.proofs.NormalLaws.{normal_nil, normal_plain, normal_decoded, normal_kept}
+use Rattle.iri_percent.proofs.UnitLaws.{Spells, none, more, octets_triplet, char_first}
+use Rattle.iri_robots.specs.Compared.{compared}
+use Rattle.iri_robots.specs.inside.Fronts.{IsFront, written_text}
+use Rattle.iri_robots.specs.declared.compared.Written.TheVariants.{Char, Triplet}
+
+-- ---- what is decoded: the first octet alone tells it
+unreserved_ascii : (c : ℕ) → is_ascii_unreserved c ≡ true → c < 128
+unfolding is_ascii_unreserved
+unreserved_ascii c h = grind (arith, nat_tests)
+
+low_scalar : (c : ℕ) → c < 128 → scalar c ≡ true
+low_scalar c h = grind (arith, nat_tests)
+
+octet_decoded : (o : ℕ) (os : List ℕ) → is_ascii_unreserved o ≡ true → decoded uri_tests (o ∷ os) ≡ Some o
+unfolding unreserved
+octet_decoded o os h =
+    let l = unreserved_ascii o h in
+    let there : first_char (o ∷ os) ≡ Some o = ap (λ z. first_char (z ++ os)) (sym (encode_ascii o l)) ∙ char_first o os (low_scalar o l) in
+    ap (unreserved_only uri_tests) there ∙ (rw h refl)
+
+or_false : (b : Bool) → (b || false) ≡ b
+or_false true = refl
+or_false false = refl
+
+octet_kept : (o : ℕ) (os : List ℕ) → is_ascii_unreserved o ≡ false → decoded uri_tests (o ∷ os) ≡ None
+unfolding unreserved
+octet_kept o os n = at (decoded uri_tests (o ∷ os)) refl
+  where
+    at : (v : Option ℕ) → decoded uri_tests (o ∷ os) ≡ v → v ≡ None
+    at None e = refl
+    at (Some c) e =
+        let d = is_decoded uri_tests (o ∷ os) c e in
+        let free : is_ascii_unreserved c ≡ true = sym (or_false (is_ascii_unreserved c)) ∙ d.1 in
+        let w : o ∷ os ≡ c ∷ d.0.rest = d.0.split ∙ ap (λ z. z ++ d.0.rest) (encode_ascii c (unreserved_ascii c free)) in
+        let same : o ≡ c = cc in
+        let no : true ≡ false = sym free ∙ ap is_ascii_unreserved (sym same) ∙ n in
+        cc
+
+record Decodes (o c : ℕ) : Type 0 where
+  same : o ≡ c
+  free : is_ascii_unreserved o ≡ true
+
+decodes : (o : ℕ) (os : List ℕ) (c : ℕ) → decoded uri_tests (o ∷ os) ≡ Some c → Decodes o c
+decodes o os c h =
+    elim (is_ascii_unreserved o) as (λ b. is_ascii_unreserved o ≡ b → Decodes o c) [
+      | true ↦ λ e. let k : Some o ≡ Some c = sym (octet_decoded o os e) ∙ h in record { same = cc; free = e }
+      | false ↦ λ e. let k : None ≡ Some c = sym (octet_kept o os e) ∙ h in cc
+    ] refl
+
+keeps : (o : ℕ) (os : List ℕ) → decoded uri_tests (o ∷ os) ≡ None → is_ascii_unreserved o ≡ false
+keeps o os h =
+    elim (is_ascii_unreserved o) as (λ b. is_ascii_unreserved o ≡ b → b ≡ false) [
+      | true ↦ λ e. let k : Some o ≡ None = sym (octet_decoded o os e) ∙ h in cc
+      | false ↦ λ e. refl
+    ] refl
+
+-- ---- the form of a text, byte by byte
+pub compared_nil : compared [] ≡ []
+unfolding compared
+compared_nil = normal_nil uri_tests as_it_is
+
+compared_low : (x : ℕ) (xs : List ℕ) → x < 128 → (x == 37) ≡ false → compared (x ∷ xs) ≡ x ∷ compared xs
+unfolding compared
+compared_low x xs l n = ap (normal uri_tests as_it_is) (mapped-low x xs (low x l)) ∙ normal_plain uri_tests as_it_is x (mapped xs) n
+  where
+    low : (x : ℕ) → x < 128 → nat_lt x 128 ≡ true
+    low x l = grind (arith, nat_tests)
+
+compared_decoded : (a b : ℕ) (xs : List ℕ) → is_ascii_hexdigit a ≡ true → is_ascii_hexdigit b ≡ true
+    → is_ascii_unreserved (octet a b) ≡ true
+    → compared (37 ∷ a ∷ b ∷ xs) ≡ encode_utf8 (octet a b) ++ compared xs
+unfolding compared unreserved
+compared_decoded a b xs p q h =
+    let o = octet a b in
+    let l = unreserved_ascii o h in
+    let spell = more a b [] [] p q none in
+    ap (normal uri_tests as_it_is) (mapped-triplet a b xs p q)
+    ∙ normal_decoded uri_tests as_it_is o (37 ∷ a ∷ b ∷ []) (mapped xs) (low_scalar o l) (or_false (is_ascii_unreserved o) ∙ h)
+    (subst (λ os. Spells (37 ∷ a ∷ b ∷ []) os) (sym (encode_ascii o l)) spell)
+    ∙ ap (λ z. map as_it_is z ++ normal uri_tests as_it_is (mapped xs)) (encode_ascii o l)
+    ∙ ap (λ z. z ++ normal uri_tests as_it_is (mapped xs)) (sym (encode_ascii o l))
+
+kept_form : (a b : ℕ) (xs : List ℕ) → is_ascii_hexdigit a ≡ true → is_ascii_hexdigit b ≡ true → is_ascii_unreserved (octet a b) ≡ false
+    → normal uri_tests as_it_is (37 ∷ a ∷ b ∷ xs) ≡ 37 ∷ to_ascii_uppercase a ∷ to_ascii_uppercase b ∷ normal uri_tests as_it_is xs
+kept_form a b xs p q n =
+    normal_kept uri_tests as_it_is a b xs p q (ap (decoded uri_tests) (octets_triplet a b xs p q) ∙ octet_kept (octet a b) (octets xs) n)
+
+compared_kept : (a b : ℕ) (xs : List ℕ) → is_ascii_hexdigit a ≡ true → is_ascii_hexdigit b ≡ true → is_ascii_unreserved (octet a b) ≡ false
+    → compared (37 ∷ a ∷ b ∷ xs) ≡ 37 ∷ to_ascii_uppercase a ∷ to_ascii_uppercase b ∷ compared xs
+unfolding compared
+compared_kept a b xs p q n = ap (normal uri_tests as_it_is) (mapped-triplet a b xs p q) ∙ kept_form a b (mapped xs) p q n
+
+capital_stays : (n : ℕ) → n < 16 → to_ascii_uppercase (capital_hex n) ≡ capital_hex n
+capital_stays n h = grind (arith, nat_tests)
+
+past_kept : (x : ℕ) → 128 ≤ x → is_ascii_unreserved x ≡ false
+unfolding is_ascii_unreserved
+past_kept x h = grind (arith, nat_tests)
+
+compared_past : (x : ℕ) (xs : List ℕ) → 128 ≤ x → x < 256 → compared (x ∷ xs) ≡ triplet x ++ compared xs
+unfolding compared
+compared_past x xs h l =
+    let f = first_digit x l in
+    let s = second_digit x in
+    ap (normal uri_tests as_it_is) (mapped-high x xs (high x h))
+    ∙ kept_form (capital_hex (x / 16)) (capital_hex (x % 16)) (mapped xs) (capital_is_hex (x / 16) f) (capital_is_hex (x % 16) s)
+    (ap is_ascii_unreserved (octet_of x l) ∙ past_kept x h)
+    ∙ ap (λ z. 37 ∷ z ∷ to_ascii_uppercase (capital_hex (x % 16)) ∷ normal uri_tests as_it_is (mapped xs)) (capital_stays (x / 16) f)
+    ∙ ap (λ z. 37 ∷ capital_hex (x / 16) ∷ z ∷ normal uri_tests as_it_is (mapped xs)) (capital_stays (x % 16) s)
+  where
+    high : (x : ℕ) → 128 ≤ x → nat_lt x 128 ≡ false
+    high x h = grind (arith, nat_tests)
+
+-- ---- a stray `%`
+no_digit : (x : ℕ) → nat_lt x 128 ≡ false → is_ascii_hexdigit x ≡ false
+no_digit x h = grind (arith, nat_tests)
+
+and_false : (b : Bool) → (b && false) ≡ false
+and_false true = refl
+and_false false = refl
+
+-- what follows begins with no digit
+first_other : (a : ℕ) (t : List ℕ) → is_ascii_hexdigit a ≡ false → two_digits (a ∷ t) ≡ false
+first_other a [] h = refl
+first_other a (b ∷ t) h = ap (λ v. v && is_ascii_hexdigit b) h
+
+second_other : (a b : ℕ) (t : List ℕ) → is_ascii_hexdigit b ≡ false → two_digits (a ∷ b ∷ t) ≡ false
+second_other a b t h = ap (λ v. is_ascii_hexdigit a && v) h ∙ and_false (is_ascii_hexdigit a)
+
+no_digits_low : (a : ℕ) (xs : List ℕ) → two_digits (a ∷ xs) ≡ false → two_digits (a ∷ mapped xs) ≡ false
+no_digits_low a [] h = refl
+no_digits_low a (b ∷ xs) h =
+    elim (nat_lt b 128) as (λ v. nat_lt b 128 ≡ v → two_digits (a ∷ mapped (b ∷ xs)) ≡ false) [
+      | true ↦ λ e. ap (λ z. two_digits (a ∷ z)) (mapped-low b xs e) ∙ h
+      | false ↦ λ e. ap (λ z. two_digits (a ∷ z)) (mapped-high b xs e)
+          ∙ second_other a 37 (capital_hex (b / 16) ∷ capital_hex (b % 16) ∷ mapped xs) refl
+    ] refl
+
+no_digits : (xs : List ℕ) → two_digits xs ≡ false → two_digits (mapped xs) ≡ false
+no_digits [] h = refl
+no_digits (a ∷ xs) h =
+    elim (nat_lt a 128) as (λ v. nat_lt a 128 ≡ v → two_digits (mapped (a ∷ xs)) ≡ false) [
+      | true ↦ λ e. ap two_digits (mapped-low a xs e) ∙ no_digits_low a xs h
+      | false ↦ λ e. ap two_digits (mapped-high a xs e) ∙ first_other 37 (capital_hex (a / 16) ∷ capital_hex (a % 16) ∷ mapped xs) refl
+    ] refl
+
+compared_stray : (xs : List ℕ) → two_digits xs ≡ false → compared (37 ∷ xs) ≡ 37 ∷ compared xs
+unfolding compared
+compared_stray xs h =
+    let t = mapped xs in
+    ap (normal uri_tests as_it_is) (mapped-low 37 xs refl)
+    ∙ normal-by_bytes uri_tests as_it_is (37 ∷ t)
+    ∙ ap (all_written uri_tests as_it_is) (units_stray t (no_digits xs h))
+    ∙ ap (λ z. 37 ∷ z) (sym (normal-by_bytes uri_tests as_it_is t))
+
+-- ---- fronts
+pub front_low : (t : List ℕ) → 0 < length t → get_or t 0 0 < 128 → (get_or t 0 0 == 37) ≡ false → IsFront t (Char (get_or t 0 0)) 1
+front_low [] s l n = absurd (omega arith)
+front_low (x ∷ xs) s l n = record {
+  text = compared_low x xs l n ∙ ap (λ z. z ++ compared xs) (sym (encode_ascii x l));
+  within = omega arith;
+  some = omega arith;
+  digits = tt;
+}
+
+pub front_past : (t : List ℕ) (a b : ℕ) → 0 < length t → 128 ≤ get_or t 0 0 → get_or t 0 0 < 256 → a ≡ capital_hex (get_or t 0 0 / 16)
+    → b ≡ capital_hex (get_or t 0 0 % 16) → IsFront t (Triplet a b) 1
+front_past [] a b s h l e d = absurd (omega arith)
+front_past (x ∷ xs) a b s h l e d = record {
+  text = compared_past x xs h l ∙ ap (λ z. 37 ∷ z ∷ capital_hex (x % 16) ∷ compared xs) (sym e)
+      ∙ ap (λ z. 37 ∷ a ∷ z ∷ compared xs) (sym d);
+  within = omega arith;
+  some = omega arith;
+  digits = (small a (x / 16) e (first_digit x l), small b (x % 16) d (second_digit x));
+}
+  where
+    small : (a n : ℕ) → a ≡ capital_hex n → n < 16 → a < 128
+    small a n e h = subst (λ z. z < 128) (sym e) (below n h)
+      where
+        below : (n : ℕ) → n < 16 → capital_hex n < 128
+        below n h = grind (arith, nat_tests)
+
+-- no triplet begins
+pub front_stray : (t : List ℕ) → 0 < length t → get_or t 0 0 ≡ 37 → two_digits (drop 1 t) ≡ false → IsFront t (Char 37) 1
+front_stray [] s e h = absurd (omega arith)
+front_stray (x ∷ xs) s e h = subst (λ y. IsFront (y ∷ xs) (Char 37) 1) (sym e) (record {
+  text = compared_stray xs h ∙ ap (λ z. z ++ compared xs) (sym (encode_ascii 37 (omega arith)));
+  within = omega arith;
+  some = omega arith;
+  digits = tt;
+})
+
+pub front_decoded : (t : List ℕ) (c : ℕ) → 3 ≤ length t → get_or t 0 0 ≡ 37 → is_ascii_hexdigit (get_or t 1 0) ≡ true
+    → is_ascii_hexdigit (get_or t 2 0) ≡ true → decoded uri_tests (octets t) ≡ Some c → IsFront t (Char c) 3
+front_decoded [] c s e p q h = absurd (omega arith)
+front_decoded (x ∷ []) c s e p q h = absurd (omega arith)
+front_decoded (x ∷ a ∷ []) c s e p q h = absurd (omega arith)
+front_decoded (x ∷ a ∷ b ∷ xs) c s e p q h = subst (λ y. IsFront (y ∷ a ∷ b ∷ xs) (Char c) 3) (sym e) (at
+    (decodes (octet a b) (octets xs) c (ap (decoded uri_tests) (sym (octets_triplet a b xs p q))
+    ∙ ap (λ y. decoded uri_tests (octets (y ∷ a ∷ b ∷ xs))) (sym e) ∙ h)))
+  where
+    at : Decodes (octet a b) c → IsFront (37 ∷ a ∷ b ∷ xs) (Char c) 3
+    at d = record {
+      text = compared_decoded a b xs p q d.free ∙ ap (λ z. encode_utf8 z ++ compared xs) d.same;
+      within = omega arith;
+      some = omega arith;
+      digits = tt;
+    }
+
+capital_below : (a : ℕ) → is_ascii_hexdigit a ≡ true → to_ascii_uppercase a < 128
+capital_below a h = grind (arith, nat_tests)
+
+pub front_kept : (t : List ℕ) → 3 ≤ length t → get_or t 0 0 ≡ 37 → is_ascii_hexdigit (get_or t 1 0) ≡ true
+    → is_ascii_hexdigit (get_or t 2 0) ≡ true → decoded uri_tests (octets t) ≡ None
+    → IsFront t (Triplet (to_ascii_uppercase (get_or t 1 0)) (to_ascii_uppercase (get_or t 2 0))) 3
+front_kept [] s e p q h = absurd (omega arith)
+front_kept (x ∷ []) s e p q h = absurd (omega arith)
+front_kept (x ∷ a ∷ []) s e p q h = absurd (omega arith)
+front_kept (x ∷ a ∷ b ∷ xs) s e p q h = subst (λ y. IsFront (y ∷ a ∷ b ∷ xs) (Triplet (to_ascii_uppercase a) (to_ascii_uppercase b)) 3) (sym
+    e) (record {
+      text = compared_kept a b xs p q (keeps (octet a b) (octets xs) (ap (decoded uri_tests) (sym (octets_triplet a b xs p q))
+          ∙ ap (λ y. decoded uri_tests (octets (y ∷ a ∷ b ∷ xs))) (sym e) ∙ h));
+      within = omega arith;
+      some = omega arith;
+      digits = (capital_below a p, capital_below b q);
+    })
+
+-- where no two digits follow
+pub stray_short : (t : List ℕ) → length t < 3 → two_digits (drop 1 t) ≡ false
+stray_short [] l = refl
+stray_short (x ∷ []) l = refl
+stray_short (x ∷ a ∷ []) l = refl
+stray_short (x ∷ a ∷ b ∷ xs) l = absurd (omega arith)
+
+pub stray_first : (t : List ℕ) → is_ascii_hexdigit (get_or t 1 0) ≡ false → two_digits (drop 1 t) ≡ false
+stray_first [] h = refl
+stray_first (x ∷ []) h = refl
+stray_first (x ∷ a ∷ xs) h = first_other a xs h
+
+pub stray_second : (t : List ℕ) → is_ascii_hexdigit (get_or t 2 0) ≡ false → two_digits (drop 1 t) ≡ false
+stray_second [] h = refl
+stray_second (x ∷ []) h = refl
+stray_second (x ∷ a ∷ []) h = refl
+stray_second (x ∷ a ∷ b ∷ xs) h = second_other a b xs h
+
+-- ---- the text so far, and what is left
+pub form_goes_on : (t form rest form' rest' : List ℕ) (w : _) (n : ℕ) → compared t ≡ form ++ compared rest → IsFront rest w n
+    → form' ≡ form ++ written_text w
+    → rest' ≡ drop n rest → compared t ≡ form' ++ compared rest'
+form_goes_on t form rest form' rest' w n h f e d =
+    h ∙ ap (λ z. form ++ z) f.text ∙ sym (append_assoc form (written_text w) (compared (drop n rest)))
+    ∙ ap (λ z. z ++ compared (drop n rest)) (sym e) ∙ ap (λ z. form' ++ compared z) (sym d)
+
+pub form_ends : (t form rest : List ℕ) → compared t ≡ form ++ compared rest → length rest ≡ 0 → form ≡ compared t
+form_ends t form (x ∷ rest) h e = absurd (omega arith)
+form_ends t form [] h e = sym (h ∙ ap (λ z. form ++ z) compared_nil ∙ append-nil form)

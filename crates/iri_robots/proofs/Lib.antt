@@ -1,0 +1,9 @@
+pub mod Moves
+pub mod Parts
+pub mod Anchors
+pub mod Verdicts
+pub mod Runs
+pub mod Lines
+pub mod Forms
+pub mod Agents
+pub mod FormLaws

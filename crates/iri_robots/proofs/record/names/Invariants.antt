@@ -1,0 +1,7 @@
+use Rattle.std.proofs.Common.{◌≡◌, drop}
+use Rattle.iri_robots.specs.Stored.{record_texts}
+use Rattle.iri_robots.specs.Records.{is_named}
+use Rattle.iri_robots.proofs.record.names.Given as goal
+
+abbrev pub invariant-loop-record : goal.invariant-loop-record
+invariant-loop-record l = is_named l.name (record_texts l.records) ≡ is_named l.name (record_texts (drop l.record-index l.records))

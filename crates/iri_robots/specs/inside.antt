@@ -1,0 +1,6 @@
+-- What private contracts cite.
+pub mod Fits
+pub mod Reaching
+pub mod ReadLines
+pub mod BestRule
+pub mod Fronts

@@ -1,0 +1,116 @@
+// The form in which patterns and subjects are compared.
+ghost use Rattle.std.specs.Prelude.{◌≡◌, ◌<◌, ◌≤◌, ◌++◌, true, IfOk, OnOk, length, slice_index, string_bytes};
+ghost use Rattle.std.specs.Char.{is_ascii_hexdigit};
+ghost use Rattle.iri_grammar.specs.Characters.{percent_sign};
+ghost use Rattle.iri_percent.specs.Mapping.{capital_hex};
+ghost use Rattle.iri_robots.specs.Compared.{compared};
+ghost use Rattle.iri_robots.specs.inside.Fronts.{IsFront, HasAsciiDigits, written_text};
+
+use iri_grammar::spec::UriSpec;
+use iri_percent::character::decoded_char;
+use std::alloc::{AllocError, Global};
+
+// A character, or a triplet of these digits.
+#[derive(Clone, Copy)]
+enum Written {
+    Char(char),
+    Triplet(u8, u8),
+}
+
+// What so many bytes at the start of a text are written as.
+#[derive(Clone, Copy)]
+struct Front {
+    written: Written,
+    taken: usize,
+}
+
+fn capital_digit(value: u8) -> u8
+    requires { value < 16 }
+    ensures { result ≡ capital_hex value }
+{
+    if value < 10 {
+        b'0' + value
+    } else {
+        b'A' - 10 + value
+    }
+}
+
+// The front of a text that begins with a triplet.
+fn triplet_front(text: &[u8]) -> Front
+    requires { (3 ≤ length text.now) × (slice_index text.now 0 ≡ percent_sign)
+        × (is_ascii_hexdigit (slice_index text.now 1) ≡ true) × (is_ascii_hexdigit (slice_index text.now 2) ≡ true) }
+    ensures { IsFront text.now result.written result.taken }
+{
+    match decoded_char::<UriSpec>(text) {
+        Some(c) => Front {
+            written: Written::Char(c),
+            taken: 3,
+        },
+        None => Front {
+            written: Written::Triplet(text[1].to_ascii_uppercase(), text[2].to_ascii_uppercase()),
+            taken: 3,
+        },
+    }
+}
+
+// The front of a text that begins with a `%`.
+fn percent_front(text: &[u8]) -> Front
+    requires { (0 < length text.now) × (slice_index text.now 0 ≡ percent_sign) }
+    ensures { IsFront text.now result.written result.taken }
+{
+    if text.len() < 3 || !text[1].is_ascii_hexdigit() || !text[2].is_ascii_hexdigit() {
+        return Front {
+            written: Written::Char('%'),
+            taken: 1,
+        };
+    }
+    triplet_front(text)
+}
+
+fn front_of(text: &[u8]) -> Front
+    requires { 0 < length text.now }
+    ensures { IsFront text.now result.written result.taken }
+{
+    let first = text[0];
+    if first >= 128 {
+        return Front {
+            written: Written::Triplet(capital_digit(first / 16), capital_digit(first % 16)),
+            taken: 1,
+        };
+    }
+    if first == b'%' {
+        return percent_front(text);
+    }
+    Front {
+        written: Written::Char(char::from(first)),
+        taken: 1,
+    }
+}
+
+fn append(form: &mut String, written: Written) -> Result<(), AllocError>
+    requires { HasAsciiDigits written }
+    ensures { OnOk result (string_bytes form.new ≡ string_bytes form.old ++ written_text written) }
+{
+    match written {
+        Written::Char(c) => form.push(c),
+        Written::Triplet(high, low) => {
+            form.push('%')?;
+            form.push(char::from(high))?;
+            form.push(char::from(low))
+        }
+    }
+}
+
+// A text in the form in which it is compared.
+pub(crate) fn compared_form(alloc: Global, text: &[u8]) -> Result<String, AllocError>
+    ensures { IfOk result (λ form. string_bytes form ≡ compared text.now) }
+{
+    let mut form = String::with_capacity(alloc, text.len())?;
+    let mut rest = text;
+    while !rest.is_empty() {
+        let front = front_of(rest);
+        append(&mut form, front.written)?;
+        rest = &rest[front.taken..];
+    }
+    Ok(form)
+}

@@ -1,0 +1,29 @@
+//! Laws of the definitions: each function's contract is a law, and its body is empty.
+ghost use Rattle.std.specs.Prelude.{◌≡◌, ℕ, List, [], ◌∷◌, ◌++◌, codes};
+ghost use Rattle.iri_grammar.specs.Characters.{question_mark};
+ghost use Rattle.iri_robots.specs.Allowed.{IsAllowed};
+ghost use Rattle.iri_robots.specs.Compared.{compared};
+ghost use Rattle.iri_robots.specs.Patterns.{Matches};
+ghost use Rattle.iri_robots.specs.Records.{FileRule, FileRecord, rules_for};
+
+/// The question mark parts the compared forms of path and query.
+pub fn question_marks_part_forms()
+    ensures { (p q : List ℕ) → compared (p ++ question_mark ∷ q) ≡ compared p ++ question_mark ∷ compared q }
+{}
+
+/// Rules before the first user-agent line belong to no group.
+pub fn first_rules_are_of_no_group()
+    ensures { (token : List ℕ) (rule : FileRule) (records : List FileRecord)
+        → rules_for token (FileRecord.Judged rule ∷ records) ≡ rules_for token records }
+{}
+
+/// Without rules each text is allowed, and with any rules the robots file.
+pub fn what_is_allowed_always()
+    ensures no_rules { (text : List ℕ) → IsAllowed [] text }
+    ensures file { (rules : List FileRule) → IsAllowed rules (codes "/robots.txt") }
+{}
+
+/// An empty pattern matches nothing.
+pub fn empty_patterns_match_nothing()
+    ensures { (text : List ℕ) → Matches [] text → ⊥ }
+{}

@@ -1,0 +1,40 @@
+//! Robots rules (RFC 9309 section 2.2): whether a crawler may fetch what a reference stands for.
+//!
+//! [`Robots::new`] takes the product token of a crawler, [`Robots::feed_line`] the lines of a robots file, one after
+//! the other, without their line ends. [`subject_of`] gives what of a target the rules speak of, and
+//! [`Robots::verdict`] says what the lines so far say of it. [`matches`] is the test of one pattern. `laws` has what
+//! holds of the definitions.
+//!
+//! A line that isn't UTF-8, or has no key of a record, is ignored and ends nothing. U+FEFF that begins a line goes, and
+//! what follows its first `#`. Keys and agents are compared without case. The agent is `*`, or the longest prefix of
+//! the value that has only ASCII letters, `_` and `-`, so that a version behind it goes. A rule belongs to the run of
+//! user-agent lines before it. A pattern and a subject are compared mapped to URIs and in triplet normal form; a stray
+//! `%` stays.
+//!
+//! Proved: each call means its definition. `new` refuses exactly what is no product token. `feed_line` adds exactly the
+//! record of its line, and nothing after an allocation failure. A pattern matches exactly where the text, or without a
+//! `$` at its end a prefix of it, is a filling of the pattern. The verdict is allow exactly where the text is
+//! `/robots.txt`, where no rule for the token matches, or where an allow rule is among the longest that match; it takes
+//! no memory.
+//!
+//! Not proved: how long a search takes; it steps back to the last `*` alone, and a test has a thousand of them. That
+//! what takes memory gets it, which tests show with ample memory. The words of `RobotsError`'s `Display`, which
+//! `thiserror` makes, and the text of its `Debug`. The file is neither fetched nor kept, and lines are not cut out of
+//! it here.
+#![tactic(auto)]
+
+mod compared;
+pub mod laws;
+mod line;
+mod pattern;
+mod record;
+mod robots;
+mod rule;
+mod subject;
+
+pub use pattern::matches;
+pub use robots::{Robots, RobotsError, Verdict};
+pub use subject::subject_of;
+
+#[cfg(test)]
+mod tests;

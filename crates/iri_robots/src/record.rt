@@ -1,0 +1,109 @@
+// The records of a robots file, and the rules of its groups.
+ghost use Rattle.std.specs.Prelude.{◌≡◌, ◌↔◌, IfOk, true};
+ghost use Rattle.std.specs.Str.{IsAscii, str_eq_ignore_ascii_case};
+ghost use Rattle.iri_robots.specs.Compared.{compared};
+ghost use Rattle.iri_robots.specs.FileLines.{line_of};
+ghost use Rattle.iri_robots.specs.Records.{FileRecord, line_records, groups, is_named, rules_of, rules_for};
+ghost use Rattle.iri_robots.specs.Allowed.{IsAllowed};
+ghost use Rattle.iri_robots.specs.inside.BestRule.{IsBestOf};
+ghost use Rattle.iri_robots.specs.Stored.{record_text, record_texts, optional_record};
+
+use crate::compared::compared_form;
+use crate::line::{Said, read_line};
+use crate::rule::{Best, Rule, decides, judge};
+use std::alloc::{AllocError, Global};
+
+// A record of a robots file: the agent of a user-agent line, or the rule of an allow or disallow line.
+#[derive(Drop)]
+pub(crate) enum Record {
+    UserAgent(String),
+    Judged(Rule),
+}
+
+fn agent_record(alloc: Global, agent: &[u8]) -> Result<Record, AllocError>
+    requires { IsAscii agent.now }
+    ensures { IfOk result (λ r. record_text r ≡ FileRecord.UserAgent agent.now) }
+{
+    let agent = unsafe { str::from_utf8_unchecked(agent) };
+    Ok(Record::UserAgent(String::from_str(alloc, agent)?))
+}
+
+fn rule_record(alloc: Global, allows: bool, pattern: &[u8]) -> Result<Record, AllocError>
+    ensures { IfOk result (λ r. record_text r ≡ FileRecord.Judged (record {
+      allows = allows;
+      pattern = compared
+          pattern.now;
+    })) }
+{
+    let pattern = compared_form(alloc, pattern)?;
+    Ok(Record::Judged(Rule { allows, pattern }))
+}
+
+// The record of a line, where it has one.
+pub(crate) fn line_record(alloc: Global, line: &[u8]) -> Result<Option<Record>, AllocError>
+    ensures { IfOk result (λ r. optional_record r ≡ line_records (line_of line.now)) }
+{
+    match read_line(line) {
+        Said::UserAgent(agent) => Ok(Some(agent_record(alloc, agent)?)),
+        Said::Allow(pattern) => Ok(Some(rule_record(alloc, true, pattern)?)),
+        Said::Disallow(pattern) => Ok(Some(rule_record(alloc, false, pattern)?)),
+        Said::Nothing => Ok(None),
+    }
+}
+
+// An agent is equal to a name without case.
+fn is_agent(agent: &str, name: &str) -> bool
+    ensures { result ≡ str_eq_ignore_ascii_case agent.now name.now }
+{
+    agent.eq_ignore_ascii_case(name)
+}
+
+// Some record has this agent.
+fn names(name: &str, records: &[Record]) -> bool
+    ensures { result ≡ is_named name.now (record_texts records.now) }
+{
+    for record in records {
+        if let Record::UserAgent(agent) = record {
+            if is_agent(agent.as_str(), name) {
+                return true;
+            }
+        }
+    }
+    false
+}
+
+// What decides of the rules whose run has this agent.
+fn best_of(name: &str, records: &[Record], text: &[u8]) -> Option<Best>
+    ensures { IsBestOf (rules_of name.now (groups (record_texts records.now))) text.now result }
+{
+    let mut best = None;
+    let mut belongs = false;
+    let mut in_run = false;
+    for record in records {
+        match record {
+            Record::UserAgent(agent) => {
+                let named = is_agent(agent.as_str(), name);
+                belongs = named || (in_run && belongs);
+                in_run = true;
+            }
+            Record::Judged(rule) => {
+                if belongs {
+                    best = judge(best, rule, text);
+                }
+                in_run = false;
+            }
+        }
+    }
+    best
+}
+
+// The records allow the text to the crawler of this token.
+pub(crate) fn is_allowed(token: &str, records: &[Record], text: &[u8]) -> bool
+    ensures { (result ≡ true) ↔ IsAllowed (rules_for token.now (record_texts records.now)) text.now }
+{
+    if names(token, records) {
+        decides(best_of(token, records, text), text)
+    } else {
+        decides(best_of("*", records, text), text)
+    }
+}

@@ -1,0 +1,61 @@
+// Rules, and which of those that match decides.
+ghost use Rattle.std.specs.Prelude.{◌≡◌, ◌↔◌, ◌++◌, ◌∷◌, [], List, Option, true};
+ghost use Rattle.iri_robots.specs.Allowed.{IsAllowed};
+ghost use Rattle.iri_robots.specs.Records.{FileRule};
+ghost use Rattle.iri_robots.specs.inside.BestRule.{IsBestOf};
+ghost use Rattle.iri_robots.specs.Stored.{rule_text};
+
+use crate::pattern::matches;
+
+// A rule of a robots file: it allows or disallows what its pattern matches.
+#[derive(Drop)]
+pub(crate) struct Rule {
+    pub(crate) allows: bool,
+    pub(crate) pattern: String,
+}
+
+// The longest patterns that match have so many bytes, and an allow rule is among them or not.
+#[derive(Clone, Copy)]
+pub(crate) struct Best {
+    pub(crate) bytes: usize,
+    pub(crate) allows: bool,
+}
+
+// What decides with one rule more.
+pub(crate) fn judge(best: Option<Best>, rule: &Rule, text: &[u8]) -> Option<Best>
+    ensures { (rules : List FileRule) → IsBestOf rules text.now best
+        → IsBestOf (rules ++ rule_text rule.now ∷ []) text.now result }
+{
+    let pattern = rule.pattern.as_bytes();
+    if !matches(pattern, text) {
+        return best;
+    }
+    let bytes = pattern.len();
+    let allows = rule.allows;
+    let Some(old) = best else {
+        return Some(Best { bytes, allows });
+    };
+    if bytes < old.bytes {
+        return best;
+    }
+    if old.bytes < bytes {
+        return Some(Best { bytes, allows });
+    }
+    Some(Best {
+        bytes,
+        allows: allows || old.allows,
+    })
+}
+
+// The longest pattern decides, and an allow rule decides where patterns are equally long.
+pub(crate) fn decides(best: Option<Best>, text: &[u8]) -> bool
+    ensures { (rules : List FileRule) → IsBestOf rules text.now best → ((result ≡ true) ↔ IsAllowed rules text.now) }
+{
+    if text == b"/robots.txt".as_slice() {
+        return true;
+    }
+    match best {
+        Some(best) => best.allows,
+        None => true,
+    }
+}

@@ -1,0 +1,47 @@
+// What of a reference is matched against patterns.
+ghost use Rattle.std.specs.Prelude.{◌≡◌, ◌++◌, IfOk, OnOk, string_bytes};
+ghost use Rattle.iri_grammar.specs.OptionalSlices.{now_of};
+ghost use Rattle.iri_grammar.specs.Split.{split_of};
+ghost use Rattle.iri_types.specs.Texts.{text};
+ghost use Rattle.iri_robots.specs.Compared.{path_text, query_text, subject};
+
+use crate::compared::compared_form;
+use iri_grammar::spec::Spec;
+use iri_text::Text;
+use iri_types::view::RiStr;
+use std::alloc::{AllocError, Global};
+
+fn push_path(whole: &mut String, path: &str) -> Result<(), AllocError>
+    ensures { OnOk result (string_bytes whole.new ≡ string_bytes whole.old ++ path_text path.now) }
+{
+    if path.is_empty() {
+        whole.push('/')
+    } else {
+        whole.push_str(path)
+    }
+}
+
+fn push_query(whole: &mut String, query: Option<&str>) -> Result<(), AllocError>
+    ensures { OnOk result (string_bytes whole.new ≡ string_bytes whole.old ++ query_text (now_of query.entry)) }
+{
+    match query {
+        Some(query) => {
+            whole.push('?')?;
+            whole.push_str(query)
+        }
+        None => Ok(()),
+    }
+}
+
+/// What of a target the rules speak of (RFC 9309 section 2.2.2): its path, or `/` where it is empty, and behind it `?`
+/// and its query, where it has one. The text is mapped to URIs (RFC 3987 section 3.1) and in triplet normal form (RFC
+/// 3986 section 6.2.2). It fails on allocation failure alone.
+pub fn subject_of<S: Spec>(alloc: Global, target: RiStr<'_, S>) -> Result<Text, AllocError>
+    ensures { IfOk result (λ t. t ≡ subject (split_of (text target.entry))) }
+{
+    let mut whole = String::new(alloc);
+    push_path(&mut whole, target.path_str())?;
+    push_query(&mut whole, target.query_str())?;
+    let form = compared_form(alloc, whole.as_bytes())?;
+    Ok(Text::from_string(form))
+}
