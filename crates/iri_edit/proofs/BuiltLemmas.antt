@@ -1,6 +1,6 @@
 -- Parts without a fault make a text of the kind, and so does their normal form.
 use Rattle.std.proofs.Common.{◌≡◌, ℕ, Bool, true, false, cond, List, [], Option, Some, None, refl, sym, ◌∙◌, ap}
-use Rattle.std.specs.Prelude.{◌&&◌, ◌||◌, is_some, IsSome}
+use Rattle.std.specs.Prelude.{◌&&◌, ◌||◌, is_some}
 use Rattle.std.specs.Str.{chars, is_utf8}
 use Rattle.iri_grammar.specs.Authority.{is_authority}
 use Rattle.iri_grammar.specs.Classes.{Tests, IsSpec}
@@ -21,12 +21,11 @@ use Rattle.iri_grammar.specs.declared.error.ErrorKind.TheVariants.{InvalidQuery,
 use Rattle.iri_resolve.proofs.FormLaws.{form-fits}
 use Rattle.iri_percent.specs.Triplets.{pct}
 use Rattle.iri_resolve.specs.LowerCase.{lowered}
-use Rattle.iri_resolve.specs.NormalForm.{canonical, form, normal_form}
+use Rattle.iri_resolve.specs.NormalForm.{form, normal_form}
 use Rattle.iri_edit.specs.Built.{Given, built_fault, built_text, components_fault, given_authority, given_parts, or_empty}
 use Rattle.iri_edit.proofs.KindLemmas.{IsWhole}
 use Rattle.iri_grammar.proofs.FaultLaws.{neither}
 use Rattle.iri_resolve.proofs.NormalStepLemmas.{stands-still as same-some}
-use Rattle.iri_resolve.proofs.FormLaws.{own-target as target-same}
 use Rattle.iri_grammar.proofs.FaultLaws.{part-passed as there}
 
 empty_host : (s : Tests) → is_host s [] ≡ true
@@ -94,12 +93,6 @@ module _ (s : Tests) (k : IsSpec s) (refusal : Bool → Bool → Option ErrorKin
             (ap (λ b. allows b (is_some normal.fragment)) scheme ∙ (ap (λ b. allows (is_some g.scheme) b) fragment ∙ allowed))
         | false ↦ λ _. plain
       ] refl
-
--- ---- the normal form of a text with a scheme is its canonical text
-pub canonical-form : (s : Tests) (base t : List ℕ) → IsSome (split_of t).scheme
-    → canonical s base t ≡ recompose (normal_form s (split_of t))
-unfolding canonical
-canonical-form s base t i = ap (λ p. recompose (normal_form s p)) (target-same (split_of base) (split_of t) i)
 
 pub normal-built : (s : Tests) → IsSpec s → (g : Given) (t : List ℕ) → Fits s (given_parts g) → t ≡ recompose (given_parts g)
     → (g.normal && is_some g.scheme) ≡ true → recompose (normal_form s (split_of t)) ≡ built_text s g

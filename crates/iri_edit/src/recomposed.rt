@@ -12,9 +12,8 @@ ghost use Rattle.iri_resolve.specs.NormalForm.{normal_form};
 
 use iri_grammar::cutting::{cut_before, lacks};
 use iri_grammar::spec::Spec;
-use iri_resolve::canonical::write_canonical;
-use iri_resolve::resolver::FixedBaseResolver;
-use iri_types::split::SplitView;
+use iri_resolve::views::Normalize;
+use iri_text::ToStringFallible;
 use iri_types::view::RiStr;
 use std::alloc::{AllocError, Global};
 
@@ -91,19 +90,12 @@ pub(crate) fn keeps_rules(scheme: bool, authority: bool, path: &str) -> bool
     }
 }
 
-// The normal form of a URI: its canonical text against any base, since it has a scheme.
+// The normal form of a URI.
 pub(crate) fn normal_text<S: Spec>(alloc: Global, text: &str) -> Result<String, AllocError>
     requires { iri_fault S.tests text.now ≡ None }
     ensures { IfOk result (λ normal. string_bytes normal ≡ recompose (normal_form S.tests (split_of text.now))) }
 {
-    let iri = RiStr::<'_, S>::from_valid(text);
-    let resolver = FixedBaseResolver::new(iri.to_absolute());
-    let mut normal = String::new(alloc);
-    write_canonical(
-        alloc,
-        &mut normal,
-        &resolver,
-        &SplitView::of(iri.as_reference()),
-    )?;
-    Ok(normal)
+    RiStr::<'_, S>::from_valid(text)
+        .normalize()
+        .try_to_string(alloc)
 }

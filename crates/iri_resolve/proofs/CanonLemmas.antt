@@ -4,10 +4,10 @@ use Rattle.std.specs.Prelude.{IfOk, MatchResult}
 use Rattle.std.specs.Str.{is_utf8}
 use Rattle.iri_grammar.specs.Classes.{Tests, IsSpec}
 use Rattle.iri_grammar.specs.Fault.{bytes_fault}
-use Rattle.iri_grammar.proofs.FaultLaws.{absolute-law, reference-law, iri-law}
+use Rattle.iri_grammar.proofs.FaultLaws.{absolute-law, reference-law}
 use Rattle.iri_grammar.specs.Parts.{Parts, IsAbsolute, IsReference, recompose}
 use Rattle.iri_grammar.specs.Split.{split_of}
-use Rattle.iri_grammar.specs.WholeFault.{absolute_fault, reference_fault, iri_fault}
+use Rattle.iri_grammar.specs.WholeFault.{absolute_fault, reference_fault}
 use Rattle.iri_grammar.specs.declared.error.ErrorKind.{ErrorKind}
 use Rattle.iri_grammar.specs.declared.error.ErrorKind.TheVariants.{InvalidUtf8}
 use Rattle.iri_owned.specs.OwnedText.{OwnedText}
@@ -28,11 +28,6 @@ absolute s l b h = (absolute-law s l b).0 h
 
 reference : (s : Tests) → IsSpec s → (r : List ℕ) → reference_fault s r ≡ None → IsReference s r
 reference s l r h = (reference-law s l r).0 h
-
--- it is a URI of the spec
-pub canonical_valid : (s : Tests) → IsSpec s → (b r : List ℕ) → absolute_fault s b ≡ None → reference_fault s r ≡ None
-    → iri_fault s (canonical s b r) ≡ None
-canonical_valid s l b r hb hr = (iri-law s l (canonical s b r)).1 (canonical-iri s b r l (absolute s l b hb) (reference s l r hr))
 
 pub fault_none : (f : List ℕ → Option ErrorKind) (bs : List ℕ) → bytes_fault f bs ≡ None → f bs ≡ None
 fault_none f bs = elim (is_utf8 bs) as (λ b. cond b (f bs) (Some InvalidUtf8) ≡ None → f bs ≡ None) [ true ↦ λ h. h | false ↦ λ h. cc ]

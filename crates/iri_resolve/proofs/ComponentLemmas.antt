@@ -1,5 +1,5 @@
 -- Steps from a component to its normal form.
-use Rattle.std.proofs.Common.{◌≡◌, ℕ, ◌+◌, ◌*◌, ◌-◌, ◌<◌, ◌≤◌, Bool, true, false, cond, ◌&&◌, List, [], ◌∷◌, ◌++◌, Some, None, length}
+use Rattle.std.proofs.Common.{◌≡◌, ℕ, ◌+◌, ◌*◌, ◌<◌, Bool, true, false, cond, ◌&&◌, List, [], ◌∷◌, ◌++◌, Some, None, length}
 use Rattle.std.proofs.Common.{refl, sym, ◌∙◌, ap, subst, arith, append_assoc, append-nil, length-append, ◌≢◌}
 use Rattle.std.specs.Prelude.{◌==◌, drop, slice_index}
 use Rattle.std.specs.Char.{is_ascii_hexdigit, is_ascii_uppercase, to_ascii_lowercase, to_ascii_uppercase, encode_utf8, len_utf8}

@@ -147,7 +147,7 @@ length-path s a p k h =
     ≤ length p + 2) [ true ↦ omega arith | false ↦ omega arith ]
 
 -- ---- the parts
-length-parts : (p : Parts) → length (recompose p) ≡ length (scheme_text p.scheme)
+pub length-parts : (p : Parts) → length (recompose p) ≡ length (scheme_text p.scheme)
     + (length (authority_text p.authority) + (length p.path + (length (marked 63 p.query) + length (marked 35 p.fragment))))
 unfolding recompose
 length-parts p =
@@ -160,11 +160,11 @@ length-parts p =
       length-append (marked 63 p.query) (marked 35 p.fragment),
     )
 
-length-scheme : (o : Option (List ℕ)) → length (scheme_text (where_there lowered o)) ≤ length (scheme_text o)
+pub length-scheme : (o : Option (List ℕ)) → length (scheme_text (where_there lowered o)) ≤ length (scheme_text o)
 length-scheme None = omega arith
 length-scheme (Some x) = omega (arith, length-append (lowered x) (58 ∷ []), length-append x (58 ∷ []), length-lower x)
 
-length-authorities : (s : Tests) (o : Option (List ℕ)) → IsSpec s → if_there (is_authority s) o ≡ true
+pub length-authorities : (s : Tests) (o : Option (List ℕ)) → IsSpec s → if_there (is_authority s) o ≡ true
     → length (authority_text (where_there (normal_authority s) o)) ≤ length (authority_text o)
 length-authorities s None k h = omega arith
 length-authorities s (Some x) k h = let l = length-authority s x k h in omega arith

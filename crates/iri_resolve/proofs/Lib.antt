@@ -9,6 +9,7 @@ pub mod WriterLemmas
 pub mod FormLemmas
 pub mod ModeLemmas
 pub mod BeginLemmas
+pub mod Borrowed
 pub mod CanonLemmas
 pub mod DotLemmas
 pub mod Edits

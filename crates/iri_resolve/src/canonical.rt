@@ -1,7 +1,7 @@
 //! Canonical texts (RFC 3986 sections 5.2 and 6.2.2, RFC 3987 section 5.3.2).
-ghost use Rattle.std.specs.Prelude.{◌≡◌, None, IfOk, MatchResult, OnOk, string_bytes};
+ghost use Rattle.std.specs.Prelude.{◌≡◌, None, IfOk, MatchResult};
 ghost use Rattle.iri_grammar.specs.Fault.{bytes_fault};
-ghost use Rattle.iri_grammar.specs.WholeFault.{absolute_fault, iri_fault, reference_fault};
+ghost use Rattle.iri_grammar.specs.WholeFault.{absolute_fault, reference_fault};
 ghost use Rattle.iri_text.specs.Shown.{Shows};
 ghost use Rattle.iri_types.specs.SplitText.{split_text};
 ghost use Rattle.iri_types.specs.Texts.{text};
@@ -13,11 +13,11 @@ use crate::resolver::FixedBaseResolver;
 use iri_grammar::error::Error as GrammarError;
 use iri_grammar::spec::Spec;
 use iri_owned::owned::RiString;
-use iri_text::{Show, Stop, TextSink, ToDedicatedString, try_append_to_string};
+use iri_text::{Show, Stop, TextSink, ToDedicatedString};
 use iri_types::kind::Reference;
 use iri_types::split::SplitView;
 use iri_types::view::RiAbsoluteStr;
-use std::alloc::{AllocError, Global};
+use std::alloc::Global;
 use thiserror::Error;
 
 /// Why there is no canonical text.
@@ -45,22 +45,6 @@ pub fn show_canonical<'a, S: Spec, W: TextSink>(
         (canonical S.tests (base_text resolver.now) (split_text reference.now)) sink.new result }
 {
     resolver.resolve_split(reference).and_normalize().show(sink)
-}
-
-/// Writes the canonical text of a reference against a resolver's base, a URI of `S`, in place of what the buffer holds. Want of
-/// memory is the only error; the buffer then holds any text.
-pub fn write_canonical<'a, S: Spec>(
-    _alloc: Global,
-    buffer: &mut String,
-    resolver: &FixedBaseResolver<'a, S>,
-    reference: &SplitView<'a, S, Reference>,
-) -> Result<(), AllocError>
-    ensures text { OnOk result (string_bytes buffer.new
-        ≡ canonical S.tests (base_text resolver.now) (split_text reference.now)) }
-    ensures valid { OnOk result (iri_fault S.tests (string_bytes buffer.new) ≡ None) }
-{
-    buffer.clear();
-    try_append_to_string(buffer, &resolver.resolve_split(reference).and_normalize())
 }
 
 // The canonical text of bytes against a base.
@@ -102,6 +86,3 @@ pub fn canonicalize<S: Spec>(
         Err(error) => Err(CanonError::BadBase(error)),
     }
 }
-
-#[cfg(test)]
-mod tests;

@@ -100,10 +100,8 @@ fn has_dots_by_pairs(path: &[u8]) -> bool
 fn behind_slash(path: &[u8]) -> Option<&[u8]>
     ensures { now_of result ≡ behind slash path.now }
 {
-    match memchr(b'/', path) {
-        Some(i) => Some(&path[i + 1..]),
-        None => None,
-    }
+    let i = memchr(b'/', path)?;
+    Some(&path[i + 1..])
 }
 
 // The same; a path that `memchr` takes in blocks, of 32 bytes or more, is searched from slash to slash.

@@ -16,9 +16,6 @@ use crate::views::Normalize;
 use iri_grammar::spec::Spec;
 use iri_types::view::View;
 
-#[cfg(test)]
-mod tests;
-
 /// Texts that may be in normal form. Nothing here takes memory.
 pub trait IsNormalized: Sized {
     /// The bytes of the text.

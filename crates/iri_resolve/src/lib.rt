@@ -47,8 +47,6 @@ mod path_writer;
 mod prefix;
 pub mod replay;
 pub mod resolver;
-#[cfg(test)]
-mod rewriting;
 pub mod step;
 pub mod step_list;
 mod step_text;

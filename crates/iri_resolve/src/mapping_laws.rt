@@ -14,9 +14,6 @@ use iri_text::ToDedicatedString;
 use iri_types::view::{RiAbsoluteStr, RiReferenceStr};
 use std::alloc::{AllocError, Global};
 
-#[cfg(test)]
-mod tests;
-
 // The canonical text, mapped.
 fn canonical_mapped<S: Spec>(
     alloc: Global,

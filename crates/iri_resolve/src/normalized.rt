@@ -158,6 +158,3 @@ impl<S: Spec, K: NormalKind> ToDedicatedString for NormalizedText<'_, S, K> {
         Ok(Owned::from_valid(text))
     }
 }
-
-#[cfg(test)]
-mod tests;

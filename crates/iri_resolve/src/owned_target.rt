@@ -57,16 +57,6 @@ fn copied(alloc: Global, part: Option<&str>) -> Result<Option<String>, AllocErro
     }
 }
 
-// A part that may stand, borrowed.
-fn lent(part: &Option<String>) -> Option<&str>
-    ensures { now_of result ≡ bytes_of part.now }
-{
-    match part {
-        Some(part) => Some(part.as_str()),
-        None => None,
-    }
-}
-
 // The path in one text.
 fn joined(alloc: Global, front: &str, path: &str) -> Result<String, AllocError>
     ensures { IfOk result (λ text. string_bytes text ≡ front.now ++ path.now) }
@@ -76,6 +66,7 @@ fn joined(alloc: Global, front: &str, path: &str) -> Result<String, AllocError>
     Ok(text)
 }
 
+#[tactic(auto, using(crate::proofs::Borrowed::borrowed))]
 impl<S: Spec> Target<S> {
     // Copies of slices that fit and have a scheme.
     pub(crate) fn of(alloc: Global, parts: &TargetSlices<'_>) -> Result<Self, AllocError>
@@ -106,17 +97,18 @@ impl<S: Spec> Target<S> {
     {
         TargetSlices {
             scheme: Some(self.scheme.as_str()),
-            authority: lent(&self.authority),
+            authority: self.authority.as_deref(),
             front: "",
             path: self.path.as_str(),
-            query: lent(&self.query),
-            fragment: lent(&self.fragment),
+            query: self.query.as_deref(),
+            fragment: self.fragment.as_deref(),
         }
     }
 
-    /// The scheme, without its colon.
+    /// The scheme, without its colon. The parts fit the grammar of `S`.
     pub fn scheme(&self) -> &str
-        ensures { Some result.now ≡ self.now.scheme }
+        ensures scheme { Some result.now ≡ self.now.scheme }
+        ensures fits { Fits S.tests self.now }
     {
         self.scheme.as_str()
     }
@@ -125,7 +117,7 @@ impl<S: Spec> Target<S> {
     pub fn authority(&self) -> Option<&str>
         ensures { now_of result ≡ self.now.authority }
     {
-        lent(&self.authority)
+        self.authority.as_deref()
     }
 
     /// The path, which may be empty.
@@ -139,13 +131,13 @@ impl<S: Spec> Target<S> {
     pub fn query(&self) -> Option<&str>
         ensures { now_of result ≡ self.now.query }
     {
-        lent(&self.query)
+        self.query.as_deref()
     }
 
     /// The fragment, without its number sign; none exactly where no number sign stands.
     pub fn fragment(&self) -> Option<&str>
         ensures { now_of result ≡ self.now.fragment }
     {
-        lent(&self.fragment)
+        self.fragment.as_deref()
     }
 }

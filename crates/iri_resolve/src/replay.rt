@@ -57,6 +57,3 @@ pub fn replay<S: Spec>(
     }
     Ok(reached)
 }
-
-#[cfg(test)]
-mod tests;

@@ -166,6 +166,3 @@ impl<'a, S: Spec> FixedBaseResolver<'a, S> {
         Target::of(alloc, &self.slices(&SplitView::of(reference)))
     }
 }
-
-#[cfg(test)]
-mod tests;

@@ -56,6 +56,3 @@ impl fmt::Display for Step {
         FormatSink::new(f).display(self)
     }
 }
-
-#[cfg(test)]
-mod tests;

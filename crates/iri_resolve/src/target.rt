@@ -1,7 +1,6 @@
 // The target of a reference against a base.
 ghost use Rattle.std.specs.Prelude.{◌≡◌, ◌++◌, ◌||◌, cond, is_some, None, true, MatchOption};
 ghost use Rattle.iri_grammar.specs.Parts.{starts_with_slash};
-ghost use Rattle.memchr.specs.Find.{IsLastByte, is_byte};
 ghost use Rattle.iri_grammar.specs.Splitters.{parts};
 ghost use Rattle.iri_grammar.specs.OptionalSlices.{now_of};
 ghost use Rattle.iri_resolve.specs.Target.{takes_base_path, target, target_under, to_last_slash, merge_prefix};
@@ -24,17 +23,11 @@ pub struct TargetSlices<'a> {
 }
 
 // Where the last slash stands.
-fn rfind(path: &str) -> Option<usize>
-    ensures { IsLastByte (is_byte slash) path.now result }
-{
-    memrchr(b'/', path.as_bytes())
-}
-
 #[tactic(auto, using(crate::proofs::SlashLemmas::found))]
 pub(crate) fn last_slash(path: &str) -> Option<usize>
     ensures { MatchOption result (NoSlash path.now) (λ k. LastSlash path.now k) }
 {
-    rfind(path)
+    memrchr(b'/', path.as_bytes())
 }
 
 // The path up to and with its last slash, or nothing where it has none.

@@ -1,5 +1,5 @@
 -- Where a byte of a text stands among its triplets, told by the bytes before it.
-use Rattle.std.proofs.Common.{ℕ, ◌-◌, Bool, ◌&&◌, List, []}
+use Rattle.std.proofs.Common.{ℕ, ◌-◌, Bool, ◌&&◌, List}
 use Rattle.std.specs.Prelude.{◌==◌, nat_le, slice_index}
 
 -- a `%` stands n bytes before i

@@ -1,15 +1,19 @@
-use Rattle.std.proofs.Common.{◌≡◌, ◌∙◌, ap}
-use Rattle.iri_grammar.proofs.KindLaws.{iri-has_scheme}
-use Rattle.iri_resolve.specs.NormalForm.{canonical}
-use Rattle.iri_resolve.specs.Resolver.{base_text}
-use Rattle.iri_edit.proofs.BuiltLemmas.{canonical-form}
+use Rattle.std.proofs.Common.{◌≡◌, ◌∙◌, ap, subst, false, List, ℕ}
+use Rattle.std.specs.Prelude.{IfOk, string_bytes}
+use Rattle.iri_grammar.specs.Parts.{recompose}
+use Rattle.iri_grammar.specs.Split.{split_of}
+use Rattle.iri_resolve.specs.Normalized.{Written, written_text}
+use Rattle.iri_resolve.specs.declared.mode.Mode.TheVariants.{Normal}
+use Rattle.iri_resolve.proofs.ModeLaws.{normal-form}
 use Rattle.iri_edit.proofs.recomposed.normal_text.Goals as goal
+
+abbrev in_normal_form : List ℕ → Written
+in_normal_form text = record { parts = split_of text; whole = false; mode = Normal }
 
 pub returns : goal.returns
 returns g c =
     let s = g.S.Spec.tests in
-    let same = c.of.ensures ∙ (c.as_reference.ensures ∙ c.from_valid-iri.ensures) in
-    c.in_ok-write_canonical.ensures.text
-    ∙ (ap (canonical s (base_text c.new-resolver.result)) same
-    ∙ canonical-form s (base_text c.new-resolver.result) c.args.text.now
-    (iri-has_scheme s g.met.S.Spec.lawful c.args.text.now c.requires))
+    subst (λ t. IfOk c.try_to_string.result (λ normal. string_bytes normal ≡ t))
+    (ap (written_text s) (c.normalize.ensures ∙ ap in_normal_form c.from_valid.ensures)
+    ∙ ap recompose (normal-form s false (split_of c.args.text.now)))
+    c.try_to_string.ensures

@@ -1,6 +1,6 @@
-use Rattle.std.proofs.Common.{◌≡◌, [], ◌∷◌, ◌++◌, ◌+◌, ◌≤◌, sym, ◌∙◌, ap, arith}
+use Rattle.std.proofs.Common.{[], ◌∷◌, ◌++◌, sym, ◌∙◌, ap, arith}
 use Rattle.std.specs.Prelude.{◌&&◌, slice_index}
-use Rattle.std.specs.Char.{is_ascii_uppercase, len_utf8}
+use Rattle.std.specs.Char.{is_ascii_uppercase}
 use Rattle.iri_percent.proofs.Changes.{triplet_room}
 use Rattle.iri_resolve.specs.inside.ComponentSteps.{letter_steps}
 use Rattle.iri_resolve.proofs.ComponentLemmas.{at-plain, at-triplet, at-decoded, apart}

@@ -1,6 +1,6 @@
 use Rattle.std.proofs.Common.{◌&&◌, sym, ◌∙◌, ap}
 use Rattle.std.specs.Prelude.{not}
-use Rattle.iri_grammar.specs.Cut.{before, behind}
+use Rattle.iri_grammar.specs.Cut.{before}
 use Rattle.iri_grammar.specs.Parts.{is_empty, starts_with_slash}
 use Rattle.iri_grammar.specs.OptionalSlices.{now_of}
 use Rattle.iri_resolve.specs.DotRemoval.{is_two_dots}

@@ -1,4 +1,4 @@
-use Rattle.std.proofs.Common.{◌≡◌, sym, ◌∙◌, ap, subst}
+use Rattle.std.proofs.Common.{sym, ◌∙◌, ap, subst}
 use Rattle.iri_grammar.specs.Authority.{FitsAuthority}
 use Rattle.iri_grammar.specs.Components.{if_there, is_userinfo}
 use Rattle.iri_grammar.specs.Host.{is_host}

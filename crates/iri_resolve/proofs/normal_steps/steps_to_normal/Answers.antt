@@ -33,7 +33,7 @@ returns g c =
     let s = g.S.Spec.tests in
     let stands : c.is_some-stands.result ≡ is_some c.args.target.now.authority =
     c.is_some-stands.ensures ∙ sym (is_some-now_of c.authority-2.result) ∙ ap is_some c.authority-2.ensures in
-    all-led s c.args.target.now c.scheme.result.now c.is_some-stands.result c.push_scheme.new.steps c.push_authority_there.new.steps c.push_path.new.steps c.push_triplets.new.steps c.push_triplets-2.new.steps g.met.S.Spec.lawful c.slices-valid.ensures.fits c.scheme.ensures stands
+    all-led s c.args.target.now c.scheme.result.now c.is_some-stands.result c.push_scheme.new.steps c.push_authority_there.new.steps c.push_path.new.steps c.push_triplets.new.steps c.push_triplets-2.new.steps g.met.S.Spec.lawful c.slices-valid.ensures.fits c.scheme.ensures.scheme stands
     (subst (λ l. SchemeLed s c.scheme.result.now l c.push_scheme.new.steps) c.new-steps.ensures c.in_ok-push_scheme.ensures)
     (subst (λ o. AuthorityLed s o c.push_scheme.new.steps c.push_authority_there.new.steps) c.authority.ensures c.in_ok-push_authority_there.ensures)
     (subst (λ p. PathLed s c.is_some-stands.result p c.push_authority_there.new.steps c.push_path.new.steps) c.path.ensures c.in_ok-push_path.ensures)

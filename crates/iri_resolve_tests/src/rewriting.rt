@@ -1,7 +1,7 @@
 // Paths against the rewriting of RFC 3986 section 5.2.4, done step by step.
-use crate::normalized::Normalized;
-use crate::resolver::FixedBaseResolver;
 use iri_grammar::spec::UriSpec;
+use iri_resolve::normalized::Normalized;
+use iri_resolve::resolver::FixedBaseResolver;
 use iri_text::{ToStringFallible, write_to_slice};
 use iri_types::view::{UriAbsoluteStr, UriReferenceStr};
 use std::alloc::{AllocError, Global};

@@ -1,4 +1,4 @@
-use super::canonicalize_commutes_with_mapping;
+use iri_resolve::mapping_laws::canonicalize_commutes_with_mapping;
 use iri_types::view::{IriAbsoluteStr, IriReferenceStr};
 use std::test::Fail;
 

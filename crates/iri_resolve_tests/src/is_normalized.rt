@@ -1,4 +1,4 @@
-use super::IsNormalized;
+use iri_resolve::is_normalized::IsNormalized;
 use iri_types::view::{IriAbsoluteStr, UriAbsoluteStr, UriStr};
 use std::test::Fail;
 

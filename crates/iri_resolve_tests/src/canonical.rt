@@ -1,7 +1,7 @@
-use super::{CanonError, canonicalize};
-use crate::resolver::FixedBaseResolver;
 use iri_grammar::error::ErrorKind;
 use iri_grammar::spec::{IriSpec, UriSpec};
+use iri_resolve::canonical::{CanonError, canonicalize};
+use iri_resolve::resolver::FixedBaseResolver;
 use iri_types::view::{UriAbsoluteStr, UriReferenceStr};
 use std::test::Fail;
 

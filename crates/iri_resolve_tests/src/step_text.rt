@@ -1,4 +1,4 @@
-use crate::step::{Part, Step};
+use iri_resolve::step::{Part, Step};
 use iri_text::ToStringFallible;
 use std::test::Fail;
 

@@ -1,19 +1,18 @@
-use super::FixedBaseResolver;
-use crate::canonical::write_canonical;
 use iri_grammar::spec::UriSpec;
+use iri_resolve::resolver::FixedBaseResolver;
+use iri_text::ToStringFallible;
 use iri_types::kind::Reference;
 use iri_types::split::SplitView;
 use iri_types::view::UriAbsoluteStr;
 use std::test::Fail;
 
-// References of RFC 3986 section 5.4, in one buffer.
+// References of RFC 3986 section 5.4.
 #[test]
 fn many_references_against_one_base(rt: HostRuntime) -> Result<(), Fail> {
     let Ok(base) = UriAbsoluteStr::new("http://a/b/c/d;p?q") else {
         return Err("a valid base is refused")?;
     };
     let resolver = FixedBaseResolver::<UriSpec>::new(base).clone()?;
-    let mut buffer = String::new(rt.alloc());
     let rows = [
         ("g:h", "g:h"),
         ("../../../g", "http://a/g"),
@@ -24,8 +23,8 @@ fn many_references_against_one_base(rt: HostRuntime) -> Result<(), Fail> {
         let Ok(reference) = SplitView::<'_, UriSpec, Reference>::new(reference) else {
             return Err("a valid reference is refused")?;
         };
-        write_canonical(rt.alloc(), &mut buffer, &resolver, &reference)?;
-        assert_eq!(rt; buffer.as_str(), text);
+        let canonical = resolver.resolve_split(&reference).and_normalize();
+        assert_eq!(rt; canonical.try_to_string(rt.alloc())?.as_str(), text);
     }
     Ok(())
 }
