@@ -6,12 +6,12 @@ use Rattle.std.specs.Char.{encode_utf8, is_ascii_hexdigit, IsScalar}
 use Rattle.std.specs.List.{list_all}
 use Rattle.std.specs.Str.Lossy.{utf8_valid_len}
 use Rattle.std.specs.Str.{chars, IsUtf8, is_utf8}
-use Rattle.std.proofs.lemmas.Bool.{and_parts as both, cases_eq}
+use Rattle.std.proofs.lemmas.Bool.{and_parts as both, cases_eq, or_cases}
 use Rattle.std.proofs.lemmas.Bool.Decides.{nat_tests}
 use Rattle.std.proofs.lemmas.Str.{IsUtf8-nil, IsUtf8-append, IsUtf8-encode, chars_from_encodes, is_utf8-from_IsUtf8, IsUtf8-from_is_utf8}
 use Rattle.std.proofs.lemmas.Str.{encode_ascii}
 use lib.Utf8.{scalar, scalars, encodes}
-use Rattle.iri_grammar.specs.Classes.{any_char, is_ascii_any}
+use Rattle.iri_grammar.specs.Classes.{any_char, is_ascii_any, is_ucschar, is_ucschar_plane, is_iprivate}
 use Rattle.iri_grammar.specs.declared.class.Class.TheVariants.{Any}
 use Rattle.iri_grammar.proofs.ClassLaws.{ascii_test_below}
 use Rattle.iri_grammar.specs.Cut.{before, behind, lacks, marked}
@@ -261,16 +261,17 @@ skip_nothing : pieces_of [] ≡ []
 unfolding pieces_from
 skip_nothing = refl
 
-or_none : (b : Bool) → (b || false || false) ≡ b
-or_none true = refl
-or_none false = refl
+scalar_plane : (c : ℕ) → is_ucschar_plane c ≡ true → IsScalar c
+unfolding is_ucschar_plane
+scalar_plane c h = grind (arith, nat_tests)
 
-literal_ascii : (c : ℕ) → literal_char c ≡ true → is_ascii_any c ≡ true
-unfolding any_char
-literal_ascii c h = sym (or_none (is_ascii_any c)) ∙ h
+scalar_ucschar : (c : ℕ) → is_ucschar c ≡ true → IsScalar c
+unfolding is_ucschar
+scalar_ucschar c h = grind (arith, nat_tests, scalar_plane)
 
-literal_low : (c : ℕ) → literal_char c ≡ true → c < 128
-literal_low c h = ascii_test_below Any c (literal_ascii c h)
+scalar_iprivate : (c : ℕ) → is_iprivate c ≡ true → IsScalar c
+unfolding is_iprivate
+scalar_iprivate c h = grind (arith, nat_tests)
 
 pub record IsRead (ps : List Piece) (t : List ℕ) : Type 0 where
   pub text : IsUtf8 t
@@ -278,7 +279,14 @@ pub record IsRead (ps : List Piece) (t : List ℕ) : Type 0 where
   pub pieces : pieces_of t ≡ ps
 
 literal_scalar : (c : ℕ) → literal_char c ≡ true → IsScalar c
-literal_scalar c h = low_scalar c (literal_low c h)
+unfolding any_char
+literal_scalar c h = elim (or_cases (is_ascii_any c || is_ucschar c) (is_iprivate c) h) [
+  | inl k ↦ elim (or_cases (is_ascii_any c) (is_ucschar c) k) [
+    | inl a ↦ low_scalar c (ascii_test_below Any c a)
+    | inr u ↦ scalar_ucschar c u
+  ]
+  | inr p ↦ scalar_iprivate c p
+]
 
 hex_low : (c : ℕ) → is_ascii_hexdigit c ≡ true → c < 128
 hex_low c h = grind (arith, nat_tests)

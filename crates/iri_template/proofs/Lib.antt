@@ -22,3 +22,10 @@ pub mod PartWalk
 pub mod PlainChars
 pub mod WriterShows
 pub mod ThroughEach
+pub mod CheckedTelling
+pub mod WriterEnds
+pub mod PortionWalk
+pub mod TellWalk
+pub mod VarSpecPortions
+pub mod PartPortions
+pub mod FixedLemmas

@@ -5,7 +5,9 @@ use Rattle.std.specs.Str.{IsUtf8}
 use Rattle.std.specs.Str.Lossy.{utf8_valid_len}
 use Rattle.std.proofs.lemmas.Grind.{flat_map-append}
 use Rattle.std.proofs.lemmas.Str.{is_utf8-from_IsUtf8}
-use Rattle.iri_grammar.specs.Classes.{Tests}
+use Rattle.std.specs.List.{flat_map}
+use Rattle.iri_grammar.specs.Classes.{Tests, any_char}
+use Rattle.iri_percent.specs.Encoding.{encoded_char}
 use Rattle.iri_text.specs.Shown.{AreSinkLaws, Shows}
 use Rattle.iri_text.proofs.Compose.{HasShown, shown_none, shown_more, shown_exit, shows_all}
 use Rattle.iri_text.specs.declared.shown.show.Stop.{Stop}
@@ -53,9 +55,9 @@ part_cut p at t r k u v h =
 
 -- ---- what is written
 pub literals_stand : (s : Tests) (value : List ℕ → ShownValue) (cs : List ℕ)
-    → expansion s value (map literal cs) ≡ template_text (map literal cs)
+    → expansion s value (map literal cs) ≡ flat_map (encoded_char (any_char s)) cs
 literals_stand s value [] = refl
-literals_stand s value (c ∷ cs) = ap (λ l. piece_text (literal c) ++ l) (literals_stand s value cs)
+literals_stand s value (c ∷ cs) = ap (λ l. encoded_char (any_char s) c ++ l) (literals_stand s value cs)
 
 pub nothing_written : (s : Tests) (value : List ℕ → ShownValue) (t : List ℕ) → length t ≡ 0 → expansion s value (pieces_of t) ≡ []
 unfolding pieces_from

@@ -6,9 +6,10 @@ use Rattle.std.specs.Str.{chars, encode_utf8_all}
 use Rattle.std.proofs.lemmas.Bool.{and_parts as both}
 use Rattle.std.proofs.lemmas.List.{take-append-drop, append-nil}
 use Rattle.std.proofs.lemmas.Str.{encode_ascii, chars-nil}
-use Rattle.iri_grammar.specs.Classes.{any_char, is_ascii_any, is_ascii_reg_name, is_ascii_unreserved, is_sub_delim, is_gen_delim, uri_tests}
+use Rattle.iri_grammar.specs.Classes.{any_char, is_ascii_any, is_ascii_reg_name, is_ascii_unreserved, is_sub_delim, is_gen_delim, iri_tests}
+use Rattle.iri_grammar.specs.Classes.{is_ucschar, is_ucschar_plane, is_iprivate}
 use Rattle.iri_grammar.proofs.ClassLaws.{class_has_ascii}
-use Rattle.iri_grammar.specs.inside.Laws.{uri_is_spec}
+use Rattle.iri_grammar.specs.inside.Laws.{iri_is_spec}
 use Rattle.iri_grammar.specs.Runs.{run_of}
 use Rattle.iri_grammar.specs.declared.class.Class.TheVariants.{Any}
 use Rattle.iri_grammar.proofs.Units.{char_shorter}
@@ -29,7 +30,7 @@ literals : (xs : List ℕ) → list_all is_ascii_any xs ≡ true → (list_all l
 literals [] h = (refl, refl)
 literals (x ∷ xs) h =
     let k = both (is_ascii_any x) (list_all is_ascii_any xs) h in
-    let one = class_has_ascii uri_tests uri_is_spec Any x k.0 in
+    let one = class_has_ascii iri_tests iri_is_spec Any x k.0 in
     let more = literals xs k.1 in
     (rw (one.1, more.0) refl, ap (λ l. l ++ encode_utf8_all xs) (encode_ascii x one.0) ∙ ap (λ l. x ∷ l) more.1)
 
@@ -53,7 +54,7 @@ one_passed c t r h e = record {
 }
 
 zero_is_none : literal_char 0 ≡ false
-unfolding any_char is_ascii_any is_ascii_reg_name is_ascii_unreserved is_sub_delim is_gen_delim
+unfolding any_char is_ascii_any is_ascii_reg_name is_ascii_unreserved is_sub_delim is_gen_delim is_ucschar is_ucschar_plane is_iprivate
 zero_is_none = refl
 
 pub none_passed : (t : List ℕ) → literal_char (first_of (chars t)) ≡ false → IsPastLiterals t t

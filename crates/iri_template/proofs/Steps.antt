@@ -9,6 +9,7 @@ use Rattle.std.proofs.lemmas.Bool.{and_parts as both}
 use Rattle.std.proofs.lemmas.Str.{chars_past_char, char_from_byte, length-encode, len_utf8_bounds, IsUtf8-past_char}
 use Rattle.iri_grammar.proofs.CutLaws.{by_test}
 use Rattle.iri_grammar.specs.Classes.{any_char, is_ascii_any, is_ascii_reg_name, is_ascii_unreserved, is_sub_delim, is_gen_delim}
+use Rattle.iri_grammar.specs.Classes.{is_ucschar, is_ucschar_plane, is_iprivate}
 use Rattle.iri_template.specs.Template.{Piece, literal, triplet, literal_char}
 use Rattle.iri_template.specs.Reading.{first_of, piece_at, piece_of, len_at, piece_len, pieces_from, pieces_of, body_of, expression_of}
 use Rattle.iri_template.specs.Reading.{triplet_of}
@@ -88,11 +89,11 @@ front_apart c d r h k l =
     let f : literal_char c ≡ false = ap literal_char (same ∙ (sym is ∙ e)) ∙ k in cc) (λ _. refl)
 
 pub brace_is_none : literal_char 123 ≡ false
-unfolding any_char is_ascii_any is_ascii_reg_name is_ascii_unreserved is_sub_delim is_gen_delim
+unfolding any_char is_ascii_any is_ascii_reg_name is_ascii_unreserved is_sub_delim is_gen_delim is_ucschar is_ucschar_plane is_iprivate
 brace_is_none = refl
 
 pub percent_is_none : literal_char 37 ≡ false
-unfolding any_char is_ascii_any is_ascii_reg_name is_ascii_unreserved is_sub_delim is_gen_delim
+unfolding any_char is_ascii_any is_ascii_reg_name is_ascii_unreserved is_sub_delim is_gen_delim is_ucschar is_ucschar_plane is_iprivate
 percent_is_none = refl
 
 pub record Fine (p : Piece) (t r : List ℕ) : Type 0 where

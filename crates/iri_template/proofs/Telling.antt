@@ -9,8 +9,9 @@ use Rattle.iri_template.specs.Events.{Event, Item, Finished, telling, entry_of}
 use Rattle.iri_template.specs.Expansion.{Row, row_of, shown_text, shown_pair, named_text, pair_with, in_one, expression_text, value_texts}
 use Rattle.iri_template.specs.ShownValues.{ShownValue, undefined, string, list, pairs}
 use Rattle.iri_template.specs.VarSpecs.{held}
-use Rattle.iri_template.specs.inside.Written.{WriteState, explodes, lead, name_mark, item_lead, entry_lead, entry_mark, event_step}
-use Rattle.iri_template.specs.inside.Written.{event_text, led, has_texts, told_texts}
+use Rattle.iri_template.specs.Led.{lead, led, has_texts}
+use Rattle.iri_template.specs.inside.Written.{WriteState, explodes, name_mark, item_lead, entry_lead, entry_mark, event_step}
+use Rattle.iri_template.specs.inside.Written.{event_text, told_texts}
 use Rattle.iri_template.specs.declared.operator.Operator.{Operator}
 use Rattle.iri_template.specs.declared.var_spec.Modifier.{Modifier}
 

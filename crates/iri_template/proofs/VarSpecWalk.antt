@@ -19,7 +19,8 @@ use Rattle.iri_template.specs.Reading.{name_of, varspec_of}
 use Rattle.iri_template.specs.ShownValues.{ShownValue}
 use Rattle.iri_template.specs.TypeFaults.{is_mistyped, is_mistyped_as, varspecs_type_fault}
 use Rattle.iri_template.specs.VarSpecs.{held, IsHeld}
-use Rattle.iri_template.specs.inside.Written.{led, has_texts, told_texts}
+use Rattle.iri_template.specs.Led.{led, has_texts}
+use Rattle.iri_template.specs.inside.Written.{told_texts}
 use Rattle.iri_template.specs.declared.error.ErrorKind.TheVariants.{UnexpectedValueType}
 use Rattle.iri_template.specs.declared.operator.Operator.{Operator}
 use Rattle.iri_template.specs.declared.var_spec.VarSpec.{VarSpec}

@@ -63,12 +63,12 @@ taken t name (Some r) e n h k = record {
 }
 
 -- ---- the parts
-names_append : (ps qs : List Piece) → names_of (ps ++ qs) ≡ names_of ps ++ names_of qs
+pub names_append : (ps qs : List Piece) → names_of (ps ++ qs) ≡ names_of ps ++ names_of qs
 names_append [] qs = refl
 names_append (p ∷ ps) qs = ap (λ l. piece_names p ++ l) (names_append ps qs)
     ∙ sym (append_assoc (piece_names p) (names_of ps) (names_of qs))
 
-literals_have_none : (cs : List ℕ) → names_of (map literal cs) ≡ []
+pub literals_have_none : (cs : List ℕ) → names_of (map literal cs) ≡ []
 literals_have_none [] = refl
 literals_have_none (c ∷ cs) = literals_have_none cs
 

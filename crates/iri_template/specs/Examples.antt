@@ -3,6 +3,7 @@ use Rattle.std.specs.Prelude.{◌≡◌, [], ◌∷◌, None, codes, refl}
 use Rattle.std.specs.Str.{chars}
 use Rattle.iri_grammar.specs.Over.{over_from}
 use Rattle.iri_grammar.specs.Classes.{any_char, is_ascii_any, is_ascii_reg_name, is_ascii_unreserved, is_sub_delim, is_gen_delim}
+use Rattle.iri_grammar.specs.Classes.{is_ucschar, is_ucschar_plane, is_iprivate}
 use Rattle.iri_template.specs.Names.{is_varname, is_name_char}
 use Rattle.iri_template.specs.Template.{literal, triplet, expression, whole, explode, prefix, names_of}
 use Rattle.iri_template.specs.Reading.{pieces_from, pieces_of}
@@ -41,9 +42,15 @@ unfolding fault_from varspec_fault is_reserved_operator is_varname is_name_char 
     is_ascii_unreserved is_sub_delim is_gen_delim
 triplet_with_letter = refl
 
-letter_past_ascii : text_fault (206 ∷ 177 ∷ []) ≡ fault InvalidCharacter 0
+-- U+FFFE is in no class
+noncharacter : text_fault (97 ∷ 239 ∷ 191 ∷ 190 ∷ []) ≡ fault InvalidCharacter 1
 unfolding fault_from varspec_fault is_reserved_operator is_varname is_name_char over_from chars any_char is_ascii_any is_ascii_reg_name
-    is_ascii_unreserved is_sub_delim is_gen_delim
+    is_ascii_unreserved is_sub_delim is_gen_delim is_ucschar is_ucschar_plane is_iprivate
+noncharacter = refl
+
+letter_past_ascii : text_fault (206 ∷ 177 ∷ []) ≡ None
+unfolding fault_from varspec_fault is_reserved_operator is_varname is_name_char over_from chars any_char is_ascii_any is_ascii_reg_name
+    is_ascii_unreserved is_sub_delim is_gen_delim is_ucschar is_ucschar_plane
 letter_past_ascii = refl
 
 open_expression : text_fault (codes "{a") ≡ fault ExpressionNotClosed 0

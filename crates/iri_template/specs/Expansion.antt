@@ -1,7 +1,6 @@
 -- The expansion of templates (RFC 6570 section 3.2). A variable writes a list of texts: none where it is undefined or has no members, one, or one for each member where it is exploded.
 use Rattle.std.specs.Prelude.{ℕ, Bool, true, false, cond, List, [], ◌∷◌, ◌++◌, Option, None, Some, map, take}
 use Rattle.std.specs.List.{flat_map}
-use Rattle.std.specs.Char.{encode_utf8}
 use Rattle.std.specs.Str.{chars}
 use Rattle.iri_grammar.specs.Classes.{Tests, unreserved, any_char}
 use Rattle.iri_grammar.specs.Pieces.{joined}
@@ -113,9 +112,10 @@ expression_text row (t ∷ ts) = row.first ++ joined row.sep (t ∷ ts)
 abbrev pub varspec_texts : Tests → Operator → (List ℕ → ShownValue) → VarSpec → List (List ℕ)
 varspec_texts s operator value v = value_texts s (row_of operator) v.name v.modifier (value v.name)
 
--- literals and triplets outside expressions stand as they are (section 3.1)
+-- A literal that may stand in a reference stands as it is, and past ASCII it becomes its triplets where that is a URI; triplets outside
+-- expressions stand as they are (section 3.1).
 abbrev pub piece_expansion : Tests → (List ℕ → ShownValue) → Piece → List ℕ
-piece_expansion s value (literal c) = encode_utf8 c
+piece_expansion s value (literal c) = encoded_char (any_char s) c
 piece_expansion s value (triplet a b) = percent_sign ∷ a ∷ b ∷ []
 piece_expansion s value (expression operator vs) = expression_text (row_of operator) (flat_map (varspec_texts s operator value) vs)
 

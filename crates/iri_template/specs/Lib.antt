@@ -16,7 +16,12 @@ pub mod Examples
 pub mod Events
 pub mod Visits
 pub mod Expansion
+pub mod Led
 pub mod TypeFaults
 pub mod ExpansionExamples
+pub mod DynamicExamples
 pub mod ExpandedTexts
+pub mod Tells
+pub mod Portions
+pub mod Writings
 pub mod inside

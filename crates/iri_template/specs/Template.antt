@@ -2,7 +2,7 @@
 use Rattle.std.specs.Prelude.{◌≡◌, ℕ, Bool, true, false, not, ◌&&◌, ◌==◌, nat_le, List, [], ◌∷◌, ◌++◌, map, length}
 use Rattle.std.specs.Char.{encode_utf8, is_ascii_digit, is_ascii_hexdigit}
 use Rattle.std.specs.List.{list_all, flat_map}
-use Rattle.iri_grammar.specs.Classes.{any_char, uri_tests}
+use Rattle.iri_grammar.specs.Classes.{any_char, iri_tests}
 use Rattle.iri_grammar.specs.Pieces.{joined}
 use Rattle.iri_template.specs.Names.{is_varname}
 use Rattle.iri_template.specs.declared.operator.Operator.{Operator}
@@ -30,9 +30,9 @@ pub data Piece : Type 0 where
   expression : (operator : Operator) → (varspecs : List VarSpec) → Piece
 
 -- ---- which of them are well-formed
--- `literals` (section 2.1), triplets apart: of ASCII, the characters of references
+-- `literals` (section 2.1), triplets apart: the characters of references, and past ASCII those of IRIs, `ucschar` and `iprivate`
 abbrev pub literal_char : ℕ → Bool
-literal_char c = any_char uri_tests c
+literal_char c = any_char iri_tests c
 
 -- `max-length` (section 2.4.1): one to four digits, and no zero is the first
 unfoldable pub is_max_length : List ℕ → Bool

@@ -1,9 +1,12 @@
 -- What private contracts cite, and laws that an `impl` cites.
 pub mod CharFront
 pub mod CharFrontText
+pub mod Checked
 pub mod Equals
+pub mod InMemory
 pub mod Lengths
 pub mod Members
+pub mod PartEnds
 pub mod Parts
 pub mod TypeHears
 pub mod UnitSteps

@@ -55,10 +55,22 @@ pub struct Error {
 }
 
 impl Error {
+    ghost use Rattle.iri_template.specs.inside.InMemory.{in_memory};
+
     pub(crate) fn new(kind: ErrorKind, location: usize) -> Self
         ensures { result ≡ record { kind = kind; location = location } }
     {
         Error { kind, location }
+    }
+
+    /// The same where the sink was a string: it stops on allocation failure alone.
+    pub(crate) fn in_memory(self) -> Self
+        ensures { result ≡ record { kind = in_memory self.kind; location = self.location } }
+    {
+        match self.kind {
+            ErrorKind::WriteFailed => Error::new(ErrorKind::Memory, self.location),
+            _ => self,
+        }
     }
 
     /// What is wrong.

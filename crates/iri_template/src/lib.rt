@@ -24,7 +24,8 @@
 //! in whatever pieces a value puts its text; it takes no memory, and where the sink stops, it stops within that text.
 //! The conversions refuse exactly what is outside their production, and `try_into_text_within` what is longer.
 //!
-//! Literals are those of URIs: ASCII alone. One class says so, `literal_char`, and one word of `part`.
+//! Literals past ASCII are those of IRIs, `ucschar` and `iprivate`, whichever grammar an expansion is made for: where that is
+//! the grammar of URIs, they become triplets. Names, operators and lengths are ASCII.
 //!
 //! Not proved: the words of `CreateTemplateError`'s `Display`; that what takes memory gets it, which tests show with
 //! ample memory; the text of `Debug`.
@@ -36,6 +37,9 @@ mod char_front_sink;
 pub mod comparison;
 pub mod context;
 pub mod creation;
+pub mod dynamic_context;
+mod dynamic_varspecs;
+mod dynamic_writer;
 mod equals_sink;
 pub mod error;
 pub mod expanded;

@@ -11,7 +11,7 @@ use crate::operator::Operator;
 use iri_grammar::class::{Class, is_any_char};
 use iri_grammar::cutting::cut;
 use iri_grammar::over::past_run;
-use iri_grammar::spec::UriSpec;
+use iri_grammar::spec::IriSpec;
 
 /// An expression, whose varspecs are still to be read.
 #[derive(Clone, Copy, Debug)]
@@ -114,7 +114,7 @@ fn past_literal(s: &str) -> &str
     let mut chars = s.chars();
     match chars.next() {
         Some(c) => {
-            if is_any_char::<UriSpec>(c) {
+            if is_any_char::<IriSpec>(c) {
                 chars.as_str()
             } else {
                 s

@@ -1,6 +1,8 @@
 //! Parts of a template that are written (RFC 6570 section 3.1).
 ghost use Rattle.std.specs.Prelude.{◌≡◌, None};
 ghost use Rattle.iri_text.specs.Shown.{Shows};
+ghost use Rattle.iri_percent.specs.Encoding.{encoded, keeps};
+ghost use Rattle.iri_percent.specs.declared.context.Context.TheVariants.{Any};
 ghost use Rattle.iri_template.specs.Expansion.{expansion};
 ghost use Rattle.iri_template.specs.Fault.{text_fault};
 ghost use Rattle.iri_template.specs.inside.Parts.{part_pieces, part_fault};
@@ -11,7 +13,15 @@ use crate::context::Context;
 use crate::part::{Part, read_part};
 use crate::varspec_writer::write_varspecs;
 use iri_grammar::spec::Spec;
-use iri_text::{Stop, TextSink};
+use iri_percent::PercentEncoded;
+use iri_text::{Show, Stop, TextSink};
+
+/// Writes literals: what a reference of `S` can't hold becomes triplets.
+pub(crate) fn write_literals<S: Spec, W: TextSink>(sink: &mut W, literals: &str) -> Result<(), Stop>
+    ensures { Shows W.puts W.halts W.stops sink.old (encoded (keeps S.tests Any) literals.now) sink.new result }
+{
+    PercentEncoded::<&str, S>::characters(literals).show(sink)
+}
 
 /// Writes a part with this text.
 fn write_part<C: Context, S: Spec, W: TextSink>(
@@ -32,7 +42,7 @@ fn write_part<C: Context, S: Spec, W: TextSink>(
             expression.operator,
             expression.varspecs,
         ),
-        Part::Literals(_) => sink.put(text),
+        Part::Literals(literals) => write_literals::<S, W>(sink, literals),
         Part::Triplet(_) => sink.put(text),
     }
 }

@@ -1,5 +1,6 @@
 //! How far an expression is written.
 ghost use Rattle.std.specs.Prelude.{◌≡◌};
+ghost use Rattle.iri_template.specs.inside.Checked.{has_length};
 ghost use Rattle.iri_template.specs.inside.Written.{explodes, count_of};
 
 use crate::operator::Operator;
@@ -26,6 +27,17 @@ pub(crate) fn explodes(modifier: Modifier) -> bool
         Modifier::Explode => true,
         Modifier::Whole => false,
         Modifier::Prefix(_) => false,
+    }
+}
+
+/// Whether a length stands at the variable.
+pub(crate) fn has_length(modifier: Modifier) -> bool
+    ensures { result ≡ has_length modifier }
+{
+    match modifier {
+        Modifier::Prefix(_) => true,
+        Modifier::Whole => false,
+        Modifier::Explode => false,
     }
 }
 

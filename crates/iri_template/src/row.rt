@@ -1,7 +1,7 @@
 //! What an operator writes besides values (RFC 6570 section 3.2.1).
 ghost use Rattle.std.specs.Prelude.{◌≡◌};
 ghost use Rattle.iri_template.specs.Expansion.{row_of};
-ghost use Rattle.iri_template.specs.inside.Written.{lead};
+ghost use Rattle.iri_template.specs.Led.{lead};
 
 use crate::operator::Operator;
 

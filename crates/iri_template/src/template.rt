@@ -1,12 +1,17 @@
 //! Lent templates (RFC 6570 section 2).
-ghost use Rattle.std.specs.Prelude.{◌≡◌, ◌==◌, length, IfOk, None, Some};
+ghost use Rattle.std.specs.Prelude.{◌≡◌, ◌≤◌, ◌==◌, ◌+◌, ◌*◌, ⊤, length, IfOk, OnOk, MatchResult, None, Some};
 ghost use Rattle.iri_template.specs.Fault.{Answers, text_fault, template_fault};
+ghost use Rattle.iri_template.specs.Portions.{portions};
 ghost use Rattle.iri_template.specs.Reading.{pieces_of};
+ghost use Rattle.iri_template.specs.Tells.{WhereTold, MovesBy, Raises, later};
 ghost use Rattle.iri_template.specs.Template.{names_of};
 ghost use Rattle.iri_template.specs.TypeFaults.{type_fault};
 ghost use Rattle.iri_template.specs.Variables.{names_left};
+ghost use Rattle.iri_template.specs.Writings.{EndsAs, HasCause, IsString, IsOfString};
 
 use crate::context::Context;
+use crate::dynamic_context::DynamicContext;
+use crate::dynamic_writer::write_template;
 use crate::error::{Error, ErrorKind};
 use crate::expanded::Expanded;
 use crate::part::{Part, read_part};
@@ -14,8 +19,8 @@ use crate::type_fault::find_type_fault;
 use crate::variables::UriTemplateVariables;
 use crate::varspecs;
 use iri_grammar::spec::Spec;
-use iri_text::{FormatSink, Show, Stop, TextSink};
-use std::alloc::AllocError;
+use iri_text::{FormatSink, Show, Stop, StringSink, TextSink};
+use std::alloc::{AllocError, Global};
 use std::marker::PhantomData;
 use std::{fmt, str};
 
@@ -135,6 +140,56 @@ impl<'a> UriTemplateStr<'a> {
                 context,
                 spec: PhantomData,
             }),
+        }
+    }
+
+    /// Writes the expansion with the values of a context that may change from call to call, to any sink (RFC 6570
+    /// section 3). Each varspec's value is looked at, and then written; it takes no memory. `UnexpectedValueType` comes
+    /// exactly where one with a prefix length was told a list or an associative array that isn't empty, at either of the
+    /// two, at its first byte; then exactly the text before that varspec was written. `WriteFailed` comes only where the
+    /// sink stopped, at the first byte of the varspec, or of the literals and triplets between expressions, within whose
+    /// text it stopped; all text before it was written.
+    pub fn expand_dynamic<S: Spec, W: TextSink, C: DynamicContext>(
+        self,
+        writer: &mut W,
+        context: &mut C,
+    ) -> Result<(), Error>
+        ensures written { WhereTold (C.tells context.old)
+            (λ f. EndsAs W.puts W.halts (portions S.tests (later 1 f) (pieces_of (text self.entry))) writer.old writer.new
+            result) }
+        ensures cause { HasCause (W.stops writer.old) (W.stops writer.new) result }
+        ensures later { W.stops writer.old ≤ W.stops writer.new }
+        ensures started { Raises (C.starts context.old) (C.starts context.new) }
+        ensures ended { Raises (C.ends context.old) (C.ends context.new) }
+        ensures moves { OnOk result (MovesBy (2 * length (names_of (pieces_of (text self.entry))) + 2) (C.tells context.old)
+            (C.tells context.new)) }
+    {
+        context.on_expansion_start();
+        let result = write_template::<C, S, W>(writer, context, self.text);
+        context.on_expansion_end();
+        result
+    }
+
+    /// That expansion as a string. `UnexpectedValueType` comes as there; `Memory` comes where allocation failed, with the
+    /// places of `WriteFailed`, which never comes.
+    pub fn expand_dynamic_to_string<S: Spec, C: DynamicContext>(
+        self,
+        alloc: Global,
+        context: &mut C,
+    ) -> Result<String, Error>
+        ensures written { WhereTold (C.tells context.old)
+            (λ f. IsString (portions S.tests (later 1 f) (pieces_of (text self.entry))) result) }
+        ensures kinds { MatchResult result (λ _. ⊤) (λ e. IsOfString e.kind) }
+        ensures started { Raises (C.starts context.old) (C.starts context.new) }
+        ensures ended { Raises (C.ends context.old) (C.ends context.new) }
+        ensures moves { OnOk result (MovesBy (2 * length (names_of (pieces_of (text self.entry))) + 2) (C.tells context.old)
+            (C.tells context.new)) }
+    {
+        let mut dest = String::new(alloc);
+        let mut sink = StringSink::new(&mut dest);
+        match self.expand_dynamic::<S, StringSink<'_>, C>(&mut sink, context) {
+            Ok(()) => Ok(dest),
+            Err(error) => Err(error.in_memory()),
         }
     }
 }

@@ -1,5 +1,7 @@
 mod contexts;
+mod dynamic;
 mod expansions;
 mod faults;
+mod literals;
 mod names;
 mod templates;

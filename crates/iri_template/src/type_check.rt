@@ -14,7 +14,7 @@ use iri_text::{Show, Stop};
 pub(crate) struct TypeCheck<'a> {
     name: VarName<'a>,
     phase: Phase,
-    members: bool,
+    pub(crate) members: bool,
 }
 
 impl<'a> TypeCheck<'a> {

@@ -7,7 +7,8 @@ ghost use Rattle.iri_template.specs.Expansion.{row_of, varspec_texts, expression
 ghost use Rattle.iri_template.specs.Fault.{varspecs_fault};
 ghost use Rattle.iri_template.specs.Reading.{varspec_of};
 ghost use Rattle.iri_template.specs.declared.visitor.Phase.TheVariants.{Fresh};
-ghost use Rattle.iri_template.specs.inside.Written.{led, has_texts, told_texts};
+ghost use Rattle.iri_template.specs.Led.{led, has_texts};
+ghost use Rattle.iri_template.specs.inside.Written.{told_texts};
 
 use crate::context::Context;
 use crate::operator::Operator;
@@ -25,6 +26,7 @@ fn tell<C: Context, S: Spec, W: TextSink>(
 ) -> Result<(), Stop>
     requires fresh { visitor.old.phase ≡ Fresh }
     requires first { visitor.old.place.member ≡ false }
+    requires unchecked { visitor.old.checks ≡ false }
     ensures shows { Shows W.puts W.halts W.stops visitor.old.to.now
         (led (row_of visitor.old.place.operator) visitor.old.place.written
         (told_texts S.tests
@@ -64,7 +66,7 @@ fn write_varspec<C: Context, S: Spec, W: TextSink>(
         written: *written,
         member: false,
     };
-    let mut visitor = ValueWriter::<S, W>::new(sink, place);
+    let mut visitor = ValueWriter::<S, W>::new(sink, place, false);
     let result = tell(&mut visitor, context);
     *written = visitor.place.written;
     result

@@ -3,12 +3,13 @@ ghost use Rattle.std.specs.Prelude.{◌≡◌, ◌++◌, ◌∷◌, [], MatchRes
 ghost use Rattle.iri_text.specs.Shown.{Shows};
 ghost use Rattle.iri_template.specs.Events.{StringTold, Item, Entry};
 ghost use Rattle.iri_template.specs.Expansion.{row_of};
-ghost use Rattle.iri_template.specs.inside.Written.{state_at, lead, name_mark, item_lead, entry_lead, entry_mark};
+ghost use Rattle.iri_template.specs.Led.{lead};
+ghost use Rattle.iri_template.specs.inside.Written.{state_at, name_mark, item_lead, entry_lead, entry_mark};
 ghost use Rattle.iri_template.specs.inside.Written.{event_text};
 ghost use Rattle.iri_template.specs.declared.visitor.Phase.TheVariants.{Halted};
 
 use crate::behind_name::BehindName;
-use crate::place::{Place, count_of, explodes};
+use crate::place::{Place, count_of, explodes, has_length};
 use crate::row::{allows_reserved, if_empty, is_named, lead};
 use crate::shown::Shown;
 use crate::value_writer::ValueWriter;
@@ -168,6 +169,10 @@ impl<'w, S: Spec, W: TextSink> Visitor for ValueWriter<'w, S, W> {
     }
 
     fn visit_item<T: Show>(&mut self, item: &T) -> Result<(), Stop> {
+        if self.checks && has_length(self.place.modifier) {
+            self.mistyped = true;
+            return Ok(());
+        }
         let result = show_item::<T, S, W>(&mut *self.to, self.place, item);
         self.place.written = true;
         self.place.member = true;
@@ -181,6 +186,10 @@ impl<'w, S: Spec, W: TextSink> Visitor for ValueWriter<'w, S, W> {
     }
 
     fn visit_entry<K: Show, T: Show>(&mut self, key: &K, value: &T) -> Result<(), Stop> {
+        if self.checks && has_length(self.place.modifier) {
+            self.mistyped = true;
+            return Ok(());
+        }
         let result = show_entry::<K, T, S, W>(&mut *self.to, self.place, key, value);
         self.place.written = true;
         self.place.member = true;

@@ -3,6 +3,7 @@ use Rattle.std.specs.Prelude.{ℕ, Bool, true, false, cond, not, ◌&&◌, List,
 use Rattle.iri_grammar.specs.Classes.{Tests}
 use Rattle.iri_template.specs.Events.{Event, StringTold, Item, Entry}
 use Rattle.iri_template.specs.Expansion.{Row, row_of, shown_text, shown_pair, string_text, named_text, pair_with, in_one}
+use Rattle.iri_template.specs.Led.{lead}
 use Rattle.iri_template.specs.ShownValues.{ShownValue, undefined, string, list, pairs}
 use Rattle.iri_template.specs.declared.operator.Operator.{Operator}
 use Rattle.iri_template.specs.declared.place.Place.{Place}
@@ -29,10 +30,6 @@ abbrev pub count_of : Modifier → Option ℕ
 count_of Whole = None
 count_of Explode = None
 count_of (Prefix n) = Some n
-
--- the operator's first text, or its separator
-abbrev pub lead : Row → Bool → List ℕ
-lead row written = cond written (row.sep ∷ []) row.first
 
 abbrev pub name_mark : Row → List ℕ → List ℕ
 name_mark row name = cond row.named (name ++ 61 ∷ []) []
@@ -62,16 +59,7 @@ event_text s w (Entry k t) = entry_lead w ++ pair_with (entry_mark w.modifier)
     (shown_text s (row_of w.operator).allow None k, shown_text s (row_of w.operator).allow None t)
 event_text s w e = []
 
--- ---- texts of an expression, each behind the operator's first text or its separator
-abbrev pub led : Row → Bool → List (List ℕ) → List ℕ
-led row written [] = []
-led row written (t ∷ ts) = (lead row written ++ t) ++ led row true ts
-
-abbrev pub has_texts : List (List ℕ) → Bool
-has_texts [] = false
-has_texts (t ∷ ts) = true
-
--- what a variable writes, by its varspec as it is held
+-- ---- what a variable writes, by its varspec as it is held
 abbrev pub told_texts : Tests → Row → List ℕ → Modifier → ShownValue → List (List ℕ)
 told_texts s row name m undefined = []
 told_texts s row name m (string t) = string_text row name (shown_text s row.allow (count_of m) t) ∷ []

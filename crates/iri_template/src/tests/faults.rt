@@ -5,14 +5,15 @@ use crate::var_name::VarName;
 use std::test::Fail;
 
 // Each fault with a well-formed piece before it and a second fault behind it, and faults at the edges.
-static FAULTS: [(&str, ErrorKind, usize); 44] = [
+static FAULTS: [(&str, ErrorKind, usize); 45] = [
     ("{var:99999}", ErrorKind::InvalidExpression, 6),
     ("{var:0}", ErrorKind::InvalidExpression, 6),
     ("{var:1x}", ErrorKind::InvalidExpression, 7),
     ("a{}", ErrorKind::InvalidExpression, 2),
     ("{=a}", ErrorKind::UnsupportedOperator, 1),
     ("%aα", ErrorKind::InvalidPercentEncoding, 2),
-    ("α", ErrorKind::InvalidCharacter, 0),
+    ("αβ ", ErrorKind::InvalidCharacter, 4),
+    ("a\u{FFFE}", ErrorKind::InvalidCharacter, 1),
     ("{a", ErrorKind::ExpressionNotClosed, 0),
     ("{a*b}", ErrorKind::InvalidExpression, 3),
     ("a%41{b} %", ErrorKind::InvalidCharacter, 7),
@@ -25,7 +26,7 @@ static FAULTS: [(&str, ErrorKind, usize); 44] = [
     ("a%41{b}|{", ErrorKind::InvalidCharacter, 7),
     ("a%41{b}\x7F{", ErrorKind::InvalidCharacter, 7),
     ("a%41{b}}{", ErrorKind::InvalidCharacter, 7),
-    ("a%41{b}é{", ErrorKind::InvalidCharacter, 7),
+    ("a%41{b}\u{9F}{", ErrorKind::InvalidCharacter, 7),
     ("x{a}%", ErrorKind::InvalidPercentEncoding, 4),
     ("x{a}%<", ErrorKind::InvalidPercentEncoding, 4),
     ("x{a}%g0{", ErrorKind::InvalidPercentEncoding, 5),

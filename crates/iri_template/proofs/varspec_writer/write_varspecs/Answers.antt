@@ -9,7 +9,7 @@ use Rattle.iri_template.specs.Expansion.{row_of}
 use Rattle.iri_template.specs.Fault.{varspecs_fault}
 use Rattle.iri_template.specs.Left.{varspecs_left}
 use Rattle.iri_template.specs.Reading.{varspec_of}
-use Rattle.iri_template.specs.inside.Written.{led, has_texts}
+use Rattle.iri_template.specs.Led.{led, has_texts}
 use Rattle.iri_template.proofs.VarSpecFaults.{cut_len, bad_varspec}
 use Rattle.iri_template.proofs.VarSpecWalk.{cut_spec, fine_left, held_spec, spec_step, spec_text, whole_expression}
 use Rattle.iri_template.proofs.varspec_writer.write_varspecs.Goals as goal

@@ -1,0 +1,167 @@
+-- What is written where every call tells the same values; and which calls decide what is written.
+use Rattle.std.proofs.Common.{◌≡◌, ℕ, ◌+◌, ◌*◌, Bool, true, false, cond, ◌||◌, List, [], ◌∷◌, ◌++◌, None, Some, length, refl, sym, ◌∙◌, ap}
+use Rattle.std.proofs.Common.{subst, arith, append_assoc, append-nil, Result, Ok, Err, MatchResult}
+use Rattle.std.specs.Char.{encode_utf8}
+use Rattle.std.specs.List.{flat_map}
+use Rattle.iri_grammar.specs.Characters.{percent_sign}
+use Rattle.iri_grammar.specs.Classes.{Tests, any_char}
+use Rattle.iri_percent.specs.Encoding.{encoded_char}
+use Rattle.iri_template.specs.Expansion.{row_of, value_texts, varspec_texts, expression_text, expansion}
+use Rattle.iri_template.specs.Fault.{fault, first}
+use Rattle.iri_template.specs.Led.{led, has_texts}
+use Rattle.iri_template.specs.Portions.{Portion, outside, varspec_portion, varspec_portions, portions_from, portions, portions_fault, portions_text}
+use Rattle.iri_template.specs.ShownValues.{ShownValue}
+use Rattle.iri_template.specs.Tells.{Telling, later, always}
+use Rattle.iri_template.specs.Template.{VarSpec, Piece, literal, triplet, expression, operator_text, varspec_text, piece_text}
+use Rattle.iri_template.specs.TypeFaults.{is_mistyped, varspecs_type_fault, type_fault_from, type_fault}
+use Rattle.iri_template.specs.Writings.{IsRefused, EndsAs}
+use Rattle.iri_template.specs.declared.error.Error.{Error}
+use Rattle.iri_template.specs.declared.error.ErrorKind.TheVariants.{UnexpectedValueType}
+use Rattle.iri_template.specs.declared.operator.Operator.{Operator}
+use Rattle.iri_template.specs.declared.visitor.VisitPurpose.TheVariants.{Typecheck, Expand}
+use Rattle.iri_template.proofs.FaultLemmas.{neither}
+use Rattle.iri_template.proofs.PartPortions.{outside_fault, outside_text}
+use Rattle.iri_template.proofs.PortionWalk.{fault_behind, text_behind}
+use Rattle.iri_template.proofs.Telling.{led-append, led_expression}
+
+-- ---- faults
+or_same : (b : Bool) → (b || b) ≡ b
+or_same true = refl
+or_same false = refl
+
+faults_append : (ps qs : List Portion) → portions_fault (ps ++ qs) ≡ first (portions_fault ps) (portions_fault qs)
+faults_append [] qs = refl
+faults_append (p ∷ ps) qs =
+    elim p.mistyped as (λ b. cond b (fault UnexpectedValueType p.location) (portions_fault (ps ++ qs))
+    ≡ first (cond b (fault UnexpectedValueType p.location) (portions_fault ps)) (portions_fault qs)) [
+      | true ↦ refl
+      | false ↦ faults_append ps qs
+    ]
+
+module _ (s : Tests) (value : List ℕ → ShownValue) where
+  specs_fault : (operator : Operator) (at : ℕ) (written : Bool) (vs : List VarSpec)
+      → portions_fault (varspec_portions s operator (always value) at written vs) ≡ varspecs_type_fault value at vs
+  specs_fault operator at written [] = refl
+  specs_fault operator at written (v ∷ vs) =
+      let b = is_mistyped v.modifier (value v.name) in
+      let now = written || has_texts (value_texts s (row_of operator) v.name v.modifier (value v.name)) in
+      let there = at + length (varspec_text v) + 1 in
+      ap (λ m. cond m (fault UnexpectedValueType at) (portions_fault (varspec_portions s operator (always value) there now vs))) (or_same b)
+      ∙ ap (λ f. cond b (fault UnexpectedValueType at) f) (specs_fault operator there now vs)
+
+  fault_from : (at here : ℕ) (front : List ℕ) (ps : List Piece)
+      → portions_fault (portions_from s (always value) at here front ps) ≡ type_fault_from value here ps
+  fault_from at here front [] = outside_fault at front
+  fault_from at here front (literal c ∷ ps) = fault_from at (here + length (encode_utf8 c)) (front ++ encoded_char (any_char s) c) ps
+  fault_from at here front (triplet a b ∷ ps) = fault_from at (here + 3) (front ++ percent_sign ∷ a ∷ b ∷ []) ps
+  fault_from at here front (expression operator vs ∷ ps) =
+      let inner = varspec_portions s operator (always value) (here + 1 + length (operator_text operator)) false vs in
+      let there = here + length (piece_text (expression operator vs)) in
+      let others = portions_from s (always value) there there [] ps in
+      fault_behind (outside at front) (inner ++ others) (outside_fault at front) ∙ faults_append inner others
+      ∙ ap (λ f. first f (portions_fault others)) (specs_fault operator (here + 1 + length (operator_text operator)) false vs)
+      ∙ ap (first (varspecs_type_fault value (here + 1 + length (operator_text operator)) vs)) (fault_from there there [] ps)
+
+  pub fixed_fault : (ps : List Piece) → portions_fault (portions s (always value) ps) ≡ type_fault value ps
+  fixed_fault ps = fault_from 0 0 [] ps
+
+  -- ---- texts
+  specs_text : (operator : Operator) (at : ℕ) (written : Bool) (vs : List VarSpec) → varspecs_type_fault value at vs ≡ None
+      → portions_text (varspec_portions s operator (always value) at written vs)
+      ≡ led (row_of operator) written (flat_map (varspec_texts s operator value) vs)
+  specs_text operator at written [] h = refl
+  specs_text operator at written (v ∷ vs) h =
+      let ts = varspec_texts s operator value v in
+      let now = written || has_texts ts in
+      let there = at + length (varspec_text v) + 1 in
+      let rest = portions_text (varspec_portions s operator (always value) there now vs) in
+      elim (is_mistyped v.modifier (value v.name)) as (λ b. cond b (fault UnexpectedValueType at) (varspecs_type_fault value there vs) ≡ None
+      → cond (b || b) [] (led (row_of operator) written ts ++ rest)
+      ≡ led (row_of operator) written (ts ++ flat_map (varspec_texts s operator value) vs)) [
+        | true ↦ λ k. cc
+        | false ↦ λ k. ap (λ l. led (row_of operator) written ts ++ l) (specs_text operator there now vs k)
+            ∙ sym (led-append (row_of operator) written ts (flat_map (varspec_texts s operator value) vs))
+      ] h
+
+  text_from : (at here : ℕ) (front : List ℕ) (ps : List Piece) → type_fault_from value here ps ≡ None
+      → portions_text (portions_from s (always value) at here front ps) ≡ front ++ expansion s value ps
+  text_from at here front [] h = outside_text at front ∙ sym (append-nil front)
+  text_from at here front (literal c ∷ ps) h =
+      text_from at (here + length (encode_utf8 c)) (front ++ encoded_char (any_char s) c) ps h
+      ∙ append_assoc front (encoded_char (any_char s) c) (expansion s value ps)
+  text_from at here front (triplet a b ∷ ps) h =
+      let t : List ℕ = percent_sign ∷ a ∷ b ∷ [] in
+      text_from at (here + 3) (front ++ t) ps h ∙ append_assoc front t (expansion s value ps)
+  text_from at here front (expression operator vs ∷ ps) h =
+      let place = here + 1 + length (operator_text operator) in
+      let inner = varspec_portions s operator (always value) place false vs in
+      let there = here + length (piece_text (expression operator vs)) in
+      let others = portions_from s (always value) there there [] ps in
+      let both = neither (varspecs_type_fault value place vs) (type_fault_from value there ps) h in
+      text_behind (outside at front) (inner ++ others) (outside_fault at front)
+      ∙ ap (λ l. l ++ portions_text (inner ++ others)) (outside_text at front)
+      ∙ ap (λ l. front ++ l) (text_behind inner others (specs_fault operator place false vs ∙ both.0)
+      ∙ ap (λ l. l ++ portions_text others) (specs_text operator place false vs both.0
+      ∙ led_expression (row_of operator) (flat_map (varspec_texts s operator value) vs))
+      ∙ ap (λ l. expression_text (row_of operator) (flat_map (varspec_texts s operator value) vs) ++ l) (text_from there there [] ps both.1))
+
+  pub fixed_text : (ps : List Piece) → type_fault value ps ≡ None → portions_text (portions s (always value) ps) ≡ expansion s value ps
+  fixed_text ps h = text_from 0 0 [] ps h
+
+  -- ---- how such an expansion ends
+  pub fixed_ends : {W : Type 0} (puts halts : W → List ℕ → W → Type 0) (ps : List Piece) (a b : W) (r : Result (Unit {0}) Error)
+      → EndsAs puts halts (portions s (always value) ps) a b r
+      → MatchResult r (λ _. (type_fault value ps ≡ None) × puts a (expansion s value ps) b)
+      (λ e. e.kind ≡ UnexpectedValueType → type_fault value ps ≡ Some e)
+  fixed_ends puts halts ps a b (Ok x) q =
+      let none = sym (fixed_fault ps) ∙ q.0 in
+      (none, subst (λ l. puts a l b) (fixed_text ps none) q.1)
+  fixed_ends puts halts ps a b (Err e) q = λ kind.
+      sym (fixed_fault ps) ∙ (subst (IsRefused puts halts (portions s (always value) ps) a b e) kind q).0
+
+-- ---- which calls decide
+-- the same at the calls for types, which are even, and at those that write, which are odd
+record AreSame (f g : Telling) : Type 0 where
+  looks : (i : ℕ) (name : List ℕ) → f (2 * i) name Typecheck ≡ g (2 * i) name Typecheck
+  writes : (i : ℕ) (name : List ℕ) → f (2 * i + 1) name Expand ≡ g (2 * i + 1) name Expand
+
+same_later : (n : ℕ) (f g : Telling) → AreSame f g → AreSame (later (2 * n) f) (later (2 * n) g)
+same_later n f g h = record {
+  looks = λ i name. let z : 2 * n + 2 * i ≡ 2 * (n + i) = omega arith in
+      ap (λ k. f k name Typecheck) z ∙ h.looks (n + i) name ∙ ap (λ k. g k name Typecheck) (sym z);
+  writes = λ i name. let z : 2 * n + (2 * i + 1) ≡ 2 * (n + i) + 1 = omega arith in
+      ap (λ k. f k name Expand) z ∙ h.writes (n + i) name ∙ ap (λ k. g k name Expand) (sym z);
+}
+
+module _ (s : Tests) where
+  same_specs : (operator : Operator) (f g : Telling) (at : ℕ) (written : Bool) (vs : List VarSpec) → AreSame f g
+      → varspec_portions s operator f at written vs ≡ varspec_portions s operator g at written vs
+  same_specs operator f g at written [] h = refl
+  same_specs operator f g at written (v ∷ vs) h =
+      let there = at + length (varspec_text v) + 1 in
+      ap (λ u. varspec_portion s operator at written v u (f 1 v.name Expand)
+      ∷ varspec_portions s operator (later 2 f) there (written || has_texts (value_texts s (row_of operator) v.name v.modifier (f 1 v.name Expand))) vs)
+      (h.looks 0 v.name)
+      ∙ ap (λ u. varspec_portion s operator at written v (g 0 v.name Typecheck) u
+      ∷ varspec_portions s operator (later 2 f) there (written || has_texts (value_texts s (row_of operator) v.name v.modifier u)) vs)
+      (h.writes 0 v.name)
+      ∙ ap (λ l. varspec_portion s operator at written v (g 0 v.name Typecheck) (g 1 v.name Expand) ∷ l)
+      (same_specs operator (later 2 f) (later 2 g) there
+      (written || has_texts (value_texts s (row_of operator) v.name v.modifier (g 1 v.name Expand))) vs (same_later 1 f g h))
+
+  same_from : (f g : Telling) (at here : ℕ) (front : List ℕ) (ps : List Piece) → AreSame f g
+      → portions_from s f at here front ps ≡ portions_from s g at here front ps
+  same_from f g at here front [] h = refl
+  same_from f g at here front (literal c ∷ ps) h =
+      same_from f g at (here + length (encode_utf8 c)) (front ++ encoded_char (any_char s) c) ps h
+  same_from f g at here front (triplet a b ∷ ps) h = same_from f g at (here + 3) (front ++ percent_sign ∷ a ∷ b ∷ []) ps h
+  same_from f g at here front (expression operator vs ∷ ps) h =
+      let place = here + 1 + length (operator_text operator) in
+      let there = here + length (piece_text (expression operator vs)) in
+      ap (λ l. outside at front ++ (l ++ portions_from s (later (2 * length vs) f) there there [] ps)) (same_specs operator f g place false vs h)
+      ∙ ap (λ l. outside at front ++ (varspec_portions s operator g place false vs ++ l))
+      (same_from (later (2 * length vs) f) (later (2 * length vs) g) there there [] ps (same_later (length vs) f g h))
+
+pub same_portions : (s : Tests) (f g : Telling) (ps : List Piece) → ((i : ℕ) (name : List ℕ) → f (2 * i) name Typecheck ≡ g (2 * i) name Typecheck)
+    → ((i : ℕ) (name : List ℕ) → f (2 * i + 1) name Expand ≡ g (2 * i + 1) name Expand) → portions s f ps ≡ portions s g ps
+same_portions s f g ps looks writes = same_from s f g 0 0 [] ps (record { looks = looks; writes = writes })

@@ -1,0 +1,351 @@
+-- A walk over the parts of a template without a fault, where values may change: the portions that are left.
+use Rattle.std.proofs.Common.{◌≡◌, ◌<◌, ◌≤◌, ℕ, ◌+◌, ◌-◌, ◌*◌, false, List, [], ◌∷◌, ◌++◌, Option, None, Some, length, map, cond, true, refl, sym, ◌∙◌, ap, subst, arith}
+use Rattle.std.proofs.Common.{append_assoc, append-nil, length-append, Ok, Err, Bor}
+use Rattle.std.specs.Char.{encode_utf8}
+use Rattle.std.specs.Str.{chars}
+use Rattle.iri_grammar.specs.Characters.{percent_sign}
+use Rattle.std.specs.List.{flat_map}
+use Rattle.std.proofs.lemmas.Str.{len_utf8_bounds, length-encode}
+use Rattle.iri_grammar.specs.Classes.{Tests, any_char}
+use Rattle.iri_percent.specs.Encoding.{encoded, encoded_char}
+use Rattle.iri_percent.specs.Mapping.{triplets}
+use Rattle.iri_grammar.specs.Pieces.{pieces}
+use Rattle.iri_text.specs.Shown.{AreSinkLaws}
+use Rattle.iri_template.specs.Portions.{Portion, outside, varspec_portions, portions_from, portions, portions_fault, portions_text}
+use Rattle.iri_template.specs.Reading.{varspec_of, pieces_from, pieces_of}
+use Rattle.iri_template.specs.Template.{Piece, literal, triplet, expression, VarSpec, operator_text, piece_text, template_text, names_of}
+use Rattle.iri_template.specs.Tells.{Telling, later, WhereTold, MovesBy}
+use Rattle.iri_template.specs.Writings.{EndsAs}
+use Rattle.iri_template.specs.inside.PartEnds.{PartEnds, calls_of, begin_behind}
+use Rattle.iri_template.specs.inside.Parts.{part_pieces, IsPlaced}
+use Rattle.iri_template.specs.declared.error.Error.{Error}
+use Rattle.iri_template.specs.declared.error.ErrorKind.TheVariants.{WriteFailed}
+use Rattle.iri_template.specs.declared.operator.Operator.{Operator}
+use Rattle.iri_template.specs.declared.part.Part.{Part}
+use Rattle.iri_template.specs.declared.part.Part.TheVariants as part
+use Rattle.iri_template.proofs.PartWalk.{PartCut}
+use Rattle.iri_template.proofs.PortionWalk.{fault_behind, text_behind, HasEnded, ended_more, ended_exit, ended_end}
+use Rattle.iri_template.proofs.TellWalk.{BothTold, later_none, moved_on}
+use Rattle.iri_template.proofs.Walks.{names_append, literals_have_none}
+
+-- ---- literals and triplets
+pub outside_fault : (at : ℕ) (t : List ℕ) → portions_fault (outside at t) ≡ None
+outside_fault at [] = refl
+outside_fault at (x ∷ xs) = refl
+
+pub outside_text : (at : ℕ) (t : List ℕ) → portions_text (outside at t) ≡ t
+outside_text at [] = refl
+outside_text at (x ∷ xs) = append-nil (x ∷ xs)
+
+-- what literals write
+abbrev written : Tests → List ℕ → List ℕ
+written s cs = flat_map (encoded_char (any_char s)) cs
+
+literals_in : (s : Tests) (f : Telling) (at here : ℕ) (front cs : List ℕ) (ps : List Piece)
+    → portions_from s f at here front (map literal cs ++ ps)
+    ≡ portions_from s f at (here + length (template_text (map literal cs))) (front ++ written s cs) ps
+literals_in s f at here front [] ps =
+    let z : here ≡ here + 0 = omega arith in
+    ap (λ l. portions_from s f at here l ps) (sym (append-nil front)) ∙ ap (λ n. portions_from s f at n (front ++ []) ps) z
+literals_in s f at here front (c ∷ cs) ps =
+    let one = encoded_char (any_char s) c in
+    let there = here + length (encode_utf8 c) + length (template_text (map literal cs)) in
+    let z : there ≡ here + length (template_text (map literal (c ∷ cs))) =
+    omega (arith, length-append (encode_utf8 c) (template_text (map literal cs))) in
+    literals_in s f at (here + length (encode_utf8 c)) (front ++ one) cs ps
+    ∙ ap (λ l. portions_from s f at there l ps) (append_assoc front one (written s cs))
+    ∙ ap (λ n. portions_from s f at n (front ++ written s (c ∷ cs)) ps) z
+
+-- literals write at least one byte
+one_written : (s : Tests) (c : ℕ) → 0 < length (encoded_char (any_char s) c)
+one_written s c =
+    let some : 0 < length (encode_utf8 c) = omega (arith, length-encode c, (len_utf8_bounds c).0) in
+    elim (any_char s c) as (λ b. 0 < length (cond b (encode_utf8 c) (triplets (encode_utf8 c)))) [
+      | true ↦ some
+      | false ↦ some_triplets (encode_utf8 c) some
+    ]
+  where
+    some_triplets : (xs : List ℕ) → 0 < length xs → 0 < length (triplets xs)
+    some_triplets [] h = absurd (omega (arith, h))
+    some_triplets (x ∷ xs) h = omega arith
+
+literals_written : (s : Tests) (cs : List ℕ) → 0 < length (template_text (map literal cs)) → 0 < length (written s cs)
+literals_written s [] h = absurd (omega (arith, h))
+literals_written s (c ∷ cs) h =
+    omega (arith, length-append (encoded_char (any_char s) c) (written s cs), one_written s c)
+
+literals_are : (s : Tests) (t : List ℕ) → written s (chars t) ≡ encoded (any_char s) t
+unfolding encoded
+literals_are s t = refl
+
+-- they are one portion, whatever follows
+record Begins (s : Tests) (f : Telling) (at here : ℕ) (front : List ℕ) (ps : List Piece) : Type 0 where
+  more : List ℕ
+  others : List Portion
+  split : portions_from s f at here front ps ≡ (record { location = at; text = front ++ more; mistyped = false }) ∷ others
+
+begins : (s : Tests) (f : Telling) (at here x : ℕ) (xs : List ℕ) (ps : List Piece) → Begins s f at here (x ∷ xs) ps
+begins s f at here x xs [] = record {
+  more = [];
+  others = [];
+  split = ap (λ l. (record { location = at; text = l; mistyped = false }) ∷ []) (sym (append-nil (x ∷ xs)));
+}
+begins s f at here x xs (literal c ∷ ps) =
+    let one = encoded_char (any_char s) c in
+    let b = begins s f at (here + length (encode_utf8 c)) x (xs ++ one) ps in
+    record {
+      more = one ++ b.more;
+      others = b.others;
+      split = b.split ∙ ap (λ l. (record { location = at; text = l; mistyped = false }) ∷ b.others) (append_assoc (x ∷ xs) one b.more);
+    }
+begins s f at here x xs (triplet a b ∷ ps) =
+    let k = begins s f at (here + 3) x (xs ++ percent_sign ∷ a ∷ b ∷ []) ps in
+    record {
+      more = percent_sign ∷ a ∷ b ∷ k.more;
+      others = k.others;
+      split = k.split
+          ∙ ap (λ l. (record { location = at; text = l; mistyped = false }) ∷ k.others) (append_assoc (x ∷ xs) (percent_sign ∷ a ∷ b ∷ []) k.more);
+    }
+begins s f at here x xs (expression operator vs ∷ ps) =
+    let there = here + length (piece_text (expression operator vs)) in
+    let behind = varspec_portions s operator f (here + 1 + length (operator_text operator)) false vs
+    ++ portions_from s (later (2 * length vs) f) there there [] ps in
+    record {
+      more = [];
+      others = behind;
+      split = ap (λ l. (record { location = at; text = l; mistyped = false }) ∷ behind) (sym (append-nil (x ∷ xs)));
+    }
+
+-- ---- what the loop keeps true: the portions in front went in, and the literals and triplets `front` of the one that is being written
+pub record HasReached {W : Type 0} (s : Tests) (puts : W → List ℕ → W → Type 0) (all : List Portion) (old : W) (h : Telling) (begin here : ℕ)
+    (rest : List ℕ) (new : W) : Type 0 where
+  pub done : List Portion
+  pub front : List ℕ
+  pub mid : W
+  pub split : all ≡ done ++ portions_from s h begin here front (pieces_of rest)
+  pub fine : portions_fault done ≡ None
+  pub put : puts old (portions_text done) mid
+  pub into : puts mid front new
+
+module _ {W : Type 0} (s : Tests) (puts halts : W → List ℕ → W → Type 0) (laws : AreSinkLaws puts halts) (all : List Portion) (a : W) where
+  -- the portion that was being written has ended
+  reached_ended : (h : Telling) (begin here : ℕ) (rest : List ℕ) (left : List Portion) (b : W) (p : HasReached s puts all a h begin here rest b)
+      → portions_from s h begin here p.front (pieces_of rest) ≡ outside begin p.front ++ left → HasEnded puts all a left b
+  reached_ended h begin here rest left b p e = record {
+    done = p.done ++ outside begin p.front;
+    split = p.split ∙ ap (λ l. p.done ++ l) e ∙ sym (append_assoc p.done (outside begin p.front) left);
+    fine = fault_behind p.done (outside begin p.front) p.fine ∙ outside_fault begin p.front;
+    put = subst (λ l. puts a l b) (sym (text_behind p.done (outside begin p.front) p.fine
+        ∙ ap (λ l. portions_text p.done ++ l) (outside_text begin p.front))) (laws.both a p.mid b _ _ p.put p.into);
+  }
+
+  reached_all : (h : Telling) (begin here : ℕ) (rest : List ℕ) (b : W) (x : Unit {0}) → length rest ≡ 0 → HasReached s puts all a h begin here rest b
+      → EndsAs puts halts all a b (Ok x)
+  unfolding pieces_from
+  reached_all h begin here [] b x z p = ended_end puts halts laws all a b x (reached_ended h begin here [] [] b p (sym (append-nil (outside begin p.front))))
+  reached_all h begin here (y ∷ ys) b x z p = absurd (omega arith)
+
+  -- ---- literals and triplets
+  module _ (h : Telling) (begin here there : ℕ) (t r x : List ℕ) (pieces_are : List Piece) (cut : pieces_of t ≡ pieces_are ++ pieces_of r)
+      (stands : (front : List ℕ)
+      → portions_from s h begin here front (pieces_are ++ pieces_of r) ≡ portions_from s h begin there (front ++ x) (pieces_of r))
+      (b c : W) where
+    longer : (p : HasReached s puts all a h begin here t b) → all ≡ p.done ++ portions_from s h begin there (p.front ++ x) (pieces_of r)
+    longer p = p.split ∙ ap (λ l. p.done ++ l) (ap (portions_from s h begin here p.front) cut ∙ stands p.front)
+
+    literals_more : puts b x c → HasReached s puts all a h begin here t b → HasReached s puts all a h begin there r c
+    literals_more q p = record {
+      done = p.done;
+      front = p.front ++ x;
+      mid = p.mid;
+      split = longer p;
+      fine = p.fine;
+      put = p.put;
+      into = laws.both p.mid b c _ _ p.into q;
+    }
+
+    literals_exit : 0 < length x → (error : Error) → error ≡ record { kind = WriteFailed; location = begin } → halts b x c
+        → HasReached s puts all a h begin here t b → EndsAs puts halts all a c (Err error)
+    literals_exit some error is q p = subst (λ (e : Error). EndsAs puts halts all a c (Err e)) (sym is) (stopped (p.front ++ x) refl)
+      where
+        stopped : (front : List ℕ) → front ≡ p.front ++ x → EndsAs puts halts all a c (Err (record { kind = WriteFailed; location = begin }))
+        stopped [] e = let z = ap length e in absurd (omega (arith, length-append p.front x))
+        stopped (z ∷ zs) e =
+            let k = begins s h begin there z zs (pieces_of r) in
+            let here_is : Portion = record { location = begin; text = (z ∷ zs) ++ k.more; mistyped = false } in
+            record {
+              reached = record {
+                front = p.done;
+                here = here_is;
+                rest = k.others;
+                split = longer p ∙ ap (λ l. p.done ++ portions_from s h begin there l (pieces_of r)) (sym e) ∙ ap (λ l. p.done ++ l) k.split;
+                fine = fault_behind p.done (here_is ∷ []) p.fine;
+                location = refl;
+              };
+              mid = p.mid;
+              put = p.put;
+              halt = laws.within p.mid c (z ∷ zs) k.more (subst (λ l. halts p.mid l c) (sym e) (laws.until p.mid b c p.front x p.into q));
+            }
+
+  -- ---- an expression
+  module _ (h : Telling) (begin here : ℕ) (t r : List ℕ) (operator : Operator) (vs : List VarSpec) (at : ℕ)
+      (cut : pieces_of t ≡ expression operator vs ∷ pieces_of r) (placed : at ≡ here + 1 + length (operator_text operator)) (b c : W) where
+    abbrev inner : List Portion
+    inner = varspec_portions s operator h at false vs
+
+    abbrev behind_it : ℕ → List Portion
+    behind_it there = portions_from s (later (2 * length vs) h) there there [] (pieces_of r)
+
+    opened : (there : ℕ) → there ≡ here + length (piece_text (expression operator vs)) → HasReached s puts all a h begin here t b
+        → HasEnded puts all a (inner ++ behind_it there) b
+    opened there e p =
+        reached_ended h begin here t (inner ++ behind_it there) b p (ap (portions_from s h begin here p.front) cut
+        ∙ ap (λ n. outside begin p.front ++ (varspec_portions s operator h n false vs
+        ++ behind_it (here + length (piece_text (expression operator vs))))) (sym placed)
+        ∙ ap (λ n. outside begin p.front ++ (inner ++ behind_it n)) (sym e))
+
+    expression_more : (there : ℕ) (x : Unit {0}) → there ≡ here + length (piece_text (expression operator vs)) → EndsAs puts halts inner b c (Ok x)
+        → HasReached s puts all a h begin here t b → HasReached s puts all a (later (2 * length vs) h) there there r c
+    expression_more there x e q p =
+        let k = ended_more puts halts laws all inner (behind_it there) a b c x (opened there e p) q in
+        record {
+          done = k.done;
+          front = [];
+          mid = c;
+          split = k.split;
+          fine = k.fine;
+          put = k.put;
+          into = laws.none c;
+        }
+
+    expression_exit : (error : Error) → EndsAs puts halts inner b c (Err error) → HasReached s puts all a h begin here t b
+        → EndsAs puts halts all a c (Err error)
+    expression_exit error q p =
+        let there = here + length (piece_text (expression operator vs)) in
+        ended_exit puts halts laws all inner (behind_it there) a b c error (opened there refl p) q
+
+  -- ---- a part
+  moved_none : (h k : Telling) → MovesBy 0 (Some h) (Some k) → h ≡ k
+  moved_none h k m = sym (moved_on 0 h k m ∙ later_none h)
+
+  literals_stand : (h : Telling) (begin here there : ℕ) (l r : List ℕ) → there ≡ here + length (template_text (map literal (chars l)))
+      → (front : List ℕ) → portions_from s h begin here front (map literal (chars l) ++ pieces_of r)
+      ≡ portions_from s h begin there (front ++ encoded (any_char s) l) (pieces_of r)
+  literals_stand h begin here there l r e front = literals_in s h begin here front (chars l) (pieces_of r)
+      ∙ ap (λ n. portions_from s h begin n (front ++ written s (chars l)) (pieces_of r)) (sym e)
+      ∙ ap (λ w. portions_from s h begin there (front ++ w) (pieces_of r)) (literals_are s l)
+
+  triplet_stands : (h : Telling) (begin here there : ℕ) (l : Bor (List ℕ)) (front x r : List ℕ) → there ≡ here + length x
+      → x ≡ template_text (part_pieces (part.Triplet l))
+      → portions_from s h begin here front (part_pieces (part.Triplet l) ++ pieces_of r) ≡ portions_from s h begin there (front ++ x) (pieces_of r)
+  triplet_stands h begin here there l front x r e text =
+      ap (λ n. portions_from s h begin (here + n) (front ++ template_text (part_pieces (part.Triplet l))) (pieces_of r)) (sym (ap length text))
+      ∙ ap (λ n. portions_from s h begin n (front ++ template_text (part_pieces (part.Triplet l))) (pieces_of r)) (sym e)
+      ∙ ap (λ u. portions_from s h begin there (front ++ u) (pieces_of r)) (sym text)
+
+  part_more : (p : Part) (t r x : List ℕ) (begin here there : ℕ) (b c : W) (y : Unit {0}) → PartCut p t r → IsPlaced p here
+      → x ≡ template_text (part_pieces p) → there ≡ here + (length t - length r) → (h k : Telling) → MovesBy (calls_of p) (Some h) (Some k)
+      → PartEnds s puts halts begin x b c (Ok y) p h → HasReached s puts all a h begin here t b
+      → HasReached s puts all a k (begin_behind p begin there) there r c
+  part_more (part.Literals l) t r x begin here there b c y cut placed text e h k m q p =
+      subst (λ (n : Telling). HasReached s puts all a n begin there r c) (moved_none h k m)
+      (literals_more h begin here there t r (encoded (any_char s) l.now) (map literal (chars l.now)) cut.pieces
+      (literals_stand h begin here there l.now r (omega (arith, cut.len, e))) b c q p)
+  part_more (part.Triplet l) t r x begin here there b c y cut placed text e h k m q p =
+      let z = ap length text in
+      subst (λ (n : Telling). HasReached s puts all a n begin there r c) (moved_none h k m)
+      (literals_more h begin here there t r x (part_pieces (part.Triplet l)) cut.pieces
+      (λ front. triplet_stands h begin here there l front x r (omega (arith, z, cut.len, e)) text) b c q p)
+  part_more (part.Expression x) t r u begin here there b c y cut placed text e h k m q p =
+      let vs = map varspec_of (pieces 44 x.varspecs.now) in
+      let z : length (template_text (part_pieces (part.Expression x))) ≡ length (piece_text (expression x.operator vs)) =
+      ap length (append-nil (piece_text (expression x.operator vs))) in
+      subst (λ (n : Telling). HasReached s puts all a n there there r c) (sym (moved_on (2 * length vs) h k m))
+      (expression_more h begin here t r x.operator vs x.location cut.pieces placed b c there y (omega (arith, z, cut.len)) q p)
+
+  part_exit : (p : Part) (t r x : List ℕ) (begin here : ℕ) (b c : W) (error : Error) → PartCut p t r → IsPlaced p here
+      → x ≡ template_text (part_pieces p) → length r < length t → (h : Telling)
+      → PartEnds s puts halts begin x b c (Err error) p h → HasReached s puts all a h begin here t b → EndsAs puts halts all a c (Err error)
+  part_exit (part.Literals l) t r x begin here b c error cut placed text shorter h q p =
+      let there = here + length (template_text (map literal (chars l.now))) in
+      let some : 0 < length (encoded (any_char s) l.now) = subst (λ w. 0 < length w) (literals_are s l.now)
+      (literals_written s (chars l.now) (omega (arith, cut.len, shorter))) in
+      literals_exit h begin here there t r (encoded (any_char s) l.now) (map literal (chars l.now)) cut.pieces
+      (literals_stand h begin here there l.now r refl) b c some error q.0 q.1 p
+  part_exit (part.Triplet l) t r x begin here b c error cut placed text shorter h q p =
+      let z = ap length text in
+      literals_exit h begin here (here + length x) t r x (part_pieces (part.Triplet l)) cut.pieces
+      (λ front. triplet_stands h begin here (here + length x) l front x r refl text) b c (omega (arith, z, cut.len)) error q.0 q.1 p
+  part_exit (part.Expression x) t r u begin here b c error cut placed text shorter h q p =
+      expression_exit h begin here t r x.operator (map varspec_of (pieces 44 x.varspecs.now)) x.location cut.pieces placed b c error q p
+
+-- ---- the loop, where the context tells
+module _ {W : Type 0} (s : Tests) (puts halts : W → List ℕ → W → Type 0) (laws : AreSinkLaws puts halts) (whole : List ℕ) (a : W) where
+  abbrev all_of : Telling → List Portion
+  all_of f = portions s f (pieces_of whole)
+
+  abbrev pub ReachedUpTo : ℕ → List ℕ → W → Telling → Telling → Type 0
+  ReachedUpTo begin rest b f h = HasReached s puts (all_of f) a h begin (length whole - length rest) rest b
+
+  pub reached_none : (t : Option Telling) → BothTold t t (ReachedUpTo 0 whole a)
+  reached_none None = tt
+  reached_none (Some f) =
+      let z : 0 ≡ length whole - length whole = omega arith in
+      record {
+        done = [];
+        front = [];
+        mid = a;
+        split = ap (λ n. portions_from s f 0 n [] (pieces_of whole)) z;
+        fine = refl;
+        put = laws.none a;
+        into = laws.none a;
+      }
+
+  pub reached_more : (p : Part) (t r x : List ℕ) (begin : ℕ) (b c : W) (y : Unit {0}) → PartCut p t r → IsPlaced p (length whole - length t)
+      → x ≡ template_text (part_pieces p) → length r < length t → length t ≤ length whole → (u w z : Option Telling)
+      → BothTold u w (ReachedUpTo begin t b) → MovesBy (calls_of p) w z → WhereTold w (PartEnds s puts halts begin x b c (Ok y) p)
+      → BothTold u z (ReachedUpTo (begin_behind p begin (length whole - length r)) r c)
+  reached_more p t r x begin b c y cut placed text shorter within None w z i m q = tt
+  reached_more p t r x begin b c y cut placed text shorter within (Some f) None z i m q = absurd i
+  reached_more p t r x begin b c y cut placed text shorter within (Some f) (Some h) None i m q = absurd m
+  reached_more p t r x begin b c y cut placed text shorter within (Some f) (Some h) (Some k) i m q =
+      part_more s puts halts laws (all_of f) a p t r x begin (length whole - length t) (length whole - length r) b c y cut placed text (omega arith) h k m q i
+
+  pub reached_exit : (p : Part) (t r x : List ℕ) (begin : ℕ) (b c : W) (error : Error) → PartCut p t r → IsPlaced p (length whole - length t)
+      → x ≡ template_text (part_pieces p) → length r < length t → (u w : Option Telling)
+      → BothTold u w (ReachedUpTo begin t b) → WhereTold w (PartEnds s puts halts begin x b c (Err error) p)
+      → WhereTold u (λ f. EndsAs puts halts (all_of f) a c (Err error))
+  reached_exit p t r x begin b c error cut placed text shorter None w i q = tt
+  reached_exit p t r x begin b c error cut placed text shorter (Some f) None i q = absurd i
+  reached_exit p t r x begin b c error cut placed text shorter (Some f) (Some h) i q =
+      part_exit s puts halts laws (all_of f) a p t r x begin (length whole - length t) b c error cut placed text shorter h q i
+
+  pub reached_end : (t : List ℕ) (begin : ℕ) (b : W) (y : Unit {0}) → length t ≡ 0 → (u w : Option Telling) → BothTold u w (ReachedUpTo begin t b)
+      → WhereTold u (λ f. EndsAs puts halts (all_of f) a b (Ok y))
+  reached_end t begin b y z None w i = tt
+  reached_end t begin b y z (Some f) None i = absurd i
+  reached_end t begin b y z (Some f) (Some h) i = reached_all s puts halts laws (all_of f) a h begin (length whole - length t) t b y z i
+
+-- ---- how many varspecs there are
+abbrev pub names_in : List ℕ → ℕ
+names_in t = length (names_of (pieces_of t))
+
+same_length : (vs : List VarSpec) → length (map (λ (v : VarSpec). v.name) vs ++ []) ≡ length vs
+same_length [] = refl
+same_length (v ∷ vs) = let e = same_length vs in omega arith
+
+part_names : (p : Part) → 2 * length (names_of (part_pieces p)) ≡ calls_of p
+part_names (part.Literals l) = ap (λ ns. 2 * length ns) (literals_have_none (chars l.now))
+part_names (part.Triplet l) = refl
+part_names (part.Expression e) = ap (λ n. 2 * n) (same_length (map varspec_of (pieces 44 e.varspecs.now)))
+
+pub names_left : (p : Part) (t r : List ℕ) → PartCut p t r → calls_of p + 2 * names_in r ≡ 2 * names_in t
+names_left p t r cut =
+    let e = ap (λ ps. length (names_of ps)) cut.pieces ∙ ap length (names_append (part_pieces p) (pieces_of r))
+    ∙ length-append (names_of (part_pieces p)) (names_of (pieces_of r)) in
+    omega (arith, part_names p, e)
+
+pub none_in : (t : List ℕ) → length t ≡ 0 → names_in t ≡ 0
+unfolding pieces_from
+none_in [] z = refl
+none_in (x ∷ xs) z = absurd (omega arith)

@@ -1,0 +1,138 @@
+-- A walk over varspecs without a fault, where values may change: the portions of those that are left.
+use Rattle.std.proofs.Common.{◌≡◌, ℕ, ◌+◌, ◌-◌, Bool, false, ◌||◌, List, [], ◌∷◌, Option, None, Some, length, map, sym, ◌∙◌}
+use Rattle.std.proofs.Common.{ap, subst, arith, Ok, Err}
+use denote.Ref.{Bor}
+use Rattle.iri_grammar.specs.Classes.{Tests}
+use Rattle.iri_grammar.specs.Cut.{before, behind}
+use Rattle.iri_grammar.specs.Pieces.{pieces}
+use Rattle.iri_grammar.specs.OptionalSlices.{now_of}
+use Rattle.iri_text.specs.Shown.{AreSinkLaws}
+use Rattle.iri_template.specs.Expansion.{row_of, value_texts}
+use Rattle.iri_template.specs.Fault.{moved, varspec_fault}
+use Rattle.iri_template.specs.Led.{led, has_texts}
+use Rattle.iri_template.specs.Left.{varspecs_left}
+use Rattle.iri_template.specs.Portions.{Portion, varspec_portions}
+use Rattle.iri_template.specs.Reading.{varspec_of}
+use Rattle.iri_template.specs.Tells.{Telling, later, WhereTold, MovesBy}
+use Rattle.iri_template.specs.TypeFaults.{is_mistyped, is_mistyped_as}
+use Rattle.iri_template.specs.VarSpecs.{IsHeld}
+use Rattle.iri_template.specs.Writings.{EndsAs}
+use Rattle.iri_template.specs.inside.Checked.{held_portion}
+use Rattle.iri_template.specs.inside.Written.{told_texts}
+use Rattle.iri_template.specs.declared.error.Error.{Error}
+use Rattle.iri_template.specs.declared.operator.Operator.{Operator}
+use Rattle.iri_template.specs.declared.var_spec.VarSpec.{VarSpec}
+use Rattle.iri_template.specs.declared.visitor.VisitPurpose.TheVariants.{Typecheck, Expand}
+use Rattle.iri_template.proofs.PortionWalk.{HasEnded, ended_none, ended_more, ended_exit, ended_end}
+use Rattle.iri_template.proofs.TellWalk.{BothTold, moved_on}
+use Rattle.iri_template.proofs.VarSpecWalk.{cut_spec, held_spec, mistyped_spec, spec_len}
+
+-- the varspecs in a text
+abbrev pub specs_in : List ℕ → ℕ
+specs_in t = length (map varspec_of (pieces 44 t))
+
+pub specs_cut : (t : List ℕ) (o : Option (Bor (List ℕ))) → now_of o ≡ behind 44 t → specs_in t ≡ length (map varspec_of (varspecs_left o)) + 1
+specs_cut t o e = let z = ap (λ ps. length (map varspec_of ps)) (cut_spec t o e) in omega (arith, z)
+
+module _ (s : Tests) (operator : Operator) where
+  -- what a varspec as it is held writes for the value of its second visit
+  abbrev pub told_at : VarSpec → Telling → List (List ℕ)
+  told_at v f = told_texts s (row_of operator) v.name.text.now v.modifier (f 1 v.name.text.now Expand)
+
+  -- its portion
+  abbrev pub portion_of : ℕ → Bool → VarSpec → Telling → Portion
+  portion_of at written v f =
+      held_portion s operator at written v (is_mistyped_as v.modifier (f 0 v.name.text.now Typecheck)) (f 1 v.name.text.now Expand)
+
+  -- the first portion, and those of the others
+  next_portion : (f : Telling) (at : ℕ) (written : Bool) (t : List ℕ) (v : VarSpec) (o : Option (Bor (List ℕ))) → now_of o ≡ behind 44 t
+      → moved 0 (varspec_fault (before 44 t)) ≡ None → IsHeld v (varspec_of (before 44 t))
+      → varspec_portions s operator f at written (map varspec_of (pieces 44 t))
+      ≡ portion_of at written v f
+      ∷ varspec_portions s operator (later 2 f) (at + length (before 44 t) + 1) (written || has_texts (told_at v f)) (map varspec_of (varspecs_left o))
+  next_portion f at written t v o e h i =
+      let w = varspec_of (before 44 t) in
+      let shape : List (List ℕ) → Bool → Bool → ℕ → List Portion = λ ts m n len.
+      (record { location = at; text = led (row_of operator) written ts; mistyped = m || n })
+      ∷ varspec_portions s operator (later 2 f) (at + len + 1) (written || has_texts ts) (map varspec_of (varspecs_left o)) in
+      let ts = value_texts s (row_of operator) w.name w.modifier (f 1 w.name Expand) in
+      let m = is_mistyped w.modifier (f 0 w.name Typecheck) in
+      let n = is_mistyped w.modifier (f 1 w.name Expand) in
+      ap (λ ps. varspec_portions s operator f at written (map varspec_of ps)) (cut_spec t o e)
+      ∙ ap (λ len. shape ts m n len) (spec_len (before 44 t) h)
+      ∙ ap (λ us. shape us m n (length (before 44 t))) (sym (held_spec s operator (λ name. f 1 name Expand) v w i))
+      ∙ ap (λ b. shape (told_at v f) b n (length (before 44 t))) (sym (mistyped_spec (λ name. f 0 name Typecheck) v w i))
+      ∙ ap (λ b. shape (told_at v f) (is_mistyped_as v.modifier (f 0 v.name.text.now Typecheck)) b (length (before 44 t)))
+      (sym (mistyped_spec (λ name. f 1 name Expand) v w i))
+
+  module _ {W : Type 0} (puts halts : W → List ℕ → W → Type 0) (laws : AreSinkLaws puts halts) (at : ℕ) (all : List ℕ) (a : W) where
+    -- all portions, and those that are left
+    abbrev whole : Telling → List Portion
+    whole f = varspec_portions s operator f at false (map varspec_of (pieces 44 all))
+
+    abbrev pub WrittenUpTo : Bool → List ℕ → W → Telling → Telling → Type 0
+    WrittenUpTo written rest b f h = HasEnded puts (whole f) a
+        (varspec_portions s operator h (at + (length all - length rest)) written (map varspec_of (pieces 44 rest))) b
+
+    pub up_to_none : (t : Option Telling) → BothTold t t (WrittenUpTo false all a)
+    up_to_none None = tt
+    up_to_none (Some f) =
+        let e : at ≡ at + (length all - length all) = omega arith in
+        subst (λ n. HasEnded puts (whole f) a (varspec_portions s operator f n false (map varspec_of (pieces 44 all))) a) e
+        (ended_none puts halts laws (whole f) a)
+
+    -- the next varspec, behind which `rest` begins
+    module _ (written : Bool) (t : List ℕ) (v : VarSpec) (o : Option (Bor (List ℕ))) (e : now_of o ≡ behind 44 t)
+        (fine : moved 0 (varspec_fault (before 44 t)) ≡ None) (i : IsHeld v (varspec_of (before 44 t))) (b c : W) where
+      abbrev place : ℕ
+      place = at + (length all - length t)
+
+      abbrev rest_of : Telling → List Portion
+      rest_of h = varspec_portions s operator (later 2 h) (place + length (before 44 t) + 1) (written || has_texts (told_at v h))
+          (map varspec_of (varspecs_left o))
+
+      parted : (f h : Telling) → WrittenUpTo written t b f h → HasEnded puts (whole f) a (portion_of place written v h ∷ rest_of h) b
+      parted f h p = subst (λ l. HasEnded puts (whole f) a l b) (next_portion h place written t v o e fine i) p
+
+      -- it was written
+      written_one : (f h k : Telling) (now : Bool) (x : Unit {0}) → now ≡ (written || has_texts (told_at v h)) → MovesBy 2 (Some h) (Some k)
+          → EndsAs puts halts (portion_of place written v h ∷ []) b c (Ok x) → WrittenUpTo written t b f h
+          → HasEnded puts (whole f) a (varspec_portions s operator k (place + length (before 44 t) + 1) now (map varspec_of (varspecs_left o))) c
+      written_one f h k now x is m q p =
+          subst (λ (n : Bool). HasEnded puts (whole f) a (varspec_portions s operator k (place + length (before 44 t) + 1) n (map varspec_of (varspecs_left o))) c) (sym is)
+          (subst (λ (l : Telling). HasEnded puts (whole f) a
+          (varspec_portions s operator l (place + length (before 44 t) + 1) (written || has_texts (told_at v h)) (map varspec_of (varspecs_left o))) c)
+          (sym (moved_on 2 h k m))
+          (ended_more puts halts laws (whole f) (portion_of place written v h ∷ []) (rest_of h) a b c x (parted f h p) q))
+
+      pub up_to_more : (r : List ℕ) (now : Bool) (x : Unit {0}) → varspecs_left o ≡ pieces 44 r
+          → at + (length all - length r) ≡ place + length (before 44 t) + 1 → (u w z : Option Telling)
+          → BothTold u w (WrittenUpTo written t b) → MovesBy 2 w z → WhereTold w (λ h. now ≡ (written || has_texts (told_at v h)))
+          → WhereTold w (λ h. EndsAs puts halts (portion_of place written v h ∷ []) b c (Ok x)) → BothTold u z (WrittenUpTo now r c)
+      up_to_more r now x left len None w z p m is q = tt
+      up_to_more r now x left len (Some f) None z p m is q = absurd p
+      up_to_more r now x left len (Some f) (Some h) None p m is q = absurd m
+      up_to_more r now x left len (Some f) (Some h) (Some k) p m is q =
+          subst (λ n. HasEnded puts (whole f) a (varspec_portions s operator k n now (map varspec_of (pieces 44 r))) c) (sym len)
+          (subst (λ ps. HasEnded puts (whole f) a (varspec_portions s operator k (place + length (before 44 t) + 1) now (map varspec_of ps)) c) left
+          (written_one f h k now x is m q p))
+
+      pub up_to_end : (now : Bool) (x y : Unit {0}) → varspecs_left o ≡ [] → (u w z : Option Telling) → BothTold u w (WrittenUpTo written t b)
+          → MovesBy 2 w z → WhereTold w (λ h. now ≡ (written || has_texts (told_at v h)))
+          → WhereTold w (λ h. EndsAs puts halts (portion_of place written v h ∷ []) b c (Ok x))
+          → WhereTold u (λ f. EndsAs puts halts (whole f) a c (Ok y))
+      up_to_end now x y none None w z p m is q = tt
+      up_to_end now x y none (Some f) None z p m is q = absurd p
+      up_to_end now x y none (Some f) (Some h) None p m is q = absurd m
+      up_to_end now x y none (Some f) (Some h) (Some k) p m is q =
+          ended_end puts halts laws (whole f) a c y
+          (subst (λ ps. HasEnded puts (whole f) a (varspec_portions s operator k (place + length (before 44 t) + 1) now (map varspec_of ps)) c) none
+          (written_one f h k now x is m q p))
+
+      pub up_to_exit : (error : Error) → (u w : Option Telling) → BothTold u w (WrittenUpTo written t b)
+          → WhereTold w (λ h. EndsAs puts halts (portion_of place written v h ∷ []) b c (Err error))
+          → WhereTold u (λ f. EndsAs puts halts (whole f) a c (Err error))
+      up_to_exit error None w p q = tt
+      up_to_exit error (Some f) None p q = absurd p
+      up_to_exit error (Some f) (Some h) p q =
+          ended_exit puts halts laws (whole f) (portion_of place written v h ∷ []) (rest_of h) a b c error (parted f h p) q

@@ -1,0 +1,117 @@
+use Rattle.std.proofs.Common.{◌≡◌, ◌-◌, length, refl, sym, ◌∙◌, subst, arith, rules}
+use Rattle.std.specs.Str.{IsUtf8, IsCharBoundary}
+use Rattle.std.proofs.lemmas.Bool.Decides.{nat_tests}
+use Rattle.std.proofs.lemmas.Str.{IsCharBoundary-at_seam}
+use Rattle.iri_template.specs.inside.PartEnds.{calls_of}
+use Rattle.iri_template.specs.inside.Parts.{part_pieces}
+use Rattle.iri_template.specs.Template.{template_text}
+use Rattle.iri_template.proofs.Fronts.{front_range}
+use Rattle.iri_template.proofs.PartPortions.{ReachedUpTo, reached_none, reached_more, reached_exit, reached_end, names_in, names_left, none_in}
+use Rattle.iri_template.proofs.PartWalk.{part_cut}
+use Rattle.iri_template.proofs.TellWalk.{BothTold, HasMoved, moved_none, moved_more, moved_all}
+use Rattle.iri_template.proofs.Walks.{never}
+use Rattle.iri_template.proofs.dynamic_writer.write_template.Goals as goal
+
+pub parts-init : goal.parts-init
+parts-init g c =
+    let w = g.W.TextSink in
+    let tells = g.C.DynamicContext.tells c.args.context.now in
+    record {
+      utf8 = c.utf8.template;
+      len = omega arith;
+      fine = c.requires;
+      far = reached_none g.S.Spec.tests w.puts w.halts g.met.W.TextSink.rules c.args.template.now c.args.sink.now tells;
+      moved = moved_none tells (names_in c.args.template.now);
+      starts = refl;
+      ends = refl;
+      later = omega arith;
+    }
+
+pub range-text-requires-clause-end_boundary : goal.range-text-requires-clause-end_boundary
+range-text-requires-clause-end_boundary g c =
+    let t = c.parts.rest.now in
+    let r = c.in-Ok.next.now in
+    let v : IsUtf8 r = search rules in
+    let k = part_cut c.in-Ok.part (length c.args.template.now - length t) t r c.in-Ok.ensures c.parts.invariant.utf8 v c.parts.invariant.fine in
+    let front = template_text (part_pieces c.in-Ok.part) in
+    let z : length front ≡ length t - length r = omega (arith, k.len) in
+    subst (IsCharBoundary t) z (IsCharBoundary-at_seam t front r k.text v)
+
+pub write_part-requires-clause-fine : goal.write_part-requires-clause-fine
+write_part-requires-clause-fine g c =
+    let t = c.parts.rest.now in
+    let v : IsUtf8 c.in-Ok.next.now = search rules in
+    (part_cut c.in-Ok.part (length c.args.template.now - length t) t c.in-Ok.next.now c.in-Ok.ensures c.parts.invariant.utf8 v
+    c.parts.invariant.fine).fault
+
+pub parts-preserved : goal.parts-preserved
+parts-preserved g c =
+    let w = g.W.TextSink in
+    let d = g.C.DynamicContext in
+    let i = c.parts.invariant in
+    let q = c.in-Ok-write_part.ensures in
+    let t = c.parts.rest.now in
+    let r = c.in-Ok.next.now in
+    let whole = c.args.template.now in
+    let v : IsUtf8 r = search rules in
+    let k = part_cut c.in-Ok.part (length whole - length t) t r c.in-Ok.ensures i.utf8 v i.fine in
+    let shorter = c.in-Ok.ensures.shorter in
+    let text = c.range-text.ensures.value ∙ front_range t (template_text (part_pieces c.in-Ok.part)) r (length t - length r) (sym k.text) refl in
+    record {
+      utf8 = v;
+      len = omega (arith, shorter, i.len);
+      fine = k.fine;
+      far =
+          subst (λ n. BothTold (d.tells c.args.context.now) (d.tells c.write_part.new.context)
+          (ReachedUpTo g.S.Spec.tests w.puts w.halts g.met.W.TextSink.rules whole c.args.sink.now n r c.write_part.new.sink))
+          (sym c.begin_behind-begin.ensures)
+          (reached_more g.S.Spec.tests w.puts w.halts g.met.W.TextSink.rules whole c.args.sink.now c.in-Ok.part t r c.range-text.result.now
+          c.parts.begin c.parts.sink c.write_part.new.sink tt k c.in-Ok.ensures.placed text shorter i.len
+          (d.tells c.args.context.now) (d.tells c.parts.context) (d.tells c.write_part.new.context) i.far q.moves q.written);
+      moved =
+          moved_more (d.tells c.args.context.now) (d.tells c.parts.context) (d.tells c.write_part.new.context) (names_in whole) (names_in t)
+          (names_in r) (calls_of c.in-Ok.part) (names_left c.in-Ok.part t r k) i.moved q.moves;
+      starts = q.same_starts ∙ i.starts;
+      ends = q.same_ends ∙ i.ends;
+      later = omega (arith, i.later, q.later);
+    }
+
+pub returns-in-Err-write_part-clause-written : goal.returns-in-Err-write_part-clause-written
+returns-in-Err-write_part-clause-written g c =
+    let w = g.W.TextSink in
+    let d = g.C.DynamicContext in
+    let i = c.parts.invariant in
+    let t = c.parts.rest.now in
+    let r = c.in-Ok.next.now in
+    let whole = c.args.template.now in
+    let v : IsUtf8 r = search rules in
+    let k = part_cut c.in-Ok.part (length whole - length t) t r c.in-Ok.ensures i.utf8 v i.fine in
+    let text = c.range-text.ensures.value ∙ front_range t (template_text (part_pieces c.in-Ok.part)) r (length t - length r) (sym k.text) refl in
+    reached_exit g.S.Spec.tests w.puts w.halts g.met.W.TextSink.rules whole c.args.sink.now c.in-Ok.part t r c.range-text.result.now
+    c.parts.begin c.parts.sink c.write_part.new.sink c.in-Err-write_part.error k c.in-Ok.ensures.placed text c.in-Ok.ensures.shorter
+    (d.tells c.args.context.now) (d.tells c.parts.context) i.far c.in-Err-write_part.ensures.written
+
+pub returns-in-Err-clause-written : goal.returns-in-Err-clause-written
+returns-in-Err-clause-written g c =
+    absurd (never (length c.args.template.now - length c.parts.rest.now) c.parts.rest.now c.in-Err.field-0 c.parts.invariant.fine c.in-Err.ensures)
+
+pub returns-in-Err-clause-moves : goal.returns-in-Err-clause-moves
+returns-in-Err-clause-moves g c =
+    absurd (never (length c.args.template.now - length c.parts.rest.now) c.parts.rest.now c.in-Err.field-0 c.parts.invariant.fine c.in-Err.ensures)
+
+pub returns-clause-written : goal.returns-clause-written
+returns-clause-written g c =
+    let w = g.W.TextSink in
+    let d = g.C.DynamicContext in
+    let none : length c.parts.rest.now ≡ 0 = grind (arith, nat_tests) in
+    reached_end g.S.Spec.tests w.puts w.halts g.met.W.TextSink.rules c.args.template.now c.args.sink.now c.parts.rest.now c.parts.begin c.parts.sink tt
+    none (d.tells c.args.context.now) (d.tells c.parts.context) c.parts.invariant.far
+
+pub returns-clause-moves : goal.returns-clause-moves
+returns-clause-moves g c =
+    let d = g.C.DynamicContext in
+    let none : length c.parts.rest.now ≡ 0 = grind (arith, nat_tests) in
+    let t = d.tells c.args.context.now in
+    let u = d.tells c.parts.context in
+    let all = names_in c.args.template.now in
+    moved_all t u all (subst (HasMoved t all u) (none_in c.parts.rest.now none) c.parts.invariant.moved)

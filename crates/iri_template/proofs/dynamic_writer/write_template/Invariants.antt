@@ -1,0 +1,27 @@
+use Rattle.std.proofs.Common.{◌≡◌, ◌≤◌, length, None}
+use denote.Text.{Utf8}
+use denote.Shadow.{shadow}
+use Rattle.iri_template.specs.Fault.{text_fault}
+use Rattle.iri_template.proofs.PartPortions.{names_in, ReachedUpTo}
+use Rattle.iri_template.proofs.TellWalk.{BothTold, HasMoved}
+use Rattle.iri_template.proofs.dynamic_writer.write_template.Given as goal
+
+-- the parts in front of those that are left were written, with two calls for each varspec
+abbrev pub invariant-parts : goal.invariant-parts
+invariant-parts g l =
+    let w = g.W.TextSink in
+    let d = g.C.DynamicContext in
+    record {
+      utf8 : shadow (Utf8 l.rest);
+      len : length l.rest ≤ length l.template;
+      fine : text_fault l.rest ≡ None;
+      far : BothTold (d.tells l.fn.context) (d.tells l.context) (ReachedUpTo g.S.Spec.tests w.puts w.halts g.met.W.TextSink.rules l.template
+          l.fn.sink l.begin l.rest l.sink);
+      moved : HasMoved (d.tells l.fn.context) (names_in l.template) (d.tells l.context) (names_in l.rest);
+      starts : d.starts l.context ≡ d.starts l.fn.context;
+      ends : d.ends l.context ≡ d.ends l.fn.context;
+      later : w.stops l.fn.sink ≤ w.stops l.sink;
+    }
+
+abbrev pub decreases-parts : goal.decreases-parts
+decreases-parts g l = length l.rest

@@ -1,0 +1,19 @@
+use Rattle.std.proofs.Common.{subst}
+use Rattle.iri_template.specs.Portions.{portions}
+use Rattle.iri_template.specs.Reading.{pieces_of}
+use Rattle.iri_template.specs.Tells.{always}
+use Rattle.iri_template.specs.Texts.{text}
+use Rattle.iri_template.specs.Writings.{EndsAs}
+use Rattle.iri_template.proofs.FixedLemmas.{fixed_ends}
+use Rattle.iri_template.proofs.laws.expanded_as_fixed.Goals as goal
+
+pub returns : goal.returns
+returns g c =
+    let w = g.W.TextSink in
+    let s = g.S.Spec.tests in
+    let value = g.C.Context.value_of in
+    let ps = pieces_of (text c.args.template) in
+    let call = c.expand_dynamic in
+    fixed_ends s (value c.args.context.now) w.puts w.halts ps c.args.writer.now call.new.writer call.result
+    (subst (λ x. EndsAs w.puts w.halts (portions s (always (value x)) ps) c.args.writer.now call.new.writer call.result) c.new-fixed.ensures
+    call.ensures.written)

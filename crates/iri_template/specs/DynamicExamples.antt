@@ -1,0 +1,67 @@
+-- Worked examples of what is written where values change.
+use Rattle.std.specs.Prelude.{◌≡◌, ℕ, zero, suc, false, List, [], ◌∷◌, None, codes, refl}
+use Rattle.std.specs.Str.{chars}
+use lib.Utf8.{encode}
+use Rattle.iri_grammar.specs.Classes.{uri_tests, unreserved, is_ascii_unreserved, any_char, is_ascii_any, is_ascii_reg_name, is_sub_delim, is_gen_delim}
+use Rattle.iri_template.specs.Fault.{fault}
+use Rattle.iri_template.specs.Portions.{Portion, portions, portions_fault, portions_text}
+use Rattle.iri_template.specs.Reading.{pieces_from, pieces_of}
+use Rattle.iri_template.specs.ShownValues.{undefined, string, list}
+use Rattle.iri_template.specs.Tells.{Telling, always}
+use Rattle.iri_template.specs.declared.error.ErrorKind.TheVariants.{UnexpectedValueType}
+
+abbrev written : List ℕ → ℕ → Portion
+written t at = record { location = at; text = t; mistyped = false }
+
+-- what stands between expressions is one portion, its triplets too; the operator's first text and separators belong to varspecs
+places : portions uri_tests (always (λ _. string (codes "1"))) (pieces_of (codes "a%41b{?x,y}c")) ≡ written (codes "a%41b") 0
+    ∷ written (codes "?x=1") 7 ∷ written (codes "&y=1") 9 ∷ written (codes "c") 11 ∷ []
+unfolding pieces_from chars encode unreserved is_ascii_unreserved any_char is_ascii_any is_ascii_reg_name is_sub_delim is_gen_delim
+places = refl
+
+around : portions uri_tests (always (λ _. string (codes "zz"))) (pieces_of (codes "ab{v}cd")) ≡ written (codes "ab") 0
+    ∷ written (codes "zz") 3 ∷ written (codes "cd") 5 ∷ []
+unfolding pieces_from chars encode unreserved is_ascii_unreserved any_char is_ascii_any is_ascii_reg_name is_sub_delim is_gen_delim
+around = refl
+
+-- a varspec without a value is a portion that writes nothing
+no_value : portions uri_tests (always (λ _. undefined)) (pieces_of (codes "hello/{world}")) ≡ written (codes "hello/") 0 ∷ written [] 7 ∷ []
+unfolding pieces_from chars encode unreserved is_ascii_unreserved any_char is_ascii_any is_ascii_reg_name is_sub_delim is_gen_delim
+no_value = refl
+
+-- a string, and from then on a list
+turning : Telling
+turning zero name purpose = string (codes "b")
+turning (suc k) name purpose = list (codes "a" ∷ [])
+
+mistyped_later : portions_fault (portions uri_tests turning (pieces_of (codes "x{v:3}"))) ≡ fault UnexpectedValueType 2
+unfolding turning pieces_from chars encode unreserved is_ascii_unreserved any_char is_ascii_any is_ascii_reg_name is_sub_delim is_gen_delim
+mistyped_later = refl
+
+text_before : portions_text (portions uri_tests turning (pieces_of (codes "x{v:3}y"))) ≡ codes "x"
+unfolding turning pieces_from chars encode unreserved is_ascii_unreserved any_char is_ascii_any is_ascii_reg_name is_sub_delim is_gen_delim
+text_before = refl
+
+-- without a length it is written
+no_length : portions_text (portions uri_tests turning (pieces_of (codes "x{v}y"))) ≡ codes "xay"
+unfolding turning pieces_from chars encode unreserved is_ascii_unreserved any_char is_ascii_any is_ascii_reg_name is_sub_delim is_gen_delim
+no_length = refl
+
+-- lists up to the third call, and strings from then on
+returning : Telling
+returning zero name purpose = list (codes "a" ∷ [])
+returning (suc zero) name purpose = list (codes "a" ∷ [])
+returning (suc (suc k)) name purpose = string (codes "bcd")
+
+-- calls 0 and 1 are of the first varspec, 2 and 3 of the second
+second_values : portions_text (portions uri_tests returning (pieces_of (codes "{/v,w:2}"))) ≡ codes "/a/bc"
+unfolding returning pieces_from chars encode unreserved is_ascii_unreserved any_char is_ascii_any is_ascii_reg_name is_sub_delim is_gen_delim
+second_values = refl
+
+mistyped_first : portions_fault (portions uri_tests returning (pieces_of (codes "{/w:2,v}"))) ≡ fault UnexpectedValueType 2
+unfolding returning pieces_from chars encode unreserved is_ascii_unreserved any_char is_ascii_any is_ascii_reg_name is_sub_delim is_gen_delim
+mistyped_first = refl
+
+right_types : portions_fault (portions uri_tests returning (pieces_of (codes "{/v,w:2}"))) ≡ None
+unfolding returning pieces_from chars encode unreserved is_ascii_unreserved any_char is_ascii_any is_ascii_reg_name is_sub_delim is_gen_delim
+right_types = refl

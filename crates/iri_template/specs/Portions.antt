@@ -1,0 +1,72 @@
+-- The portions of a template, which are written one after the other (RFC 6570 section 3.1): the literals and triplets up to the next expression, and each varspec. And what they write, where values may change from call to call.
+use Rattle.std.specs.Prelude.{ℕ, ◌+◌, ◌*◌, Bool, false, cond, ◌||◌, List, [], ◌∷◌, ◌++◌, length, Option, None}
+use Rattle.iri_grammar.specs.Characters.{percent_sign}
+use Rattle.iri_grammar.specs.Classes.{Tests, any_char}
+use Rattle.iri_percent.specs.Encoding.{encoded_char}
+use Rattle.iri_template.specs.Template.{VarSpec, Piece, literal, triplet, expression, operator_text, varspec_text, piece_text}
+use Rattle.iri_template.specs.Expansion.{row_of, value_texts}
+use Rattle.iri_template.specs.Fault.{fault}
+use Rattle.iri_template.specs.Led.{led, has_texts}
+use Rattle.iri_template.specs.ShownValues.{ShownValue}
+use Rattle.iri_template.specs.Tells.{Telling, later}
+use Rattle.iri_template.specs.TypeFaults.{is_mistyped}
+use Rattle.iri_template.specs.declared.error.Error.{Error}
+use Rattle.iri_template.specs.declared.error.ErrorKind.TheVariants.{UnexpectedValueType}
+use Rattle.iri_template.specs.declared.operator.Operator.{Operator}
+use Rattle.iri_template.specs.declared.visitor.VisitPurpose.TheVariants.{Typecheck, Expand}
+
+-- its place in the template, in bytes; what it writes; whether it is a varspec with a length that has no use for its value (section 2.4.1)
+pub record Portion : Type 0 where
+  pub location : ℕ
+  pub text : List ℕ
+  pub mistyped : Bool
+
+-- ---- varspecs
+-- One with a first value, told to look at its type, and a second one, told to be written. What it writes is the second one's texts; `written` says whether its expression has a text before it.
+abbrev pub varspec_portion : Tests → Operator → ℕ → Bool → VarSpec → ShownValue → ShownValue → Portion
+varspec_portion s operator at written v looked_at told = record {
+  location = at;
+  text = led (row_of operator) written (value_texts s (row_of operator) v.name v.modifier told);
+  mistyped = is_mistyped v.modifier looked_at || is_mistyped v.modifier told;
+}
+
+-- The varspecs of an expression, a comma between each two. Each takes two calls.
+abbrev pub varspec_portions : Tests → Operator → Telling → ℕ → Bool → List VarSpec → List Portion
+varspec_portions s operator tells at written [] = []
+varspec_portions s operator tells at written (v ∷ vs) =
+    varspec_portion s operator at written v (tells 0 v.name Typecheck) (tells 1 v.name Expand)
+    ∷ varspec_portions s operator (later 2 tells) (at + length (varspec_text v) + 1)
+    (written || has_texts (value_texts s (row_of operator) v.name v.modifier (tells 1 v.name Expand))) vs
+
+-- ---- templates
+-- literals and triplets outside expressions; none where there are none
+abbrev pub outside : ℕ → List ℕ → List Portion
+outside at [] = []
+outside at (x ∷ xs) = record { location = at; text = x ∷ xs; mistyped = false } ∷ []
+
+-- Of pieces that begin at `here`. Before them stand literals and triplets that begin at `at` and write `front`.
+abbrev pub portions_from : Tests → Telling → ℕ → ℕ → List ℕ → List Piece → List Portion
+portions_from s tells at here front [] = outside at front
+portions_from s tells at here front (literal c ∷ ps) =
+    portions_from s tells at (here + length (piece_text (literal c))) (front ++ encoded_char (any_char s) c) ps
+portions_from s tells at here front (triplet a b ∷ ps) =
+    portions_from s tells at (here + length (piece_text (triplet a b))) (front ++ percent_sign ∷ a ∷ b ∷ []) ps
+portions_from s tells at here front (expression operator vs ∷ ps) =
+    outside at front ++ (varspec_portions s operator tells (here + 1 + length (operator_text operator)) false vs
+    ++ portions_from s (later (2 * length vs) tells) (here + length (piece_text (expression operator vs)))
+    (here + length (piece_text (expression operator vs))) [] ps)
+
+-- The portions of a template's pieces. Where a context tells this from its next call on, the first varspec is looked at by call 0 and written by call 1, the second by calls 2 and 3, and so on.
+abbrev pub portions : Tests → Telling → List Piece → List Portion
+portions s tells ps = portions_from s tells 0 0 [] ps
+
+-- ---- the first that is mistyped
+-- its fault, at its place
+abbrev pub portions_fault : List Portion → Option Error
+portions_fault [] = None
+portions_fault (p ∷ ps) = cond p.mistyped (fault UnexpectedValueType p.location) (portions_fault ps)
+
+-- the texts before it, or of all where none is
+abbrev pub portions_text : List Portion → List ℕ
+portions_text [] = []
+portions_text (p ∷ ps) = cond p.mistyped [] (p.text ++ portions_text ps)

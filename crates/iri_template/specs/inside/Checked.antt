@@ -1,0 +1,69 @@
+-- What is written for the events of a value, where types are checked: a varspec with a length has no use for members.
+use Rattle.std.specs.Prelude.{ℕ, Bool, true, false, cond, not, ◌&&◌, ◌||◌, List, [], ◌∷◌}
+use Rattle.iri_grammar.specs.Classes.{Tests}
+use Rattle.iri_template.specs.Events.{Event, StringTold, Item, Entry}
+use Rattle.iri_template.specs.Expansion.{row_of}
+use Rattle.iri_template.specs.Led.{led}
+use Rattle.iri_template.specs.Portions.{Portion}
+use Rattle.iri_template.specs.ShownValues.{ShownValue}
+use Rattle.iri_template.specs.TypeFaults.{is_mistyped_as}
+use Rattle.iri_template.specs.inside.Members.{is_member}
+use Rattle.iri_template.specs.inside.Written.{WriteState, event_step, event_text, told_texts}
+use Rattle.iri_template.specs.declared.operator.Operator.{Operator}
+use Rattle.iri_template.specs.declared.place.Place.{Place}
+use Rattle.iri_template.specs.declared.var_spec.Modifier.{Modifier}
+use Rattle.iri_template.specs.declared.var_spec.Modifier.TheVariants.{Whole, Explode, Prefix}
+use Rattle.iri_template.specs.declared.var_spec.VarSpec.{VarSpec}
+
+abbrev pub has_length : Modifier → Bool
+has_length Whole = false
+has_length Explode = false
+has_length (Prefix n) = true
+
+-- how far the value was written; whether its type is checked; whether it had a member that was refused
+pub record CheckState : Type 0 where
+  pub write : WriteState
+  pub checks : Bool
+  pub mistyped : Bool
+
+abbrev pub refuses : CheckState → Bool
+refuses u = u.checks && has_length u.write.modifier
+
+-- a member, where members are refused
+abbrev pub is_misfit : CheckState → Event → Bool
+is_misfit u e = is_member e && refuses u
+
+abbrev pub checked_step : CheckState → Event → CheckState
+checked_step u e = cond (is_misfit u e) (record { write = u.write; checks = u.checks; mistyped = true })
+    (record { write = event_step u.write e; checks = u.checks; mistyped = u.mistyped })
+
+abbrev pub checked_text : Tests → CheckState → Event → List ℕ
+checked_text s u e = cond (is_misfit u e) [] (event_text s u.write e)
+
+-- whether a text is put for the event, where members may be refused
+abbrev pub is_put : Bool → Event → Bool
+is_put refused (StringTold t) = true
+is_put refused (Item t) = not refused
+is_put refused (Entry k t) = not refused
+is_put refused e = false
+
+abbrev pub puts_some : Bool → List Event → Bool
+puts_some refused [] = false
+puts_some refused (e ∷ es) = is_put refused e || puts_some refused es
+
+-- ---- a varspec as it is held
+-- what it writes for a value
+abbrev pub place_texts : Tests → Place → ShownValue → List (List ℕ)
+place_texts s p told = told_texts s (row_of p.operator) p.name.text.now p.modifier told
+
+-- its portion, with the value that is told to be written; whether the one before was mistyped
+abbrev pub place_portion : Tests → ℕ → Place → Bool → ShownValue → Portion
+place_portion s at p mistyped told = record {
+  location = at;
+  text = led (row_of p.operator) p.written (place_texts s p told);
+  mistyped = mistyped || is_mistyped_as p.modifier told;
+}
+
+abbrev pub held_portion : Tests → Operator → ℕ → Bool → VarSpec → Bool → ShownValue → Portion
+held_portion s operator at written v mistyped told =
+    place_portion s at (record { operator = operator; name = v.name; modifier = v.modifier; written = written; member = false }) mistyped told

@@ -1,0 +1,45 @@
+-- How the writing of a template's part ends, where values may change.
+use Rattle.std.specs.Prelude.{◌≡◌, ℕ, ◌*◌, false, List, length, map, Result, Ok, Err}
+use Rattle.iri_grammar.specs.Classes.{Tests, any_char}
+use Rattle.iri_percent.specs.Encoding.{encoded}
+use Rattle.iri_grammar.specs.Pieces.{pieces}
+use Rattle.iri_text.specs.declared.shown.show.Stop.{Stop}
+use Rattle.iri_template.specs.Portions.{varspec_portions}
+use Rattle.iri_template.specs.Reading.{varspec_of}
+use Rattle.iri_template.specs.Tells.{Telling}
+use Rattle.iri_template.specs.Writings.{EndsAs}
+use Rattle.iri_template.specs.declared.error.Error.{Error}
+use Rattle.iri_template.specs.declared.error.ErrorKind.TheVariants.{WriteFailed}
+use Rattle.iri_template.specs.declared.part.Part.{Part}
+use Rattle.iri_template.specs.declared.part.Part.TheVariants as part
+
+-- a text went in, or the sink stopped within it, which is told at this place
+abbrev pub LiteralsEnd : {W : Type 0} → (W → List ℕ → W → Type 0) → (W → List ℕ → W → Type 0) → ℕ → List ℕ → W → W → Result (Unit {0}) Error
+    → Type 0
+LiteralsEnd puts halts at text old new (Ok x) = puts old text new
+LiteralsEnd puts halts at text old new (Err e) = (e ≡ record { kind = WriteFailed; location = at }) × halts old text new
+
+-- what is told of a text that was put, or within which the sink stopped
+abbrev pub told_of : ℕ → Result (Unit {0}) Stop → Result (Unit {0}) Error
+told_of at (Ok x) = Ok x
+told_of at (Err e) = Err (record { kind = WriteFailed; location = at })
+
+-- of a part with this text; literals and triplets without an expression between them begin at this place
+abbrev pub PartEnds : {W : Type 0} → Tests → (W → List ℕ → W → Type 0) → (W → List ℕ → W → Type 0) → ℕ → List ℕ → W → W
+    → Result (Unit {0}) Error → Part → Telling → Type 0
+PartEnds s puts halts at text old new r (part.Literals l) tells = LiteralsEnd puts halts at (encoded (any_char s) l.now) old new r
+PartEnds s puts halts at text old new r (part.Triplet l) tells = LiteralsEnd puts halts at text old new r
+PartEnds s puts halts at text old new r (part.Expression e) tells =
+    EndsAs puts halts (varspec_portions s e.operator tells e.location false (map varspec_of (pieces 44 e.varspecs.now))) old new r
+
+-- how many calls of the context a part takes
+abbrev pub calls_of : Part → ℕ
+calls_of (part.Literals l) = 0
+calls_of (part.Triplet l) = 0
+calls_of (part.Expression e) = 2 * length (map varspec_of (pieces 44 e.varspecs.now))
+
+-- where literals and triplets begin behind this part, which ends at `end`
+abbrev pub begin_behind : Part → ℕ → ℕ → ℕ
+begin_behind (part.Literals l) begin end = begin
+begin_behind (part.Triplet l) begin end = begin
+begin_behind (part.Expression e) begin end = end

@@ -1,0 +1,75 @@
+//! Contexts whose values may change while a template is expanded.
+ghost use Rattle.std.specs.Prelude.{◌≡◌, ℕ, Option};
+ghost use Rattle.iri_template.specs.Tells.{Telling, VisitsNext, Calls, StartsOnce, EndsOnce};
+ghost use Rattle.iri_template.specs.declared.visitor.Phase.TheVariants.{Fresh};
+
+use crate::context::Context;
+use crate::visitor::Visitor;
+use iri_text::Stop;
+
+/// What has the values of variables, which may change with each call. An expansion calls `on_expansion_start` once, then
+/// for each varspec `visit_dynamic` to look at the value's type and `visit_dynamic` again to write the value, and at last
+/// `on_expansion_end` once.
+pub trait DynamicContext {
+    /// The values that visits tell, where the context says so: behind so many more calls of these three, for a name and a
+    /// purpose.
+    ghost tells: { Self → Option Telling };
+
+    /// How many expansions were started, where it is told.
+    ghost starts: { Self → Option ℕ };
+
+    /// How many expansions were ended, where it is told.
+    ghost ends: { Self → Option ℕ };
+
+    /// Tells the visitor the value of the variable that it names. It answers `Stop` only where the visitor did.
+    fn visit_dynamic<V: Visitor>(&mut self, visitor: &mut V) -> Result<(), Stop>
+        requires { V.phase visitor.old ≡ Fresh }
+        ensures visit { VisitsNext V.name V.aim V.phase V.hears V.halts V.stops (tells self.old) visitor.old visitor.new
+            result }
+        ensures call { Calls 1 (tells self.old) (tells self.new) (starts self.old) (starts self.new) (ends self.old)
+            (ends self.new) };
+
+    /// An expansion starts.
+    fn on_expansion_start(&mut self)
+        ensures { StartsOnce (tells self.old) (tells self.new) (starts self.old) (starts self.new) (ends self.old)
+            (ends self.new) };
+
+    /// An expansion ends, whether it succeeded or not.
+    fn on_expansion_end(&mut self)
+        ensures { EndsOnce (tells self.old) (tells self.new) (starts self.old) (starts self.new) (ends self.old)
+            (ends self.new) };
+}
+
+/// A dynamic context whose values stay as they are: those of a `Context`.
+#[derive(Drop)]
+pub struct Fixed<'a, C> {
+    context: &'a C,
+}
+
+impl<'a, C: Context> Fixed<'a, C> {
+    /// It tells what this context tells.
+    pub fn new(context: &'a C) -> Fixed<'a, C>
+        ensures { result.context.now ≡ context.now }
+    {
+        Fixed { context }
+    }
+}
+
+impl<'a, C: Context> DynamicContext for Fixed<'a, C> {
+    ghost use Rattle.std.specs.Prelude.{None, Some};
+    ghost use Rattle.iri_template.specs.Tells.{always};
+
+    ghost tells = { λ f. Some (always (C.value_of f.context.now)) };
+
+    ghost starts = { λ f. None };
+
+    ghost ends = { λ f. None };
+
+    fn visit_dynamic<V: Visitor>(&mut self, visitor: &mut V) -> Result<(), Stop> {
+        self.context.visit(visitor)
+    }
+
+    fn on_expansion_start(&mut self) {}
+
+    fn on_expansion_end(&mut self) {}
+}

@@ -1,0 +1,183 @@
+//! Expressions that are written where values may change (RFC 6570 section 3.2.1).
+ghost use Rattle.std.specs.Prelude.{◌≡◌, ◌≤◌, ◌<◌, ◌+◌, ◌*◌, ◌^◌, ◌||◌, [], ◌∷◌, true, false, map, length, OnOk, None};
+ghost use Rattle.iri_grammar.specs.Pieces.{pieces};
+ghost use Rattle.iri_template.specs.Expansion.{row_of};
+ghost use Rattle.iri_template.specs.Fault.{varspecs_fault};
+ghost use Rattle.iri_template.specs.Led.{has_texts};
+ghost use Rattle.iri_template.specs.Portions.{varspec_portions};
+ghost use Rattle.iri_template.specs.Reading.{varspec_of};
+ghost use Rattle.iri_template.specs.Tells.{WhereTold, MovesBy, Calls};
+ghost use Rattle.iri_template.specs.TypeFaults.{is_mistyped_as};
+ghost use Rattle.iri_template.specs.Writings.{EndsAs, HasCause};
+ghost use Rattle.iri_template.specs.inside.Checked.{place_texts, place_portion, held_portion};
+ghost use Rattle.iri_template.specs.inside.Written.{told_texts};
+ghost use Rattle.iri_template.specs.declared.visitor.Phase.TheVariants.{Fresh};
+ghost use Rattle.iri_template.specs.declared.visitor.VisitPurpose.TheVariants.{Typecheck, Expand};
+
+use crate::dynamic_context::DynamicContext;
+use crate::error::{Error, ErrorKind};
+use crate::operator::Operator;
+use crate::place::{Place, has_length};
+use crate::type_check::TypeCheck;
+use crate::value_writer::ValueWriter;
+use crate::var_spec::VarSpec;
+use crate::varspecs::read_first;
+use iri_grammar::spec::Spec;
+use iri_text::TextSink;
+
+/// Looks at the value that the context tells next: whether the varspec has no use for it.
+fn looks_mistyped<C: DynamicContext>(context: &mut C, varspec: VarSpec<'_>) -> bool
+    ensures value { WhereTold (C.tells context.old)
+        (λ f. result ≡ is_mistyped_as varspec.entry.modifier (f 0 varspec.entry.name.text.now Typecheck)) }
+    ensures call { Calls 1 (C.tells context.old) (C.tells context.new) (C.starts context.old) (C.starts context.new)
+        (C.ends context.old) (C.ends context.new) }
+{
+    let mut visitor = TypeCheck::new(varspec.name);
+    match context.visit_dynamic(&mut visitor) {
+        Ok(()) => has_length(varspec.modifier) && visitor.members,
+        Err(_) => false,
+    }
+}
+
+/// Tells a writer the value that the context tells next. `at` is the place of the varspec.
+fn tell_next<C: DynamicContext, S: Spec, W: TextSink>(
+    visitor: &mut ValueWriter<S, W>,
+    context: &mut C,
+    at: usize,
+) -> Result<(), Error>
+    requires fresh { visitor.old.phase ≡ Fresh }
+    requires first { visitor.old.place.member ≡ false }
+    requires checks { visitor.old.checks ≡ true }
+    requires right { visitor.old.mistyped ≡ false }
+    ensures written { WhereTold (C.tells context.old)
+        (λ f. EndsAs W.puts W.halts (place_portion S.tests at visitor.old.place false
+        (f 0 visitor.old.place.name.text.now Expand) ∷ []) visitor.old.to.now visitor.new.to.now
+        result) }
+    ensures goes_on { OnOk result (WhereTold (C.tells context.old)
+        (λ f. visitor.new.place.written ≡ (visitor.old.place.written || has_texts
+        (place_texts S.tests visitor.old.place (f 0 visitor.old.place.name.text.now Expand))))) }
+    ensures same { visitor.new.to.ghost_name ≡ visitor.old.to.ghost_name }
+    ensures cause { HasCause (W.stops visitor.old.to.now) (W.stops visitor.new.to.now) result }
+    ensures later { W.stops visitor.old.to.now ≤ W.stops visitor.new.to.now }
+    ensures call { Calls 1 (C.tells context.old) (C.tells context.new) (C.starts context.old) (C.starts context.new)
+        (C.ends context.old) (C.ends context.new) }
+{
+    match context.visit_dynamic(visitor) {
+        Ok(()) => {
+            if visitor.mistyped {
+                Err(Error::new(ErrorKind::UnexpectedValueType, at))
+            } else {
+                Ok(())
+            }
+        }
+        Err(_) => Err(Error::new(ErrorKind::WriteFailed, at)),
+    }
+}
+
+/// Writes the value that the context tells next, behind the operator's first text or its separator. `at` is the place of
+/// the varspec.
+fn write_next<C: DynamicContext, S: Spec, W: TextSink>(
+    sink: &mut W,
+    context: &mut C,
+    operator: Operator,
+    varspec: VarSpec<'_>,
+    at: usize,
+    written: &mut bool,
+) -> Result<(), Error>
+    ensures written { WhereTold (C.tells context.old)
+        (λ f. EndsAs W.puts W.halts (held_portion S.tests operator at written.old varspec.entry false
+        (f 0 varspec.entry.name.text.now Expand) ∷ []) sink.old sink.new result) }
+    ensures goes_on { OnOk result (WhereTold (C.tells context.old)
+        (λ f. written.new ≡ (written.old || has_texts (told_texts S.tests (row_of operator) varspec.entry.name.text.now
+        varspec.entry.modifier (f 0 varspec.entry.name.text.now Expand))))) }
+    ensures cause { HasCause (W.stops sink.old) (W.stops sink.new) result }
+    ensures later { W.stops sink.old ≤ W.stops sink.new }
+    ensures call { Calls 1 (C.tells context.old) (C.tells context.new) (C.starts context.old) (C.starts context.new)
+        (C.ends context.old) (C.ends context.new) }
+{
+    let place = Place {
+        operator,
+        name: varspec.name,
+        modifier: varspec.modifier,
+        written: *written,
+        member: false,
+    };
+    let mut visitor = ValueWriter::<S, W>::new(sink, place, true);
+    let result = tell_next(&mut visitor, context, at);
+    *written = visitor.place.written;
+    result
+}
+
+/// Looks at the value of a variable, and then writes it.
+fn write_varspec<C: DynamicContext, S: Spec, W: TextSink>(
+    sink: &mut W,
+    context: &mut C,
+    operator: Operator,
+    varspec: VarSpec<'_>,
+    at: usize,
+    written: &mut bool,
+) -> Result<(), Error>
+    ensures written { WhereTold (C.tells context.old)
+        (λ f. EndsAs W.puts W.halts (held_portion S.tests operator at written.old varspec.entry
+        (is_mistyped_as varspec.entry.modifier (f 0 varspec.entry.name.text.now Typecheck))
+        (f 1 varspec.entry.name.text.now Expand) ∷ []) sink.old sink.new result) }
+    ensures goes_on { OnOk result (WhereTold (C.tells context.old)
+        (λ f. written.new ≡ (written.old || has_texts (told_texts S.tests (row_of operator) varspec.entry.name.text.now
+        varspec.entry.modifier (f 1 varspec.entry.name.text.now Expand))))) }
+    ensures cause { HasCause (W.stops sink.old) (W.stops sink.new) result }
+    ensures later { W.stops sink.old ≤ W.stops sink.new }
+    ensures moves { OnOk result (MovesBy 2 (C.tells context.old) (C.tells context.new)) }
+    ensures same_starts { C.starts context.new ≡ C.starts context.old }
+    ensures same_ends { C.ends context.new ≡ C.ends context.old }
+{
+    if looks_mistyped(context, varspec) {
+        return Err(Error::new(ErrorKind::UnexpectedValueType, at));
+    }
+    write_next::<C, S, W>(sink, context, operator, varspec, at, written)
+}
+
+/// Writes the values of varspecs, which have no fault. `at` is their place, and a brace stands behind them.
+pub(crate) fn write_varspecs<C: DynamicContext, S: Spec, W: TextSink>(
+    sink: &mut W,
+    context: &mut C,
+    operator: Operator,
+    varspecs: &str,
+    at: usize,
+) -> Result<(), Error>
+    requires fine { varspecs_fault 0 (pieces 44 varspecs.now) ≡ None }
+    requires fits { at + length varspecs.now + 1 < 2 ^ 64 }
+    ensures written { WhereTold (C.tells context.old)
+        (λ f. EndsAs W.puts W.halts
+        (varspec_portions S.tests operator f at false (map varspec_of (pieces 44 varspecs.now))) sink.old sink.new result) }
+    ensures cause { HasCause (W.stops sink.old) (W.stops sink.new) result }
+    ensures later { W.stops sink.old ≤ W.stops sink.new }
+    ensures moves { OnOk result (MovesBy (2 * length (map varspec_of (pieces 44 varspecs.now))) (C.tells context.old)
+        (C.tells context.new)) }
+    ensures same_starts { C.starts context.new ≡ C.starts context.old }
+    ensures same_ends { C.ends context.new ≡ C.ends context.old }
+{
+    let mut rest = varspecs;
+    let mut written = false;
+    'varspecs: loop {
+        match read_first(rest, 0) {
+            Ok((varspec, others)) => {
+                let place = at + (varspecs.len() - rest.len());
+                match write_varspec::<C, S, W>(
+                    sink,
+                    context,
+                    operator,
+                    varspec,
+                    place,
+                    &mut written,
+                ) {
+                    Ok(()) => match others {
+                        Some(more) => rest = more,
+                        None => return Ok(()),
+                    },
+                    Err(error) => return Err(error),
+                }
+            }
+            Err(_) => return Ok(()),
+        }
+    }
+}
