@@ -58,7 +58,7 @@ obeyed_next cs (Remove t) =
     ∙ (entries_grouped (without_lines t (live cs))
     ∙ (grouped_without t (live cs) ∙ ap (λ es. removed es t) (sym (entries_grouped (live cs)))))
 
-obeyed_from : (done cs : List Command) → fold obeyed (entries_of_commands done) cs ≡ entries_of_commands (done ++ cs)
+pub obeyed_from : (done cs : List Command) → fold obeyed (entries_of_commands done) cs ≡ entries_of_commands (done ++ cs)
 obeyed_from done [] = ap entries_of_commands (sym (append-nil done))
 obeyed_from done (c ∷ cs) =
     ap (λ es. fold obeyed es cs) (sym (obeyed_next done c))

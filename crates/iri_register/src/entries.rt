@@ -1,5 +1,5 @@
 //! The entries, kept in a map in first-seen order.
-ghost use Rattle.std.specs.Prelude.{◌≡◌, ◌<◌, if◌then◌else◌, length, map as mapped, option_map, string_bytes};
+ghost use Rattle.std.specs.Prelude.{◌≡◌, ◌<◌, if◌then◌else◌, length, map as mapped, option_map};
 ghost use Rattle.std.specs.Prelude.{None, IfOk, is_ok};
 ghost use Rattle.std.specs.List.{IsDistinct};
 ghost use Rattle.std.specs.Str.{bytes_eq};
@@ -49,11 +49,12 @@ fn add_line(map: &mut Map, target: &str, index: usize, line: u64) -> Result<(), 
 }
 
 // Puts an entry of a new target last.
-fn add_entry(alloc: Global, map: &mut Map, target: String, line: u64) -> Result<(), AllocError>
-    requires { place (listed map.old) (string_bytes target) ≡ None }
+fn add_entry(alloc: Global, map: &mut Map, target: &str, line: u64) -> Result<(), AllocError>
+    requires { place (listed map.old) target.now ≡ None }
     ensures { listed map.new
-        ≡ (if is_ok result then added (listed map.old) (string_bytes target) line else listed map.old) }
+        ≡ (if is_ok result then added (listed map.old) target.now line else listed map.old) }
 {
+    let target = String::from_str(alloc, target)?;
     let mut lines = Vec::new(alloc);
     lines.push(line)?;
     map.insert(target, lines)?;
@@ -75,17 +76,17 @@ pub(crate) fn remove(map: &mut Map, target: &str) -> Option<usize>
 pub(crate) fn add(
     alloc: Global,
     map: &mut Map,
-    target: String,
+    target: &str,
     line: u64,
 ) -> Result<Added, AllocError>
-    ensures answer { IfOk result (IsAdded (listed map.old) (string_bytes target)) }
+    ensures answer { IfOk result (IsAdded (listed map.old) target.now) }
     ensures entries { listed map.new
-        ≡ (if is_ok result then added (listed map.old) (string_bytes target) line else listed map.old) }
+        ≡ (if is_ok result then added (listed map.old) target.now line else listed map.old) }
 {
     let len = map.len();
-    match map.get_index_of(target.as_str()) {
+    match map.get_index_of(target) {
         Some(index) => {
-            add_line(map, target.as_str(), index, line)?;
+            add_line(map, target, index, line)?;
             Ok(Added::Old(index + 1))
         }
         None => {

@@ -31,6 +31,8 @@ use std::marker::Model;
 pub struct Register<S: Spec> {
     alloc: Global,
     base: RiAbsoluteString<S>,
+    // The target of the last line, for the look-up.
+    target: String,
     map: IndexMap<String, Vec<u64>>,
 }
 
@@ -43,23 +45,23 @@ impl<S: Spec> Model for Register<S> {
     ghost view = { λ r. record { base = r.base.text; entries = listed r.map } };
 }
 
-// The canonical target of a reference.
-fn target<S: Spec>(
-    alloc: Global,
+// Writes the canonical target of a reference in place of what the buffer holds.
+fn write_target<S: Spec>(
+    buffer: &mut String,
     base: RiAbsoluteStr<'_, S>,
     reference: &[u8],
-) -> Result<String, RegisterError>
+) -> Result<(), RegisterError>
     ensures causes { MatchResult result (λ _. bytes_fault (reference_fault S.tests) reference.now ≡ None)
         (λ e. CausedBy e (bytes_fault (reference_fault S.tests) reference.now)) }
-    ensures text { IfOk result (λ t. string_bytes t ≡ canonical S.tests (text base.entry) reference.now) }
+    ensures text { OnOk result (string_bytes buffer.new ≡ canonical S.tests (text base.entry) reference.now) }
 {
     match SplitView::try_from_bytes(reference) {
         Ok(reference) => {
-            let mut text = String::new(alloc);
             let resolver = FixedBaseResolver::new(base);
+            buffer.clear();
             let canonical = resolver.resolve_split(&reference).and_normalize();
-            match try_append_to_string(&mut text, &canonical) {
-                Ok(()) => Ok(text),
+            match try_append_to_string(buffer, &canonical) {
+                Ok(()) => Ok(()),
                 Err(_) => Err(RegisterError::Memory),
             }
         }
@@ -76,6 +78,7 @@ impl<S: Spec> Register<S> {
         Register {
             alloc,
             base,
+            target: String::new(alloc),
             map: IndexMap::new(alloc),
         }
     }
@@ -96,8 +99,9 @@ impl<S: Spec> Register<S> {
             (λ e. CausedBy e (bytes_fault (reference_fault S.tests) reference.now)) }
         ensures answer { IfOk result (λ k. k ≡ place self.now.entries (canonical S.tests self.now.base reference.now)) }
     {
-        match target(self.alloc, self.base.as_slice(), reference) {
-            Ok(target) => Ok(entries::find(&self.map, target.as_str())),
+        let mut target = String::new(self.alloc);
+        match write_target(&mut target, self.base.as_slice(), reference) {
+            Ok(()) => Ok(entries::find(&self.map, target.as_str())),
             Err(error) => Err(error),
         }
     }
@@ -117,8 +121,8 @@ impl<S: Spec> Register<S> {
         ensures base { self.new.base ≡ self.old.base }
         ensures unchanged { OnErr result (self.new ≡ self.old) }
     {
-        match target(self.alloc, self.base.as_slice(), reference) {
-            Ok(target) => match entries::add(self.alloc, &mut self.map, target, line) {
+        match write_target(&mut self.target, self.base.as_slice(), reference) {
+            Ok(()) => match entries::add(self.alloc, &mut self.map, self.target.as_str(), line) {
                 Ok(answer) => Ok(answer),
                 Err(_) => Err(RegisterError::Memory),
             },
@@ -142,8 +146,8 @@ impl<S: Spec> Register<S> {
         ensures base { self.new.base ≡ self.old.base }
         ensures unchanged { OnErr result (self.new ≡ self.old) }
     {
-        match target(self.alloc, self.base.as_slice(), reference) {
-            Ok(target) => Ok(entries::remove(&mut self.map, target.as_str())),
+        match write_target(&mut self.target, self.base.as_slice(), reference) {
+            Ok(()) => Ok(entries::remove(&mut self.map, self.target.as_str())),
             Err(error) => Err(error),
         }
     }

@@ -1,17 +1,67 @@
-mod histories;
-
 use crate::added::Added;
 use crate::error::RegisterError;
 use crate::register::Register;
 use iri_grammar::error::ErrorKind;
 use iri_grammar::spec::{IriSpec, Spec, UriSpec};
 use iri_owned::owned::RiAbsoluteString;
+use std::alloc::Global;
 use std::test::Fail;
 
+// What a call answered.
+#[derive(Clone, Copy, Debug, PartialEq, Eq)]
+enum Answer {
+    Put(Added),
+    Gone(usize),
+    At(usize),
+    Nothing,
+    Bad(ErrorKind),
+}
+
 // The empty register of a base.
-fn register<S: Spec>(rt: &HostRuntime, base: &str) -> Result<Register<S>, Fail> {
-    let base = RiAbsoluteString::try_from_str(rt.alloc(), base)?;
-    Ok(Register::new(rt.alloc(), base))
+fn register<S: Spec>(alloc: Global, base: &str) -> Result<Register<S>, Fail> {
+    let base = RiAbsoluteString::try_from_str(alloc, base)?;
+    Ok(Register::new(alloc, base))
+}
+
+// The answer where a reference is refused.
+fn refused(error: RegisterError) -> Result<Answer, RegisterError> {
+    match error {
+        RegisterError::Bad(error) => Ok(Answer::Bad(error.kind())),
+        RegisterError::Memory => Err(RegisterError::Memory),
+    }
+}
+
+fn remove<S: Spec>(register: &mut Register<S>, reference: &[u8]) -> Result<Answer, RegisterError> {
+    match register.remove(reference) {
+        Ok(Some(count)) => Ok(Answer::Gone(count)),
+        Ok(None) => Ok(Answer::Nothing),
+        Err(error) => refused(error),
+    }
+}
+
+fn find<S: Spec>(register: &Register<S>, reference: &[u8]) -> Result<Answer, RegisterError> {
+    match register.find(reference) {
+        Ok(Some(place)) => Ok(Answer::At(place)),
+        Ok(None) => Ok(Answer::Nothing),
+        Err(error) => refused(error),
+    }
+}
+
+// What the call of a letter answers: `a` adds, `d` removes, `f` finds.
+fn call<S: Spec>(
+    register: &mut Register<S>,
+    letter: u8,
+    reference: &[u8],
+    line: u64,
+) -> Result<Answer, RegisterError> {
+    match letter {
+        b'd' => remove(register, reference),
+        b'f' => find(register, reference),
+        _ => match register.add(reference, line) {
+            Ok(added) => Ok(Answer::Put(added)),
+            Err(error) => refused(error),
+        },
+    }
 }
 
 // Whether the entry at a place has this target and these lines.
@@ -27,83 +77,49 @@ fn is_no_entry<S: Spec>(register: &Register<S>, place: usize) -> bool {
     register.target_at(place).is_none() && register.lines_at(place).is_none()
 }
 
-// Whether a reference was refused for this fault.
-fn is_bad<T: Drop>(answer: Result<T, RegisterError>, kind: ErrorKind) -> bool {
-    matches!(answer, Err(RegisterError::Bad(e)) if e.kind() == kind)
-}
-
 #[test]
-fn lines_share_entries(rt: HostRuntime) -> Result<(), Fail> {
-    let mut register = register::<UriSpec>(&rt, "http://a/")?;
-    assert!(rt; register.len() == 0 && is_no_entry(&register, 1));
-    assert_eq!(rt; register.add(b"x/../b", 2)?, Added::New(1));
-    assert_eq!(rt; register.add(b"/%62", 3)?, Added::Old(1));
-    assert_eq!(rt; register.add(b"c", 4)?, Added::New(2));
-    assert!(rt; register.len() == 2);
-    assert!(rt; register.find(b"HTTP://A/b")? == Some(1));
-    assert!(rt; register.find(b"d")?.is_none());
-    assert!(rt; register.len() == 2);
-    assert!(rt; is_entry(&register, 2, "http://a/c", &[4]));
-    assert!(rt; register.remove(b"c")? == Some(1));
-    assert!(rt; register.remove(b"c")?.is_none());
-    assert!(rt; register.len() == 1);
-    assert!(rt; is_entry(&register, 1, "http://a/b", &[2, 3]));
-    assert!(rt; is_no_entry(&register, 0) && is_no_entry(&register, 2));
-    assert!(rt; is_no_entry(&register, usize::MAX));
-    assert!(rt; register.remove(b"./b")? == Some(2));
-    assert!(rt; register.len() == 0);
-    Ok(())
-}
-
-#[test]
-fn a_bad_reference_changes_nothing(rt: HostRuntime) -> Result<(), Fail> {
-    let mut register = register::<UriSpec>(&rt, "http://a/")?;
-    assert!(rt; is_bad(register.add(b"%4", 2), ErrorKind::InvalidPath));
-    assert!(rt; register.len() == 0);
-    assert!(rt; register.find(b"")?.is_none());
-    assert_eq!(rt; register.add(b"", 3)?, Added::New(1));
-    for (bad, kind) in [
-        (b"%4".as_slice(), ErrorKind::InvalidPath),
-        (b"b#%".as_slice(), ErrorKind::InvalidFragment),
-        (b"\xff".as_slice(), ErrorKind::InvalidUtf8),
-    ] {
-        assert!(rt; is_bad(register.add(bad, 4), kind), "add {kind:?}");
-        assert!(rt; is_bad(register.remove(bad), kind), "remove {kind:?}");
-        assert!(rt; is_bad(register.find(bad), kind), "find {kind:?}");
-        assert!(rt; register.len() == 1, "{kind:?}");
-        assert!(rt; is_entry(&register, 1, "http://a/", &[3]), "{kind:?}");
+fn answers(rt: HostRuntime) -> Result<(), Fail> {
+    let mut register = register::<UriSpec>(rt.alloc(), "http://a/")?;
+    let rows: [(u8, &[u8], Answer, usize); 20] = [
+        (b'a', b"%4", Answer::Bad(ErrorKind::InvalidPath), 0),
+        (b'f', b"", Answer::Nothing, 0),
+        (b'a', b"x/../b", Answer::Put(Added::New(1)), 1),
+        (b'a', b"/%62", Answer::Put(Added::Old(1)), 1),
+        (b'a', b"c", Answer::Put(Added::New(2)), 2),
+        (b'f', b"HTTP://A/b", Answer::At(1), 2),
+        (b'f', b"d", Answer::Nothing, 2),
+        (b'a', b"d", Answer::Put(Added::New(3)), 3),
+        // From the front, from the middle, from the end; and back again.
+        (b'd', b"b", Answer::Gone(2), 2),
+        (b'f', b"c", Answer::At(1), 2),
+        (b'a', b"b", Answer::Put(Added::New(3)), 3),
+        (b'd', b"d", Answer::Gone(1), 2),
+        (b'd', b"d", Answer::Nothing, 2),
+        (b'a', b"d", Answer::Put(Added::New(3)), 3),
+        (b'd', b"d", Answer::Gone(1), 2),
+        (b'a', b"d", Answer::Put(Added::New(3)), 3),
+        (b'd', b"b#%", Answer::Bad(ErrorKind::InvalidFragment), 3),
+        (b'f', b"\xff", Answer::Bad(ErrorKind::InvalidUtf8), 3),
+        (b'a', b"http://a:80/d", Answer::Put(Added::New(4)), 4),
+        (b'a', b"D", Answer::Put(Added::New(5)), 5),
+    ];
+    for (number, (letter, reference, answer, len)) in rows.iter().enumerate() {
+        let told = call(&mut register, *letter, reference, number as u64)?;
+        assert_eq!(rt; told, *answer, "row {number}");
+        assert_eq!(rt; register.len(), *len, "row {number}");
     }
-    Ok(())
-}
-
-// Each entry goes once, and is added again.
-#[test]
-fn entries_move_up(rt: HostRuntime) -> Result<(), Fail> {
-    for (gone, first, second) in [
-        ("http://a/1", "http://a/2", "http://a/3"),
-        ("http://a/2", "http://a/1", "http://a/3"),
-        ("http://a/3", "http://a/1", "http://a/2"),
-    ] {
-        let mut register = register::<UriSpec>(&rt, "http://a/")?;
-        assert_eq!(rt; register.add(b"1", 11)?, Added::New(1));
-        assert_eq!(rt; register.add(b"2", 12)?, Added::New(2));
-        assert_eq!(rt; register.add(b"3", 13)?, Added::New(3));
-        assert!(rt; register.remove(gone.as_bytes())? == Some(1), "{gone}");
-        assert!(rt; register.find(gone.as_bytes())?.is_none(), "{gone}");
-        assert!(rt; register.find(first.as_bytes())? == Some(1), "{gone}");
-        assert!(rt; register.find(second.as_bytes())? == Some(2), "{gone}");
-        assert!(rt; register.target_at(1) == Some(first), "{gone}");
-        assert!(rt; register.target_at(2) == Some(second), "{gone}");
-        assert!(rt; is_no_entry(&register, 3), "{gone}");
-        assert_eq!(rt; register.add(gone.as_bytes(), 14)?, Added::New(3), "{gone}");
-        assert!(rt; is_entry(&register, 3, gone, &[14]), "{gone}");
-    }
+    assert!(rt; is_entry(&register, 1, "http://a/c", &[4]));
+    assert!(rt; is_entry(&register, 2, "http://a/b", &[10]));
+    assert!(rt; is_entry(&register, 3, "http://a/d", &[15]));
+    assert!(rt;
+        is_no_entry(&register, 0) && is_no_entry(&register, 6) && is_no_entry(&register, usize::MAX)
+    );
     Ok(())
 }
 
 #[test]
 fn one_link_in_twenty_spellings(rt: HostRuntime) -> Result<(), Fail> {
-    let mut register = register::<UriSpec>(&rt, "http://a/b/c")?;
+    let mut register = register::<UriSpec>(rt.alloc(), "http://a/b/c")?;
     assert_eq!(rt; register.add(b"d?q=%2F", 2)?, Added::New(1));
     for spelling in [
         "./d?q=%2F",
@@ -126,54 +142,78 @@ fn one_link_in_twenty_spellings(rt: HostRuntime) -> Result<(), Fail> {
         "/%62/d?q=%2F",
         "/b/c/../d?q=%2F",
     ] {
-        assert_eq!(rt;
-            register.add(spelling.as_bytes(), 3)?,
-            Added::Old(1),
-            "{spelling}"
-        );
+        let added = register.add(spelling.as_bytes(), 3)?;
+        assert_eq!(rt; added, Added::Old(1), "{spelling}");
     }
     assert!(rt; register.target_at(1) == Some("http://a/b/d?q=%2F"));
     assert!(rt; register.remove(b"d?q=%2F")? == Some(20));
-    assert!(rt; register.len() == 0);
     Ok(())
 }
 
-// A reserved character and its triplet are two targets, and so are a capital and a small letter of a path.
+// A reserved character and its triplet are two targets, and so are no query and an empty one.
 #[test]
 fn other_links_stay_apart(rt: HostRuntime) -> Result<(), Fail> {
-    let mut register = register::<UriSpec>(&rt, "http://a/")?;
-    assert_eq!(rt; register.add(b"d?q=/", 2)?, Added::New(1));
-    assert_eq!(rt; register.add(b"d?q=%2F", 3)?, Added::New(2));
-    assert_eq!(rt; register.add(b"D?q=/", 4)?, Added::New(3));
-    assert_eq!(rt; register.add(b"d", 5)?, Added::New(4));
-    assert_eq!(rt; register.add(b"d?", 6)?, Added::New(5));
-    assert_eq!(rt; register.add(b"http://a:80/d", 7)?, Added::New(6));
+    let mut register = register::<UriSpec>(rt.alloc(), "http://a/")?;
+    for (index, link) in ["d?q=/", "d?q=%2F", "d", "d?", "d#", "D", "http://a:80/d"]
+        .iter()
+        .enumerate()
+    {
+        let added = register.add(link.as_bytes(), 2)?;
+        assert_eq!(rt; added, Added::New(index + 1), "{link}");
+    }
     Ok(())
 }
 
 #[test]
 fn a_reference_of_iris_alone(rt: HostRuntime) -> Result<(), Fail> {
     let link = "\u{e9}".as_bytes();
-    let mut uris = register::<UriSpec>(&rt, "http://a/")?;
-    assert!(rt; is_bad(uris.add(link, 2), ErrorKind::InvalidPath));
-    let mut iris = register::<IriSpec>(&rt, "http://a/")?;
-    assert_eq!(rt; iris.add(link, 2)?, Added::New(1));
-    assert!(rt; iris.find(link)? == Some(1));
-    assert!(rt; iris.len() == 1 && is_entry(&iris, 1, "http://a/\u{e9}", &[2]));
-    assert!(rt; iris.remove(link)? == Some(1));
+    let mut uris = register::<UriSpec>(rt.alloc(), "http://a/")?;
+    assert_eq!(rt;
+        call(&mut uris, b'a', link, 2)?,
+        Answer::Bad(ErrorKind::InvalidPath)
+    );
+    let mut iris = register::<IriSpec>(rt.alloc(), "http://a/")?;
+    for (letter, answer) in [
+        (b'a', Answer::Put(Added::New(1))),
+        (b'f', Answer::At(1)),
+        (b'd', Answer::Gone(1)),
+    ] {
+        assert_eq!(rt; call(&mut iris, letter, link, 2)?, answer);
+    }
+    Ok(())
+}
+
+// A refused line leaves the entry as it was. The fifth line of an entry needs room for more.
+#[test]
+fn kept_where_memory_is_refused(rt: HostRuntime) -> Result<(), Fail> {
+    let mut register = register::<UriSpec>(rt.alloc(), "http://a/")?;
+    let lines = [2, 3, 4, 5, 6];
+    for (count, line) in lines.iter().enumerate() {
+        let added = register.add(b"b", *line);
+        if added.is_err() {
+            assert!(rt; register.len() == count.min(1));
+            assert!(rt; count == 0 || is_entry(&register, 1, "http://a/b", &lines[..count]));
+        }
+        added?;
+    }
+    let added = register.add(b"c", 7);
+    assert!(rt; register.len() == if added.is_ok() { 2 } else { 1 });
+    added?;
+    let removed = register.remove(b"b");
+    assert!(rt; register.len() == if removed.is_ok() { 1 } else { 2 });
+    assert!(rt; removed? == Some(5));
     Ok(())
 }
 
 #[test]
 fn refusals_in_words(rt: HostRuntime) -> Result<(), Fail> {
-    let mut register = register::<UriSpec>(&rt, "http://a/")?;
-    match register.add(b"%4", 2) {
-        Ok(_) => assert!(rt; false),
-        Err(error) => {
-            let told = format!(in rt.alloc(); "{error}")?;
-            assert_eq!(rt; told.as_str(), "invalid IRI: invalid path");
-        }
-    }
+    let mut register = register::<UriSpec>(rt.alloc(), "http://a/")?;
+    let error = match register.add(b"%4", 2) {
+        Ok(_) => RegisterError::Memory,
+        Err(error) => error,
+    };
+    let told = format!(in rt.alloc(); "{error}")?;
+    assert_eq!(rt; told.as_str(), "invalid IRI: invalid path");
     let memory = RegisterError::Memory;
     let told = format!(in rt.alloc(); "{memory}")?;
     assert_eq!(rt; told.as_str(), "out of memory");

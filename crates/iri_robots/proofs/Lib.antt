@@ -7,3 +7,4 @@ pub mod Lines
 pub mod Forms
 pub mod Agents
 pub mod FormLaws
+pub mod Decisions

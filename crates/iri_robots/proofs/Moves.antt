@@ -162,7 +162,7 @@ onward_triplet : (a : Bool) (l m : ℕ) (q s : List ℕ) → IsEscape l m → Fi
 onward_triplet a l m q s e (by_mark t p f) = let k : m ≡ 37 = cc in absurd ((letter_apart l m e).4 k)
 onward_triplet a l m q s e (by_triplet t p f) = let k : t ≡ s = cc in subst (λ x. Fits a q x) k f
 
-triplet_fits : (a : Bool) (l m : ℕ) (q s : List ℕ) → IsEscape l m → Fits a q s → Fits a (37 ∷ 50 ∷ l ∷ q) (37 ∷ 50 ∷ l ∷ s)
+pub triplet_fits : (a : Bool) (l m : ℕ) (q s : List ℕ) → IsEscape l m → Fits a q s → Fits a (37 ∷ 50 ∷ l ∷ q) (37 ∷ 50 ∷ l ∷ s)
 triplet_fits a l m q s e f =
     let n = letter_apart l m e in
     same 37 (50 ∷ l ∷ q) (50 ∷ l ∷ s) (λ h. omega arith) (same 50 (l ∷ q) (l ∷ s) (λ h. omega arith) (same l q s n.0 f))
@@ -179,7 +179,7 @@ only_same : (a : Bool) (c : ℕ) (q s : List ℕ) → NoEscape (c ∷ q) → Fit
 only_same a c q s n (by_same t e f) = (t, e, f)
 only_same a c q s n (by_escape l m q' t e p h g f) = absurd (n.none l m q' e (cc))
 
-same_front : (a : Bool) (c : ℕ) (q s : List ℕ) → c ≢ 42 → NoEscape (c ∷ q) → Fits a (c ∷ q) s → (t : List ℕ) × (s ≡ c ∷ t) × Fits a q t
+pub same_front : (a : Bool) (c : ℕ) (q s : List ℕ) → c ≢ 42 → NoEscape (c ∷ q) → Fits a (c ∷ q) s → (t : List ℕ) × (s ≡ c ∷ t) × Fits a q t
 same_front a c q s h n f = only_same a c q s n (fits_front a c q s h f)
 
 onward_same : (a : Bool) (c : ℕ) (q s t : List ℕ) → c ∷ s ≡ c ∷ t → Fits a q t → Fits a q s

@@ -4,5 +4,6 @@ pub mod Compared
 pub mod Records
 pub mod Stored
 pub mod Allowed
+pub mod Decided
 pub mod Examples
 pub mod inside

@@ -1,8 +1,9 @@
 //! Laws of the definitions: each function's contract is a law, and its body is empty.
-ghost use Rattle.std.specs.Prelude.{◌≡◌, ℕ, List, [], ◌∷◌, ◌++◌, codes};
+ghost use Rattle.std.specs.Prelude.{◌≡◌, ◌↔◌, ℕ, true, List, [], ◌∷◌, ◌++◌, codes};
 ghost use Rattle.iri_grammar.specs.Characters.{question_mark};
 ghost use Rattle.iri_robots.specs.Allowed.{IsAllowed};
 ghost use Rattle.iri_robots.specs.Compared.{compared};
+ghost use Rattle.iri_robots.specs.Decided.{is_allowed, is_match};
 ghost use Rattle.iri_robots.specs.Patterns.{Matches};
 ghost use Rattle.iri_robots.specs.Records.{FileRule, FileRecord, rules_for};
 
@@ -26,4 +27,10 @@ pub fn what_is_allowed_always()
 /// An empty pattern matches nothing.
 pub fn empty_patterns_match_nothing()
     ensures { (text : List ℕ) → Matches [] text → ⊥ }
+{}
+
+/// Functions tell whether a pattern matches, and whether rules allow a text.
+pub fn rules_are_decided()
+    ensures patterns { (pattern text : List ℕ) → (is_match pattern text ≡ true) ↔ Matches pattern text }
+    ensures rules { (rules : List FileRule) (text : List ℕ) → (is_allowed rules text ≡ true) ↔ IsAllowed rules text }
 {}

@@ -1,9 +1,9 @@
 //! Robots rules (RFC 9309 section 2.2): whether a crawler may fetch what a reference stands for.
 //!
-//! [`Robots::new`] takes the product token of a crawler, [`Robots::feed_line`] the lines of a robots file, one after
-//! the other, without their line ends. [`subject_of`] gives what of a target the rules speak of, and
-//! [`Robots::verdict`] says what the lines so far say of it. [`matches`] is the test of one pattern. `laws` has what
-//! holds of the definitions.
+//! [`Robots::new`] takes the product token of a crawler, and [`is_product_token`] tells such a token.
+//! [`Robots::feed_line`] takes the lines of a robots file, one after the other, without their line ends. [`subject_of`]
+//! gives what of a target the rules speak of, and [`Robots::verdict`] says what the lines so far say of it.
+//! [`matches`] is the test of one pattern. `laws` has what holds of the definitions.
 //!
 //! A line that isn't UTF-8, or has no key of a record, is ignored and ends nothing. U+FEFF that begins a line goes, and
 //! what follows its first `#`. Keys and agents are compared without case. The agent is `*`, or the longest prefix of
@@ -33,7 +33,7 @@ mod rule;
 mod subject;
 
 pub use pattern::matches;
-pub use robots::{Robots, RobotsError, Verdict};
+pub use robots::{Robots, RobotsError, Verdict, is_product_token};
 pub use subject::subject_of;
 
 #[cfg(test)]

@@ -1,5 +1,6 @@
 // Patterns of rules. The search goes through pattern and text once, and steps back to the last `*`.
 ghost use Rattle.std.specs.Prelude.{◌≡◌, ◌≢◌, ◌↔◌, ◌<◌, ◌≤◌, ◌∷◌, true, MatchOption, length, drop, slice_index};
+ghost use Rattle.iri_grammar.specs.Characters.{asterisk};
 ghost use Rattle.iri_robots.specs.Patterns.{Matches};
 ghost use Rattle.iri_robots.specs.inside.Reaching.{HasReached};
 ghost use Rattle.iri_robots.specs.inside.Fits.{EscapeOf, NoEscape, Fits, FitsNot, Sticks, Takes};
@@ -60,7 +61,7 @@ fn take_escape(pattern: &[u8], text: &[u8], mark: u8) -> Option<Part>
 
 // The first part of a pattern that doesn't begin with a `*`.
 fn take_part(pattern: &[u8], text: &[u8]) -> Option<Part>
-    requires { (0 < length pattern.now) × (slice_index pattern.now 0 ≢ 42) }
+    requires { (0 < length pattern.now) × (slice_index pattern.now 0 ≢ asterisk) }
     ensures { MatchOption result (Sticks pattern.now text.now) (λ p. Takes pattern.now text.now p.pattern p.text) }
 {
     if let Some(mark) = escaped_mark(pattern) {
@@ -102,7 +103,7 @@ fn reach_star<'a>(pattern: &'a [u8], text: &'a [u8], anchored: bool) -> Reached<
 
 // What follows a `*`: it stands somewhere in the text.
 fn fits_behind_star(pattern: &[u8], text: &[u8], anchored: bool) -> bool
-    ensures { (result ≡ true) ↔ Fits anchored (42 ∷ pattern.now) text.now }
+    ensures { (result ≡ true) ↔ Fits anchored (asterisk ∷ pattern.now) text.now }
 {
     let mut pattern = pattern;
     let mut text = text;

@@ -36,11 +36,11 @@ pub struct Robots {
     records: Vec<Record>,
 }
 
-// One or more characters of a product token, and no other.
-fn is_product_token(token: &[u8]) -> bool
-    ensures { result ≡ is_token token.now }
+/// Whether a text is a product token (RFC 9309 section 2.2.1): one or more ASCII letters, `_` and `-`.
+pub fn is_product_token(text: &str) -> bool
+    ensures { result ≡ is_token text.now }
 {
-    !token.is_empty() && token_len(token) == token.len()
+    !text.is_empty() && token_len(text.as_bytes()) == text.len()
 }
 
 impl Robots {
@@ -52,7 +52,7 @@ impl Robots {
             (λ e. e ≡ RobotsError.Token → is_token token.now ≡ false) }
         ensures refused { is_token token.now ≡ false → result ≡ Err RobotsError.Token }
     {
-        if !is_product_token(token.as_bytes()) {
+        if !is_product_token(token) {
             return Err(RobotsError::Token);
         }
         match String::from_str(alloc, token) {

@@ -1,7 +1,11 @@
-use crate::{Robots, RobotsError, Verdict, matches, subject_of};
+use crate::laws::{
+    empty_patterns_match_nothing, first_rules_are_of_no_group, question_marks_part_forms,
+    rules_are_decided, what_is_allowed_always,
+};
+use crate::{Robots, RobotsError, Verdict, is_product_token, matches, subject_of};
 use iri_grammar::spec::{IriSpec, Spec, UriSpec};
 use iri_types::view::RiStr;
-use std::alloc::Global;
+use std::alloc::{AllocError, Global};
 use std::test::Fail;
 
 #[test]
@@ -215,7 +219,7 @@ fn patterns_of_lines(rt: HostRuntime) -> Result<(), Fail> {
 }
 
 #[test]
-fn tokens(rt: HostRuntime) {
+fn tokens(rt: HostRuntime) -> Result<(), Fail> {
     for (token, taken) in [
         ("a", true),
         ("Example_Bot-x", true),
@@ -225,13 +229,52 @@ fn tokens(rt: HostRuntime) {
         ("a bot", false),
         ("b\u{f6}t", false),
     ] {
-        let made = match Robots::new(rt.alloc(), token) {
-            Ok(_) => true,
-            Err(RobotsError::Token) => false,
-            Err(RobotsError::Memory(_)) => !taken,
-        };
-        assert!(rt; made == taken, "{token}");
+        assert!(rt; is_product_token(token) == taken, "{token}");
+        match Robots::new(rt.alloc(), token) {
+            Ok(_) => assert!(rt; taken, "{token}"),
+            Err(RobotsError::Token) => assert!(rt; !taken, "{token}"),
+            Err(error) => Err(error)?,
+        }
     }
+    Ok(())
+}
+
+#[test]
+fn errors_in_words(rt: HostRuntime) -> Result<(), Fail> {
+    let token = RobotsError::Token;
+    assert_eq!(rt;
+        format!(in rt.alloc(); "{token}")?.as_str(),
+        "invalid token"
+    );
+    let memory = RobotsError::Memory(AllocError);
+    assert_eq!(rt;
+        format!(in rt.alloc(); "{memory}")?.as_str(),
+        "memory allocation failed"
+    );
+    Ok(())
+}
+
+// A refused allocation leaves the rules as they were.
+#[test]
+fn kept_where_memory_is_refused(rt: HostRuntime) -> Result<(), Fail> {
+    let mut robots = fed(rt.alloc(), "a", &["user-agent: a", "disallow: /"])?;
+    for rule in ["allow: /x", "allow: /y", "allow: /z"] {
+        let subject = rule.strip_prefix("allow: ").ok_or("no rule")?;
+        let stored = robots.feed_line(rule.as_bytes());
+        assert!(rt; allows(&robots, subject) == stored.is_ok(), "{rule}");
+        stored?;
+    }
+    assert!(rt; !allows(&robots, "/w"));
+    Ok(())
+}
+
+#[test]
+fn laws_hold() {
+    question_marks_part_forms();
+    first_rules_are_of_no_group();
+    what_is_allowed_always();
+    empty_patterns_match_nothing();
+    rules_are_decided();
 }
 
 fn subject<'a, S: Spec>(alloc: Global, target: &'a str) -> Result<String, Fail> {

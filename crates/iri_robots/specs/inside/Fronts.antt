@@ -1,6 +1,7 @@
 -- How the compared form is written from the left.
 use Rattle.std.specs.Prelude.{◌≡◌, ℕ, ◌<◌, ◌≤◌, List, [], ◌∷◌, ◌++◌, length, drop}
 use Rattle.std.specs.Char.{encode_utf8}
+use Rattle.iri_grammar.specs.Characters.{percent_sign}
 use Rattle.iri_robots.specs.Compared.{compared}
 use Rattle.iri_robots.specs.declared.compared.Written.{Written}
 use Rattle.iri_robots.specs.declared.compared.Written.TheVariants.{Char, Triplet}
@@ -8,7 +9,7 @@ use Rattle.iri_robots.specs.declared.compared.Written.TheVariants.{Char, Triplet
 -- what is written
 abbrev pub written_text : Written → List ℕ
 written_text (Char c) = encode_utf8 c
-written_text (Triplet a b) = 37 ∷ a ∷ b ∷ []
+written_text (Triplet a b) = percent_sign ∷ a ∷ b ∷ []
 
 abbrev pub HasAsciiDigits : Written → Type 0
 HasAsciiDigits (Char c) = Unit {0}

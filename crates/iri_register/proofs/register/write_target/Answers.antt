@@ -8,7 +8,7 @@ use Rattle.iri_resolve.specs.NormalizedText.{written}
 use Rattle.iri_resolve.specs.Resolver.{base_text}
 use Rattle.iri_resolve.specs.Target.{takes_base_path}
 use Rattle.iri_resolve.proofs.ModeLemmas.{made-normal, written-canonical}
-use Rattle.iri_register.proofs.register.target.Goals as goal
+use Rattle.iri_register.proofs.register.write_target.Goals as goal
 
 pub returns-in-Ok-try_append_to_string-clause-text : goal.returns-in-Ok-try_append_to_string-clause-text
 returns-in-Ok-try_append_to_string-clause-text g c =
@@ -20,7 +20,7 @@ returns-in-Ok-try_append_to_string-clause-text g c =
     written-canonical s b r (takes_base_path (split_of r)) w (c.and_normalize-canonical.ensures ∙ ap made-normal c.resolve_split.ensures) in
     let against : canonical s b r ≡ canonical s (text c.args.base) r = ap (λ x. canonical s x r) c.new-resolver.ensures in
     let written_is : string_bytes c.try_append_to_string.new.dest ≡ written_text s w =
-    c.in-Ok-try_append_to_string.ensures.whole ∙ ap (λ o. o ++ written_text s w) c.new-text.ensures.bytes in
+    c.in-Ok-try_append_to_string.ensures.whole ∙ ap (λ o. o ++ written_text s w) c.clear.ensures.bytes in
     ◌∙◌ {b = written_text s w} written_is
     (◌∙◌ {b = canonical s b r} shown
     (◌∙◌ {b = canonical s (text c.args.base) r} against (ap (canonical s (text c.args.base)) c.in-Ok.ensures.text)))
