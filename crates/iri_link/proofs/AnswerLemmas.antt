@@ -1,0 +1,48 @@
+-- What is answered of bytes, from what is answered of a text.
+use Rattle.std.proofs.Common.{◌≡◌, ℕ, List, true, false, cond, Some, Result, Ok, Err, refl, sym, ap, ◌∙◌, subst}
+use Rattle.std.specs.Prelude.{MatchResult}
+use Rattle.std.specs.Str.{is_utf8, IsUtf8}
+use Rattle.std.specs.Str.Lossy.{utf8_valid_len}
+use Rattle.std.proofs.lemmas.Str.{is_utf8-from_IsUtf8, IsUtf8-from_is_utf8}
+use Rattle.iri_grammar.specs.Classes.{Tests}
+use Rattle.iri_link.specs.Fault.{Told, field_fault, place_in, fault_from}
+use Rattle.iri_link.specs.Field.{LinkValue}
+use Rattle.iri_link.specs.Links.{HasLinks}
+use Rattle.iri_link.specs.Phases.{before_link}
+use Rattle.iri_link.specs.Refusals.{RefusedBy}
+use Rattle.iri_link.specs.Resolved.{IsRead}
+use Rattle.iri_link.specs.inside.Halts.{IsTold}
+use Rattle.iri_link.specs.inside.ReadLinks.{ReadsField}
+use Rattle.iri_link.specs.declared.error.LinkError.{LinkError}
+use Rattle.iri_link.specs.declared.error.LinkError.TheVariants.{Fault, Memory}
+use Rattle.iri_link.specs.declared.error.LinkKind.TheVariants.{NotUtf8}
+use Rattle.iri_link.proofs.NoFaultLemmas.{links_without_fault}
+
+-- what has a fault has no link-values
+faulty : (s : Tests) (x : List ℕ) (t : Told) → field_fault s x ≡ Some t → (ls : List LinkValue) → HasLinks s x ls → ⊥
+faulty s x t e ls h = let n = links_without_fault s x ls h in cc
+
+text_fault : (s : Tests) (y : List ℕ) → IsUtf8 y → field_fault s y ≡ place_in y (fault_from s before_link y)
+text_fault s y u =
+    ap (λ b. cond b (place_in y (fault_from s before_link y)) (Some (record { kind = NotUtf8; place = utf8_valid_len y }))) (is_utf8-from_IsUtf8 y u)
+
+answered : (s : Tests) (base y : List ℕ) → IsUtf8 y → (r : Result (List LinkValue) LinkError)
+    → MatchResult r (λ l. ReadsField s base y l) (λ e. IsTold e (place_in y (fault_from s before_link y))) → MatchResult r (IsRead s base y) (RefusedBy s y)
+answered s base y u (Ok l) h = record { links = h.sources; has = record { utf8 = u; field = h.field; valid = h.valid }; resolves = h.kept }
+answered s base y u (Err (Fault k p)) h = let e = text_fault s y u ∙ h in (e, faulty s y (record { kind = k; place = p }) e)
+answered s base y u (Err Memory) h = tt
+
+pub of_text : (s : Tests) (base x y : List ℕ) → x ≡ y → IsUtf8 y → (r : Result (List LinkValue) LinkError)
+    → MatchResult r (λ l. ReadsField s base x l) (λ e. IsTold e (place_in x (fault_from s before_link x))) → MatchResult r (IsRead s base y) (RefusedBy s y)
+of_text s base x y e u r h =
+    answered s base y u r (subst (λ z. MatchResult r (λ l. ReadsField s base z l) (λ d. IsTold d (place_in z (fault_from s before_link z)))) e h)
+
+no_text : (y : List ℕ) → (IsUtf8 y → ⊥) → is_utf8 y ≡ false
+no_text y n = elim (is_utf8 y) as (λ b. is_utf8 y ≡ b → b ≡ false) [ true ↦ λ e. absurd (n (IsUtf8-from_is_utf8 y e)) | false ↦ λ e. refl ] refl
+
+pub of_bytes : (s : Tests) (y : List ℕ) (n : ℕ) → (IsUtf8 y → ⊥) → n ≡ utf8_valid_len y → RefusedBy s y (Fault NotUtf8 n)
+of_bytes s y n u e =
+    let f : field_fault s y ≡ Some (record { kind = NotUtf8; place = n }) =
+    ap (λ b. cond b (place_in y (fault_from s before_link y)) (Some (record { kind = NotUtf8; place = utf8_valid_len y }))) (no_text y u)
+    ∙ ap (λ m. Some (record { kind = NotUtf8; place = m })) (sym e) in
+    (f, faulty s y (record { kind = NotUtf8; place = n }) f)

@@ -1,0 +1,168 @@
+-- Link-values, read one after the other.
+use Rattle.std.proofs.Common.{◌≡◌, ℕ, suc, ◌<◌, true, false, List, [], ◌∷◌, ◌++◌, Option, Some, None, length, map, refl, sym, ap, ◌∙◌, subst, arith, append_assoc, length-append}
+use Rattle.std.specs.Prelude.{◌==◌, MatchOption, MatchResult, Result, Ok, Err}
+use denote.Bor.{Bor}
+use Rattle.std.proofs.lemmas.Bool.{eqb-true}
+use Rattle.iri_grammar.specs.OptionalSlices.{now_of}
+use Rattle.iri_link.specs.declared.halt.Halt.{Halt}
+use Rattle.std.proofs.lemmas.List.{append-nil, map-append}
+use Rattle.std.proofs.lemmas.List.Elements.{All-append, All-nil, All-cons}
+use Rattle.iri_grammar.specs.Classes.{Tests}
+use Rattle.iri_grammar.specs.Cut.{before, behind, marked}
+use Rattle.iri_grammar.proofs.CutLaws.{joined}
+use Rattle.iri_grammar.specs.WholeFault.{reference_fault}
+use Rattle.iri_grammar.specs.declared.error.Error.{Error}
+use Rattle.iri_resolve.specs.NormalForm.{canonical}
+use Rattle.iri_link.specs.Token.{is_blank}
+use Rattle.iri_link.specs.Field.{LinkParam, LinkValue, link, IsElement, empty, link as element, IsField, last, more}
+use Rattle.iri_link.specs.Phases.{before_link, in_target, behind_param, next}
+use Rattle.iri_link.specs.Fault.{fault_from, target_fault, earlier}
+use Rattle.iri_link.specs.inside.Runs.{begins, IsRun}
+use Rattle.iri_link.specs.inside.ReadParams.{ends_link, ReadsParams}
+use Rattle.iri_link.specs.inside.Halts.{HaltsAt}
+use Rattle.iri_link.specs.Links.{HasReference}
+use Rattle.iri_link.specs.Resolved.{resolved}
+use Rattle.iri_link.specs.inside.ReadLinks.{CutsTarget, ReadsLink, SkipsEmpty, AddsLink, ReadsField, ReadsUpTo, fault_behind}
+use Rattle.iri_link.specs.declared.error.LinkKind.TheVariants.{NoTarget, OpenTarget, BadTarget}
+use Rattle.iri_link.proofs.PhaseLemmas.{start-blanks}
+use Rattle.iri_link.proofs.TargetLemmas.{before-lacks, some-lacks, none-lacks, target-goes, open_goes}
+
+-- ---- a target
+module _ (s : Tests) (w t target_text : List ℕ) (begun : w ≡ 60 ∷ t) (is : target_text ≡ before 62 t) where
+  pub target_cut : (rest seen : List ℕ) → Some rest ≡ behind 62 t → seen ≡ target_text → reference_fault s target_text ≡ None → CutsTarget s t rest seen
+  target_cut rest seen h e valid =
+      let has = some-lacks 62 t rest h in
+      let none : reference_fault s (before 62 t) ≡ None = ap (reference_fault s) (sym is) ∙ valid in
+      let right : target_fault s t ≡ None = rw (has, none) refl in
+      rw (e, is) (record {
+        whole = sym (joined 62 t) ∙ ap (λ o. before 62 t ++ marked 62 o) (sym h);
+        closed = before-lacks 62 t;
+        valid = none;
+        goes = open_goes s t ∙ (ap (λ o. earlier o (fault_from s in_target t)) right ∙ target-goes s t rest h);
+      })
+
+  pub target_open : None ≡ behind 62 t → fault_from s before_link w ≡ Some (record { kind = OpenTarget; rest = w })
+  target_open h = let no = none-lacks 62 t h in let wrong : target_fault s t ≡ Some (record { kind = OpenTarget; rest = 60 ∷ t }) = rw no refl in
+      ap (fault_from s before_link) begun ∙ (open_goes s t ∙ (ap (λ o. earlier o (fault_from s in_target t)) wrong ∙ ap (λ r. Some (record { kind = OpenTarget; rest = r })) (sym begun)))
+
+  pub target_bad : (rest : List ℕ) (e : Error) → Some rest ≡ behind 62 t → reference_fault s target_text ≡ Some e.kind → fault_from s before_link w ≡ Some (record { kind = BadTarget e; rest = t })
+  target_bad rest e h bad =
+      let has = some-lacks 62 t rest h in
+      let some : reference_fault s (before 62 t) ≡ Some e.kind = ap (reference_fault s) (sym is) ∙ bad in
+      let wrong : target_fault s t ≡ Some (record { kind = BadTarget e; rest = t }) = rw (has, some) refl in
+      ap (fault_from s before_link) begun ∙ (open_goes s t ∙ ap (λ o. earlier o (fault_from s in_target t)) wrong)
+
+-- ---- a link-value
+pub link_read : (s : Tests) (base w t mid rest tt kept_target : List ℕ) (ps : List LinkParam) → w ≡ 60 ∷ t → CutsTarget s t mid tt → kept_target ≡ canonical s base tt → ReadsParams mid rest ps
+    → ReadsLink s base w rest (record { target = kept_target; params = ps })
+link_read s base w t mid rest tt kept_target ps begun cut is p = record {
+  front = 60 ∷ (tt ++ 62 ∷ p.front);
+  blanks = p.blanks;
+  source = record { target = tt; params = ps };
+  whole = begun ∙ ap (λ l. 60 ∷ l) (cut.whole ∙ (ap (λ l. tt ++ 62 ∷ l) p.whole ∙ sym (append_assoc tt (62 ∷ p.front) (p.blanks ++ rest))));
+  link = link tt p.front ps cut.closed p.params;
+  valid = cut.valid;
+  kept = ap (λ z. record { target = z; params = ps }) is;
+  all = p.all;
+  ends = p.ends;
+  goes = ap (fault_from s before_link) begun ∙ (cut.goes ∙ p.goes s);
+}
+
+pub target_then : (s : Tests) (w t mid tt : List ℕ) → w ≡ 60 ∷ t → CutsTarget s t mid tt → fault_from s before_link w ≡ fault_from s behind_param mid
+target_then s w t mid tt begun cut = ap (fault_from s before_link) begun ∙ cut.goes
+
+-- ---- an element
+pub comma_or_end : (t : List ℕ) (o : Option (Bor (List ℕ))) → MatchOption o (begins (λ c. c == 44) t ≡ false) (λ r. t ≡ 44 ∷ r.now) → ends_link t ≡ true
+    → (t ≡ marked 44 (now_of o)) × ((s : Tests) → fault_from s behind_param t ≡ fault_behind s (now_of o))
+unfolding fault_from
+comma_or_end [] None h e = (refl, λ s. refl)
+comma_or_end (c ∷ cs) None h e = cc
+comma_or_end t (Some r) h e = (h, λ s. ap (fault_from s behind_param) h)
+
+pub link_added : (s : Tests) (base t rest : List ℕ) (l : LinkValue) (o : Option (List ℕ)) (old new : List LinkValue) → ReadsLink s base t rest l → rest ≡ marked 44 o
+    → ((k : Tests) → fault_from k behind_param rest ≡ fault_behind k o) → new ≡ old ++ (l ∷ []) → AddsLink s base t o old new
+link_added s base t rest l o old new r e goes k = record {
+  front = r.front ++ r.blanks;
+  sources = r.source ∷ [];
+  whole = r.whole ∙ (ap (λ z. r.front ++ (r.blanks ++ z)) e ∙ sym (append_assoc r.front r.blanks (marked 44 o)));
+  element = λ a ha. element a r.front r.blanks r.source ha r.link r.all;
+  valid = All-cons (HasReference s) r.source [] r.valid (All-nil (HasReference s));
+  kept = k ∙ ap (λ z. old ++ (z ∷ [])) r.kept;
+  goes = r.goes ∙ goes s;
+}
+
+pub empty_added : (s : Tests) (base t : List ℕ) (o : Option (List ℕ)) (old : List LinkValue) → SkipsEmpty t o → AddsLink s base t o old old
+empty_added s base t o old e = record {
+  front = [];
+  sources = [];
+  whole = e.whole;
+  element = λ a ha. subst (λ z. IsElement z []) (sym (append-nil a)) (empty a ha);
+  valid = All-nil (HasReference s);
+  kept = sym (append-nil old);
+  goes = e.goes s;
+}
+
+pub empty_matched : (s : Tests) (base t : List ℕ) (old : List LinkValue) (r : Result (Option (Bor (List ℕ))) Halt)
+    → MatchResult r (λ o. SkipsEmpty t (now_of o)) (λ e. (k : Tests) → HaltsAt e (fault_from k before_link t))
+    → MatchResult r (λ o. AddsLink s base t (now_of o) old old) (λ e. HaltsAt e (fault_from s before_link t))
+empty_matched s base t old (Ok o) h = empty_added s base t (now_of o) old h
+empty_matched s base t old (Err e) h = h s
+
+-- where neither a blank nor `<` nor `,` comes first
+pub skips_comma : (t r : List ℕ) → t ≡ 44 ∷ r → SkipsEmpty t (Some r)
+unfolding fault_from
+skips_comma t r e = record { whole = e; goes = λ s. ap (fault_from s before_link) e }
+
+pub skips_end : (t : List ℕ) → (length t == 0) ≡ true → SkipsEmpty t None
+unfolding fault_from
+skips_end [] h = record { whole = refl; goes = λ s. refl }
+skips_end (c ∷ cs) h = absurd (omega (arith, eqb-true (suc (length cs)) 0 h))
+
+pub no_target : (s : Tests) (t : List ℕ) → begins is_blank t ≡ false → begins (λ c. c == 60) t ≡ false → begins (λ c. c == 44) t ≡ false → (length t == 0) ≡ false
+    → fault_from s before_link t ≡ Some (record { kind = NoTarget; rest = t })
+unfolding fault_from
+no_target s [] a b d h = cc
+no_target s (c ∷ cs) a b d h = rw (a, d, b) refl
+
+-- ---- the elements
+pub up_none : (s : Tests) (base x : List ℕ) (ls : List LinkValue) → ls ≡ [] → ReadsUpTo s base x x ls
+up_none s base x ls e = record { sources = []; read = λ ms h. h; valid = All-nil (HasReference s); kept = e; goes = refl }
+
+module _ (s : Tests) (base x rest a next : List ℕ) (o : Option (List ℕ)) (old new : List LinkValue) (u : ReadsUpTo s base x rest old) (h : IsRun is_blank rest a next) (k : AddsLink s base next o old new) where
+  parts : rest ≡ (a ++ k.front) ++ marked 44 o
+  parts = h.whole ∙ (ap (λ l. a ++ l) k.whole ∙ sym (append_assoc a k.front (marked 44 o)))
+
+  grown : new ≡ map (resolved s base) (u.sources ++ k.sources)
+  grown = k.kept ∙ (ap (λ l. l ++ map (resolved s base) k.sources) u.kept ∙ sym (map-append (resolved s base) u.sources k.sources))
+
+  gone : fault_from s before_link x ≡ fault_behind s o
+  gone = u.goes ∙ (ap (fault_from s before_link) h.whole ∙ (start-blanks s a next h.all ∙ k.goes))
+
+  pub up_more : (behind : List ℕ) → o ≡ Some behind → ReadsUpTo s base x behind new
+  up_more behind e = record {
+    sources = u.sources ++ k.sources;
+    read = λ ms f.
+        let is : (a ++ k.front) ++ 44 ∷ behind ≡ rest = ap (λ z. (a ++ k.front) ++ marked 44 z) (sym e) ∙ sym parts in
+        subst (λ z. IsField x z) (sym (append_assoc u.sources k.sources ms)) (u.read (k.sources ++ ms) (subst (λ z. IsField z (k.sources ++ ms)) is (more (a ++ k.front) behind k.sources ms (k.element a h.all) f)));
+    valid = All-append (HasReference s) u.sources k.sources u.valid k.valid;
+    kept = grown;
+    goes = gone ∙ ap (fault_behind s) e;
+  }
+
+  pub up_end : o ≡ None → ReadsField s base x new
+  up_end e =
+      let is : a ++ k.front ≡ rest = sym (append-nil (a ++ k.front)) ∙ (ap (λ z. (a ++ k.front) ++ marked 44 z) (sym e) ∙ sym parts) in
+      record {
+        sources = u.sources ++ k.sources;
+        field = u.read k.sources (subst (λ z. IsField z k.sources) is (last (a ++ k.front) k.sources (k.element a h.all)));
+        valid = All-append (HasReference s) u.sources k.sources u.valid k.valid;
+        kept = grown;
+      }
+
+  pub up_shorter : (behind : List ℕ) → o ≡ Some behind → length behind < length rest
+  up_shorter behind e =
+      let is : rest ≡ (a ++ k.front) ++ 44 ∷ behind = parts ∙ ap (λ z. (a ++ k.front) ++ marked 44 z) e in
+      omega (arith, ap length is, length-append (a ++ k.front) (44 ∷ behind))
+
+pub halts_then : (e : Halt) (s : Tests) (base x rest a next : List ℕ) (ls : List LinkValue) → ReadsUpTo s base x rest ls → IsRun is_blank rest a next → HaltsAt e (fault_from s before_link next) → HaltsAt e (fault_from s before_link x)
+halts_then e s base x rest a next ls u h k = subst (λ f. HaltsAt e f) (sym (u.goes ∙ (ap (fault_from s before_link) h.whole ∙ start-blanks s a next h.all))) k

@@ -1,0 +1,151 @@
+-- The written form is read back.
+use Rattle.std.proofs.Common.{◌≡◌, ℕ, true, cond, List, [], ◌∷◌, ◌++◌, Option, Some, None, map, refl, sym, ap, ◌∙◌, subst, arith}
+use Rattle.std.specs.Prelude.{◌==◌, ◌||◌}
+use Rattle.std.specs.List.{list_all, All, flat_map}
+use Rattle.std.specs.Str.{str_to_ascii_lowercase, IsUtf8}
+use Rattle.std.proofs.lemmas.List.{append-nil}
+use Rattle.std.proofs.lemmas.List.Elements.{All-head, All-tail, All-cons, All-nil}
+use Rattle.std.proofs.lemmas.Str.{IsUtf8-append, IsUtf8-nil}
+use Rattle.iri_grammar.specs.Classes.{Tests, IsSpec}
+use Rattle.iri_grammar.specs.Cut.{lacks}
+use Rattle.iri_grammar.specs.Parts.{IsAbsolute}
+use Rattle.iri_grammar.proofs.AuthorityTexts.{marked-utf8, one_byte-utf8}
+use Rattle.iri_grammar.proofs.FaultLaws.{reference-law, reference-utf8}
+use Rattle.iri_resolve.specs.NormalForm.{canonical}
+use Rattle.iri_resolve.proofs.FormLaws.{canonical-iri, canonical-own}
+use Rattle.iri_link.specs.Links.{HasReference, HasLinks}
+use Rattle.iri_link.specs.Resolved.{resolved, IsRead}
+use Rattle.iri_link.proofs.OneListLemmas.{one_list}
+use Rattle.iri_link.proofs.ReferenceLemmas.{reference-closed}
+use Rattle.iri_link.proofs.Utf8Lemmas.{escaped-utf8}
+use Rattle.iri_grammar.proofs.CutLaws.{both, by_test}
+use Rattle.iri_link.specs.Token.{is_pair_char, is_token, IsQuoted, done, plain, pair}
+use Rattle.iri_link.specs.Field.{LinkParam, LinkValue, quoted, IsParam, bare, valued, IsParams, none, param, link, IsElement, empty, link as element, IsField, last, more}
+use Rattle.iri_link.specs.Written.{escaped, written_value, written_param, written_link, written}
+use Rattle.iri_link.proofs.KeptLemmas.{IsKeptValue, IsKeptParam, HasKeptParams, token-utf8, field-kept}
+
+escaped_read : (v : List ℕ) → list_all is_pair_char v ≡ true → IsQuoted (escaped v) v
+escaped_read [] h = done
+escaped_read (c ∷ cs) h =
+    let k = both (is_pair_char c) (list_all is_pair_char cs) h in
+    by_test c 34 (λ b. (c == 34) ≡ b → IsQuoted (cond (b || c == 92) (92 ∷ c ∷ escaped cs) (c ∷ escaped cs)) (c ∷ cs))
+    (λ _ _. pair c (escaped cs) cs k.0 (escaped_read cs k.1))
+    (λ _ e. by_test c 92 (λ b. (c == 92) ≡ b → IsQuoted (cond b (92 ∷ c ∷ escaped cs) (c ∷ escaped cs)) (c ∷ cs))
+    (λ _ _. pair c (escaped cs) cs k.0 (escaped_read cs k.1))
+    (λ _ f. plain c (escaped cs) cs (rw (k.0, e, f) refl) (escaped_read cs k.1)) refl) refl
+
+param_read : (n : List ℕ) (v : Option (List ℕ)) → is_token n ≡ true → str_to_ascii_lowercase n ≡ n → IsKeptValue v → IsParam (n ++ written_value v) (record { name = n; value = v })
+param_read n None t s k =
+    subst (λ z. IsParam z (record { name = n; value = None })) (sym (append-nil n)) (subst (λ z. IsParam n (record { name = z; value = None })) s (bare n t))
+param_read n (Some v) t s k =
+    subst (λ z. IsParam (n ++ 61 ∷ 34 ∷ (escaped v ++ 34 ∷ [])) (record { name = z; value = Some v })) s
+    (valued n [] [] (34 ∷ (escaped v ++ 34 ∷ [])) v t refl refl (quoted (escaped v) v (escaped_read v k.chars)))
+
+params_read : (ps : List LinkParam) → All IsKeptParam ps → IsParams (flat_map written_param ps) ps
+params_read [] h = none
+params_read (q ∷ ps) h =
+    let k = All-head IsKeptParam q ps h in
+    param [] (32 ∷ []) (q.name ++ written_value q.value) (flat_map written_param ps) q ps refl refl (param_read q.name q.value k.token k.small k.value) (params_read ps (All-tail IsKeptParam q ps h))
+
+link_read : (l : LinkValue) → lacks 62 l.target ≡ true → HasKeptParams l → IsElement (written_link l) (l ∷ [])
+link_read l closed k =
+    subst (λ z. IsElement z (l ∷ [])) (append-nil (written_link l))
+    (element [] (written_link l) [] l refl (link l.target (flat_map written_param l.params) l.params closed (params_read l.params k)) refl)
+
+blank_element : (x : List ℕ) (ls : List LinkValue) → IsElement x ls → IsElement (32 ∷ x) ls
+blank_element x ls (empty a h) = empty (32 ∷ a) h
+blank_element x ls (element a y b l h k i) = element (32 ∷ a) y b l h k i
+
+blank_field : (x : List ℕ) (ls : List LinkValue) → IsField x ls → IsField (32 ∷ x) ls
+blank_field x ls (last y ms h) = last (32 ∷ y) ms (blank_element y ms h)
+blank_field x ls (more y z ms ns h k) = more (32 ∷ y) z ms ns (blank_element y ms h) k
+
+-- what is kept of a field value is one list
+pub one_kept : (s : Tests) (base x : List ℕ) (kept others : List LinkValue) → IsRead s base x kept → IsRead s base x others → kept ≡ others
+one_kept s base x kept others a b =
+    a.resolves ∙ (ap (map (resolved s base)) (one_list x a.links b.links a.has.field b.has.field) ∙ sym b.resolves)
+
+-- link-values whose targets are references, and whose parameters are those of a field value
+pub record AreKept (s : Tests) (ls : List LinkValue) : Type 0 where
+  pub valid : All (HasReference s) ls
+  pub params : All HasKeptParams ls
+
+module _ (s : Tests) (k : IsSpec s) where
+  one_read : (l : LinkValue) → HasReference s l → HasKeptParams l → IsElement (written_link l) (l ∷ [])
+  one_read l valid kept = link_read l (reference-closed s k l.target valid) kept
+
+  written_read : (ls : List LinkValue) → AreKept s ls → IsField (written ls) ls
+  written_read [] h = last [] [] (empty [] refl)
+  written_read (l ∷ []) h = last (written_link l) (l ∷ []) (one_read l (All-head (HasReference s) l [] h.valid) (All-head HasKeptParams l [] h.params))
+  written_read (l ∷ m ∷ ls) h =
+      more (written_link l) (32 ∷ written (m ∷ ls)) (l ∷ []) (m ∷ ls) (one_read l (All-head (HasReference s) l (m ∷ ls) h.valid) (All-head HasKeptParams l (m ∷ ls) h.params))
+      (blank_field (written (m ∷ ls)) (m ∷ ls)
+      (written_read (m ∷ ls) (record { valid = All-tail (HasReference s) l (m ∷ ls) h.valid; params = All-tail HasKeptParams l (m ∷ ls) h.params })))
+
+  -- ---- as UTF-8
+  value_utf8 : (v : Option (List ℕ)) → IsKeptValue v → IsUtf8 (written_value v)
+  value_utf8 None h = IsUtf8-nil
+  value_utf8 (Some v) h =
+      marked-utf8 61 (34 ∷ (escaped v ++ 34 ∷ [])) (omega arith)
+      (marked-utf8 34 (escaped v ++ 34 ∷ []) (omega arith) (IsUtf8-append (escaped v) (34 ∷ []) (escaped-utf8 v h.utf8) (one_byte-utf8 34 (omega arith))))
+
+  params_utf8 : (ps : List LinkParam) → All IsKeptParam ps → IsUtf8 (flat_map written_param ps)
+  params_utf8 [] h = IsUtf8-nil
+  params_utf8 (p ∷ ps) h =
+      let kept = All-head IsKeptParam p ps h in
+      IsUtf8-append (written_param p) (flat_map written_param ps)
+      (marked-utf8 59 (32 ∷ (p.name ++ written_value p.value)) (omega arith)
+      (marked-utf8 32 (p.name ++ written_value p.value) (omega arith) (IsUtf8-append p.name (written_value p.value) (token-utf8 p.name kept.token) (value_utf8 p.value kept.value))))
+      (params_utf8 ps (All-tail IsKeptParam p ps h))
+
+  link_utf8 : (l : LinkValue) → HasReference s l → HasKeptParams l → IsUtf8 (written_link l)
+  link_utf8 l valid kept =
+      marked-utf8 60 (l.target ++ 62 ∷ flat_map written_param l.params) (omega arith)
+      (IsUtf8-append l.target (62 ∷ flat_map written_param l.params) (reference-utf8 s l.target ((reference-law s k l.target).0 valid))
+      (marked-utf8 62 (flat_map written_param l.params) (omega arith) (params_utf8 l.params kept)))
+
+  written_utf8 : (ls : List LinkValue) → AreKept s ls → IsUtf8 (written ls)
+  written_utf8 [] h = IsUtf8-nil
+  written_utf8 (l ∷ []) h = link_utf8 l (All-head (HasReference s) l [] h.valid) (All-head HasKeptParams l [] h.params)
+  written_utf8 (l ∷ m ∷ ls) h =
+      IsUtf8-append (written_link l) (44 ∷ 32 ∷ written (m ∷ ls)) (link_utf8 l (All-head (HasReference s) l (m ∷ ls) h.valid) (All-head HasKeptParams l (m ∷ ls) h.params))
+      (marked-utf8 44 (32 ∷ written (m ∷ ls)) (omega arith) (marked-utf8 32 (written (m ∷ ls)) (omega arith)
+      (written_utf8 (m ∷ ls) (record { valid = All-tail (HasReference s) l (m ∷ ls) h.valid; params = All-tail HasKeptParams l (m ∷ ls) h.params }))))
+
+  written_has : (ls : List LinkValue) → AreKept s ls → HasLinks s (written ls) ls
+  written_has ls h = record { utf8 = written_utf8 ls h; field = written_read ls h; valid = h.valid }
+
+  -- the written form of the link-values of a field value
+  pub written_again : (x : List ℕ) (ls : List LinkValue) → HasLinks s x ls → HasLinks s (written ls) ls
+  written_again x ls h = written_has ls (record { valid = h.valid; params = field-kept x ls h.field h.utf8 })
+
+  -- ---- with canonical targets
+  module _ (base other : List ℕ) (absolute : IsAbsolute s base) where
+    canonical_reference : (l : LinkValue) → HasReference s l → HasReference s (resolved s base l)
+    canonical_reference l h =
+        let i = canonical-iri s base l.target k absolute ((reference-law s k l.target).0 h) in (reference-law s k (canonical s base l.target)).1 (i.0, i.1)
+
+    resolved_again : (l : LinkValue) → HasReference s l → resolved s base l ≡ resolved s other (resolved s base l)
+    resolved_again l h =
+        ap (λ t. record { target = t; params = l.params }) (sym (canonical-own s base l.target other k absolute ((reference-law s k l.target).0 h)))
+
+    resolved_kept : (ls : List LinkValue) → AreKept s ls → AreKept s (map (resolved s base) ls) × (map (resolved s base) ls ≡ map (resolved s other) (map (resolved s base) ls))
+    resolved_kept [] h = (record { valid = All-nil (HasReference s); params = All-nil HasKeptParams }, refl)
+    resolved_kept (l ∷ ls) h =
+        let valid = All-head (HasReference s) l ls h.valid in
+        let i = resolved_kept ls (record { valid = All-tail (HasReference s) l ls h.valid; params = All-tail HasKeptParams l ls h.params }) in
+        let again = map (resolved s other) (map (resolved s base) ls) in (
+          record {
+            valid = All-cons (HasReference s) (resolved s base l) (map (resolved s base) ls) (canonical_reference l valid) i.0.valid;
+            params = All-cons HasKeptParams (resolved s base l) (map (resolved s base) ls) (All-head HasKeptParams l ls h.params) i.0.params;
+          },
+          ap (λ r. r ∷ map (resolved s base) ls) (resolved_again l valid) ∙ ap (λ r. resolved s other (resolved s base l) ∷ r) i.1,
+        )
+
+    -- what is read of a field value is read again of its written form, against any base
+    pub read_again : (x : List ℕ) (kept : List LinkValue) → IsRead s base x kept → IsRead s other (written kept) kept
+    read_again x kept r =
+        let h = r.has in
+        let m = resolved_kept r.links (record { valid = h.valid; params = field-kept x r.links h.field h.utf8 }) in
+        subst (λ ls. IsRead s other (written ls) ls) (sym r.resolves)
+        (record { links = map (resolved s base) r.links; has = written_has (map (resolved s base) r.links) m.0; resolves = m.1 })

@@ -1,0 +1,12 @@
+use Rattle.iri_link.proofs.OneListLemmas.{field-given, one_list}
+use Rattle.iri_link.proofs.WrittenLemmas.{one_kept}
+use Rattle.iri_link.proofs.laws.field_values_have_one_list.Goals as goal
+
+pub returns-clause-links : goal.returns-clause-links
+returns-clause-links g c = one_list
+
+pub returns-clause-value : goal.returns-clause-value
+returns-clause-value g c = field-given
+
+pub returns-clause-kept : goal.returns-clause-kept
+returns-clause-kept g c = one_kept g.S.Spec.tests

@@ -1,0 +1,20 @@
+use Rattle.std.proofs.Common.{ap, map, rules}
+use Rattle.iri_grammar.specs.OptionalSlices.{now_of}
+use Rattle.iri_resolve.specs.Resolver.{base_text}
+use Rattle.iri_link.specs.Stored.{link_of}
+use Rattle.iri_link.proofs.LinkLemmas.{up_more, up_end, halts_then}
+use Rattle.iri_link.proofs.link.read_text.Goals as goal
+
+pub links-preserved : goal.links-preserved
+links-preserved g c = record {
+  utf8 = search rules;
+  read = up_more g.S.Spec.tests (base_text c.args.resolver.now) c.args.text.now c.links.rest.now c.cut_run.result.0.now c.cut_run.result.1.now _ (map link_of c.links.links.items) _ c.links.invariant.read c.cut_run.ensures c.in-Ok-Some.ensures c.in-Ok-Some.behind.now (ap now_of c.in-Ok-Some.field-0-is);
+}
+
+pub returns-in-Ok-None : goal.returns-in-Ok-None
+returns-in-Ok-None g c =
+    up_end g.S.Spec.tests (base_text c.args.resolver.now) c.args.text.now c.links.rest.now c.cut_run.result.0.now c.cut_run.result.1.now _ (map link_of c.links.links.items) _ c.links.invariant.read c.cut_run.ensures c.in-Ok-None.ensures (ap now_of c.in-Ok-None.field-0-is)
+
+pub returns-in-Err : goal.returns-in-Err
+returns-in-Err g c =
+    halts_then c.in-Err.halt g.S.Spec.tests (base_text c.args.resolver.now) c.args.text.now c.links.rest.now c.cut_run.result.0.now c.cut_run.result.1.now _ c.links.invariant.read c.cut_run.ensures c.in-Err.ensures

@@ -1,0 +1,17 @@
+use Rattle.std.proofs.Common.{length, map}
+use denote.Text.{Utf8}
+use denote.Shadow.{shadow}
+use Rattle.iri_resolve.specs.Resolver.{base_text}
+use Rattle.iri_link.specs.Stored.{link_of}
+use Rattle.iri_link.specs.inside.ReadLinks.{ReadsUpTo}
+use Rattle.iri_link.proofs.link.read_text.Given as goal
+
+-- what is read so far
+abbrev pub invariant-links : goal.invariant-links
+invariant-links g l = record {
+  utf8 : shadow (Utf8 l.rest);
+  read : ReadsUpTo g.S.Spec.tests (base_text l.resolver) l.text l.rest (map link_of l.links.items);
+}
+
+abbrev pub decreases-links : goal.decreases-links
+decreases-links g l = length l.rest

@@ -1,0 +1,15 @@
+use Rattle.std.proofs.Common.{◌≡◌, ◌++◌, string_bytes, length}
+use denote.Text.{Utf8}
+use denote.Shadow.{shadow}
+use Rattle.iri_link.specs.inside.ReadQuoted.{unquoted}
+use Rattle.iri_link.proofs.quoted.unquote.Given as goal
+
+-- what is written, and the value of what is left, are the value
+abbrev pub invariant-chunks : goal.invariant-chunks
+invariant-chunks l = record {
+  utf8 : shadow (Utf8 l.rest);
+  same : string_bytes l.value ++ unquoted l.rest ≡ unquoted l.raw;
+}
+
+abbrev pub decreases-chunks : goal.decreases-chunks
+decreases-chunks l = length l.rest

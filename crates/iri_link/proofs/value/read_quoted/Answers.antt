@@ -1,0 +1,32 @@
+use Rattle.std.proofs.Common.{◌≡◌, ℕ, List, [], ◌∷◌, ◌++◌, false, Some, refl, sym, ap, ◌∙◌, append_assoc}
+use Rattle.iri_grammar.specs.Classes.{Tests}
+use Rattle.iri_link.specs.Field.{quoted}
+use Rattle.iri_link.specs.Phases.{behind_equals}
+use Rattle.iri_link.specs.Fault.{fault_from, closes_from}
+use Rattle.iri_link.specs.inside.ReadQuoted.{IsCutQuoted, unquoted}
+use Rattle.iri_link.specs.inside.ReadParams.{ReadsValue}
+use Rattle.iri_link.specs.declared.error.LinkKind.TheVariants.{OpenString}
+use Rattle.iri_link.proofs.value.read_quoted.Goals as goal
+
+open_string : (s : Tests) (t inner : List ℕ) → t ≡ 34 ∷ inner → closes_from false inner ≡ false → fault_from s behind_equals t ≡ Some (record { kind = OpenString; rest = t })
+unfolding fault_from
+open_string s t inner e h = rw (e, h) refl
+
+value_read : (t inner raw rest v : List ℕ) → t ≡ 34 ∷ inner → IsCutQuoted inner raw rest → v ≡ unquoted raw → ReadsValue t rest v
+unfolding fault_from
+value_read t inner raw rest v e h k =
+    record {
+      front = 34 ∷ (raw ++ 34 ∷ []);
+      whole = e ∙ ap (λ l. 34 ∷ l) (h.whole ∙ sym (append_assoc raw (34 ∷ []) rest));
+      value = rw k (quoted raw (unquoted raw) h.text);
+      goes = λ s. ap (fault_from s behind_equals) e ∙ (first s ∙ h.goes s);
+    }
+  where
+    first : (s : Tests) → fault_from s behind_equals (34 ∷ inner) ≡ fault_from s Rattle.iri_link.specs.Phases.in_quoted inner
+    first s = rw h.closes refl
+
+pub returns-in-None : goal.returns-in-None
+returns-in-None c = λ t. open_string t c.args.s.now c.args.inner.now c.requires c.in-None.ensures
+
+pub returns-in-Ok : goal.returns-in-Ok
+returns-in-Ok c = value_read c.args.s.now c.args.inner.now c.in-Some.raw.now c.in-Some.rest.now _ c.requires c.in-Some.ensures c.in-Ok.ensures

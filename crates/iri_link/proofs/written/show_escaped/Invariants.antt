@@ -1,0 +1,18 @@
+use Rattle.std.proofs.Common.{◌≡◌, ℕ, List, ◌++◌, length}
+use denote.Text.{Utf8}
+use denote.Shadow.{shadow}
+use Rattle.iri_text.proofs.Compose.{HasShown}
+use Rattle.iri_link.specs.Written.{escaped}
+use Rattle.iri_link.proofs.written.show_escaped.Given as goal
+
+-- what went into the sink, and what is left
+abbrev pub invariant-marks : goal.invariant-marks
+invariant-marks g l = record {
+  utf8 : shadow (Utf8 l.rest);
+  done : List ℕ;
+  shown : HasShown g.W.TextSink.puts g.W.TextSink.stops l.initial.sink done l.sink;
+  same : escaped l.value ≡ done ++ escaped l.rest;
+}
+
+abbrev pub decreases-marks : goal.decreases-marks
+decreases-marks g l = length l.rest

@@ -1,0 +1,15 @@
+pub mod At
+pub mod Characters
+pub mod ErrorTexts
+pub mod Examples
+pub mod Fault
+pub mod Field
+pub mod Links
+pub mod Phases
+pub mod Readings
+pub mod Refusals
+pub mod Resolved
+pub mod Stored
+pub mod Token
+pub mod Written
+pub mod inside

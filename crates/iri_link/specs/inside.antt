@@ -1,0 +1,7 @@
+-- What private contracts cite.
+pub mod CutMarks
+pub mod Halts
+pub mod ReadLinks
+pub mod ReadParams
+pub mod ReadQuoted
+pub mod Runs

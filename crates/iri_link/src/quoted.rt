@@ -1,0 +1,73 @@
+// Quoted strings (RFC 9110 section 5.6.4).
+ghost use Rattle.std.specs.Prelude.{◌≡◌, ◌&&◌, ◌==◌, not, false, true, MatchOption, IfOk, string_bytes};
+ghost use Rattle.iri_link.specs.Fault.{closes_from};
+ghost use Rattle.iri_link.specs.Token.{is_pair_char};
+ghost use Rattle.iri_link.specs.inside.ReadQuoted.{quoted_len, unquoted, IsCutQuoted};
+
+use crate::runs::past;
+use iri_grammar::cutting::cut;
+use std::alloc::{AllocError, Global};
+
+// A tab, a space, a printable ASCII character, or a byte of one past ASCII.
+fn is_pair_char(b: u8) -> bool
+    ensures { result ≡ is_pair_char b }
+{
+    b == b'\t' || (32..=126).contains(&b) || b > 127
+}
+
+// Whether the byte is the mark, and no `\` stands before it.
+fn stands_free(escaped: bool, b: u8, mark: u8) -> bool
+    ensures { result ≡ (not escaped && b == mark) }
+{
+    !escaped && b == mark
+}
+
+// Where the mark stands that ends a quoted string, behind its first mark.
+fn find_end(bytes: &[u8]) -> Option<usize>
+    ensures { MatchOption result (closes_from false bytes.now ≡ false)
+        (λ n. (closes_from false bytes.now ≡ true) × (n ≡ quoted_len false bytes.now)) }
+{
+    let mut escaped = false;
+    for (i, b) in bytes.iter().enumerate() {
+        if stands_free(escaped, *b, b'"') {
+            return Some(i);
+        }
+        if !is_pair_char(*b) {
+            return None;
+        }
+        escaped = stands_free(escaped, *b, b'\\');
+    }
+    None
+}
+
+/// What stands between the marks of a quoted string, and what follows it, behind its first mark.
+pub(crate) fn cut_quoted(s: &str) -> Option<(&str, &str)>
+    ensures { MatchOption result (closes_from false s.now ≡ false) (λ r. IsCutQuoted s.now r.0.now r.1.now) }
+{
+    match find_end(s.as_bytes()) {
+        Some(n) => Some((&s[..n], &s[n + 1..])),
+        None => None,
+    }
+}
+
+/// The value of a quoted string, from what stands between its marks.
+pub(crate) fn unquote(alloc: Global, raw: &str) -> Result<String, AllocError>
+    ensures { IfOk result (λ v. string_bytes v ≡ unquoted raw.now) }
+{
+    let mut value = String::new(alloc);
+    let mut rest = raw;
+    'chunks: loop {
+        let (chunk, behind) = cut(rest, b'\\');
+        value.push_str(chunk)?;
+        let Some(behind) = behind else {
+            return Ok(value);
+        };
+        match past(behind, b'\\') {
+            Some(next) => {
+                value.push_str("\\")?;
+                rest = next;
+            }
+            None => rest = behind,
+        }
+    }
+}

@@ -1,0 +1,95 @@
+// Runs of blanks and of a token's characters.
+ghost use Rattle.std.specs.Prelude.{◌≡◌, ◌==◌, ◌<◌, ◌∷◌, false, MatchOption};
+ghost use Rattle.iri_grammar.specs.Runs.{run_of};
+ghost use Rattle.iri_link.specs.Token.{is_token_char};
+ghost use Rattle.iri_link.specs.inside.Runs.{run_test, begins, IsRun};
+
+/// What a run is of.
+#[derive(Clone, Copy)]
+pub(crate) enum Run {
+    /// Spaces and tabs.
+    Blank,
+    /// Characters of a token.
+    Token,
+}
+
+impl Run {
+    fn has(self, b: u8) -> bool
+        ensures { result ≡ run_test self b }
+    {
+        match self {
+            Run::Blank => b == b' ' || b == b'\t',
+            Run::Token => {
+                b.is_ascii_alphanumeric()
+                    || matches!(
+                        b,
+                        b'!' | b'#'
+                            | b'$'
+                            | b'%'
+                            | b'&'
+                            | b'\''
+                            | b'*'
+                            | b'+'
+                            | b'-'
+                            | b'.'
+                            | b'^'
+                            | b'_'
+                            | b'`'
+                            | b'|'
+                            | b'~'
+                    )
+            }
+        }
+    }
+}
+
+// How many bytes at the front are of the run.
+fn run_len(run: Run, bytes: &[u8]) -> usize
+    ensures { result ≡ run_of (run_test run) bytes.now }
+{
+    for (i, b) in bytes.iter().enumerate() {
+        if !run.has(*b) {
+            return i;
+        }
+    }
+    bytes.len()
+}
+
+/// The run at the front, and what follows it.
+pub(crate) fn cut_run(run: Run, s: &str) -> (&str, &str)
+    ensures { IsRun (run_test run) s.now result.0.now result.1.now }
+{
+    s.split_at(run_len(run, s.as_bytes()))
+}
+
+// Whether the mark comes first.
+fn begins_with(bytes: &[u8], mark: u8) -> bool
+    ensures { result ≡ begins (λ c. c == mark) bytes.now }
+{
+    match bytes {
+        [b, ..] => *b == mark,
+        _ => false,
+    }
+}
+
+/// What follows the mark at the front, where it stands there. The mark must be ASCII.
+pub(crate) fn past(s: &str, mark: u8) -> Option<&str>
+    requires { mark < 128 }
+    ensures { MatchOption result (begins (λ c. c == mark) s.now ≡ false) (λ r. s.now ≡ mark ∷ r.now) }
+{
+    if begins_with(s.as_bytes(), mark) {
+        Some(&s[1..])
+    } else {
+        None
+    }
+}
+
+/// Whether a token begins there.
+pub(crate) fn begins_token(s: &str) -> bool
+    ensures { result ≡ begins is_token_char s.now }
+{
+    match s.as_bytes() {
+        [b, ..] => Run::Token.has(*b),
+        _ => false,
+    }
+}

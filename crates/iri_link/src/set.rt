@@ -1,0 +1,165 @@
+// The link-values of a field value.
+ghost use Rattle.std.specs.Prelude.{◌≡◌, MatchResult};
+ghost use Rattle.iri_types.specs.Texts.{text};
+ghost use Rattle.iri_link.specs.Fault.{fault_from, place_in};
+ghost use Rattle.iri_link.specs.Phases.{before_link};
+ghost use Rattle.iri_link.specs.Refusals.{RefusedBy};
+ghost use Rattle.iri_link.specs.Resolved.{IsRead};
+ghost use Rattle.iri_link.specs.inside.Halts.{IsTold};
+ghost use Rattle.iri_link.specs.inside.ReadLinks.{ReadsField};
+
+use crate::error::{LinkError, LinkKind};
+use crate::halt::Halt;
+use crate::link::{Link, read_text};
+use crate::param::Param;
+use crate::written::show_links;
+use iri_grammar::spec::Spec;
+use iri_resolve::resolver::FixedBaseResolver;
+use iri_text::{FormatSink, Show, Stop, TextSink};
+use iri_types::view::RiAbsoluteStr;
+use std::alloc::Global;
+use std::fmt;
+use std::marker::{Model, PhantomData};
+
+/// The link-values of a field value, in their order. Each has a target, in canonical form, and parameters, each of
+/// which has a name in lower case and may have a value. It is seen as their list.
+#[derive(Drop)]
+pub struct LinkSet<S: Spec> {
+    links: Vec<Link>,
+    spec: PhantomData<S>,
+}
+
+impl<S: Spec> Model for LinkSet<S> {
+    ghost use Rattle.std.specs.Prelude.{List};
+    ghost use Rattle.iri_link.specs.Field.{LinkValue};
+    ghost use Rattle.iri_link.specs.Stored.{links_of};
+
+    ghost Value = { List LinkValue };
+
+    ghost view = { λ t. links_of t.links.items };
+}
+
+// The link-values of a text.
+fn read_valid<S: Spec>(
+    alloc: Global,
+    base: RiAbsoluteStr<'_, S>,
+    field: &str,
+) -> Result<LinkSet<S>, LinkError>
+    ensures { MatchResult result (λ l. ReadsField S.tests (text base.entry) field.now l)
+        (λ e. IsTold e (place_in field.now (fault_from S.tests before_link field.now))) }
+{
+    let resolver = FixedBaseResolver::new(base);
+    match read_text(alloc, &resolver, field) {
+        Ok(links) => Ok(LinkSet {
+            links,
+            spec: PhantomData,
+        }),
+        Err(Halt::Fault(kind, rest)) => {
+            let place = field.len().saturating_sub(rest.len());
+            Err(LinkError::Fault(kind, place))
+        }
+        Err(Halt::Memory) => Err(LinkError::Memory),
+    }
+}
+
+/// The link-values of the value of a `Link` field (RFC 8288 section 3), each with its target's canonical text against a
+/// base (RFC 3986 sections 5.2 and 6.2.2).
+///
+/// It answers Ok exactly where the bytes are UTF-8 and have link-values whose targets are URI-references of `S`, and
+/// otherwise the first fault from the left, with its place in bytes; or allocation failed.
+pub fn read_links<S: Spec>(
+    alloc: Global,
+    base: RiAbsoluteStr<'_, S>,
+    field: &[u8],
+) -> Result<LinkSet<S>, LinkError>
+    ensures { MatchResult result (IsRead S.tests (text base.entry) field.now) (RefusedBy S.tests field.now) }
+{
+    match str::from_utf8(field) {
+        Ok(text) => read_valid(alloc, base, text),
+        Err(error) => Err(LinkError::Fault(LinkKind::NotUtf8, error.valid_up_to())),
+    }
+}
+
+impl<S: Spec> LinkSet<S> {
+    ghost use Rattle.std.specs.Prelude.{length, map};
+    ghost use Rattle.iri_grammar.specs.OptionalSlices.{now_of};
+    ghost use Rattle.iri_link.specs.At.{target_at, params_at, name_at, value_at};
+    ghost use Rattle.iri_link.specs.Stored.{param_of};
+
+    /// How many link-values there are.
+    pub fn len(&self) -> usize
+        ensures { result ≡ length self.now }
+    {
+        self.links.len()
+    }
+
+    /// The target of the link-value at `i`, from 0: none exactly where there are no more than `i`.
+    pub fn target(&self, i: usize) -> Option<&str>
+        ensures { now_of result ≡ target_at self.now i }
+    {
+        match self.links.get(i) {
+            Some(link) => Some(link.target.as_str()),
+            None => None,
+        }
+    }
+
+    // The parameters of the link-value at `i`; none where there are no more than `i`.
+    fn params(&self, i: usize) -> &[Param]
+        ensures { map param_of result.now ≡ params_at self.now i }
+    {
+        match self.links.get(i) {
+            Some(link) => link.params.as_slice(),
+            None => &[],
+        }
+    }
+
+    /// How many parameters the link-value at `i` has: 0 where there are no more than `i`.
+    pub fn param_count(&self, i: usize) -> usize
+        ensures { result ≡ length (params_at self.now i) }
+    {
+        self.params(i).len()
+    }
+
+    /// The name of the parameter at `j` of the link-value at `i`, both from 0, in lower case: none exactly where there
+    /// are no more than `i` or `j`.
+    pub fn param_name(&self, i: usize, j: usize) -> Option<&str>
+        ensures { now_of result ≡ name_at self.now i j }
+    {
+        match self.params(i).get(j) {
+            Some(param) => Some(param.name.as_str()),
+            None => None,
+        }
+    }
+
+    /// The value of the parameter at `j` of the link-value at `i`, both from 0: none exactly where there are no more
+    /// than `i` or `j`, or the parameter has none.
+    pub fn param_value(&self, i: usize, j: usize) -> Option<&str>
+        ensures { now_of result ≡ value_at self.now i j }
+    {
+        match self.params(i).get(j) {
+            Some(param) => param.value.as_deref(),
+            None => None,
+        }
+    }
+}
+
+impl<S: Spec> Show for LinkSet<S> {
+    ghost use Rattle.iri_link.specs.Written.{written};
+
+    ghost text = { written };
+
+    fn show<W: TextSink>(&self, sink: &mut W) -> Result<(), Stop> {
+        show_links(sink, &self.links)
+    }
+}
+
+impl<S: Spec> fmt::Display for LinkSet<S> {
+    ghost use Rattle.std.specs.Prelude.{Some};
+    ghost use Rattle.iri_link.specs.Written.{written};
+
+    ghost output = { λ l. Some (written l) };
+
+    fn fmt<W: fmt::Write>(&self, f: &mut fmt::Formatter<W>) -> fmt::Result {
+        FormatSink::new(f).display(self)
+    }
+}

@@ -1,0 +1,101 @@
+// The written form of link-values (RFC 8288 section 3).
+ghost use Rattle.std.specs.Prelude.{◌≡◌, ◌++◌, ◌∷◌, MatchOption};
+ghost use Rattle.iri_text.specs.Shown.{Shows};
+ghost use Rattle.iri_link.specs.Stored.{links_of};
+ghost use Rattle.iri_link.specs.Written.{escaped, written};
+ghost use Rattle.iri_link.specs.inside.CutMarks.{IsMarkAt, IsCutAtMark};
+
+use crate::link::Link;
+use crate::param::Param;
+use iri_text::{Show, Stop, TextSink, show_each, show_five, show_three, show_two};
+use memchr::memchr2;
+
+// Where the first `"` or `\` stands.
+fn find_mark(s: &str) -> Option<usize>
+    ensures { MatchOption result (escaped s.now ≡ s.now) (λ at. IsMarkAt s.now at) }
+{
+    memchr2(b'"', b'\\', s.as_bytes())
+}
+
+// What stands before the first `"` or `\`, that mark, and what follows it.
+fn cut_mark(s: &str) -> Option<(&str, &str, &str)>
+    ensures { MatchOption result (escaped s.now ≡ s.now) (λ r. IsCutAtMark s.now r.0.now r.1.now r.2.now) }
+{
+    match find_mark(s) {
+        Some(at) => Some((&s[..at], &s[at..at + 1], &s[at + 1..])),
+        None => None,
+    }
+}
+
+// Shows a value with a `\` before each `"` and `\`.
+fn show_escaped<W: TextSink>(sink: &mut W, value: &str) -> Result<(), Stop>
+    ensures { Shows W.puts W.halts W.stops sink.old (escaped value.now) sink.new result }
+{
+    let mut rest = value;
+    'marks: loop {
+        match cut_mark(rest) {
+            Some((front, mark, behind)) => {
+                show_three(sink, &front, &"\\", &mark)?;
+                rest = behind;
+            }
+            None => return sink.put(rest),
+        }
+    }
+}
+
+// The value of a parameter, as it stands in a quoted string.
+#[derive(Drop)]
+struct Escaped<'a> {
+    value: &'a str,
+}
+
+impl Show for Escaped<'_> {
+    ghost text = { λ e. escaped e.value.now };
+
+    fn show<W: TextSink>(&self, sink: &mut W) -> Result<(), Stop> {
+        show_escaped(sink, self.value)
+    }
+}
+
+impl Show for Param {
+    ghost use Rattle.iri_link.specs.Stored.{param_of};
+    ghost use Rattle.iri_link.specs.Written.{written_param};
+
+    ghost text = { λ p. written_param (param_of p) };
+
+    fn show<W: TextSink>(&self, sink: &mut W) -> Result<(), Stop> {
+        match &self.value {
+            Some(value) => {
+                let value = Escaped {
+                    value: value.as_str(),
+                };
+                show_five(sink, &"; ", &self.name, &"=\"", &value, &"\"")
+            }
+            None => show_two(sink, &"; ", &self.name),
+        }
+    }
+}
+
+impl Show for Link {
+    ghost use Rattle.iri_link.specs.Stored.{link_of};
+    ghost use Rattle.iri_link.specs.Written.{written_link};
+
+    ghost text = { λ l. written_link (link_of l) };
+
+    fn show<W: TextSink>(&self, sink: &mut W) -> Result<(), Stop> {
+        show_three(sink, &"<", &self.target, &">")?;
+        show_each(sink, &self.params)
+    }
+}
+
+/// Shows link-values in their written form.
+pub(crate) fn show_links<W: TextSink>(sink: &mut W, links: &[Link]) -> Result<(), Stop>
+    ensures { Shows W.puts W.halts W.stops sink.old (written (links_of links.now)) sink.new result }
+{
+    let mut between = "";
+    for link in links {
+        show_two(sink, &between, link)?;
+        between = ", ";
+    }
+    Ok(())
+}
