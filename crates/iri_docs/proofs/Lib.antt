@@ -1,0 +1,4 @@
+pub mod StepLemmas
+pub mod NameLemmas
+pub mod FaultLemmas
+pub mod ExpandLemmas

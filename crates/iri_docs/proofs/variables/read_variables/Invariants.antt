@@ -1,0 +1,15 @@
+use Rattle.std.proofs.Common.{◌≡◌, ℕ, List}
+use Rattle.serde_json.specs.View.{members_view}
+use Rattle.iri_template.specs.Contexts.{value_in}
+use Rattle.iri_template.specs.ShownValues.{ShownValue}
+use Rattle.iri_docs.specs.Documents.{variables, value_by_name}
+use Rattle.iri_docs.proofs.StepLemmas.{after}
+use Rattle.iri_docs.proofs.variables.read_variables.Given as goal
+
+abbrev pub invariant-loop-key : goal.invariant-loop-key
+invariant-loop-key l =
+    (goal.iterator-loop-key).can_next l.key-iterator ×
+    (goal.iterator-loop-key).is_finite l.key-iterator ×
+    (done : List (List ℕ × ShownValue)) ×
+    (variables (members_view l.fn.object.entries) ≡ after done (variables (members_view l.key-iterator))) ×
+    ((n : List ℕ) → value_in l.context n ≡ value_by_name done n)

@@ -1,0 +1,6 @@
+-- What a call answers, allocation failure apart.
+use Rattle.std.specs.Prelude.{◌≡◌, ◌≢◌, Result, Ok, Err, MatchResult}
+
+-- The answer is the one that is wanted, where what an Ok holds is seen by `view`. One error alone is free, that of an allocation failure.
+abbrev pub AnswersBut : {A B E : Type 0} → E → (A → B) → Result A E → Result B E → Type 0
+AnswersBut memory view result wanted = MatchResult result (λ v. wanted ≡ Ok (view v)) (λ e. e ≢ memory → wanted ≡ Err e)

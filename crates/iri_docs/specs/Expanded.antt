@@ -1,0 +1,50 @@
+-- The canonical text of a template's expansion, or why there is none.
+use Rattle.std.specs.Prelude.{ℕ, nat_lt, List, length, if◌then◌else◌, Option, Some, None, Result, Ok, Err}
+use Rattle.iri_grammar.specs.Classes.{Tests}
+use Rattle.iri_grammar.specs.WholeFault.{reference_fault}
+use Rattle.iri_grammar.specs.declared.error.ErrorKind.{ErrorKind}
+use Rattle.iri_template.specs.Expansion.{expansion}
+use Rattle.iri_template.specs.Fault.{first, template_fault}
+use Rattle.iri_template.specs.Reading.{pieces_of}
+use Rattle.iri_template.specs.ShownValues.{ShownValue}
+use Rattle.iri_template.specs.TypeFaults.{type_fault}
+use Rattle.iri_template.specs.declared.error.Error.{Error}
+use Rattle.iri_resolve.specs.NormalForm.{canonical}
+use Rattle.iri_docs.specs.declared.expand_error.DocExpandError.{DocExpandError}
+use Rattle.iri_docs.specs.declared.expand_error.DocExpandError.TheVariants.{Template, TooLong, Invalid}
+
+-- how many bytes an expansion may have
+abbrev pub expansion_limit : ℕ
+expansion_limit = 1048576
+
+-- the first fault of a template (RFC 6570 section 2), or of a value that a varspec with a length has no use for (section 2.4.1)
+abbrev pub expansion_fault : (List ℕ → ShownValue) → List ℕ → Option Error
+expansion_fault value template = first (template_fault template) (type_fault value (pieces_of template))
+
+abbrev pub within_limit : List ℕ → Result (List ℕ) DocExpandError
+within_limit text = if nat_lt expansion_limit (length text) then Err TooLong else Ok text
+
+abbrev pub unless_fault : Option Error → Result (List ℕ) DocExpandError → Result (List ℕ) DocExpandError
+unless_fault None answer = answer
+unless_fault (Some e) answer = Err (Template e)
+
+-- the expansion of a template where names have these values (section 3); it is refused for a fault, then for its length
+abbrev pub expansion_within : Tests → (List ℕ → ShownValue) → List ℕ → Result (List ℕ) DocExpandError
+expansion_within s value template =
+    unless_fault (expansion_fault value template) (within_limit (expansion s value (pieces_of template)))
+
+abbrev pub unless_invalid : Option ErrorKind → List ℕ → Result (List ℕ) DocExpandError
+unless_invalid None text = Ok text
+unless_invalid (Some kind) text = Err (Invalid (record { kind = kind }))
+
+-- the canonical text of a reference against a base (RFC 3986 sections 5.2 and 6.2.2), or the reference's first fault
+abbrev pub canonical_or_fault : Tests → List ℕ → List ℕ → Result (List ℕ) DocExpandError
+canonical_or_fault s base text = unless_invalid (reference_fault s text) (canonical s base text)
+
+abbrev pub canonical_of : Tests → List ℕ → Result (List ℕ) DocExpandError → Result (List ℕ) DocExpandError
+canonical_of s base (Ok text) = canonical_or_fault s base text
+canonical_of s base (Err e) = Err e
+
+-- the canonical text of a template's expansion against a base, or why there is none
+abbrev pub expanded : Tests → List ℕ → (List ℕ → ShownValue) → List ℕ → Result (List ℕ) DocExpandError
+expanded s base value template = canonical_of s base (expansion_within s value template)

@@ -1,0 +1,9 @@
+pub mod Answered
+pub mod ErrorTexts
+pub mod Held
+pub mod Documents
+pub mod FirstFault
+pub mod Expanded
+pub mod Examples
+pub mod ExpandedExamples
+pub mod inside

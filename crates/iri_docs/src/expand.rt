@@ -1,0 +1,85 @@
+//! The canonical texts of documents.
+ghost use Rattle.std.specs.Prelude.{◌≡◌, string_bytes};
+ghost use Rattle.iri_types.specs.Texts.{text as text_of};
+ghost use Rattle.iri_template.specs.Contexts.{value_in};
+ghost use Rattle.iri_docs.specs.Answered.{AnswersBut};
+ghost use Rattle.iri_docs.specs.Expanded.{canonical_or_fault, expansion_within, expanded};
+ghost use Rattle.iri_docs.specs.Held.{held};
+
+use crate::document::Document;
+use crate::expand_error::DocExpandError;
+use iri_grammar::spec::Spec;
+use iri_owned::owned::RiString;
+use iri_resolve::resolver::FixedBaseResolver;
+use iri_template::simple_context::SimpleContext;
+use iri_template::template::UriTemplateStr;
+use iri_text::ToDedicatedString;
+use iri_types::kind::Reference;
+use iri_types::split::SplitView;
+use iri_types::view::RiAbsoluteStr;
+use std::alloc::Global;
+
+/// How many bytes an expansion may have.
+pub const EXPANSION_LIMIT: usize = 1_048_576;
+
+// The expansion of a template, which is within the limit.
+fn expand<S: Spec>(
+    alloc: Global,
+    template: &str,
+    context: &SimpleContext,
+) -> Result<String, DocExpandError>
+    ensures { AnswersBut DocExpandError.Memory string_bytes result
+        (expansion_within S.tests (value_in context.now) template.now) }
+{
+    let template = match UriTemplateStr::new(template) {
+        Ok(template) => template,
+        Err(error) => return Err(DocExpandError::Template(error)),
+    };
+    match template.expand::<S, SimpleContext>(context) {
+        Ok(expanded) => match expanded.try_into_text_within(alloc, EXPANSION_LIMIT) {
+            Ok(Some(text)) => Ok(text),
+            Ok(None) => Err(DocExpandError::TooLong),
+            Err(_) => Err(DocExpandError::Memory),
+        },
+        Err(error) => Err(DocExpandError::Template(error)),
+    }
+}
+
+// The canonical text of a text.
+fn canonicalize<S: Spec>(
+    alloc: Global,
+    base: RiAbsoluteStr<'_, S>,
+    text: &str,
+) -> Result<RiString<S>, DocExpandError>
+    ensures { AnswersBut DocExpandError.Memory (λ t. t.text) result
+        (canonical_or_fault S.tests (text_of base.entry) text.now) }
+{
+    match SplitView::<S, Reference>::new(text) {
+        Ok(reference) => {
+            let target = FixedBaseResolver::new(base).resolve_split(&reference);
+            match target.and_normalize().try_to_dedicated_string(alloc) {
+                Ok(text) => Ok(text),
+                Err(_) => Err(DocExpandError::Memory),
+            }
+        }
+        Err(error) => Err(DocExpandError::Invalid(error)),
+    }
+}
+
+/// The canonical text (RFC 3986 sections 5.2 and 6.2.2) of the expansion of a document's template with its values (RFC
+/// 6570 section 3), against a base. `S` is the spec of the expansion and of the base.
+///
+/// It is refused by the first that holds: `Template`, where the text is no template, or a varspec with a length has a
+/// list or an associative array that isn't empty; `TooLong`, where the expansion has more than [`EXPANSION_LIMIT`]
+/// bytes; `Invalid`, where it is no reference. `Memory` may come at any place, and says nothing of the document.
+pub fn expand_document<S: Spec>(
+    alloc: Global,
+    base: RiAbsoluteStr<'_, S>,
+    document: &Document,
+) -> Result<RiString<S>, DocExpandError>
+    ensures { AnswersBut DocExpandError.Memory (λ t. t.text) result
+        (expanded S.tests (text_of base.entry) (held document.now).value_of (held document.now).template) }
+{
+    let text = expand::<S>(alloc, document.template(), document.context())?;
+    canonicalize::<S>(alloc, base, text.as_str())
+}
