@@ -1,6 +1,6 @@
 -- Lines that were answered one after the other, and how that ends.
-use Rattle.std.proofs.Common.{◌≡◌, ◌≢◌, ◌==◌, ℕ, ◌≤◌, List, [], ◌∷◌, ◌++◌, ◌&&◌, length, Bool, true, false, if◌then◌else◌, Option, None}
-use Rattle.std.proofs.Common.{Some, Result, Ok, Err, refl, sym, ◌∙◌, ap, subst, arith, append_assoc}
+use Rattle.std.proofs.Common.{◌≡◌, ◌≢◌, ◌==◌, ℕ, ◌+◌, ◌≤◌, List, [], ◌∷◌, ◌++◌, ◌&&◌, length, Bool, true, false, if◌then◌else◌, Option, None}
+use Rattle.std.proofs.Common.{Some, Result, Ok, Err, refl, sym, ◌∙◌, ap, subst, arith, append_assoc, length-append}
 use Rattle.std.specs.List.{concat, list_all}
 use Rattle.std.proofs.lemmas.List.{append-nil}
 use Rattle.iri_text.specs.Count.{Rose}
@@ -22,8 +22,8 @@ use Rattle.iri_cli.specs.declared.answers.AnswerError.{AnswerError}
 use Rattle.iri_cli.specs.declared.answers.AnswerError.TheVariants.{SinkFailed as AnswerFailed, Memory as AnswerMemory}
 use Rattle.iri_cli.specs.declared.end.End.{End}
 use Rattle.iri_cli.specs.declared.end.End.TheVariants.{Done, SomeBad, BadBase, SourceFailed, SinkFailed, Memory, LineTooLong, InputTooLong}
-use Rattle.iri_cli.proofs.Reading.{left_is, reads_line, reads_all, reads_some, reads_long, reads_over, goes_on}
-use Rattle.iri_cli.proofs.Ends.{one_more, one_more_good, first_read, ends_all, ends_past}
+use Rattle.iri_cli.proofs.Reading.{left_is, reads_line, reads_all, reads_some, reads_long, reads_over, goes_on, counts_more}
+use Rattle.iri_cli.proofs.Ends.{one_more, one_more_good, first_read, first_lines, ends_all, ends_past}
 
 -- all of these bytes are a prefix of them
 pub whole_front : {a b : Option (List ℕ)} {xs : List ℕ} → Appends a b xs → AppendsPrefix a b xs
@@ -56,6 +56,8 @@ pub record Goes (stands_at : Answering → Type 0) (start : Answering) (reader_o
   pub between : List (List ℕ)
   pub at : stands_at (record start { between = between })
   pub going : IsGoing start.rules reader
+  -- each line had a byte
+  pub few : length between + length reader.held ≤ reader.taken
   pub read : (before : Option (List ℕ)) → HasRead start.rules before left_old reader_old (start.base ∷ [])
       → HasRead start.rules before left reader (start.base ∷ between)
   pub writes : Appends written_old written (answered_to start.rules start.base between)
@@ -81,6 +83,7 @@ start_lines stands_at start reader left wo w so ko k ro r at none is kept same r
   between = [];
   at = subst (λ (b : List (List ℕ)). stands_at (record start { between = b })) none at;
   going = is;
+  few = omega (arith, is.counted);
   read = λ before h. h;
   writes = subst (λ (o : Option (List ℕ)). Appends wo o []) (sym kept) (Appends-none wo);
   all_good = refl;
@@ -109,6 +112,10 @@ module _ (stands_at : Answering → Type 0) (start : Answering) (reader0 old new
         between = go.between ++ new.line ∷ [];
         at = q.next;
         going = goes_on start.rules lm ln sm sn old new go.going a;
+        few =
+            let more = counts_more start.rules lm ln sm sn old new go.going a in
+            let size = length-append go.between (new.line ∷ []) in
+            omega (arith, more, size, go.few);
         read = λ before h. reads_line start.rules before lm ln sm sn old new (start.base ∷ go.between) go.going (go.read before h) a;
         writes = subst (Appends wo wn) (sym (one_more start.rules start.base taken go.between new.line))
             (Appends-append wo wm wn out (start.rules.answer start.base go.between new.line) go.writes q.puts.0);
@@ -173,6 +180,7 @@ module _ (stands_at : Answering → Type 0) (start : Answering) (reader0 old new
           to = record {
             takes_memory = q.0;
             whole = start.base ∷ go.between;
+            first = first_lines start.rules before lm old (start.base ∷ go.between) (go.read before first);
             base_taken = taken;
             writes = subst (λ (w : Option (List ℕ)). Appends wo w out) (sym q.1) go.writes;
             sink = q.2 ∙ go.sink_same;
@@ -264,6 +272,7 @@ module _ (stands_at : Answering → Type 0) (start : Answering) (reader0 old new
           to = record {
             takes_memory = q.0;
             whole = start.base ∷ go.between;
+            first = first_lines start.rules before lm old (start.base ∷ go.between) (go.read before first);
             base_taken = taken;
             writes = subst (λ (w : Option (List ℕ)). Appends wo w out) (sym q.1) go.writes;
             sink = q.2 ∙ go.sink_same;

@@ -33,7 +33,13 @@ line_short lo ln fo fn old new a = omega (arith, a.line_limit, a.says.short, no_
 module _ (rules : Rules) where
   -- a new reader goes on
   pub new_going : (reader : LineState) → IsNew rules reader → IsGoing rules reader
-  new_going reader n = record { line_limit = n.line_limit; input_limit = n.input_limit; going = n.going; within = omega (arith, n.taken) }
+  new_going reader n = record {
+    line_limit = n.line_limit;
+    input_limit = n.input_limit;
+    going = n.going;
+    within = omega (arith, n.taken);
+    counted = omega (arith, ap length n.held);
+  }
 
   module _ (lo ln : Option (List ℕ)) (fo fn : ℕ) (old new : LineState) (is : IsNew rules old) where
     before : HasRead rules lo lo old []

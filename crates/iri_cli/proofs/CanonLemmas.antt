@@ -9,6 +9,7 @@ use Rattle.iri_text.proofs.Puts.{room-so}
 use Rattle.iri_text.specs.declared.Failed.{Failed}
 use Rattle.iri_resolve.proofs.LengthLaws.{length-canonical}
 use Rattle.iri_resolve.specs.NormalForm.{canonical}
+use Rattle.iri_cli.specs.Limits.{longest_line, answer_room}
 use Rattle.iri_cli.specs.Answer.{refusal, answer}
 use Rattle.iri_cli.specs.Answering.{IsReady, Answering, AnswersLine, PutsAnswer}
 use Rattle.iri_text.specs.Line.{LineState}
@@ -20,8 +21,8 @@ use Rattle.iri_cli.specs.Words.{canon_rules, is_ok}
 use Rattle.iri_cli.specs.declared.answers.AnswerError.{AnswerError}
 use Rattle.iri_cli.specs.declared.answers.AnswerError.TheVariants.{SinkFailed, Memory}
 use Rattle.iri_cli.specs.Ending.{Rules}
-use Rattle.iri_cli.specs.Prepared.{IsPrepared}
-use Rattle.iri_cli.proofs.PreparedLaws.{kept_answers, kept_taken}
+use Rattle.iri_cli.specs.Prepared.{prepared}
+use Rattle.iri_cli.proofs.PreparedLaws.{same_answer, prepared_taken}
 use Rattle.std.specs.Prelude.{OnOk}
 use Rattle.iri_cli.proofs.BytesLemmas.{base_absolute, line_reference, refused_none}
 use Rattle.iri_resolve.proofs.CanonLemmas.{fault_none}
@@ -75,13 +76,13 @@ base_read s lo lm reader base text gives is taken =
 
 -- `canon` stands behind the base line
 pub canon_ready : (s : Tests) (lo lm : Option (List ℕ)) (reader : LineState) (base text output : List ℕ) → IsSpec s
-    → GivesBase (canon_rules s) lo lm reader base → IsPrepared s base text → refusal s base ≡ None → length text ≤ 65536
-    → length output ≡ 131076 → IsReady (IsCanonAt s text output) (record { rules = canon_rules s; base = base; between = [] }) reader
+    → GivesBase (canon_rules s) lo lm reader base → text ≡ prepared s base → refusal s base ≡ None → length text ≤ longest_line
+    → length output ≡ answer_room → IsReady (IsCanonAt s text output) (record { rules = canon_rules s; base = base; between = [] }) reader
 canon_ready s lo lm reader base text output k gives is taken short room = record {
   at = record {
     rules = refl;
-    same = λ line. kept_answers s base text line k taken is;
-    taken = kept_taken s base text k taken is;
+    same = λ line. ap (λ (t : List ℕ). answer s t line) is ∙ same_answer s base line k taken;
+    taken = ap (refusal s) is ∙ prepared_taken s base k taken;
     short = short;
     room = room;
   };

@@ -129,3 +129,18 @@ module _ (rules : Rules) where
   pub ends_past_none : (status : ℕ) (lo ln : Option (List ℕ)) → (r : ReadsPast rules status lo ln []) → (more : List ℕ)
       → ending rules (r.taken ++ more) ≡ record { status = status; output = [] }
   ends_past_none status lo ln r more = ap (ending_by rules (r.taken ++ more)) (r.passes more) ∙ ap (stopped rules status) (r.ended more)
+
+  -- the lines of an input that were read come first in it
+  pub first_lines : (lo ln : Option (List ℕ)) (reader : LineState) (whole : List (List ℕ)) → HasRead rules lo ln reader whole
+      → (input : List ℕ) → lo ≡ Some input → (more : List (List ℕ)) × (lines input ≡ whole ++ more)
+  first_lines lo ln reader whole go input told =
+      let l = left_is ln input (go.given ++ reader.held)
+      (subst (λ (s : Option (List ℕ)). Consumes s ln (go.given ++ reader.held)) told go.takes) in
+      ⊎_elim
+      (λ o. (lines (reader.held ++ l.0), ap lines (l.2 ∙ append_assoc go.given reader.held l.0) ∙ (o.1).all (reader.held ++ l.0)))
+      (λ c.
+      let all : input ≡ go.given =
+      l.2 ∙ ap (λ (t : List ℕ). (go.given ++ reader.held) ++ t) (subst IsAtEnd l.1 (c.1).at_end) ∙ append-nil (go.given ++ reader.held)
+      ∙ ap (λ (t : List ℕ). go.given ++ t) (c.1).nothing ∙ append-nil go.given in
+      ([], ap lines all ∙ (c.1).all ∙ sym (append-nil whole)))
+      go.place

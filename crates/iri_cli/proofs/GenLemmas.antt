@@ -1,16 +1,10 @@
--- The references of `gen`: segments that are still to be written, and one reference more; its words and its end.
+-- The references of `gen`: segments that are still to be written, and one reference more; its end.
 use Rattle.std.proofs.Common.{◌≡◌, ◌≢◌, ℕ, suc, ◌+◌, ◌-◌, ◌<◌, ◌/◌, ◌%◌, List, ◌∷◌, ◌++◌, [], ap, arith, refl, sym, ◌∙◌}
 use Rattle.std.proofs.Common.{append_assoc, ◌⊎◌, ⊎_elim, inl, inr, Option}
-use Rattle.std.specs.Prelude.{get_or}
-use Rattle.std.proofs.lemmas.Fmt.{decimal_injective}
 use Rattle.iri_text.specs.Sink.{KeepsRoom}
 use Rattle.iri_cli.specs.Gen.{gen_segment, more_segments}
 use Rattle.iri_cli.specs.Notices.{PutsText, Tells}
 use Rattle.iri_cli.specs.Run.{outside}
-use Rattle.iri_cli.specs.Words.{IsCommand, word_of}
-use Rattle.iri_cli.specs.declared.command.Command.TheVariants.{Gen}
-use Rattle.iri_cli.specs.declared.command.Grammar.{Grammar}
-use Rattle.iri_cli.specs.declared.command.Grammar.TheVariants.{Uri, Iri}
 
 pub more_step : (count i number : ℕ) → i < count → more_segments (count - i) number
     ≡ 47 ∷ (gen_segment (number % 16) ++ more_segments (count - (i + 1)) (number / 16))
@@ -26,24 +20,6 @@ more_written text mid after piece whole count i number h m a p is =
     ∙ append_assoc (text ++ 47 ∷ []) (gen_segment (number % 16)) (more_segments (count - (i + 1)) (number / 16))
     ∙ append_assoc text (47 ∷ []) (gen_segment (number % 16) ++ more_segments (count - (i + 1)) (number / 16))
     ∙ ap (λ (t : List ℕ). text ++ t) (sym (more_step count i number h)) ∙ is
-
--- ---- the words
-one_grammar : (a b : Grammar) → word_of a ≡ word_of b → a ≡ b
-one_grammar Uri Uri e = refl
-one_grammar Iri Iri e = refl
-one_grammar Uri Iri e = let n : 117 ≡ 105 = ap (λ (w : List ℕ). get_or w 0 0) e in absurd (omega (arith, n))
-one_grammar Iri Uri e = let n : 105 ≡ 117 = ap (λ (w : List ℕ). get_or w 0 0) e in absurd (omega (arith, n))
-
--- words tell one grammar and one count
-pub one_gen : (words : List (List ℕ)) (a b : Grammar) (m n : ℕ) → IsCommand words (Gen a m) → IsCommand words (Gen b n) → (a ≡ b) × (m ≡ n)
-one_gen words a b m n p q =
-    let e = sym p.1 ∙ q.1 in
-    let word : word_of a ≡ word_of b = ap (λ (ws : List (List ℕ)). get_or ws 1 []) e in
-    let number : p.0 ≡ q.0 = ap (λ (ws : List (List ℕ)). get_or ws 2 []) e in (
-      one_grammar a b word,
-      decimal_injective m n (omega (arith, p.2.most)) (omega (arith, q.2.most))
-          (sym p.2.spelled ∙ number ∙ q.2.spelled),
-    )
 
 -- ---- the end: the lines were put, and nothing was read; or allocation failed before anything was put
 pub told : (text : List ℕ) (left old new : Option (List ℕ)) (source_faults faults_old faults_new : ℕ) (room_old room_new : Option ℕ)

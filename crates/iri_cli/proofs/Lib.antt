@@ -10,3 +10,10 @@ pub mod RunLemmas
 pub mod CanonLemmas
 pub mod GenLemmas
 pub mod GenReferences
+pub mod WordLemmas
+pub mod OpeningLemmas
+pub mod VariableLemmas
+pub mod ExpandLemmas
+pub mod PutLemmas
+pub mod RegisterLemmas
+pub mod RobotsLemmas

@@ -1,9 +1,9 @@
 -- A prepared base is an absolute URI again, is no longer than the base, and has the same canonical texts.
 use Rattle.std.proofs.Common.{◌≡◌, ℕ, ◌+◌, ◌≤◌, Bool, true, false, cond, ◌&&◌, List, [], ◌∷◌, ◌++◌, Option, Some, None, length}
-use Rattle.std.proofs.Common.{refl, ap, sym, subst, ◌∙◌, ⊎_elim, arith, append_assoc, append-nil}
-use Rattle.std.proofs.Common.{◌<◌, ◌↔◌, Result, Ok, Err, Bor, ◌||◌, not}
+use Rattle.std.proofs.Common.{refl, ap, sym, ◌∙◌, arith, append_assoc, append-nil}
+use Rattle.std.proofs.Common.{Result, Ok, Err, ◌||◌, not}
 use Rattle.std.proofs.lemmas.List.{append_cancel_right}
-use Rattle.std.specs.Prelude.{IsNone, IfOk, IsErr, MatchResult}
+use Rattle.std.specs.Prelude.{IsNone}
 use Rattle.iri_text.specs.Shown.{Shows}
 use Rattle.iri_text.specs.SliceText.{SliceText, SlicePuts, SliceHalts}
 use Rattle.iri_text.specs.declared.shown.show.Stop.{Stop}
@@ -27,13 +27,13 @@ use Rattle.iri_resolve.specs.Target.{target, target_under, target_path, to_last_
 use Rattle.iri_resolve.specs.NormalForm.{normal_path, normal_form, form, canonical}
 use Rattle.iri_resolve.proofs.FormLaws.{form-fits, scheme-stable, authorities-stable}
 use Rattle.iri_resolve.specs.Prefix.{prefix_in}
-use Rattle.iri_resolve.proofs.LengthLaws.{length-canonical}
+use Rattle.iri_resolve.proofs.LengthLaws.{length-canonical, length-parts, length-scheme, length-authorities}
 use Rattle.iri_grammar.specs.Fault.{bytes_fault}
 use Rattle.iri_grammar.specs.WholeFault.{absolute_fault, reference_fault}
 use Rattle.iri_grammar.proofs.FaultLaws.{absolute-law, reference-law, of_bytes, reference-utf8}
 use Rattle.iri_resolve.proofs.NormalStepLemmas.{stands-still as same_there}
 use Rattle.iri_cli.specs.Answer.{refusal, words_of_fault, answer, answer_by}
-use Rattle.iri_cli.specs.Prepared.{prepared_parts, prepared, IsPrepared}
+use Rattle.iri_cli.specs.Prepared.{prepared_parts, prepared}
 use Rattle.iri_cli.proofs.BytesLemmas.{base_absolute}
 
 -- ---- the prepared base is valid
@@ -119,17 +119,20 @@ prepared_taken s base k taken =
     ap words_of_fault ((of_bytes (absolute_fault s) (IsAbsolute s text) text (λ r. reference-utf8 s text (r.0, r.1))
     (absolute-law s k text)).1 valid)
 
--- ---- the text that is kept
-pub kept_taken : (s : Tests) (base text : List ℕ) → IsSpec s → refusal s base ≡ None → IsPrepared s base text → refusal s text ≡ None
-kept_taken s base text k taken is =
-    ⊎_elim (λ e. subst (λ (t : List ℕ). refusal s t ≡ None) (sym e) (prepared_taken s base k taken))
-    (λ h. subst (λ (t : List ℕ). refusal s t ≡ None) (sym h.1) taken) is
+-- ---- it is no longer than the base
+shorter : (s : Tests) (t : Parts) → IsSpec s → Fits s t → length (recompose (prepared_parts s t)) ≤ length (recompose t)
+unfolding normal_form form
+shorter s t k f =
+    let scheme = length-scheme t.scheme in
+    let authority = length-authorities s t.authority k f.authority in
+    omega (arith, length-parts (prepared_parts s t), length-parts t)
 
-pub kept_answers : (s : Tests) (base text line : List ℕ) → IsSpec s → refusal s base ≡ None → IsPrepared s base text
-    → answer s text line ≡ answer s base line
-kept_answers s base text line k taken is =
-    ⊎_elim (λ e. ap (λ (t : List ℕ). answer s t line) e ∙ same_answer s base line k taken)
-    (λ h. ap (λ (t : List ℕ). answer s t line) h.1) is
+pub prepared_short : (s : Tests) (base : List ℕ) → IsSpec s → IsAbsolute s base → length (prepared s base) ≤ length base
+unfolding prepared
+prepared_short s base k b =
+    let e = split_is s base b.0 k b.1 in
+    let short = shorter s b.0 k b.1.fits in
+    rw e (omega (arith, ap length b.1.text))
 
 -- ---- what is written
 -- `/` is a reference, and has no fault
@@ -203,9 +206,3 @@ pub shown_whole : (stops : SliceText → ℕ) (a b : SliceText) (t : List ℕ) (
     → Shows SlicePuts SliceHalts stops a t b r → a.taken ≡ [] → length t ≤ a.room → b.taken ≡ t
 shown_whole stops a b t (Ok x) h e l = h.appends.taken ∙ ap (λ z. z ++ t) e
 shown_whole stops a b t (Err x) h e l = absurd (omega (arith, h.stops_within.long, l, ap length e))
-
--- what is written to a slice is the text, which is no longer
-pub written : {E : Type 0} (r : Result (Bor (List ℕ)) E) (t p : List ℕ) (room n : ℕ) → IfOk r (λ x. x.now ≡ t) → IsErr r ↔ (room < length t)
-    → t ≡ p → room ≡ n → MatchResult r (λ x. (x.now ≡ p) × (length x.now ≤ n)) (λ _. n < length p)
-written (Ok x) t p room n ok exact e h = (ok ∙ e, let no = exact.1 in grind (arith, no, ap length ok, h))
-written (Err x) t p room n ok exact e h = let long = exact.0 refl in omega (arith, long, ap length e, h)

@@ -28,6 +28,10 @@ pub left_is : (ln : Option (List ℕ)) (x p : List ℕ) → Consumes (Some x) ln
 left_is None x p h = absurd h
 left_is (Some y) x p h = (y, refl, h)
 
+some_byte : (xs : List ℕ) → xs ≢ [] → 1 ≤ length xs
+some_byte [] n = absurd (n refl)
+some_byte (x ∷ xs) n = omega arith
+
 -- the last byte of some
 record IsLast (xs : List ℕ) (n : ℕ) : Type 0 where
   front : List ℕ
@@ -317,10 +321,24 @@ module _ (rules : Rules) where
         nonempty [] h = absurd (h refl)
         nonempty (x ∷ xs) h = omega arith
 
+    -- of the bytes that were taken at least one more is held no longer
+    pub counts_more : Advances old new lm ln fo fn (Ok true) → length new.held + old.taken + 1 ≤ new.taken + length old.held
+    counts_more a =
+        let all = length-append old.held a.moved in
+        ⊎_elim
+        (λ r.
+        let line = length-append a.says.raw (10 ∷ new.held) in
+        omega (arith, ap length r.0, all, line, a.counted))
+        (λ r.
+        let some = some_byte a.says.raw r.1 in
+        omega (arith, ap length r.0, ap length r.2, all, some, a.counted))
+        a.says.rest
+
     pub goes_on : Advances old new lm ln fo fn (Ok true) → IsGoing rules new
     goes_on a = record {
       line_limit = a.line_limit ∙ is.line_limit;
       input_limit = a.input_limit ∙ is.input_limit;
       going = a.finished;
       within = omega (arith, a.says.within, a.input_limit, is.input_limit);
+      counted = let k = counts_more a in omega (arith, k, is.counted);
     }

@@ -3,6 +3,7 @@ use Rattle.std.specs.Prelude.{◌≡◌, ◌≤◌, ℕ, Bool, List, length, Opt
 use Rattle.iri_grammar.specs.Classes.{Tests}
 use Rattle.iri_text.specs.Sink.{Appends}
 use Rattle.iri_text.specs.declared.Failed.{Failed}
+use Rattle.iri_cli.specs.Limits.{longest_line, answer_room}
 use Rattle.iri_cli.specs.Answer.{refusal, answer}
 use Rattle.iri_cli.specs.Answering.{Answering, FailsWithin}
 use Rattle.iri_cli.specs.Words.{canon_rules, is_ok}
@@ -27,5 +28,5 @@ pub record IsCanonAt (s : Tests) (base output : List ℕ) (at : Answering) : Typ
   pub rules : at.rules ≡ canon_rules s
   pub same : (line : List ℕ) → answer s base line ≡ answer s at.base line
   pub taken : refusal s base ≡ None
-  pub short : length base ≤ 65536
-  pub room : length output ≡ 131076
+  pub short : length base ≤ longest_line
+  pub room : length output ≡ answer_room

@@ -1,5 +1,8 @@
+pub mod Limits
 pub mod Ending
 pub mod Answer
+pub mod ExpandLines
+pub mod ExpandAnswers
 pub mod Prepared
 pub mod Words
 pub mod Run
@@ -10,6 +13,15 @@ pub mod Steps
 pub mod Answering
 pub mod CanonAnswers
 pub mod Closes
+pub mod inside
+pub mod Refused
+pub mod RegisterLines
+pub mod RegisterAnswers
+pub mod RegisterExamples
+pub mod RobotsLines
+pub mod RobotsAnswers
+pub mod RobotsExamples
 pub mod Gen
 pub mod GenExamples
 pub mod Examples
+pub mod ExpandExamples

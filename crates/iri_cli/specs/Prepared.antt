@@ -1,5 +1,5 @@
 -- A base that is prepared once for all of its references.
-use Rattle.std.specs.Prelude.{◌≡◌, ◌⊎◌, ◌<◌, ℕ, List, length}
+use Rattle.std.specs.Prelude.{ℕ, List}
 use Rattle.iri_grammar.specs.Classes.{Tests}
 use Rattle.iri_grammar.specs.Parts.{Parts, recompose}
 use Rattle.iri_grammar.specs.Split.{split_of}
@@ -18,7 +18,3 @@ prepared_parts s t = record {
 -- the base with its scheme and its authority in normal form
 unfoldable pub prepared : Tests → List ℕ → List ℕ
 prepared s base = recompose (prepared_parts s (split_of base))
-
--- The text is the prepared base; or that has more bytes than the base, and the text is the base as it stands.
-abbrev pub IsPrepared : Tests → List ℕ → List ℕ → Type 0
-IsPrepared s base text = (text ≡ prepared s base) ⊎ ((length base < length (prepared s base)) × (text ≡ base))

@@ -55,3 +55,4 @@ pub record IsGoing (rules : Rules) (reader : LineState) : Type 0 where
   pub input_limit : reader.input_limit ≡ rules.input_limit
   pub going : reader.done ≡ false
   pub within : reader.taken ≤ rules.input_limit + length reader.held
+  pub counted : length reader.held ≤ reader.taken

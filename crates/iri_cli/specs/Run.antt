@@ -1,6 +1,7 @@
 -- What a run over the lines of a source does to that source and to its sink.
 use Rattle.std.specs.Prelude.{◌≡◌, ◌≢◌, ◌⊎◌, ◌≤◌, ℕ, true, List, ◌++◌, length, Option, None, Some}
 use Rattle.iri_text.specs.Count.{Rose}
+use Rattle.iri_text.specs.Lines.{lines}
 use Rattle.iri_text.specs.Source.{Consumes, IsAtEnd}
 use Rattle.iri_text.specs.Sink.{Appends, AppendsPrefix, HasRoom, KeepsRoom}
 use Rattle.iri_cli.specs.Ending.{Rules, ending, first_passed, ended_lines, IsBaseTaken, answered}
@@ -50,10 +51,11 @@ module _ (rules : Rules) where
     pub source : Rose old.source_faults new.source_faults
     pub sink : new.sink_faults ≡ old.sink_faults
 
-  -- Allocation failed at a line. The lines before it were answered.
+  -- Allocation failed at a line. The lines before it were answered, which are the first of the input.
   pub record RunsOut (old new : Outside) : Type 0 where
     pub takes_memory : rules.takes_memory ≡ true
     pub whole : List (List ℕ)
+    pub first : (input : List ℕ) → old.left ≡ Some input → (more : List (List ℕ)) × (lines input ≡ whole ++ more)
     pub base_taken : IsBaseTaken rules whole
     pub writes : Appends old.written new.written (answered rules whole)
     pub sink : new.sink_faults ≡ old.sink_faults
@@ -122,3 +124,7 @@ pub record Runs (rules : Rules) (old new : Outside) (room_old room_new : Option 
       → HasRoom room_old (length (ending rules input).output)
       → ((status ≡ (ending rules input).status) × Appends old.written new.written (ending rules input).output)
       ⊎ ((status ≡ 6) × (rules.takes_memory ≡ true))
+
+-- The same, or allocation failed before anything was read or written.
+abbrev pub RunsLines : Rules → Outside → Outside → Option ℕ → Option ℕ → ℕ → Type 0
+RunsLines rules old new room_old room_new status = Runs rules old new room_old room_new status ⊎ ((status ≡ 6) × (new ≡ old))

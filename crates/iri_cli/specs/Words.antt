@@ -1,13 +1,21 @@
 -- The commands: their words, and what they say of the lines of their input.
-use Rattle.std.specs.Prelude.{◌≡◌, ◌≤◌, ℕ, codes, decimal, nat_eq, Bool, false, List, [], ◌∷◌}
+use Rattle.std.specs.Prelude.{◌≡◌, ◌≤◌, ℕ, codes, decimal, nat_eq, Bool, true, false, List, [], ◌∷◌}
 use Rattle.std.specs.List.{starts_with}
 use Rattle.iri_grammar.specs.Classes.{Tests, uri_tests, iri_tests}
+use Rattle.iri_cli.specs.Limits.{longest_line, longest_input}
 use Rattle.iri_cli.specs.Ending.{Rules}
 use Rattle.iri_cli.specs.Answer.{refusal, answer}
+use Rattle.iri_cli.specs.ExpandAnswers.{expand_answer}
+use Rattle.iri_cli.specs.Refused.{is_not_bad}
+use Rattle.iri_cli.specs.RegisterAnswers.{register_answer, register_closing}
+use Rattle.iri_cli.specs.RobotsAnswers.{robots_answer}
+use Rattle.iri_robots.specs.FileLines.{is_token}
 use Rattle.iri_cli.specs.declared.command.Grammar.{Grammar}
 use Rattle.iri_cli.specs.declared.command.Grammar.TheVariants.{Uri, Iri}
 use Rattle.iri_cli.specs.declared.command.Command.{Command}
-use Rattle.iri_cli.specs.declared.command.Command.TheVariants.{Canon, Gen, Tell}
+use Rattle.iri_cli.specs.declared.command.Command.TheVariants.{Lines, Robots, Gen, Tell}
+use Rattle.iri_cli.specs.declared.command.LineCommand.{LineCommand}
+use Rattle.iri_cli.specs.declared.command.LineCommand.TheVariants.{Canon, Expand, Register}
 use Rattle.iri_cli.specs.declared.notice.Notice.{Notice}
 use Rattle.iri_cli.specs.declared.notice.Notice.TheVariants.{Help, Version}
 
@@ -21,15 +29,31 @@ abbrev pub notice_word : Notice → List ℕ
 notice_word Help = codes "--help"
 notice_word Version = codes "--version"
 
+-- how a command over lines is named
+abbrev pub command_word : LineCommand → List ℕ
+command_word Canon = codes "canon"
+command_word Expand = codes "expand"
+command_word Register = codes "register"
+
+-- the words behind that of its grammar
+abbrev pub words_behind : LineCommand → List (List ℕ)
+words_behind command = []
+
 -- a number from 1 to 100000 in decimal, without a leading zero
 pub record IsCount (word : List ℕ) (count : ℕ) : Type 0 where
   pub spelled : word ≡ decimal count
   pub least : 1 ≤ count
   pub most : count ≤ 100000
 
+-- These words are `robots` by a grammar, for the crawler of a product token.
+pub record IsRobots (words : List (List ℕ)) (grammar : Grammar) (token : List ℕ) : Type 0 where
+  pub spelled : words ≡ codes "robots" ∷ word_of grammar ∷ token ∷ []
+  pub a_token : is_token token ≡ true
+
 -- These words, in UTF-8, are this command.
 abbrev pub IsCommand : List (List ℕ) → Command → Type 0
-IsCommand words (Canon grammar) = words ≡ codes "canon" ∷ word_of grammar ∷ []
+IsCommand words (Lines command grammar) = words ≡ command_word command ∷ word_of grammar ∷ words_behind command
+IsCommand words (Robots grammar) = (token : List ℕ) × IsRobots words grammar token
 IsCommand words (Gen grammar count) = (number : List ℕ) × (words ≡ codes "gen" ∷ word_of grammar ∷ number ∷ []) × IsCount number count
 IsCommand words (Tell notice) = words ≡ notice_word notice ∷ []
 
@@ -41,12 +65,17 @@ tests_of Iri = iri_tests
 abbrev pub is_ok : List ℕ → Bool
 is_ok answer = starts_with nat_eq answer (codes "ok ")
 
+-- a line without an answer is good
+abbrev pub is_ok_or_none : List ℕ → Bool
+is_ok_or_none [] = true
+is_ok_or_none (b ∷ answer) = is_ok (b ∷ answer)
+
 -- `canon` over the lines of an input: each answer depends on the base and the line alone, nothing is written behind the last one, and no
 -- line takes memory
 abbrev pub canon_rules : Tests → Rules
 canon_rules s = record {
-  line_limit = 65536;
-  input_limit = 268435456;
+  line_limit = longest_line;
+  input_limit = longest_input;
   refusal = refusal s;
   answer = λ base between line. answer s base line;
   is_good = is_ok;
@@ -54,5 +83,26 @@ canon_rules s = record {
   takes_memory = false;
 }
 
-abbrev pub rules_of : Grammar → Rules
-rules_of grammar = canon_rules (tests_of grammar)
+-- `expand`: base and limits as those of `canon`; each answer depends on the lines before, and a line that gives a variable a value has none
+abbrev pub expand_rules : Tests → Rules
+expand_rules s = record (canon_rules s) { answer = expand_answer s; is_good = is_ok_or_none; takes_memory = true }
+
+-- `register` over the lines of an input: each line is answered by the entries behind the lines before it, and the entries are written at the
+-- end
+abbrev pub register_rules : Tests → Rules
+register_rules s = record (canon_rules s) {
+  answer = register_answer s;
+  is_good = is_not_bad;
+  closing = register_closing s;
+  takes_memory = true;
+}
+
+-- `robots` over the lines of an input, for the crawler of a token: each line is answered by the records behind the lines before it
+abbrev pub robots_rules : Tests → List ℕ → Rules
+robots_rules s token = record (canon_rules s) { answer = robots_answer s token; is_good = is_not_bad; takes_memory = true }
+
+-- what a command over lines says of them
+abbrev pub rules_of : LineCommand → Tests → Rules
+rules_of Canon s = canon_rules s
+rules_of Expand s = expand_rules s
+rules_of Register s = register_rules s

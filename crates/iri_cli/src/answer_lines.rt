@@ -44,7 +44,8 @@ fn answer_line<A: Answers, O: Sink>(
     reader: &LineReader,
     sink: &mut O,
 ) -> Result<bool, AnswerError>
-    requires { (at : Answering) × (A.stands_at answers.old at) × (length reader.now.line ≤ at.rules.line_limit) }
+    requires { (at : Answering) × (A.stands_at answers.old at) × (length reader.now.line ≤ at.rules.line_limit)
+        × (length at.between ≤ at.rules.input_limit) }
     ensures { (at : Answering) → A.stands_at answers.old at
         → AnswersLine (A.stands_at answers.new) at reader.now.line (O.written sink.old) (O.written sink.new)
         (O.faults sink.old) (O.faults sink.new) (O.room_left sink.old) (O.room_left sink.new) result }

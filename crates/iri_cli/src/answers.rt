@@ -20,9 +20,10 @@ pub trait Answers {
     /// Whether it stands at these: the command, the base, and the lines that were answered.
     ghost stands_at: { Self → Answering → Type 0 };
 
-    /// Puts the answer to a line, and says whether a run with it may end in status 0.
+    /// Puts the answer to a line within the limits, and says whether a run with it may end in status 0.
     fn answer<O: Sink>(&mut self, line: &[u8], sink: &mut O) -> Result<bool, AnswerError>
-        requires { (at : Answering) × (stands_at self.old at) × (length line.now ≤ at.rules.line_limit) }
+        requires { (at : Answering) × (stands_at self.old at) × (length line.now ≤ at.rules.line_limit)
+            × (length at.between ≤ at.rules.input_limit) }
         ensures { (at : Answering) → stands_at self.old at
             → AnswersLine (stands_at self.new) at line.now (O.written sink.old) (O.written sink.new) (O.faults sink.old)
             (O.faults sink.new) (O.room_left sink.old) (O.room_left sink.new) result };

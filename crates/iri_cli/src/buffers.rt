@@ -6,13 +6,14 @@ use iri_text::LineReader;
 use std::alloc::{AllocError, Global};
 
 /// How many bytes a line may have before its LF.
-pub const LINE: usize = 65536;
+pub const LINE: usize = 1048576;
 
 /// How many bytes the input may have.
-pub const INPUT: u64 = 268435456;
+pub const INPUT: u64 = 1073741824;
 
-// The text of an answer has at most as many bytes as its base and its reference together, and three more; an LF ends it.
-const OUTPUT: usize = 2 * LINE + 4;
+/// How many bytes the text of an answer and its LF may have: the text has at most as many as its base and its reference together, and
+/// three more.
+pub const OUTPUT: usize = 2 * LINE + 4;
 
 /// All of the memory that a run of `canon` needs: for a reader of lines, the base line, and the text of an answer with its LF.
 #[derive(Drop)]
@@ -24,8 +25,8 @@ pub struct CanonBuffers {
 }
 
 impl CanonBuffers {
-    /// Takes the memory: 131,072 bytes for a reader that took nothing yet, 65,536 for the base line, and 131,076 for the text of an
-    /// answer with its LF. It fails only where that is refused.
+    /// Takes the memory: 65,536 bytes and a line for a reader that took nothing yet, a line for the base, and two lines and four bytes
+    /// for the text of an answer with its LF. It fails only where that is refused.
     pub fn new(alloc: Global) -> Result<CanonBuffers, AllocError>
         ensures { IfOk result (λ b. AreBuffers b.reader b.base.items b.output.items) }
     {

@@ -76,7 +76,7 @@ fn put_good<'a, S: Spec, O: Sink>(
 }
 
 // The prefix of a refused reference, the words for its fault and an LF.
-fn put_bad<O: Sink>(sink: &mut O, words: &str) -> Result<(), Failed>
+pub(crate) fn put_bad<O: Sink>(sink: &mut O, words: &str) -> Result<(), Failed>
     ensures { PutsAll (O.written sink.old) (O.written sink.new) (O.faults sink.old) (O.faults sink.new)
         (O.room_left sink.old) (O.room_left sink.new) result (codes "bad " ++ (words.now ++ line_feed ∷ [])) }
 {
@@ -85,8 +85,8 @@ fn put_bad<O: Sink>(sink: &mut O, words: &str) -> Result<(), Failed>
     sink.put_all(b"\n")
 }
 
-// What is answered beside what was put.
-fn told(good: bool, put: Result<(), Failed>) -> Result<bool, AnswerError>
+/// What is answered beside what was put.
+pub(crate) fn told(good: bool, put: Result<(), Failed>) -> Result<bool, AnswerError>
     ensures { result ≡ told_of good put }
 {
     match put {
@@ -95,12 +95,12 @@ fn told(good: bool, put: Result<(), Failed>) -> Result<bool, AnswerError>
     }
 }
 
-// Puts the answer to a line, and says whether it is good.
-fn put_answer<'a, S: Spec, O: Sink>(
+/// Puts the answer to a line, and says whether it is good.
+pub(crate) fn put_answer<S: Spec, O: Sink>(
     sink: &mut O,
     output: &mut [u8],
-    resolver: FixedBaseResolver<'a, S>,
-    line: &'a [u8],
+    resolver: FixedBaseResolver<'_, S>,
+    line: &[u8],
 ) -> Result<bool, AnswerError>
     requires base { refusal S.tests (base_text resolver) ≡ None }
     requires room { length (base_text resolver) + length line.now + 4 ≤ length output.old }

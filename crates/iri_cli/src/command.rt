@@ -1,10 +1,12 @@
 //! The commands.
 ghost use Rattle.std.specs.Prelude.{◌≡◌, ◌≢◌, ◌↔◌, ℕ, decimal, true, [], ◌∷◌, map, string_bytes, MatchOption};
-ghost use Rattle.iri_cli.specs.Words.{IsCommand, IsCount, word_of};
+ghost use Rattle.iri_cli.specs.Words.{IsCommand, IsCount, command_word, word_of};
 ghost use Rattle.iri_cli.specs.declared.command.Command.{Command};
 ghost use Rattle.iri_cli.specs.declared.command.Grammar.{Grammar};
+ghost use Rattle.iri_cli.specs.declared.command.LineCommand.{LineCommand};
 
 use crate::notice::{Notice, notice_of};
+use iri_robots::is_product_token;
 use iri_text::write_to_slice;
 
 /// Which of the two grammars a command works by.
@@ -16,11 +18,24 @@ pub enum Grammar {
     Iri,
 }
 
+/// A command over the lines of an input, of which the first is the base.
+#[derive(Clone, Copy)]
+pub enum LineCommand {
+    /// To answer each reference line by its canonical text.
+    Canon,
+    /// To answer each template by the canonical text of its expansion, with the values that lines before give variables.
+    Expand,
+    /// To keep each canonical link once, with the numbers of its lines.
+    Register,
+}
+
 /// What the program is told to do.
 #[derive(Clone, Copy)]
 pub enum Command {
-    /// To answer each reference line by its canonical text.
-    Canon(Grammar),
+    /// To work on the lines of an input.
+    Lines(LineCommand, Grammar),
+    /// To say what the crawler of the product token that is the third word may fetch.
+    Robots(Grammar),
     /// To make so many references by a counter, and to tell of their canonical texts.
     Gen(Grammar, u32),
     /// To write what is told of the program.
@@ -36,6 +51,22 @@ fn grammar_of(word: &str) -> Option<Grammar>
         Some(Grammar::Uri)
     } else if word == "iri" {
         Some(Grammar::Iri)
+    } else {
+        None
+    }
+}
+
+// The command over lines of this name.
+fn line_command_of(word: &str) -> Option<LineCommand>
+    ensures { MatchOption result ((command : LineCommand) → word.now ≢ command_word command)
+        (λ command. word.now ≡ command_word command) }
+{
+    if word == "canon" {
+        Some(LineCommand::Canon)
+    } else if word == "expand" {
+        Some(LineCommand::Expand)
+    } else if word == "register" {
+        Some(LineCommand::Register)
     } else {
         None
     }
@@ -81,26 +112,25 @@ fn command_of_two(name: &str, grammar: &str) -> Option<Command>
     ensures { MatchOption result ((command : Command) → ¬ (IsCommand (name.now ∷ grammar.now ∷ []) command))
         (IsCommand (name.now ∷ grammar.now ∷ [])) }
 {
-    if name != "canon" {
-        return None;
-    }
-    match grammar_of(grammar) {
-        Some(grammar) => Some(Command::Canon(grammar)),
-        None => None,
-    }
+    let command = line_command_of(name)?;
+    let grammar = grammar_of(grammar)?;
+    Some(Command::Lines(command, grammar))
 }
 
 // The command of three words.
-fn command_of_three(name: &str, grammar: &str, number: &str) -> Option<Command>
+fn command_of_three(name: &str, grammar: &str, third: &str) -> Option<Command>
     ensures { MatchOption result ((command : Command)
-        → ¬ (IsCommand (name.now ∷ grammar.now ∷ number.now ∷ []) command))
-        (IsCommand (name.now ∷ grammar.now ∷ number.now ∷ [])) }
+        → ¬ (IsCommand (name.now ∷ grammar.now ∷ third.now ∷ []) command))
+        (IsCommand (name.now ∷ grammar.now ∷ third.now ∷ [])) }
 {
+    let grammar = grammar_of(grammar)?;
+    if name == "robots" && is_product_token(third) {
+        return Some(Command::Robots(grammar));
+    }
     if name != "gen" {
         return None;
     }
-    let grammar = grammar_of(grammar)?;
-    let count = count_of(number)?;
+    let count = count_of(third)?;
     Some(Command::Gen(grammar, count))
 }
 

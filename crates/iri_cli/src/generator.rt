@@ -8,8 +8,8 @@ ghost use Rattle.iri_cli.specs.Gen.{gen_segment, more_segments, gen_reference, g
 
 use crate::canon::resolver_of;
 use iri_grammar::spec::Spec;
-use iri_resolve::canonical::write_canonical;
 use iri_resolve::resolver::FixedBaseResolver;
+use iri_text::try_append_to_string;
 use iri_types::kind::Reference;
 use iri_types::split::SplitView;
 use std::alloc::{AllocError, Global};
@@ -80,7 +80,6 @@ struct Totals {
 
 // Writes the canonical text of a reference, in place of what the buffer holds.
 fn write_text<'a, S: Spec>(
-    alloc: Global,
     buffer: &mut String,
     resolver: FixedBaseResolver<'a, S>,
     reference: &'a str,
@@ -89,7 +88,10 @@ fn write_text<'a, S: Spec>(
     ensures { OnOk result (string_bytes buffer.new ≡ canonical S.tests (base_text resolver.entry) reference.now) }
 {
     match SplitView::<S, Reference>::new(reference) {
-        Ok(reference) => write_canonical(alloc, buffer, &resolver, &reference),
+        Ok(reference) => {
+            buffer.clear();
+            try_append_to_string(buffer, &resolver.resolve_split(&reference).and_normalize())
+        }
         Err(_) => unreachable!(),
     }
 }
@@ -124,7 +126,7 @@ fn totals_of<S: Spec>(
     for i in 0..count {
         state = next_state(state);
         write_reference(&mut reference, state)?;
-        write_text::<S>(alloc, &mut text, resolver, &reference)?;
+        write_text::<S>(&mut text, resolver, &reference)?;
         bytes += text.len() as u128;
         sum += sum_of(text.as_bytes());
     }

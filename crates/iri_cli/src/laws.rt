@@ -21,10 +21,11 @@ pub fn run_over_memory()
         ⊎ ((status ≡ 6) × (rules.takes_memory ≡ true)) }
 {}
 
-/// A base whose scheme and authority are put into normal form is an absolute URI again, and has the same canonical texts. So each
-/// line has the same answer against it.
+/// A base whose scheme and authority are put into normal form is an absolute URI again, is no longer than before, and has the same
+/// canonical texts. So each line has the same answer against it.
 pub fn prepared_base_has_the_same_answers<S: Spec>()
     ensures valid { (base : List ℕ) → IsAbsolute S.tests base → IsAbsolute S.tests (prepared S.tests base) }
+    ensures len { (base : List ℕ) → IsAbsolute S.tests base → length (prepared S.tests base) ≤ length base }
     ensures texts { (base reference : List ℕ) → IsAbsolute S.tests base
         → canonical S.tests (prepared S.tests base) reference ≡ canonical S.tests base reference }
     ensures answers { (base line : List ℕ) → refusal S.tests base ≡ None

@@ -5,17 +5,23 @@
 //!   [`canon_lines`](canon_lines::canon_lines) answers the lines of a source with it: each reference line by its canonical text
 //!   against the base line (RFC 3986 section 5 and section 6.2.2; RFC 3987).
 //!   The base is prepared once for all its references: its scheme and authority are put into normal form in its buffer.
+//! - `expand` keeps the values that lines give variables, and answers each URI template by the canonical text of its expansion
+//!   (RFC 6570) against the base line.
+//! - `register` keeps each canonical link once, with the numbers of its lines, and writes them at the end.
 //! - `gen` makes references by a counter, and tells how many bytes their canonical texts have and the sum of these bytes' values.
 //!
 //! Proved: the contracts of `run` and `canon_lines`. Each status comes only by its cause, and where the source tells its bytes,
 //! status and output are those of `ending` in specs/Ending.antt, which is defined by the lines of the input and the events that
-//! end a run. `canon_lines` is given no allocator, and never answers that allocation failed. A sink that is known to have room for
-//! the output doesn't fail: over a `PlainSource` and a `MemorySink` that is told no failing calls and has that room, status and
-//! output are those of `ending` alone, but that `run` may be refused its memory at the start. The texts of `gen`, `--help` and
-//! `--version` are those of specs/Gen.antt and specs/Notices.antt.
+//! end a run, and by the rules of the command, which `rules_of` in specs/Words.antt gives: what `expand` answers to a line stands
+//! in specs/ExpandLines.antt and specs/ExpandAnswers.antt, what `register` answers in specs/RegisterLines.antt and
+//! specs/RegisterAnswers.antt. `canon_lines` is given no allocator, and never answers that allocation failed; where it fails at a
+//! line of another command, the lines before it were answered. A sink that is known to have room for the output doesn't fail: over
+//! a `PlainSource` and a `MemorySink` that is told no failing calls and has that room, status and output are those of `ending`
+//! alone, but that allocation may fail. The text of `gen` is that of specs/Gen.antt, and those of `--help` and `--version` are
+//! constants of `notice`.
 //!
-//! Not proved: that `CanonBuffers::new` has its memory where there is some, which a test shows; that answers are flushed before
-//! more bytes are taken, which tests/edges shows on the built program.
+//! Not proved: that `CanonBuffers::new` and the other commands have their memory where there is some, which tests show; that answers
+//! are flushed before more bytes are taken, which tests/edges shows on the built program.
 #![tactic(auto)]
 
 mod answer_lines;
@@ -26,10 +32,23 @@ mod canon;
 pub mod canon_lines;
 pub mod command;
 mod end;
+mod expand;
+mod expand_line;
+mod expand_lines;
 mod generator;
 pub mod laws;
 pub mod notice;
+mod opening;
 mod prepared;
+mod puts;
+mod register;
+mod register_line;
+mod register_lines;
+mod robots;
+mod robots_line;
+mod robots_lines;
 pub mod run;
+mod site;
 #[cfg(test)]
 mod tests;
+mod variables;

@@ -17,21 +17,28 @@ pub enum Notice {
     Version,
 }
 
-const HELP: &str = "\
+/// The text of `--help`. Its lines behind two spaces and the program's name tell the commands.
+pub const HELP: &str = "\
 irikit: canonical texts of URI and IRI references (RFC 3986, RFC 3987)
-  irikit canon uri   reads a base line and reference lines, and answers each reference line by one line
-  irikit canon iri   does the same by the grammar of IRIs
-  irikit gen uri N   makes N references (from 1 to 100000) and tells of their canonical texts; reads nothing
-  irikit gen iri N   does the same by the grammar of IRIs
-  irikit --help      writes this text
-  irikit --version   writes the version
-Answers: 'ok ' and the canonical text, or 'bad ' and the first fault of the reference;
-  where the base is refused, the one line 'base ' and its first fault
-Statuses: 0 every answer is ok, 1 some answer is bad, 2 the words are no command, 3 the base is refused,
+  irikit canon GRAMMAR          answers each reference line by its canonical text against a base
+  irikit expand GRAMMAR         answers each URI template by the canonical text of its expansion (RFC 6570)
+  irikit register GRAMMAR       keeps each link once, with the numbers of its lines, and writes them at the end
+  irikit robots GRAMMAR TOKEN   tells for each link whether a robots file allows the crawler TOKEN to fetch it (RFC 9309)
+  irikit gen GRAMMAR N          makes N references (from 1 to 100000) and tells of their canonical texts; reads nothing
+  irikit --help                 writes this text
+  irikit --version              writes the version
+GRAMMAR is uri or iri. The first line of the input is the base; each line behind it has one answer line at most.
+Lines of expand: 's NAME VALUE' sets a string, 'l NAME ITEM' adds to a list, 'a NAME KEY VALUE' adds a pair,
+  'u NAME' unsets, and 't TEMPLATE' is answered; of register: 'a REF' adds, 'd REF' removes, 'f REF' finds a link;
+  of robots: 'r LINE' feeds a line of the file, 'u REF' asks for a link
+Answers of canon and expand: 'ok ' and the canonical text; otherwise why there is none, as 'bad ' and the first fault
+  of the reference; where the base is refused, the one line 'base ' and its first fault
+Statuses: 0 every answer is good, 1 some answer is bad, 2 the words are no command, 3 the base is refused,
   4 reading failed, 5 writing failed, 6 memory was refused, 7 a line is too long, 8 the input is too long
 ";
 
-const VERSION: &str = "irikit 0.1.0\n";
+/// The text of `--version`.
+pub const VERSION: &str = "irikit 0.1.0\n";
 
 // The text of a notice.
 fn text(notice: Notice) -> &'static str

@@ -1,10 +1,11 @@
 // The base, prepared once for all of its references.
-ghost use Rattle.std.specs.Prelude.{◌≡◌, ◌≤◌, ◌<◌, ◌+◌, [], ◌∷◌, ◌++◌, None, Some, List, ℕ, length, take, MatchResult};
+ghost use Rattle.std.specs.Prelude.{◌≡◌, ◌≤◌, ◌+◌, [], ◌∷◌, ◌++◌, None, Some, List, ℕ, length, take, MatchResult};
 ghost use Rattle.iri_grammar.specs.Characters.{slash};
 ghost use Rattle.iri_types.specs.Texts.{text};
 ghost use Rattle.iri_resolve.specs.NormalForm.{canonical};
+ghost use Rattle.iri_cli.specs.Limits.{longest_line, answer_room};
 ghost use Rattle.iri_cli.specs.Answer.{refusal};
-ghost use Rattle.iri_cli.specs.Prepared.{IsPrepared, prepared};
+ghost use Rattle.iri_cli.specs.Prepared.{prepared};
 
 use crate::base::copy_line;
 use crate::buffers::LINE;
@@ -71,23 +72,22 @@ fn before_slash(text: &str) -> &str
     }
 }
 
-// Writes a prepared base to a buffer, where it has no more bytes than the base.
-fn write_prepared<'b, S: Spec>(
-    base: RiAbsoluteStr<'_, S>,
-    output: &'b mut [u8],
-) -> Result<&'b str, CapacityOverflowError>
+// Writes a prepared base to a buffer. It has no more bytes than the base.
+fn write_prepared<'b, S: Spec>(base: RiAbsoluteStr<'_, S>, output: &'b mut [u8]) -> &'b str
     requires taken { refusal S.tests (text base) ≡ None }
-    requires short { length (text base) ≤ 65536 }
-    requires room { length output.old ≡ 131076 }
-    ensures { MatchResult result
-        (λ t. (t.now ≡ prepared S.tests (text base.entry)) × (length t.now ≤ length (text base.entry)))
-        (λ _. length (text base.entry) < length (prepared S.tests (text base.entry))) }
+    requires short { length (text base) ≤ longest_line }
+    requires room { length output.old ≡ answer_room }
+    ensures text { result.now ≡ prepared S.tests (text base.entry) }
+    ensures len { length result.now ≤ length (text base.entry) }
 {
     let (scratch, back) = output.split_at_mut(LINE + 4);
     let mut sink = SliceSink::new(scratch);
     write_root(&mut sink, base);
     let prefix = before_slash(sink.as_str());
-    write_to_slice(&mut back[..base.as_str().len()], &Prefixed { prefix, base })
+    match write_to_slice(back, &Prefixed { prefix, base }) {
+        Ok(text) => text,
+        Err(CapacityOverflowError) => unreachable!(),
+    }
 }
 
 /// Puts scheme and authority of the base line at the start of a buffer into normal form, and says how many bytes the line then has;
@@ -98,18 +98,15 @@ pub fn prepare_base<S: Spec>(
     output: &mut [u8],
 ) -> Result<usize, &'static str>
     requires inside { len ≤ length buffer.old }
-    requires short { len ≤ 65536 }
-    requires room { length output.old ≡ 131076 }
+    requires short { len ≤ longest_line }
+    requires room { length output.old ≡ answer_room }
     ensures { MatchResult result
         (λ n. (n ≤ len) × (refusal S.tests (take len buffer.old) ≡ None)
-        × IsPrepared S.tests (take len buffer.old) (take n buffer.new))
+        × (take n buffer.new ≡ prepared S.tests (take len buffer.old)))
         (λ words. refusal S.tests (take len buffer.old) ≡ Some words.now) }
 {
     match base_of::<S>(&buffer[..len]) {
-        Ok(base) => match write_prepared(base, output) {
-            Ok(text) => Ok(copy_line(text.as_bytes(), buffer)),
-            Err(CapacityOverflowError) => Ok(len),
-        },
+        Ok(base) => Ok(copy_line(write_prepared(base, output).as_bytes(), buffer)),
         Err(words) => Err(words),
     }
 }

@@ -1,21 +1,26 @@
 //! The run of the program.
-ghost use Rattle.std.specs.Prelude.{◌≡◌, ◌≢◌, ◌⊎◌, ◌≤◌, ℕ, IfOk, map, string_bytes};
+ghost use Rattle.std.specs.Prelude.{◌≡◌, ◌≢◌, ◌⊎◌, ◌≤◌, ℕ, List, true, IfOk, map, string_bytes};
 ghost use Rattle.iri_text.specs.Sink.{KeepsRoom};
-ghost use Rattle.iri_cli.specs.Words.{IsCommand, rules_of, tests_of};
+ghost use Rattle.iri_cli.specs.Words.{IsCommand, IsRobots, canon_rules, robots_rules, rules_of, tests_of};
+ghost use Rattle.iri_robots.specs.FileLines.{is_token};
 ghost use Rattle.iri_cli.specs.Answer.{AnswersAreCanonical};
-ghost use Rattle.iri_cli.specs.Run.{Runs, outside};
+ghost use Rattle.iri_cli.specs.Run.{RunsLines, outside};
 ghost use Rattle.iri_cli.specs.Gen.{gen_text};
 ghost use Rattle.iri_cli.specs.Notices.{PutsText, Tells, notice_text};
 ghost use Rattle.iri_cli.specs.declared.command.Command.{Command};
 ghost use Rattle.iri_cli.specs.declared.command.Grammar.{Grammar};
+ghost use Rattle.iri_cli.specs.declared.command.LineCommand.{LineCommand};
 ghost use Rattle.iri_cli.specs.declared.notice.Notice.{Notice};
 
 use crate::buffers::CanonBuffers;
 use crate::canon_lines::canon_lines;
-use crate::command::{Command, Grammar, command_of};
+use crate::command::{Command, Grammar, LineCommand, command_of};
+use crate::expand_lines::expand_lines;
 use crate::generator::gen_lines;
 use crate::notice::{put_text, tell};
-use iri_grammar::spec::{IriSpec, UriSpec};
+use crate::register_lines::register_lines;
+use crate::robots_lines::robots_lines;
+use iri_grammar::spec::{IriSpec, Spec, UriSpec};
 use iri_text::{Sink, Source};
 use std::alloc::{AllocError, Global};
 
@@ -25,23 +30,79 @@ pub const NO_COMMAND: u8 = 2;
 /// The status where allocation failed.
 pub const MEMORY: u8 = 6;
 
-// Makes the buffers, and answers the lines of the source by a grammar.
-fn canon<I: Source, O: Sink>(alloc: Global, grammar: Grammar, source: &mut I, sink: &mut O) -> u8
-    ensures { let old = outside (I.left source.old) (O.written sink.old) (I.faults source.old) (O.faults sink.old) in
-        let new = outside (I.left source.new) (O.written sink.new) (I.faults source.new) (O.faults sink.new) in
-        Runs (rules_of grammar) old new (O.room_left sink.old) (O.room_left sink.new) result ⊎ ((result ≡ 6) × (new ≡ old)) }
+// `canon`: makes the buffers, and answers the lines of the source in them.
+fn canon<S: Spec, I: Source, O: Sink>(alloc: Global, source: &mut I, sink: &mut O) -> u8
+    ensures { RunsLines (canon_rules S.tests)
+        (outside (I.left source.old) (O.written sink.old) (I.faults source.old) (O.faults sink.old))
+        (outside (I.left source.new) (O.written sink.new) (I.faults source.new) (O.faults sink.new))
+        (O.room_left sink.old) (O.room_left sink.new) result }
 {
-    let Ok(buffers) = CanonBuffers::new(alloc) else {
-        return MEMORY;
-    };
-    match grammar {
-        Grammar::Uri => canon_lines::<UriSpec, I, O>(buffers, source, sink),
-        Grammar::Iri => canon_lines::<IriSpec, I, O>(buffers, source, sink),
+    match CanonBuffers::new(alloc) {
+        Ok(buffers) => canon_lines::<S, I, O>(buffers, source, sink),
+        Err(_) => MEMORY,
     }
 }
 
-// The lines of `gen` by a grammar.
-fn lines_by(alloc: Global, grammar: Grammar, count: u32) -> Result<String, AllocError>
+// The lines of a command in a grammar.
+fn lines_in<S: Spec, I: Source, O: Sink>(
+    alloc: Global,
+    command: LineCommand,
+    source: &mut I,
+    sink: &mut O,
+) -> u8
+    ensures { RunsLines (rules_of command S.tests)
+        (outside (I.left source.old) (O.written sink.old) (I.faults source.old) (O.faults sink.old))
+        (outside (I.left source.new) (O.written sink.new) (I.faults source.new) (O.faults sink.new))
+        (O.room_left sink.old) (O.room_left sink.new) result }
+{
+    match command {
+        LineCommand::Canon => canon::<S, I, O>(alloc, source, sink),
+        LineCommand::Expand => expand_lines::<S, I, O>(alloc, source, sink),
+        LineCommand::Register => register_lines::<S, I, O>(alloc, source, sink),
+    }
+}
+
+// The lines of a command by a grammar.
+fn lines_by<I: Source, O: Sink>(
+    alloc: Global,
+    command: LineCommand,
+    grammar: Grammar,
+    source: &mut I,
+    sink: &mut O,
+) -> u8
+    ensures { RunsLines (rules_of command (tests_of grammar))
+        (outside (I.left source.old) (O.written sink.old) (I.faults source.old) (O.faults sink.old))
+        (outside (I.left source.new) (O.written sink.new) (I.faults source.new) (O.faults sink.new))
+        (O.room_left sink.old) (O.room_left sink.new) result }
+{
+    match grammar {
+        Grammar::Uri => lines_in::<UriSpec, I, O>(alloc, command, source, sink),
+        Grammar::Iri => lines_in::<IriSpec, I, O>(alloc, command, source, sink),
+    }
+}
+
+// The lines of `robots` by a grammar, for the crawler of a token.
+fn robots_by<I: Source, O: Sink>(
+    alloc: Global,
+    grammar: Grammar,
+    token: &str,
+    source: &mut I,
+    sink: &mut O,
+) -> u8
+    requires { is_token token.now ≡ true }
+    ensures { RunsLines (robots_rules (tests_of grammar) token.now)
+        (outside (I.left source.old) (O.written sink.old) (I.faults source.old) (O.faults sink.old))
+        (outside (I.left source.new) (O.written sink.new) (I.faults source.new) (O.faults sink.new))
+        (O.room_left sink.old) (O.room_left sink.new) result }
+{
+    match grammar {
+        Grammar::Uri => robots_lines::<UriSpec, I, O>(alloc, token, source, sink),
+        Grammar::Iri => robots_lines::<IriSpec, I, O>(alloc, token, source, sink),
+    }
+}
+
+// The lines that `gen` writes, by a grammar.
+fn gen_lines_by(alloc: Global, grammar: Grammar, count: u32) -> Result<String, AllocError>
     requires { count ≤ 100000 }
     ensures { IfOk result (λ t. string_bytes t ≡ gen_text (tests_of grammar) count) }
 {
@@ -60,7 +121,7 @@ fn generate<O: Sink>(alloc: Global, grammar: Grammar, count: u32, sink: &mut O) 
     ensures room { KeepsRoom (O.room_left sink.old) (O.room_left sink.new) (gen_text (tests_of grammar) count)
         (result ≢ 5) }
 {
-    match lines_by(alloc, grammar, count) {
+    match gen_lines_by(alloc, grammar, count) {
         Ok(lines) => put_text(&lines, sink),
         Err(_) => MEMORY,
     }
@@ -68,11 +129,13 @@ fn generate<O: Sink>(alloc: Global, grammar: Grammar, count: u32, sink: &mut O) 
 
 /// Does what the words after the program's name say, and gives the program's status:
 ///
-/// - 0: all lines were answered, and each answer begins with `ok `; 1: the same, but some answer doesn't begin so
+/// - 0: the input was read to its end, and each answer is a good one (of `canon` and `expand`: it begins with `ok `; of `register`:
+///   it doesn't begin with `bad`); 1: the same, but some answer isn't
 /// - 2: the words are no command, and nothing was read or written
 /// - 3: the base line is refused
-/// - 4: the source failed; 5: the sink failed; 6: allocation failed, and nothing was read or written
-/// - 7: a line has more than 65,536 bytes before its LF; 8: the input has more than 268,435,456 bytes
+/// - 4: the source failed; 5: the sink failed
+/// - 6: allocation failed; with `canon` nothing was read or written, with the other commands the lines before it were answered
+/// - 7: a line has more than 1,048,576 bytes before its LF; 8: the input has more than 1,073,741,824 bytes
 ///
 /// Of 3, 7 and 8 the first in the order of bytes decides, and 8 comes before 7 on one byte. `--help` and `--version`, each as the
 /// only word, read nothing and write their text: 0 where it was written, 5 where the sink failed. So does `gen`, whose text is
@@ -89,11 +152,21 @@ pub fn run<I: Source, O: Sink>(alloc: Global, words: &[String], source: &mut I, 
         (outside (I.left source.new) (O.written sink.new) (I.faults source.new) (O.faults sink.new))
         (O.room_left sink.old) (O.room_left sink.new) result }
 
-    // `canon`: each status comes only by its cause; allocation fails only before anything is read or written.
-    ensures canon { (grammar : Grammar) → IsCommand (map string_bytes words.now) (Command.Canon grammar)
-        → (let old = outside (I.left source.old) (O.written sink.old) (I.faults source.old) (O.faults sink.old) in
-        let new = outside (I.left source.new) (O.written sink.new) (I.faults source.new) (O.faults sink.new) in
-        Runs (rules_of grammar) old new (O.room_left sink.old) (O.room_left sink.new) result ⊎ ((result ≡ 6) × (new ≡ old))) }
+    // A command over lines: each status comes only by its cause. Where its lines take no memory, as those of `canon`, allocation
+    // fails only before anything is read or written.
+    ensures lines { (command : LineCommand) (grammar : Grammar)
+        → IsCommand (map string_bytes words.now) (Command.Lines command grammar)
+        → RunsLines (rules_of command (tests_of grammar))
+        (outside (I.left source.old) (O.written sink.old) (I.faults source.old) (O.faults sink.old))
+        (outside (I.left source.new) (O.written sink.new) (I.faults source.new) (O.faults sink.new))
+        (O.room_left sink.old) (O.room_left sink.new) result }
+
+    // `robots`: the same, by the rules for the crawler of the token.
+    ensures robots { (grammar : Grammar) (token : List ℕ) → IsRobots (map string_bytes words.now) grammar token
+        → RunsLines (robots_rules (tests_of grammar) token)
+        (outside (I.left source.old) (O.written sink.old) (I.faults source.old) (O.faults sink.old))
+        (outside (I.left source.new) (O.written sink.new) (I.faults source.new) (O.faults sink.new))
+        (O.room_left sink.old) (O.room_left sink.new) result }
 
     // `gen`: the three lines are written, and nothing is read; or allocation failed, and nothing was written.
     ensures gens { (grammar : Grammar) (count : ℕ) → IsCommand (map string_bytes words.now) (Command.Gen grammar count)
@@ -101,12 +174,16 @@ pub fn run<I: Source, O: Sink>(alloc: Global, words: &[String], source: &mut I, 
         let new = outside (I.left source.new) (O.written sink.new) (I.faults source.new) (O.faults sink.new) in
         Tells (gen_text (tests_of grammar) count) old new (O.room_left sink.old) (O.room_left sink.new) result ⊎ ((result ≡ 6) × (new ≡ old))) }
 
-    // Each good answer is a URI of the spec that splits into exactly the normal form of the target, and is its own canonical text.
-    ensures canonical { (grammar : Grammar) → IsCommand (map string_bytes words.now) (Command.Canon grammar)
+    // `canon`: each good answer is a URI of the spec that splits into exactly the normal form of the target, and is its own
+    // canonical text.
+    ensures canonical { (grammar : Grammar) → IsCommand (map string_bytes words.now) (Command.Lines LineCommand.Canon grammar)
         → AnswersAreCanonical (tests_of grammar) }
 {
     match command_of(words) {
-        Some(Command::Canon(grammar)) => canon(alloc, grammar, source, sink),
+        Some(Command::Lines(command, grammar)) => lines_by(alloc, command, grammar, source, sink),
+        Some(Command::Robots(grammar)) => {
+            robots_by(alloc, grammar, words[2].as_str(), source, sink)
+        }
         Some(Command::Gen(grammar, count)) => generate(alloc, grammar, count, sink),
         Some(Command::Tell(notice)) => tell(notice, sink),
         None => NO_COMMAND,

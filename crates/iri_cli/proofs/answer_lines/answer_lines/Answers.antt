@@ -1,3 +1,4 @@
+use Rattle.std.proofs.Common.{arith}
 use Rattle.iri_text.proofs.Puts.{room-so}
 use Rattle.iri_cli.proofs.Answered.{start_lines, one_line_more, line_fits, fails_at, finishes, stops_at, fails_first}
 use Rattle.iri_cli.proofs.Reading.{falls}
@@ -14,8 +15,12 @@ pub answer_line-requires : goal.answer_line-requires
 answer_line-requires g c =
     let start = c.requires.0 in
     let n = rw c.in-Ok-true.field-0-test at c.in-Ok-true.ensures.advances in
-    let i = c.loop-answers.invariant c.requires.0 c.requires.1 in
-    (record start { between = i.between }, i.at, line_fits _ _ _ _ _ _ _ _ _ _ _ _ _ _ _ _ _ _ c.requires.1.base_taken i n)
+    let i = c.loop-answers.invariant c.requires.0 c.requires.1 in (
+      record start { between = i.between },
+      i.at,
+      line_fits _ _ _ _ _ _ _ _ _ _ _ _ _ _ _ _ _ _ c.requires.1.base_taken i n,
+      omega (arith, i.few, i.going.within),
+    )
 
 pub loop-answers-smaller : goal.loop-answers-smaller
 loop-answers-smaller g c =

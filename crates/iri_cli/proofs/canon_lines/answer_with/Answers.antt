@@ -2,12 +2,13 @@ use Rattle.std.proofs.Common.{◌≤◌, ◌∙◌, [], refl, sym, ap, arith, su
 use Rattle.std.proofs.lemmas.List.{length-take-le}
 use Rattle.std.specs.Vec.{with_items}
 use Rattle.iri_resolve.specs.Resolver.{base_text}
+use Rattle.iri_cli.specs.Limits.{longest_line}
 use Rattle.iri_cli.specs.Run.{outside, Ran}
 use Rattle.iri_cli.specs.Words.{canon_rules}
-use Rattle.iri_cli.specs.Prepared.{IsPrepared}
+use Rattle.iri_cli.specs.Answer.{refusal}
 use Rattle.iri_cli.proofs.BaseLine.{refuses}
 use Rattle.iri_cli.proofs.CanonLemmas.{new_reader, base_read, canon_ready}
-use Rattle.iri_cli.proofs.PreparedLaws.{kept_taken}
+use Rattle.iri_cli.proofs.PreparedLaws.{prepared_taken}
 use Rattle.iri_cli.proofs.canon_lines.answer_with.Goals as goal
 
 pub returns-in-Err : goal.returns-in-Err
@@ -50,7 +51,8 @@ slice_bounds-resolver_of-end-in-Ok-prepare_base g c =
 pub resolver_of-resolver-requires : goal.resolver_of-resolver-requires
 resolver_of-resolver-requires g c =
     let p = c.in-Ok-prepare_base.ensures in
-    kept_taken g.S.Spec.tests (take c.in-Ok.len c.read_base.new.buffer) _ g.met.S.Spec.lawful p.1 p.2
+    let s = g.S.Spec.tests in
+    ap (refusal s) p.2 ∙ prepared_taken s (take c.in-Ok.len c.read_base.new.buffer) g.met.S.Spec.lawful p.1
 
 pub answer_lines-requires : goal.answer_lines-requires
 answer_lines-requires g c =
@@ -64,11 +66,11 @@ answer_lines-requires g c =
     let text = base_text c.resolver_of-resolver.result in
     let inside = length-take-le c.in-Ok-prepare_base.len c.prepare_base.new.buffer
     (omega (arith, p.0, n.2, c.prepare_base.auto.buffer)) in
-    let short : length text ≤ 65536 = omega (arith, ap length held, inside, p.0, n.1) in
+    let short : length text ≤ longest_line = omega (arith, ap length held, inside, p.0, n.1) in
     let output = with_items c.args.output c.prepare_base.new.output in
     let room = sym output.ok.0 ∙ (c.args.output.ok.0 ∙ c.requires.output_room) in
     let ready = canon_ready s lo lm c.read_base.new.reader line text output.items g.met.S.Spec.lawful n.0
-    (subst (IsPrepared s line) (sym held) p.2) p.1 short room in
+    (held ∙ p.2) p.1 short room in
     (record { rules = canon_rules s; base = line; between = [] }, ready)
 
 pub returns-in-Ok-prepare_base : goal.returns-in-Ok-prepare_base
@@ -83,11 +85,11 @@ returns-in-Ok-prepare_base g c =
     let text = base_text c.resolver_of-resolver.result in
     let inside = length-take-le c.in-Ok-prepare_base.len c.prepare_base.new.buffer
     (omega (arith, p.0, n.2, c.prepare_base.auto.buffer)) in
-    let short : length text ≤ 65536 = omega (arith, ap length held, inside, p.0, n.1) in
+    let short : length text ≤ longest_line = omega (arith, ap length held, inside, p.0, n.1) in
     let output = with_items c.args.output c.prepare_base.new.output in
     let room = sym output.ok.0 ∙ (c.args.output.ok.0 ∙ c.requires.output_room) in
     let ready = canon_ready s lo lm c.read_base.new.reader line text output.items g.met.S.Spec.lawful n.0
-    (subst (IsPrepared s line) (sym held) p.2) p.1 short room in
+    (held ∙ p.2) p.1 short room in
     c.answer_lines.ensures (record { rules = canon_rules s; base = line; between = [] }) ready lo (g.I.Source.faults c.args.source.now)
     (base_read s lo lm c.read_base.new.reader line line n.0 refl p.1).0 n.3
 

@@ -1,8 +1,11 @@
-use Rattle.iri_cli.proofs.PreparedLaws.{prepared_absolute, same_canonical, same_answer}
+use Rattle.iri_cli.proofs.PreparedLaws.{prepared_absolute, prepared_short, same_canonical, same_answer}
 use Rattle.iri_cli.proofs.laws.prepared_base_has_the_same_answers.Goals as goal
 
 pub returns-clause-valid : goal.returns-clause-valid
 returns-clause-valid g c base b = prepared_absolute g.S.Spec.tests base g.met.S.Spec.lawful b
+
+pub returns-clause-len : goal.returns-clause-len
+returns-clause-len g c base b = prepared_short g.S.Spec.tests base g.met.S.Spec.lawful b
 
 pub returns-clause-texts : goal.returns-clause-texts
 returns-clause-texts g c base reference b = same_canonical g.S.Spec.tests base reference g.met.S.Spec.lawful b

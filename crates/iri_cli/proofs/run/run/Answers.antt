@@ -1,16 +1,17 @@
 use Rattle.std.proofs.Common.{◌≡◌, ◌⊎◌, ℕ, map, string_bytes, subst, sym}
 use Rattle.iri_cli.specs.Words.{IsCommand, tests_of}
-use Rattle.iri_cli.specs.declared.command.Command.TheVariants.{Canon, Gen, Tell}
+use Rattle.iri_cli.specs.declared.command.Command.TheVariants.{Lines, Robots, Gen, Tell}
 use Rattle.iri_cli.proofs.BytesLemmas.{canonical_answers, grammar_is_spec}
 use Rattle.iri_cli.specs.Gen.{gen_text}
 use Rattle.iri_cli.specs.Notices.{Tells}
 use Rattle.iri_cli.specs.Run.{outside}
 use Rattle.iri_cli.specs.declared.command.Grammar.{Grammar}
-use Rattle.iri_cli.proofs.GenLemmas.{one_gen, told}
+use Rattle.iri_cli.proofs.GenLemmas.{told}
+use Rattle.iri_cli.proofs.WordLemmas.{one_gen}
 use Rattle.iri_cli.proofs.run.run.Goals as goal
 
-pub returns-in-Some-Canon-clause-canonical : goal.returns-in-Some-Canon-clause-canonical
-returns-in-Some-Canon-clause-canonical g c = λ grammar _ base line taken none. canonical_answers (tests_of grammar)
+pub returns-in-Some-Lines-clause-canonical : goal.returns-in-Some-Lines-clause-canonical
+returns-in-Some-Lines-clause-canonical g c = λ grammar _ base line taken none. canonical_answers (tests_of grammar)
     (grammar_is_spec grammar) base line taken none
 
 pub returns-in-Some-Tell-clause-canonical : goal.returns-in-Some-Tell-clause-canonical
@@ -28,8 +29,11 @@ returns-in-None-clause-canonical g c = λ grammar _ base line taken none. canoni
 pub returns-in-None-clause-tells : goal.returns-in-None-clause-tells
 returns-in-None-clause-tells g c = λ notice is. absurd (c.in-None.ensures (Tell notice) is)
 
-pub returns-in-None-clause-canon : goal.returns-in-None-clause-canon
-returns-in-None-clause-canon g c = λ grammar is. absurd (c.in-None.ensures (Canon grammar) is)
+pub returns-in-None-clause-lines : goal.returns-in-None-clause-lines
+returns-in-None-clause-lines g c = λ command grammar is. absurd (c.in-None.ensures (Lines command grammar) is)
+
+pub returns-in-None-clause-robots : goal.returns-in-None-clause-robots
+returns-in-None-clause-robots g c = λ grammar token is. absurd (c.in-None.ensures (Robots grammar) (token, is))
 
 pub returns-in-None-clause-gens : goal.returns-in-None-clause-gens
 returns-in-None-clause-gens g c = λ grammar count is. absurd (c.in-None.ensures (Gen grammar count) is)

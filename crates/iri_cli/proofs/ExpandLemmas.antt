@@ -1,0 +1,202 @@
+-- The answers of `expand`.
+use Rattle.std.proofs.Common.{◌≡◌, ◌≢◌, ◌∙◌, ◌<◌, ◌≤◌, ℕ, Bool, true, false, List, [], ◌∷◌, ◌++◌, length, Option, None, Some, Result, Ok, Err, if◌then◌else◌, refl, sym, ap, subst, arith}
+use Rattle.std.specs.Prelude.{nat_lt, OnOk}
+use Rattle.std.proofs.Math.Path.{fun_ext}
+use Rattle.std.proofs.lemmas.Bool.Decides.{nat_tests}
+use Rattle.iri_grammar.specs.Classes.{Tests}
+use Rattle.iri_grammar.specs.Fault.{bytes_fault}
+use Rattle.iri_grammar.specs.WholeFault.{reference_fault}
+use Rattle.iri_grammar.specs.declared.error.ErrorKind.{ErrorKind}
+use Rattle.iri_resolve.specs.NormalForm.{canonical}
+use Rattle.iri_text.specs.Line.{LineState}
+use Rattle.iri_text.specs.Sink.{KeepsRoom, PutsAll}
+use Rattle.iri_text.specs.declared.Failed.{Failed}
+use Rattle.iri_text.proofs.Puts.{Appends-none, room-same}
+use Rattle.iri_template.specs.Contexts.{value_at, value_in}
+use Rattle.iri_template.specs.Expansion.{expansion}
+use Rattle.iri_template.specs.Fault.{first, template_fault}
+use Rattle.iri_template.specs.HeldValues.{shown_value}
+use Rattle.iri_template.specs.Reading.{pieces_of}
+use Rattle.iri_template.specs.ShownValues.{optional}
+use Rattle.iri_template.specs.TypeFaults.{type_fault}
+use Rattle.iri_template.specs.declared.error.Error.{Error}
+use Rattle.iri_template.specs.declared.simple_context.SimpleContext.{SimpleContext}
+use Rattle.iri_cli.specs.Limits.{longest_line, answer_room}
+use Rattle.iri_cli.specs.Answer.{answer, answer_by, refusal}
+use Rattle.iri_cli.specs.Answering.{Answering, AnswersLine, IsReady, PutsAnswer}
+use Rattle.iri_cli.specs.CanonAnswers.{PutsLine, told_of}
+use Rattle.iri_cli.specs.Ending.{Rules}
+use Rattle.iri_cli.specs.ExpandAnswers.{answer_to, expansion_answer, expansion_limit, template_answer, template_refusal}
+use Rattle.iri_cli.specs.ExpandAnswers.{too_long, unless_fault}
+use Rattle.iri_cli.specs.ExpandLines.{ExpandLine, Values, after_line, line_of, values_behind}
+use Rattle.iri_cli.specs.Words.{expand_rules, is_ok, is_ok_or_none}
+use Rattle.iri_cli.specs.inside.ExpandAt.{IsExpandAt}
+use Rattle.iri_cli.specs.inside.Opening.{BeginsAsCanon, IsOpened}
+use Rattle.iri_cli.specs.declared.answers.AnswerError.{AnswerError}
+use Rattle.iri_cli.specs.declared.answers.AnswerError.TheVariants.{SinkFailed, Memory}
+use Rattle.iri_cli.proofs.CanonLemmas.{line_room, puts_line}
+use Rattle.iri_cli.proofs.VariableLemmas.{values-more}
+
+-- ---- the answer to a template
+-- an expansion that isn't too long is answered as `canon` answers it
+pub short_answer : (s : Tests) (base text : List ℕ) → length text ≤ expansion_limit → answer s base text ≡ expansion_answer s base text
+unfolding expansion_answer
+short_answer s base text h = let e : nat_lt expansion_limit (length text) ≡ false = grind (arith, nat_tests) in rw e refl
+
+pub long_answer : (s : Tests) (base text : List ℕ) → expansion_limit < length text → too_long ≡ expansion_answer s base text
+unfolding expansion_answer
+long_answer s base text h = let e : nat_lt expansion_limit (length text) ≡ true = grind (arith, nat_tests) in rw e refl
+
+-- a template without a fault, and one with a fault
+pub template_expanded : (s : Tests) (base : List ℕ) (values : Values) (t : List ℕ) → template_fault t ≡ None
+    → type_fault values (pieces_of t) ≡ None
+    → expansion_answer s base (expansion s values (pieces_of t)) ≡ template_answer s base values t
+unfolding template_answer
+template_expanded s base values t text types =
+    ap (λ f. unless_fault f (expansion_answer s base (expansion s values (pieces_of t)))) (sym types ∙ ap (λ f. first f (type_fault values (pieces_of t))) (sym text))
+
+pub template_refused : (s : Tests) (base : List ℕ) (values : Values) (t : List ℕ) (e : Error)
+    → first (template_fault t) (type_fault values (pieces_of t)) ≡ Some e → template_refusal e ≡ template_answer s base values t
+unfolding template_answer
+template_refused s base values t e is = ap (λ f. unless_fault f (expansion_answer s base (expansion s values (pieces_of t)))) (sym is)
+
+-- each answer to a template has bytes
+answer_good : (s : Tests) (base line : List ℕ) → is_ok_or_none (answer s base line) ≡ is_ok (answer s base line)
+unfolding answer
+answer_good s base line = by_fault (bytes_fault (reference_fault s) line)
+  where
+    by_fault : (f : Option ErrorKind) → is_ok_or_none (answer_by f (canonical s base line)) ≡ is_ok (answer_by f (canonical s base line))
+    by_fault None = refl
+    by_fault (Some kind) = refl
+
+expansion_good : (s : Tests) (base text : List ℕ) → is_ok_or_none (expansion_answer s base text) ≡ is_ok (expansion_answer s base text)
+unfolding expansion_answer
+expansion_good s base text = by_test (nat_lt expansion_limit (length text))
+  where
+    by_test : (long : Bool) → is_ok_or_none (if long then too_long else answer s base text) ≡ is_ok (if long then too_long else answer s base text)
+    by_test true = refl
+    by_test false = answer_good s base text
+
+pub template_good : (s : Tests) (base : List ℕ) (values : Values) (t : List ℕ)
+    → is_ok_or_none (template_answer s base values t) ≡ is_ok (template_answer s base values t)
+unfolding template_answer
+template_good s base values t = by_fault (first (template_fault t) (type_fault values (pieces_of t)))
+  where
+    text : List ℕ
+    text = expansion s values (pieces_of t)
+
+    by_fault : (f : Option Error) → is_ok_or_none (unless_fault f (expansion_answer s base text)) ≡ is_ok (unless_fault f (expansion_answer s base text))
+    by_fault None = expansion_good s base text
+    by_fault (Some e) = refl
+
+-- ---- an answer that was put as one piece or several, and what is said of it
+pub told_line : {wo wn : Option (List ℕ)} {fo fn : ℕ} {ro rn : Option ℕ} (good : Bool) (r : Result (Unit {0}) Failed) (text line : List ℕ)
+    (result : Result Bool AnswerError) → result ≡ told_of good r → good ≡ is_ok text → text ≡ line → PutsAll wo wn fo fn ro rn r text
+    → PutsLine wo wn fo fn line result
+told_line {wo} {wn} {fo} {fn} good r text line result told e is p =
+    subst (λ x. PutsLine wo wn fo fn line x) (sym told) (subst (λ t. PutsLine wo wn fo fn t (told_of good r)) is (puts_line good r text p e))
+
+pub told_room : {wo wn : Option (List ℕ)} {fo fn : ℕ} {ro rn : Option ℕ} (good : Bool) (r : Result (Unit {0}) Failed) (text line : List ℕ)
+    (result : Result Bool AnswerError) → result ≡ told_of good r → text ≡ line → PutsAll wo wn fo fn ro rn r text
+    → KeepsRoom ro rn line (result ≢ Err SinkFailed)
+told_room {ro = ro} {rn} good r text line result told is p =
+    subst (λ x. KeepsRoom ro rn line (x ≢ Err SinkFailed)) (sym told)
+    (subst (λ t. KeepsRoom ro rn t (told_of good r ≢ Err SinkFailed)) is (line_room good r text p))
+
+-- ---- one line more
+module _ (s : Tests) (base expansion output : List ℕ) (values : Values) (at : Answering)
+    (is : IsExpandAt s base expansion output values at) (line : List ℕ) (said : ExpandLine) (reads : line_of line ≡ said) where
+  answer_is : at.rules.answer at.base at.between line ≡ answer_to s base values said
+  answer_is =
+      ap (λ (r : Rules). r.answer at.base at.between line) is.rules
+      ∙ ap (λ b. answer_to s b (values_behind at.between) (line_of line)) is.base_is
+      ∙ ap (λ v. answer_to s base v (line_of line)) (sym is.values_are)
+      ∙ ap (answer_to s base values) reads
+
+  next_at : (expansion_new output_new : List ℕ) (new : Values) → length expansion_new ≡ length expansion → length output_new ≡ length output
+      → new ≡ after_line values said
+      → IsExpandAt s base expansion_new output_new new (record at { between = at.between ++ line ∷ [] })
+  next_at expansion_new output_new new expansion_size output_size after = record {
+    rules = is.rules;
+    base_is = is.base_is;
+    values_are = after ∙ ap (λ v. after_line v said) is.values_are ∙ ap (after_line (values_behind at.between)) (sym reads)
+        ∙ sym (values-more _ at.between line);
+    taken = is.taken;
+    short = is.short;
+    expansion_room = expansion_size ∙ is.expansion_room;
+    output_room = output_size ∙ is.output_room;
+  }
+
+  on_ok : {X : Type 0} (r : Result Bool AnswerError) → X → OnOk r X
+  on_ok (Ok x) h = h
+  on_ok (Err x) h = tt
+
+  -- an answer was put, and no variable changed
+  module _ (wo wn : Option (List ℕ)) (fo fn : ℕ) (ro rn : Option ℕ) where
+    puts_answer : (r : Result Bool AnswerError) (text : List ℕ) → is_ok_or_none text ≡ is_ok text → PutsLine wo wn fo fn text r
+        → PutsAnswer at.rules wo wn fo fn text r
+    puts_answer (Ok good) text e p = (p.0, p.1, p.2 ∙ sym e ∙ ap (λ (r : Rules). r.is_good text) (sym is.rules))
+    puts_answer (Err SinkFailed) text e p = p
+    puts_answer (Err Memory) text e p = absurd p
+
+    pub answers_text : (expansion_new output_new : List ℕ) (r : Result Bool AnswerError) → length expansion_new ≡ length expansion
+        → length output_new ≡ length output → values ≡ after_line values said
+        → is_ok_or_none (answer_to s base values said) ≡ is_ok (answer_to s base values said)
+        → PutsLine wo wn fo fn (answer_to s base values said) r
+        → KeepsRoom ro rn (answer_to s base values said) (r ≢ Err SinkFailed)
+        → AnswersLine (IsExpandAt s base expansion_new output_new values) at line wo wn fo fn ro rn r
+    answers_text expansion_new output_new r expansion_size output_size same good p room = record {
+      puts = subst (λ t. PutsAnswer at.rules wo wn fo fn t r) (sym answer_is) (puts_answer r (answer_to s base values said) good p);
+      next = on_ok r (next_at expansion_new output_new values expansion_size output_size same);
+      room = subst (λ t. KeepsRoom ro rn t (r ≢ Err SinkFailed)) (sym answer_is) room;
+    }
+
+  -- nothing was put
+  module _ (w : Option (List ℕ)) (f : ℕ) (r : Option ℕ) (none : answer_to s base values said ≡ []) where
+    abbrev text : List ℕ
+    text = at.rules.answer at.base at.between line
+
+    text_is : text ≡ []
+    text_is = answer_is ∙ none
+
+    -- a variable changed
+    pub answers_nothing : (new : Values) → new ≡ after_line values said
+        → AnswersLine (IsExpandAt s base expansion output new) at line w w f f r r (Ok true)
+    answers_nothing new after = record {
+      puts = subst (λ t. PutsAnswer at.rules w w f f t (Ok true)) (sym text_is)
+          (Appends-none w, refl, ap (λ (x : Rules). x.is_good []) (sym is.rules));
+      next = next_at expansion output new refl refl after;
+      room = room-same r text (λ _ h. cc h);
+    }
+
+    -- allocation failed
+    pub answers_memory : (is_next : Answering → Type 0) → AnswersLine is_next at line w w f f r r (Err Memory)
+    answers_memory is_next = record {
+      puts = (ap (λ (x : Rules). x.takes_memory) is.rules, refl, refl);
+      next = tt;
+      room = room-same r text (λ _ h. cc h);
+    }
+
+-- ---- the start
+pub expand_begins : (s : Tests) → BeginsAsCanon s (expand_rules s)
+expand_begins s = record { line_limit = refl; input_limit = refl; refusal = refl; takes_memory = refl }
+
+-- `expand` stands behind an opened base line, with buffers and no values
+pub expand_ready : (s : Tests) (lo lm : Option (List ℕ)) (fo fm : ℕ) (reader : LineState) (base text expansion output : List ℕ)
+    (context : SimpleContext) → IsOpened (expand_rules s) lo lm fo fm reader base → text ≡ base → length expansion ≡ longest_line
+    → length output ≡ answer_room → ((q : List ℕ) → value_at context q ≡ None)
+    → IsReady (IsExpandAt s text expansion output (value_in context)) (record { rules = expand_rules s; base = base; between = [] }) reader
+expand_ready s lo lm fo fm reader base text expansion output context o is expansion_room output_room none = record {
+  at = record {
+    rules = refl;
+    base_is = sym is;
+    values_are = fun_ext (λ q. ap (optional shown_value) (none q));
+    taken = ap (refusal s) is ∙ o.base_taken;
+    short = omega (arith, ap length is, o.short);
+    expansion_room = expansion_room;
+    output_room = output_room;
+  };
+  first = refl;
+  base_taken = o.base_taken;
+  going = o.going;
+}

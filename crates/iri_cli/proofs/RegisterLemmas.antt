@@ -1,0 +1,236 @@
+-- The answers of `register`.
+use Rattle.std.proofs.Common.{◌≡◌, ◌≢◌, ℕ, zero, suc, ◌+◌, ◌<◌, ◌≤◌, Bool, List, [], ◌∷◌, ◌++◌, length, take, drop, Option, None, Some, Result, Ok, Err}
+use Rattle.std.proofs.Common.{refl, sym, ◌∙◌, ap, subst, arith, append_assoc, length-append, add-one}
+use Rattle.std.specs.Prelude.{OnOk, fold, decimal, slice_get, get_or, unwrap_or}
+use Rattle.std.specs.List.{flat_map}
+use Rattle.std.proofs.lemmas.List.{append-nil, length-take-le, take_more, take-append-drop}
+use Rattle.std.proofs.lemmas.Grind.{flat_map-append}
+use Rattle.std.proofs.lemmas.Option.{slice_get_within, unwrap_or-slice_get}
+use Rattle.iri_grammar.specs.Characters.{comma}
+use Rattle.iri_grammar.specs.Classes.{Tests}
+use Rattle.iri_register.specs.Commands.{obeyed, entries_of_commands}
+use Rattle.iri_register.specs.Entries.{Entry, entry_at}
+use Rattle.iri_register.specs.Kept.{Kept}
+use Rattle.iri_register.proofs.CommandLemmas.{obeyed_from}
+use Rattle.iri_cli.specs.RegisterAnswers.{answer_to, entry_line, entry_lines, more_numbers}
+use Rattle.iri_cli.specs.RegisterLines.{line_of, command_of, commands_from, entries_behind}
+use Rattle.iri_text.specs.Sink.{Appends, AppendsPrefix, KeepsRoom, PutsAll}
+use Rattle.iri_text.specs.declared.Failed.{Failed}
+use Rattle.iri_text.proofs.Puts.{room-same, room-so}
+use Rattle.iri_text.specs.Line.{LineState}
+use Rattle.iri_cli.specs.Answering.{Answering, AnswersLine, IsReady, PutsAnswer, PutsClosing}
+use Rattle.iri_cli.specs.CanonAnswers.{told_of}
+use Rattle.iri_cli.specs.Ending.{Rules}
+use Rattle.iri_cli.specs.Read.{IsGoing}
+use Rattle.iri_cli.specs.Refused.{is_not_bad}
+use Rattle.iri_cli.specs.Words.{register_rules}
+use Rattle.iri_cli.specs.declared.answers.AnswerError.TheVariants.{SinkFailed, Memory}
+use Rattle.iri_cli.specs.inside.Opening.{BeginsAsCanon}
+use Rattle.iri_cli.specs.inside.RegisterAt.{IsRegisterAt}
+use Rattle.iri_cli.specs.inside.Replies.{obeyed_by}
+use Rattle.iri_cli.proofs.CanonLemmas.{line_room}
+
+-- ---- one line more
+
+commands_more : (s : Tests) (base : List ℕ) (n : ℕ) (between : List (List ℕ)) (line : List ℕ)
+    → commands_from s base n (between ++ line ∷ []) ≡ commands_from s base n between ++ command_of s base (n + length between) (line_of line)
+commands_more s base n [] line =
+    let e : n ≡ n + 0 = omega arith in
+    append-nil (command_of s base n (line_of line)) ∙ ap (λ k. command_of s base k (line_of line)) e
+commands_more s base n (l ∷ between) line =
+    let e : (n + 1) + length between ≡ n + suc (length between) = omega arith in
+    ap (λ cs. command_of s base n (line_of l) ++ cs) (commands_more s base (n + 1) between line
+    ∙ ap (λ k. commands_from s base (n + 1) between ++ command_of s base k (line_of line)) e)
+    ∙ sym (append_assoc (command_of s base n (line_of l)) (commands_from s base (n + 1) between)
+    (command_of s base (n + suc (length between)) (line_of line)))
+
+pub entries_more : (s : Tests) (base : List ℕ) (between : List (List ℕ)) (line : List ℕ)
+    → entries_behind s base (between ++ line ∷ [])
+    ≡ obeyed_by (entries_behind s base between) (command_of s base (2 + length between) (line_of line))
+unfolding entries_behind
+entries_more s base between line =
+    ap entries_of_commands (commands_more s base 2 between line)
+    ∙ sym (obeyed_from (commands_from s base 2 between) (command_of s base (2 + length between) (line_of line)))
+
+entries_none : (s : Tests) (base : List ℕ) → entries_behind s base [] ≡ []
+unfolding entries_behind
+entries_none s base = refl
+
+-- ---- entries that were put
+
+entry_lines_append : (k : ℕ) (es fs : List Entry) → entry_lines k (es ++ fs) ≡ entry_lines k es ++ entry_lines (k + length es) fs
+entry_lines_append k [] fs = let e : k ≡ k + 0 = omega arith in ap (λ n. entry_lines n fs) e
+entry_lines_append k (e ∷ es) fs =
+    let n : (k + 1) + length es ≡ k + suc (length es) = omega arith in
+    ap (λ t. entry_line k e ++ t) (entry_lines_append (k + 1) es fs ∙ ap (λ m. entry_lines (k + 1) es ++ entry_lines m fs) n)
+    ∙ sym (append_assoc (entry_line k e) (entry_lines (k + 1) es) (entry_lines (k + suc (length es)) fs))
+
+entry_more : (es : List Entry) (e : Entry) (k i : ℕ) → slice_get es i ≡ Some e
+    → entry_lines k (take (i + 1) es) ≡ entry_lines k (take i es) ++ entry_line (k + i) e
+entry_more es e k i h =
+    let within = slice_get_within es i e h in
+    let is : get_or es i e ≡ e = sym (unwrap_or-slice_get es i e) ∙ ap (λ o. unwrap_or o e) h in
+    let size : length (take i es) ≡ i = length-take-le i es (omega (arith, within)) in
+    ap (entry_lines k) (take_more es i e within) ∙ entry_lines_append k (take i es) (get_or es i e ∷ [])
+    ∙ ap (λ n. entry_lines k (take i es) ++ (entry_line (k + n) (get_or es i e) ++ [])) size
+    ∙ ap (λ x. entry_lines k (take i es) ++ (entry_line (k + i) x ++ [])) is
+    ∙ ap (λ t. entry_lines k (take i es) ++ t) (append-nil (entry_line (k + i) e))
+
+pub number_more : (ns : List ℕ) (i : ℕ) → i < length ns
+    → more_numbers (take (i + 1) ns) ≡ more_numbers (take i ns) ++ (comma ∷ decimal (get_or ns i 0))
+number_more ns i h =
+    let f : ℕ → List ℕ = λ n. comma ∷ decimal n in
+    ap (flat_map f) (take_more ns i 0 h) ∙ flat_map-append f (take i ns) (get_or ns i 0 ∷ [])
+    ∙ ap (λ t. flat_map f (take i ns) ++ t) (append-nil (comma ∷ decimal (get_or ns i 0)))
+
+-- the numbers up to an index, the one there, and those behind it
+pub numbers_whole : (ns : List ℕ) (i : ℕ) → i < length ns
+    → more_numbers (take i ns) ++ (comma ∷ (decimal (get_or ns i 0) ++ more_numbers (drop (i + 1) ns))) ≡ more_numbers ns
+numbers_whole ns i h =
+    let f : ℕ → List ℕ = λ n. comma ∷ decimal n in
+    sym (append_assoc (more_numbers (take i ns)) (comma ∷ decimal (get_or ns i 0)) (more_numbers (drop (i + 1) ns)))
+    ∙ ap (λ t. t ++ more_numbers (drop (i + 1) ns)) (sym (number_more ns i h))
+    ∙ sym (flat_map-append f (take (i + 1) ns) (drop (i + 1) ns)) ∙ ap (flat_map f) (take-append-drop (i + 1) ns)
+
+entries_whole : (es : List Entry) (e : Entry) (i : ℕ) → slice_get es i ≡ Some e
+    → entry_lines 1 (take i es) ++ (entry_line (1 + i) e ++ entry_lines (1 + (i + 1)) (drop (i + 1) es)) ≡ entry_lines 1 es
+entries_whole es e i h =
+    let within = slice_get_within es i e h in
+    let size : length (take (i + 1) es) ≡ i + 1 = length-take-le (i + 1) es (omega (arith, within)) in
+    sym (append_assoc (entry_lines 1 (take i es)) (entry_line (1 + i) e) (entry_lines (1 + (i + 1)) (drop (i + 1) es)))
+    ∙ ap (λ t. t ++ entry_lines (1 + (i + 1)) (drop (i + 1) es)) (sym (entry_more es e 1 i h))
+    ∙ ap (λ n. entry_lines 1 (take (i + 1) es) ++ entry_lines (1 + n) (drop (i + 1) es)) (sym size)
+    ∙ sym (entry_lines_append 1 (take (i + 1) es) (drop (i + 1) es)) ∙ ap (entry_lines 1) (take-append-drop (i + 1) es)
+
+-- the entry behind an index, by its place
+pub record IsThere (es : List Entry) (i : ℕ) : Type 0 where
+  pub entry : Entry
+  pub get : slice_get es i ≡ Some entry
+  pub at : entry_at es (i + 1) ≡ Some entry
+
+slice_there : (es : List Entry) (i : ℕ) → i < length es → (e : Entry) × (slice_get es i ≡ Some e)
+slice_there [] i h = absurd (omega (arith, h))
+slice_there (e ∷ es) zero h = (e, refl)
+slice_there (e ∷ es) (suc i) h = slice_there es i (omega (arith, h))
+
+pub entry_there : (es : List Entry) (i : ℕ) → i < length es → IsThere es i
+entry_there es i h =
+    let k = slice_there es i h in
+    record { entry = k.0; get = k.1; at = ap (entry_at es) (add-one i) ∙ k.1 }
+
+pub entry_next : (es : List Entry) (i : ℕ) → (e : IsThere es i)
+    → entry_lines 1 (take i es) ++ entry_line (i + 1) e.entry ≡ entry_lines 1 (take (i + 1) es)
+entry_next es i e =
+    let n : i + 1 ≡ 1 + i = omega arith in
+    ap (λ k. entry_lines 1 (take i es) ++ entry_line k e.entry) n ∙ sym (entry_more es e.entry 1 i e.get)
+
+pub entries_left : (es : List Entry) (i : ℕ) → (e : IsThere es i)
+    → entry_lines 1 (take i es) ++ (entry_line (i + 1) e.entry ++ entry_lines (1 + (i + 1)) (drop (i + 1) es)) ≡ entry_lines 1 es
+entries_left es i e =
+    let n : i + 1 ≡ 1 + i = omega arith in
+    ap (λ k. entry_lines 1 (take i es) ++ (entry_line k e.entry ++ entry_lines (1 + (i + 1)) (drop (i + 1) es))) n
+    ∙ entries_whole es e.entry i e.get
+
+-- ---- answers
+
+-- what is said of an answer, where it was put or the sink failed
+said_of : (rules : Rules) (wo wn : Option (List ℕ)) (fo fn : ℕ) (ro rn : Option ℕ) (good : Bool) (r : Result (Unit {0}) Failed)
+    (text : List ℕ) → PutsAll wo wn fo fn ro rn r text → good ≡ rules.is_good text → PutsAnswer rules wo wn fo fn text (told_of good r)
+said_of rules wo wn fo fn ro rn good (Ok x) text p e = (p.whole, p.same, e)
+said_of rules wo wn fo fn ro rn good (Err f) text p e = (p.front, p.cause, p.later)
+
+on_told : {X : Type 0} (good : Bool) (r : Result (Unit {0}) Failed) → X → OnOk (told_of good r) X
+on_told good (Ok x) h = h
+on_told good (Err f) h = tt
+
+answer_is : (s : Tests) (kept : Kept) (answered : ℕ) (at : Answering) (line text : List ℕ) → IsRegisterAt s kept answered at
+    → text ≡ answer_to s kept.base kept.entries (line_of line) → text ≡ at.rules.answer at.base at.between line
+answer_is s kept answered at line text is e =
+    e ∙ ap (λ b. answer_to s b kept.entries (line_of line)) is.base_is
+    ∙ ap (λ es. answer_to s at.base es (line_of line)) is.entries_are
+    ∙ ap (λ (rules : Rules). rules.answer at.base at.between line) (sym is.rules)
+
+next_at : (s : Tests) (kept new : Kept) (answered count : ℕ) (at : Answering) (line : List ℕ) → IsRegisterAt s kept answered at
+    → count ≡ answered + 1 → new.base ≡ kept.base
+    → new.entries ≡ obeyed_by kept.entries (command_of s kept.base (answered + 2) (line_of line))
+    → IsRegisterAt s new count (record at { between = at.between ++ line ∷ [] })
+next_at s kept new answered count at line is counted base entries = record {
+  rules = is.rules;
+  base_is = base ∙ is.base_is;
+  entries_are =
+      let number : answered + 2 ≡ 2 + length at.between = omega (arith, is.counted) in
+      entries ∙ ap (λ b. obeyed_by kept.entries (command_of s b (answered + 2) (line_of line))) is.base_is
+      ∙ ap (λ es. obeyed_by es (command_of s at.base (answered + 2) (line_of line))) is.entries_are
+      ∙ ap (λ n. obeyed_by (entries_behind s at.base at.between) (command_of s at.base n (line_of line))) number
+      ∙ sym (entries_more s at.base at.between line);
+  counted = let size = length-append at.between (line ∷ []) in omega (arith, counted, is.counted, size);
+}
+
+pub answers_line : (s : Tests) (kept new : Kept) (answered count : ℕ) (at : Answering) (line text : List ℕ) (wo wn : Option (List ℕ))
+    (fo fn : ℕ) (ro rn : Option ℕ) (good : Bool) (r : Result (Unit {0}) Failed) → IsRegisterAt s kept answered at
+    → count ≡ answered + 1 → new.base ≡ kept.base
+    → new.entries ≡ obeyed_by kept.entries (command_of s kept.base (answered + 2) (line_of line))
+    → text ≡ answer_to s kept.base kept.entries (line_of line) → good ≡ is_not_bad text → PutsAll wo wn fo fn ro rn r text
+    → AnswersLine (IsRegisterAt s new count) at line wo wn fo fn ro rn (told_of good r)
+answers_line s kept new answered count at line text wo wn fo fn ro rn good r is counted base entries answer good_is p =
+    let e = answer_is s kept answered at line text is answer in
+    let test : good ≡ at.rules.is_good text = good_is ∙ ap (λ (rules : Rules). rules.is_good text) (sym is.rules) in
+    record {
+      puts = subst (λ t. PutsAnswer at.rules wo wn fo fn t (told_of good r)) e
+          (said_of at.rules wo wn fo fn ro rn good r text p test);
+      next = on_told good r (next_at s kept new answered count at line is counted base entries);
+      room = subst (λ t. KeepsRoom ro rn t (told_of good r ≢ Err SinkFailed)) e (line_room good r text p);
+    }
+
+-- allocation failed, and nothing was put
+pub line_refused : (s : Tests) (kept : Kept) (answered : ℕ) (at : Answering) (is_next : Answering → Type 0) (line : List ℕ)
+    (wo : Option (List ℕ)) (fo : ℕ) (ro : Option ℕ) → IsRegisterAt s kept answered at
+    → AnswersLine is_next at line wo wo fo fo ro ro (Err Memory)
+line_refused s kept answered at is_next line wo fo ro is = record {
+  puts = (ap (λ (rules : Rules). rules.takes_memory) is.rules, refl, refl);
+  next = tt;
+  room = room-same ro (at.rules.answer at.base at.between line) (λ _ h. cc h);
+}
+
+-- ---- the end
+
+closing_is : (s : Tests) (kept : Kept) (answered : ℕ) (at : Answering) → IsRegisterAt s kept answered at
+    → entry_lines 1 kept.entries ≡ at.rules.closing at.base at.between
+closing_is s kept answered at is =
+    ap (entry_lines 1) is.entries_are ∙ ap (λ (rules : Rules). rules.closing at.base at.between) (sym is.rules)
+
+pub closes_well : (s : Tests) (kept : Kept) (answered : ℕ) (at : Answering) (wo wn : Option (List ℕ)) (fo fn : ℕ) (ro rn : Option ℕ)
+    → IsRegisterAt s kept answered at → PutsAll wo wn fo fn ro rn (Ok tt) (entry_lines 1 kept.entries)
+    → PutsClosing at.rules wo wn fo fn (at.rules.closing at.base at.between) (Ok tt)
+closes_well s kept answered at wo wn fo fn ro rn is p =
+    (subst (λ t. Appends wo wn t) (closing_is s kept answered at is) p.whole, p.same)
+
+pub closes_short : (s : Tests) (kept : Kept) (answered : ℕ) (at : Answering) (wo wn : Option (List ℕ)) (fo fn : ℕ) (ro rn : Option ℕ)
+    (f : Failed) → IsRegisterAt s kept answered at → PutsAll wo wn fo fn ro rn (Err f) (entry_lines 1 kept.entries)
+    → PutsClosing at.rules wo wn fo fn (at.rules.closing at.base at.between) (Err SinkFailed)
+closes_short s kept answered at wo wn fo fn ro rn f is p =
+    (subst (λ t. AppendsPrefix wo wn t) (closing_is s kept answered at is) p.front, p.cause, p.later)
+
+pub closing_room : (s : Tests) (kept : Kept) (answered : ℕ) (at : Answering) (ro rn : Option ℕ) (A B : Type 0) → (A → B)
+    → IsRegisterAt s kept answered at → KeepsRoom ro rn (entry_lines 1 kept.entries) A
+    → KeepsRoom ro rn (at.rules.closing at.base at.between) B
+closing_room s kept answered at ro rn A B so is k =
+    room-so so (subst (λ t. KeepsRoom ro rn t A) (closing_is s kept answered at is) k)
+
+-- ---- the beginning
+
+pub begins : (s : Tests) → BeginsAsCanon s (register_rules s)
+begins s = record { line_limit = refl; input_limit = refl; refusal = refl; takes_memory = refl }
+
+abbrev pub start : Tests → List ℕ → Answering
+start s base = record { rules = register_rules s; base = base; between = [] }
+
+-- an empty register stands behind a base line that was opened
+pub ready : (s : Tests) (kept : Kept) (base : List ℕ) (reader : LineState) → kept.base ≡ base → kept.entries ≡ []
+    → (register_rules s).refusal base ≡ None → IsGoing (register_rules s) reader → IsReady (IsRegisterAt s kept 0) (start s base) reader
+ready s kept base reader own none taken going = record {
+  at = record { rules = refl; base_is = own; entries_are = none ∙ sym (entries_none s base); counted = refl };
+  first = refl;
+  base_taken = taken;
+  going = going;
+}

@@ -1,0 +1,149 @@
+-- The answers of `robots`.
+use Rattle.std.proofs.Common.{◌≡◌, ◌≢◌, ◌↔◌, ℕ, Bool, true, false, List, [], ◌∷◌, ◌++◌, Option, None, Some, Result, Ok, Err, refl, sym, ◌∙◌, ap}
+use Rattle.std.proofs.Common.{subst}
+use Rattle.std.specs.Prelude.{OnOk}
+use Rattle.std.proofs.lemmas.Grind.{flat_map-append}
+use Rattle.std.proofs.lemmas.List.{append-nil}
+use Rattle.iri_grammar.specs.Classes.{Tests}
+use Rattle.iri_robots.specs.Allowed.{IsAllowed}
+use Rattle.iri_robots.specs.Decided.{is_allowed}
+use Rattle.iri_robots.specs.Records.{FileRecord, FileRule}
+use Rattle.iri_robots.specs.declared.robots.Verdict.{Verdict}
+use Rattle.iri_robots.specs.declared.robots.Verdict.TheVariants.{Allow, Disallow}
+use Rattle.iri_robots.proofs.Decisions.{allowed_is}
+use Rattle.iri_text.specs.Line.{LineState}
+use Rattle.iri_text.specs.Sink.{KeepsRoom, PutsAll}
+use Rattle.iri_text.specs.declared.Failed.{Failed}
+use Rattle.iri_text.proofs.Puts.{Appends-none, room-same}
+use Rattle.iri_cli.specs.Answering.{Answering, AnswersLine, IsReady, PutsAnswer}
+use Rattle.iri_cli.specs.CanonAnswers.{told_of}
+use Rattle.iri_cli.specs.Ending.{Rules}
+use Rattle.iri_cli.specs.Read.{IsGoing}
+use Rattle.iri_cli.specs.Refused.{is_not_bad}
+use Rattle.iri_cli.specs.RobotsAnswers.{answer_to, normal_base, verdict_word}
+use Rattle.iri_cli.specs.RobotsLines.{RobotsLine, line_of, fed, records_behind}
+use Rattle.iri_cli.specs.Words.{robots_rules}
+use Rattle.iri_cli.specs.declared.answers.AnswerError.{AnswerError}
+use Rattle.iri_cli.specs.declared.answers.AnswerError.TheVariants.{SinkFailed, Memory}
+use Rattle.iri_cli.specs.inside.Opening.{BeginsAsCanon}
+use Rattle.iri_cli.specs.inside.RobotsAt.{IsRobotsAt, Replies, PutsReply}
+use Rattle.iri_cli.proofs.CanonLemmas.{line_room}
+
+-- ---- what the rules say
+
+pub allow_told : (rules : List FileRule) (s : List ℕ) (v : Verdict) → (v ≡ Allow) ↔ IsAllowed rules s → v ≡ Allow → is_allowed rules s ≡ true
+allow_told rules s v k is = (allowed_is rules s).1 (k.0 is)
+
+disallow_by : (rules : List FileRule) (s : List ℕ) (v : Verdict) (b : Bool) → (v ≡ Allow) ↔ IsAllowed rules s → v ≡ Disallow
+    → is_allowed rules s ≡ b → b ≡ false
+disallow_by rules s v true k is e = let n : v ≡ Allow = k.1 ((allowed_is rules s).0 e) in cc
+disallow_by rules s v false k is e = refl
+
+pub disallow_told : (rules : List FileRule) (s : List ℕ) (v : Verdict) → (v ≡ Allow) ↔ IsAllowed rules s → v ≡ Disallow
+    → is_allowed rules s ≡ false
+disallow_told rules s v k is = disallow_by rules s v (is_allowed rules s) k is refl
+
+pub word_is : (site allowed a b : Bool) → site ≡ a → allowed ≡ b → verdict_word a b ≡ verdict_word site allowed
+word_is site allowed a b e h = ap (λ x. verdict_word x b) (sym e) ∙ ap (verdict_word site) (sym h)
+
+-- no word begins with "bad"
+pub word_good : (site allowed : Bool) (text : List ℕ) → true ≡ is_not_bad (verdict_word site allowed ++ text)
+word_good true true text = refl
+word_good true false text = refl
+word_good false allowed text = refl
+
+-- ---- replies
+
+pub replies : {wo wn : Option (List ℕ)} {fo fn : ℕ} {ro rn : Option ℕ} (good : Bool) (r : Result (Unit {0}) Failed) (text : List ℕ)
+    → PutsAll wo wn fo fn ro rn r text → good ≡ is_not_bad text → PutsReply wo wn fo fn ro rn text (told_of good r)
+replies {wo} {wn} {fo} {fn} good r text p e = record { puts = by r p; room = line_room good r text p }
+  where
+    by : {ro rn : Option ℕ} (r : Result (Unit {0}) Failed) → PutsAll wo wn fo fn ro rn r text → Replies wo wn fo fn text (told_of good r)
+    by (Ok x) p = (p.whole, p.same, e)
+    by (Err f) p = (p.front, p.cause, p.later)
+
+pub no_reply : (wo : Option (List ℕ)) (fo : ℕ) (ro : Option ℕ) → PutsReply wo wo fo fo ro ro [] (Ok true)
+no_reply wo fo ro = record { puts = (Appends-none wo, refl, refl); room = room-same ro [] (λ _ h. cc h) }
+
+pub no_memory : (wo : Option (List ℕ)) (fo : ℕ) (ro : Option ℕ) (text : List ℕ) → PutsReply wo wo fo fo ro ro text (Err Memory)
+no_memory wo fo ro text = record { puts = (refl, refl); room = room-same ro text (λ _ h. cc h) }
+
+-- ---- one line more
+
+records_more : (between : List (List ℕ)) (line : List ℕ) → records_behind (between ++ line ∷ []) ≡ records_behind between ++ fed (line_of line)
+unfolding records_behind
+records_more between line =
+    flat_map-append (λ l. fed (line_of l)) between (line ∷ []) ∙ ap (λ t. records_behind between ++ t) (append-nil (fed (line_of line)))
+
+puts_by : (rules : Rules) (wo wn : Option (List ℕ)) (fo fn : ℕ) (text : List ℕ) (r : Result Bool AnswerError) → rules.is_good ≡ is_not_bad
+    → rules.takes_memory ≡ true → Replies wo wn fo fn text r → PutsAnswer rules wo wn fo fn text r
+puts_by rules wo wn fo fn text (Ok good) e m p = (p.0, p.1, p.2 ∙ ap (λ f. f text) (sym e))
+puts_by rules wo wn fo fn text (Err SinkFailed) e m p = p
+puts_by rules wo wn fo fn text (Err Memory) e m p = (m, p.0, p.1)
+
+next_at : (s : Tests) (token base normal : List ℕ) (records new : List FileRecord) (at : Answering) (line : List ℕ)
+    → IsRobotsAt s token base normal records at → new ≡ records ++ fed (line_of line)
+    → IsRobotsAt s token base normal new (record at { between = at.between ++ line ∷ [] })
+next_at s token base normal records new at line is e = record {
+  rules = is.rules;
+  base_is = is.base_is;
+  normal_is = is.normal_is;
+  records_are = e ∙ ap (λ t. t ++ fed (line_of line)) is.records_are ∙ sym (records_more at.between line);
+}
+
+on_next : (s : Tests) (token base normal : List ℕ) (records new : List FileRecord) (at : Answering) (line : List ℕ)
+    (r : Result Bool AnswerError) → IsRobotsAt s token base normal records at → OnOk r (new ≡ records ++ fed (line_of line))
+    → OnOk r (IsRobotsAt s token base normal new (record at { between = at.between ++ line ∷ [] }))
+on_next s token base normal records new at line (Ok good) is e = next_at s token base normal records new at line is e
+on_next s token base normal records new at line (Err x) is e = tt
+
+pub answers_line : (s : Tests) (token base normal : List ℕ) (records new : List FileRecord) (at : Answering) (line text : List ℕ)
+    (wo wn : Option (List ℕ)) (fo fn : ℕ) (ro rn : Option ℕ) (r : Result Bool AnswerError) → IsRobotsAt s token base normal records at
+    → text ≡ answer_to s token base records (line_of line) → OnOk r (new ≡ records ++ fed (line_of line))
+    → PutsReply wo wn fo fn ro rn text r → AnswersLine (IsRobotsAt s token base normal new) at line wo wn fo fn ro rn r
+answers_line s token base normal records new at line text wo wn fo fn ro rn r is answer e p =
+    let whole : text ≡ at.rules.answer at.base at.between line =
+    answer ∙ ap (λ b. answer_to s token b records (line_of line)) is.base_is
+    ∙ ap (λ rs. answer_to s token at.base rs (line_of line)) is.records_are
+    ∙ ap (λ (rules : Rules). rules.answer at.base at.between line) (sym is.rules) in
+    record {
+      puts = subst (λ t. PutsAnswer at.rules wo wn fo fn t r) whole
+          (puts_by at.rules wo wn fo fn text r (ap (λ (rules : Rules). rules.is_good) is.rules)
+          (ap (λ (rules : Rules). rules.takes_memory) is.rules) p.puts);
+      next = on_next s token base normal records new at line r is e;
+      room = subst (λ t. KeepsRoom ro rn t (r ≢ Err SinkFailed)) whole p.room;
+    }
+
+-- no record came
+pub unfed : (r : Result Bool AnswerError) (records : List FileRecord) (said : RobotsLine) (line : List ℕ) → said ≡ line_of line
+    → fed said ≡ [] → OnOk r (records ≡ records ++ fed (line_of line))
+unfed (Ok good) records said line is none =
+    sym (append-nil records) ∙ ap (λ t. records ++ t) (sym none ∙ ap fed is)
+unfed (Err x) records said line is none = tt
+
+-- ---- the beginning
+
+pub begins : (s : Tests) (token : List ℕ) → BeginsAsCanon s (robots_rules s token)
+begins s token = record { line_limit = refl; input_limit = refl; refusal = refl; takes_memory = refl }
+
+abbrev pub start : Tests → List ℕ → List ℕ → Answering
+start s token base = record { rules = robots_rules s token; base = base; between = [] }
+
+records_none : records_behind [] ≡ []
+unfolding records_behind
+records_none = refl
+
+pub ready : (s : Tests) (token own base normal : List ℕ) (records : List FileRecord) (reader : LineState) → own ≡ token → records ≡ []
+    → normal ≡ normal_base s base → (robots_rules s token).refusal base ≡ None → IsGoing (robots_rules s token) reader
+    → IsReady (IsRobotsAt s own base normal records) (start s token base) reader
+ready s token own base normal records reader own_is none normal_is taken going = record {
+  at = record {
+    rules = ap (robots_rules s) (sym own_is);
+    base_is = refl;
+    normal_is = normal_is;
+    records_are = none ∙ sym records_none;
+  };
+  first = refl;
+  base_taken = taken;
+  going = going;
+}

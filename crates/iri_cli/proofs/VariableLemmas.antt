@@ -1,0 +1,21 @@
+-- The values of variables behind changes and lines.
+use Rattle.std.proofs.Common.{◌≡◌, ℕ, Bool, true, false, cond, List, [], ◌∷◌, ◌++◌, refl}
+use Rattle.std.specs.Str.{bytes_eq}
+use Rattle.std.proofs.Math.Path.{fun_ext}
+use Rattle.iri_template.specs.ShownValues.{ShownValue}
+use Rattle.iri_cli.specs.ExpandLines.{Values, after_line, line_of, values_from, with_value}
+
+-- a value that takes the place of another
+pub with_value-again : (values : Values) (name : List ℕ) (old value : ShownValue)
+    → with_value (with_value values name old) name value ≡ with_value values name value
+with_value-again values name old value = fun_ext (λ other. by_test (bytes_eq other name) (values other))
+  where
+    by_test : (same : Bool) (v : ShownValue) → cond same value (cond same old v) ≡ cond same value v
+    by_test true v = refl
+    by_test false v = refl
+
+-- the values behind one line more
+pub values-more : (values : Values) (lines : List (List ℕ)) (line : List ℕ)
+    → values_from values (lines ++ line ∷ []) ≡ after_line (values_from values lines) (line_of line)
+values-more values [] line = refl
+values-more values (first ∷ lines) line = values-more (after_line values (line_of first)) lines line

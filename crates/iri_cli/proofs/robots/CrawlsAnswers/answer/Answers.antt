@@ -1,0 +1,55 @@
+use Rattle.std.proofs.Common.{◌++◌, ◌∙◌, [], Ok, ap, false, refl, string_bytes, subst, sym, true}
+use Rattle.iri_robots.specs.Stored.{record_texts}
+use Rattle.iri_cli.specs.Answering.{AnswersLine}
+use Rattle.iri_cli.specs.CanonAnswers.{told_of}
+use Rattle.iri_cli.specs.Refused.{bad_line}
+use Rattle.iri_cli.specs.RobotsAnswers.{answer_to}
+use Rattle.iri_cli.specs.RobotsLines.{asks, bad, fed}
+use Rattle.iri_cli.specs.inside.RobotsAt.{IsRobotsAt}
+use Rattle.iri_cli.proofs.RobotsLemmas.{answers_line, no_reply, replies, unfed}
+use Rattle.iri_cli.proofs.robots.CrawlsAnswers.answer.Goals as goal
+
+pub returns-in-Ok : goal.returns-in-Ok
+returns-in-Ok g c = λ at is.
+    let s = g.S.Spec.tests in
+    let site = c.args.self.now.site in
+    let token = string_bytes site.robots.token in
+    let records = record_texts site.robots.records.items in
+    let new = record_texts c.feed_line.new.self.records.items in
+    let wo = g.O.Sink.written c.args.sink.now in
+    let fo = g.O.Sink.faults c.args.sink.now in
+    let ro = g.O.Sink.room_left c.args.sink.now in
+    subst (λ t. AnswersLine (IsRobotsAt s t site.base.text site.normal.text new) at c.args.line.now wo wo fo fo ro ro (Ok true))
+    (sym c.in-Ok.ensures.token)
+    (answers_line s token site.base.text site.normal.text records new at c.args.line.now [] wo wo fo fo ro ro (Ok true) is
+    (ap (answer_to s token site.base.text records) c.in-Feeds.ensures)
+    (c.in-Ok.ensures.records ∙ ap (λ l. records ++ fed l) c.in-Feeds.ensures) (no_reply wo fo ro))
+
+pub returns-in-Asks : goal.returns-in-Asks
+returns-in-Asks g c = λ at is.
+    let s = g.S.Spec.tests in
+    let site = c.args.self.now.site in
+    let token = string_bytes site.robots.token in
+    let records = record_texts site.robots.records.items in
+    let reference = asks c.in-Asks.reference.now in
+    answers_line s token site.base.text site.normal.text records records at c.args.line.now (answer_to s token site.base.text records reference)
+    _ _ _ _ _ _ c.put_answer.result is (ap (answer_to s token site.base.text records) c.in-Asks.ensures)
+    (unfed c.put_answer.result records reference c.args.line.now c.in-Asks.ensures refl) c.put_answer.ensures
+
+pub returns-in-Bad : goal.returns-in-Bad
+returns-in-Bad g c = λ at is.
+    let s = g.S.Spec.tests in
+    let site = c.args.self.now.site in
+    let token = string_bytes site.robots.token in
+    let records = record_texts site.robots.records.items in
+    let wo = g.O.Sink.written c.args.sink.now in
+    let wn = g.O.Sink.written c.put_all.new.self in
+    let fo = g.O.Sink.faults c.args.sink.now in
+    let fn = g.O.Sink.faults c.put_all.new.self in
+    let ro = g.O.Sink.room_left c.args.sink.now in
+    let rn = g.O.Sink.room_left c.put_all.new.self in
+    let told = told_of false c.put_all.result in
+    subst (AnswersLine (IsRobotsAt s token site.base.text site.normal.text records) at c.args.line.now wo wn fo fn ro rn) (sym c.told.ensures)
+    (answers_line s token site.base.text site.normal.text records records at c.args.line.now bad_line wo wn fo fn ro rn told is
+    (ap (answer_to s token site.base.text records) c.in-Bad.ensures) (unfed told records bad c.args.line.now c.in-Bad.ensures refl)
+    (replies false c.put_all.result bad_line c.put_all.ensures refl))

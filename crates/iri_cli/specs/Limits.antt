@@ -1,0 +1,14 @@
+-- The limits of a run over lines, in bytes.
+use Rattle.std.specs.Prelude.{ℕ}
+
+-- how many bytes a line may have before its LF
+abbrev pub longest_line : ℕ
+longest_line = 1048576
+
+-- how many bytes the input may have
+abbrev pub longest_input : ℕ
+longest_input = 1073741824
+
+-- the room for an answer's text and its LF: the text has at most three bytes more than a base and a reference
+abbrev pub answer_room : ℕ
+answer_room = 2097156

@@ -1,0 +1,9 @@
+-- What private contracts cite.
+pub mod ExpandAt
+pub mod Opening
+pub mod Said
+pub mod Asked
+pub mod Replies
+pub mod RegisterAt
+pub mod RobotsSaid
+pub mod RobotsAt

@@ -1,0 +1,19 @@
+-- Where `expand` stands behind lines.
+use Rattle.std.specs.Prelude.{◌≡◌, ◌≤◌, ℕ, List, length, None}
+use Rattle.iri_grammar.specs.Classes.{Tests}
+use Rattle.iri_cli.specs.Limits.{longest_line, answer_room}
+use Rattle.iri_cli.specs.Answer.{refusal}
+use Rattle.iri_cli.specs.Answering.{Answering}
+use Rattle.iri_cli.specs.ExpandAnswers.{expansion_limit}
+use Rattle.iri_cli.specs.ExpandLines.{Values, values_behind}
+use Rattle.iri_cli.specs.Words.{expand_rules}
+
+-- It has the base, which is taken, and the values behind the lines that were answered. The buffers have room for each expansion and answer.
+pub record IsExpandAt (s : Tests) (base expansion output : List ℕ) (values : Values) (at : Answering) : Type 0 where
+  pub rules : at.rules ≡ expand_rules s
+  pub base_is : at.base ≡ base
+  pub values_are : values ≡ values_behind at.between
+  pub taken : refusal s base ≡ None
+  pub short : length base ≤ longest_line
+  pub expansion_room : length expansion ≡ expansion_limit
+  pub output_room : length output ≡ answer_room

@@ -1,0 +1,14 @@
+-- Where `register` stands behind lines.
+use Rattle.std.specs.Prelude.{◌≡◌, ℕ, length}
+use Rattle.iri_grammar.specs.Classes.{Tests}
+use Rattle.iri_register.specs.Kept.{Kept}
+use Rattle.iri_cli.specs.Answering.{Answering}
+use Rattle.iri_cli.specs.RegisterLines.{entries_behind}
+use Rattle.iri_cli.specs.Words.{register_rules}
+
+-- It has the base, the entries behind the lines that were answered, and their count.
+pub record IsRegisterAt (s : Tests) (kept : Kept) (answered : ℕ) (at : Answering) : Type 0 where
+  pub rules : at.rules ≡ register_rules s
+  pub base_is : kept.base ≡ at.base
+  pub entries_are : kept.entries ≡ entries_behind s at.base at.between
+  pub counted : answered ≡ length at.between

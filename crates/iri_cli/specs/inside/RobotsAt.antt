@@ -1,0 +1,33 @@
+-- Where `robots` stands behind lines, and what its answers do to a sink.
+use Rattle.std.specs.Prelude.{◌≡◌, ◌≢◌, ℕ, Bool, List, Option, Result, Ok, Err}
+use Rattle.iri_grammar.specs.Classes.{Tests}
+use Rattle.iri_robots.specs.Records.{FileRecord}
+use Rattle.iri_text.specs.Sink.{Appends, KeepsRoom}
+use Rattle.iri_cli.specs.Answering.{Answering, FailsWithin}
+use Rattle.iri_cli.specs.Refused.{is_not_bad}
+use Rattle.iri_cli.specs.RobotsAnswers.{normal_base}
+use Rattle.iri_cli.specs.RobotsLines.{records_behind}
+use Rattle.iri_cli.specs.Words.{robots_rules}
+use Rattle.iri_cli.specs.declared.answers.AnswerError.{AnswerError}
+use Rattle.iri_cli.specs.declared.answers.AnswerError.TheVariants.{SinkFailed, Memory}
+
+-- It has the token, the base as it stands and in normal form, and the records behind the lines that were answered.
+pub record IsRobotsAt (s : Tests) (token base normal : List ℕ) (records : List FileRecord) (at : Answering) : Type 0 where
+  pub rules : at.rules ≡ robots_rules s token
+  pub base_is : base ≡ at.base
+  pub normal_is : normal ≡ normal_base s base
+  pub records_are : records ≡ records_behind at.between
+
+-- The whole answer was put, and it is said whether it is refused; or the sink failed within it; or allocation failed, and nothing was put.
+abbrev pub Replies : (written_old written_new : Option (List ℕ)) → (faults_old faults_new : ℕ) → List ℕ → Result Bool AnswerError → Type 0
+Replies written_old written_new faults_old faults_new answer (Ok good) =
+    Appends written_old written_new answer × (faults_new ≡ faults_old) × (good ≡ is_not_bad answer)
+Replies written_old written_new faults_old faults_new answer (Err SinkFailed) =
+    FailsWithin written_old written_new faults_old faults_new answer
+Replies written_old written_new faults_old faults_new answer (Err Memory) = (written_new ≡ written_old) × (faults_new ≡ faults_old)
+
+-- The same, and a sink that is known to have room for the answer didn't fail.
+pub record PutsReply (written_old written_new : Option (List ℕ)) (faults_old faults_new : ℕ) (room_old room_new : Option ℕ)
+    (answer : List ℕ) (result : Result Bool AnswerError) : Type 0 where
+  pub puts : Replies written_old written_new faults_old faults_new answer result
+  pub room : KeepsRoom room_old room_new answer (result ≢ Err SinkFailed)

@@ -1,0 +1,130 @@
+// The answers of `expand`.
+ghost use Rattle.std.specs.Prelude.{◌≡◌, ◌≢◌, ◌≤◌, ◌++◌, ◌∷◌, [], length, Err, None};
+ghost use Rattle.iri_template.specs.Contexts.{value_in};
+ghost use Rattle.iri_template.specs.ExpandedTexts.{expanded_text};
+ghost use Rattle.iri_text.specs.Sink.{KeepsRoom, PutsAll};
+ghost use Rattle.iri_resolve.specs.Resolver.{base_text};
+ghost use Rattle.iri_cli.specs.Limits.{longest_line, answer_room};
+ghost use Rattle.iri_cli.specs.Answer.{refusal};
+ghost use Rattle.iri_cli.specs.CanonAnswers.{PutsLine};
+ghost use Rattle.iri_cli.specs.ExpandAnswers.{expansion_answer, expansion_limit, template_answer, template_refusal};
+ghost use Rattle.iri_cli.specs.declared.answers.AnswerError.TheVariants.{SinkFailed};
+
+use crate::answers::{AnswerError, Answers};
+use crate::canon::{put_answer, told};
+use crate::expand_line::{Said, line_of};
+use crate::puts::put_number;
+use crate::variables::apply;
+use iri_grammar::spec::Spec;
+use iri_resolve::resolver::FixedBaseResolver;
+use iri_template::error::Error;
+use iri_template::expanded::Expanded;
+use iri_template::simple_context::SimpleContext;
+use iri_template::template::UriTemplateStr;
+use iri_text::{CapacityOverflowError, Failed, Sink, write_to_slice};
+use std::alloc::Global;
+
+// Why a template isn't expanded, and an LF.
+fn put_refusal<O: Sink>(sink: &mut O, error: Error) -> Result<(), Failed>
+    ensures { PutsAll (O.written sink.old) (O.written sink.new) (O.faults sink.old) (O.faults sink.new)
+        (O.room_left sink.old) (O.room_left sink.new) result (template_refusal error) }
+{
+    sink.put_all(b"template ")?;
+    sink.put_all(error.kind().description().as_bytes())?;
+    sink.put_all(b" at ")?;
+    put_number(sink, error.location())?;
+    sink.put_all(b"\n")
+}
+
+// Puts the answer to an expansion, and says whether it is good. Two buffers have room for the expansion, and for its answer.
+fn put_expansion<S: Spec, O: Sink>(
+    sink: &mut O,
+    output: &mut [u8],
+    expansion: &mut [u8],
+    resolver: FixedBaseResolver<'_, S>,
+    expanded: &Expanded<'_, S, SimpleContext>,
+) -> Result<bool, AnswerError>
+    requires base { refusal S.tests (base_text resolver) ≡ None }
+    requires short { length (base_text resolver) ≤ longest_line }
+    requires room { length expansion.old ≡ expansion_limit }
+    requires output_room { length output.old ≡ answer_room }
+    ensures puts { PutsLine (O.written sink.old) (O.written sink.new) (O.faults sink.old) (O.faults sink.new)
+        (expansion_answer S.tests (base_text resolver.entry) (expanded_text S.tests value_in expanded.now)) result }
+    ensures room { KeepsRoom (O.room_left sink.old) (O.room_left sink.new)
+        (expansion_answer S.tests (base_text resolver.entry) (expanded_text S.tests value_in expanded.now))
+        (result ≢ Err SinkFailed) }
+{
+    match write_to_slice(expansion, expanded) {
+        Ok(text) => put_answer::<S, O>(sink, output, resolver, text.as_bytes()),
+        Err(CapacityOverflowError) => told(false, sink.put_all(b"bad expansion too long\n")),
+    }
+}
+
+// Puts the answer to a template, and says whether it is good.
+fn put_template<'a, S: Spec, O: Sink>(
+    sink: &mut O,
+    output: &mut [u8],
+    expansion: &mut [u8],
+    resolver: FixedBaseResolver<'_, S>,
+    values: &'a SimpleContext,
+    template: &'a [u8],
+) -> Result<bool, AnswerError>
+    requires base { refusal S.tests (base_text resolver) ≡ None }
+    requires short { length (base_text resolver) ≤ longest_line }
+    requires room { length expansion.old ≡ expansion_limit }
+    requires output_room { length output.old ≡ answer_room }
+    ensures puts { PutsLine (O.written sink.old) (O.written sink.new) (O.faults sink.old) (O.faults sink.new)
+        (template_answer S.tests (base_text resolver.entry) (value_in values.now) template.now) result }
+    ensures room { KeepsRoom (O.room_left sink.old) (O.room_left sink.new)
+        (template_answer S.tests (base_text resolver.entry) (value_in values.now) template.now)
+        (result ≢ Err SinkFailed) }
+{
+    match UriTemplateStr::try_from_bytes(template) {
+        Ok(template) => match template.expand::<S, SimpleContext>(values) {
+            Ok(expanded) => put_expansion(sink, output, expansion, resolver, &expanded),
+            Err(error) => told(false, put_refusal(sink, error)),
+        },
+        Err(error) => told(false, put_refusal(sink, error)),
+    }
+}
+
+/// Keeps the values of variables, and answers each template by the canonical text of its expansion against a base.
+#[derive(Drop)]
+pub struct Expand<'a, S: Spec> {
+    pub(crate) alloc: Global,
+    pub(crate) resolver: FixedBaseResolver<'a, S>,
+    pub(crate) values: SimpleContext,
+    pub(crate) expansion: Vec<u8>,
+    pub(crate) output: Vec<u8>,
+}
+
+impl<'a, S: Spec> Answers for Expand<'a, S> {
+    ghost use Rattle.iri_template.specs.Contexts.{value_in};
+    ghost use Rattle.iri_resolve.specs.Resolver.{base_text};
+    ghost use Rattle.iri_cli.specs.inside.ExpandAt.{IsExpandAt};
+
+    ghost stands_at = { λ e at. IsExpandAt S.tests (base_text e.resolver) e.expansion.items e.output.items
+        (value_in e.values) at };
+
+    fn answer<O: Sink>(&mut self, line: &[u8], sink: &mut O) -> Result<bool, AnswerError> {
+        match line_of(line) {
+            Said::Changes(change) => match apply(self.alloc, &mut self.values, change) {
+                Ok(()) => Ok(true),
+                Err(_) => Err(AnswerError::Memory),
+            },
+            Said::Expands(template) => put_template::<S, O>(
+                sink,
+                &mut self.output,
+                &mut self.expansion,
+                self.resolver,
+                &self.values,
+                template,
+            ),
+            Said::Bad => told(false, sink.put_all(b"bad line\n")),
+        }
+    }
+
+    fn close<O: Sink>(&mut self, _sink: &mut O) -> Result<(), AnswerError> {
+        Ok(())
+    }
+}

@@ -1,0 +1,219 @@
+// The answers of `register`.
+ghost use Rattle.std.specs.Prelude.{◌≡◌, ◌≢◌, ◌≤◌, ◌⊎◌, ℕ, Option, Some, Ok, IfOk, OnOk, [], length};
+ghost use Rattle.iri_grammar.specs.declared.error.ErrorKind.{ErrorKind};
+ghost use Rattle.iri_text.specs.Sink.{PutsAll};
+ghost use Rattle.iri_register.specs.Entries.{Entry, entry_at};
+ghost use Rattle.iri_register.specs.Refusals.{CausedBy};
+ghost use Rattle.iri_cli.specs.Refused.{is_not_bad};
+ghost use Rattle.iri_cli.specs.RegisterAnswers.{answer_to, entry_line, entry_lines, joined, more_numbers, numbered};
+ghost use Rattle.iri_cli.specs.RegisterLines.{command_of};
+ghost use Rattle.iri_cli.specs.inside.Asked.{asked};
+ghost use Rattle.iri_cli.specs.inside.Replies.{IsRefusal, reply_text, obeyed_by};
+
+use crate::answers::{AnswerError, Answers};
+use crate::canon::{put_bad, told};
+use crate::puts::put_number;
+use crate::register_line::{Asked, line_of};
+use iri_grammar::error::ErrorKind;
+use iri_grammar::spec::Spec;
+use iri_register::added::Added;
+use iri_register::error::RegisterError;
+use iri_register::register::Register;
+use iri_text::{Failed, Sink};
+use std::alloc::AllocError;
+
+// What is answered to a line.
+#[derive(Clone, Copy)]
+enum Reply {
+    // The line stands in a new entry at this place.
+    New(usize),
+    // The line stands in the entry at this place.
+    Old(usize),
+    // An entry of so many lines went.
+    Gone(usize),
+    // The entry stands at this place.
+    At(usize),
+    // There is no such entry.
+    NoEntry,
+    // The reference has this fault.
+    BadReference(ErrorKind),
+    // Nothing was asked.
+    BadLine,
+}
+
+// The reply where a register refuses a reference.
+fn refused(error: RegisterError) -> Result<Reply, AllocError>
+    ensures { (fault : Option ErrorKind) → CausedBy error fault → IfOk result (IsRefusal fault) }
+{
+    match error {
+        RegisterError::Bad(error) => Ok(Reply::BadReference(error.kind())),
+        RegisterError::Memory => Err(AllocError),
+    }
+}
+
+// Does what the line of this number asks.
+fn reply_to<S: Spec>(
+    register: &mut Register<S>,
+    line: Asked<'_>,
+    number: u64,
+) -> Result<Reply, AllocError>
+    ensures reply { IfOk result (λ reply. reply_text reply
+        ≡ answer_to S.tests register.old.base register.old.entries (asked line.entry)) }
+    ensures entries { OnOk result (register.new.entries
+        ≡ obeyed_by register.old.entries (command_of S.tests register.old.base number (asked line.entry))) }
+    ensures base { register.new.base ≡ register.old.base }
+{
+    match line {
+        Asked::Adds(reference) => match register.add(reference, number) {
+            Ok(Added::New(place)) => Ok(Reply::New(place)),
+            Ok(Added::Old(place)) => Ok(Reply::Old(place)),
+            Err(error) => refused(error),
+        },
+        Asked::Removes(reference) => match register.remove(reference) {
+            Ok(Some(count)) => Ok(Reply::Gone(count)),
+            Ok(None) => Ok(Reply::NoEntry),
+            Err(error) => refused(error),
+        },
+        Asked::Finds(reference) => match register.find(reference) {
+            Ok(Some(place)) => Ok(Reply::At(place)),
+            Ok(None) => Ok(Reply::NoEntry),
+            Err(error) => refused(error),
+        },
+        Asked::Bad => Ok(Reply::BadLine),
+    }
+}
+
+// Whether a reply lets the run end in status 0.
+fn is_good(reply: Reply) -> bool
+    ensures { result ≡ is_not_bad (reply_text reply) }
+{
+    !matches!(reply, Reply::BadReference(_) | Reply::BadLine)
+}
+
+// Puts words and a number, as a line.
+fn put_numbered<O: Sink>(sink: &mut O, words: &str, number: usize) -> Result<(), Failed>
+    ensures { PutsAll (O.written sink.old) (O.written sink.new) (O.faults sink.old) (O.faults sink.new)
+        (O.room_left sink.old) (O.room_left sink.new) result (numbered words.now number) }
+{
+    sink.put_all(words.as_bytes())?;
+    put_number(sink, number)?;
+    sink.put_all(b"\n")
+}
+
+fn put_reply<O: Sink>(sink: &mut O, reply: Reply) -> Result<(), Failed>
+    ensures { PutsAll (O.written sink.old) (O.written sink.new) (O.faults sink.old) (O.faults sink.new)
+        (O.room_left sink.old) (O.room_left sink.new) result (reply_text reply) }
+{
+    match reply {
+        Reply::New(place) => put_numbered(sink, "new ", place),
+        Reply::Old(place) => put_numbered(sink, "old ", place),
+        Reply::Gone(count) => put_numbered(sink, "gone ", count),
+        Reply::At(place) => put_numbered(sink, "at ", place),
+        Reply::NoEntry => sink.put_all(b"none\n"),
+        Reply::BadReference(kind) => put_bad(sink, kind.description()),
+        Reply::BadLine => sink.put_all(b"bad line\n"),
+    }
+}
+
+// Puts numbers, each behind a comma.
+fn put_more<O: Sink>(sink: &mut O, numbers: &[u64]) -> Result<(), Failed>
+    ensures { PutsAll (O.written sink.old) (O.written sink.new) (O.faults sink.old) (O.faults sink.new)
+        (O.room_left sink.old) (O.room_left sink.new) result (more_numbers numbers.now) }
+{
+    for number in numbers {
+        sink.put_all(b",")?;
+        put_number(sink, *number as usize)?;
+    }
+    Ok(())
+}
+
+// Puts numbers, joined by commas.
+fn put_joined<O: Sink>(sink: &mut O, numbers: &[u64]) -> Result<(), Failed>
+    ensures { PutsAll (O.written sink.old) (O.written sink.new) (O.faults sink.old) (O.faults sink.new)
+        (O.room_left sink.old) (O.room_left sink.new) result (joined numbers.now) }
+{
+    let Some((first, rest)) = numbers.split_first() else {
+        return Ok(());
+    };
+    put_number(sink, *first as usize)?;
+    put_more(sink, rest)
+}
+
+// Puts an entry: its place, the numbers of its lines, its target.
+fn put_entry_line<O: Sink>(
+    sink: &mut O,
+    place: usize,
+    lines: &[u64],
+    target: &str,
+) -> Result<(), Failed>
+    ensures { PutsAll (O.written sink.old) (O.written sink.new) (O.faults sink.old) (O.faults sink.new)
+        (O.room_left sink.old) (O.room_left sink.new) result
+        (entry_line place (record { target = target.now; lines = lines.now })) }
+{
+    put_number(sink, place)?;
+    sink.put_all(b" ")?;
+    put_joined(sink, lines)?;
+    sink.put_all(b" ")?;
+    sink.put_all(target.as_bytes())?;
+    sink.put_all(b"\n")
+}
+
+// Puts the entry at a place.
+fn put_entry<S: Spec, O: Sink>(
+    sink: &mut O,
+    register: &Register<S>,
+    place: usize,
+) -> Result<(), Failed>
+    requires { (e : Entry) × (entry_at register.now.entries place ≡ Some e) }
+    ensures { (e : Entry) → entry_at register.now.entries place ≡ Some e
+        → PutsAll (O.written sink.old) (O.written sink.new) (O.faults sink.old) (O.faults sink.new)
+        (O.room_left sink.old) (O.room_left sink.new) result (entry_line place e) }
+{
+    match (register.lines_at(place), register.target_at(place)) {
+        (Some(lines), Some(target)) => put_entry_line(sink, place, lines, target),
+        _ => unreachable!(),
+    }
+}
+
+// Puts all entries, in order.
+fn put_entries<S: Spec, O: Sink>(sink: &mut O, register: &Register<S>) -> Result<(), Failed>
+    ensures { PutsAll (O.written sink.old) (O.written sink.new) (O.faults sink.old) (O.faults sink.new)
+        (O.room_left sink.old) (O.room_left sink.new) result (entry_lines 1 register.now.entries) }
+{
+    for index in 0..register.len() {
+        put_entry(sink, register, index + 1)?;
+    }
+    Ok(())
+}
+
+/// Answers each line by what it asks of a register of links.
+#[derive(Drop)]
+pub struct Registers<S: Spec> {
+    pub(crate) register: Register<S>,
+    // How many lines behind the base line were answered.
+    pub(crate) answered: u64,
+}
+
+impl<S: Spec> Answers for Registers<S> {
+    ghost use Rattle.iri_cli.specs.inside.RegisterAt.{IsRegisterAt};
+
+    ghost stands_at = { λ r at. IsRegisterAt S.tests r.register r.answered at };
+
+    fn answer<O: Sink>(&mut self, line: &[u8], sink: &mut O) -> Result<bool, AnswerError> {
+        // The base line has number 1.
+        match reply_to(&mut self.register, line_of(line), self.answered + 2) {
+            Ok(reply) => {
+                self.answered += 1;
+                told(is_good(reply), put_reply(sink, reply))
+            }
+            Err(_) => Err(AnswerError::Memory),
+        }
+    }
+
+    fn close<O: Sink>(&mut self, sink: &mut O) -> Result<(), AnswerError> {
+        match put_entries(sink, &self.register) {
+            Ok(()) => Ok(()),
+            Err(Failed) => Err(AnswerError::SinkFailed),
+        }
+    }
+}

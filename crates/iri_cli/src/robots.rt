@@ -1,0 +1,170 @@
+// The answers of `robots`.
+ghost use Rattle.std.specs.Prelude.{◌≡◌, ◌++◌, ◌∷◌, [], None, IfOk, OnOk, string_bytes};
+ghost use Rattle.iri_grammar.specs.Split.{split_of};
+ghost use Rattle.iri_grammar.specs.WholeFault.{iri_fault};
+ghost use Rattle.iri_resolve.specs.NormalForm.{canonical};
+ghost use Rattle.iri_resolve.specs.Resolver.{base_text};
+ghost use Rattle.iri_text.specs.LineEnds.{line_feed};
+ghost use Rattle.iri_text.specs.Sink.{PutsAll};
+ghost use Rattle.iri_types.specs.SplitText.{split_text};
+ghost use Rattle.iri_types.specs.Texts.{text};
+ghost use Rattle.iri_robots.specs.Compared.{subject};
+ghost use Rattle.iri_robots.specs.Decided.{is_allowed};
+ghost use Rattle.iri_robots.specs.Records.{rules_for};
+ghost use Rattle.iri_robots.specs.Stored.{record_texts};
+ghost use Rattle.iri_cli.specs.RobotsAnswers.{answer_to, normal_base, same_site, target_answer, verdict_word};
+ghost use Rattle.iri_cli.specs.RobotsLines.{asks};
+ghost use Rattle.iri_cli.specs.inside.RobotsAt.{PutsReply};
+
+use crate::answers::{AnswerError, Answers};
+use crate::canon::{put_bad, told};
+use crate::robots_line::{Said, line_of};
+use crate::site::is_of_site;
+use iri_grammar::spec::Spec;
+use iri_owned::owned::RiAbsoluteString;
+use iri_resolve::resolver::FixedBaseResolver;
+use iri_robots::{Robots, Verdict, subject_of};
+use iri_text::{Failed, Sink, try_append_to_string};
+use iri_types::kind::Reference;
+use iri_types::split::SplitView;
+use iri_types::view::{RiAbsoluteStr, RiStr};
+use std::alloc::{AllocError, Global};
+
+/// What a crawler knows of a site: the base, as it stands and in normal form, and the rules of a robots file.
+#[derive(Drop)]
+pub struct Site<S: Spec> {
+    pub(crate) alloc: Global,
+    pub(crate) base: RiAbsoluteString<S>,
+    pub(crate) normal: RiAbsoluteString<S>,
+    pub(crate) robots: Robots,
+}
+
+// The word before a target, by a base in normal form.
+fn verdict_word<S: Spec>(
+    alloc: Global,
+    normal: RiAbsoluteStr<'_, S>,
+    robots: &Robots,
+    target: RiStr<'_, S>,
+) -> Result<&'static str, AllocError>
+    ensures { IfOk result (λ word. word.now ≡ verdict_word (same_site (split_of (text normal.entry)) (split_of (text target.entry)))
+        (is_allowed (rules_for (string_bytes robots.now.token) (record_texts robots.now.records.items))
+        (subject (split_of (text target.entry))))) }
+{
+    if !is_of_site(normal, target) {
+        return Ok("other ");
+    }
+    match subject_of(alloc, target) {
+        Ok(subject) => match robots.verdict(subject.as_str()) {
+            Verdict::Allow => Ok("allow "),
+            Verdict::Disallow => Ok("disallow "),
+        },
+        Err(error) => Err(error),
+    }
+}
+
+// Puts a word and a target, as a line.
+fn put_target<O: Sink>(sink: &mut O, word: &str, target: &str) -> Result<(), Failed>
+    ensures { PutsAll (O.written sink.old) (O.written sink.new) (O.faults sink.old) (O.faults sink.new)
+        (O.room_left sink.old) (O.room_left sink.new) result (word.now ++ (target.now ++ line_feed ∷ [])) }
+{
+    sink.put_all(word.as_bytes())?;
+    sink.put_all(target.as_bytes())?;
+    sink.put_all(b"\n")
+}
+
+// Puts the answer to a target.
+fn put_verdict<S: Spec, O: Sink>(
+    sink: &mut O,
+    alloc: Global,
+    normal: RiAbsoluteStr<'_, S>,
+    robots: &Robots,
+    target: RiStr<'_, S>,
+) -> Result<bool, AnswerError>
+    ensures { PutsReply (O.written sink.old) (O.written sink.new) (O.faults sink.old) (O.faults sink.new)
+        (O.room_left sink.old) (O.room_left sink.new) (target_answer (string_bytes robots.now.token) (text normal.entry)
+        (record_texts robots.now.records.items) (text target.entry)) result }
+{
+    match verdict_word(alloc, normal, robots, target) {
+        Ok(word) => told(true, put_target(sink, word, target.as_str())),
+        Err(_) => Err(AnswerError::Memory),
+    }
+}
+
+// Writes the canonical text of a reference in place of what the buffer holds.
+fn write_target<'a, S: Spec>(
+    buffer: &mut String,
+    resolver: &FixedBaseResolver<'a, S>,
+    reference: &SplitView<'a, S, Reference>,
+) -> Result<(), AllocError>
+    ensures text { OnOk result (string_bytes buffer.new
+        ≡ canonical S.tests (base_text resolver.now) (split_text reference.now)) }
+    ensures valid { OnOk result (iri_fault S.tests (string_bytes buffer.new) ≡ None) }
+{
+    buffer.clear();
+    try_append_to_string(buffer, &resolver.resolve_split(reference).and_normalize())
+}
+
+// Puts the answer to a reference, whose canonical text comes into the buffer.
+fn put_answer<S: Spec, O: Sink>(
+    sink: &mut O,
+    site: &Site<S>,
+    buffer: &mut String,
+    reference: &[u8],
+) -> Result<bool, AnswerError>
+    requires { site.now.normal.text ≡ normal_base S.tests site.now.base.text }
+    ensures { PutsReply (O.written sink.old) (O.written sink.new) (O.faults sink.old) (O.faults sink.new)
+        (O.room_left sink.old) (O.room_left sink.new) (answer_to S.tests (string_bytes site.now.robots.token)
+        site.now.base.text (record_texts site.now.robots.records.items) (asks reference.now)) result }
+{
+    match SplitView::<S, Reference>::try_from_bytes(reference) {
+        Ok(reference) => {
+            let resolver = FixedBaseResolver::new(site.base.as_slice());
+            match write_target(buffer, &resolver, &reference) {
+                Ok(()) => {
+                    let target = RiStr::<S>::from_valid(buffer);
+                    put_verdict(
+                        sink,
+                        site.alloc,
+                        site.normal.as_slice(),
+                        &site.robots,
+                        target,
+                    )
+                }
+                Err(_) => Err(AnswerError::Memory),
+            }
+        }
+        Err(error) => told(false, put_bad(sink, error.kind().description())),
+    }
+}
+
+/// Answers each line by the rules of a robots file for one crawler.
+#[derive(Drop)]
+pub struct Crawls<S: Spec> {
+    pub(crate) site: Site<S>,
+    // The canonical text of the last reference.
+    pub(crate) target: String,
+}
+
+impl<S: Spec> Answers for Crawls<S> {
+    ghost use Rattle.std.specs.Prelude.{string_bytes};
+    ghost use Rattle.iri_robots.specs.Stored.{record_texts};
+    ghost use Rattle.iri_cli.specs.inside.RobotsAt.{IsRobotsAt};
+
+    ghost stands_at = { λ c at. IsRobotsAt S.tests (string_bytes c.site.robots.token) c.site.base.text c.site.normal.text
+        (record_texts c.site.robots.records.items) at };
+
+    fn answer<O: Sink>(&mut self, line: &[u8], sink: &mut O) -> Result<bool, AnswerError> {
+        match line_of(line) {
+            Said::Feeds(line) => match self.site.robots.feed_line(line) {
+                Ok(()) => Ok(true),
+                Err(_) => Err(AnswerError::Memory),
+            },
+            Said::Asks(reference) => put_answer(sink, &self.site, &mut self.target, reference),
+            Said::Bad => told(false, sink.put_all(b"bad line\n")),
+        }
+    }
+
+    fn close<O: Sink>(&mut self, _sink: &mut O) -> Result<(), AnswerError> {
+        Ok(())
+    }
+}
