@@ -1,0 +1,59 @@
+-- Parts and their delimiters together have as many bytes as their text.
+use Rattle.std.proofs.Common.{◌≡◌, ◌++◌, ◌∷◌, [], ℕ, List, length, refl, ap, ◌∙◌, arith, length-append, Option, Some, None}
+use Rattle.iri_grammar.specs.Authority.{AuthorityParts, authority_parts, recompose_authority, userinfo_text}
+use Rattle.iri_grammar.specs.Characters.{at_sign, colon, number_sign, question_mark}
+use Rattle.iri_grammar.specs.Cut.{marked}
+use Rattle.iri_grammar.specs.Parts.{Parts, recompose, scheme_text, authority_text}
+use Rattle.iri_grammar.specs.Split.{split_of}
+use Rattle.iri_grammar.proofs.AuthorityLaws.{authority_recomposed}
+use Rattle.iri_grammar.proofs.SplitLaws.{recompose_split}
+use Rattle.iri_c.specs.Slots.{width, total, authority_total}
+
+behind-mark : (c : ℕ) (o : Option (List ℕ)) → width 1 o ≡ length (marked c o)
+behind-mark c None = refl
+behind-mark c (Some x) = omega arith
+
+of-scheme : (o : Option (List ℕ)) → width 1 o ≡ length (scheme_text o)
+of-scheme None = refl
+of-scheme (Some x) = omega (arith, length-append x (colon ∷ []))
+
+of-userinfo : (o : Option (List ℕ)) → width 1 o ≡ length (userinfo_text o)
+of-userinfo None = refl
+of-userinfo (Some x) = omega (arith, length-append x (at_sign ∷ []))
+
+of-authority : (o : Option (List ℕ)) → width 2 o ≡ length (authority_text o)
+of-authority None = refl
+of-authority (Some x) = omega arith
+
+total-recompose : (p : Parts) → total p ≡ length (recompose p)
+unfolding recompose
+total-recompose p =
+    let tail = marked question_mark p.query ++ marked number_sign p.fragment in
+    omega (
+      arith,
+      of-scheme p.scheme,
+      of-authority p.authority,
+      behind-mark question_mark p.query,
+      behind-mark number_sign p.fragment,
+      length-append (scheme_text p.scheme) (authority_text p.authority ++ (p.path ++ tail)),
+      length-append (authority_text p.authority) (p.path ++ tail),
+      length-append p.path tail,
+      length-append (marked question_mark p.query) (marked number_sign p.fragment),
+    )
+
+authority_total-recompose : (a : AuthorityParts) → authority_total a ≡ length (recompose_authority a)
+unfolding recompose_authority
+authority_total-recompose a =
+    omega (
+      arith,
+      of-userinfo a.userinfo,
+      behind-mark colon a.port,
+      length-append (userinfo_text a.userinfo) (a.host ++ marked colon a.port),
+      length-append a.host (marked colon a.port),
+    )
+
+pub total_split : (t : List ℕ) → total (split_of t) ≡ length t
+total_split t = total-recompose (split_of t) ∙ ap length (recompose_split t)
+
+pub authority_total_parts : (t : List ℕ) → authority_total (authority_parts t) ≡ length t
+authority_total_parts t = authority_total-recompose (authority_parts t) ∙ ap length (authority_recomposed t)

@@ -1,0 +1,24 @@
+//! The library for C and for what calls C: canonical texts, tests, splits and mappings over slices, which cross as a pointer and a
+//! length. `include/irikit.h` has the declarations and the numbers. Nothing here takes memory or keeps anything.
+//!
+//! Proved: each call answers by its outcome (`Answered`), which is a function of what is passed: an unknown number, the first fault
+//! and whose it is, or a text. A text is written over the front of the caller's buffer as far as there is room, what lies behind it
+//! stays, and its whole length is told; the status says whether it had room. The texts, tests and splits are those of the crates below.
+//!
+//! Not proved: that a caller in C passes what the header asks for.
+#![tactic(auto)]
+
+mod buffer;
+mod canonical;
+mod fault;
+mod grammar;
+mod mapping;
+mod normal;
+mod parts;
+mod status;
+mod validation;
+
+pub use parts::{AuthoritySlots, Slot, Slots};
+
+#[cfg(test)]
+mod tests;

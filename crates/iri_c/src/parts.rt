@@ -1,0 +1,168 @@
+// The split of a reference, by offsets (RFC 3986 sections 3 and 3.2).
+ghost use Rattle.std.specs.Prelude.{◌≡◌, ◌<◌, ◌+◌, ◌^◌};
+ghost use Rattle.iri_grammar.specs.Authority.{authority_parts};
+ghost use Rattle.iri_grammar.specs.OptionalSlices.{now_of};
+ghost use Rattle.iri_grammar.specs.Split.{split_of};
+ghost use Rattle.iri_grammar.specs.Splitters.{parts};
+ghost use Rattle.iri_types.specs.ComponentsText.{authority};
+ghost use Rattle.iri_types.specs.SplitText.{split_text};
+ghost use Rattle.iri_c.specs.Slots.{SplitToldIn, SplitTold, place, slots_in, width, total, authority_total};
+ghost use Rattle.iri_c.specs.Slots.{authority_slots, slots_of, within_authority};
+
+use crate::fault::{answer, answer_fault};
+use crate::grammar::{IRI, URI};
+use crate::status::{BAD_TEXT, OK, UNKNOWN};
+use iri_grammar::spec::{IriSpec, Spec, UriSpec};
+use iri_grammar::splitter::Splitter;
+use iri_types::authority::AuthorityComponents;
+use iri_types::kind::Reference;
+use iri_types::split::SplitView;
+
+/// Where a part stands in its text, in bytes. A part that doesn't stand has the offset 2^64 - 1 and the length 0.
+#[repr(C)]
+#[derive(Clone, Copy)]
+pub struct Slot {
+    pub offset: usize,
+    pub len: usize,
+}
+
+/// Where the parts of an authority stand.
+#[repr(C)]
+#[derive(Clone, Copy)]
+pub struct AuthoritySlots {
+    pub userinfo: Slot,
+    pub host: Slot,
+    pub port: Slot,
+}
+
+/// Where the parts of a reference stand, and those of its authority.
+#[repr(C)]
+#[derive(Clone, Copy)]
+pub struct Slots {
+    pub scheme: Slot,
+    pub authority: Slot,
+    pub path: Slot,
+    pub query: Slot,
+    pub fragment: Slot,
+    pub within: AuthoritySlots,
+}
+
+// Where no part stands.
+const NOWHERE: Slot = Slot {
+    offset: usize::MAX,
+    len: 0,
+};
+
+// Where no authority stands.
+const NO_AUTHORITY: AuthoritySlots = AuthoritySlots {
+    userinfo: NOWHERE,
+    host: NOWHERE,
+    port: NOWHERE,
+};
+
+// How many bytes a part has together with so many bytes of delimiters.
+fn width(marks: usize, part: Option<&str>) -> usize
+    requires { width marks (now_of part) < 2 ^ 64 }
+    ensures { result ≡ width marks (now_of part.entry) }
+{
+    match part {
+        Some(part) => part.len() + marks,
+        None => 0,
+    }
+}
+
+// Where a part stands that begins so many bytes of delimiters behind this offset.
+fn place(offset: usize, marks: usize, part: Option<&str>) -> Slot
+    requires { offset + width marks (now_of part) < 2 ^ 64 }
+    ensures { result ≡ place offset marks (now_of part.entry) }
+{
+    match part {
+        Some(part) => Slot {
+            offset: offset + marks,
+            len: part.len(),
+        },
+        None => NOWHERE,
+    }
+}
+
+// Where the parts of an authority stand that begins at this offset.
+fn authority_slots(offset: usize, a: &AuthorityComponents<'_>) -> AuthoritySlots
+    requires { offset + authority_total (authority_parts (authority a.now)) < 2 ^ 64 }
+    ensures { result ≡ authority_slots offset (authority_parts (authority a.now)) }
+{
+    let userinfo = a.userinfo();
+    let host = a.host();
+    let host_at = offset + width(1, userinfo);
+    AuthoritySlots {
+        userinfo: place(offset, 0, userinfo),
+        host: place(host_at, 0, Some(host)),
+        port: place(host_at + host.len(), 1, a.port()),
+    }
+}
+
+// Where the five parts stand; those of the authority are given.
+fn five_slots(p: &Splitter<'_>, within: AuthoritySlots) -> Slots
+    requires { total (parts p.now) < 2 ^ 64 }
+    ensures { result ≡ slots_in (parts p.now) within }
+{
+    let scheme_end = width(1, p.scheme());
+    let path_at = scheme_end + width(2, p.authority());
+    let path_end = path_at + p.path().len();
+    let query_end = path_end + width(1, p.query());
+    Slots {
+        scheme: place(0, 0, p.scheme()),
+        authority: place(scheme_end, 2, p.authority()),
+        path: place(path_at, 0, Some(p.path())),
+        query: place(path_end, 1, p.query()),
+        fragment: place(query_end, 1, p.fragment()),
+        within,
+    }
+}
+
+// Where the parts of the authority stand whose slashes begin at this offset.
+fn within_authority<S: Spec>(offset: usize, view: &SplitView<'_, S, Reference>) -> AuthoritySlots
+    requires { offset + width 2 (split_of (split_text view.now)).authority < 2 ^ 64 }
+    ensures { result ≡ within_authority offset (split_of (split_text view.now)).authority }
+{
+    match view.view().authority_components() {
+        Some(a) => authority_slots(offset + 2, &a),
+        None => NO_AUTHORITY,
+    }
+}
+
+// Where the parts of a reference stand.
+fn slots_of<S: Spec>(view: &SplitView<'_, S, Reference>) -> Slots
+    requires { total (split_of (split_text view.now)) < 2 ^ 64 }
+    ensures { result ≡ slots_of (split_of (split_text view.now)) }
+{
+    let p = view.parts();
+    let scheme_end = width(1, p.scheme());
+    five_slots(p, within_authority(scheme_end, view))
+}
+
+// The split in one grammar.
+fn split_in<S: Spec>(text: &[u8], parts: &mut Slots, told: &mut usize) -> u8
+    ensures { SplitToldIn text.now parts.old parts.new told.new result S.tests }
+{
+    match SplitView::<S, Reference>::try_from_bytes(text) {
+        Ok(view) => {
+            // The proof takes from this that the length of a slice fits a `usize`.
+            let _len = text.len();
+            *parts = slots_of(&view);
+            answer(OK, told)
+        }
+        Err(error) => answer_fault(BAD_TEXT, error.kind(), told),
+    }
+}
+
+/// The split of a reference.
+#[unsafe(no_mangle)]
+pub extern "C" fn irikit_split(grammar: u8, text: &[u8], parts: &mut Slots, told: &mut usize) -> u8
+    ensures { SplitTold grammar text.now parts.old parts.new told.new result }
+{
+    match grammar {
+        URI => split_in::<UriSpec>(text, parts, told),
+        IRI => split_in::<IriSpec>(text, parts, told),
+        _ => answer(UNKNOWN, told),
+    }
+}

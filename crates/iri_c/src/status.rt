@@ -1,0 +1,22 @@
+// What the calls return.
+
+/// Done.
+pub const OK: u8 = 0;
+
+/// The text has more bytes than the buffer.
+pub const SHORT: u8 = 1;
+
+/// The text isn't its own normal form.
+pub const NOT_NORMAL: u8 = 2;
+
+/// The text is refused.
+pub const BAD_TEXT: u8 = 3;
+
+/// The base is refused.
+pub const BAD_BASE: u8 = 4;
+
+/// The base is valid, and the reference is refused.
+pub const BAD_REFERENCE: u8 = 5;
+
+/// A number that stands for a grammar, a mode, a kind of text or a kind of fault stands for none.
+pub const UNKNOWN: u8 = 6;

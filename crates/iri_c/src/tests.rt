@@ -1,0 +1,146 @@
+// What the calls answer: rows of the RFCs, room for each length, and unknown numbers.
+use crate::canonical::irikit_canonical;
+use crate::fault::irikit_fault_words;
+use crate::mapping::irikit_map_to_uri;
+use crate::normal::irikit_is_normalized;
+use crate::parts::{AuthoritySlots, Slot, Slots, irikit_split};
+use crate::validation::irikit_validate;
+
+const HERE: Slot = Slot { offset: 0, len: 0 };
+
+fn empty_slots() -> Slots {
+    Slots {
+        scheme: HERE,
+        authority: HERE,
+        path: HERE,
+        query: HERE,
+        fragment: HERE,
+        within: AuthoritySlots {
+            userinfo: HERE,
+            host: HERE,
+            port: HERE,
+        },
+    }
+}
+
+fn is_slot(slot: Slot, offset: usize, len: usize) -> bool {
+    slot.offset == offset && slot.len == len
+}
+
+#[test]
+fn canonical_texts(rt: HostRuntime) {
+    let base = b"http://a/b/c/d;p?q";
+    let mut out = [b'.'; 32];
+    let mut told = 9;
+    assert!(rt; irikit_canonical(0, 0, base, b"../g", &mut out, &mut told) == 0);
+    assert!(rt; told == 12 && out.starts_with(b"http://a/b/g...."));
+    assert!(rt; irikit_canonical(1, 0, base, "\u{e9}".as_bytes(), &mut out, &mut told) == 0);
+    assert!(rt; told == 15 && out.starts_with("http://a/b/c/\u{e9}.".as_bytes()));
+    assert!(rt; irikit_canonical(0, 0, base, "\u{e9}".as_bytes(), &mut out, &mut told) == 5);
+    assert!(rt; told == 5);
+    assert!(rt; irikit_canonical(0, 0, b"a", b"%", &mut out, &mut told) == 4);
+    assert!(rt; told == 9);
+    assert!(rt; irikit_canonical(2, 0, base, b"", &mut out, &mut told) == 6);
+    assert!(rt; irikit_canonical(0, 1, base, b"", &mut out, &mut told) == 6);
+    assert!(rt; told == 0);
+}
+
+// A buffer of each size: the front of the text, its whole length, and what lies behind the buffer's front stays.
+#[test]
+fn room_for_each_length(rt: HostRuntime) {
+    let text = b"http://a/b/g";
+    for size in 0..16usize {
+        let mut out = [b'.'; 16];
+        let mut told = 0;
+        let room = &mut out[..size];
+        let status = irikit_canonical(0, 0, b"http://a/b/c/d;p?q", b"../g", room, &mut told);
+        assert!(rt; status == if size < 12 { 1 } else { 0 });
+        assert!(rt; told == 12);
+        let front = size.min(12);
+        assert!(rt; out.starts_with(&text[..front]) && out[front..].iter().all(|b| *b == b'.'));
+    }
+}
+
+#[test]
+fn kinds_of_texts(rt: HostRuntime) {
+    let mut told = 0;
+    let rows: [(u8, &[u8], u8, usize); 8] = [
+        (0, b"a/b", 0, 0),
+        (1, b"a/b", 3, 9),
+        (1, b"a:b#c", 0, 0),
+        (2, b"a:b#c", 3, 8),
+        (2, b"a:b?c", 0, 0),
+        (3, b"//[", 3, 2),
+        (3, b"/a?b#c", 0, 0),
+        (4, b"a", 6, 0),
+    ];
+    for (kind, text, status, fault) in rows {
+        assert!(rt; irikit_validate(0, kind, text, &mut told) == status);
+        assert!(rt; told == fault);
+    }
+    assert!(rt; irikit_validate(1, 0, b"\xff", &mut told) == 3 && told == 10);
+    assert!(rt; irikit_validate(2, 0, b"a", &mut told) == 6);
+}
+
+// The example of RFC 3986 section 3, and parts that don't stand or are empty.
+#[test]
+fn parts_of_references(rt: HostRuntime) {
+    let none = usize::MAX;
+    let mut told = 9;
+    let mut p = empty_slots();
+    let text = b"foo://u@example.com:8042/over/there?name=ferret#nose";
+    assert!(rt; irikit_split(0, text, &mut p, &mut told) == 0 && told == 0);
+    assert!(rt; is_slot(p.scheme, 0, 3) && is_slot(p.authority, 6, 18) && is_slot(p.path, 24, 11));
+    assert!(rt; is_slot(p.query, 36, 11) && is_slot(p.fragment, 48, 4));
+    assert!(rt;
+        is_slot(p.within.userinfo, 6, 1)
+            && is_slot(p.within.host, 8, 11)
+            && is_slot(p.within.port, 20, 4)
+    );
+    assert!(rt; irikit_split(1, b"//h:?#", &mut p, &mut told) == 0);
+    assert!(rt; is_slot(p.scheme, none, 0) && is_slot(p.authority, 2, 2) && is_slot(p.path, 4, 0));
+    assert!(rt; is_slot(p.query, 5, 0) && is_slot(p.fragment, 6, 0));
+    assert!(rt;
+        is_slot(p.within.userinfo, none, 0)
+            && is_slot(p.within.host, 2, 1)
+            && is_slot(p.within.port, 4, 0)
+    );
+    assert!(rt; irikit_split(1, b"", &mut p, &mut told) == 0);
+    assert!(rt;
+        is_slot(p.authority, none, 0) && is_slot(p.path, 0, 0) && is_slot(p.within.host, none, 0)
+    );
+    assert!(rt; irikit_split(1, b"%", &mut p, &mut told) == 3 && told == 5);
+    assert!(rt; irikit_split(2, b"", &mut p, &mut told) == 6);
+}
+
+#[test]
+fn normal_forms(rt: HostRuntime) {
+    let mut told = 9;
+    assert!(rt; irikit_is_normalized(0, 0, b"http://a/%2F", &mut told) == 0 && told == 0);
+    assert!(rt; irikit_is_normalized(0, 0, b"http://a/%2f", &mut told) == 2 && told == 0);
+    assert!(rt; irikit_is_normalized(1, 0, b"http://a/%C3%A9", &mut told) == 2);
+    assert!(rt; irikit_is_normalized(0, 0, b"a", &mut told) == 3 && told == 9);
+    assert!(rt; irikit_is_normalized(0, 1, b"a:", &mut told) == 6);
+    assert!(rt; irikit_is_normalized(2, 0, b"a:", &mut told) == 6);
+}
+
+// The example of RFC 3987 section 3.1.
+#[test]
+fn mapped_texts(rt: HostRuntime) {
+    let mut told = 0;
+    let mut out = [0; 64];
+    let text = "http://www.example.org/red%09ros\u{e9}#red".as_bytes();
+    assert!(rt; irikit_map_to_uri(text, &mut out, &mut told) == 0 && told == 42);
+    assert!(rt; out.starts_with(b"http://www.example.org/red%09ros%C3%A9#red\0"));
+    assert!(rt; irikit_map_to_uri(b" ", &mut out, &mut told) == 3 && told == 5);
+}
+
+#[test]
+fn words_of_faults(rt: HostRuntime) {
+    let mut told = 0;
+    let mut out = [0; 64];
+    assert!(rt; irikit_fault_words(5, &mut out, &mut told) == 0 && told == 12);
+    assert!(rt; out.starts_with(b"invalid path\0"));
+    assert!(rt; irikit_fault_words(10, &mut [], &mut told) == 1 && told == 19);
+    assert!(rt; irikit_fault_words(11, &mut out, &mut told) == 6 && told == 0);
+}
