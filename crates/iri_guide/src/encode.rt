@@ -1,0 +1,10 @@
+//! A value is put into a link.
+
+use iri_percent::PercentEncodedForUri;
+use std::alloc::{AllocError, Global};
+
+/// The address of a search for any words.
+pub fn search(alloc: Global, words: &str) -> Result<String, AllocError> {
+    let words = PercentEncodedForUri::unreserve(words);
+    format!(in alloc; "https://example.com/search?q={words}")
+}

@@ -1,0 +1,11 @@
+//! A password is masked.
+
+use iri_edit::password::MaskPassword;
+use iri_types::view::UriReferenceStr;
+use std::alloc::{AllocError, Global};
+
+/// A link as a log may have it.
+pub fn logged(alloc: Global, link: UriReferenceStr<'_>) -> Result<String, AllocError> {
+    let masked = link.mask_password();
+    format!(in alloc; "fetching {masked}")
+}

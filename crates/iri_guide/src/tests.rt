@@ -1,0 +1,88 @@
+use crate::{check, compare, encode, expand, host, map, mask, normalize, parts, resolve};
+use iri_grammar::error::ErrorKind;
+use iri_owned::owned::UriString;
+use iri_types::view::{IriStr, UriAbsoluteStr, UriReferenceStr, UriStr};
+use std::test::Fail;
+
+#[test]
+fn a_text_is_checked(rt: HostRuntime) {
+    assert_eq!(rt; check::fault_of(b"//[2001:db8::7]/c"), None);
+    assert_eq!(rt;
+        check::fault_of(b"//[1::2::3]"),
+        Some(ErrorKind::InvalidHost)
+    );
+}
+
+#[test]
+fn a_text_is_taken_apart(rt: HostRuntime) -> Result<(), Fail> {
+    let link = IriStr::new("ftp://u@\u{e9}x.example:21/a?q#f")?;
+    let (host, port) = parts::host_and_port(link).ok_or("an authority")?;
+    assert_eq!(rt; host, "\u{e9}x.example");
+    assert_eq!(rt; port, Some("21"));
+    Ok(())
+}
+
+#[test]
+fn a_link_is_resolved(rt: HostRuntime) -> Result<(), Fail> {
+    let page = UriAbsoluteStr::new("http://a/b/c/d;p?q")?;
+    let target = resolve::target(rt.alloc(), page, UriReferenceStr::new("../g?y#s")?)?;
+    assert_eq!(rt; target.as_str(), "http://a/b/g?y#s");
+    Ok(())
+}
+
+#[test]
+fn a_text_is_normalized(rt: HostRuntime) -> Result<(), Fail> {
+    let link = UriStr::new("eXAMPLE://a/./b/../b/%63/%7bfoo%7d")?;
+    let normal = normalize::normal(rt.alloc(), link)?;
+    assert_eq!(rt; normal.as_str(), "example://a/b/c/%7Bfoo%7D");
+    Ok(())
+}
+
+#[test]
+fn links_are_compared(rt: HostRuntime) -> Result<(), Fail> {
+    let page = b"http://example.com/docs/";
+    assert!(rt; compare::are_one(rt.alloc(), page, b"%7Ebob", b"/docs/./~bob")?);
+    assert!(rt; !compare::are_one(rt.alloc(), page, b"a", b"/a")?);
+    Ok(())
+}
+
+#[test]
+fn a_value_is_encoded(rt: HostRuntime) -> Result<(), Fail> {
+    let address = encode::search(rt.alloc(), "a&b=50%")?;
+    assert_eq!(rt;
+        address.as_str(),
+        "https://example.com/search?q=a%26b%3D50%25"
+    );
+    Ok(())
+}
+
+#[test]
+fn an_iri_is_mapped(rt: HostRuntime) -> Result<(), Fail> {
+    let uri = map::uri_of(rt.alloc(), IriStr::new("http://example.com/caf\u{e9}")?)?;
+    assert_eq!(rt; uri.as_str(), "http://example.com/caf%C3%A9");
+    Ok(())
+}
+
+#[test]
+fn a_host_is_changed(rt: HostRuntime) -> Result<(), Fail> {
+    let mut link = UriString::try_from_str(rt.alloc(), "http://u@old.example:8080/a")?;
+    assert!(rt; host::lead_to(&mut link, "[::1]")?);
+    assert_eq!(rt; link.as_str(), "http://u@[::1]:8080/a");
+    assert!(rt; !host::lead_to(&mut link, "a/b")?);
+    Ok(())
+}
+
+#[test]
+fn a_password_is_masked(rt: HostRuntime) -> Result<(), Fail> {
+    let line = mask::logged(rt.alloc(), UriReferenceStr::new("//u:p:q@h/")?)?;
+    assert_eq!(rt; line.as_str(), "fetching //u:@h/");
+    Ok(())
+}
+
+#[test]
+fn a_template_is_expanded(rt: HostRuntime) -> Result<(), Fail> {
+    let words = String::from_str(rt.alloc(), "Hello World!")?;
+    let address = expand::search(rt.alloc(), words).ok_or("memory")?;
+    assert_eq!(rt; address.as_str(), "/search?q=Hello%20World%21");
+    Ok(())
+}
