@@ -21,8 +21,11 @@
 //! A text is told to be in normal form exactly where it is, without memory. Steps keep parts valid, keep their normal form, and
 //! change something; those to the normal form replay to it; two targets are joined exactly where their canonical texts are equal.
 //!
-//! Not proved: that memory is allocated, which tests show; the words of `Display` of `CanonError` and `ReplayError`, which `thiserror`
-//! makes; any bound on time. A path is written from its end, in O(n log n) looks at its bytes.
+//! Not proved: that memory is allocated, so that a call that always answered `Memory` would keep its contract, `replay` among them;
+//! tests show that each succeeds with ample memory. The words of `Display` of `CanonError` and `ReplayError`, which `thiserror`
+//! makes. Any bound on time: a path is written from its end, in O(n log n) looks at its bytes, and a resolver tells once whether the
+//! scheme and the authority of its base are in normal form, so as to write them as they stand; one that told it of no base would write
+//! the same texts more slowly. Which of two equal texts a law hands back (`mapping_laws::canonicalize_commutes_with_mapping`).
 #![tactic(auto)]
 
 mod after_step;
