@@ -19,9 +19,9 @@ pub mod UnitShows
 pub mod Telling
 pub mod VarSpecWalk
 pub mod PartWalk
-pub mod PlainChars
 pub mod WriterShows
 pub mod ThroughEach
+pub mod UnitRuns
 pub mod CheckedTelling
 pub mod WriterEnds
 pub mod PortionWalk

@@ -8,6 +8,7 @@ pub mod Lengths
 pub mod Members
 pub mod PartEnds
 pub mod Parts
+pub mod Pieces
 pub mod TypeHears
 pub mod UnitSteps
 pub mod UnitText

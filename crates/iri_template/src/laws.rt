@@ -6,6 +6,7 @@ ghost use Rattle.std.specs.Hash as fed;
 ghost use Rattle.std.specs.Str.{IsUtf8};
 ghost use Rattle.iri_percent.specs.CharUnits.{char_units};
 ghost use Rattle.iri_grammar.specs.Classes.{Tests};
+ghost use Rattle.iri_template.specs.Writings.{HasCause};
 ghost use Rattle.iri_template.specs.Expansion.{text_units, expansion};
 ghost use Rattle.iri_template.specs.Portions.{portions, portions_fault, portions_text};
 ghost use Rattle.iri_template.specs.ShownValues.{ShownValue};
@@ -72,11 +73,12 @@ pub fn expanded_as_fixed<S: Spec, W: TextSink, C: Context>(
     writer: &mut W,
     context: &C,
 ) -> Result<(), Error>
-    ensures { MatchResult result
+    ensures same { MatchResult result
         (λ _. (type_fault (C.value_of context.now) (pieces_of (text template.entry)) ≡ None)
         × W.puts writer.old (expansion S.tests (C.value_of context.now) (pieces_of (text template.entry))) writer.new)
         (λ e. e.kind ≡ UnexpectedValueType
         → type_fault (C.value_of context.now) (pieces_of (text template.entry)) ≡ Some e) }
+    ensures cause { HasCause (W.stops writer.old) (W.stops writer.new) result }
 {
     let mut fixed = Fixed::new(context);
     template.expand_dynamic::<S, W, Fixed<'_, C>>(writer, &mut fixed)

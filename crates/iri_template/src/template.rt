@@ -3,7 +3,7 @@ ghost use Rattle.std.specs.Prelude.{◌≡◌, ◌≤◌, ◌==◌, ◌+◌, ◌
 ghost use Rattle.iri_template.specs.Fault.{Answers, text_fault, template_fault};
 ghost use Rattle.iri_template.specs.Portions.{portions};
 ghost use Rattle.iri_template.specs.Reading.{pieces_of};
-ghost use Rattle.iri_template.specs.Tells.{WhereTold, MovesBy, Raises, later};
+ghost use Rattle.iri_template.specs.Tells.{WhereTold, MovesBy, Raises, EndsOnce, later};
 ghost use Rattle.iri_template.specs.Template.{names_of};
 ghost use Rattle.iri_template.specs.TypeFaults.{type_fault};
 ghost use Rattle.iri_template.specs.Variables.{names_left};
@@ -41,6 +41,19 @@ pub(crate) fn validate(s: &str) -> Result<(), Error>
         }
     }
     Ok(())
+}
+
+/// Ends an expansion that came out like this.
+fn end_expansion<C: DynamicContext>(
+    context: &mut C,
+    outcome: Result<(), Error>,
+) -> Result<(), Error>
+    ensures same { result ≡ outcome }
+    ensures end { EndsOnce (C.tells context.old) (C.tells context.new) (C.starts context.old) (C.starts context.new)
+        (C.ends context.old) (C.ends context.new) }
+{
+    context.on_expansion_end();
+    outcome
 }
 
 /// A URI template, borrowed (RFC 6570 section 2). It is as small as a `&str`. Templates are equal, ordered and hashed
@@ -166,8 +179,7 @@ impl<'a> UriTemplateStr<'a> {
     {
         context.on_expansion_start();
         let result = write_template::<C, S, W>(writer, context, self.text);
-        context.on_expansion_end();
-        result
+        end_expansion(context, result)
     }
 
     /// That expansion as a string. `UnexpectedValueType` comes as there; `Memory` comes where allocation failed, with the

@@ -1,10 +1,13 @@
 //! Texts in which triplets and reserved characters are kept (RFC 6570 section 3.2.1), in whatever pieces they come.
-ghost use Rattle.std.specs.Prelude.{◌≡◌, ◌≤◌, ◌<◌, ◌∷◌, [], ◌||◌, ◌==◌, true, cond, length, OnOk, OnErr};
+ghost use Rattle.std.specs.Prelude.{◌≡◌, ◌≤◌, ◌<◌, ◌∷◌, ◌++◌, [], ◌||◌, ◌==◌, true, cond, length, None, OnOk, OnErr};
+ghost use Rattle.std.specs.Prelude.{MatchOption};
+ghost use Rattle.std.specs.Bool.{OnTrue};
 ghost use Rattle.std.specs.Str.{chars};
 ghost use Rattle.iri_text.specs.Shown.{Shows};
 ghost use Rattle.iri_text.specs.inside.Through.{after, texts};
 ghost use Rattle.iri_percent.specs.Units.{Plain, units};
 ghost use Rattle.iri_template.specs.Expansion.{text_units};
+ghost use Rattle.iri_template.specs.inside.Pieces.{IsCut};
 ghost use Rattle.iri_template.specs.inside.UnitSteps.{is_part, told_units, left_over, fewer, step_units, step_held};
 ghost use Rattle.iri_template.specs.inside.UnitSteps.{unit_step, unit_step_text, written_units};
 ghost use Rattle.iri_template.specs.inside.UnitViews.{unit_as, is_used_up};
@@ -12,6 +15,7 @@ ghost use Rattle.iri_template.specs.inside.UnitViews.{unit_as, is_used_up};
 use crate::front_unit::front_unit;
 use crate::held::Held;
 use crate::unit_sink::UnitSink;
+use iri_grammar::cutting::{cut_before, lacks};
 use iri_grammar::spec::Spec;
 use iri_percent::PercentEncoded;
 use iri_text::{Show, Stop, TextSink};
@@ -168,6 +172,84 @@ fn put_chars<S: Spec, W: TextSink>(
     Ok(())
 }
 
+/// Whether a text without `%` is written whole, each of its characters a unit.
+fn is_plain(held: &Held, left: Option<u16>) -> bool
+    ensures { OnTrue result ((held.now ≡ []) × (left ≡ None)) }
+{
+    held.as_bytes().is_empty() && left.is_none()
+}
+
+/// The first character, and what follows.
+fn cut_char(text: &str) -> Option<(&str, &str)>
+    ensures { MatchOption result (length text.now ≡ 0) (λ p. IsCut text.now p.0.now p.1.now) }
+{
+    let mut chars = text.chars();
+    match chars.next() {
+        Some(_) => {
+            let rest = chars.as_str();
+            Some((&text[..text.len() - rest.len()], rest))
+        }
+        None => None,
+    }
+}
+
+/// What is written next, and what follows: a character, and in a plain state the run in front of the next `%`.
+fn next_piece(text: &str, plain: bool) -> Option<(&str, &str)>
+    ensures { MatchOption result (length text.now ≡ 0) (λ p. IsCut text.now p.0.now p.1.now) }
+{
+    if plain {
+        let (run, rest) = cut_before(text, b'%');
+        if !run.is_empty() {
+            return Some((run, rest));
+        }
+    }
+    cut_char(text)
+}
+
+fn put_piece<S: Spec, W: TextSink>(
+    sink: &mut W,
+    held: &mut Held,
+    left: &mut Option<u16>,
+    piece: &str,
+) -> Result<(), Stop>
+    requires { length held.old ≤ 11 }
+    ensures shows { Shows W.puts W.halts W.stops sink.old
+        (texts unit_step (unit_step_text S.tests) (record { held = held.old; left = left.old })
+        (chars piece.now)) sink.new result }
+    ensures state { OnOk result (record { held = held.new; left = left.new }
+        ≡ after unit_step (unit_step_text S.tests) (record { held = held.old; left = left.old }) (chars piece.now)) }
+    ensures short { length held.new ≤ 11 }
+{
+    if is_plain(held, *left) && lacks(piece, b'%') {
+        put_as::<S, W>(sink, piece, false)
+    } else {
+        put_chars::<S, W>(sink, held, left, piece)
+    }
+}
+
+/// Writes what a text settles: runs without `%` as one, as long as nothing is held and all units are written.
+fn put_text<S: Spec, W: TextSink>(
+    sink: &mut W,
+    held: &mut Held,
+    left: &mut Option<u16>,
+    text: &str,
+) -> Result<(), Stop>
+    requires { length held.old ≤ 11 }
+    ensures shows { Shows W.puts W.halts W.stops sink.old
+        (texts unit_step (unit_step_text S.tests) (record { held = held.old; left = left.old })
+        (chars text.now)) sink.new result }
+    ensures state { OnOk result (record { held = held.new; left = left.new }
+        ≡ after unit_step (unit_step_text S.tests) (record { held = held.old; left = left.old }) (chars text.now)) }
+    ensures short { length held.new ≤ 11 }
+{
+    let mut rest = text;
+    'pieces: while let Some((piece, behind)) = next_piece(rest, is_plain(held, *left)) {
+        put_piece::<S, W>(sink, held, left, piece)?;
+        rest = behind;
+    }
+    Ok(())
+}
+
 impl<'s, S: Spec, W: TextSink> TextSink for UnitSink<'s, S, W> {
     ghost use Rattle.iri_template.specs.inside.UnitText.{UnitPuts, UnitHalts, unit_rules};
 
@@ -180,7 +262,7 @@ impl<'s, S: Spec, W: TextSink> TextSink for UnitSink<'s, S, W> {
     ghost rules = { unit_rules S.tests W.rules };
 
     fn put(&mut self, piece: &str) -> Result<(), Stop> {
-        put_chars::<S, W>(&mut *self.to, &mut self.held, &mut self.left, piece)
+        put_text::<S, W>(&mut *self.to, &mut self.held, &mut self.left, piece)
     }
 }
 

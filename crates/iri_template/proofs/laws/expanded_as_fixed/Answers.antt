@@ -7,8 +7,8 @@ use Rattle.iri_template.specs.Writings.{EndsAs}
 use Rattle.iri_template.proofs.FixedLemmas.{fixed_ends}
 use Rattle.iri_template.proofs.laws.expanded_as_fixed.Goals as goal
 
-pub returns : goal.returns
-returns g c =
+pub returns-clause-same : goal.returns-clause-same
+returns-clause-same g c =
     let w = g.W.TextSink in
     let s = g.S.Spec.tests in
     let value = g.C.Context.value_of in

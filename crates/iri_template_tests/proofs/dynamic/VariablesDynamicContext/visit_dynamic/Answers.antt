@@ -1,5 +1,5 @@
 use Rattle.iri_template.specs.ShownValues.{string}
-use Rattle.iri_template.proofs.tests.dynamic.VariablesDynamicContext.visit_dynamic.Goals as goal
+use Rattle.iri_template_tests.proofs.dynamic.VariablesDynamicContext.visit_dynamic.Goals as goal
 
 pub returns-in-Some-clause-visit : goal.returns-in-Some-clause-visit
 returns-in-Some-clause-visit g c =

@@ -1,11 +1,11 @@
 // Literals past ASCII.
-use crate::error::ErrorKind;
-use crate::simple_context::SimpleContext;
-use crate::template::UriTemplateStr;
-use crate::value::Value;
 use iri_grammar::spec::{IriSpec, Spec, UriSpec};
+use iri_template::error::ErrorKind;
+use iri_template::simple_context::SimpleContext;
+use iri_template::template::UriTemplateStr;
+use iri_template::value::Value;
 use iri_text::{Text, ToStringFallible};
-use std::alloc::Global;
+use std::alloc::{AllocError, Global};
 use std::test::Fail;
 
 // The characters on both sides of borders of `ucschar` and `iprivate` (RFC 3987 section 2.2), by whether they are literals.
@@ -46,9 +46,10 @@ fn borders(rt: HostRuntime) {
 fn expanded<S: Spec>(alloc: Global, template: &str) -> Result<String, Fail> {
     let mut context = SimpleContext::new(alloc);
     let value = Text::from_string("6".to_string(alloc)?);
-    let Ok(None) = context.insert("v".to_string(alloc)?, Value::String(value)) else {
-        return Err("a value is refused")?;
-    };
+    match context.insert("v".to_string(alloc)?, Value::String(value)) {
+        Ok(_) => {}
+        Err(_) => return Err(AllocError)?,
+    }
     let template = UriTemplateStr::new(template)?;
     Ok(
         template

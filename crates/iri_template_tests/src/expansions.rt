@@ -2,17 +2,17 @@
 ghost use Rattle.std.specs.Char.{encode_utf8};
 ghost use Rattle.iri_text.specs.Shown.{Shows};
 
-use crate::context::Context;
-use crate::error::ErrorKind;
-use crate::expanded::ExpandedError;
-use crate::naive::{VisitValueNaive, visit_value_naive};
-use crate::simple_context::SimpleContext;
-use crate::template::UriTemplateStr;
-use crate::value::{PairList, TextList, Value};
-use crate::visitor::Visitor;
 use iri_grammar::spec::{IriSpec, Spec, UriSpec};
+use iri_template::context::Context;
+use iri_template::error::ErrorKind;
+use iri_template::expanded::ExpandedError;
+use iri_template::naive::{VisitValueNaive, visit_value_naive};
+use iri_template::simple_context::SimpleContext;
+use iri_template::template::UriTemplateStr;
+use iri_template::value::{PairList, TextList, Value};
+use iri_template::visitor::Visitor;
 use iri_text::{Show, Stop, Text, TextSink, ToStringFallible, show_four};
-use std::alloc::Global;
+use std::alloc::{AllocError, Global};
 use std::collections::{BTreeMap, BTreeSet};
 use std::test::Fail;
 
@@ -152,11 +152,10 @@ static STRINGS: [(&str, &str); 11] = [
     ("empty", ""),
 ];
 
-// Allocation failure shows in the rows.
 fn put(context: &mut SimpleContext, alloc: Global, key: &str, value: Value) -> Result<(), Fail> {
     match context.insert(key.to_string(alloc)?, value) {
         Ok(_) => Ok(()),
-        Err(_) => Ok(()),
+        Err(_) => Err(AllocError)?,
     }
 }
 
@@ -165,7 +164,7 @@ fn list(alloc: Global, items: &[&str]) -> Result<Value, Fail> {
     for item in items {
         match texts.push(item.to_string(alloc)?) {
             Ok(()) => {}
-            Err(_) => return Ok(Value::Undefined),
+            Err(_) => return Err(AllocError)?,
         }
     }
     Ok(Value::List(texts))
@@ -176,7 +175,7 @@ fn pairs(alloc: Global, entries: &[(&str, &str)]) -> Result<Value, Fail> {
     for entry in entries {
         match texts.push(entry.0.to_string(alloc)?, entry.1.to_string(alloc)?) {
             Ok(()) => {}
-            Err(_) => return Ok(Value::Undefined),
+            Err(_) => return Err(AllocError)?,
         }
     }
     Ok(Value::Assoc(texts))
@@ -359,6 +358,7 @@ fn character_by_character(rt: HostRuntime) -> Result<(), Fail> {
     Ok(())
 }
 
+// The expansion with one value for each variable, which is put in one piece and character by character.
 fn of_text<S: Spec>(alloc: Global, template: &str, text: &str) -> Result<String, Fail> {
     let whole = expanded::<S, Always<&str>>(alloc, template, &Always { value: text })?;
     let pieces = expanded::<S, Always<Chars<'_>>>(
@@ -375,71 +375,50 @@ fn of_text<S: Spec>(alloc: Global, template: &str, text: &str) -> Result<String,
     }
 }
 
+// A template, a value and the expansion for URIs. U+1F600 in triplets is one unit; without its last octet each triplet is one.
+static LENGTHS: [(&str, &str, &str); 10] = [
+    ("{v:2}", "%61%62%63", "%256"),
+    ("{+v:2}", "%61%62%63", "%61%62"),
+    ("{+v:2}", "a%62c", "a%62"),
+    ("{+v:2}", "%ff%ff%ff", "%ff%ff"),
+    ("{v:2}", "ααα", "%CE%B1%CE%B1"),
+    ("{+v:2}", "ααα", "%CE%B1%CE%B1"),
+    ("{+v:1}", "%F0%9F%98%80x", "%F0%9F%98%80"),
+    ("{+v:2}", "%F0%9F%98x", "%F0%9F"),
+    ("{+v:3}", "%F0%9F%98%98%80", "%F0%9F%98%98%80"),
+    ("{+v:4}", "%%4%41g", "%25%254%41"),
+];
+
+// The same for IRIs.
+static IRI_LENGTHS: [(&str, &str, &str); 3] = [
+    ("{v:2}", "ααα", "αα"),
+    ("{#v:2}", "ααα", "#αα"),
+    ("{+v}", "%4α%", "%254α%25"),
+];
+
+// How many rows come before the first with another expansion.
+fn right_texts<S: Spec>(alloc: Global, rows: &[(&str, &str, &str)]) -> Result<usize, Fail> {
+    let mut right = 0usize;
+    for (template, text, want) in rows {
+        if of_text::<S>(alloc, template, text)?.as_str() != *want {
+            return Ok(right);
+        }
+        right = right.wrapping_add(1);
+    }
+    Ok(right)
+}
+
 #[test]
 fn lengths(rt: HostRuntime) -> Result<(), Fail> {
-    assert_eq!(rt;
-        of_text::<UriSpec>(rt.alloc(), "{v:2}", "%61%62%63")?.as_str(),
-        "%256"
-    );
-    assert_eq!(rt;
-        of_text::<UriSpec>(rt.alloc(), "{+v:2}", "%61%62%63")?.as_str(),
-        "%61%62"
-    );
-    assert_eq!(rt;
-        of_text::<UriSpec>(rt.alloc(), "{+v:2}", "a%62c")?.as_str(),
-        "a%62"
-    );
-    assert_eq!(rt;
-        of_text::<UriSpec>(rt.alloc(), "{+v:2}", "%ff%ff%ff")?.as_str(),
-        "%ff%ff"
-    );
-    assert_eq!(rt;
-        of_text::<UriSpec>(rt.alloc(), "{v:2}", "ααα")?.as_str(),
-        "%CE%B1%CE%B1"
-    );
-    assert_eq!(rt;
-        of_text::<IriSpec>(rt.alloc(), "{v:2}", "ααα")?.as_str(),
-        "αα"
-    );
-    assert_eq!(rt;
-        of_text::<UriSpec>(rt.alloc(), "{+v:2}", "ααα")?.as_str(),
-        "%CE%B1%CE%B1"
-    );
-    assert_eq!(rt;
-        of_text::<IriSpec>(rt.alloc(), "{#v:2}", "ααα")?.as_str(),
-        "#αα"
-    );
+    let right = right_texts::<UriSpec>(rt.alloc(), &LENGTHS)?;
+    assert_eq!(rt; right, LENGTHS.len());
+    let right = right_texts::<IriSpec>(rt.alloc(), &IRI_LENGTHS)?;
+    assert_eq!(rt; right, IRI_LENGTHS.len());
     Ok(())
 }
 
-#[test]
-fn units(rt: HostRuntime) -> Result<(), Fail> {
-    // U+1F600 in triplets is one unit; without its last octet each triplet is one.
-    assert_eq!(rt;
-        of_text::<UriSpec>(rt.alloc(), "{+v:1}", "%F0%9F%98%80x")?.as_str(),
-        "%F0%9F%98%80"
-    );
-    assert_eq!(rt;
-        of_text::<UriSpec>(rt.alloc(), "{+v:2}", "%F0%9F%98x")?.as_str(),
-        "%F0%9F"
-    );
-    assert_eq!(rt;
-        of_text::<UriSpec>(rt.alloc(), "{+v:3}", "%F0%9F%98%98%80")?.as_str(),
-        "%F0%9F%98%98%80"
-    );
-    assert_eq!(rt;
-        of_text::<UriSpec>(rt.alloc(), "{+v:4}", "%%4%41g")?.as_str(),
-        "%25%254%41"
-    );
-    assert_eq!(rt;
-        of_text::<IriSpec>(rt.alloc(), "{+v}", "%4α%")?.as_str(),
-        "%254α%25"
-    );
-    Ok(())
-}
-
-#[test]
-fn in_pieces(rt: HostRuntime) -> Result<(), Fail> {
+// Whether a value in four pieces, in which triplets are cut, has these two expansions.
+fn are_of_pieces<S: Spec>(alloc: Global, two: &str, all: &str) -> Result<bool, Fail> {
     let (first, second, third, fourth) = ("%", "CE%4", "1%C", "E");
     let context = Always {
         value: Pieces {
@@ -449,71 +428,70 @@ fn in_pieces(rt: HostRuntime) -> Result<(), Fail> {
             fourth,
         },
     };
-    assert_eq!(rt;
-        expanded::<UriSpec, Always<Pieces<'_>>>(rt.alloc(), "{+v:2}", &context)?.as_str(),
-        "%CE%41"
-    );
-    assert_eq!(rt;
-        expanded::<UriSpec, Always<Pieces<'_>>>(rt.alloc(), "{+v}", &context)?.as_str(),
-        "%CE%41%CE"
-    );
-    assert_eq!(rt;
-        expanded::<IriSpec, Always<Pieces<'_>>>(rt.alloc(), "{+v:2}", &context)?.as_str(),
-        "%CE%41"
-    );
-    assert_eq!(rt;
-        expanded::<IriSpec, Always<Pieces<'_>>>(rt.alloc(), "{+v}", &context)?.as_str(),
-        "%CE%41%CE"
-    );
+    let shown = expanded::<S, Always<Pieces<'_>>>(alloc, "{+v:2}", &context)?;
+    if shown.as_str() != two {
+        return Ok(false);
+    }
+    let shown = expanded::<S, Always<Pieces<'_>>>(alloc, "{+v}", &context)?;
+    Ok(shown.as_str() == all)
+}
+
+#[test]
+fn in_pieces(rt: HostRuntime) -> Result<(), Fail> {
+    assert!(rt; are_of_pieces::<UriSpec>(rt.alloc(), "%CE%41", "%CE%41%CE")?);
+    assert!(rt; are_of_pieces::<IriSpec>(rt.alloc(), "%CE%41", "%CE%41%CE")?);
     Ok(())
 }
 
-fn of_value<T: VisitValueNaive + Drop>(
+// Whether a template has this expansion with one value for each variable.
+fn gives<T: VisitValueNaive + Drop>(
     alloc: Global,
     template: &str,
     value: T,
-) -> Result<String, Fail> {
-    expanded::<UriSpec, Naive<T>>(alloc, template, &Naive { value })
+    want: &str,
+) -> Result<bool, Fail> {
+    let text = expanded::<UriSpec, Naive<T>>(alloc, template, &Naive { value })?;
+    Ok(text.as_str() == want)
 }
 
 #[test]
-fn numbers(rt: HostRuntime) -> Result<(), Fail> {
-    assert_eq!(rt; of_value(rt.alloc(), "{?v}", 255u8)?.as_str(), "?v=255");
-    assert_eq!(rt; of_value(rt.alloc(), "{v:2}", 65535u16)?.as_str(), "65");
-    assert_eq!(rt; of_value(rt.alloc(), "{v}", 7u32)?.as_str(), "7");
-    assert_eq!(rt; of_value(rt.alloc(), "{v}", 7u64)?.as_str(), "7");
-    assert_eq!(rt; of_value(rt.alloc(), "{v}", 7u128)?.as_str(), "7");
-    assert_eq!(rt; of_value(rt.alloc(), "{v}", 7usize)?.as_str(), "7");
-    assert_eq!(rt; of_value(rt.alloc(), "{v}", -8i8)?.as_str(), "-8");
-    assert_eq!(rt; of_value(rt.alloc(), "{v}", -8i16)?.as_str(), "-8");
-    assert_eq!(rt; of_value(rt.alloc(), "{v}", -8i32)?.as_str(), "-8");
-    assert_eq!(rt; of_value(rt.alloc(), "{v}", -8i64)?.as_str(), "-8");
-    assert_eq!(rt; of_value(rt.alloc(), "{v}", -8i128)?.as_str(), "-8");
-    assert_eq!(rt; of_value(rt.alloc(), "{v}", -8isize)?.as_str(), "-8");
+fn unsigned_numbers(rt: HostRuntime) -> Result<(), Fail> {
+    assert!(rt; gives(rt.alloc(), "{?v}", 255u8, "?v=255")?);
+    assert!(rt; gives(rt.alloc(), "{v:2}", 65535u16, "65")?);
+    assert!(rt; gives(rt.alloc(), "{v}", 7u32, "7")?);
+    assert!(rt; gives(rt.alloc(), "{v}", 7u64, "7")?);
+    assert!(rt; gives(rt.alloc(), "{v}", 7u128, "7")?);
+    assert!(rt; gives(rt.alloc(), "{v}", 7usize, "7")?);
     Ok(())
 }
 
 #[test]
-fn other_values(rt: HostRuntime) -> Result<(), Fail> {
-    assert_eq!(rt; of_value(rt.alloc(), "x{?v}", ())?.as_str(), "x");
-    assert_eq!(rt; of_value(rt.alloc(), "{v}", "a b")?.as_str(), "a%20b");
-    assert_eq!(rt;
-        of_value(rt.alloc(), "{v}", "ab".to_string(rt.alloc())?)?.as_str(),
-        "ab"
-    );
-    assert_eq!(rt; of_value(rt.alloc(), "{?v}", Some(1u8))?.as_str(), "?v=1");
-    assert_eq!(rt;
-        of_value::<Option<u8>>(rt.alloc(), "{?v}", None)?.as_str(),
-        ""
-    );
-    assert_eq!(rt;
-        of_value(rt.alloc(), "{/v*}", [3u8, 1, 2])?.as_str(),
-        "/3/1/2"
-    );
-    assert_eq!(rt;
-        of_value(rt.alloc(), "{v}", vec![in rt.alloc(); 3u8, 1]?)?.as_str(),
-        "3,1"
-    );
+fn signed_numbers(rt: HostRuntime) -> Result<(), Fail> {
+    assert!(rt; gives(rt.alloc(), "{v}", -8i8, "-8")?);
+    assert!(rt; gives(rt.alloc(), "{v}", -8i16, "-8")?);
+    assert!(rt; gives(rt.alloc(), "{v}", -8i32, "-8")?);
+    assert!(rt; gives(rt.alloc(), "{v}", -8i64, "-8")?);
+    assert!(rt; gives(rt.alloc(), "{v}", -8i128, "-8")?);
+    assert!(rt; gives(rt.alloc(), "{v}", -8isize, "-8")?);
+    Ok(())
+}
+
+#[test]
+fn texts_and_options(rt: HostRuntime) -> Result<(), Fail> {
+    assert!(rt; gives(rt.alloc(), "x{?v}", (), "x")?);
+    assert!(rt; gives(rt.alloc(), "{v}", "a b", "a%20b")?);
+    let owned = "ab".to_string(rt.alloc())?;
+    assert!(rt; gives(rt.alloc(), "{v}", owned, "ab")?);
+    assert!(rt; gives(rt.alloc(), "{?v}", Some(1u8), "?v=1")?);
+    assert!(rt; gives::<Option<u8>>(rt.alloc(), "{?v}", None, "")?);
+    Ok(())
+}
+
+#[test]
+fn lists(rt: HostRuntime) -> Result<(), Fail> {
+    assert!(rt; gives(rt.alloc(), "{/v*}", [3u8, 1, 2], "/3/1/2")?);
+    let list = vec![in rt.alloc(); 3u8, 1]?;
+    assert!(rt; gives(rt.alloc(), "{v}", list, "3,1")?);
     Ok(())
 }
 
@@ -522,11 +500,11 @@ fn trees(rt: HostRuntime) -> Result<(), Fail> {
     let mut set = BTreeSet::new(rt.alloc());
     assert!(rt; set.insert(3u8)?);
     assert!(rt; set.insert(1u8)?);
-    assert_eq!(rt; of_value(rt.alloc(), "{v}", set)?.as_str(), "1,3");
+    assert!(rt; gives(rt.alloc(), "{v}", set, "1,3")?);
     let mut map = BTreeMap::new(rt.alloc());
     assert!(rt; map.insert(3u8, "c")?.is_none());
     assert!(rt; map.insert(1u8, "a")?.is_none());
-    assert_eq!(rt; of_value(rt.alloc(), "{?v*}", map)?.as_str(), "?1=a&3=c");
+    assert!(rt; gives(rt.alloc(), "{?v*}", map, "?1=a&3=c")?);
     Ok(())
 }
 

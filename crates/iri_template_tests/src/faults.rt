@@ -1,7 +1,7 @@
 // Faults and their places.
-use crate::error::{Error, ErrorKind};
-use crate::template::UriTemplateStr;
-use crate::var_name::VarName;
+use iri_template::error::ErrorKind;
+use iri_template::template::UriTemplateStr;
+use iri_template::var_name::VarName;
 use std::test::Fail;
 
 // Each fault with a well-formed piece before it and a second fault behind it, and faults at the edges.
@@ -146,11 +146,12 @@ fn words(rt: HostRuntime) -> Result<(), Fail> {
     for (kind, text) in TEXTS {
         assert_eq!(rt; kind.description(), text);
     }
-    let error = Error::new(ErrorKind::InvalidExpression, 12);
-    let told = format!(in rt.alloc(); "{error}")?;
-    assert_eq!(rt;
-        told.as_str(),
-        "invalid URI template: invalid expression (at 12-th byte)"
-    );
+    match UriTemplateStr::new("http://a/b/{}") {
+        Ok(_) => assert!(rt; false),
+        Err(error) => assert_eq!(rt;
+            format!(in rt.alloc(); "{error}")?.as_str(),
+            "invalid URI template: invalid expression (at 12-th byte)"
+        ),
+    }
     Ok(())
 }

@@ -1,11 +1,10 @@
 // Lent and owned templates.
-use crate::creation::CreateTemplateError;
-use crate::error::ErrorKind;
-use crate::laws;
-use crate::owned::UriTemplateString;
-use crate::template::UriTemplateStr;
-use crate::var_name::VarName;
-use crate::var_spec::{Modifier, read_varspec};
+use iri_template::creation::CreateTemplateError;
+use iri_template::error::ErrorKind;
+use iri_template::laws;
+use iri_template::owned::UriTemplateString;
+use iri_template::template::UriTemplateStr;
+use iri_template::var_name::VarName;
 use iri_text::ToStringFallible;
 use std::alloc::{AllocError, Global};
 use std::cmp::Ordering;
@@ -113,17 +112,14 @@ fn as_texts(rt: HostRuntime) -> Result<(), Fail> {
     Ok(())
 }
 
-fn modifier(s: &str) -> Option<Modifier> {
-    match read_varspec(s, 0) {
-        Ok(varspec) => Some(varspec.modifier),
-        Err(_) => None,
-    }
-}
-
 #[test]
-fn modifiers(rt: HostRuntime) {
-    assert_eq!(rt; modifier("path"), Some(Modifier::Whole));
-    assert_eq!(rt; modifier("list*"), Some(Modifier::Explode));
-    assert_eq!(rt; modifier("var:1"), Some(Modifier::Prefix(1)));
-    assert_eq!(rt; modifier("var:9999"), Some(Modifier::Prefix(9999)));
+fn prefix_lengths(rt: HostRuntime) {
+    for (text, taken) in [
+        ("{var:0}", false),
+        ("{var:1}", true),
+        ("{var:9999}", true),
+        ("{var:10000}", false),
+    ] {
+        assert!(rt; UriTemplateStr::new(text).is_ok() == taken, "{text}");
+    }
 }

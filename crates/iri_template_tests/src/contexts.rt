@@ -1,9 +1,9 @@
 // Lists, and values by name.
-use crate::simple_context::{InsertError, SimpleContext};
-use crate::value::{PairList, TextList, Value};
-use crate::var_name::VarName;
+use iri_template::simple_context::SimpleContext;
+use iri_template::value::{PairList, TextList, Value};
+use iri_template::var_name::VarName;
 use iri_text::Text;
-use std::alloc::Global;
+use std::alloc::{AllocError, Global};
 use std::test::Fail;
 
 fn string(alloc: Global, s: &str) -> Result<Value, Fail> {
@@ -18,11 +18,11 @@ fn text(value: Option<&Value>) -> Option<&str> {
 }
 
 // The text of the value that stood there before.
-fn old(answer: &Result<Option<Value>, InsertError>) -> Option<&str> {
+fn old(answer: &Option<Value>) -> Option<&str> {
     match answer {
-        Ok(Some(Value::String(text))) => Some(text.as_str()),
-        Ok(None) => Some("none"),
-        _ => None,
+        Some(Value::String(text)) => Some(text.as_str()),
+        Some(_) => None,
+        None => Some("none"),
     }
 }
 
@@ -33,16 +33,27 @@ fn at<'c>(context: &'c SimpleContext, name: &str) -> Option<&'c str> {
     }
 }
 
+fn insert(
+    context: &mut SimpleContext,
+    alloc: Global,
+    key: &str,
+    value: Value,
+) -> Result<Option<Value>, Fail> {
+    match context.insert(key.to_string(alloc)?, value) {
+        Ok(old) => Ok(old),
+        Err(_) => Err(AllocError)?,
+    }
+}
+
 // Puts a string under a key.
 fn put(
     context: &mut SimpleContext,
     alloc: Global,
     key: &str,
     value: &str,
-) -> Result<Result<Option<Value>, InsertError>, Fail> {
-    let key = key.to_string(alloc)?;
+) -> Result<Option<Value>, Fail> {
     let value = string(alloc, value)?;
-    Ok(context.insert(key, value))
+    insert(context, alloc, key, value)
 }
 
 #[test]
@@ -66,7 +77,7 @@ fn undefined_removes(rt: HostRuntime) -> Result<(), Fail> {
     assert_eq!(rt; old(&seven), Some("none"));
     let other = put(&mut context, rt.alloc(), "w", "8")?;
     assert_eq!(rt; old(&other), Some("none"));
-    let gone = context.insert("v".to_string(rt.alloc())?, Value::Undefined);
+    let gone = insert(&mut context, rt.alloc(), "v", Value::Undefined)?;
     assert_eq!(rt; old(&gone), Some("7"));
     assert_eq!(rt; at(&context, "v"), None);
     assert_eq!(rt; at(&context, "w"), Some("8"));
@@ -75,29 +86,35 @@ fn undefined_removes(rt: HostRuntime) -> Result<(), Fail> {
     Ok(())
 }
 
+// A list of one item, and one of one pair.
+fn one_item(alloc: Global) -> Result<TextList, Fail> {
+    let mut items = TextList::new(alloc);
+    match items.push("a".to_string(alloc)?) {
+        Ok(()) => Ok(items),
+        Err(_) => Err(AllocError)?,
+    }
+}
+
+fn one_pair(alloc: Global) -> Result<PairList, Fail> {
+    let mut pairs = PairList::new(alloc);
+    match pairs.push("k".to_string(alloc)?, "v".to_string(alloc)?) {
+        Ok(()) => Ok(pairs),
+        Err(_) => Err(AllocError)?,
+    }
+}
+
 #[test]
 fn lists(rt: HostRuntime) -> Result<(), Fail> {
-    let mut items = TextList::new(rt.alloc());
-    assert!(rt; items.push("a".to_string(rt.alloc())?).is_ok());
+    let items = one_item(rt.alloc())?;
     assert_eq!(rt; items.len(), 1);
     assert_eq!(rt; items.get(0), Some("a"));
     assert_eq!(rt; items.get(1), None);
-    let mut pairs = PairList::new(rt.alloc());
-    let (key, value) = ("k".to_string(rt.alloc())?, "v".to_string(rt.alloc())?);
-    assert!(rt; pairs.push(key, value).is_ok());
+    let pairs = one_pair(rt.alloc())?;
     assert_eq!(rt; pairs.len(), 1);
     assert_eq!(rt; pairs.get(0), Some(("k", "v")));
     assert_eq!(rt; pairs.get(1), None);
     let mut context = SimpleContext::new(rt.alloc());
-    assert!(rt;
-        context
-            .insert("l".to_string(rt.alloc())?, Value::List(items))
-            .is_ok()
-    );
-    assert!(rt;
-        context
-            .insert("p".to_string(rt.alloc())?, Value::Assoc(pairs))
-            .is_ok()
-    );
+    assert!(rt; insert(&mut context, rt.alloc(), "l", Value::List(items))?.is_none());
+    assert!(rt; insert(&mut context, rt.alloc(), "p", Value::Assoc(pairs))?.is_none());
     Ok(())
 }

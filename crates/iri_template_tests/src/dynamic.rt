@@ -1,14 +1,14 @@
 // Contexts whose values change while a template is expanded.
 ghost use Rattle.std.specs.Prelude.{◌≡◌, ◌<◌, ◌+◌, ◌%◌};
 
-use crate::context::Context;
-use crate::dynamic_context::{DynamicContext, Fixed};
-use crate::error::{Error, ErrorKind};
-use crate::laws;
-use crate::template::UriTemplateStr;
-use crate::var_name::VarName;
-use crate::visitor::Visitor;
 use iri_grammar::spec::{IriSpec, UriSpec};
+use iri_template::context::Context;
+use iri_template::dynamic_context::{DynamicContext, Fixed};
+use iri_template::error::{Error, ErrorKind};
+use iri_template::laws;
+use iri_template::template::UriTemplateStr;
+use iri_template::var_name::VarName;
+use iri_template::visitor::Visitor;
 use iri_text::{SliceSink, Stop, ToStringFallible};
 use std::alloc::Global;
 use std::test::Fail;

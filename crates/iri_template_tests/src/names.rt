@@ -1,5 +1,5 @@
 // The example templates of RFC 6570 and their variables.
-use crate::template::UriTemplateStr;
+use iri_template::template::UriTemplateStr;
 use std::alloc::Global;
 use std::test::Fail;
 

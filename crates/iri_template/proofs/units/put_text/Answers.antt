@@ -1,0 +1,55 @@
+use Rattle.std.proofs.Common.{◌≡◌, ◌++◌, ◌∙◌, sym, ap, rules}
+use Rattle.std.specs.Str.{chars, IsUtf8}
+use Rattle.std.proofs.lemmas.Str.{chars-append}
+use Rattle.iri_text.proofs.CharSteps.{no_chars}
+use Rattle.iri_text.specs.inside.Through.{after}
+use Rattle.iri_template.proofs.ThroughEach.{up_to_none, up_to_some, up_to_stop, up_to_end}
+use Rattle.iri_template.specs.inside.UnitSteps.{UnitState, unit_step, unit_step_text}
+use Rattle.iri_template.proofs.units.put_text.Goals as goal
+
+pub pieces-init : goal.pieces-init
+pieces-init g c =
+    let first : UnitState = record { held = c.args.held.now; left = c.args.left.now } in
+    record {
+      utf8 = c.utf8.text;
+      short = c.requires;
+      far = up_to_none unit_step (unit_step_text g.S.Spec.tests) g.met.W.TextSink.rules first (chars c.args.text.now) c.args.sink.now;
+    }
+
+pub pieces-preserved : goal.pieces-preserved
+pieces-preserved g c =
+    let i = c.pieces.invariant in
+    let piece = c.in-Some.piece.now in
+    let behind = c.in-Some.behind.now in
+    let u : IsUtf8 piece = search rules in
+    let v : IsUtf8 behind = search rules in
+    let first : UnitState = record { held = c.args.held.now; left = c.args.left.now } in
+    let cut : chars c.pieces.rest.now ≡ chars piece ++ chars behind = ap chars (sym c.in-Some.ensures.whole) ∙ chars-append piece behind u in
+    record {
+      utf8 = v;
+      short = c.put_piece.ensures.short;
+      far = up_to_some unit_step (unit_step_text g.S.Spec.tests) g.met.W.TextSink.rules first (chars c.args.text.now) (chars piece) cut
+          c.in_ok-put_piece.ensures.state i.far c.in_ok-put_piece.ensures.shows;
+    }
+
+pub returns-in_err-put_piece-clause-shows : goal.returns-in_err-put_piece-clause-shows
+returns-in_err-put_piece-clause-shows g c =
+    let i = c.pieces.invariant in
+    let piece = c.in-Some.piece.now in
+    let behind = c.in-Some.behind.now in
+    let u : IsUtf8 piece = search rules in
+    let first : UnitState = record { held = c.args.held.now; left = c.args.left.now } in
+    let cut : chars c.pieces.rest.now ≡ chars piece ++ chars behind = ap chars (sym c.in-Some.ensures.whole) ∙ chars-append piece behind u in
+    up_to_stop unit_step (unit_step_text g.S.Spec.tests) g.met.W.TextSink.rules first (chars c.args.text.now) (chars piece) (chars behind) cut
+    c.from_residual.ensures.0 i.far c.in_err-put_piece.ensures.shows
+
+pub returns-clause-shows : goal.returns-clause-shows
+returns-clause-shows g c =
+    let first : UnitState = record { held = c.args.held.now; left = c.args.left.now } in
+    up_to_end unit_step (unit_step_text g.S.Spec.tests) g.met.W.TextSink.rules first (chars c.args.text.now)
+    (no_chars c.pieces.rest.now c.in_default.ensures) c.pieces.invariant.far
+
+pub returns-clause-state : goal.returns-clause-state
+returns-clause-state g c =
+    let now : UnitState = record { held = c.pieces.held; left = c.pieces.left } in
+    sym (c.pieces.invariant.far.goes_on ∙ ap (λ l. after unit_step (unit_step_text g.S.Spec.tests) now l) (no_chars c.pieces.rest.now c.in_default.ensures))

@@ -1,0 +1,17 @@
+use Rattle.std.proofs.Common.{◌≤◌, length}
+use Rattle.std.specs.Str.{IsUtf8, chars}
+use Rattle.iri_template.proofs.ThroughEach.{HasPutUpTo}
+use Rattle.iri_template.specs.inside.UnitSteps.{unit_step, unit_step_text}
+use Rattle.iri_template.proofs.units.put_text.Given as goal
+
+-- what the pieces in front of the rest settled was written
+abbrev pub invariant-pieces : goal.invariant-pieces
+invariant-pieces g l = record {
+  utf8 : IsUtf8 l.rest;
+  short : length l.held ≤ 11;
+  far : HasPutUpTo unit_step (unit_step_text g.S.Spec.tests) g.W.TextSink.puts g.W.TextSink.stops
+      (record { held = l.fn.held; left = l.fn.left }) (chars l.text) l.fn.sink (record { held = l.held; left = l.left }) (chars l.rest) l.sink;
+}
+
+abbrev pub decreases-pieces : goal.decreases-pieces
+decreases-pieces g l = length l.rest
