@@ -16,8 +16,9 @@
 //! Proved: each call answers exactly what its definition says, or the definition's first fault; allocation failure alone
 //! is free. A fault of variables is that of the first one that has a fault. The words of both errors' `Display`.
 //!
-//! Not proved: that what takes memory gets it, which tests show with ample memory; how deep a value may nest before the
-//! stack is full: a reading has at most 127 levels, which a test reads. The text of `Debug`.
+//! Not proved: that memory is allocated, so that a call that always answered `Memory` would keep its contract; tests
+//! show that each succeeds with ample memory, and that a `Display` does. How deep a value may nest before the stack is
+//! full: a reading has at most 127 levels, which a test reads. The text of `Debug`.
 #![tactic(auto)]
 
 pub mod doc_error;

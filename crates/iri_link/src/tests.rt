@@ -8,14 +8,17 @@ use iri_text::{ToStringFallible, write_to_slice};
 use iri_types::view::RiAbsoluteStr;
 use std::test::Fail;
 
-// What a field value gives against a base.
+// What a field value gives against a base: a set or a fault. It fails where allocation failed.
 pub(crate) fn read<S: Spec>(
     rt: &HostRuntime,
     base: &str,
     field: &[u8],
 ) -> Result<Result<LinkSet<S>, LinkError>, Fail> {
     let base = RiAbsoluteStr::<S>::new(base)?;
-    Ok(read_links(rt.alloc(), base, field))
+    match read_links(rt.alloc(), base, field) {
+        Err(LinkError::Memory) => Err(LinkError::Memory)?,
+        told => Ok(told),
+    }
 }
 
 // Whether the field value is read, and this is its written form.

@@ -13,9 +13,10 @@
 //! no later command took out, in the order of the first such line of each, each with the numbers of these lines. Two
 //! such lines share an entry exactly where steps join the targets of their references.
 //!
-//! Tested, not proved: that memory is allocated; the words of `RegisterError`'s `Display`, which `thiserror` makes. Not
-//! proved, and not tested: how long a call takes. The map's hasher has a fixed seed, so whoever picks the references
-//! can make their targets collide.
+//! Not proved: that memory is allocated, so that an `add`, a `remove` or a `find` that answered `Memory` to each valid
+//! reference would keep its contract; tests show that each succeeds with ample memory. The words of `RegisterError`'s
+//! `Display`, which `thiserror` makes and a test reads. Not proved, and not tested: how long a call takes. The map's
+//! hasher has a fixed seed, so whoever picks the references can make their targets collide.
 #![tactic(auto)]
 
 pub mod added;

@@ -1,5 +1,6 @@
 use crate::added::Added;
 use crate::error::RegisterError;
+use crate::laws::{entries_are_those_of_the_commands, live_lines_share_an_entry};
 use crate::register::Register;
 use iri_grammar::error::ErrorKind;
 use iri_grammar::spec::{IriSpec, Spec, UriSpec};
@@ -183,6 +184,52 @@ fn a_reference_of_iris_alone(rt: HostRuntime) -> Result<(), Fail> {
     Ok(())
 }
 
+// The register of two links, of which the first stood on two lines.
+fn two_links(alloc: Global) -> Result<Register<UriSpec>, Fail> {
+    let mut register = register::<UriSpec>(alloc, "http://a/")?;
+    register.add(b"b", 2)?;
+    register.add(b"c", 3)?;
+    register.add(b"./b", 4)?;
+    Ok(register)
+}
+
+// Whether a register is as it was made.
+fn has_two_links(register: &Register<UriSpec>) -> bool {
+    register.len() == 2
+        && is_entry(register, 1, "http://a/b", &[2, 4])
+        && is_entry(register, 2, "http://a/c", &[3])
+}
+
+// A reference with a fault leaves the entries as they are, whatever is asked of it.
+#[test]
+fn kept_where_a_reference_is_bad(rt: HostRuntime) -> Result<(), Fail> {
+    let mut register = two_links(rt.alloc())?;
+    let rows: [(u8, &[u8], ErrorKind); 9] = [
+        (b'a', b"\xff", ErrorKind::InvalidUtf8),
+        (b'd', b"b\xc3", ErrorKind::InvalidUtf8),
+        (b'f', b"\x80", ErrorKind::InvalidUtf8),
+        (b'a', b"1:b", ErrorKind::InvalidPath),
+        (b'd', b"b%", ErrorKind::InvalidPath),
+        (b'f', b"//[b]/", ErrorKind::InvalidHost),
+        (b'a', b"?^", ErrorKind::InvalidQuery),
+        (b'd', b"b##", ErrorKind::InvalidFragment),
+        (b'f', b"c#^", ErrorKind::InvalidFragment),
+    ];
+    for (letter, reference, fault) in rows {
+        let told = call(&mut register, letter, reference, 9)?;
+        assert_eq!(rt; told, Answer::Bad(fault), "{reference:?}");
+        assert!(rt; has_two_links(&register), "{reference:?}");
+    }
+    Ok(())
+}
+
+#[test]
+fn the_laws() {
+    entries_are_those_of_the_commands();
+    live_lines_share_an_entry::<UriSpec>();
+    live_lines_share_an_entry::<IriSpec>();
+}
+
 // A refused line leaves the entry as it was. The fifth line of an entry needs room for more.
 #[test]
 fn kept_where_memory_is_refused(rt: HostRuntime) -> Result<(), Fail> {
@@ -205,11 +252,26 @@ fn kept_where_memory_is_refused(rt: HostRuntime) -> Result<(), Fail> {
     Ok(())
 }
 
+// A look-up that is refused leaves the entries as they are; so does a removal whose target is the longest so far, so that
+// the text of the target has to grow.
+#[test]
+fn kept_where_a_look_up_is_refused(rt: HostRuntime) -> Result<(), Fail> {
+    let mut register = two_links(rt.alloc())?;
+    let found = register.find(b"a/b/../../c");
+    assert!(rt; has_two_links(&register));
+    assert!(rt; found? == Some(2));
+    let removed = register.remove(b"d/e/f/g/h/i/j/k/l/m/n/o/p/q/r/s/t/u/v/w/x/y/z");
+    assert!(rt; has_two_links(&register));
+    assert!(rt; removed?.is_none());
+    Ok(())
+}
+
 #[test]
 fn refusals_in_words(rt: HostRuntime) -> Result<(), Fail> {
     let mut register = register::<UriSpec>(rt.alloc(), "http://a/")?;
     let error = match register.add(b"%4", 2) {
-        Ok(_) => RegisterError::Memory,
+        Ok(_) => Err("taken")?,
+        Err(RegisterError::Memory) => Err(RegisterError::Memory)?,
         Err(error) => error,
     };
     let told = format!(in rt.alloc(); "{error}")?;

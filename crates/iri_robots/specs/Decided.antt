@@ -3,7 +3,7 @@ use Rattle.std.specs.Prelude.{ℕ, Bool, true, false, cond, max, ◌==◌, ◌&&
 use Rattle.std.specs.List.{list_any}
 use Rattle.std.specs.Str.{bytes_eq}
 use Rattle.iri_grammar.specs.Characters.{asterisk, percent_sign}
-use Rattle.iri_robots.specs.Patterns.{dollar_sign, is_anchored, without_anchor}
+use Rattle.iri_robots.specs.Patterns.{dollar_sign, digit_two, digit_four, capital_a, is_anchored, without_anchor}
 use Rattle.iri_robots.specs.Records.{FileRule}
 
 -- what a pattern is made of: a `*`, an escape with this letter of this mark, any other character
@@ -15,7 +15,7 @@ pub data Piece : Type 0 where
 -- the mark that an escape of these characters stands for
 unfoldable pub mark_of : ℕ → ℕ → ℕ → Option ℕ
 mark_of c d e =
-    cond (c == percent_sign && d == 50) (cond (e == 65) (Some asterisk) (cond (e == 52) (Some dollar_sign) None)) None
+    cond (c == percent_sign && d == digit_two) (cond (e == capital_a) (Some asterisk) (cond (e == digit_four) (Some dollar_sign) None)) None
 
 unfoldable pub piece_of : ℕ → Piece
 piece_of c = cond (c == asterisk) AnyText (Character c)
@@ -46,7 +46,7 @@ unfoldable pub fills : Bool → List Piece → List ℕ → Bool
 fills anchored [] s = cond anchored (ends s) true
 fills anchored (AnyText ∷ ps) s = some_suffix (fills anchored ps) s
 fills anchored (Escape letter mark ∷ ps) s =
-    begins mark (fills anchored ps) s || begins percent_sign (begins 50 (begins letter (fills anchored ps))) s
+    begins mark (fills anchored ps) s || begins percent_sign (begins digit_two (begins letter (fills anchored ps))) s
 fills anchored (Character c ∷ ps) s = begins c (fills anchored ps) s
 
 -- the pattern matches the text

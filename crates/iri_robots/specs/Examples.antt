@@ -1,16 +1,17 @@
 -- Worked examples. A filling is given by the rules that make it.
-use Rattle.std.specs.Prelude.{◌≡◌, ◌++◌, [], ◌∷◌, true, false, codes}
+use Rattle.std.specs.Prelude.{◌≡◌, ◌++◌, ℕ, [], ◌∷◌, true, false, codes}
 use Rattle.std.proofs.Common.{refl, arith}
 use Rattle.std.specs.Str.{is_utf8, chars}
 use lib.Utf8.{encode}
+use Rattle.iri_grammar.specs.Characters.{percent_sign}
 use Rattle.iri_grammar.specs.Classes.{unreserved, is_ascii_unreserved}
 use Rattle.iri_percent.specs.CharUnits.{char_units_from}
 use Rattle.iri_percent.specs.Triplets.{normal}
 use Rattle.iri_percent.specs.Units.{first_char}
 use Rattle.iri_robots.specs.Compared.{compared}
-use Rattle.iri_robots.specs.FileLines.{AgentLine, RuleLine, OtherLine, line_of}
+use Rattle.iri_robots.specs.FileLines.{AgentLine, RuleLine, OtherLine, byte_order_mark, line_of}
 use Rattle.iri_robots.specs.Records.{FileRule, UserAgent, Judged, groups, rules_for}
-use Rattle.iri_robots.specs.Patterns.{IsFilling, nothing, star, escaped_star, same, without_anchor}
+use Rattle.iri_robots.specs.Patterns.{IsFilling, nothing, star, escaped_star, same, digit_two, capital_a, without_anchor}
 
 anchor : without_anchor (codes "/*.gif$") ≡ codes "/*.gif"
 anchor = refl
@@ -18,21 +19,28 @@ anchor = refl
 no_anchor : without_anchor (codes "/$a") ≡ codes "/$a"
 no_anchor = refl
 
+abbrev small_a : ℕ
+small_a = 97
+
+abbrev small_b : ℕ
+small_b = 98
+
 -- RFC 9309 section 2.2.3: `*` stands for characters, also for none
 some : IsFilling (codes "a*b") (codes "axb")
-some = same 97 (codes "*b") (codes "xb") (λ e. omega arith) (star (codes "x") (codes "b") (codes "b") (same 98 [] [] (λ e. omega arith)
-    nothing))
+some = same small_a (codes "*b") (codes "xb") (λ e. omega arith)
+    (star (codes "x") (codes "b") (codes "b") (same small_b [] [] (λ e. omega arith) nothing))
 
 none : IsFilling (codes "a*b") (codes "ab")
-none = same 97 (codes "*b") (codes "b") (λ e. omega arith) (star [] (codes "b") (codes "b") (same 98 [] [] (λ e. omega arith) nothing))
+none = same small_a (codes "*b") (codes "b") (λ e. omega arith)
+    (star [] (codes "b") (codes "b") (same small_b [] [] (λ e. omega arith) nothing))
 
 -- `%2A` stands for a `*` as it is
 escape : IsFilling (codes "%2A") (codes "*")
 escape = escaped_star [] [] nothing
 
 escape_as_it_is : IsFilling (codes "%2A") (codes "%2A")
-escape_as_it_is = same 37 (codes "2A") (codes "2A") (λ e. omega arith) (same 50 (codes "A") (codes "A") (λ e. omega arith) (same 65 [] [] (λ
-    e. omega arith) nothing))
+escape_as_it_is = same percent_sign (codes "2A") (codes "2A") (λ e. omega arith)
+    (same digit_two (codes "A") (codes "A") (λ e. omega arith) (same capital_a [] [] (λ e. omega arith) nothing))
 
 -- ---- lines: RFC 9309 sections 2.2.1 and 2.2.2
 agent_line : line_of (codes "User-Agent: ExampleBot/1.0") ≡ AgentLine (codes "ExampleBot")
@@ -47,7 +55,7 @@ rule_line : line_of (codes " ALLOW : /p:q # x: y") ≡ RuleLine true (codes "/p:
 unfolding is_utf8 chars encode
 rule_line = refl
 
-marked_line : line_of (0xEF ∷ 0xBB ∷ 0xBF ∷ codes "Disallow:") ≡ RuleLine false []
+marked_line : line_of (byte_order_mark ++ codes "Disallow:") ≡ RuleLine false []
 unfolding is_utf8 chars encode
 marked_line = refl
 

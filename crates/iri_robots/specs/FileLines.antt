@@ -42,9 +42,13 @@ without_end (x ∷ xs) = cond (all_blank (x ∷ xs)) [] (x ∷ without_end xs)
 abbrev pub trimmed : List ℕ → List ℕ
 trimmed t = without_end (without_front t)
 
+-- U+FEFF in UTF-8
+abbrev pub byte_order_mark : List ℕ
+byte_order_mark = 0xEF ∷ 0xBB ∷ 0xBF ∷ []
+
 -- U+FEFF that begins a line goes
 abbrev pub without_mark : List ℕ → List ℕ
-without_mark t = cond (bytes_eq (take 3 t) (0xEF ∷ 0xBB ∷ 0xBF ∷ [])) (drop 3 t) t
+without_mark t = cond (bytes_eq (take 3 t) byte_order_mark) (drop 3 t) t
 
 -- the characters of a product token
 abbrev pub is_token_char : ℕ → Bool

@@ -5,13 +5,23 @@ use Rattle.iri_grammar.specs.Characters.{asterisk, percent_sign}
 abbrev pub dollar_sign : ℕ
 dollar_sign = 36
 
+-- the digits of the triplets `%2A` and `%24`
+abbrev pub digit_two : ℕ
+digit_two = 50
+
+abbrev pub digit_four : ℕ
+digit_four = 52
+
+abbrev pub capital_a : ℕ
+capital_a = 65
+
 -- A filling of a pattern: some text stands in the place of each `*`, `%2A` or `*` in the place of each `%2A`, `%24` or
 -- `$` in the place of each `%24`, and every other character as it is
 pub data IsFilling : List ℕ → List ℕ → Type 0 where
   nothing : IsFilling [] []
   star : (t q s : List ℕ) → IsFilling q s → IsFilling (asterisk ∷ q) (t ++ s)
-  escaped_star : (q s : List ℕ) → IsFilling q s → IsFilling (percent_sign ∷ 50 ∷ 65 ∷ q) (asterisk ∷ s)
-  escaped_dollar : (q s : List ℕ) → IsFilling q s → IsFilling (percent_sign ∷ 50 ∷ 52 ∷ q) (dollar_sign ∷ s)
+  escaped_star : (q s : List ℕ) → IsFilling q s → IsFilling (percent_sign ∷ digit_two ∷ capital_a ∷ q) (asterisk ∷ s)
+  escaped_dollar : (q s : List ℕ) → IsFilling q s → IsFilling (percent_sign ∷ digit_two ∷ digit_four ∷ q) (dollar_sign ∷ s)
   -- as it is: so `%2A` is filled by its three characters too
   same : (c : ℕ) (q s : List ℕ) → c ≢ asterisk → IsFilling q s → IsFilling (c ∷ q) (c ∷ s)
 

@@ -17,10 +17,11 @@
 //! `/robots.txt`, where no rule for the token matches, or where an allow rule is among the longest that match; it takes
 //! no memory.
 //!
-//! Not proved: how long a search takes; it steps back to the last `*` alone, and a test has a thousand of them. That
-//! what takes memory gets it, which tests show with ample memory. The words of `RobotsError`'s `Display`, which
-//! `thiserror` makes, and the text of its `Debug`. The file is neither fetched nor kept, and lines are not cut out of
-//! it here.
+//! Not proved: that memory is allocated, so that a `feed_line` or a `subject_of` that always answered `AllocError`, and a
+//! `new` that answered `Memory` to each product token, would keep their contracts; tests show that each succeeds with
+//! ample memory. How long a search takes; it steps back to the last `*` alone, and a test has a thousand of them. The
+//! words of `RobotsError`'s `Display`, which `thiserror` makes and a test reads, and the text of its `Debug`. The file
+//! is neither fetched nor kept, and lines are not cut out of it here.
 #![tactic(auto)]
 
 mod compared;

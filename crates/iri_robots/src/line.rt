@@ -2,6 +2,7 @@
 ghost use Rattle.std.specs.Prelude.{◌≡◌, ◌≤◌, MatchOption, length};
 ghost use Rattle.std.specs.List.{prefix_len};
 ghost use Rattle.std.specs.Str.{is_utf8, str_eq_ignore_ascii_case};
+ghost use Rattle.iri_grammar.specs.Characters.{number_sign};
 ghost use Rattle.iri_grammar.specs.Cut.{before, CutAt, NoCut};
 ghost use Rattle.iri_robots.specs.FileLines.{line_of, line_of_text, keyed, is_blank, trimmed, without_front};
 ghost use Rattle.iri_robots.specs.FileLines.{without_end, without_mark, agent_of, is_token_char};
@@ -103,7 +104,7 @@ fn strip_mark(line: &[u8]) -> &[u8]
 }
 
 fn strip_comment(line: &[u8]) -> &[u8]
-    ensures { result.now ≡ before 35 line.now }
+    ensures { result.now ≡ before number_sign line.now }
 {
     match find(line, b'#') {
         Some(end) => &line[..end],

@@ -165,6 +165,88 @@ fn longest_match(rt: HostRuntime) -> Result<(), Fail> {
     Ok(())
 }
 
+// The two tables of section 2.2.1: groups of one token are one, and the group of `*` is obeyed by who has none.
+#[test]
+fn groups_of_one_token(rt: HostRuntime) -> Result<(), Fail> {
+    let merged = [
+        "user-agent: ExampleBot",
+        "disallow: /foo",
+        "disallow: /bar",
+        "",
+        "user-agent: ExampleBot",
+        "disallow: /baz",
+    ];
+    let others = [
+        "user-agent: *",
+        "disallow: /foo",
+        "disallow: /bar",
+        "",
+        "user-agent: BazBot",
+        "disallow: /baz",
+    ];
+    for (token, subject, by_merged, by_others) in [
+        ("examplebot", "/foo", false, false),
+        ("EXAMPLEBOT", "/bar", false, false),
+        ("ExampleBot", "/baz", false, true),
+        ("bazbot", "/foo", true, true),
+        ("bazbot", "/baz", true, false),
+    ] {
+        let robots = fed(rt.alloc(), token, &merged)?;
+        assert!(rt;
+            allows(&robots, subject) == by_merged,
+            "{token} at {subject}"
+        );
+        let robots = fed(rt.alloc(), token, &others)?;
+        assert!(rt;
+            allows(&robots, subject) == by_others,
+            "{token} at {subject}"
+        );
+    }
+    let robots = fed(rt.alloc(), "a", &[])?;
+    assert!(rt; allows(&robots, "/"));
+    Ok(())
+}
+
+// Sections 2.2.2 to 2.2.4: comments, marks, and records that are none of these and end no group.
+#[test]
+fn other_lines_of_a_file(rt: HostRuntime) -> Result<(), Fail> {
+    let robots = fed(
+        rt.alloc(),
+        "examplebot",
+        &[
+            "# comment on its own line",
+            "user-agent: examplebot # comment in line",
+            "Sitemap: https://www.example.com/sitemap.xml",
+            "user-agent: otherbot",
+            "# disallow: /comment",
+            "Sitemaps: /s",
+            "Crawl-delay: 1",
+            "disallow: /",
+            "allow: /this/path/exactly$",
+            "allow: /this/*/exactly",
+            "allow: /path/file-with-a-%2A.html",
+            "allow: /path/foo-%24",
+        ],
+    )?;
+    for (subject, allowed) in [
+        ("/comment", false),
+        ("/s", false),
+        ("/this/path/exactly", true),
+        ("/this/path/exactly/so", true),
+        ("/this/path", false),
+        ("/path/file-with-a-*.html", true),
+        ("/path/file-with-a-%2A.html", true),
+        ("/path/file-with-a-b.html", false),
+        ("/path/foo-$", true),
+        ("/path/foo-", false),
+        ("/robots.txt", true),
+        ("/robots.txt?", false),
+    ] {
+        assert!(rt; allows(&robots, subject) == allowed, "{subject}");
+    }
+    Ok(())
+}
+
 // Each line is read alone, before a rule `Disallow: /` that it takes into its run, or not.
 #[test]
 fn lines_are_read(rt: HostRuntime) -> Result<(), Fail> {

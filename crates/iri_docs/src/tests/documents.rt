@@ -2,12 +2,15 @@
 use crate::doc_error::DocError;
 use crate::document::Document;
 use crate::laws::first_fault_of_variables;
-use crate::read::read_document;
+use crate::read::{document_of, read_document};
+use crate::tests::{fault_of, fault_of_line};
+use crate::values::read_value;
+use crate::variables::{read_variable, read_variables};
 use iri_template::simple_context::SimpleContext;
 use iri_template::value::Value;
 use iri_template::var_name::VarName;
+use serde_json::Value as Json;
 use std::alloc::{AllocError, Global};
-use std::process::Abort;
 use std::test::Fail;
 
 // The value of a name.
@@ -34,23 +37,15 @@ fn with_value(alloc: Global, value: &str) -> Result<Document, DocError> {
     }
 }
 
-// Asserts that a value is the text.
-fn is_text(rt: &(impl Abort + AllocGlobal), value: &str, text: &str) {
-    match with_value(rt.alloc(), value) {
-        Ok(document) => {
-            assert_eq!(rt; text_at(document.context(), "v"), Some(text), "of {value}");
-        }
-        Err(error) => panic!(rt; "{value}: {error}"),
-    }
+// Whether a value is the text.
+fn is_text(alloc: Global, value: &str, text: &str) -> Result<bool, DocError> {
+    let document = with_value(alloc, value)?;
+    Ok(text_at(document.context(), "v") == Some(text))
 }
 
-// Asserts that a value is refused.
-fn is_refused(rt: &(impl Abort + AllocGlobal), value: &str, error: DocError) {
-    assert_eq!(rt;
-        with_value(rt.alloc(), value).err(),
-        Some(error),
-        "of {value}"
-    );
+// What a value is refused for, or nothing. It fails where allocation failed.
+fn fault_of_value(alloc: Global, value: &str) -> Result<Option<DocError>, DocError> {
+    fault_of(with_value(alloc, value))
 }
 
 #[test]
@@ -81,6 +76,30 @@ fn values_of_each_kind(rt: HostRuntime) -> Result<(), Fail> {
     assert!(rt; value_at(context, "u").is_none());
     assert!(rt; value_at(context, "x").is_none());
     first_fault_of_variables();
+    Ok(())
+}
+
+// JSON that is in memory, and its parts.
+#[test]
+fn values_in_memory(rt: HostRuntime) -> Result<(), Fail> {
+    let line = b"{\"template\":\"{v}\",\"vars\":{\"v\":7}}";
+    // The line is JSON, so only allocation can fail.
+    let Ok(value) = Json::from_slice(rt.alloc(), line) else {
+        return Err(AllocError.into());
+    };
+    let document = document_of(rt.alloc(), &value)?;
+    assert_eq!(rt; document.template(), "{v}");
+    assert_eq!(rt; text_at(document.context(), "v"), Some("7"));
+    let vars = value.get("vars").ok_or("no member")?;
+    let members = vars.as_object().ok_or("no object")?;
+    let context = read_variables(rt.alloc(), members)?;
+    assert_eq!(rt; text_at(&context, "v"), Some("7"));
+    let number = vars.get("v").ok_or("no member")?;
+    let (name, read) = read_variable(rt.alloc(), "v", number)?;
+    assert_eq!(rt; name.as_str(), "v");
+    assert!(rt; matches!(&read, Value::String(text) if text.as_str() == "7"));
+    let read = read_value(rt.alloc(), number)?;
+    assert!(rt; matches!(&read, Value::String(text) if text.as_str() == "7"));
     Ok(())
 }
 
@@ -121,7 +140,7 @@ fn keys_twice(rt: HostRuntime) -> Result<(), Fail> {
 
 // What `serde_json` holds as a whole number: from -2^63 to 2^64 - 1, without a point, an exponent, or a minus before 0.
 #[test]
-fn numbers_at_their_borders(rt: HostRuntime) {
+fn numbers_at_their_borders(rt: HostRuntime) -> Result<(), Fail> {
     for number in [
         "0",
         "7",
@@ -132,7 +151,7 @@ fn numbers_at_their_borders(rt: HostRuntime) {
         "-9223372036854775807",
         "-9223372036854775808",
     ] {
-        is_text(&rt, number, number);
+        assert!(rt; is_text(rt.alloc(), number, number)?, "{number}");
     }
     for number in [
         "-0",
@@ -145,21 +164,34 @@ fn numbers_at_their_borders(rt: HostRuntime) {
         "-9223372036854775809",
         "1e308",
     ] {
-        is_refused(&rt, number, DocError::Float);
+        assert_eq!(rt;
+            fault_of_value(rt.alloc(), number)?,
+            Some(DocError::Float),
+            "{number}"
+        );
     }
     for number in [
         "1e400", "-1e400", "01", "1.", ".5", "+1", "0x1", "NaN", "Infinity",
     ] {
-        is_refused(&rt, number, DocError::Json);
+        assert_eq!(rt;
+            fault_of_value(rt.alloc(), number)?,
+            Some(DocError::Json),
+            "{number}"
+        );
     }
+    Ok(())
 }
 
 #[test]
-fn escapes_and_surrogates(rt: HostRuntime) {
-    is_text(&rt, "\"\\u00e9\\n\\/\\\"\\\\\"", "é\n/\"\\");
-    is_text(&rt, "\"\\ud83d\\ude00\"", "😀");
-    is_text(&rt, "\"\\u0000\"", "\0");
-    is_text(&rt, "\"1.5\"", "1.5");
+fn escapes_and_surrogates(rt: HostRuntime) -> Result<(), Fail> {
+    for (value, text) in [
+        ("\"\\u00e9\\n\\/\\\"\\\\\"", "é\n/\"\\"),
+        ("\"\\ud83d\\ude00\"", "😀"),
+        ("\"\\u0000\"", "\0"),
+        ("\"1.5\"", "1.5"),
+    ] {
+        assert!(rt; is_text(rt.alloc(), value, text)?, "{value}");
+    }
     for text in [
         "\"\\ud83d\"",
         "\"\\ude00\\ud83d\"",
@@ -170,8 +202,13 @@ fn escapes_and_surrogates(rt: HostRuntime) {
         "'a'",
         "\"\t\"",
     ] {
-        is_refused(&rt, text, DocError::Json);
+        assert_eq!(rt;
+            fault_of_value(rt.alloc(), text)?,
+            Some(DocError::Json),
+            "{text}"
+        );
     }
+    Ok(())
 }
 
 #[test]
@@ -190,7 +227,7 @@ fn blanks_and_a_byte_order_mark(rt: HostRuntime) -> Result<(), Fail> {
         " ",
     ] {
         assert_eq!(rt;
-            read_document(rt.alloc(), line.as_bytes()).err(),
+            fault_of_line(rt.alloc(), line.as_bytes())?,
             Some(DocError::Json),
             "of {line}"
         );
@@ -225,7 +262,7 @@ fn as_deep_as_is_read(rt: HostRuntime) -> Result<(), Fail> {
     ] {
         let line = nested(rt.alloc(), start, depth, end)?;
         assert_eq!(rt;
-            read_document(rt.alloc(), line.as_bytes()).err(),
+            fault_of_line(rt.alloc(), line.as_bytes())?,
             Some(error),
             "at {depth}"
         );

@@ -7,12 +7,14 @@ use iri_owned::owned::RiAbsoluteString;
 use std::alloc::{AllocError, Global};
 use std::test::Fail;
 
-// What a line's document is answered: its canonical text, or the words of what it is refused for.
+// What a line's document is answered: its canonical text, or the words of what it is refused for. It fails where allocation
+// failed.
 fn answer<S: Spec>(alloc: Global, base: &str, line: &str) -> Result<String, Fail> {
     let base = RiAbsoluteString::<S>::try_from_str(alloc, base)?;
     let document = read_document(alloc, line.as_bytes())?;
     match expand_document(alloc, base.as_slice(), &document) {
         Ok(text) => Ok(text.into_string()),
+        Err(DocExpandError::Memory) => Err(DocExpandError::Memory)?,
         Err(error) => Ok(error.to_string(alloc)?),
     }
 }

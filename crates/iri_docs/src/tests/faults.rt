@@ -1,6 +1,6 @@
 // Refused lines: each fault alone, and with every later one also present.
 use crate::doc_error::DocError;
-use crate::read::read_document;
+use crate::tests::fault_of_line;
 use std::test::Fail;
 
 static JSON: [&str; 3] = [
@@ -64,29 +64,30 @@ static NESTED: [&str; 8] = [
 ];
 
 #[test]
-fn lines_that_are_refused(rt: HostRuntime) {
+fn lines_that_are_refused(rt: HostRuntime) -> Result<(), Fail> {
     for line in JSON.iter() {
         assert_eq!(rt;
-            read_document(rt.alloc(), line.as_bytes()).err(),
+            fault_of_line(rt.alloc(), line.as_bytes())?,
             Some(DocError::Json),
             "of {line}"
         );
     }
     assert_eq!(rt;
-        read_document(rt.alloc(), b"{\"template\":\"\xFF\"}").err(),
+        fault_of_line(rt.alloc(), b"{\"template\":\"\xFF\"}")?,
         Some(DocError::Json)
     );
     assert_eq!(rt;
-        read_document(rt.alloc(), b"\xFF[1]").err(),
+        fault_of_line(rt.alloc(), b"\xFF[1]")?,
         Some(DocError::Json)
     );
     for line in SHAPE.iter() {
         assert_eq!(rt;
-            read_document(rt.alloc(), line.as_bytes()).err(),
+            fault_of_line(rt.alloc(), line.as_bytes())?,
             Some(DocError::Shape),
             "of {line}"
         );
     }
+    Ok(())
 }
 
 #[test]
@@ -100,7 +101,7 @@ fn variables_that_are_refused(rt: HostRuntime) -> Result<(), Fail> {
         for vars in all {
             let line = format!(in rt.alloc(); "{{\"template\":\"{{v}}\",\"vars\":{vars}}}")?;
             assert_eq!(rt;
-                read_document(rt.alloc(), line.as_bytes()).err(),
+                fault_of_line(rt.alloc(), line.as_bytes())?,
                 Some(error),
                 "of {vars}"
             );

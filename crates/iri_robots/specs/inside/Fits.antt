@@ -1,18 +1,18 @@
 -- Matching from the left, and how it moves on: what the search for a filling keeps.
 use Rattle.std.specs.Prelude.{◌≡◌, ◌≢◌, ℕ, ◌<◌, ◌≤◌, Bool, true, List, [], ◌∷◌, ◌++◌, length, drop}
 use Rattle.iri_grammar.specs.Characters.{asterisk, percent_sign}
-use Rattle.iri_robots.specs.Patterns.{dollar_sign}
+use Rattle.iri_robots.specs.Patterns.{dollar_sign, digit_two, digit_four, capital_a}
 
 -- the letter of an escape `%2A` or `%24`, and the mark that it stands for
 pub data IsEscape : ℕ → ℕ → Type 0 where
-  star_escape : IsEscape 65 asterisk
-  dollar_escape : IsEscape 52 dollar_sign
+  star_escape : IsEscape capital_a asterisk
+  dollar_escape : IsEscape digit_four dollar_sign
 
 -- the text, or where the pattern isn't anchored a prefix of it, is a filling of the pattern
 pub data Fits (anchored : Bool) : List ℕ → List ℕ → Type 0 where
   ended : (s : List ℕ) → (anchored ≡ true → s ≡ []) → Fits anchored [] s
   star : (t q s : List ℕ) → Fits anchored q s → Fits anchored (asterisk ∷ q) (t ++ s)
-  escaped : (l m : ℕ) (q s : List ℕ) → IsEscape l m → Fits anchored q s → Fits anchored (percent_sign ∷ 50 ∷ l ∷ q) (m ∷ s)
+  escaped : (l m : ℕ) (q s : List ℕ) → IsEscape l m → Fits anchored q s → Fits anchored (percent_sign ∷ digit_two ∷ l ∷ q) (m ∷ s)
   same : (c : ℕ) (q s : List ℕ) → c ≢ asterisk → Fits anchored q s → Fits anchored (c ∷ q) (c ∷ s)
 
 -- r is what is left of s, somewhere
@@ -49,11 +49,11 @@ pub record EscapeOf (q : List ℕ) (m : ℕ) : Type 0 where
   pub letter : ℕ
   pub rest : List ℕ
   pub is_escape : IsEscape letter m
-  pub text : q ≡ percent_sign ∷ 50 ∷ letter ∷ rest
+  pub text : q ≡ percent_sign ∷ digit_two ∷ letter ∷ rest
 
 -- the pattern begins with no escape
 pub record NoEscape (q : List ℕ) : Type 0 where
-  pub none : (l m : ℕ) (rest : List ℕ) → IsEscape l m → q ≡ percent_sign ∷ 50 ∷ l ∷ rest → ⊥
+  pub none : (l m : ℕ) (rest : List ℕ) → IsEscape l m → q ≡ percent_sign ∷ digit_two ∷ l ∷ rest → ⊥
 
 -- the pattern doesn't fit
 pub record FitsNot (anchored : Bool) (q s : List ℕ) : Type 0 where
