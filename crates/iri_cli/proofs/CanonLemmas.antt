@@ -92,13 +92,13 @@ canon_ready s lo lm reader base text output k gives is taken short room = record
 }
 
 -- the answer to a line
-puts_answer : (rules : Rules) (wo wn : Option (List ℕ)) (fo fn : ℕ) (r : Result Bool AnswerError) (text : List ℕ) → rules.is_good ≡ is_ok
+pub puts_answer : (rules : Rules) (wo wn : Option (List ℕ)) (fo fn : ℕ) (r : Result Bool AnswerError) (text : List ℕ) → rules.is_good ≡ is_ok
     → PutsLine wo wn fo fn text r → PutsAnswer rules wo wn fo fn text r
 puts_answer rules wo wn fo fn (Ok good) text e p = (p.0, p.1, p.2 ∙ ap (λ f. f text) (sym e))
 puts_answer rules wo wn fo fn (Err SinkFailed) text e p = p
 puts_answer rules wo wn fo fn (Err Memory) text e p = absurd p
 
-on_ok : {X : Type 0} (r : Result Bool AnswerError) → X → OnOk r X
+pub on_ok : {X : Type 0} (r : Result Bool AnswerError) → X → OnOk r X
 on_ok (Ok x) h = h
 on_ok (Err x) h = tt
 

@@ -12,6 +12,7 @@ use Rattle.iri_text.specs.Line.{LineState}
 use Rattle.iri_text.specs.Sink.{KeepsRoom, PutsAll}
 use Rattle.iri_text.specs.declared.Failed.{Failed}
 use Rattle.iri_text.proofs.Puts.{Appends-none, room-same}
+use Rattle.iri_docs.specs.Expanded.{expansion_limit}
 use Rattle.iri_template.specs.Contexts.{value_at, value_in}
 use Rattle.iri_template.specs.Expansion.{expansion}
 use Rattle.iri_template.specs.Fault.{first, template_fault}
@@ -21,12 +22,12 @@ use Rattle.iri_template.specs.ShownValues.{optional}
 use Rattle.iri_template.specs.TypeFaults.{type_fault}
 use Rattle.iri_template.specs.declared.error.Error.{Error}
 use Rattle.iri_template.specs.declared.simple_context.SimpleContext.{SimpleContext}
-use Rattle.iri_cli.specs.Limits.{longest_line, answer_room}
+use Rattle.iri_cli.specs.Limits.{answer_room}
 use Rattle.iri_cli.specs.Answer.{answer, answer_by, refusal}
 use Rattle.iri_cli.specs.Answering.{Answering, AnswersLine, IsReady, PutsAnswer}
 use Rattle.iri_cli.specs.CanonAnswers.{PutsLine, told_of}
 use Rattle.iri_cli.specs.Ending.{Rules}
-use Rattle.iri_cli.specs.ExpandAnswers.{answer_to, expansion_answer, expansion_limit, template_answer, template_refusal}
+use Rattle.iri_cli.specs.ExpandAnswers.{answer_to, expansion_answer, template_answer, template_refusal}
 use Rattle.iri_cli.specs.ExpandAnswers.{too_long, unless_fault}
 use Rattle.iri_cli.specs.ExpandLines.{ExpandLine, Values, after_line, line_of, values_behind}
 use Rattle.iri_cli.specs.Words.{expand_rules, is_ok, is_ok_or_none}
@@ -183,7 +184,7 @@ expand_begins s = record { line_limit = refl; input_limit = refl; refusal = refl
 
 -- `expand` stands behind an opened base line, with buffers and no values
 pub expand_ready : (s : Tests) (lo lm : Option (List ℕ)) (fo fm : ℕ) (reader : LineState) (base text expansion output : List ℕ)
-    (context : SimpleContext) → IsOpened (expand_rules s) lo lm fo fm reader base → text ≡ base → length expansion ≡ longest_line
+    (context : SimpleContext) → IsOpened (expand_rules s) lo lm fo fm reader base → text ≡ base → length expansion ≡ expansion_limit
     → length output ≡ answer_room → ((q : List ℕ) → value_at context q ≡ None)
     → IsReady (IsExpandAt s text expansion output (value_in context)) (record { rules = expand_rules s; base = base; between = [] }) reader
 expand_ready s lo lm fo fm reader base text expansion output context o is expansion_room output_room none = record {

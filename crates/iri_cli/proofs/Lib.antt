@@ -12,6 +12,9 @@ pub mod GenLemmas
 pub mod GenReferences
 pub mod WordLemmas
 pub mod OpeningLemmas
+pub mod StatelessLemmas
+pub mod LinksLemmas
+pub mod DocsLemmas
 pub mod VariableLemmas
 pub mod ExpandLemmas
 pub mod PutLemmas

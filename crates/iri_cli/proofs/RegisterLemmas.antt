@@ -1,14 +1,14 @@
 -- The answers of `register`.
-use Rattle.std.proofs.Common.{◌≡◌, ◌≢◌, ℕ, zero, suc, ◌+◌, ◌<◌, ◌≤◌, Bool, List, [], ◌∷◌, ◌++◌, length, take, drop, Option, None, Some, Result, Ok, Err}
+use Rattle.std.proofs.Common.{◌≡◌, ◌≢◌, ℕ, zero, suc, ◌+◌, ◌<◌, Bool, List, [], ◌∷◌, ◌++◌, length, take, drop, Option, None, Some, Result, Ok, Err}
 use Rattle.std.proofs.Common.{refl, sym, ◌∙◌, ap, subst, arith, append_assoc, length-append, add-one}
-use Rattle.std.specs.Prelude.{OnOk, fold, decimal, slice_get, get_or, unwrap_or}
+use Rattle.std.specs.Prelude.{OnOk, decimal, slice_get, get_or, unwrap_or}
 use Rattle.std.specs.List.{flat_map}
 use Rattle.std.proofs.lemmas.List.{append-nil, length-take-le, take_more, take-append-drop}
 use Rattle.std.proofs.lemmas.Grind.{flat_map-append}
 use Rattle.std.proofs.lemmas.Option.{slice_get_within, unwrap_or-slice_get}
 use Rattle.iri_grammar.specs.Characters.{comma}
 use Rattle.iri_grammar.specs.Classes.{Tests}
-use Rattle.iri_register.specs.Commands.{obeyed, entries_of_commands}
+use Rattle.iri_register.specs.Commands.{entries_of_commands}
 use Rattle.iri_register.specs.Entries.{Entry, entry_at}
 use Rattle.iri_register.specs.Kept.{Kept}
 use Rattle.iri_register.proofs.CommandLemmas.{obeyed_from}

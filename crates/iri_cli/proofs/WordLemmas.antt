@@ -7,7 +7,7 @@ use Rattle.iri_cli.specs.declared.command.Command.TheVariants.{Gen, Lines}
 use Rattle.iri_cli.specs.declared.command.Grammar.{Grammar}
 use Rattle.iri_cli.specs.declared.command.Grammar.TheVariants.{Uri, Iri}
 use Rattle.iri_cli.specs.declared.command.LineCommand.{LineCommand}
-use Rattle.iri_cli.specs.declared.command.LineCommand.TheVariants.{Canon, Expand, Register}
+use Rattle.iri_cli.specs.declared.command.LineCommand.TheVariants.{Canon, Expand, Register, Links, Docs}
 
 one_grammar : (a b : Grammar) → word_of a ≡ word_of b → a ≡ b
 one_grammar Uri Uri e = refl
@@ -28,12 +28,14 @@ one_gen words a b m n p q =
 
 -- the command over lines whose name begins with this byte
 abbrev named : ℕ → LineCommand
-named first = if first == 99 then Canon else (if first == 114 then Register else Expand)
+named first = if first == 99 then Canon else (if first == 114 then Register else (if first == 108 then Links else (if first == 100 then Docs else Expand)))
 
 one_name : (c : LineCommand) → named (get_or (command_word c) 0 0) ≡ c
 one_name Canon = refl
 one_name Expand = refl
 one_name Register = refl
+one_name Links = refl
+one_name Docs = refl
 
 -- words tell what is said of the lines of an input
 pub one_lines : (words : List (List ℕ)) (c d : LineCommand) (a b : Grammar) → IsCommand words (Lines c a) → IsCommand words (Lines d b)

@@ -1,6 +1,7 @@
 -- The command `expand`: what is answered to a line.
 use Rattle.std.specs.Prelude.{ℕ, nat_lt, codes, decimal, List, [], ◌∷◌, ◌++◌, length, Option, None, Some, if◌then◌else◌}
 use Rattle.iri_grammar.specs.Classes.{Tests}
+use Rattle.iri_docs.specs.Expanded.{expansion_limit}
 use Rattle.iri_text.specs.LineEnds.{line_feed}
 use Rattle.iri_template.specs.ErrorTexts.{description}
 use Rattle.iri_template.specs.Expansion.{expansion}
@@ -8,17 +9,12 @@ use Rattle.iri_template.specs.Fault.{first, template_fault}
 use Rattle.iri_template.specs.Reading.{pieces_of}
 use Rattle.iri_template.specs.TypeFaults.{type_fault}
 use Rattle.iri_template.specs.declared.error.Error.{Error}
-use Rattle.iri_cli.specs.Limits.{longest_line}
 use Rattle.iri_cli.specs.Answer.{answer}
 use Rattle.iri_cli.specs.Refused.{bad_line}
 use Rattle.iri_cli.specs.ExpandLines.{ExpandLine, changes, expands, bad, Values, line_of, values_behind}
 
 abbrev pub too_long : List ℕ
 too_long = codes "bad expansion too long" ++ line_feed ∷ []
-
--- how many bytes an expansion may have
-abbrev pub expansion_limit : ℕ
-expansion_limit = longest_line
 
 -- a fault of the template, or of the type of a variable's value, and how many bytes of the template stand before it
 abbrev pub template_refusal : Error → List ℕ

@@ -18,6 +18,10 @@ pub mod Refused
 pub mod RegisterLines
 pub mod RegisterAnswers
 pub mod RegisterExamples
+pub mod LinksAnswers
+pub mod LinksExamples
+pub mod DocsAnswers
+pub mod DocsExamples
 pub mod RobotsLines
 pub mod RobotsAnswers
 pub mod RobotsExamples

@@ -1,11 +1,10 @@
 -- The command `register`, worked on the lines of small inputs.
-use Rattle.std.specs.Prelude.{◌≡◌, ℕ, ◌++◌, List, [], ◌∷◌, codes, map, refl}
-use Rattle.std.specs.List.{concat}
+use Rattle.std.specs.Prelude.{◌≡◌, ℕ, List, [], ◌∷◌, codes, refl}
 use Rattle.std.specs.Fmt.{digits}
 use Rattle.std.specs.Str.{chars, is_utf8}
 use lib.Utf8.{encode}
 use Rattle.iri_grammar.specs.Authority.{authority_parts, recompose_authority}
-use Rattle.iri_grammar.specs.Classes.{uri_tests, iri_tests, unreserved, is_ascii_unreserved, is_ucschar, is_ucschar_plane, is_sub_delim}
+use Rattle.iri_grammar.specs.Classes.{uri_tests, unreserved, is_ascii_unreserved, is_sub_delim}
 use Rattle.iri_grammar.specs.Classes.{userinfo_char, reg_name_char, path_char, query_char, fragment_char, is_ascii_userinfo, is_ascii_reg_name}
 use Rattle.iri_grammar.specs.Classes.{is_ascii_path, is_ascii_pchar, is_ascii_query}
 use Rattle.iri_grammar.specs.Components.{is_letter, is_scheme_char}
@@ -21,7 +20,7 @@ use Rattle.iri_resolve.specs.DotRemoval.{dots}
 use Rattle.iri_resolve.specs.Dots.{is_dot_segment}
 use Rattle.iri_resolve.specs.NormalForm.{normal_path, normal_form, form, canonical}
 use Rattle.iri_resolve.specs.Target.{target}
-use Rattle.iri_cli.specs.Ending.{answers, completed}
+use Rattle.iri_cli.specs.Ending.{answers}
 use Rattle.iri_cli.specs.RegisterLines.{line_of, entries_behind}
 use Rattle.iri_cli.specs.Words.{register_rules}
 

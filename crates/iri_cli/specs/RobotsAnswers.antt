@@ -1,5 +1,5 @@
 -- The command `robots`: what is answered to a line.
-use Rattle.std.specs.Prelude.{ℕ, Bool, true, false, ◌&&◌, codes, List, [], ◌∷◌, ◌++◌, Option, None, Some, if◌then◌else◌}
+use Rattle.std.specs.Prelude.{ℕ, Bool, true, false, ◌&&◌, codes, List, [], ◌∷◌, ◌++◌, Option, None, Some}
 use Rattle.std.specs.Str.{bytes_eq}
 use Rattle.iri_grammar.specs.Classes.{Tests}
 use Rattle.iri_grammar.specs.Fault.{bytes_fault}

@@ -1,5 +1,5 @@
 -- The command `robots`, worked on the lines of small inputs.
-use Rattle.std.specs.Prelude.{◌≡◌, ℕ, List, [], ◌∷◌, codes, refl}
+use Rattle.std.specs.Prelude.{◌≡◌, [], ◌∷◌, codes, refl}
 use Rattle.std.specs.Str.{chars, is_utf8}
 use lib.Utf8.{encode}
 use Rattle.iri_grammar.specs.Authority.{authority_parts, recompose_authority}

@@ -5,7 +5,9 @@ use Rattle.iri_grammar.specs.Classes.{Tests, uri_tests, iri_tests}
 use Rattle.iri_cli.specs.Limits.{longest_line, longest_input}
 use Rattle.iri_cli.specs.Ending.{Rules}
 use Rattle.iri_cli.specs.Answer.{refusal, answer}
+use Rattle.iri_cli.specs.DocsAnswers.{docs_answer}
 use Rattle.iri_cli.specs.ExpandAnswers.{expand_answer}
+use Rattle.iri_cli.specs.LinksAnswers.{links_answer}
 use Rattle.iri_cli.specs.Refused.{is_not_bad}
 use Rattle.iri_cli.specs.RegisterAnswers.{register_answer, register_closing}
 use Rattle.iri_cli.specs.RobotsAnswers.{robots_answer}
@@ -15,7 +17,7 @@ use Rattle.iri_cli.specs.declared.command.Grammar.TheVariants.{Uri, Iri}
 use Rattle.iri_cli.specs.declared.command.Command.{Command}
 use Rattle.iri_cli.specs.declared.command.Command.TheVariants.{Lines, Robots, Gen, Tell}
 use Rattle.iri_cli.specs.declared.command.LineCommand.{LineCommand}
-use Rattle.iri_cli.specs.declared.command.LineCommand.TheVariants.{Canon, Expand, Register}
+use Rattle.iri_cli.specs.declared.command.LineCommand.TheVariants.{Canon, Expand, Register, Links, Docs}
 use Rattle.iri_cli.specs.declared.notice.Notice.{Notice}
 use Rattle.iri_cli.specs.declared.notice.Notice.TheVariants.{Help, Version}
 
@@ -34,6 +36,8 @@ abbrev pub command_word : LineCommand → List ℕ
 command_word Canon = codes "canon"
 command_word Expand = codes "expand"
 command_word Register = codes "register"
+command_word Links = codes "links"
+command_word Docs = codes "docs"
 
 -- the words behind that of its grammar
 abbrev pub words_behind : LineCommand → List (List ℕ)
@@ -97,6 +101,19 @@ register_rules s = record (canon_rules s) {
   takes_memory = true;
 }
 
+-- a command that answers each line by the base and that line alone: base, limits and good answers are those of `canon`, but a line takes
+-- memory
+abbrev pub stateless_rules : (Tests → List ℕ → List ℕ → List ℕ) → Tests → Rules
+stateless_rules answer_to s = record (canon_rules s) { answer = λ base between line. answer_to s base line; takes_memory = true }
+
+-- `links`: each line is the value of a `Link` field
+abbrev pub links_rules : Tests → Rules
+links_rules s = stateless_rules links_answer s
+
+-- `docs`: each line is a template document in JSON
+abbrev pub docs_rules : Tests → Rules
+docs_rules s = stateless_rules docs_answer s
+
 -- `robots` over the lines of an input, for the crawler of a token: each line is answered by the records behind the lines before it
 abbrev pub robots_rules : Tests → List ℕ → Rules
 robots_rules s token = record (canon_rules s) { answer = robots_answer s token; is_good = is_not_bad; takes_memory = true }
@@ -106,3 +123,5 @@ abbrev pub rules_of : LineCommand → Tests → Rules
 rules_of Canon s = canon_rules s
 rules_of Expand s = expand_rules s
 rules_of Register s = register_rules s
+rules_of Links s = links_rules s
+rules_of Docs s = docs_rules s

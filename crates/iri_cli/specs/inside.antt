@@ -5,5 +5,6 @@ pub mod Said
 pub mod Asked
 pub mod Replies
 pub mod RegisterAt
+pub mod StatelessAt
 pub mod RobotsSaid
 pub mod RobotsAt

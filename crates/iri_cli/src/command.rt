@@ -27,6 +27,10 @@ pub enum LineCommand {
     Expand,
     /// To keep each canonical link once, with the numbers of its lines.
     Register,
+    /// To answer the value of a `Link` field by its links, with their canonical targets.
+    Links,
+    /// To answer a template document in JSON by the canonical text of its expansion.
+    Docs,
 }
 
 /// What the program is told to do.
@@ -67,6 +71,10 @@ fn line_command_of(word: &str) -> Option<LineCommand>
         Some(LineCommand::Expand)
     } else if word == "register" {
         Some(LineCommand::Register)
+    } else if word == "links" {
+        Some(LineCommand::Links)
+    } else if word == "docs" {
+        Some(LineCommand::Docs)
     } else {
         None
     }

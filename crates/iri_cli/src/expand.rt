@@ -7,7 +7,8 @@ ghost use Rattle.iri_resolve.specs.Resolver.{base_text};
 ghost use Rattle.iri_cli.specs.Limits.{longest_line, answer_room};
 ghost use Rattle.iri_cli.specs.Answer.{refusal};
 ghost use Rattle.iri_cli.specs.CanonAnswers.{PutsLine};
-ghost use Rattle.iri_cli.specs.ExpandAnswers.{expansion_answer, expansion_limit, template_answer, template_refusal};
+ghost use Rattle.iri_cli.specs.ExpandAnswers.{expansion_answer, template_answer, template_refusal};
+ghost use Rattle.iri_docs.specs.Expanded.{expansion_limit};
 ghost use Rattle.iri_cli.specs.declared.answers.AnswerError.TheVariants.{SinkFailed};
 
 use crate::answers::{AnswerError, Answers};

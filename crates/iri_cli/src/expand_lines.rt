@@ -3,19 +3,17 @@ ghost use Rattle.iri_cli.specs.Run.{outside, Ran, Runs};
 ghost use Rattle.iri_cli.specs.Words.{expand_rules};
 
 use crate::answer_lines::answer_lines;
-use crate::buffers::{LINE, OUTPUT};
+use crate::buffers::OUTPUT;
 use crate::end::{End, finish};
 use crate::expand::Expand;
 use crate::opening::open_lines;
+use iri_docs::expand::EXPANSION_LIMIT;
 use iri_grammar::spec::Spec;
 use iri_owned::owned::RiAbsoluteString;
 use iri_resolve::resolver::FixedBaseResolver;
 use iri_template::simple_context::SimpleContext;
 use iri_text::{LineReader, Sink, Source};
 use std::alloc::Global;
-
-// How many bytes an expansion may have.
-const EXPANSION: usize = LINE;
 
 // Reads the base line, and answers the lines behind it.
 fn answer_all<S: Spec, I: Source, O: Sink>(alloc: Global, source: &mut I, sink: &mut O) -> End
@@ -24,8 +22,10 @@ fn answer_all<S: Spec, I: Source, O: Sink>(alloc: Global, source: &mut I, sink: 
         (outside (I.left source.new) (O.written sink.new) (I.faults source.new) (O.faults sink.new))
         (O.room_left sink.old) (O.room_left sink.new) result }
 {
-    let (Ok(expansion), Ok(output)) = (vec![in alloc; 0; EXPANSION], vec![in alloc; 0; OUTPUT])
-    else {
+    let (Ok(expansion), Ok(output)) = (
+        vec![in alloc; 0; EXPANSION_LIMIT],
+        vec![in alloc; 0; OUTPUT],
+    ) else {
         return End::Memory;
     };
     match open_lines::<S, I, O>(alloc, source, sink) {

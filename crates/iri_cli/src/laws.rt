@@ -1,8 +1,14 @@
-//! What holds of a run over memory, and of a base that is prepared once.
-ghost use Rattle.std.specs.Prelude.{◌≡◌, ◌≤◌, ◌+◌, ◌⊎◌, ℕ, List, [], ◌++◌, length, true, None, Some};
+//! What holds of a run over memory, of a base that is prepared once, and of the answers of `links`.
+ghost use Rattle.std.specs.Prelude.{◌≡◌, ◌≤◌, ◌+◌, ◌⊎◌, ℕ, List, [], ◌++◌, length, map, true, None, Some};
 ghost use Rattle.iri_grammar.specs.Parts.{IsAbsolute};
+ghost use Rattle.iri_link.specs.Fault.{Told, field_fault};
+ghost use Rattle.iri_link.specs.Field.{LinkValue};
+ghost use Rattle.iri_link.specs.Links.{HasLinks};
+ghost use Rattle.iri_link.specs.Resolved.{resolved};
+ghost use Rattle.iri_link.specs.Written.{written};
 ghost use Rattle.iri_resolve.specs.NormalForm.{canonical};
 ghost use Rattle.iri_cli.specs.Answer.{refusal, answer};
+ghost use Rattle.iri_cli.specs.LinksAnswers.{field_refusal, links_answer, links_line};
 ghost use Rattle.iri_cli.specs.Prepared.{prepared};
 ghost use Rattle.iri_text.specs.Memory.{SinkState, room_left_of};
 ghost use Rattle.iri_cli.specs.Ending.{Rules, ending};
@@ -30,4 +36,16 @@ pub fn prepared_base_has_the_same_answers<S: Spec>()
         → canonical S.tests (prepared S.tests base) reference ≡ canonical S.tests base reference }
     ensures answers { (base line : List ℕ) → refusal S.tests base ≡ None
         → answer S.tests (prepared S.tests base) line ≡ answer S.tests base line }
+{}
+
+/// `links` answers a field value whose targets are URI-references by its one list of link-values, with their canonical targets, and
+/// every other line by a fault. What it writes of a field value is answered by itself, against every base.
+pub fn field_values_are_answered<S: Spec>()
+    ensures links { (base line : List ℕ) (links : List LinkValue) → HasLinks S.tests line links
+        → links_answer S.tests base line ≡ links_line S.tests base links }
+    ensures others { (base line : List ℕ) → ((links : List LinkValue) → HasLinks S.tests line links → ⊥)
+        → (t : Told) × (field_fault S.tests line ≡ Some t) × (links_answer S.tests base line ≡ field_refusal t) }
+    ensures again { (base other line : List ℕ) (links : List LinkValue) → refusal S.tests base ≡ None
+        → HasLinks S.tests line links
+        → links_answer S.tests other (written (map (resolved S.tests base) links)) ≡ links_answer S.tests base line }
 {}

@@ -23,6 +23,8 @@ irikit: canonical texts of URI and IRI references (RFC 3986, RFC 3987)
   irikit canon GRAMMAR          answers each reference line by its canonical text against a base
   irikit expand GRAMMAR         answers each URI template by the canonical text of its expansion (RFC 6570)
   irikit register GRAMMAR       keeps each link once, with the numbers of its lines, and writes them at the end
+  irikit links GRAMMAR          answers the value of each Link header field by its links in one form (RFC 8288)
+  irikit docs GRAMMAR           answers each line of JSON, a template and its variables, by the canonical text as expand does
   irikit robots GRAMMAR TOKEN   tells for each link whether a robots file allows the crawler TOKEN to fetch it (RFC 9309)
   irikit gen GRAMMAR N          makes N references (from 1 to 100000) and tells of their canonical texts; reads nothing
   irikit --help                 writes this text
@@ -31,8 +33,9 @@ GRAMMAR is uri or iri. The first line of the input is the base; each line behind
 Lines of expand: 's NAME VALUE' sets a string, 'l NAME ITEM' adds to a list, 'a NAME KEY VALUE' adds a pair,
   'u NAME' unsets, and 't TEMPLATE' is answered; of register: 'a REF' adds, 'd REF' removes, 'f REF' finds a link;
   of robots: 'r LINE' feeds a line of the file, 'u REF' asks for a link
-Answers of canon and expand: 'ok ' and the canonical text; otherwise why there is none, as 'bad ' and the first fault
-  of the reference; where the base is refused, the one line 'base ' and its first fault
+Answers of canon, expand and links: 'ok ' and the canonical text, for links the links with their canonical targets;
+  otherwise why there is none, as 'bad ' and the first fault; where the base is refused, the one line 'base ' and its
+  first fault
 Statuses: 0 every answer is good, 1 some answer is bad, 2 the words are no command, 3 the base is refused,
   4 reading failed, 5 writing failed, 6 memory was refused, 7 a line is too long, 8 the input is too long
 ";

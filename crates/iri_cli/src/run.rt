@@ -15,11 +15,14 @@ ghost use Rattle.iri_cli.specs.declared.notice.Notice.{Notice};
 use crate::buffers::CanonBuffers;
 use crate::canon_lines::canon_lines;
 use crate::command::{Command, Grammar, LineCommand, command_of};
+use crate::docs::Docs;
 use crate::expand_lines::expand_lines;
 use crate::generator::gen_lines;
+use crate::links::Links;
 use crate::notice::{put_text, tell};
 use crate::register_lines::register_lines;
 use crate::robots_lines::robots_lines;
+use crate::stateless_lines::stateless_lines;
 use iri_grammar::spec::{IriSpec, Spec, UriSpec};
 use iri_text::{Sink, Source};
 use std::alloc::{AllocError, Global};
@@ -59,6 +62,8 @@ fn lines_in<S: Spec, I: Source, O: Sink>(
         LineCommand::Canon => canon::<S, I, O>(alloc, source, sink),
         LineCommand::Expand => expand_lines::<S, I, O>(alloc, source, sink),
         LineCommand::Register => register_lines::<S, I, O>(alloc, source, sink),
+        LineCommand::Links => stateless_lines::<S, Links, I, O>(alloc, source, sink),
+        LineCommand::Docs => stateless_lines::<S, Docs, I, O>(alloc, source, sink),
     }
 }
 
@@ -129,8 +134,8 @@ fn generate<O: Sink>(alloc: Global, grammar: Grammar, count: u32, sink: &mut O) 
 
 /// Does what the words after the program's name say, and gives the program's status:
 ///
-/// - 0: the input was read to its end, and each answer is a good one (of `canon` and `expand`: it begins with `ok `; of `register`:
-///   it doesn't begin with `bad`); 1: the same, but some answer isn't
+/// - 0: the input was read to its end, and each answer is a good one (of `canon`, `expand`, `links` and `docs`: it begins with
+///   `ok `; of `register` and `robots`: it doesn't begin with `bad`); 1: the same, but some answer isn't
 /// - 2: the words are no command, and nothing was read or written
 /// - 3: the base line is refused
 /// - 4: the source failed; 5: the sink failed

@@ -4,7 +4,7 @@ use Rattle.iri_grammar.specs.Classes.{Tests}
 use Rattle.iri_cli.specs.Limits.{longest_line, answer_room}
 use Rattle.iri_cli.specs.Answer.{refusal}
 use Rattle.iri_cli.specs.Answering.{Answering}
-use Rattle.iri_cli.specs.ExpandAnswers.{expansion_limit}
+use Rattle.iri_docs.specs.Expanded.{expansion_limit}
 use Rattle.iri_cli.specs.ExpandLines.{Values, values_behind}
 use Rattle.iri_cli.specs.Words.{expand_rules}
 

@@ -3,7 +3,7 @@ use Rattle.iri_text.specs.Sink.{KeepsRoom}
 use Rattle.iri_resolve.specs.Resolver.{base_text}
 use Rattle.iri_template.specs.Contexts.{value_in}
 use Rattle.iri_template.specs.ExpandedTexts.{expanded_text}
-use Rattle.iri_cli.specs.Limits.{longest_line}
+use Rattle.iri_docs.specs.Expanded.{expansion_limit}
 use Rattle.iri_cli.specs.Answer.{answer}
 use Rattle.iri_cli.specs.CanonAnswers.{PutsLine}
 use Rattle.iri_cli.specs.ExpandAnswers.{too_long}
@@ -16,7 +16,7 @@ within room len limit h e = let none : ¬ (room < len) = λ less. let x = h less
 
 pub put_answer-requires-clause-room : goal.put_answer-requires-clause-room
 put_answer-requires-clause-room g c =
-    let short = within _ _ longest_line (c.in-Ok.ensures.exact.1) c.requires.room in
+    let short = within _ _ expansion_limit (c.in-Ok.ensures.exact.1) c.requires.room in
     omega (arith, short, c.requires.short, c.requires.output_room, ap length c.as_bytes.ensures.value, ap length c.in-Ok.ensures.text)
 
 pub returns-in-Ok-clause-puts : goal.returns-in-Ok-clause-puts
@@ -25,7 +25,7 @@ returns-in-Ok-clause-puts g c =
     let base = base_text c.args.resolver in
     let text = expanded_text s value_in c.args.expanded.now in
     let is = ap (answer s base) (c.as_bytes.ensures.value ∙ c.in-Ok.ensures.text)
-    ∙ short_answer s base text (within _ _ longest_line (c.in-Ok.ensures.exact.1) c.requires.room) in
+    ∙ short_answer s base text (within _ _ expansion_limit (c.in-Ok.ensures.exact.1) c.requires.room) in
     subst (λ t. PutsLine (g.O.Sink.written c.args.sink.now) (g.O.Sink.written c.put_answer.new.sink) (g.O.Sink.faults c.args.sink.now)
     (g.O.Sink.faults c.put_answer.new.sink) t c.put_answer.result) is c.put_answer.ensures.puts
 
@@ -35,7 +35,7 @@ returns-in-Ok-clause-room g c =
     let base = base_text c.args.resolver in
     let text = expanded_text s value_in c.args.expanded.now in
     let is = ap (answer s base) (c.as_bytes.ensures.value ∙ c.in-Ok.ensures.text)
-    ∙ short_answer s base text (within _ _ longest_line (c.in-Ok.ensures.exact.1) c.requires.room) in
+    ∙ short_answer s base text (within _ _ expansion_limit (c.in-Ok.ensures.exact.1) c.requires.room) in
     subst (λ t. KeepsRoom (g.O.Sink.room_left c.args.sink.now) (g.O.Sink.room_left c.put_answer.new.sink) t
     (c.put_answer.result ≢ Err SinkFailed)) is c.put_answer.ensures.room
 

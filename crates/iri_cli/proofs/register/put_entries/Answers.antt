@@ -1,4 +1,4 @@
-use Rattle.std.proofs.Common.{◌+◌, ◌<◌, ◌≡◌, arith, drop, length, sym, ◌∙◌}
+use Rattle.std.proofs.Common.{◌+◌, arith, drop}
 use Rattle.iri_text.proofs.Puts.{puts-then, puts-exit}
 use Rattle.iri_cli.specs.RegisterAnswers.{entry_lines}
 use Rattle.iri_cli.proofs.PutLemmas.{puts_so}

@@ -1,4 +1,4 @@
-use Rattle.std.proofs.Common.{◌≡◌, ◌↔◌, ◌∙◌, Bool, true, string_bytes, subst, sym}
+use Rattle.std.proofs.Common.{◌≡◌, ◌↔◌, ◌∙◌, true, string_bytes, subst}
 use Rattle.iri_grammar.specs.Split.{split_of}
 use Rattle.iri_robots.specs.Allowed.{IsAllowed}
 use Rattle.iri_robots.specs.Compared.{subject}

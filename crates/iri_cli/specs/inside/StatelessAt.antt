@@ -1,0 +1,10 @@
+-- Where a command stands that answers each line alone.
+use Rattle.std.specs.Prelude.{◌≡◌, ℕ, List}
+use Rattle.iri_grammar.specs.Classes.{Tests}
+use Rattle.iri_cli.specs.Answering.{Answering}
+use Rattle.iri_cli.specs.Words.{stateless_rules}
+
+-- It has the base.
+pub record IsStatelessAt (answer : Tests → List ℕ → List ℕ → List ℕ) (s : Tests) (base : List ℕ) (at : Answering) : Type 0 where
+  pub rules : at.rules ≡ stateless_rules answer s
+  pub base_is : base ≡ at.base
