@@ -2,7 +2,7 @@
 use Rattle.std.proofs.Common.{◌≡◌, ℕ, zero, suc, ◌<◌, Bool, true, false, List, [], ◌∷◌, Some, None, Option, MatchOption, length, refl, ap}
 use Rattle.std.proofs.Common.{arith, add-one}
 use Rattle.std.specs.Prelude.{◌==◌, slice_index}
-use Rattle.std.proofs.lemmas.Bool.Decides.{nat_tests}
+use Rattle.std.proofs.lemmas.Bool.{eqb-true}
 use Rattle.memchr.specs.Find.{is_byte, IsFirstByte}
 use Rattle.iri_grammar.specs.Cut.{CutAt, NoCut}
 
@@ -10,15 +10,12 @@ pub false-where : (b : Bool) → (b ≡ true → ⊥) → b ≡ false
 false-where true n = absurd (n refl)
 false-where false n = refl
 
-equal-where : (x c : ℕ) → (x == c) ≡ true → x ≡ c
-equal-where x c h = grind (arith, nat_tests)
-
 cut_at : (c : ℕ) (bs : List ℕ) (k : ℕ) → k < length bs → ((j : ℕ) → j < k → (slice_index bs j == c) ≡ true → ⊥)
     → (slice_index bs k == c) ≡ true → CutAt c bs k
 cut_at c [] k l n p = absurd (omega arith)
 cut_at c (x ∷ xs) zero l n p = record {
   inside = l;
-  byte = equal-where x c p;
+  byte = eqb-true x c p;
   front = rw p refl;
   rest = rw p refl;
   tail = rw p refl;

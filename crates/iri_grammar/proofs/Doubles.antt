@@ -1,43 +1,32 @@
--- Where the first `::` stands.
-use Rattle.std.proofs.Common.{◌≡◌, ℕ, zero, suc, ◌+◌, ◌<◌, true, false, ◌&&◌, List, [], ◌∷◌, length, refl, sym, ◌∙◌, ap, arith}
+-- A text cut at its first `::`.
+use Rattle.std.proofs.Common.{◌≡◌, ℕ, zero, suc, ◌<◌, ◌≤◌, ◌≢◌, false, ◌&&◌, List, [], ◌∷◌, Some, None, length, take, drop}
+use Rattle.std.proofs.Common.{refl, sym, ◌∙◌, ap, subst, arith}
 use Rattle.std.specs.Prelude.{◌==◌}
 use Rattle.std.proofs.lemmas.Bool.{eqb-true}
 use Rattle.iri_grammar.proofs.CutLaws.{both}
-use Rattle.iri_grammar.specs.Ipv6Test.{begins}
-use Rattle.iri_grammar.specs.inside.Ipv6Counts.{DoubleAt, NoDouble}
-use Rattle.iri_grammar.proofs.Ipv6Counts.{double_at}
+use Rattle.iri_grammar.proofs.CutLemmas.{false-where}
+use Rattle.iri_grammar.specs.Ipv6Test.{begins, before_double, behind_double}
 
--- at the start, and further on
-front_double : (x : ℕ) (xs : List ℕ) → double_at (x ∷ xs) 0 ≡ (x == 58 && begins 58 xs)
-front_double x [] = refl
-front_double x (y ∷ xs) = refl
+-- none at the start
+none_here : (x : ℕ) (xs : List ℕ) → ((rest : List ℕ) → x ∷ xs ≢ 58 ∷ 58 ∷ rest) → (x == 58 && begins 58 xs) ≡ false
+none_here x [] n = false-where (x == 58 && false) (λ e. let two = both (x == 58) false e in cc)
+none_here x (y ∷ ys) n =
+    false-where (x == 58 && y == 58) (λ e. let two = both (x == 58) (y == 58) e in
+    n ys (ap (λ c. c ∷ y ∷ ys) (eqb-true x 58 two.0) ∙ ap (λ c. 58 ∷ c ∷ ys) (eqb-true y 58 two.1)))
 
-later_double : (x : ℕ) (xs : List ℕ) (k : ℕ) → double_at (x ∷ xs) (suc k) ≡ double_at xs k
-later_double x xs k = let e : suc k + 1 ≡ suc (k + 1) = omega arith in rw e refl
+pub no_double : (bs : List ℕ) → ((i : ℕ) → i ≤ length bs → (rest : List ℕ) → drop i bs ≢ 58 ∷ 58 ∷ rest)
+    → (bs ≡ before_double bs) × (None ≡ behind_double bs)
+no_double [] n = (refl, refl)
+no_double (x ∷ xs) n =
+    let here = none_here x xs (n 0 (omega arith)) in
+    let r = no_double xs (λ i l. n (suc i) (omega arith)) in
+    (rw here (ap (λ ys. x ∷ ys) r.0), rw here r.1)
 
-pub none_double : (bs : List ℕ) → ((k : ℕ) → k < length bs → double_at bs k ≡ false) → NoDouble bs
-none_double [] n = record { front = refl; back = refl }
-none_double (x ∷ xs) n =
-    let here : (x == 58 && begins 58 xs) ≡ false = sym (front_double x xs) ∙ n 0 (omega arith) in
-    let h = none_double xs (λ k l. sym (later_double x xs k) ∙ n (suc k) (omega arith)) in
-    record { front = rw here (ap (λ ys. x ∷ ys) h.front); back = rw here h.back }
-
-pub found_double : (bs : List ℕ) (k : ℕ) → k + 1 < length bs → ((j : ℕ) → j < k → double_at bs j ≡ false) → double_at bs k ≡ true
-    → DoubleAt bs k
-found_double [] k l n p = absurd (omega arith)
-found_double (x ∷ []) zero l n p = absurd (omega arith)
-found_double (x ∷ y ∷ xs) zero l n p =
-    let two = both (x == 58) (y == 58) p in
-    record { inside = omega arith; first = eqb-true x 58 two.0; second = eqb-true y 58 two.1; front = rw p refl; back = rw p refl }
-found_double (x ∷ xs) (suc k) l n p =
-    let here : (x == 58 && begins 58 xs) ≡ false = sym (front_double x xs) ∙ n 0 (omega arith) in
-    let h = found_double xs k (omega arith) (λ j b. sym (later_double x xs j) ∙ n (suc j) (omega arith)) (sym (later_double x xs k) ∙ p) in
-    let e : suc k + 1 ≡ suc (k + 1) = omega arith in
-    let f : suc k + 2 ≡ suc (k + 2) = omega arith in
-    record {
-      inside = omega (arith, h.inside);
-      first = h.first;
-      second = rw e h.second;
-      front = rw here (ap (λ ys. x ∷ ys) h.front);
-      back = rw (here, f) h.back;
-    }
+pub first_double : (bs ys : List ℕ) (k : ℕ) → ((i : ℕ) → i < k → (rest : List ℕ) → drop i bs ≢ 58 ∷ 58 ∷ rest) → drop k bs ≡ 58 ∷ 58 ∷ ys
+    → (take k bs ≡ before_double bs) × (Some ys ≡ behind_double bs)
+first_double bs ys zero n e = subst (λ l. ([] ≡ before_double l) × (Some ys ≡ behind_double l)) (sym e) (refl, refl)
+first_double [] ys (suc k) n e = cc
+first_double (x ∷ xs) ys (suc k) n e =
+    let here = none_here x xs (n 0 (omega arith)) in
+    let r = first_double xs ys k (λ i l. n (suc i) (omega arith)) e in
+    (rw here (ap (λ zs. x ∷ zs) r.0), rw here r.1)

@@ -22,7 +22,7 @@ use Rattle.iri_grammar.specs.declared.error.ErrorKind.TheVariants.{InvalidUserIn
 use Rattle.iri_grammar.specs.declared.error.ErrorKind.TheVariants.{InvalidFragment, UnexpectedFragment, InvalidUtf8}
 use Rattle.iri_grammar.specs.Fault.{first, unless, part_fault, scheme_fault, userinfo_fault, host_fault, authority_fault, query_fault}
 use Rattle.iri_grammar.specs.Fault.{fragment_fault, bytes_fault}
-use Rattle.iri_grammar.specs.WholeFault.{colon_allowed, front_fault, parts_fault, missing_scheme_fault, reference_fault, iri_fault}
+use Rattle.iri_grammar.specs.WholeFault.{colon_allowed, fault_before_fragment, parts_fault, missing_scheme_fault, reference_fault, iri_fault}
 use Rattle.iri_grammar.specs.WholeFault.{absolute_fault, relative_fault}
 
 -- ---- faults that are none
@@ -113,7 +113,7 @@ pub record NoFault (s : Tests) (g : List ℕ → Option ErrorKind) (p : Parts) :
   pub fragment : part_fault g p.fragment ≡ None
 
 no_fault-parts : (s : Tests) (g : List ℕ → Option ErrorKind) (p : Parts) → parts_fault s g p ≡ None → NoFault s g p
-unfolding parts_fault front_fault
+unfolding parts_fault fault_before_fragment
 no_fault-parts s g p h =
     let tail = first (unless (is_path s p.path && colon_allowed p) InvalidPath) (part_fault (query_fault s) p.query) in
     let all = neither (first (part_fault (authority_fault s) p.authority) tail) (part_fault g p.fragment) h in
@@ -129,7 +129,7 @@ no_fault-parts s g p h =
     }
 
 parts-no_fault : (s : Tests) (g : List ℕ → Option ErrorKind) (p : Parts) → NoFault s g p → parts_fault s g p ≡ None
-unfolding parts_fault front_fault
+unfolding parts_fault fault_before_fragment
 parts-no_fault s g p h = rw (
   authorities-no_fault s p.authority h.authority,
   h.path,

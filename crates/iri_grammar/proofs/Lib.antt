@@ -13,13 +13,13 @@ pub mod ClassLaws
 pub mod CutBytes
 pub mod CutLaws
 pub mod FaultLaws
-pub mod Ipv6Counts
 pub mod Ipv6Laws
 pub mod KindLaws
 pub mod LiteralChars
 pub mod MadeLaws
 pub mod OverLaws
 pub mod PiecesLaws
+pub mod Ranges
 pub mod SplitLaws
 pub mod SplitUnique
 pub mod UriLaws

@@ -4,6 +4,7 @@ use Rattle.std.proofs.Common.{MatchOption, length, take, drop, refl, sym, ap, su
 use Rattle.std.specs.Prelude.{◌==◌, nat_lt, slice_index, is_some}
 use Rattle.std.specs.Char.{is_ascii_alphabetic}
 use Rattle.std.specs.List.{list_all}
+use Rattle.std.proofs.lemmas.Bool.{eqb-true}
 use Rattle.std.proofs.lemmas.Bool.Decides.{nat_tests}
 use Rattle.memchr.specs.Find.{is_byte2, is_byte3, IsFirstByte}
 use Rattle.iri_grammar.specs.Components.{is_letter, is_scheme, is_scheme_char}
@@ -18,9 +19,6 @@ use Rattle.iri_grammar.specs.Marks.{before_any, from_any}
 use Rattle.iri_grammar.specs.inside.Marks.{ends_scheme, SchemeAt, NoScheme, ends_authority, AuthorityEndAt, NoAuthorityEnd}
 use Rattle.iri_grammar.specs.inside.Marks.{IsPastAuthority, TailAt, NoTail}
 use Rattle.iri_grammar.proofs.CutLemmas.{false-where}
-
-equal-where : (x c : ℕ) → (x == c) ≡ true → x ≡ c
-equal-where x c h = grind (arith, nat_tests)
 
 -- ---- the scheme
 -- the run reaches to the end where all pass
@@ -68,7 +66,7 @@ ends : (p : ℕ → Bool) (c : ℕ) (bs : List ℕ) → p c ≡ false → list_a
 ends p c [] n a s = cc
 ends p c (x ∷ xs) n a s =
     elim (x == c) as (λ b. (x == c) ≡ b → (run_of p (x ∷ xs) < length (x ∷ xs)) × (slice_index (x ∷ xs) (run_of p (x ∷ xs)) ≡ c)) [
-      | true ↦ λ h. let same : x ≡ c = equal-where x c h in let f : p x ≡ false = ap p same ∙ n in rw f (omega arith, same)
+      | true ↦ λ h. let same : x ≡ c = eqb-true x c h in let f : p x ≡ false = ap p same ∙ n in rw f (omega arith, same)
       | false ↦ λ h.
           let k : (p x && list_all p (before c xs)) ≡ true = rw h at a in
           let t = both (p x) (list_all p (before c xs)) k in
@@ -103,7 +101,7 @@ scheme_at bs h =
     let k = run_of is_scheme_char bs in
     let t = three (nat_lt k (length bs)) (slice_index bs k == 58) (is_ascii_alphabetic (slice_index bs 0)) h in
     let inside = below k (length bs) t.0 in
-    let byte = equal-where (slice_index bs k) 58 t.1 in
+    let byte = eqb-true (slice_index bs k) 58 t.1 in
     let r = ran is_scheme_char 58 bs colon_ends inside byte in
     let sch = starts_scheme bs t.2 r.all in
     record { inside = inside; byte = byte; scheme = rw (sch, ← r.tail, r.front) refl; rest = rw (sch, ← r.tail) refl }
@@ -183,13 +181,13 @@ at_marks : (xs : List ℕ) → AtMarks xs
 at_marks [] = record { front = refl; path = refl; query = refl; fragment = refl }
 at_marks (x ∷ xs) =
     elim (x == 47) as (λ b. (x == 47) ≡ b → AtMarks (x ∷ xs)) [
-      | true ↦ λ e. subst (λ n. AtMarks (n ∷ xs)) (sym (equal-where x 47 e))
+      | true ↦ λ e. subst (λ n. AtMarks (n ∷ xs)) (sym (eqb-true x 47 e))
           (record { front = refl; path = refl; query = refl; fragment = refl })
       | false ↦ λ a. elim (x == 63) as (λ b. (x == 63) ≡ b → AtMarks (x ∷ xs)) [
-        | true ↦ λ e. subst (λ n. AtMarks (n ∷ xs)) (sym (equal-where x 63 e))
+        | true ↦ λ e. subst (λ n. AtMarks (n ∷ xs)) (sym (eqb-true x 63 e))
             (record { front = refl; path = refl; query = refl; fragment = refl })
         | false ↦ λ b. elim (x == 35) as (λ b. (x == 35) ≡ b → AtMarks (x ∷ xs)) [
-          | true ↦ λ e. subst (λ n. AtMarks (n ∷ xs)) (sym (equal-where x 35 e))
+          | true ↦ λ e. subst (λ n. AtMarks (n ∷ xs)) (sym (eqb-true x 35 e))
               (record { front = refl; path = refl; query = refl; fragment = refl })
           | false ↦ λ c.
               let r = at_marks xs in
@@ -212,9 +210,9 @@ past_authority xs = let r = at_marks xs in (ap Some r.front, record { path = r.p
 slash_or_mark : (x : ℕ) (xs : List ℕ) → starts_with_slash (hier_of (x ∷ xs)) ≡ (x == 47)
 slash_or_mark x xs =
     elim (x == 35) as (λ b. (x == 35) ≡ b → starts_with_slash (hier_of (x ∷ xs)) ≡ (x == 47)) [
-      | true ↦ λ e. subst (λ n. starts_with_slash (hier_of (n ∷ xs)) ≡ (n == 47)) (sym (equal-where x 35 e)) refl
+      | true ↦ λ e. subst (λ n. starts_with_slash (hier_of (n ∷ xs)) ≡ (n == 47)) (sym (eqb-true x 35 e)) refl
       | false ↦ λ c. elim (x == 63) as (λ b. (x == 63) ≡ b → starts_with_slash (hier_of (x ∷ xs)) ≡ (x == 47)) [
-        | true ↦ λ e. subst (λ n. starts_with_slash (hier_of (n ∷ xs)) ≡ (n == 47)) (sym (equal-where x 63 e)) refl
+        | true ↦ λ e. subst (λ n. starts_with_slash (hier_of (n ∷ xs)) ≡ (n == 47)) (sym (eqb-true x 63 e)) refl
         | false ↦ λ b. rw (c, b) refl
       ] refl
     ] refl
@@ -223,11 +221,11 @@ slashes_or_mark : (x : ℕ) (xs : List ℕ) → starts_with_slashes (hier_of (x 
 slashes_or_mark x xs =
     elim (x == 35) as (λ b. (x == 35) ≡ b → starts_with_slashes (hier_of (x ∷ xs)) ≡ (x == 47 && starts_with_slash (hier_of xs))) [
       | true ↦ λ e. subst (λ n. starts_with_slashes (hier_of (n ∷ xs)) ≡ (n == 47 && starts_with_slash (hier_of xs)))
-          (sym (equal-where x 35 e)) refl
+          (sym (eqb-true x 35 e)) refl
       | false ↦ λ c. elim (x == 63) as (λ b. (x == 63) ≡ b
           → starts_with_slashes (hier_of (x ∷ xs)) ≡ (x == 47 && starts_with_slash (hier_of xs))) [
             | true ↦ λ e. subst (λ n. starts_with_slashes (hier_of (n ∷ xs)) ≡ (n == 47 && starts_with_slash (hier_of xs)))
-                (sym (equal-where x 63 e)) refl
+                (sym (eqb-true x 63 e)) refl
             | false ↦ λ b. rw (c, b) refl
           ] refl
     ] refl
@@ -247,7 +245,7 @@ pub no_slashes : (bs : List ℕ) → ((r : List ℕ) → bs ≡ 47 ∷ 47 ∷ r 
 no_slashes [] n = refl
 no_slashes (x ∷ []) n = elim (x == 47) as (λ b. (b && false) ≡ false) [ true ↦ refl | false ↦ refl ]
 no_slashes (x ∷ y ∷ xs) n = false-where (x == 47 && y == 47)
-    (λ e. let t = both (x == 47) (y == 47) e in n xs (two (equal-where x 47 t.0) (equal-where y 47 t.1)))
+    (λ e. let t = both (x == 47) (y == 47) e in n xs (two (eqb-true x 47 t.0) (eqb-true y 47 t.1)))
   where
     two : x ≡ 47 → y ≡ 47 → (x ∷ y ∷ xs) ≡ 47 ∷ 47 ∷ xs
     two a b = rw (a, b) refl
@@ -258,11 +256,11 @@ tail_at : (bs : List ℕ) (k : ℕ) → k < length bs → ((j : ℕ) → j < k �
 tail_at [] k l n h = absurd (omega arith)
 tail_at (x ∷ xs) zero l n h =
     elim (x == 63) as (λ b. (x == 63) ≡ b → TailAt (x ∷ xs) 0) [
-      | true ↦ λ e. subst (λ n. TailAt (n ∷ xs) 0) (sym (equal-where x 63 e))
+      | true ↦ λ e. subst (λ n. TailAt (n ∷ xs) 0) (sym (eqb-true x 63 e))
           (record { inside = omega arith; ascii = omega arith; front = refl; at_query = λ _. (refl, refl); at_fragment = λ k. cc })
       | false ↦ λ e.
           let t : (x == 35) ≡ true = rw e at h in
-          subst (λ n. TailAt (n ∷ xs) 0) (sym (equal-where x 35 t))
+          subst (λ n. TailAt (n ∷ xs) 0) (sym (eqb-true x 35 t))
           (record { inside = omega arith; ascii = omega arith; front = refl; at_query = λ k. cc; at_fragment = λ _. (refl, refl) })
     ] refl
 tail_at (x ∷ xs) (suc k) l n h =

@@ -10,7 +10,7 @@ use Rattle.iri_grammar.specs.Ipv6.{is_group}
 use Rattle.iri_grammar.specs.Authority.{authority_parts}
 use Rattle.iri_grammar.specs.Parts.{recompose}
 use Rattle.iri_grammar.specs.Split.{split_of, relative_split_of}
-use Rattle.iri_grammar.specs.WholeFault.{front_fault, parts_fault, reference_fault, iri_fault, absolute_fault, relative_fault}
+use Rattle.iri_grammar.specs.WholeFault.{fault_before_fragment, parts_fault, reference_fault, iri_fault, absolute_fault, relative_fault}
 use Rattle.iri_grammar.specs.declared.error.ErrorKind.TheVariants.{InvalidScheme, InvalidUserInfo, InvalidHost, InvalidPath, InvalidQuery}
 use Rattle.iri_grammar.specs.declared.error.ErrorKind.TheVariants.{InvalidFragment, UnexpectedFragment, UnexpectedRelative}
 
@@ -126,7 +126,7 @@ no_fault :
     × (absolute_fault uri_tests (codes "tel:+1-816-555-1212") ≡ None)
     × (absolute_fault uri_tests (codes "telnet://192.0.2.16:80/") ≡ None)
     × (absolute_fault uri_tests (codes "urn:oasis:names:specification:docbook:dtd:xml:4.1.2") ≡ None)
-unfolding split_of relative_split_of front_fault parts_fault authority_parts over_from chars is_utf8 encode is_letter is_scheme_char
+unfolding split_of relative_split_of fault_before_fragment parts_fault authority_parts over_from chars is_utf8 encode is_letter is_scheme_char
     userinfo_char reg_name_char path_char query_char fragment_char is_ascii_userinfo is_ascii_reg_name is_ascii_path is_ascii_pchar
     is_ascii_query is_ascii_unreserved is_sub_delim is_group
 no_fault = (refl, refl, refl, refl, refl, refl, refl, refl)
@@ -141,7 +141,7 @@ fault_of_each_part :
     × (reference_fault uri_tests (codes "//a@b@c") ≡ Some InvalidHost)
     × (reference_fault uri_tests (codes "//[1::2::3]") ≡ Some InvalidHost)
     × (reference_fault uri_tests (codes "http:g") ≡ None)
-unfolding split_of relative_split_of front_fault parts_fault authority_parts over_from chars is_utf8 encode is_letter is_scheme_char
+unfolding split_of relative_split_of fault_before_fragment parts_fault authority_parts over_from chars is_utf8 encode is_letter is_scheme_char
     userinfo_char reg_name_char path_char query_char fragment_char is_ascii_userinfo is_ascii_reg_name is_ascii_path is_ascii_pchar
     is_ascii_query is_ascii_unreserved is_sub_delim is_group
 fault_of_each_part = (refl, refl, refl, refl, refl, refl, refl, refl)
@@ -152,7 +152,7 @@ first_of_two :
     × (reference_fault uri_tests (codes "//[?%#%") ≡ Some InvalidHost)
     × (reference_fault uri_tests (codes "%?%#%") ≡ Some InvalidPath)
     × (reference_fault uri_tests (codes "?%#%") ≡ Some InvalidQuery)
-unfolding split_of relative_split_of front_fault parts_fault authority_parts over_from chars is_utf8 encode is_letter is_scheme_char
+unfolding split_of relative_split_of fault_before_fragment parts_fault authority_parts over_from chars is_utf8 encode is_letter is_scheme_char
     userinfo_char reg_name_char path_char query_char fragment_char is_ascii_userinfo is_ascii_reg_name is_ascii_path is_ascii_pchar
     is_ascii_query is_ascii_unreserved is_sub_delim is_group
 first_of_two = (refl, refl, refl, refl)
@@ -168,7 +168,7 @@ scheme_asked :
     × (iri_fault uri_tests (codes "http://a/#f") ≡ None)
     × (relative_fault uri_tests (codes "http:g") ≡ Some InvalidPath)
     × (relative_fault uri_tests (codes "./http:g") ≡ None)
-unfolding split_of relative_split_of front_fault parts_fault authority_parts over_from chars is_utf8 encode is_letter is_scheme_char
+unfolding split_of relative_split_of fault_before_fragment parts_fault authority_parts over_from chars is_utf8 encode is_letter is_scheme_char
     userinfo_char reg_name_char path_char query_char fragment_char is_ascii_userinfo is_ascii_reg_name is_ascii_path is_ascii_pchar
     is_ascii_query is_ascii_unreserved is_sub_delim is_group
 scheme_asked = (refl, refl, refl, refl, refl, refl, refl, refl, refl)

@@ -15,15 +15,15 @@ abbrev pub colon_allowed : Parts → Bool
 colon_allowed p = is_some p.scheme || is_some p.authority || lacks colon (before slash p.path)
 
 -- the fault of authority, path and query
-unfoldable pub front_fault : Tests → Parts → Option ErrorKind
-front_fault s p =
+unfoldable pub fault_before_fragment : Tests → Parts → Option ErrorKind
+fault_before_fragment s p =
     first (part_fault (authority_fault s) p.authority)
     (first (unless (is_path s p.path && colon_allowed p) InvalidPath)
     (part_fault (query_fault s) p.query))
 
 -- the same, and then of the fragment what is said of it
 unfoldable pub parts_fault : Tests → (List ℕ → Option ErrorKind) → Parts → Option ErrorKind
-parts_fault s of_fragment p = first (front_fault s p) (part_fault of_fragment p.fragment)
+parts_fault s of_fragment p = first (fault_before_fragment s p) (part_fault of_fragment p.fragment)
 
 -- where a scheme must stand: no `:` at all, or what stands before the first is no scheme
 abbrev pub missing_scheme_fault : List ℕ → Option ErrorKind

@@ -1,9 +1,9 @@
 //! IPv6 texts (RFC 3986 section 3.2.2).
-ghost use Rattle.std.specs.Prelude.{◌≡◌, MatchOption};
+ghost use Rattle.std.specs.Prelude.{◌≡◌};
 ghost use Rattle.iri_grammar.specs.Ipv6.{is_group};
 ghost use Rattle.iri_grammar.specs.Pieces.{pieces};
 ghost use Rattle.iri_grammar.specs.Ipv6Test.{before_double, behind_double, group_texts, is_full, is_shortened, is_ipv6};
-ghost use Rattle.iri_grammar.specs.inside.Ipv6Counts.{count, NoDouble, DoubleAt};
+ghost use Rattle.iri_grammar.specs.inside.Ipv6Counts.{count};
 ghost use Rattle.iri_grammar.specs.OptionalSlices.{now_of};
 ghost use Rattle.iri_grammar.specs.Characters.{colon};
 
@@ -60,25 +60,13 @@ fn count_groups(s: &str, ipv4: bool) -> Option<usize>
     }
 }
 
-/// Where the first `::` stands.
-fn find_double(bytes: &[u8]) -> Option<usize>
-    ensures { MatchOption result (NoDouble bytes.now) (λ k. DoubleAt bytes.now k) }
-{
-    for (i, b) in bytes.iter().enumerate() {
-        if *b == b':' && i + 1 < bytes.len() && bytes[i + 1] == b':' {
-            return Some(i);
-        }
-    }
-    None
-}
-
 /// What stands before the first `::`, or all, and what stands behind it.
 fn cut_double(s: &str) -> (&str, Option<&str>)
     ensures before { result.0.now ≡ before_double s.now }
     ensures behind { now_of result.1 ≡ behind_double s.now }
 {
-    match find_double(s.as_bytes()) {
-        Some(i) => (&s[..i], Some(&s[i + 2..])),
+    match s.split_once("::") {
+        Some((before, behind)) => (before, Some(behind)),
         None => (s, None),
     }
 }

@@ -5,7 +5,7 @@ use Rattle.std.proofs.Common.{eqb-true, false}
 use Rattle.std.proofs.Math.Seq.{take-suc, take-length}
 use Rattle.std.proofs.Math.Dec.{ltb}
 use Rattle.std.proofs.lemmas.Bool.{ltb-false, le-ltb, cases_lt}
-use Rattle.std.proofs.lemmas.List.{take_all}
+use Rattle.std.proofs.lemmas.List.{take_all, take_at}
 use Rattle.std.proofs.lemmas.Bool.Decides.{nat_tests}
 use Rattle.std.proofs.lemmas.Grind.{common_steps}
 use Rattle.memchr.specs.Find.{IsFirstByte, is_byte}
@@ -94,13 +94,18 @@ last-is xs h =
     let e : suc (length xs - 1) ≡ length xs = omega arith in
     sym (take-suc xs (length xs - 1) 0 (omega arith)) ∙ ap (λ (n : ℕ). take n xs) e ∙ take-length xs
 
-pub cr-len : (xs : List ℕ) → 0 < length xs → get_or xs (length xs - 1) 0 ≡ 13 → take (length xs - 1) xs ≡ no_cr xs
-cr-len xs h e = sym (ap no_cr (sym (last-is xs h) ∙ ap (λ (c : ℕ). take (length xs - 1) xs ++ c ∷ []) e)
-    ∙ no_cr-cr (take (length xs - 1) xs))
+pub cr-len : (xs front : List ℕ) → xs ≡ front ++ 13 ∷ [] → take (length front) xs ≡ no_cr xs
+cr-len xs front e = ap (take (length front)) e ∙ take_at front (13 ∷ []) (length front) refl ∙ sym (ap no_cr e ∙ no_cr-cr front)
 
-pub other-len : (xs : List ℕ) → 0 < length xs → get_or xs (length xs - 1) 0 ≢ 13 → take (length xs) xs ≡ no_cr xs
-other-len xs h e = take-length xs ∙ sym (last-is xs h)
-    ∙ sym (ap no_cr (sym (last-is xs h)) ∙ no_cr-other (take (length xs - 1) xs) (get_or xs (length xs - 1) 0) e)
+pub other-len : (xs : List ℕ) → ((front : List ℕ) → xs ≢ front ++ 13 ∷ []) → take (length xs) xs ≡ no_cr xs
+other-len [] n = refl
+other-len (x ∷ xs) n =
+    let t = x ∷ xs in
+    let last : 0 < length t = omega arith in
+    let other : get_or t (length t - 1) 0 ≢ 13 =
+    (λ e. n (take (length t - 1) t) (sym (last-is t last) ∙ ap (λ c. take (length t - 1) t ++ c ∷ []) e)) in
+    take-length t ∙ sym (last-is t last)
+    ∙ sym (ap no_cr (sym (last-is t last)) ∙ no_cr-other (take (length t - 1) t) (get_or t (length t - 1) 0) other)
 
 pub empty-part : (xs : List ℕ) (a b : ℕ) → b ≤ a → slice_range xs a b ≡ []
 empty-part xs a b h = let e : b - a ≡ 0 = omega arith in rw e refl

@@ -2,7 +2,7 @@
 ghost use Rattle.std.specs.Prelude.{◌≡◌, ◌&&◌};
 ghost use Rattle.iri_grammar.specs.Components.{is_path};
 ghost use Rattle.iri_grammar.specs.Fault.{Answers, unless, fragment_fault};
-ghost use Rattle.iri_grammar.specs.WholeFault.{colon_allowed, front_fault, parts_fault, missing_scheme_fault};
+ghost use Rattle.iri_grammar.specs.WholeFault.{colon_allowed, fault_before_fragment, parts_fault, missing_scheme_fault};
 ghost use Rattle.iri_grammar.specs.WholeFault.{reference_fault, iri_fault, absolute_fault, relative_fault};
 ghost use Rattle.iri_grammar.specs.Splitters.{parts};
 
@@ -32,9 +32,9 @@ fn path_in_place<S: Spec>(p: &Splitter<'_>) -> Result<(), Error>
 }
 
 /// Authority, path and query.
-#[tactic(auto, unfolding(crate::specs::WholeFault::front_fault))]
+#[tactic(auto, unfolding(crate::specs::WholeFault::fault_before_fragment))]
 fn front<S: Spec>(p: &Splitter<'_>) -> Result<(), Error>
-    ensures { Answers result (front_fault S.tests (parts p.now)) }
+    ensures { Answers result (fault_before_fragment S.tests (parts p.now)) }
 {
     if let Some(a) = p.authority() {
         authority::<S>(a)?;

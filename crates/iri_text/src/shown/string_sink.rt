@@ -59,7 +59,7 @@ impl<'b> TextSink for StringSink<'b> {
 /// the string is the old text and a prefix of the new one.
 pub fn try_append_to_string<T: Show>(dest: &mut String, value: &T) -> Result<(), AllocError>
     ensures whole { OnOk result (string_bytes dest.new ≡ string_bytes dest.old ++ T.text value.now) }
-    ensures front { OnErr result (IsFrontAfter (string_bytes dest.old) (T.text value.now) (string_bytes dest.new)) }
+    ensures prefix { OnErr result (IsFrontAfter (string_bytes dest.old) (T.text value.now) (string_bytes dest.new)) }
     ensures long { OnErr result (string_capacity dest.old < string_len dest.old + length (T.text value.now)) }
 {
     let mut sink = StringSink::new(dest);

@@ -111,11 +111,10 @@ fn line_len(raw: &[u8]) -> usize
     ensures within { result ≤ length raw.now }
     ensures line { take result raw.now ≡ no_cr raw.now }
 {
-    let len = raw.len();
-    if len == 0 {
-        return 0;
+    match raw.strip_suffix(b"\r") {
+        Some(line) => line.len(),
+        None => raw.len(),
     }
-    if raw[len - 1] == b'\r' { len - 1 } else { len }
 }
 
 // No call may follow this answer.

@@ -53,7 +53,7 @@ impl<W: Write> Sink for WriteSink<W> {
     fn put_all(&mut self, piece: &[u8]) -> Result<(), Failed>
         ensures puts { PutsAll None None self.old.faults self.new.faults None None result piece.now }
         ensures whole { OnOk result (Appends (W.contents self.old.inner) (W.contents self.new.inner) piece.now) }
-        ensures front { OnErr result (WritesPrefix (W.contents self.old.inner) (W.contents self.new.inner) piece.now) }
+        ensures prefix { OnErr result (WritesPrefix (W.contents self.old.inner) (W.contents self.new.inner) piece.now) }
         ensures raised { OnErr result (self.new.faults ≡ min (self.old.faults + 1) (2 ^ 64 - 1)) }
         ensures empty { piece.now ≡ [] → IsOk result }
         ensures nothing { piece.now ≡ [] → self.new ≡ self.old }

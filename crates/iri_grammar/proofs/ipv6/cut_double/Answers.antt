@@ -1,12 +1,21 @@
-use Rattle.std.proofs.Common.{◌≡◌, ◌+◌, subst, arith}
-use Rattle.std.specs.Str.{IsCharBoundary}
-use Rattle.std.proofs.lemmas.Str.{IsCharBoundary-after_ascii}
-use Rattle.iri_grammar.specs.inside.Ipv6Counts.{DoubleAt}
+use Rattle.std.proofs.Common.{Some, ◌∙◌, ap, drop}
+use Rattle.iri_grammar.proofs.Doubles.{no_double, first_double}
 use Rattle.iri_grammar.proofs.ipv6.cut_double.Goals as goal
 
-pub range_from-requires : goal.range_from-requires
-range_from-requires c _ =
-    let at = subst (λ bs. DoubleAt bs c.in-Some.i) c.as_bytes.ensures.value c.in-Some.ensures in
-    let place : (c.in-Some.i + 1) + 1 ≡ c.in-Some.i + 2 = omega arith in
-    subst (IsCharBoundary c.args.s.now) place (IsCharBoundary-after_ascii c.args.s.now (c.in-Some.i + 1) c.utf8.s (omega (arith, at.inside))
-    (omega (arith, at.second)))
+pub returns-in-Some-clause-before : goal.returns-in-Some-clause-before
+returns-in-Some-clause-before c =
+    let h = c.in-Some.ensures.cases in
+    let at = h.2 in
+    h.3 ∙ (first_double c.args.s.now (drop h.1 c.args.s.now) h.0 at.0 at.1.split).0
+
+pub returns-in-Some-clause-behind : goal.returns-in-Some-clause-behind
+returns-in-Some-clause-behind c =
+    let h = c.in-Some.ensures.cases in
+    let at = h.2 in
+    ap Some h.4 ∙ (first_double c.args.s.now (drop h.1 c.args.s.now) h.0 at.0 at.1.split).1
+
+pub returns-in-None-clause-before : goal.returns-in-None-clause-before
+returns-in-None-clause-before c = (no_double c.args.s.now c.in-None.ensures.cases).0
+
+pub returns-in-None-clause-behind : goal.returns-in-None-clause-behind
+returns-in-None-clause-behind c = (no_double c.args.s.now c.in-None.ensures.cases).1
