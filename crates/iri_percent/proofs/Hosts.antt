@@ -1,6 +1,7 @@
 -- Hosts, byte by byte.
 use Rattle.std.proofs.Common.{◌≡◌, ℕ, zero, suc, ◌-◌, ◌<◌, Bool, true, false, cond, not, ◌&&◌, List, [], ◌∷◌, length, take, drop, get_or}
 use Rattle.std.proofs.Common.{refl, sym, ◌∙◌, ap, subst, arith}
+use mathlib.Core.Bool.{and_assoc}
 use Rattle.std.specs.Prelude.{◌==◌, nat_lt}
 use Rattle.std.specs.List.{list_all}
 use Rattle.std.specs.Char.{is_ascii_uppercase, to_ascii_lowercase}
@@ -26,15 +27,11 @@ pub record Step (t tail : List ℕ) : Type 0 where
   pub whole : whole_triplets tail ≡ true
   pub same : is_ascii_host t ≡ (ascii_front (get_or t 0 0) tail && is_ascii_host tail)
 
-and_assoc : (a b c : Bool) → (a && (b && c)) ≡ ((a && b) && c)
-and_assoc true b c = refl
-and_assoc false b c = refl
-
 step_at : (x : ℕ) (xs : List ℕ) → whole_triplets (x ∷ xs) ≡ true → Step (x ∷ xs) xs
 unfolding whole_triplets is_ascii_host
 step_at x xs w = record {
   whole = (both (cond (x == 37) (two_digits xs) true) (whole_triplets xs) w).1;
-  same = and_assoc (nat_lt x 128) (cond (x == 37) (octet_below_128 xs) true) (is_ascii_host xs);
+  same = sym (and_assoc (nat_lt x 128) (cond (x == 37) (octet_below_128 xs) true) (is_ascii_host xs));
 }
 
 pub step : (t : List ℕ) → 0 < length t → whole_triplets t ≡ true → Step t (take (length t - 1) (drop 1 t))

@@ -10,6 +10,7 @@ pub mod CharForms
 pub mod EncodedDecoding
 pub mod MapForms
 pub mod MappedRuns
+pub mod Authorities
 pub mod CaseLaws
 pub mod CharLaws
 pub mod ClassLaws

@@ -58,7 +58,7 @@ past_reserved : (c : ℕ) → nat_lt c 128 ≡ false → unreserved uri_tests c 
 unfolding unreserved is_ascii_unreserved
 past_reserved c h = grind (arith, nat_tests)
 
-unreserved_ascii : (c : ℕ) → is_ascii_unreserved c ≡ true → c < 128
+pub unreserved_ascii : (c : ℕ) → is_ascii_unreserved c ≡ true → c < 128
 unfolding is_ascii_unreserved
 unreserved_ascii c h = grind (arith, nat_tests)
 
@@ -71,11 +71,11 @@ ascii_unreserved s c k l = rw (k.ucs_ascii c l) (or_false (is_ascii_unreserved c
     or_false true = refl
     or_false false = refl
 
-low_scalar : (c : ℕ) → c < 128 → scalar c ≡ true
+pub low_scalar : (c : ℕ) → c < 128 → scalar c ≡ true
 low_scalar c h = grind (arith, nat_tests)
 
 -- an octet that is an unreserved ASCII character is decoded
-ascii-decoded : (s : Tests) (o : ℕ) (os : List ℕ) → is_ascii_unreserved o ≡ true → decoded s (o ∷ os) ≡ Some o
+pub ascii-decoded : (s : Tests) (o : ℕ) (os : List ℕ) → is_ascii_unreserved o ≡ true → decoded s (o ∷ os) ≡ Some o
 unfolding unreserved
 ascii-decoded s o os h =
     let l = unreserved_ascii o h in
@@ -83,7 +83,7 @@ ascii-decoded s o os h =
     ap (unreserved_only s) there ∙ (rw h refl)
 
 -- under URIs, the first octet alone says what is decoded
-uri-decoded : (o : ℕ) (os : List ℕ) → is_ascii_unreserved o ≡ false → decoded uri_tests (o ∷ os) ≡ None
+pub uri-decoded : (o : ℕ) (os : List ℕ) → is_ascii_unreserved o ≡ false → decoded uri_tests (o ∷ os) ≡ None
 unfolding unreserved
 uri-decoded o os n = at (decoded uri_tests (o ∷ os)) refl
   where

@@ -3,6 +3,7 @@ pub mod CharUnits
 pub mod Triplets
 pub mod ByteForm
 pub mod NormalHost
+pub mod SchemeRules
 pub mod Examples
 pub mod MarkLaws
 pub mod NormalLaws

@@ -1,5 +1,5 @@
 -- A text with a delimiter: units and triplet normal form on both sides of it.
-use Rattle.std.proofs.Common.{◌≡◌, ℕ, false, []}
+use Rattle.std.proofs.Common.{◌≡◌, ℕ, false}
 use Rattle.std.specs.Prelude.{◌==◌}
 use Rattle.std.specs.Char.{is_ascii_hexdigit}
 use Rattle.iri_grammar.specs.Characters.{percent_sign}

@@ -1,6 +1,7 @@
 -- The normal form of a host and of an authority (RFC 3986 sections 3.2.2, 6.2.2.1 and 6.2.3, RFC 3987 section 5.3.2).
-use Rattle.std.specs.Prelude.{ℕ, Bool, true, cond, ◌&&◌, ◌==◌, List, [], ◌∷◌, Option, Some, None, nat_lt}
+use Rattle.std.specs.Prelude.{ℕ, Bool, true, false, cond, ◌&&◌, ◌==◌, List, [], ◌∷◌, Option, Some, None, nat_lt}
 use Rattle.std.specs.Char.{to_ascii_lowercase}
+use Rattle.std.specs.Str.{bytes_eq}
 use Rattle.iri_grammar.specs.Classes.{Tests}
 use Rattle.iri_grammar.specs.Authority.{AuthorityParts, authority_parts, recompose_authority}
 use Rattle.iri_percent.specs.Units.{octet}
@@ -28,14 +29,38 @@ abbrev pub normal_userinfo : Tests → Option (List ℕ) → Option (List ℕ)
 normal_userinfo s None = None
 normal_userinfo s (Some u) = Some (pct s u)
 
--- an empty port goes with its colon
+-- the port is the one that is dropped, compared as text
+abbrev pub is_dropped : Option (List ℕ) → List ℕ → Bool
+is_dropped None port = false
+is_dropped (Some dropped) port = bytes_eq port dropped
+
+-- a port goes with its colon where it is empty or dropped
+abbrev pub normal_port_in : Option (List ℕ) → Option (List ℕ) → Option (List ℕ)
+normal_port_in dropped (Some (x ∷ xs)) = cond (is_dropped dropped (x ∷ xs)) None (Some (x ∷ xs))
+normal_port_in dropped _ = None
+
 abbrev pub normal_port : Option (List ℕ) → Option (List ℕ)
-normal_port (Some (x ∷ xs)) = Some (x ∷ xs)
-normal_port _ = None
+normal_port port = normal_port_in None port
+
+abbrev pub normal_authority_parts_in : Tests → Option (List ℕ) → AuthorityParts → AuthorityParts
+normal_authority_parts_in s dropped a = record {
+  userinfo = normal_userinfo s a.userinfo;
+  host = normal_host s a.host;
+  port = normal_port_in dropped a.port;
+}
 
 abbrev pub normal_authority_parts : Tests → AuthorityParts → AuthorityParts
-normal_authority_parts s a = record { userinfo = normal_userinfo s a.userinfo; host = normal_host s a.host; port = normal_port a.port }
+normal_authority_parts s a = normal_authority_parts_in s None a
 
 -- the normal form of an authority: of its userinfo, its host and its port
 unfoldable pub normal_authority : Tests → List ℕ → List ℕ
 normal_authority s a = recompose_authority (normal_authority_parts s (authority_parts a))
+
+-- the same, without this port
+unfoldable pub authority_without : Tests → List ℕ → List ℕ → List ℕ
+authority_without s dropped a = recompose_authority (normal_authority_parts_in s (Some dropped) (authority_parts a))
+
+-- the normal form of an authority, without the port that is dropped, where one is
+abbrev pub normal_authority_in : Tests → Option (List ℕ) → List ℕ → List ℕ
+normal_authority_in s None = normal_authority s
+normal_authority_in s (Some dropped) = authority_without s dropped

@@ -1,5 +1,5 @@
 -- Triplet normal form, unit by unit.
-use Rattle.std.proofs.Common.{ℕ, cond, List, [], Option, Some, None}
+use Rattle.std.proofs.Common.{ℕ, cond, List, Option, Some, None}
 use Rattle.iri_grammar.specs.Classes.{Tests, unreserved}
 use Rattle.iri_percent.specs.Units.{first_char}
 

@@ -1,8 +1,9 @@
 //! Triplets: normal forms, encoding, decoding, and the mapping of IRIs to URIs (RFC 3986 sections 2.1 and 6.2.2, RFC 3987
 //! section 3.1, the URL Standard, section 1.3).
 //!
-//! [`PercentEncoded`] shows a raw value encoded for its place in a reference. [`PctCaseNormalized`] and [`NormalizedHost`] show a part
-//! and a host in normal form. [`decode_whatwg_bytes`] decodes bytes.
+//! [`PercentEncoded`] shows a raw value encoded for its place in a reference. [`PctCaseNormalized`], [`NormalizedHost`] and
+//! [`NormalizedAuthority`] show a part, a host and an authority in normal form; [`CanonMode`] says whether a scheme's default port goes
+//! (RFC 3986 section 6.2.3). [`decode_whatwg_bytes`] decodes bytes.
 //! [`MappedToUri`] shows a view mapped to a URI; [`ToUri`] and [`IntoUri`] have the calls on views and owned texts of IRIs.
 //! `laws` has what holds of all texts.
 //!
@@ -13,6 +14,8 @@
 //! Not proved: the words of `DecodeTextError`'s `Display`, which `thiserror` makes; that memory is allocated, which tests show.
 #![tactic(auto)]
 
+mod authority;
+pub mod canon_mode;
 pub mod character;
 mod context;
 mod decode;
@@ -32,6 +35,8 @@ mod spelling;
 mod triplets;
 mod uris;
 
+pub use authority::{NormalizedAuthority, is_dropped};
+pub use canon_mode::CanonMode;
 pub use decode::{DecodeTextError, PercentDecodedWhatwgBytes, decode_whatwg_bytes};
 pub use fragments::{DecodedFragment, PercentDecodedBytesFragments};
 pub use host::{NormalizedHost, is_ascii_host};

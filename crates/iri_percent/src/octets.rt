@@ -3,6 +3,7 @@ ghost use Rattle.std.specs.Prelude.{◌≡◌, ◌<◌, ◌∷◌, [], true, fal
 ghost use Rattle.std.specs.Char.{is_ascii_hexdigit, digit_value};
 ghost use Rattle.iri_percent.specs.Units.{octet, octets};
 
+// Each digit of a triplet comes here. `char::to_digit` tests as many ranges, and then the value against the radix.
 fn hex_value(digit: u8) -> Option<u8>
     ensures { MatchOption result (is_ascii_hexdigit digit ≡ false)
         (λ v. (is_ascii_hexdigit digit ≡ true) × (v ≡ digit_value digit) × (v < 16)) }

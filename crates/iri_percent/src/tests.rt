@@ -1,6 +1,7 @@
-use crate::{NormalizedHost, PctCaseNormalized, laws};
+use crate::canon_mode::{CanonMode, default_port};
+use crate::{NormalizedAuthority, NormalizedHost, PctCaseNormalized, laws};
 use iri_grammar::spec::{IriSpec, Spec, UriSpec};
-use iri_grammar::validate::{host, query};
+use iri_grammar::validate::{authority, host, query};
 use iri_text::{Show, write_to_slice};
 use std::alloc::{AllocError, Global};
 use std::test::Fail;
@@ -177,6 +178,85 @@ fn hosts(rt: HostRuntime) {
         assert_eq!(rt; normal_host::<UriSpec>(&mut buf, text), uri, "at {text}");
         assert_eq!(rt; normal_host::<IriSpec>(&mut buf, text), iri, "at {text}");
     }
+}
+
+fn normal_authority<'b, S: Spec>(buf: &'b mut [u8], text: &str, dropped: Option<&str>) -> &'b str {
+    match authority::<S>(text) {
+        Ok(()) => shown(buf, &NormalizedAuthority::<S>::new(text, dropped)),
+        Err(_) => "no authority",
+    }
+}
+
+// An authority in normal form, and without the port 80.
+#[test]
+fn authorities_of_both_grammars(rt: HostRuntime) {
+    for (text, normal, without) in [
+        ("", "", ""),
+        ("h", "h", "h"),
+        ("H:", "h", "h"),
+        ("H:80", "h:80", "h"),
+        ("h:080", "h:080", "h:080"),
+        ("h:8080", "h:8080", "h:8080"),
+        ("U%7e:80@H%2d:80", "U~:80@h-:80", "U~:80@h-"),
+        (":80", ":80", ""),
+        ("[2001:DB8::80]:80", "[2001:db8::80]:80", "[2001:db8::80]"),
+        ("[2001:DB8::80]", "[2001:db8::80]", "[2001:db8::80]"),
+        ("a@b@c", "no authority", "no authority"),
+    ] {
+        let mut buf = [0u8; 64];
+        for dropped in [None, Some("443")] {
+            let shown = normal_authority::<UriSpec>(&mut buf, text, dropped);
+            assert_eq!(rt; shown, normal, "at {text}");
+        }
+        let shown = normal_authority::<UriSpec>(&mut buf, text, Some("80"));
+        assert_eq!(rt; shown, without, "at {text}");
+        let shown = normal_authority::<IriSpec>(&mut buf, text, Some("80"));
+        assert_eq!(rt; shown, without, "at {text}");
+    }
+}
+
+fn displayed_authority(alloc: Global, text: &str) -> Result<String, AllocError> {
+    match authority::<UriSpec>(text) {
+        Ok(()) => format!(in alloc; "{}", NormalizedAuthority::<UriSpec>::new(text, Some("80"))),
+        Err(_) => format!(in alloc; "no authority"),
+    }
+}
+
+#[test]
+fn authorities_displayed(rt: HostRuntime) -> Result<(), Fail> {
+    assert_eq!(rt;
+        displayed_authority(rt.alloc(), "u%7e@A:80")?.as_str(),
+        "u~@a"
+    );
+    Ok(())
+}
+
+#[test]
+fn default_ports(rt: HostRuntime) {
+    for (scheme, port) in [
+        ("http", Some("80")),
+        ("HTTP", Some("80")),
+        ("ws", Some("80")),
+        ("https", Some("443")),
+        ("wSS", Some("443")),
+        ("ftp", Some("21")),
+        ("Ftp", Some("21")),
+        ("", None),
+        ("httpx", None),
+        ("ftps", None),
+        ("gopher", None),
+    ] {
+        assert!(rt; default_port(scheme) == port, "at {scheme}");
+        assert!(rt;
+            CanonMode::Scheme.dropped_port(Some(scheme)) == port,
+            "at {scheme}"
+        );
+        assert!(rt;
+            CanonMode::Default.dropped_port(Some(scheme)).is_none(),
+            "at {scheme}"
+        );
+    }
+    assert!(rt; CanonMode::Scheme.dropped_port(None).is_none());
 }
 
 // The laws of one spec, where they speak of it.

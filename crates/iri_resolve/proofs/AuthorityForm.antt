@@ -13,7 +13,9 @@ use Rattle.iri_grammar.proofs.LiteralChars.{is_literal_char, ip_literal-chars}
 use Rattle.iri_grammar.specs.Authority.{AuthorityParts, FitsAuthority, ReadsAuthority, recompose_authority, authority_parts, is_authority}
 use Rattle.iri_grammar.proofs.AuthorityLaws.{reading_is, authority_law}
 use Rattle.iri_percent.specs.Triplets.{normal, pct}
-use Rattle.iri_percent.specs.NormalHost.{is_ascii_host, normal_host, normal_userinfo, normal_port, normal_authority_parts, normal_authority}
+use Rattle.iri_percent.specs.NormalHost.{is_ascii_host, is_dropped, normal_host, normal_userinfo, normal_port_in, normal_authority_parts_in}
+use Rattle.iri_percent.specs.NormalHost.{normal_authority, authority_without, normal_authority_in}
+use Rattle.iri_percent.proofs.Authorities.{authority_in}
 use Rattle.iri_percent.proofs.NormalLaws.{normal_nil, normal_plains}
 use Rattle.iri_percent.proofs.Stability.{pct-stable}
 use Rattle.iri_resolve.specs.LowerCase as P
@@ -70,16 +72,18 @@ pub userinfo-fits : (s : Tests) (o : Option (List ℕ)) → IsSpec s → if_ther
 userinfo-fits s None k h = refl
 userinfo-fits s (Some u) k h = pct-userinfo s u k h
 
-port-fits : (o : Option (List ℕ)) → if_there is_port o ≡ true → if_there is_port (normal_port o) ≡ true
-port-fits None h = refl
-port-fits (Some []) h = refl
-port-fits (Some (x ∷ xs)) h = h
+port-fits : (d o : Option (List ℕ)) → if_there is_port o ≡ true → if_there is_port (normal_port_in d o) ≡ true
+port-fits d None h = refl
+port-fits d (Some []) h = refl
+port-fits d (Some (x ∷ xs)) h =
+    elim (is_dropped d (x ∷ xs)) as (λ b. if_there is_port (cond b None (Some (x ∷ xs))) ≡ true) [ true ↦ refl | false ↦ h ]
 
-parts-fit : (s : Tests) (a : AuthorityParts) → IsSpec s → FitsAuthority s a → FitsAuthority s (normal_authority_parts s a)
-parts-fit s a k f = record {
+parts-fit : (s : Tests) (d : Option (List ℕ)) (a : AuthorityParts) → IsSpec s → FitsAuthority s a
+    → FitsAuthority s (normal_authority_parts_in s d a)
+parts-fit s d a k f = record {
   userinfo = userinfo-fits s a.userinfo k f.userinfo;
   host = host-fits s a.host k f.host;
-  port = port-fits a.port f.port;
+  port = port-fits d a.port f.port;
 }
 
 userinfo-stable : (s : Tests) (o : Option (List ℕ)) → IsSpec s → if_there (is_userinfo s) o ≡ true
@@ -87,32 +91,48 @@ userinfo-stable : (s : Tests) (o : Option (List ℕ)) → IsSpec s → if_there 
 userinfo-stable s None k h = refl
 userinfo-stable s (Some u) k h = ap Some (pct-stable s u k (userinfo-whole s u k h))
 
-port-stable : (o : Option (List ℕ)) → normal_port (normal_port o) ≡ normal_port o
-port-stable None = refl
-port-stable (Some []) = refl
-port-stable (Some (x ∷ xs)) = refl
+port-stable : (d o : Option (List ℕ)) → normal_port_in d (normal_port_in d o) ≡ normal_port_in d o
+port-stable d None = refl
+port-stable d (Some []) = refl
+port-stable d (Some (x ∷ xs)) =
+    elim (is_dropped d (x ∷ xs)) as (λ b. is_dropped d (x ∷ xs) ≡ b
+    → normal_port_in d (cond b None (Some (x ∷ xs))) ≡ cond b None (Some (x ∷ xs))) [ true ↦ λ _. refl | false ↦ λ e. rw e refl ] refl
 
-parts-stable : (s : Tests) (a : AuthorityParts) → IsSpec s → FitsAuthority s a
-    → normal_authority_parts s (normal_authority_parts s a) ≡ normal_authority_parts s a
-parts-stable s a k f = rw (
+parts-stable : (s : Tests) (d : Option (List ℕ)) (a : AuthorityParts) → IsSpec s → FitsAuthority s a
+    → normal_authority_parts_in s d (normal_authority_parts_in s d a) ≡ normal_authority_parts_in s d a
+parts-stable s d a k f = rw (
   userinfo-stable s a.userinfo k f.userinfo,
   host-stable s a.host k (host-whole s a.host k f.host),
-  port-stable a.port,
+  port-stable d a.port,
 ) refl
 
 -- ---- the authority
-normal-reads : (s : Tests) (t : List ℕ) → IsSpec s → is_authority s t ≡ true
-    → ReadsAuthority s (normal_authority s t) (normal_authority_parts s (authority_parts t))
-unfolding normal_authority
-normal-reads s t k h = (parts-fit s (authority_parts t) k (reads s t k h), refl)
+normal-reads : (s : Tests) (d : Option (List ℕ)) (t : List ℕ) → IsSpec s → is_authority s t ≡ true
+    → ReadsAuthority s (normal_authority_in s d t) (normal_authority_parts_in s d (authority_parts t))
+unfolding normal_authority authority_without
+normal-reads s None t k h = (parts-fit s None (authority_parts t) k (reads s t k h), refl)
+normal-reads s (Some d) t k h = (parts-fit s (Some d) (authority_parts t) k (reads s t k h), refl)
+
+-- what an authority in normal form is read as
+pub normal-parts : (s : Tests) (d : Option (List ℕ)) (t : List ℕ) → IsSpec s → is_authority s t ≡ true
+    → authority_parts (normal_authority_in s d t) ≡ normal_authority_parts_in s d (authority_parts t)
+normal-parts s d t k h = reading_is s k (normal_authority_in s d t) (normal_authority_parts_in s d (authority_parts t)) (normal-reads s d t k h)
+
+pub authority_in-fits : (s : Tests) (d : Option (List ℕ)) (t : List ℕ) → IsSpec s → is_authority s t ≡ true
+    → is_authority s (normal_authority_in s d t) ≡ true
+authority_in-fits s d t k h = (authority_law s k (normal_authority_in s d t)).1
+    (normal_authority_parts_in s d (authority_parts t), normal-reads s d t k h)
+
+pub authority_in-stable : (s : Tests) (d : Option (List ℕ)) (t : List ℕ) → IsSpec s → is_authority s t ≡ true
+    → normal_authority_in s d (normal_authority_in s d t) ≡ normal_authority_in s d t
+authority_in-stable s d t k h =
+    let p = normal_authority_parts_in s d (authority_parts t) in
+    sym (authority_in s d (normal_authority_in s d t) p (sym (normal-parts s d t k h)))
+    ∙ (ap recompose_authority (parts-stable s d (authority_parts t) k (reads s t k h)) ∙ authority_in s d t (authority_parts t) refl)
 
 pub authority-fits : (s : Tests) (t : List ℕ) → IsSpec s → is_authority s t ≡ true → is_authority s (normal_authority s t) ≡ true
-authority-fits s t k h = (authority_law s k (normal_authority s t)).1 (normal_authority_parts s (authority_parts t), normal-reads s t k h)
+authority-fits s t k h = authority_in-fits s None t k h
 
 pub authority-stable : (s : Tests) (t : List ℕ) → IsSpec s → is_authority s t ≡ true
     → normal_authority s (normal_authority s t) ≡ normal_authority s t
-unfolding normal_authority
-authority-stable s t k h =
-    let e = reading_is s k (normal_authority s t) (normal_authority_parts s (authority_parts t)) (normal-reads s t k h) in
-    ap (λ a. recompose_authority (normal_authority_parts s a)) e
-    ∙ ap recompose_authority (parts-stable s (authority_parts t) k (reads s t k h))
+authority-stable s t k h = authority_in-stable s None t k h

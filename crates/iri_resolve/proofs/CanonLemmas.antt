@@ -11,9 +11,10 @@ use Rattle.iri_grammar.specs.WholeFault.{absolute_fault, reference_fault}
 use Rattle.iri_grammar.specs.declared.error.ErrorKind.{ErrorKind}
 use Rattle.iri_grammar.specs.declared.error.ErrorKind.TheVariants.{InvalidUtf8}
 use Rattle.iri_owned.specs.OwnedText.{OwnedText}
-use Rattle.iri_resolve.specs.Canonicalized.{IsCanonicalText, CausedBy}
-use Rattle.iri_resolve.proofs.FormLaws.{canonical-iri, canonical-split, canonical-own}
-use Rattle.iri_resolve.specs.NormalForm.{normal_form, canonical}
+use Rattle.iri_percent.specs.declared.canon_mode.CanonMode.{CanonMode}
+use Rattle.iri_resolve.specs.Canonicalized.{IsCanonicalTextIn, CausedBy}
+use Rattle.iri_resolve.proofs.CanonLaws.{canonical_in-iri, canonical_in-split, canonical_in-own}
+use Rattle.iri_resolve.specs.NormalForm.{normal_form, canonical, canonical_in}
 use Rattle.iri_resolve.specs.Target.{target}
 use Rattle.iri_resolve.specs.declared.canonical.CanonError.{CanonError}
 
@@ -32,23 +33,23 @@ reference s l r h = (reference-law s l r).0 h
 pub fault_none : (f : List ℕ → Option ErrorKind) (bs : List ℕ) → bytes_fault f bs ≡ None → f bs ≡ None
 fault_none f bs = elim (is_utf8 bs) as (λ b. cond b (f bs) (Some InvalidUtf8) ≡ None → f bs ≡ None) [ true ↦ λ h. h | false ↦ λ h. cc ]
 
-is_canonical : (s : Tests) → IsSpec s → (b r t : List ℕ) → bytes_fault (absolute_fault s) b ≡ None
-    → bytes_fault (reference_fault s) r ≡ None → t ≡ canonical s b r → IsCanonicalText s b r t
-is_canonical s l b r t hb hr e =
+is_canonical : (s : Tests) (m : CanonMode) → IsSpec s → (b r t : List ℕ) → bytes_fault (absolute_fault s) b ≡ None
+    → bytes_fault (reference_fault s) r ≡ None → t ≡ canonical_in s m b r → IsCanonicalTextIn s m b r t
+is_canonical s m l b r t hb hr e =
     let a = absolute s l b (fault_none (absolute_fault s) b hb) in
     let k = reference s l r (fault_none (reference_fault s) r hr) in
-    subst (IsCanonicalText s b r) (sym e)
+    subst (IsCanonicalTextIn s m b r) (sym e)
     (record {
       canonical_is = refl;
-      valid = canonical-iri s b r l a k;
-      splits = canonical-split s b r l a k;
-      own = λ other _. canonical-own s b r other l a k;
+      valid = canonical_in-iri s m b r l a k;
+      splits = canonical_in-split s m b r l a k;
+      own = λ other _. canonical_in-own s m b r other l a k;
     })
 
 -- the text that an answer holds
-pub all_canonical : (s : Tests) → IsSpec s → (b v r : List ℕ) → v ≡ b → bytes_fault (absolute_fault s) b ≡ None
+pub all_canonical : (s : Tests) (m : CanonMode) → IsSpec s → (b v r : List ℕ) → v ≡ b → bytes_fault (absolute_fault s) b ≡ None
     → (x : Result OwnedText CanonError)
-    → MatchResult x (λ t. (bytes_fault (reference_fault s) r ≡ None) × (t.text ≡ canonical s v r))
-    (λ e. CausedBy e None (bytes_fault (reference_fault s) r)) → IfOk x (λ t. IsCanonicalText s b r t.text)
-all_canonical s l b v r e hb (Ok t) h = is_canonical s l b r t.text hb h.0 (h.1 ∙ ap (λ x. canonical s x r) e)
-all_canonical s l b v r e hb (Err x) h = tt
+    → MatchResult x (λ t. (bytes_fault (reference_fault s) r ≡ None) × (t.text ≡ canonical_in s m v r))
+    (λ e. CausedBy e None (bytes_fault (reference_fault s) r)) → IfOk x (λ t. IsCanonicalTextIn s m b r t.text)
+all_canonical s m l b v r e hb (Ok t) h = is_canonical s m l b r t.text hb h.0 (h.1 ∙ ap (λ x. canonical_in s m x r) e)
+all_canonical s m l b v r e hb (Err x) h = tt

@@ -1,7 +1,7 @@
 -- A step changes something, and a decoded place is a character.
 use Rattle.std.proofs.Common.{◌≡◌, ◌≢◌, ℕ, ◌-◌, Bool, true, false, cond, List, [], ◌∷◌, ◌++◌, Option, Some, None, length, refl, sym, ◌∙◌}
 use Rattle.std.proofs.Common.{ap, arith, append_assoc, length-append, length-take-le}
-use Rattle.std.specs.Prelude.{is_some, nat_lt, take}
+use Rattle.std.specs.Prelude.{◌&&◌, is_some, nat_lt, take}
 use Rattle.std.specs.Char.{is_ascii_uppercase, to_ascii_lowercase, to_ascii_uppercase, encode_utf8}
 use Rattle.std.specs.Str.{bytes_eq}
 use Rattle.std.proofs.lemmas.Bool.Decides.{nat_tests}
@@ -11,13 +11,16 @@ use Rattle.iri_grammar.specs.Authority.{AuthorityParts, authority_parts, recompo
 use Rattle.iri_grammar.proofs.AuthorityLaws.{authority_recomposed}
 use Rattle.iri_grammar.specs.Classes.{Tests}
 use Rattle.iri_grammar.specs.Cut.{marked}
-use Rattle.iri_grammar.specs.Parts.{Parts}
+use Rattle.iri_grammar.specs.Parts.{Parts, is_empty}
 use Rattle.iri_percent.proofs.Reading.{Reading, done, plain, char, lone, whole_plain, whole_triplet, whole_behind, read}
 use Rattle.iri_percent.proofs.SeamLaws.{leads, lone-seam, whole-percent}
 use Rattle.iri_percent.proofs.UnitLaws.{length-spelled, units_plain, units_lone, units_char}
 use Rattle.iri_percent.proofs.UnitTexts.{units-text}
 use Rattle.iri_percent.proofs.CharUnits.{char_placed}
 use Rattle.iri_percent.specs.Units.{Plain, Char, Lone, octets, units, whole_triplets}
+use Rattle.iri_percent.specs.NormalHost.{is_dropped}
+use Rattle.iri_percent.specs.SchemeRules.{dropped_port}
+use Rattle.iri_percent.specs.declared.canon_mode.CanonMode.{CanonMode}
 use Rattle.iri_resolve.proofs.AuthoritySteps.{placed-is, in_part-is}
 use Rattle.iri_resolve.proofs.ByteLaws.{ByteChange, small_letter, small_host_letter, capital_digit}
 use Rattle.iri_resolve.proofs.ChangeLaws.{decoding, some_triplets, spelled-leads}
@@ -26,12 +29,12 @@ use Rattle.iri_resolve.specs.DecodedPlace.{IsCharacterAt}
 use Rattle.iri_resolve.specs.DotRemoval.{dots}
 use Rattle.iri_resolve.specs.Guard.{guard}
 use Rattle.iri_resolve.proofs.Places.{decode-inside}
-use Rattle.iri_resolve.specs.Steps.{placed, in_part, host_start, in_host, in_userinfo_or_host, without_empty_port}
-use Rattle.iri_resolve.specs.Steps.{with_small_letter_in_host, with_dots_removed, at_place, step}
+use Rattle.iri_resolve.specs.Steps.{placed, in_part, host_start, in_host, in_userinfo_or_host, without_dropped_port, without_empty_port}
+use Rattle.iri_resolve.specs.Steps.{with_small_letter_in_host, with_dots_removed, with_slash, at_place, step_in}
 use Rattle.iri_resolve.specs.declared.step.Part.{Part}
 use Rattle.iri_resolve.specs.declared.step.Part.TheVariants.{Authority, Path, Query, Fragment}
 use Rattle.iri_resolve.specs.declared.step.Step.{Step}
-use Rattle.iri_resolve.specs.declared.step.Step.TheVariants.{SchemeLetter, HostLetter, HexDigit, Decode, EmptyPort, Dots}
+use Rattle.iri_resolve.specs.declared.step.Step.TheVariants.{SchemeLetter, HostLetter, HexDigit, Decode, EmptyPort, Dots, DefaultPort, SlashPath}
 
 -- ---- a text
 same_some : (x y : List ℕ) → Some x ≡ Some y → x ≡ y
@@ -120,25 +123,43 @@ letter-changes i a b h e =
       | false ↦ λ m. cc
     ] h
 
-port-differs : (p : AuthorityParts) → p.port ≡ Some [] → recompose_authority (record p { port = None }) ≢ recompose_authority p
+port-differs : (p : AuthorityParts) (x : List ℕ) → p.port ≡ Some x → recompose_authority (record p { port = None }) ≢ recompose_authority p
 unfolding recompose_authority
-port-differs p q h =
+port-differs p x q h =
     let u = userinfo_text p.userinfo in
-    let same : u ++ (p.host ++ []) ≡ u ++ (p.host ++ 58 ∷ []) = h ∙ ap (λ o. u ++ (p.host ++ marked 58 o)) q in
+    let same : u ++ (p.host ++ []) ≡ u ++ (p.host ++ 58 ∷ x) = h ∙ ap (λ o. u ++ (p.host ++ marked 58 o)) q in
     absurd (omega (
       arith,
       ap length same,
       length-append u (p.host ++ []),
-      length-append u (p.host ++ 58 ∷ []),
+      length-append u (p.host ++ 58 ∷ x),
       length-append p.host [],
-      length-append p.host (58 ∷ []),
+      length-append p.host (58 ∷ x),
     ))
 
 port-changes : (p : AuthorityParts) (o : Option (List ℕ)) (b : List ℕ) → p.port ≡ o → without_empty_port p o ≡ Some b
     → b ≢ recompose_authority p
 port-changes p None b q h e = cc
-port-changes p (Some []) b q h e = let new : recompose_authority (record p { port = None }) ≡ b = cc in port-differs p q (new ∙ e)
+port-changes p (Some []) b q h e = let new : recompose_authority (record p { port = None }) ≡ b = cc in port-differs p [] q (new ∙ e)
 port-changes p (Some (x ∷ xs)) b q h e = cc
+
+dropped-changes : (d : Option (List ℕ)) (p : AuthorityParts) (o : Option (List ℕ)) (b : List ℕ) → p.port ≡ o
+    → without_dropped_port d p o ≡ Some b → b ≢ recompose_authority p
+dropped-changes d p None b q h e = cc
+dropped-changes d p (Some x) b q h e =
+    elim (is_dropped d x) as (λ v. cond v (Some (recompose_authority (record p { port = None }))) None ≡ Some b → ⊥) [
+      | true ↦ λ k. let new : recompose_authority (record p { port = None }) ≡ b = cc in port-differs p x q (new ∙ e)
+      | false ↦ λ k. cc
+    ] h
+
+slash-changes : (d : Option (List ℕ)) (t : Parts) (p : List ℕ) → with_slash d t ≡ Some p → p ≢ t.path
+slash-changes None t p h e = cc
+slash-changes (Some d) t p h e = at t.authority t.path h e
+  where
+    at : (a : Option (List ℕ)) (q : List ℕ) → cond (is_some a && is_empty q) (Some (47 ∷ [])) None ≡ Some p → p ≡ q → ⊥
+    at None q k f = cc
+    at (Some a) [] k f = cc
+    at (Some a) (x ∷ xs) k f = cc
 
 -- ---- each step
 place-changes : (change : ℕ → List ℕ → Option (List ℕ)) (t u : Parts) (part : Part) (i : ℕ) → Changing change
@@ -171,28 +192,37 @@ dots-change t u h e =
           cc
     ] refl h
 
-pub step-changes : (s : Tests) (t u : Parts) (x : Step) → step s t x ≡ Some u → u ≢ t
-unfolding step
-step-changes s t u (SchemeLetter i) h e =
+pub step-changes : (s : Tests) (m : CanonMode) (t u : Parts) (x : Step) → step_in s m t x ≡ Some u → u ≢ t
+unfolding step_in
+step-changes s m t u (SchemeLetter i) h e =
     let r = placed-is (λ x. record t { scheme = Some x }) (in_part (with_small_letter i) t.scheme) u h in
     let q = in_part-is (with_small_letter i) t.scheme r.0 r.1 in
     letter-changing i q.0 r.0 q.2 (same_some r.0 q.0 (ap (λ z. z.scheme) (r.2 ∙ e) ∙ q.1))
-step-changes s t u (HostLetter i) h e =
+step-changes s m t u (HostLetter i) h e =
     let r = placed-is (λ a. record t { authority = Some a })
     (in_part (λ a. with_small_letter_in_host i (authority_parts a)) t.authority) u h in
     let q = in_part-is (λ a. with_small_letter_in_host i (authority_parts a)) t.authority r.0 r.1 in
     letter-changes i q.0 r.0 q.2 (same_some r.0 q.0 (ap (λ z. z.authority) (r.2 ∙ e) ∙ q.1))
-step-changes s t u (HexDigit part i) h e = place-changes with_capital_digit t u part i digit-changing h e
-step-changes s t u (Decode part i) h e = place-changes (with_decoded s) t u part i (decode-changing s) h e
-step-changes s t u EmptyPort h e =
+step-changes s m t u (HexDigit part i) h e = place-changes with_capital_digit t u part i digit-changing h e
+step-changes s m t u (Decode part i) h e = place-changes (with_decoded s) t u part i (decode-changing s) h e
+step-changes s m t u EmptyPort h e =
     let r = placed-is (λ a. record t { authority = Some a })
     (in_part (λ a. without_empty_port (authority_parts a) (authority_parts a).port) t.authority) u h in
     let q = in_part-is (λ a. without_empty_port (authority_parts a) (authority_parts a).port) t.authority r.0 r.1 in
     port-changes (authority_parts q.0) (authority_parts q.0).port r.0 refl q.2
     (same_some r.0 q.0 (ap (λ z. z.authority) (r.2 ∙ e) ∙ q.1) ∙ sym (authority_recomposed q.0))
-step-changes s t u Dots h e =
+step-changes s m t u Dots h e =
     let r = placed-is (λ p. record t { path = p }) (with_dots_removed t) u h in
     dots-change t r.0 r.1 (ap (λ z. z.path) (r.2 ∙ e))
+step-changes s m t u DefaultPort h e =
+    let change : List ℕ → Option (List ℕ) = λ a. without_dropped_port (dropped_port m t.scheme) (authority_parts a) (authority_parts a).port in
+    let r = placed-is (λ a. record t { authority = Some a }) (in_part change t.authority) u h in
+    let q = in_part-is change t.authority r.0 r.1 in
+    dropped-changes (dropped_port m t.scheme) (authority_parts q.0) (authority_parts q.0).port r.0 refl q.2
+    (same_some r.0 q.0 (ap (λ z. z.authority) (r.2 ∙ e) ∙ q.1) ∙ sym (authority_recomposed q.0))
+step-changes s m t u SlashPath h e =
+    let r = placed-is (λ p. record t { path = p }) (with_slash (dropped_port m t.scheme) t) u h in
+    slash-changes (dropped_port m t.scheme) t r.0 r.1 (ap (λ z. z.path) (r.2 ∙ e))
 
 -- ---- a decoded place
 units-nil : units [] ≡ []

@@ -21,7 +21,7 @@ use Rattle.iri_percent.proofs.WholeLaws.{lacks-whole}
 use Rattle.iri_resolve.specs.Changes.{is_small_digit}
 use Rattle.iri_resolve.specs.inside.ComponentSteps.{letter_steps, digit_steps, OneStep, Reach, GoesOn, Moves, Walked, IsLed}
 use Rattle.iri_resolve.proofs.Leads.{replayed-append, not-whole, whole-append, whole_nil, whole_percent, decoded-after, capital_same}
-use Rattle.iri_resolve.specs.Steps.{onward, replayed}
+use Rattle.iri_resolve.specs.Steps.{onward, replayed_in}
 use Rattle.iri_resolve.specs.declared.component.Component.{Component}
 use Rattle.iri_resolve.specs.declared.step.Step.{Step}
 use Rattle.iri_resolve.specs.declared.step.Step.TheVariants.{HostLetter, HexDigit, Decode}
@@ -29,7 +29,7 @@ use Rattle.iri_resolve.specs.declared.step.Step.TheVariants.{HostLetter, HexDigi
 -- ---- one step more
 pub reach-step : (s : Tests) (t u v : Parts) (l : List Step) (x : Step) (good next : Bool) → Reach s t l u good → OneStep s u x v next
     → Reach s t (l ++ x ∷ []) v next
-unfolding replayed
+unfolding replayed_in
 reach-step s t u v l x good next r o = record {
   leads = replayed-append s t u l (x ∷ []) r.leads ∙ ap (λ p. onward p (λ w. Some w)) o.leads;
   kept = o.kept;

@@ -1,15 +1,14 @@
--- Steps lead from valid parts to their normal form; steps join exactly the parts with one normal form.
-use Rattle.std.proofs.Common.{◌≡◌, ◌↔◌, ℕ, Bool, true, false, cond, not, ◌&&◌, ◌||◌, List, [], ◌∷◌, ◌++◌, Option, Some, None, map, refl}
+-- Steps lead from valid parts to their normal form.
+use Rattle.std.proofs.Common.{◌≡◌, ℕ, Bool, true, false, cond, not, ◌&&◌, ◌||◌, List, [], ◌∷◌, ◌++◌, Option, Some, None, map, refl}
 use Rattle.std.proofs.Common.{sym, ◌∙◌, ap, subst}
-use Rattle.std.specs.Prelude.{◌==◌, is_some, IsSome}
+use Rattle.std.specs.Prelude.{◌==◌, is_some}
 use Rattle.std.specs.Char.{to_ascii_uppercase, encode_utf8}
 use Rattle.iri_grammar.specs.Authority.{AuthorityParts, FitsAuthority, authority_parts, is_authority}
 use Rattle.iri_grammar.proofs.AuthorityLaws.{authority_recomposed}
 use Rattle.iri_grammar.specs.Classes.{Tests, IsSpec, unreserved}
 use Rattle.iri_grammar.specs.Components.{if_there, is_path}
 use Rattle.iri_grammar.proofs.CutLaws.{test_apart}
-use Rattle.iri_grammar.specs.Parts.{Parts, Fits, recompose, starts_with_slash, starts_with_slashes}
-use Rattle.iri_grammar.proofs.SplitUnique.{one_split}
+use Rattle.iri_grammar.specs.Parts.{Parts, Fits, starts_with_slash, starts_with_slashes}
 use Rattle.iri_percent.specs.Units.{whole_triplets}
 use Rattle.iri_percent.specs.Triplets.{as_it_is, pct}
 use Rattle.iri_percent.specs.NormalHost.{normal_host, normal_userinfo, normal_authority_parts, normal_authority}
@@ -19,7 +18,6 @@ use Rattle.iri_percent.proofs.UnitLaws.{Spells, none, more, encode_bytes}
 use Rattle.iri_percent.proofs.WholeLaws.{path-whole}
 use Rattle.iri_percent.proofs.MapKinds.{authority-reads as reads}
 use Rattle.iri_resolve.specs.DotRemoval.{dots}
-use Rattle.iri_resolve.proofs.FormLaws.{form-fits}
 use Rattle.iri_resolve.specs.Guard.{guard}
 use Rattle.iri_resolve.specs.LowerCase.{lowered, where_there}
 use Rattle.iri_resolve.specs.NormalForm.{normal_path, normal_form, form}
@@ -27,9 +25,8 @@ use Rattle.iri_resolve.proofs.PathLaws.{dots-over}
 use Rattle.iri_resolve.proofs.TargetLaws.{slash_in_path}
 use Rattle.iri_resolve.proofs.TripletDots.{map_same}
 use Rattle.iri_resolve.proofs.TripletPaths.{slash-delimits}
-use Rattle.iri_resolve.specs.Steps.{Joined}
 use Rattle.iri_resolve.proofs.ChangeKeeps.{encode-slash}
-use Rattle.iri_resolve.proofs.StepsKept.{joined-form, point_in_path}
+use Rattle.iri_resolve.proofs.StepsKept.{point_in_path}
 use Rattle.iri_resolve.proofs.PathLaws.{guard-over}
 use Rattle.iri_resolve.proofs.Leads.{Leads, leads-nothing, leads-on}
 use Rattle.iri_resolve.proofs.Places.{scheme-leads, dots-leads, path-leads, query-leads, fragment-leads, with_authority, userinfo-there}
@@ -134,26 +131,3 @@ normal-leads s t k f =
     (leads-on s b c e (query-leads s b k f.query)
     (leads-on s c d e (fragment-leads s c k f.fragment)
     (authority-there s d t.authority k f.authority))))
-
--- ---- steps join what has one normal form
-form-joined : (s : Tests) (t u : Parts) → IsSpec s → Fits s t → Fits s u → normal_form s t ≡ normal_form s u → Joined s t u
-form-joined s t u k f g e =
-    let l = normal-leads s t k f in
-    let m = normal-leads s u k g in
-    (l.0, m.0, normal_form s t, l.1, m.1 ∙ ap Some (sym e))
-
-pub joined-exactly : (s : Tests) (t u : Parts) → IsSpec s → Fits s t → IsSome t.scheme → Fits s u → IsSome u.scheme
-    → Joined s t u ↔ (normal_form s t ≡ normal_form s u)
-joined-exactly s t u k f i g j = (
-  λ h. joined-form s t u k (record { fits = f; scheme = i }) (record { fits = g; scheme = j }) h,
-  λ e. form-joined s t u k f g e,
-)
-
--- that is where their canonical texts are equal
-pub texts-exactly : (s : Tests) (t u : Parts) → IsSpec s → Fits s t → IsSome t.scheme → Fits s u → IsSome u.scheme
-    → (recompose (normal_form s t) ≡ recompose (normal_form s u)) ↔ (normal_form s t ≡ normal_form s u)
-texts-exactly s t u k f i g j = (
-  λ e. one_split s k (recompose (normal_form s u)) (normal_form s t) (normal_form s u) (record { fits = (form-fits s t k f i).0; text = e })
-      (record { fits = (form-fits s u k g j).0; text = refl }),
-  λ e. ap recompose e,
-)

@@ -3,23 +3,23 @@ use Rattle.std.proofs.Common.{◌≡◌, ℕ, zero, suc, ◌+◌, ◌-◌, ◌<�
 use Rattle.std.proofs.Common.{None, length, take, drop, get_or, refl, sym, ◌∙◌, ap, subst, arith, append_assoc, length-append, eq-eqb}
 use Rattle.std.specs.Prelude.{◌==◌, slice_index}
 use Rattle.std.specs.Str.{IsUtf8, IsCharBoundary}
+use Rattle.std.proofs.lemmas.Bool.{eqb-true}
 use Rattle.std.proofs.lemmas.Bool.Decides.{nat_tests}
 use Rattle.std.proofs.lemmas.List.{append-nil, drop_at, take_at}
 use Rattle.std.proofs.lemmas.Str.{IsUtf8-nil, IsUtf8-take, IsCharBoundary-after_ascii, IsCharBoundary-start}
 use Rattle.std.proofs.Math.Seq.{get_or-append_seam}
+use Rattle.memchr.specs.Find.{is_byte, IsLastByte}
 use Rattle.iri_grammar.specs.Cut.{before, behind, lacks, marked}
 use Rattle.iri_grammar.proofs.CutLaws.{by_test, joined}
-use Rattle.iri_resolve.specs.Target.{to_last_slash, ends_at_slash, LastSlash}
+use Rattle.iri_resolve.specs.Target.{to_last_slash, ends_at_slash}
 use Rattle.iri_resolve.specs.Dots.{is_dot_segment, any_dot_segment, has_dot_segment}
 use Rattle.iri_resolve.specs.DotRemoval.{is_two_dots}
 use Rattle.iri_resolve.specs.Kept.{grown, ended, removing, removed, kept_one, kept, behind_front_dots}
+use Rattle.iri_resolve.proofs.SlashLemmas.{last_slash}
 use Rattle.iri_resolve.proofs.PieceLaws.{nothing-is_no_dot}
 use Rattle.iri_resolve.proofs.KeptLemmas.{ended-append, ended-one, removed-append, kept-append, pieces-ended}
 
 -- ---- where a text ends with a slash
-equal-where : (x c : ℕ) → (x == c) ≡ true → x ≡ c
-equal-where x c h = grind (arith, nat_tests)
-
 take-ends-suc : (t : List ℕ) (i : ℕ) → i < length t → slice_index t i ≡ 47 → ends_at_slash (take (suc i) t) ≡ true
 take-ends-suc [] i l e = absurd (omega arith)
 take-ends-suc (x ∷ xs) zero l e = eq-eqb x 47 e
@@ -53,7 +53,7 @@ pub record EndSlash (t : List ℕ) : Type 0 where
 
 pub end_slash : (t : List ℕ) → ends_at_slash t ≡ true → 0 < length t → EndSlash t
 end_slash [] h l = absurd (omega arith)
-end_slash (x ∷ []) h l = record { front = []; whole = ap (λ c. c ∷ []) (equal-where x 47 h) }
+end_slash (x ∷ []) h l = record { front = []; whole = ap (λ c. c ∷ []) (eqb-true x 47 h) }
 end_slash (x ∷ y ∷ ys) h l = let r = end_slash (y ∷ ys) h (omega arith) in record { front = x ∷ r.front; whole = ap (λ l. x ∷ l) r.whole }
 
 pub end_byte : (t : List ℕ) → ends_at_slash t ≡ true → 0 < length t → slice_index t (length t - 1) ≡ 47
@@ -98,10 +98,10 @@ last_cut (x ∷ xs) =
       | false ↦ λ e. record { rest = r.rest; whole = rw e (ap (λ l. x ∷ l) r.whole); last = r.last }
     ] refl
 
-pub behind_last : (t a b : List ℕ) (k : ℕ) → LastSlash t k → t ≡ a ++ b → length a ≡ k + 1 → lacks 47 b ≡ true
+pub behind_last : (t a b : List ℕ) (k : ℕ) → IsLastByte (is_byte 47) t (Some k) → t ≡ a ++ b → length a ≡ k + 1 → lacks 47 b ≡ true
 behind_last t a b k h e n =
     let r = last_cut t in
-    let front : a ≡ to_last_slash t = sym (ap (take (k + 1)) e ∙ take_at a b (k + 1) n) ∙ h.front in
+    let front : a ≡ to_last_slash t = sym (ap (take (k + 1)) e ∙ take_at a b (k + 1) n) ∙ last_slash t k h in
     let same : b ≡ r.rest = sym (ap (drop (k + 1)) e ∙ drop_at a b (k + 1) n)
     ∙ (ap (drop (k + 1)) r.whole ∙ drop_at (to_last_slash t) r.rest (k + 1) (sym (ap length front) ∙ n)) in
     ap (lacks 47) same ∙ r.last
@@ -181,7 +181,7 @@ unended (s ∷ ss) = s ++ 47 ∷ unended ss
 
 pub unended-ended : (t : List ℕ) → ends_at_slash t ≡ true → unended (ended t) ≡ t
 unended-ended [] h = refl
-unended-ended (x ∷ []) h = rw h (ap (λ c. c ∷ []) (sym (equal-where x 47 h)))
+unended-ended (x ∷ []) h = rw h (ap (λ c. c ∷ []) (sym (eqb-true x 47 h)))
 unended-ended (x ∷ y ∷ ys) h =
     let r = unended-ended (y ∷ ys) h in
     by_test x 47 (λ b. unended (cond b ([] ∷ ended (y ∷ ys)) (grown x (ended (y ∷ ys)))) ≡ x ∷ y ∷ ys)

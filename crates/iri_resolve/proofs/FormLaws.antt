@@ -8,16 +8,12 @@ use Rattle.iri_grammar.specs.Classes.{Tests, IsSpec}
 use Rattle.iri_grammar.specs.Components.{if_there, is_scheme, is_scheme_char, is_letter, is_query, is_fragment}
 use Rattle.iri_grammar.specs.Authority.{is_authority}
 use Rattle.iri_grammar.proofs.CutLaws.{both}
-use Rattle.iri_grammar.specs.Parts.{Parts, Fits, Splits, IsReference, IsIri, IsAbsolute, path_rules, recompose}
-use Rattle.iri_grammar.specs.Split.{split_of}
-use Rattle.iri_grammar.proofs.SplitUnique.{split_is}
+use Rattle.iri_grammar.specs.Parts.{Parts, Fits, path_rules}
 use Rattle.iri_percent.specs.Triplets.{pct}
 use Rattle.iri_percent.specs.NormalHost.{normal_authority}
 use Rattle.iri_percent.proofs.Stability.{lower-case, pct-stable}
 use Rattle.iri_resolve.specs.LowerCase.{lowered, where_there}
-use Rattle.iri_resolve.specs.Target.{target, target_under}
-use Rattle.iri_resolve.specs.NormalForm.{normal_path, normal_form, form, canonical_parts, canonical}
-use Rattle.iri_resolve.proofs.TargetLaws.{target-fits}
+use Rattle.iri_resolve.specs.NormalForm.{normal_path, normal_form, form}
 use Rattle.iri_percent.proofs.ClassLaws.{pct-query, pct-fragment}
 use Rattle.iri_percent.proofs.WholeLaws.{query-whole, fragment-whole}
 use Rattle.iri_resolve.proofs.PathLaws.{path-over, path-rules, path-stable}
@@ -36,12 +32,12 @@ pub lower-all : (xs : List ℕ) → list_all is_scheme_char xs ≡ true → list
 lower-all [] h = refl
 lower-all (x ∷ xs) h = let k = both (is_scheme_char x) (list_all is_scheme_char xs) h in rw (lower-scheme_char x k.0) (lower-all xs k.1)
 
-scheme-fits : (o : Option (List ℕ)) → if_there is_scheme o ≡ true → if_there is_scheme (where_there lowered o) ≡ true
+pub scheme-fits : (o : Option (List ℕ)) → if_there is_scheme o ≡ true → if_there is_scheme (where_there lowered o) ≡ true
 scheme-fits None h = refl
 scheme-fits (Some []) h = cc
 scheme-fits (Some (x ∷ xs)) h = let k = both (is_letter x) (list_all is_scheme_char xs) h in rw (lower-letter x k.0) (lower-all xs k.1)
 
-lowered-twice : (xs : List ℕ) → lowered (lowered xs) ≡ lowered xs
+pub lowered-twice : (xs : List ℕ) → lowered (lowered xs) ≡ lowered xs
 lowered-twice [] = refl
 lowered-twice (x ∷ xs) = ap (λ y. y ∷ lowered (lowered xs)) (lower-case.twice x) ∙ ap (λ ys. to_ascii_lowercase x ∷ ys) (lowered-twice xs)
 
@@ -60,7 +56,7 @@ pub authorities-stable : (s : Tests) (o : Option (List ℕ)) → IsSpec s → if
 authorities-stable s None k h = refl
 authorities-stable s (Some x) k h = ap Some (authority-stable s x k h)
 
-query-fits : (s : Tests) (o : Option (List ℕ)) → IsSpec s → if_there (is_query s) o ≡ true
+pub query-fits : (s : Tests) (o : Option (List ℕ)) → IsSpec s → if_there (is_query s) o ≡ true
     → if_there (is_query s) (where_there (pct s) o) ≡ true
 query-fits s None k h = refl
 query-fits s (Some x) k h = pct-query s x k h
@@ -70,7 +66,7 @@ pub query-stable : (s : Tests) (o : Option (List ℕ)) → IsSpec s → if_there
 query-stable s None k h = refl
 query-stable s (Some x) k h = ap Some (pct-stable s x k (query-whole s x k h))
 
-fragment-fits : (s : Tests) (o : Option (List ℕ)) → IsSpec s → if_there (is_fragment s) o ≡ true
+pub fragment-fits : (s : Tests) (o : Option (List ℕ)) → IsSpec s → if_there (is_fragment s) o ≡ true
     → if_there (is_fragment s) (where_there (pct s) o) ≡ true
 fragment-fits s None k h = refl
 fragment-fits s (Some x) k h = pct-fragment s x k h
@@ -85,7 +81,7 @@ rules-fit : (s : Tests) (t : Parts) (o : Option (List ℕ)) → IsSome o → pat
 rules-fit s t None i h = cc
 rules-fit s t (Some x) i h = path-rules s (normal_authority s) x (lowered x) t.authority t.path h
 
-still-there : (o : Option (List ℕ)) → IsSome o → IsSome (where_there lowered o)
+pub still-there : (o : Option (List ℕ)) → IsSome o → IsSome (where_there lowered o)
 still-there None h = h
 still-there (Some x) h = refl
 
@@ -115,57 +111,3 @@ form-stable s t k f =
       fragment-stable s t.fragment k f.fragment,
     )
     refl
-
--- ---- the canonical text
-parts-fit : (s : Tests) (base reference : List ℕ) → IsSpec s → IsAbsolute s base → IsReference s reference
-    → Fits s (canonical_parts s base reference) × IsSome (canonical_parts s base reference).scheme
-parts-fit s base reference k b r =
-    let eb = split_is s base b.0 k b.1 in
-    let er = split_is s reference r.0 k r.1 in
-    let t = target-fits s b.0 r.0 b.1.fits b.2 r.1.fits in
-    rw (eb, er) (form-fits s (target b.0 r.0) k t.0 t.1)
-
-pub canonical-splits : (s : Tests) (base reference : List ℕ) → IsSpec s → IsAbsolute s base → IsReference s reference
-    → Splits s (canonical s base reference) (canonical_parts s base reference)
-unfolding canonical
-canonical-splits s base reference k b r = record { fits = (parts-fit s base reference k b r).0; text = refl }
-
-pub canonical-iri : (s : Tests) (base reference : List ℕ) → IsSpec s → IsAbsolute s base → IsReference s reference
-    → IsIri s (canonical s base reference)
-canonical-iri s base reference k b r = (
-  canonical_parts s base reference,
-  canonical-splits s base reference k b r,
-  (parts-fit s base reference k b r).1,
-)
-
-pub canonical-split : (s : Tests) (base reference : List ℕ) → IsSpec s → IsAbsolute s base → IsReference s reference
-    → split_of (canonical s base reference) ≡ canonical_parts s base reference
-canonical-split s base reference k b r = split_is s (canonical s base reference) (canonical_parts s base reference) k
-    (canonical-splits s base reference k b r)
-
--- a reference with a scheme is its own target
-pub own-target : (base r : Parts) → IsSome r.scheme → target base r ≡ r
-unfolding target
-own-target base r i = at r.scheme i
-  where
-    at : (o : Option (List ℕ)) → IsSome o → target_under base r o r.authority ≡ r
-    at None j = cc
-    at (Some x) j = refl
-
-parts-stable : (s : Tests) (base reference : List ℕ) → IsSpec s → IsAbsolute s base → IsReference s reference
-    → normal_form s (canonical_parts s base reference) ≡ canonical_parts s base reference
-parts-stable s base reference k b r =
-    let eb = split_is s base b.0 k b.1 in
-    let er = split_is s reference r.0 k r.1 in
-    let t = target-fits s b.0 r.0 b.1.fits b.2 r.1.fits in
-    rw (eb, er) (form-stable s (target b.0 r.0) k t.0)
-
-pub canonical-own : (s : Tests) (base reference other : List ℕ) → IsSpec s → IsAbsolute s base → IsReference s reference
-    → canonical s other (canonical s base reference) ≡ canonical s base reference
-unfolding canonical
-canonical-own s base reference other k b r =
-    let parts = canonical_parts s base reference in
-    let e : split_of (recompose parts) ≡ parts = canonical-split s base reference k b r in
-    let t : target (split_of other) parts ≡ parts = own-target (split_of other) parts (parts-fit s base reference k b r).1 in
-    ap (λ p. recompose (normal_form s (target (split_of other) p))) e
-    ∙ (ap (λ p. recompose (normal_form s p)) t ∙ ap recompose (parts-stable s base reference k b r))

@@ -1,5 +1,5 @@
 -- Parts shown in a mode.
-use Rattle.std.proofs.Common.{◌≡◌, ℕ, ◌<◌, Bool, true, false, cond, ◌||◌, List, [], ◌∷◌, ◌++◌, Option, Some, Bor, length, refl, sym, ◌∙◌}
+use Rattle.std.proofs.Common.{◌≡◌, ℕ, ◌<◌, Bool, true, false, cond, ◌&&◌, ◌||◌, List, [], ◌∷◌, ◌++◌, Option, Some, Bor, refl, sym, ◌∙◌}
 use Rattle.std.proofs.Common.{ap, subst, arith}
 use Rattle.std.specs.Prelude.{◌==◌, nat_lt}
 use Rattle.std.specs.Char.{to_ascii_lowercase}
@@ -13,16 +13,16 @@ use Rattle.iri_grammar.specs.Cut.{marked}
 use Rattle.iri_grammar.proofs.CutLaws.{both}
 use Rattle.iri_grammar.specs.Host.{is_host}
 use Rattle.iri_grammar.specs.IpLiteral.{is_ip_literal}
-use Rattle.iri_grammar.specs.Parts.{scheme_text, authority_text}
+use Rattle.iri_grammar.specs.Parts.{is_empty, scheme_text, authority_text}
 use Rattle.iri_grammar.proofs.SplitLaws.{scheme-chars}
 use Rattle.iri_grammar.specs.OptionalSlices.{now_of}
 use Rattle.iri_percent.proofs.ClassLaws.{IsText, ended, letter, over-from_text}
-use Rattle.iri_percent.specs.NormalHost.{normal_host, is_ascii_host, normal_port}
+use Rattle.iri_percent.specs.NormalHost.{normal_host, is_ascii_host}
 use Rattle.iri_percent.proofs.NormalLaws.{normal_nil, normal_plain}
 use Rattle.iri_percent.specs.Triplets.{normal, pct}
 use Rattle.iri_percent.proofs.WholeLaws.{reg_name_percent}
 use Rattle.iri_resolve.specs.LowerCase.{lowered, where_there}
-use Rattle.iri_resolve.specs.NormalForm.{part_in}
+use Rattle.iri_resolve.specs.NormalForm.{becomes_slash, part_in}
 use Rattle.iri_resolve.specs.PathForm.{in_form}
 use Rattle.iri_grammar.proofs.SplitUnique.{scheme_char-below as scheme-low}
 
@@ -97,6 +97,11 @@ marked-in s true m c o a h e = ap (λ l. l ++ pct s a.now) h
     ∙ ap (λ (p : Option (Bor (List ℕ))). marked c (where_there (pct s) (now_of p))) (sym e)
 marked-in s false m c o a h e = ap (λ l. l ++ a.now) h ∙ ap (λ (p : Option (Bor (List ℕ))). marked c (now_of p)) (sym e)
 
-pub port-in : (x : List ℕ) → 0 < length x → (58 ∷ []) ++ x ≡ marked 58 (normal_port (Some x))
-port-in [] h = absurd (omega arith)
-port-in (x ∷ xs) h = refl
+-- ---- an empty path beside an authority
+empty-append : (a b : List ℕ) → is_empty (a ++ b) ≡ (is_empty a && is_empty b)
+empty-append [] b = refl
+empty-append (x ∷ a) b = refl
+
+pub slash-told : (d o : Option (List ℕ)) (front path port authority : List ℕ) → d ≡ Some port → o ≡ Some authority
+    → becomes_slash d o (front ++ path) ≡ (is_empty front && is_empty path)
+slash-told d o front path port authority e h = rw (e, h) (empty-append front path)

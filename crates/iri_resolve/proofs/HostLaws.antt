@@ -1,5 +1,6 @@
 -- The normal form of a host is stable.
 use Rattle.std.proofs.Common.{◌≡◌, ℕ, ◌<◌, ◌≤◌, Bool, true, false, cond, not, ◌&&◌, List, [], ◌∷◌, ◌++◌, map, refl, sym, ◌∙◌, ap, arith}
+use mathlib.Core.Bool.{and_assoc}
 use Rattle.std.specs.Prelude.{◌==◌, nat_lt}
 use Rattle.std.specs.Char.{is_ascii_hexdigit, to_ascii_lowercase, to_ascii_uppercase, encode_utf8}
 use Rattle.std.specs.List.{list_all}
@@ -17,10 +18,6 @@ use Rattle.iri_percent.proofs.Stability.{normal-stable, pct-stable}
 
 abbrev is_ascii : ℕ → Bool
 is_ascii x = nat_lt x 128
-
-and_assoc : (a b c : Bool) → ((a && b) && c) ≡ (a && (b && c))
-and_assoc true b c = refl
-and_assoc false b c = refl
 
 hex_ascii : (a : ℕ) → is_ascii_hexdigit a ≡ true → is_ascii a ≡ true
 hex_ascii a h = grind (arith, nat_tests)

@@ -1,27 +1,35 @@
 -- Two targets are led to one exactly where their texts in normal form are the same.
-use Rattle.std.proofs.Common.{◌≡◌, true, false, List, Some, sym, ◌∙◌, ap}
+use Rattle.std.proofs.Common.{◌≡◌, Bool, true, false, List, Some, sym, ◌∙◌, ap}
 use Rattle.std.specs.Str.{bytes_eq}
 use Rattle.std.proofs.lemmas.Slice.Eq.{bytes_eq-Decides}
 use Rattle.iri_grammar.specs.Classes.{Tests, IsSpec}
 use Rattle.iri_grammar.specs.Parts.{Parts, recompose}
-use Rattle.iri_resolve.proofs.Confluence.{joined-exactly, texts-exactly}
-use Rattle.iri_resolve.specs.NormalForm.{normal_form}
-use Rattle.iri_resolve.specs.Steps.{replayed, AreApart, LeadToOne}
+use Rattle.iri_percent.specs.declared.canon_mode.CanonMode.{CanonMode}
+use Rattle.iri_resolve.proofs.SchemeSteps.{form-in, joined_in-exactly, texts_in-exactly}
+use Rattle.iri_resolve.specs.NormalForm.{form, normal_form_in}
+use Rattle.iri_resolve.specs.Modes.{mode_of}
+use Rattle.iri_resolve.specs.Steps.{replayed_in, AreApartIn, LeadToOneIn}
 use Rattle.iri_resolve.proofs.StepsKept.{Valid}
 use Rattle.iri_resolve.specs.declared.step.Step.{Step}
 
-pub apart : (s : Tests) (t u : Parts) → IsSpec s → Valid s t → Valid s u
-    → bytes_eq (recompose (normal_form s t)) (recompose (normal_form s u)) ≡ false → AreApart s t u
-apart s t u k v w h j =
-    let e = (joined-exactly s t u k v.fits v.scheme w.fits w.scheme).0 j in
-    let same = (bytes_eq-Decides (recompose (normal_form s t)) (recompose (normal_form s u))).1 (ap recompose e) in
-    let no : true ≡ false = sym same ∙ h in
+-- the texts of two normal forms are those of two forms
+told : (s : Tests) (c : CanonMode) (t u : Parts) (b : Bool) → bytes_eq (recompose (form s (mode_of c) false t)) (recompose (form s (mode_of c) false u)) ≡ b
+    → bytes_eq (recompose (normal_form_in s c t)) (recompose (normal_form_in s c u)) ≡ b
+told s c t u b h = ap (λ z. bytes_eq (recompose z) (recompose (normal_form_in s c u))) (form-in s c t)
+    ∙ (ap (λ z. bytes_eq (recompose (form s (mode_of c) false t)) (recompose z)) (form-in s c u) ∙ h)
+
+pub apart : (s : Tests) (c : CanonMode) (t u : Parts) → IsSpec s → Valid s t → Valid s u
+    → bytes_eq (recompose (form s (mode_of c) false t)) (recompose (form s (mode_of c) false u)) ≡ false → AreApartIn s c t u
+apart s c t u k v w h j =
+    let e = (joined_in-exactly s c t u k v.fits v.scheme w.fits w.scheme).0 j in
+    let same = (bytes_eq-Decides (recompose (normal_form_in s c t)) (recompose (normal_form_in s c u))).1 (ap recompose e) in
+    let no : true ≡ false = sym same ∙ told s c t u false h in
     cc
 
-pub to-one : (s : Tests) (t u : Parts) (l m : List Step) → IsSpec s → Valid s t → Valid s u
-    → bytes_eq (recompose (normal_form s t)) (recompose (normal_form s u)) ≡ true → replayed s t l ≡ Some (normal_form s t)
-    → replayed s u m ≡ Some (normal_form s u) → LeadToOne s t u l m
-to-one s t u l m k v w h a b =
-    let e = (texts-exactly s t u k v.fits v.scheme w.fits w.scheme).0
-    ((bytes_eq-Decides (recompose (normal_form s t)) (recompose (normal_form s u))).0 h) in
-    (normal_form s t, a, b ∙ ap Some (sym e))
+pub to-one : (s : Tests) (c : CanonMode) (t u : Parts) (l m : List Step) → IsSpec s → Valid s t → Valid s u
+    → bytes_eq (recompose (form s (mode_of c) false t)) (recompose (form s (mode_of c) false u)) ≡ true
+    → replayed_in s c t l ≡ Some (normal_form_in s c t) → replayed_in s c u m ≡ Some (normal_form_in s c u) → LeadToOneIn s c t u l m
+to-one s c t u l m k v w h a b =
+    let e = (texts_in-exactly s c t u k v.fits v.scheme w.fits w.scheme).0
+    ((bytes_eq-Decides (recompose (normal_form_in s c t)) (recompose (normal_form_in s c u))).0 (told s c t u true h)) in
+    (normal_form_in s c t, a, b ∙ ap Some (sym e))

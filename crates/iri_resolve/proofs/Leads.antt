@@ -18,8 +18,10 @@ use Rattle.iri_percent.proofs.NormalLaws.{normal_nil, normal_plain, normal_plain
 use Rattle.iri_percent.proofs.CaseLaws.{is_decoded}
 use Rattle.iri_percent.proofs.Reading.{whole_plain, whole_triplet, percent_follows}
 use Rattle.iri_percent.proofs.Stability.{IsCase, upper_hex, encode_percent, unreserved_percent}
+use Rattle.iri_percent.specs.declared.canon_mode.CanonMode.{CanonMode}
+use Rattle.iri_percent.specs.declared.canon_mode.CanonMode.TheVariants.{Default}
 use Rattle.iri_resolve.specs.Changes.{is_small_digit, with_capital_digit, with_character, with_decoded}
-use Rattle.iri_resolve.specs.Steps.{step, onward, replayed}
+use Rattle.iri_resolve.specs.Steps.{step, step_in, onward, replayed, replayed_in}
 use Rattle.iri_percent.proofs.SeamLaws.{whole-behind}
 use Rattle.iri_resolve.proofs.ChangeLaws.{some_triplets}
 use Rattle.iri_resolve.proofs.ChangeKeeps.{TripletChange, capital-keeps, decoding-keeps}
@@ -31,23 +33,27 @@ abbrev pub Leads : Tests → Parts → Parts → Type 0
 Leads s t u = (l : List Step) × (replayed s t l ≡ Some u)
 
 pub leads-nothing : (s : Tests) (t : Parts) → Leads s t t
-unfolding replayed
+unfolding replayed_in
 leads-nothing s t = ([], refl)
 
 pub leads-step : (s : Tests) (t u : Parts) (x : Step) → step s t x ≡ Some u → Leads s t u
-unfolding replayed
+unfolding replayed_in
 leads-step s t u x h = (x ∷ [], ap (λ o. onward o (λ v. Some v)) h)
 
-pub replayed-append : (s : Tests) (t u : Parts) (l m : List Step) → replayed s t l ≡ Some u → replayed s t (l ++ m) ≡ replayed s u m
-unfolding replayed
-replayed-append s t u [] m h = let same : t ≡ u = cc in ap (λ v. replayed s v m) same
-replayed-append s t u (x ∷ l) m h = at (step s t x) h (λ w k. replayed-append s w u l m k)
+pub replayed_in-append : (s : Tests) (c : CanonMode) (t u : Parts) (l m : List Step) → replayed_in s c t l ≡ Some u
+    → replayed_in s c t (l ++ m) ≡ replayed_in s c u m
+unfolding replayed_in
+replayed_in-append s c t u [] m h = let same : t ≡ u = cc in ap (λ v. replayed_in s c v m) same
+replayed_in-append s c t u (x ∷ l) m h = at (step_in s c t x) h (λ w k. replayed_in-append s c w u l m k)
   where
-    at : (o : Option Parts) → onward o (λ v. replayed s v l) ≡ Some u
-        → ((w : Parts) → replayed s w l ≡ Some u → replayed s w (l ++ m) ≡ replayed s u m)
-        → onward o (λ v. replayed s v (l ++ m)) ≡ replayed s u m
+    at : (o : Option Parts) → onward o (λ v. replayed_in s c v l) ≡ Some u
+        → ((w : Parts) → replayed_in s c w l ≡ Some u → replayed_in s c w (l ++ m) ≡ replayed_in s c u m)
+        → onward o (λ v. replayed_in s c v (l ++ m)) ≡ replayed_in s c u m
     at None k go = cc
     at (Some w) k go = go w k
+
+pub replayed-append : (s : Tests) (t u : Parts) (l m : List Step) → replayed s t l ≡ Some u → replayed s t (l ++ m) ≡ replayed s u m
+replayed-append s t u l m h = replayed_in-append s Default t u l m h
 
 pub leads-on : (s : Tests) (t u v : Parts) → Leads s t u → Leads s u v → Leads s t v
 leads-on s t u v a b = (a.0 ++ b.0, replayed-append s t u a.0 b.0 a.1 ∙ b.1)

@@ -14,7 +14,12 @@ use Rattle.iri_grammar.specs.Pieces.{pieces}
 use Rattle.iri_grammar.proofs.SplitUnique.{split_is}
 use Rattle.iri_percent.specs.Units.{whole_triplets}
 use Rattle.iri_percent.specs.Triplets.{normal, as_it_is, pct}
-use Rattle.iri_percent.specs.NormalHost.{is_ascii_host, normal_host, normal_userinfo, normal_port, normal_authority_parts, normal_authority}
+use Rattle.iri_percent.specs.NormalHost.{is_ascii_host, is_dropped, normal_host, normal_userinfo, normal_port_in, normal_authority_parts_in}
+use Rattle.iri_percent.specs.NormalHost.{normal_authority, normal_authority_in}
+use Rattle.iri_percent.specs.SchemeRules.{dropped_port}
+use Rattle.iri_percent.specs.declared.canon_mode.CanonMode.{CanonMode}
+use Rattle.iri_percent.specs.declared.canon_mode.CanonMode.TheVariants.{Default, Scheme}
+use Rattle.iri_percent.proofs.Authorities.{authority_in}
 use Rattle.iri_percent.proofs.UnitLaws.{length-spelled}
 use Rattle.iri_percent.proofs.NormalLaws.{normal_nil, normal_plain, normal_lone, normal_char}
 use Rattle.iri_percent.proofs.Reading.{Reading, done, plain, char, lone, read}
@@ -22,7 +27,9 @@ use Rattle.iri_resolve.specs.LowerCase.{lowered, where_there}
 use Rattle.iri_resolve.specs.Dots.{is_dot_segment}
 use Rattle.iri_resolve.specs.DotRemoval.{is_two_dots, without_last, dots}
 use Rattle.iri_resolve.specs.Target.{target, target_under, target_path, target_query, merged, merge_prefix, to_last_slash, or_base}
-use Rattle.iri_resolve.specs.NormalForm.{normal_path, normal_form, form, canonical}
+use Rattle.iri_resolve.specs.NormalForm.{becomes_slash, canonical, canonical_in, canonical_parts_in, form, normal_form, normal_form_in, normal_path, slash_or}
+use Rattle.iri_resolve.specs.declared.mode.Mode.TheVariants.{ByScheme}
+use Rattle.iri_resolve.proofs.CanonLaws.{canonical_in-text}
 use Rattle.iri_resolve.proofs.OutputLaws.{closed_text, text_behind, text_from, dots-text}
 use Rattle.iri_resolve.proofs.StableLaws.{slashed, unsplit, unsplit-pieces}
 use Rattle.iri_resolve.proofs.TargetLaws.{target-fits, slash_in_path}
@@ -66,29 +73,31 @@ length-userinfo s None k h = omega arith
 length-userinfo s (Some u) k h =
     let l = length-pct s u (userinfo-whole s u k h) in omega (arith, length-append (pct s u) (64 ∷ []), length-append u (64 ∷ []))
 
-length-port : (o : Option (List ℕ)) → length (marked 58 (normal_port o)) ≤ length (marked 58 o)
-length-port None = omega arith
-length-port (Some []) = omega arith
-length-port (Some (x ∷ xs)) = omega arith
+length-port : (d o : Option (List ℕ)) → length (marked 58 (normal_port_in d o)) ≤ length (marked 58 o)
+length-port d None = omega arith
+length-port d (Some []) = omega arith
+length-port d (Some (x ∷ xs)) = elim (is_dropped d (x ∷ xs)) as (λ b. length (marked 58 (cond b None (Some (x ∷ xs))))
+    ≤ length (marked 58 (Some (x ∷ xs)))) [ true ↦ omega arith | false ↦ omega arith ]
 
-length-authority_parts : (s : Tests) (a : AuthorityParts) → IsSpec s → FitsAuthority s a
-    → length (recompose_authority (normal_authority_parts s a)) ≤ length (recompose_authority a)
+length-authority_parts : (s : Tests) (d : Option (List ℕ)) (a : AuthorityParts) → IsSpec s → FitsAuthority s a
+    → length (recompose_authority (normal_authority_parts_in s d a)) ≤ length (recompose_authority a)
 unfolding recompose_authority
-length-authority_parts s a k f =
+length-authority_parts s d a k f =
     let u = length-userinfo s a.userinfo k f.userinfo in
     let h = length-host s a.host (host-whole s a.host k f.host) in
-    let p = length-port a.port in
-    let left = sum (userinfo_text (normal_userinfo s a.userinfo)) (normal_host s a.host) (marked 58 (normal_port a.port)) in
+    let p = length-port d a.port in
+    let left = sum (userinfo_text (normal_userinfo s a.userinfo)) (normal_host s a.host) (marked 58 (normal_port_in d a.port)) in
     let right = sum (userinfo_text a.userinfo) a.host (marked 58 a.port) in
     omega arith
   where
     sum : (xs ys zs : List ℕ) → length (xs ++ (ys ++ zs)) ≡ length xs + (length ys + length zs)
     sum xs ys zs = omega (arith, length-append xs (ys ++ zs), length-append ys zs)
 
-length-authority : (s : Tests) (t : List ℕ) → IsSpec s → is_authority s t ≡ true → length (normal_authority s t) ≤ length t
-unfolding normal_authority
-length-authority s t k h = subst (λ z. length (recompose_authority (normal_authority_parts s (authority_parts t))) ≤ length z)
-    (authority_recomposed t) (length-authority_parts s (authority_parts t) k (reads s t k h))
+length-authority : (s : Tests) (d : Option (List ℕ)) (t : List ℕ) → IsSpec s → is_authority s t ≡ true
+    → length (normal_authority_in s d t) ≤ length t
+length-authority s d t k h = subst (λ z. length z ≤ length t) (authority_in s d t (authority_parts t) refl)
+    (subst (λ z. length (recompose_authority (normal_authority_parts_in s d (authority_parts t))) ≤ length z)
+    (authority_recomposed t) (length-authority_parts s d (authority_parts t) k (reads s t k h)))
 
 -- ---- a path
 length-last : (xs : List ℕ) → length (without_last xs) ≤ length xs
@@ -164,10 +173,14 @@ pub length-scheme : (o : Option (List ℕ)) → length (scheme_text (where_there
 length-scheme None = omega arith
 length-scheme (Some x) = omega (arith, length-append (lowered x) (58 ∷ []), length-append x (58 ∷ []), length-lower x)
 
+length-authorities_in : (s : Tests) (d o : Option (List ℕ)) → IsSpec s → if_there (is_authority s) o ≡ true
+    → length (authority_text (where_there (normal_authority_in s d) o)) ≤ length (authority_text o)
+length-authorities_in s d None k h = omega arith
+length-authorities_in s d (Some x) k h = let l = length-authority s d x k h in omega arith
+
 pub length-authorities : (s : Tests) (o : Option (List ℕ)) → IsSpec s → if_there (is_authority s) o ≡ true
     → length (authority_text (where_there (normal_authority s) o)) ≤ length (authority_text o)
-length-authorities s None k h = omega arith
-length-authorities s (Some x) k h = let l = length-authority s x k h in omega arith
+length-authorities s o k h = length-authorities_in s None o k h
 
 length-query : (s : Tests) (o : Option (List ℕ)) → IsSpec s → if_there (is_query s) o ≡ true
     → length (marked 63 (where_there (pct s) o)) ≤ length (marked 63 o)
@@ -190,6 +203,29 @@ length-form s t k f =
     let left = length-parts (normal_form s t) in
     let right = length-parts t in
     omega arith
+
+length-slashed : (s : Tests) (b : Bool) (a : Option (List ℕ)) (p : List ℕ) → IsSpec s → is_path s p ≡ true
+    → length (slash_or b (normal_path s a p)) ≤ length p + 2
+length-slashed s true a p k h = omega arith
+length-slashed s false a p k h = length-path s a p k h
+
+length-by_scheme : (s : Tests) (t : Parts) → IsSpec s → Fits s t → length (recompose (form s ByScheme false t)) ≤ length (recompose t) + 2
+unfolding form
+length-by_scheme s t k f =
+    let port = dropped_port Scheme t.scheme in
+    let a = length-scheme t.scheme in
+    let b = length-authorities_in s port t.authority k f.authority in
+    let c = length-slashed s (becomes_slash port t.authority t.path) t.authority t.path k f.path in
+    let d = length-query s t.query k f.query in
+    let e = length-fragment s t.fragment k f.fragment in
+    let left = length-parts (form s ByScheme false t) in
+    let right = length-parts t in
+    omega arith
+
+length-normal : (s : Tests) (m : CanonMode) (t : Parts) → IsSpec s → Fits s t
+    → length (recompose (normal_form_in s m t)) ≤ length (recompose t) + 2
+length-normal s Default t k f = length-form s t k f
+length-normal s Scheme t k f = length-by_scheme s t k f
 
 -- ---- the target
 length-to_last_slash : (xs : List ℕ) → length (to_last_slash xs) ≤ length xs
@@ -245,15 +281,20 @@ unfolding target
 length-target base r = length-target_under base r r.scheme r.authority refl
 
 -- ---- the whole
-pub length-canonical : (s : Tests) (base reference : List ℕ) → IsSpec s → IsAbsolute s base → IsReference s reference
-    → length (canonical s base reference) ≤ length base + length reference + 3
-unfolding canonical
-length-canonical s base reference k b r =
+pub length-canonical_in : (s : Tests) (m : CanonMode) (base reference : List ℕ) → IsSpec s → IsAbsolute s base → IsReference s reference
+    → length (canonical_in s m base reference) ≤ length base + length reference + 3
+length-canonical_in s m base reference k b r =
     let eb = split_is s base b.0 k b.1 in
     let er = split_is s reference r.0 k r.1 in
     let t = target-fits s b.0 r.0 b.1.fits b.2 r.1.fits in
-    let form = length-form s (target b.0 r.0) k t.0 in
+    let form = length-normal s m (target b.0 r.0) k t.0 in
     let whole = length-target b.0 r.0 in
     let lb : length (recompose b.0) ≡ length base = ap length b.1.text in
     let lr : length (recompose r.0) ≡ length reference = ap length r.1.text in
-    rw (eb, er) (omega arith)
+    let parts : length (recompose (canonical_parts_in s m base reference)) ≤ length base + length reference + 3 =
+    rw (eb, er) (omega arith) in
+    subst (λ z. length z ≤ length base + length reference + 3) (canonical_in-text s m base reference) parts
+
+pub length-canonical : (s : Tests) (base reference : List ℕ) → IsSpec s → IsAbsolute s base → IsReference s reference
+    → length (canonical s base reference) ≤ length base + length reference + 3
+length-canonical s base reference k b r = length-canonical_in s Default base reference k b r

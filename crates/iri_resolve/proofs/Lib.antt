@@ -32,6 +32,9 @@ pub mod ChangeLaws
 pub mod ChangeOf
 pub mod Confluence
 pub mod FormLaws
+pub mod SchemeForm
+pub mod SchemeSteps
+pub mod CanonLaws
 pub mod HostLaws
 pub mod Leads
 pub mod LengthLaws

@@ -25,7 +25,12 @@ use Rattle.iri_percent.proofs.MapMarks.{mapped-empty, mapped-slash}
 use Rattle.iri_percent.proofs.MapTexts.{mapped-low, mapped-append, mapped-triplet, mapped-spells, encode-high}
 use Rattle.iri_percent.proofs.MapKinds.{mapped_authority, mapped-recomposed_authority, mapped-recomposed, mapped-authority}
 use Rattle.iri_percent.proofs.MapKinds.{authority-reads, each-low, scheme_low, literal_low, mapped-scheme, mapped-port, mapped-split}
-use Rattle.iri_percent.specs.NormalHost.{is_ascii_host, normal_host, normal_userinfo, normal_port, normal_authority_parts, normal_authority}
+use Rattle.iri_percent.specs.NormalHost.{is_ascii_host, is_dropped, normal_host, normal_userinfo, normal_port_in, normal_authority_parts_in}
+use Rattle.iri_percent.specs.NormalHost.{normal_authority_in}
+use Rattle.iri_percent.specs.SchemeRules.{default_port, dropped_port}
+use Rattle.iri_percent.specs.declared.canon_mode.CanonMode.{CanonMode}
+use Rattle.iri_percent.specs.declared.canon_mode.CanonMode.TheVariants.{Default, Scheme}
+use Rattle.iri_percent.proofs.Authorities.{authority_in}
 use Rattle.iri_percent.proofs.Stability.{as_it_is-case, lower-case, encode_percent}
 use Rattle.iri_percent.specs.Triplets.{as_it_is, normal, pct}
 use Rattle.iri_percent.proofs.WholeLaws.{reg_name_percent, userinfo_percent, path_percent, query_percent, fragment_percent}
@@ -33,7 +38,9 @@ use Rattle.iri_percent.proofs.MapForms.{mapped-normal, mapped-normal_text}
 use Rattle.iri_resolve.specs.DotRemoval.{dots}
 use Rattle.iri_resolve.proofs.HostLaws.{ascii-plains, ascii-spelled, ascii-triplet}
 use Rattle.iri_resolve.specs.LowerCase.{lowered, where_there}
-use Rattle.iri_resolve.specs.NormalForm.{normal_path, normal_form, form, canonical}
+use Rattle.iri_resolve.specs.NormalForm.{becomes_slash, canonical_in, form, normal_form, normal_form_in, normal_path, slash_or}
+use Rattle.iri_resolve.specs.declared.mode.Mode.TheVariants.{ByScheme}
+use Rattle.iri_resolve.proofs.CanonLaws.{canonical_in-text}
 use Rattle.iri_resolve.proofs.PathLaws.{dots-over}
 use Rattle.iri_resolve.specs.Target.{target, target_under, target_path, target_query, merged, merge_prefix, or_base, to_last_slash}
 use Rattle.iri_resolve.proofs.TargetLaws.{target-fits, slash_in_path}
@@ -109,27 +116,30 @@ userinfo-there : (s : Tests) (o : Option (List ℕ)) → IsSpec s → if_there (
 userinfo-there s None k h = refl
 userinfo-there s (Some u) k h = ap Some (mapped-normal s as_it_is (userinfo_char s) u k as_it_is-case (userinfo_percent s k) h)
 
-port-there : (o : Option (List ℕ)) → if_there is_port o ≡ true → option_map mapped (normal_port o) ≡ normal_port (option_map mapped o)
-port-there None h = refl
-port-there (Some []) h = refl
-port-there (Some (x ∷ xs)) h = rw (mapped-port (x ∷ xs) h) refl
+port-there : (d o : Option (List ℕ)) → if_there is_port o ≡ true
+    → option_map mapped (normal_port_in d o) ≡ normal_port_in d (option_map mapped o)
+port-there d None h = refl
+port-there d (Some []) h = refl
+port-there d (Some (x ∷ xs)) h =
+    rw (mapped-port (x ∷ xs) h) (elim (is_dropped d (x ∷ xs)) as (λ b. option_map mapped (cond b None (Some (x ∷ xs)))
+    ≡ cond b None (Some (x ∷ xs))) [ true ↦ refl | false ↦ ap Some (mapped-port (x ∷ xs) h) ])
 
-mapped-normal_parts : (s : Tests) (a : AuthorityParts) → IsSpec s → FitsAuthority s a
-    → mapped_authority (normal_authority_parts s a) ≡ normal_authority_parts uri_tests (mapped_authority a)
-mapped-normal_parts s a k f = rw (
+mapped-normal_parts : (s : Tests) (d : Option (List ℕ)) (a : AuthorityParts) → IsSpec s → FitsAuthority s a
+    → mapped_authority (normal_authority_parts_in s d a) ≡ normal_authority_parts_in uri_tests d (mapped_authority a)
+mapped-normal_parts s d a k f = rw (
   userinfo-there s a.userinfo k f.userinfo,
   mapped-normal_host s a.host k f.host,
-  port-there a.port f.port,
+  port-there d a.port f.port,
 ) refl
 
-mapped-normal_authority : (s : Tests) (t : List ℕ) → IsSpec s → is_authority s t ≡ true
-    → mapped (normal_authority s t) ≡ normal_authority uri_tests (mapped t)
-unfolding normal_authority
-mapped-normal_authority s t k h =
+mapped-normal_authority : (s : Tests) (d : Option (List ℕ)) (t : List ℕ) → IsSpec s → is_authority s t ≡ true
+    → mapped (normal_authority_in s d t) ≡ normal_authority_in uri_tests d (mapped t)
+mapped-normal_authority s d t k h =
     let a = authority_parts t in
-    mapped-recomposed_authority (normal_authority_parts s a)
-    ∙ ap recompose_authority (mapped-normal_parts s a k (authority-reads s t k h))
-    ∙ ap (λ z. recompose_authority (normal_authority_parts uri_tests z)) (sym (mapped-authority s t k h).parts)
+    ap mapped (sym (authority_in s d t a refl))
+    ∙ mapped-recomposed_authority (normal_authority_parts_in s d a)
+    ∙ ap recompose_authority (mapped-normal_parts s d a k (authority-reads s t k h))
+    ∙ authority_in uri_tests d (mapped t) (mapped_authority a) (sym (mapped-authority s t k h).parts)
 
 -- ---- the other parts, where they stand
 scheme-there : (o : Option (List ℕ)) → if_there is_scheme o ≡ true
@@ -137,10 +147,10 @@ scheme-there : (o : Option (List ℕ)) → if_there is_scheme o ≡ true
 scheme-there None h = refl
 scheme-there (Some x) h = ap Some (mapped-lowered x h)
 
-authority-there : (s : Tests) (o : Option (List ℕ)) → IsSpec s → if_there (is_authority s) o ≡ true
-    → option_map mapped (where_there (normal_authority s) o) ≡ where_there (normal_authority uri_tests) (option_map mapped o)
-authority-there s None k h = refl
-authority-there s (Some x) k h = ap Some (mapped-normal_authority s x k h)
+authority-there : (s : Tests) (d o : Option (List ℕ)) → IsSpec s → if_there (is_authority s) o ≡ true
+    → option_map mapped (where_there (normal_authority_in s d) o) ≡ where_there (normal_authority_in uri_tests d) (option_map mapped o)
+authority-there s d None k h = refl
+authority-there s d (Some x) k h = ap Some (mapped-normal_authority s d x k h)
 
 query-there : (s : Tests) (o : Option (List ℕ)) → IsSpec s → if_there (is_query s) o ≡ true
     → option_map mapped (where_there (pct s) o) ≡ where_there (pct uri_tests) (option_map mapped o)
@@ -172,12 +182,48 @@ unfolding normal_form form
 mapped-form s t k f =
     rw (
       scheme-there t.scheme f.scheme,
-      authority-there s t.authority k f.authority,
+      authority-there s None t.authority k f.authority,
       mapped-normal_path s t.authority t.path k f.path,
       query-there s t.query k f.query,
       fragment-there s t.fragment k f.fragment,
     )
     refl
+
+-- by scheme rules
+mapped-dropped : (o : Option (List ℕ)) → if_there is_scheme o ≡ true
+    → dropped_port Scheme (option_map mapped o) ≡ dropped_port Scheme o
+mapped-dropped None h = refl
+mapped-dropped (Some x) h = ap default_port (mapped-scheme x h)
+
+mapped-becomes : (d a : Option (List ℕ)) (p : List ℕ) → becomes_slash d (option_map mapped a) (mapped p) ≡ becomes_slash d a p
+mapped-becomes None a p = refl
+mapped-becomes (Some d) a p = rw (mapped-stands a, mapped-empty p) refl
+
+mapped-slashed : (s : Tests) (b : Bool) (a : Option (List ℕ)) (p : List ℕ) → IsSpec s → is_path s p ≡ true
+    → mapped (slash_or b (normal_path s a p)) ≡ slash_or b (normal_path uri_tests (option_map mapped a) (mapped p))
+mapped-slashed s true a p k h = refl
+mapped-slashed s false a p k h = mapped-normal_path s a p k h
+
+mapped-by_scheme : (s : Tests) (t : Parts) → IsSpec s → Fits s t
+    → mapped_parts (form s ByScheme false t) ≡ form uri_tests ByScheme false (mapped_parts t)
+unfolding form
+mapped-by_scheme s t k f =
+    let d = dropped_port Scheme t.scheme in
+    rw (
+      mapped-dropped t.scheme f.scheme,
+      mapped-becomes d t.authority t.path,
+      scheme-there t.scheme f.scheme,
+      authority-there s d t.authority k f.authority,
+      mapped-slashed s (becomes_slash d t.authority t.path) t.authority t.path k f.path,
+      query-there s t.query k f.query,
+      fragment-there s t.fragment k f.fragment,
+    )
+    refl
+
+pub mapped-normal_in : (s : Tests) (m : CanonMode) (t : Parts) → IsSpec s → Fits s t
+    → mapped_parts (normal_form_in s m t) ≡ normal_form_in uri_tests m (mapped_parts t)
+mapped-normal_in s Default t k f = mapped-form s t k f
+mapped-normal_in s Scheme t k f = mapped-by_scheme s t k f
 
 -- ---- targets
 target_path-some : (base : Parts) (p : List ℕ) → is_empty p ≡ false → target_path base p ≡ merged base p
@@ -224,10 +270,9 @@ mapped-target base r = mapped-under base r r.scheme r.authority
 
 -- ---- whole texts
 -- mapping commutes with canonical texts
-pub mapped-canonical : (s : Tests) (base reference : List ℕ) → IsSpec s → IsAbsolute s base → IsReference s reference
-    → mapped (canonical s base reference) ≡ canonical uri_tests (mapped base) (mapped reference)
-unfolding canonical
-mapped-canonical s base reference k b r =
+pub mapped-canonical : (s : Tests) (m : CanonMode) (base reference : List ℕ) → IsSpec s → IsAbsolute s base → IsReference s reference
+    → mapped (canonical_in s m base reference) ≡ canonical_in uri_tests m (mapped base) (mapped reference)
+mapped-canonical s m base reference k b r =
     let B = split_of base in
     let R = split_of reference in
     let eb = split_is s base b.0 k b.1 in
@@ -236,8 +281,10 @@ mapped-canonical s base reference k b r =
     let ib : IsSome B.scheme = subst (λ z. IsSome z.scheme) (sym eb) b.2 in
     let fr : Fits s R = subst (λ z. Fits s z) (sym er) r.1.fits in
     let fits = (target-fits s B R fb ib fr).0 in
-    mapped-recomposed (normal_form s (target B R))
-    ∙ ap recompose (mapped-form s (target B R) k fits)
-    ∙ ap (λ z. recompose (normal_form uri_tests z)) (sym (mapped-target B R))
-    ∙ ap (λ z. recompose (normal_form uri_tests (target z (mapped_parts R)))) (sym (mapped-split s base k (b.0, b.1)))
-    ∙ ap (λ z. recompose (normal_form uri_tests (target (split_of (mapped base)) z))) (sym (mapped-split s reference k r))
+    ap mapped (sym (canonical_in-text s m base reference))
+    ∙ mapped-recomposed (normal_form_in s m (target B R))
+    ∙ ap recompose (mapped-normal_in s m (target B R) k fits)
+    ∙ ap (λ z. recompose (normal_form_in uri_tests m z)) (sym (mapped-target B R))
+    ∙ ap (λ z. recompose (normal_form_in uri_tests m (target z (mapped_parts R)))) (sym (mapped-split s base k (b.0, b.1)))
+    ∙ ap (λ z. recompose (normal_form_in uri_tests m (target (split_of (mapped base)) z))) (sym (mapped-split s reference k r))
+    ∙ canonical_in-text uri_tests m (mapped base) (mapped reference)

@@ -13,6 +13,7 @@ use Rattle.iri_percent.proofs.Stability.{pct-stable}
 use Rattle.iri_percent.specs.Triplets.{pct}
 use Rattle.iri_percent.proofs.WholeLaws.{path-whole}
 use Rattle.iri_resolve.specs.DotRemoval.{dots}
+use Rattle.iri_resolve.proofs.SchemeForm.{by_scheme-fits}
 use Rattle.iri_resolve.proofs.FormLaws.{form-fits, scheme-stable, authorities-stable, query-stable, fragment-stable}
 use Rattle.iri_resolve.specs.Guard.{guard}
 use Rattle.iri_resolve.specs.Modes.{is_normalizing}
@@ -20,7 +21,7 @@ use Rattle.iri_resolve.specs.LowerCase.{lowered, where_there}
 use Rattle.iri_resolve.specs.NormalForm.{form, normal_form, normal_path, preserved_path, part_in}
 use Rattle.iri_resolve.proofs.PathLaws.{path-over, path-rules, path-stable, plain-over, plain-rules, pct-unrooted, normal-rooted}
 use Rattle.iri_resolve.specs.declared.mode.Mode.{Mode}
-use Rattle.iri_resolve.specs.declared.mode.Mode.TheVariants.{Plain, Normal, Preserving}
+use Rattle.iri_resolve.specs.declared.mode.Mode.TheVariants.{Plain, Normal, Preserving, ByScheme}
 
 -- ---- the preserved path
 preserved-over : (s : Tests) (a : Option (List ℕ)) (p : List ℕ) → IsSpec s → is_path s p ≡ true → is_path s (preserved_path s a p) ≡ true
@@ -97,6 +98,7 @@ pub mode-fits : (s : Tests) (mode : Mode) (whole : Bool) (t : Parts) → IsSpec 
 mode-fits s Plain whole t k f i = plain-fits s whole t k f i
 mode-fits s Normal whole t k f i = subst (λ (p : Parts). Fits s p × IsSome p.scheme) (sym (normal-form s whole t)) (form-fits s t k f i)
 mode-fits s Preserving whole t k f i = preserving-fits s whole t k f i
+mode-fits s ByScheme whole t k f i = by_scheme-fits s whole t k f i
 
 -- ---- they stay texts of their kind
 pub iri-stays : (s : Tests) → IsSpec s → (mode : Mode) (whole : Bool) (t : Parts) → Fits s t → iri_fault s (recompose t) ≡ None

@@ -1,15 +1,15 @@
 -- Parts without a stray `%`, and a path in two pieces.
-use Rattle.std.proofs.Common.{◌≡◌, ℕ, Bool, true, false, cond, ◌&&◌, ◌||◌, List, [], ◌∷◌, ◌++◌, Option, Some, None, Bor, refl, sym, ◌∙◌}
-use Rattle.std.proofs.Common.{ap, subst, arith, append_assoc}
+use Rattle.std.proofs.Common.{◌≡◌, ℕ, true, false, cond, ◌&&◌, ◌||◌, List, [], ◌∷◌, ◌++◌, Option, Some, None, Bor, refl, sym, ◌∙◌}
+use Rattle.std.proofs.Common.{ap, subst, append_assoc}
 use Rattle.std.specs.Prelude.{◌==◌, is_some}
 use Rattle.std.specs.Char.{is_ascii_hexdigit}
 use Rattle.std.proofs.lemmas.List.{append-nil}
-use Rattle.std.proofs.lemmas.Bool.Decides.{nat_tests}
+use Rattle.std.proofs.lemmas.Bool.{eqb-true}
 use Rattle.iri_grammar.specs.Authority.{AuthorityParts, authority_parts, recompose_authority}
 use Rattle.iri_grammar.specs.Classes.{Tests, IsSpec, path_char}
 use Rattle.iri_grammar.specs.OptionalSlices.{now_of}
 use Rattle.iri_percent.specs.NormalHost.{normal_authority, normal_authority_parts}
-use Rattle.iri_grammar.specs.Components.{if_there, is_path}
+use Rattle.iri_grammar.specs.Components.{is_path}
 use Rattle.iri_grammar.proofs.CutLaws.{both}
 use Rattle.iri_grammar.specs.Parts.{is_empty}
 use Rattle.iri_percent.proofs.MarkLaws.{pct_mark, slash}
@@ -24,18 +24,9 @@ use Rattle.iri_resolve.specs.Target.{ends_at_slash}
 use Rattle.iri_resolve.proofs.TargetLaws.{slash_in_path}
 use Rattle.iri_percent.proofs.WholeLaws.{path-whole}
 
--- a part that stands has no stray `%`, where no text of its kind has
-pub part_whole : (p : List ℕ → Bool) (o : Option (List ℕ)) → ((x : List ℕ) → p x ≡ true → whole_triplets x ≡ true) → if_there p o ≡ true
-    → if_there whole_triplets o ≡ true
-part_whole p None w h = refl
-part_whole p (Some x) w h = w x h
-
-equal-where : (x c : ℕ) → (x == c) ≡ true → x ≡ c
-equal-where x c h = grind (arith, nat_tests)
-
 -- a text that ends with a slash is what stands before it, and the slash
 slash_end : (x : ℕ) (xs : List ℕ) → ends_at_slash (x ∷ xs) ≡ true → (init : List ℕ) × (x ∷ xs ≡ init ++ 47 ∷ [])
-slash_end x [] h = ([], ap (λ c. c ∷ []) (equal-where x 47 h))
+slash_end x [] h = ([], ap (λ c. c ∷ []) (eqb-true x 47 h))
 slash_end x (y ∷ ys) h = let r = slash_end y ys h in (x ∷ r.0, ap (λ l. x ∷ l) r.1)
 
 pub pct_nil : (s : Tests) → pct s [] ≡ []
@@ -60,7 +51,7 @@ pct_parts s f [] h = ap (pct s) (append-nil f) ∙ sym (ap (λ l. pct s f ++ l) 
 pct_parts s f (x ∷ xs) h = pct_two s f (x ∷ xs) h
 
 slash_no_digit : (y q : ℕ) → (y == 47) ≡ true → (is_ascii_hexdigit y && is_ascii_hexdigit q) ≡ false
-slash_no_digit y q h = subst (λ (c : ℕ). (is_ascii_hexdigit c && is_ascii_hexdigit q) ≡ false) (sym (equal-where y 47 h)) refl
+slash_no_digit y q h = subst (λ (c : ℕ). (is_ascii_hexdigit c && is_ascii_hexdigit q) ≡ false) (sym (eqb-true y 47 h)) refl
 
 digits_same : (y : ℕ) (ys p : List ℕ) → ends_at_slash (y ∷ ys) ≡ true → two_digits ((y ∷ ys) ++ p) ≡ two_digits (y ∷ ys)
 digits_same y [] [] h = refl
@@ -74,7 +65,7 @@ whole_two [] p h w = (refl, w)
 whole_two (x ∷ []) p h w =
     subst (λ (c : ℕ). (cond (c == 37) (two_digits p) true && whole_triplets p) ≡ true
     → ((cond (c == 37) (two_digits []) true && true) ≡ true) × (whole_triplets p ≡ true))
-    (sym (equal-where x 47 h)) (λ k. (refl, k)) w
+    (sym (eqb-true x 47 h)) (λ k. (refl, k)) w
 whole_two (x ∷ y ∷ ys) p h w =
     let parts = both (cond (x == 37) (two_digits ((y ∷ ys) ++ p)) true) (whole_triplets ((y ∷ ys) ++ p)) w in
     let r = whole_two (y ∷ ys) p h parts.1 in

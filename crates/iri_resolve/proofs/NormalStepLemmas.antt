@@ -35,7 +35,7 @@ use Rattle.iri_resolve.specs.inside.NormalSteps.{PortLed, AuthorityLed, PathLed,
 use Rattle.iri_resolve.proofs.Places.{letter-at, in-userinfo, digit-inside, decode-inside, in-host, letter-in-host, ascii-kept}
 use Rattle.iri_resolve.proofs.Places.{host-letter-at, is_host_in_ascii}
 use Rattle.iri_percent.proofs.ClassLaws.{other_same}
-use Rattle.iri_resolve.specs.Steps.{placed, host_start, without_empty_port, step, onward, replayed}
+use Rattle.iri_resolve.specs.Steps.{placed, host_start, without_empty_port, step, step_in, onward, replayed, replayed_in}
 use Rattle.iri_percent.proofs.ClassLaws.{in_path}
 use Rattle.iri_percent.proofs.ClassLaws.{in_query}
 use Rattle.iri_percent.proofs.ClassLaws.{in_fragment}
@@ -48,7 +48,7 @@ use Rattle.iri_resolve.specs.declared.step.Step.TheVariants.{SchemeLetter, HostL
 
 -- ---- one after the other
 one_step : (s : Tests) (l : List Step) (x : Step) (u v : Parts) → step s u x ≡ Some v → Onward s l (l ++ x ∷ []) u v
-unfolding replayed
+unfolding replayed_in
 one_step s l x u v h t r = replayed-append s t u l (x ∷ []) r ∙ ap (λ p. onward p (λ w. Some w)) h
 
 no_step : (s : Tests) (l : List Step) (u : Parts) → Onward s l (l ++ []) u u
@@ -73,7 +73,7 @@ SchemeWalk s w i l m = (u : Parts) → Onward s l m (record u { scheme = Some w 
 letter-goes : (s : Tests) (l : List Step) (u : Parts) (a r : List ℕ) (x : ℕ) (b : Bool) → is_ascii_uppercase x ≡ b
     → Onward s l (l ++ cond b (SchemeLetter (length a) ∷ []) []) (record u { scheme = Some (a ++ x ∷ r) })
     (record u { scheme = Some (a ++ to_ascii_lowercase x ∷ r) })
-unfolding step
+unfolding step_in
 letter-goes s l u a r x true h = one_step s l (SchemeLetter (length a)) (record u { scheme = Some (a ++ x ∷ r) })
     (record u { scheme = Some (a ++ to_ascii_lowercase x ∷ r) }) (ap (placed (λ w. record u { scheme = Some w })) (letter-at a r x h))
 letter-goes s l u a r x false h = subst (λ y. Onward s l (l ++ []) (record u { scheme = Some (a ++ x ∷ r) })
@@ -134,18 +134,18 @@ class-component s part class put k n f dig dec = record {
 }
 
 path-component : (s : Tests) (u : Parts) → IsSpec s → IsComponent s (whole_part Path) (is_path s) (λ p. record u { path = p })
-unfolding step
+unfolding step_in
 path-component s u k = class-component s Path (path_char s) (λ p. record u { path = p }) k (path_percent s k) (in_path s) (λ i x. refl)
     (λ i x. refl)
 
 query-component : (s : Tests) (u : Parts) → IsSpec s → IsComponent s (whole_part Query) (is_query s) (λ p. record u { query = Some p })
-unfolding step
+unfolding step_in
 query-component s u k = class-component s Query (query_char s) (λ p. record u { query = Some p }) k (query_percent s k) (in_query s)
     (λ i x. refl) (λ i x. refl)
 
 fragment-component : (s : Tests) (u : Parts) → IsSpec s
     → IsComponent s (whole_part Fragment) (is_fragment s) (λ p. record u { fragment = Some p })
-unfolding step
+unfolding step_in
 fragment-component s u k = class-component s Fragment (fragment_char s) (λ p. record u { fragment = Some p }) k (fragment_percent s k)
     (in_fragment s) (λ i x. refl) (λ i x. refl)
 
@@ -166,7 +166,7 @@ fragment-led s (Some x) l m u k h e t r = e (is_fragment s) (λ p. record u { fr
 -- ---- the path
 dots-go : (s : Tests) (l : List Step) (u : Parts) (p : List ℕ) (go : Bool) → bytes_eq (guard (dots p) (is_some u.authority)) p ≡ not go
     → Onward s l (l ++ dots_steps go) (record u { path = p }) (record u { path = guard (dots p) (is_some u.authority) })
-unfolding step
+unfolding step_in
 dots-go s l u p false h = subst (λ z. Onward s l (l ++ []) (record u { path = p }) (record u { path = z }))
     (sym ((bytes_eq-Decides (guard (dots p) (is_some u.authority)) p).0 h)) (no_step s l (record u { path = p }))
 dots-go s l u p true h = one_step s l Dots (record u { path = p }) (record u { path = guard (dots p) (is_some u.authority) })
@@ -188,7 +188,7 @@ path-led s p stands l m n k h g q e u a t r =
 -- ---- the authority
 userinfo-component : (s : Tests) (u : Parts) (p : AuthorityParts) → IsSpec s → FitsAuthority s p
     → IsComponent s (whole_part Authority) (is_userinfo s) (λ x. with_parts u (record p { userinfo = Some x }))
-unfolding step
+unfolding step_in
 userinfo-component s u p k f = record {
   digit = λ a r x w d h.
       let c = capital-at a r x w d in
@@ -221,7 +221,7 @@ userinfo-led s x end l m k q = record {
 
 host-component : (s : Tests) (u : Parts) (p : AuthorityParts) (start : ℕ) → IsSpec s → FitsAuthority s p → start ≡ host_start p
     → IsComponent s (record { part = Authority; start = start; lower = false }) (is_host s) (λ h. with_parts u (record p { host = h }))
-unfolding step
+unfolding step_in
 host-component s u p start k f e = record {
   digit = λ a r x w d h.
       let c = capital-at a r x w d in
@@ -287,7 +287,7 @@ host-led s start h false end l m k a q u p f e t r =
     ∙ ap (λ c. Some (with_parts u (record p { host = cond c (normal s to_ascii_lowercase h) (pct s h) }))) a
 
 pub port-gone : (s : Tests) (l m : List Step) → IsSpec s → m ≡ l ++ EmptyPort ∷ [] → PortLed s (Some []) l m
-unfolding step
+unfolding step_in
 port-gone s l m k e u p f t r =
     let q : AuthorityParts = record p { port = Some [] } in
     let d : authority_parts (recompose_authority q) ≡ q = reading_is s k (recompose_authority q) q (f, refl) in
@@ -320,7 +320,7 @@ stands-still f (Some x) = refl
 pub all-led : (s : Tests) (t : Parts) (x : List ℕ) (stands : Bool) (l m n o q : List Step) → IsSpec s → Fits s t → Some x ≡ t.scheme
     → stands ≡ is_some t.authority → SchemeLed s x [] l → AuthorityLed s t.authority l m → PathLed s stands t.path m n
     → PartLed s Query t.query n o → PartLed s Fragment t.fragment o q → replayed s t q ≡ Some (normal_form s t)
-unfolding normal_form form normal_path replayed
+unfolding normal_form form normal_path replayed_in
 all-led s t x stands l m n o q k f e i a b c d g =
     let t1 : Parts = record t { scheme = Some (lowered x) } in
     let t2 : Parts = record t1 { authority = where_there (normal_authority s) t.authority } in

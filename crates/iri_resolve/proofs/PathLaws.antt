@@ -145,7 +145,7 @@ path-over s a t k h =
     guard-over (path_char s) (pct s (dots t)) (is_some a) (slash_in_path s) (point_in_path s)
     (pct-path s (dots t) k (dots-over (path_char s) t (slash_in_path s) h))
 
-pct-slash : (s : Tests) (t : List ℕ) → starts_with_slash t ≡ true → starts_with_slash (pct s t) ≡ true
+pub pct-slash : (s : Tests) (t : List ℕ) → starts_with_slash t ≡ true → starts_with_slash (pct s t) ≡ true
 pct-slash s [] h = cc
 pct-slash s (x ∷ xs) h =
     let e : x ≡ 47 = eqb-true x 47 h in

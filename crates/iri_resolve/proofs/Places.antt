@@ -24,7 +24,7 @@ use Rattle.iri_resolve.specs.DotRemoval.{dots}
 use Rattle.iri_resolve.specs.Guard.{guard}
 use Rattle.iri_resolve.specs.LowerCase.{lowered, where_there}
 use Rattle.iri_resolve.specs.Changes.{with_small_letter, with_small_host_letter, with_capital_digit, with_decoded}
-use Rattle.iri_resolve.specs.Steps.{placed, host_start, without_empty_port, at_place, step}
+use Rattle.iri_resolve.specs.Steps.{placed, host_start, without_empty_port, at_place, step, step_in}
 use Rattle.iri_resolve.proofs.ByteLaws.{capital_digit}
 use Rattle.iri_resolve.proofs.ChangeLaws.{decoding, some_triplets}
 use Rattle.iri_resolve.proofs.AuthoritySteps.{host-kept, letter-kept, ascii-same}
@@ -43,7 +43,7 @@ same-letters s ok put a r x w e h = record { leads = leads-nothing s (put (a ++ 
 
 -- ---- path, query and fragment
 path-place : (s : Tests) (t : Parts) → IsSpec s → Place s (is_path s) (λ p. record t { path = p })
-unfolding step
+unfolding step_in
 path-place s t k = record {
   digit = λ i. HexDigit Path i;
   decode = λ i. Decode Path i;
@@ -54,7 +54,7 @@ path-place s t k = record {
 }
 
 query-place : (s : Tests) (t : Parts) → IsSpec s → Place s (is_query s) (λ q. record t { query = Some q })
-unfolding step
+unfolding step_in
 query-place s t k = record {
   digit = λ i. HexDigit Query i;
   decode = λ i. Decode Query i;
@@ -65,7 +65,7 @@ query-place s t k = record {
 }
 
 fragment-place : (s : Tests) (t : Parts) → IsSpec s → Place s (is_fragment s) (λ q. record t { fragment = Some q })
-unfolding step
+unfolding step_in
 fragment-place s t k = record {
   digit = λ i. HexDigit Fragment i;
   decode = λ i. Decode Fragment i;
@@ -107,7 +107,7 @@ letter-at a r x h = rw (get_or-append_seam a x r 0, h) (ap Some (set-append_seam
 
 scheme-letter : (s : Tests) (t : Parts) (a r : List ℕ) (x : ℕ)
     → Leads s (record t { scheme = Some (a ++ x ∷ r) }) (record t { scheme = Some (a ++ to_ascii_lowercase x ∷ r) })
-unfolding step
+unfolding step_in
 scheme-letter s t a r x =
     elim (is_ascii_uppercase x) as (λ b. is_ascii_uppercase x ≡ b
     → Leads s (record t { scheme = Some (a ++ x ∷ r) }) (record t { scheme = Some (a ++ to_ascii_lowercase x ∷ r) })) [
@@ -138,7 +138,7 @@ scheme-leads s t = scheme-there s t t.scheme
 
 -- ---- dot segments
 pub dots-leads : (s : Tests) (t : Parts) → Leads s t (record t { path = guard (dots t.path) (is_some t.authority) })
-unfolding step
+unfolding step_in
 dots-leads s t =
     let p = guard (dots t.path) (is_some t.authority) in
     elim (bytes_eq p t.path) as (λ b. bytes_eq p t.path ≡ b → Leads s t (record t { path = p })) [
@@ -185,7 +185,7 @@ in-userinfo s change t p i u v k f o l h =
     rw (e, low, h) refl
 
 userinfo-place : (s : Tests) (t : Parts) (p : AuthorityParts) → IsSpec s → FitsAuthority s p → Place s (is_userinfo s) (with_userinfo t p)
-unfolding step
+unfolding step_in
 userinfo-place s t p k f = record {
   digit = λ i. HexDigit Authority i;
   decode = λ i. Decode Authority i;
@@ -213,13 +213,13 @@ in-host s change t p i h g k f o e =
 pub letter-in-host : (s : Tests) (t : Parts) (p : AuthorityParts) (i : ℕ) (h g : List ℕ) → IsSpec s → FitsAuthority s p → is_host s h ≡ true
     → is_ascii_host h ≡ true → with_small_host_letter i h ≡ Some g
     → step s (with_host t p h) (HostLetter (host_start p + i)) ≡ Some (with_host t p g)
-unfolding step
+unfolding step_in
 letter-in-host s t p i h g k f o a e =
     let far : nat_lt (host_start p + i) (host_start p) ≡ false = not-below (host_start p + i) (host_start p) (omega arith) in
     rw (host-reading s p h k f o, a, far, behind-start (host_start p) i, e) refl
 
 host-place : (s : Tests) (t : Parts) (p : AuthorityParts) → IsSpec s → FitsAuthority s p → Place s (is_host s) (with_host t p)
-unfolding step
+unfolding step_in
 host-place s t p k f = record {
   digit = λ i. HexDigit Authority (host_start p + i);
   decode = λ i. Decode Authority (host_start p + i);
@@ -301,7 +301,7 @@ userinfo-there s t p (Some u) k f = (led-normal s as_it_is (is_userinfo s)
 
 pub port-there : (s : Tests) (t : Parts) (p : AuthorityParts) (o : Option (List ℕ)) → IsSpec s → FitsAuthority s (record p { port = o })
     → Leads s (with_authority t (record p { port = o })) (with_authority t (record p { port = normal_port o }))
-unfolding step
+unfolding step_in
 port-there s t p None k f = leads-nothing s (with_authority t (record p { port = None }))
 port-there s t p (Some []) k f =
     let q : AuthorityParts = record p { port = Some [] } in

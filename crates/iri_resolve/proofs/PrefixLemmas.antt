@@ -10,16 +10,15 @@ use Rattle.std.specs.Str.{IsUtf8, IsCharBoundary}
 use Rattle.iri_grammar.specs.Parts.{Parts, Fits, Splits, path_rules, recompose, scheme_text, authority_text}
 use Rattle.iri_grammar.specs.Split.{split_of}
 use Rattle.iri_grammar.proofs.SplitLaws.{recompose_split}
-use Rattle.iri_percent.specs.NormalHost.{normal_authority}
 use Rattle.iri_percent.proofs.ClassLaws.{ended, over-from_text}
 use Rattle.iri_percent.specs.Triplets.{pct}
 use Rattle.iri_percent.proofs.WholeLaws.{path_percent}
-use Rattle.iri_resolve.specs.Modes.{is_normalizing}
-use Rattle.iri_resolve.specs.LowerCase.{lowered}
+use Rattle.iri_resolve.specs.Modes.{is_by_scheme, is_normalizing}
 use Rattle.iri_resolve.specs.NormalForm.{form, part_in, path_in}
 use Rattle.iri_resolve.specs.Prefix.{IsPrefix, prefix_in}
 use Rattle.iri_resolve.specs.Target.{target}
 use Rattle.iri_resolve.specs.declared.mode.Mode.{Mode}
+use Rattle.iri_resolve.specs.declared.mode.Mode.TheVariants.{Plain, Normal, Preserving, ByScheme}
 
 -- a target with neither scheme nor authority of its own has the base's prefix
 pub prefix-kept : (s : Tests) (b r : Parts) (o : Option (List ℕ)) → r.scheme ≡ None → r.authority ≡ None → IsPrefix s b o
@@ -38,18 +37,19 @@ prefix-cut p = sym (append_assoc (scheme_text p.scheme) (authority_text p.author
 pub text-cut : (t : List ℕ) → t ≡ (scheme_text (split_of t).scheme ++ authority_text (split_of t).authority) ++ rest (split_of t)
 text-cut t = sym (recompose_split t) ∙ prefix-cut (split_of t)
 
--- the recomposition of a form from its prefix on
-pub prefix-form : (s : Tests) (mode : Mode) (whole : Bool) (t : Parts) (p : List ℕ) → p ≡ prefix_in s (is_normalizing mode) t
-    → p ++ (path_in s mode whole t.authority t.path
+-- the recomposition of a form from its prefix on, without scheme rules
+put : (a b tail p : List ℕ) → p ≡ a ++ b → p ++ tail ≡ a ++ (b ++ tail)
+put a b tail p e = ap (λ l. l ++ tail) e ∙ append_assoc a b tail
+
+pub prefix-form : (s : Tests) (mode : Mode) (whole : Bool) (t : Parts) (p : List ℕ) → is_by_scheme mode ≡ false
+    → p ≡ prefix_in s (is_normalizing mode) t → p ++ (path_in s mode whole t.authority t.path
     ++ (marked 63 (part_in (is_normalizing mode) (pct s) t.query) ++ marked 35 (part_in (is_normalizing mode) (pct s) t.fragment)))
     ≡ recompose (form s mode whole t)
 unfolding form recompose
-prefix-form s mode whole t p e =
-    let n = is_normalizing mode in
-    let tail = path_in s mode whole t.authority t.path
-    ++ (marked 63 (part_in n (pct s) t.query) ++ marked 35 (part_in n (pct s) t.fragment)) in
-    ap (λ l. l ++ tail) e ∙ append_assoc (scheme_text (part_in n lowered t.scheme))
-    (authority_text (part_in n (normal_authority s) t.authority)) tail
+prefix-form s Plain whole t p h e = put _ _ _ p e
+prefix-form s Normal whole t p h e = put _ _ _ p e
+prefix-form s Preserving whole t p h e = put _ _ _ p e
+prefix-form s ByScheme whole t p h e = cc
 
 -- scheme and authority with nothing behind them
 abbrev alone : Parts → Parts

@@ -3,8 +3,9 @@ use Rattle.std.proofs.Common.{◌≡◌, ℕ, zero, suc, ◌+◌, List, [], ◌�
 use Rattle.std.specs.Prelude.{take, slice_get}
 use Rattle.iri_grammar.specs.Classes.{Tests}
 use Rattle.iri_grammar.specs.Parts.{Parts}
-use Rattle.iri_resolve.specs.Steps.{step, onward, replayed}
-use Rattle.iri_resolve.proofs.Leads.{replayed-append}
+use Rattle.iri_percent.specs.declared.canon_mode.CanonMode.{CanonMode}
+use Rattle.iri_resolve.specs.Steps.{step_in, onward, replayed_in}
+use Rattle.iri_resolve.proofs.Leads.{replayed_in-append}
 use Rattle.iri_resolve.specs.declared.step.Step.{Step}
 
 take_next : (l : List Step) (k : ℕ) (x : Step) → slice_get l k ≡ Some x → take (suc k) l ≡ take k l ++ x ∷ []
@@ -12,14 +13,14 @@ take_next [] k x h = cc
 take_next (y ∷ ys) zero x h = let same : y ≡ x = cc in ap (λ z. z ∷ []) same
 take_next (y ∷ ys) (suc k) x h = ap (λ z. y ∷ z) (take_next ys k x h)
 
-pub one_more : (s : Tests) (t u v : Parts) (l : List Step) (k : ℕ) (x : Step) → replayed s t (take k l) ≡ Some u → slice_get l k ≡ Some x
-    → step s u x ≡ Some v → replayed s t (take (k + 1) l) ≡ Some v
-unfolding replayed
-one_more s t u v l k x r g h =
+pub one_more : (s : Tests) (c : CanonMode) (t u v : Parts) (l : List Step) (k : ℕ) (x : Step) → replayed_in s c t (take k l) ≡ Some u
+    → slice_get l k ≡ Some x → step_in s c u x ≡ Some v → replayed_in s c t (take (k + 1) l) ≡ Some v
+unfolding replayed_in
+one_more s c t u v l k x r g h =
     let next : k + 1 ≡ suc k = omega arith in
-    ap (λ n. replayed s t (take n l)) next ∙ ap (replayed s t) (take_next l k x g) ∙ replayed-append s t u (take k l) (x ∷ []) r
-    ∙ ap (λ o. onward o (λ w. Some w)) h
+    ap (λ n. replayed_in s c t (take n l)) next ∙ ap (replayed_in s c t) (take_next l k x g)
+    ∙ replayed_in-append s c t u (take k l) (x ∷ []) r ∙ ap (λ o. onward o (λ w. Some w)) h
 
-pub none_yet : (s : Tests) (t : Parts) (l : List Step) → replayed s t (take 0 l) ≡ Some t
-unfolding replayed
-none_yet s t l = refl
+pub none_yet : (s : Tests) (c : CanonMode) (t : Parts) (l : List Step) → replayed_in s c t (take 0 l) ≡ Some t
+unfolding replayed_in
+none_yet s c t l = refl

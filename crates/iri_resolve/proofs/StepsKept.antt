@@ -4,7 +4,7 @@ use Rattle.std.specs.Prelude.{IsSome, is_some, take}
 use Rattle.std.specs.Char.{to_ascii_lowercase}
 use Rattle.std.specs.List.{list_all}
 use Rattle.std.specs.Str.{bytes_eq}
-use Rattle.iri_grammar.specs.Authority.{authority_parts, is_authority}
+use Rattle.iri_grammar.specs.Authority.{AuthorityParts, authority_parts, is_authority}
 use Rattle.iri_grammar.specs.Classes.{Tests, IsSpec, path_char, query_char, fragment_char, is_ascii_unreserved, is_ascii_reg_name}
 use Rattle.iri_grammar.specs.Classes.{is_ascii_pchar, is_ascii_path, is_sub_delim}
 use Rattle.iri_grammar.specs.Components.{if_there, is_scheme, is_scheme_char, is_letter, is_path, is_query, is_fragment}
@@ -20,8 +20,8 @@ use Rattle.iri_resolve.proofs.StableLaws.{guarded-stable}
 use Rattle.iri_resolve.proofs.TargetLaws.{slash_in_path}
 use Rattle.iri_resolve.proofs.TripletPaths.{dots-pct}
 use Rattle.iri_resolve.specs.Changes.{with_small_letter, with_capital_digit, with_decoded}
-use Rattle.iri_resolve.specs.Steps.{in_part, in_userinfo_or_host, without_empty_port, with_small_letter_in_host, with_dots_removed}
-use Rattle.iri_resolve.specs.Steps.{at_place, step, onward, replayed, Joined}
+use Rattle.iri_resolve.specs.Steps.{in_part, in_userinfo_or_host, without_dropped_port, without_empty_port, with_small_letter_in_host, with_dots_removed}
+use Rattle.iri_resolve.specs.Steps.{at_place, step, step_in, onward, replayed, replayed_in, Joined}
 use Rattle.iri_resolve.proofs.ByteLaws.{small_letter}
 use Rattle.iri_resolve.proofs.ChangeKeeps.{TripletChange, rules-same, capital-keeps, decoding-keeps}
 use Rattle.iri_resolve.proofs.AuthoritySteps.{AuthorityChange, authority-kept, triplets-changed, letter-changed, port-changed}
@@ -29,7 +29,7 @@ use Rattle.iri_resolve.proofs.AuthoritySteps.{lowered-change, placed-is, in_part
 use Rattle.iri_resolve.specs.declared.step.Part.{Part}
 use Rattle.iri_resolve.specs.declared.step.Part.TheVariants.{Authority, Path, Query, Fragment}
 use Rattle.iri_resolve.specs.declared.step.Step.{Step}
-use Rattle.iri_resolve.specs.declared.step.Step.TheVariants.{SchemeLetter, HostLetter, HexDigit, Decode, EmptyPort, Dots}
+use Rattle.iri_resolve.specs.declared.step.Step.TheVariants.{SchemeLetter, HostLetter, HexDigit, Decode, EmptyPort, Dots, DefaultPort, SlashPath}
 use Rattle.iri_percent.proofs.ClassLaws.{in_fragment}
 use Rattle.iri_percent.proofs.ClassLaws.{in_path}
 use Rattle.iri_percent.proofs.ClassLaws.{in_query}
@@ -86,9 +86,8 @@ scheme-step s t i w v k e h =
     }
 
 -- ---- the authority
-authority-rules : (o : Option (List ℕ)) (a b p : List ℕ) → path_rules o (Some a) p ≡ true → path_rules o (Some b) p ≡ true
-authority-rules None a b p h = h
-authority-rules (Some x) a b p h = h
+pub authority-rules : (o : Option (List ℕ)) (a b p : List ℕ) → path_rules o (Some a) p ≡ true → path_rules o (Some b) p ≡ true
+authority-rules o a b p h = h
 
 authority-step : (s : Tests) (t : Parts) (a b : List ℕ) → IsSpec s → Valid s t → t.authority ≡ Some a
     → (is_authority s a ≡ true → AuthorityChange s a b) → Kept s t (record t { authority = Some b })
@@ -215,6 +214,20 @@ fragment-triplets s change t i q u k c v e h =
       form = rw (e, c.form as_it_is i q u h (fragment-whole s q k old) (fragment-whole s u k new)) refl;
     }
 
+-- the steps by scheme rules are no steps by the rules of every scheme
+nothing-dropped : (a : AuthorityParts) (o : Option (List ℕ)) → without_dropped_port None a o ≡ None
+nothing-dropped a None = refl
+nothing-dropped a (Some p) = refl
+
+pub no_default_port : (s : Tests) (t u : Parts) → step s t DefaultPort ≡ Some u → ⊥
+unfolding step_in
+no_default_port s t u h =
+    let r = placed-is (λ a. record t { authority = Some a })
+    (in_part (λ a. without_dropped_port None (authority_parts a) (authority_parts a).port) t.authority) u h in
+    let q = in_part-is (λ a. without_dropped_port None (authority_parts a) (authority_parts a).port) t.authority r.0 r.1 in
+    let none : None ≡ Some r.0 = sym (nothing-dropped (authority_parts q.0) (authority_parts q.0).port) ∙ q.2 in
+    cc
+
 -- ---- each step
 pub change-kept : (s : Tests) (change : ℕ → List ℕ → Option (List ℕ)) (t u : Parts) (part : Part) (i : ℕ) → IsSpec s
     → TripletChange s change → Valid s t → at_place change t part i ≡ Some u → Kept s t u
@@ -236,7 +249,7 @@ change-kept s change t u Fragment i k c v h =
     subst (λ z. Kept s t z) r.2 (fragment-triplets s change t i q.0 r.0 k c v q.1 q.2)
 
 pub step-kept : (s : Tests) (t u : Parts) (x : Step) → IsSpec s → Valid s t → step s t x ≡ Some u → Kept s t u
-unfolding step
+unfolding step_in
 step-kept s t u (SchemeLetter i) k v h =
     let r = placed-is (λ x. record t { scheme = Some x }) (in_part (with_small_letter i) t.scheme) u h in
     let q = in_part-is (with_small_letter i) t.scheme r.0 r.1 in
@@ -256,13 +269,15 @@ step-kept s t u EmptyPort k v h =
 step-kept s t u Dots k v h =
     let r = placed-is (λ p. record t { path = p }) (with_dots_removed t) u h in
     subst (λ z. Kept s t z) (ap (λ p. record t { path = p }) (dots-removed t r.0 r.1) ∙ r.2) (dots-step s t k v)
+step-kept s t u DefaultPort k v h = absurd (no_default_port s t u h)
+step-kept s t u SlashPath k v h = cc
 
 -- ---- lists of steps
 pub valid-kept : (s : Tests) (t u : Parts) → Kept s t u → Valid s u
 valid-kept s t u k = record { fits = k.fits; scheme = k.scheme }
 
 pub replayed-kept : (s : Tests) (t u : Parts) (l : List Step) → IsSpec s → Valid s t → replayed s t l ≡ Some u → Kept s t u
-unfolding replayed
+unfolding replayed_in
 replayed-kept s t u [] k v h = let same : t ≡ u = cc in
     subst (λ z. Kept s t z) same (record { fits = v.fits; scheme = v.scheme; form = refl })
 replayed-kept s t u (x ∷ xs) k v h = at (step s t x) refl h (λ w o j. replayed-kept s w u xs k o j)

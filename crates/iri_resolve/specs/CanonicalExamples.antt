@@ -10,11 +10,13 @@ use Rattle.iri_grammar.specs.Split.{split_of}
 use Rattle.iri_percent.specs.Units.{first_char}
 use Rattle.iri_percent.specs.CharUnits.{char_units_from}
 use Rattle.iri_percent.specs.Triplets.{normal}
-use Rattle.iri_percent.specs.NormalHost.{normal_host, is_ascii_host, normal_authority}
+use Rattle.iri_percent.specs.NormalHost.{normal_host, is_ascii_host, normal_authority, authority_without}
+use Rattle.iri_percent.specs.SchemeRules.{default_port}
+use Rattle.iri_percent.specs.declared.canon_mode.CanonMode.TheVariants.{Default, Scheme}
 use Rattle.iri_resolve.specs.Target.{target}
 use Rattle.iri_resolve.specs.Dots.{is_dot_segment}
 use Rattle.iri_resolve.specs.DotRemoval.{dots}
-use Rattle.iri_resolve.specs.NormalForm.{normal_path, normal_form, form, canonical}
+use Rattle.iri_resolve.specs.NormalForm.{normal_path, normal_form, form, canonical, canonical_in}
 
 -- RFC 3986 section 5.4.1
 normal_examples : map (canonical uri_tests (codes "http://a/b/c/d;p?q"))
@@ -93,3 +95,21 @@ unfolding canonical normal_form form normal_path target split_of recompose dots 
     recompose_authority normal_authority normal_host is_ascii_host normal char_units_from first_char chars encode unreserved
     is_ascii_unreserved is_ucschar is_ucschar_plane
 iri = refl
+
+-- by scheme rules (section 6.2.3): without the default port, which is compared as text, and with `/` for an empty path, where the scheme has
+-- a default port
+by_scheme : map (canonical_in uri_tests Scheme (codes "HTTP://a:80"))
+    (codes "" ∷ codes "https://h:443?q" ∷ codes "//h:080/" ∷ codes "foo://h:80" ∷ codes "wss://U@H:443/x" ∷ codes "FTP://h:21" ∷ codes "http:"
+    ∷ [])
+    ≡ codes "http://a/" ∷ codes "https://h/?q" ∷ codes "http://h:080/" ∷ codes "foo://h:80" ∷ codes "wss://U@h/x" ∷ codes "ftp://h/"
+    ∷ codes "http:" ∷ []
+unfolding canonical normal_form form normal_path target split_of recompose dots is_dot_segment is_letter is_scheme_char authority_parts
+    recompose_authority authority_without normal_authority default_port normal_host is_ascii_host normal char_units_from first_char chars
+    encode unreserved is_ascii_unreserved
+by_scheme = refl
+
+by_every_rule : canonical_in uri_tests Default (codes "HTTP://a:80") [] ≡ codes "http://a:80"
+unfolding canonical normal_form form normal_path target split_of recompose dots is_dot_segment is_letter is_scheme_char authority_parts
+    recompose_authority normal_authority normal_host is_ascii_host normal char_units_from first_char chars encode unreserved
+    is_ascii_unreserved
+by_every_rule = refl

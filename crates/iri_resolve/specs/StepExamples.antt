@@ -7,26 +7,28 @@ use Rattle.iri_grammar.specs.Authority.{authority_parts, recompose_authority}
 use Rattle.iri_grammar.specs.Parts.{Parts}
 use Rattle.iri_percent.specs.Units.{whole_triplets, first_char}
 use Rattle.iri_percent.specs.NormalHost.{is_ascii_host}
+use Rattle.iri_percent.specs.SchemeRules.{default_port}
+use Rattle.iri_percent.specs.declared.canon_mode.CanonMode.TheVariants.{Scheme}
 use Rattle.iri_resolve.specs.Dots.{is_dot_segment}
 use Rattle.iri_resolve.specs.DotRemoval.{dots}
 use Rattle.iri_resolve.specs.Changes.{with_small_letter, with_small_host_letter, with_capital_digit, with_decoded}
-use Rattle.iri_resolve.specs.Steps.{step, replayed}
+use Rattle.iri_resolve.specs.Steps.{step, step_in, replayed, replayed_in}
 use Rattle.iri_resolve.specs.declared.step.Part.TheVariants.{Authority, Path, Query}
-use Rattle.iri_resolve.specs.declared.step.Step.TheVariants.{SchemeLetter, HostLetter, HexDigit, Decode, EmptyPort, Dots}
+use Rattle.iri_resolve.specs.declared.step.Step.TheVariants.{SchemeLetter, HostLetter, HexDigit, Decode, EmptyPort, Dots, DefaultPort, SlashPath}
 
 abbrev link : Parts
 link = record { scheme = Some (codes "HTTP"); authority = Some (codes "H"); path = codes "/%7e"; query = None; fragment = None }
 
 to_normal : replayed uri_tests link (SchemeLetter 0 ∷ SchemeLetter 1 ∷ SchemeLetter 2 ∷ SchemeLetter 3 ∷ HostLetter 0 ∷ Decode Path 1 ∷ [])
     ≡ Some (record { scheme = Some (codes "http"); authority = Some (codes "h"); path = codes "/~"; query = None; fragment = None })
-unfolding replayed step with_small_letter with_small_host_letter with_decoded whole_triplets is_ascii_host authority_parts
+unfolding replayed_in step_in with_small_letter with_small_host_letter with_decoded whole_triplets is_ascii_host authority_parts
     recompose_authority first_char chars encode unreserved is_ascii_unreserved
 to_normal = refl
 
 -- there is no empty port, no dot segment, no small digit outside triplets, and no letter behind the end
 no_step : (step uri_tests link EmptyPort ∷ step uri_tests link Dots ∷ step uri_tests link (HexDigit Path 0)
     ∷ step uri_tests link (SchemeLetter 4) ∷ step uri_tests link (HexDigit Query 1) ∷ []) ≡ None ∷ None ∷ None ∷ None ∷ None ∷ []
-unfolding step with_small_letter with_capital_digit whole_triplets authority_parts recompose_authority dots is_dot_segment
+unfolding step_in with_small_letter with_capital_digit whole_triplets authority_parts recompose_authority dots is_dot_segment
 no_step = refl
 
 abbrev named : Parts
@@ -35,13 +37,13 @@ named = record link { authority = Some (codes "U%3a@H%2d:") }
 -- the userinfo keeps its letters, and `:` stays in its triplet
 kept : (step uri_tests named (HostLetter 0) ∷ step uri_tests named (Decode Authority 1) ∷ step uri_tests named (HostLetter 8) ∷ [])
     ≡ None ∷ None ∷ None ∷ []
-unfolding step with_small_letter with_small_host_letter with_decoded whole_triplets is_ascii_host authority_parts recompose_authority
+unfolding step_in with_small_letter with_small_host_letter with_decoded whole_triplets is_ascii_host authority_parts recompose_authority
     first_char chars encode unreserved is_ascii_unreserved
 kept = refl
 
 changed : replayed uri_tests named (HexDigit Authority 3 ∷ HostLetter 5 ∷ Decode Authority 6 ∷ EmptyPort ∷ [])
     ≡ Some (record link { authority = Some (codes "U%3A@h-") })
-unfolding replayed step with_small_letter with_small_host_letter with_capital_digit with_decoded whole_triplets is_ascii_host
+unfolding replayed_in step_in with_small_letter with_small_host_letter with_capital_digit with_decoded whole_triplets is_ascii_host
     authority_parts recompose_authority first_char chars encode unreserved is_ascii_unreserved
 changed = refl
 
@@ -52,7 +54,7 @@ past_ascii = record link { authority = Some (codes "H%C3%89") }
 past : (step iri_tests past_ascii (HostLetter 0) ∷ step iri_tests past_ascii (Decode Authority 1)
     ∷ step uri_tests past_ascii (Decode Authority 1) ∷ step iri_tests past_ascii (Decode Authority 4) ∷ [])
     ≡ None ∷ Some (record link { authority = Some (codes "H" ++ encode 0xC9) }) ∷ None ∷ None ∷ []
-unfolding step with_small_letter with_small_host_letter with_decoded whole_triplets is_ascii_host authority_parts recompose_authority
+unfolding step_in with_small_letter with_small_host_letter with_decoded whole_triplets is_ascii_host authority_parts recompose_authority
     first_char chars encode unreserved is_ascii_unreserved is_ucschar is_ucschar_plane
 past = refl
 
@@ -68,9 +70,22 @@ without_authority = record {
 -- the guard is put once; a digit inside a triplet is not that of another text
 guarded : replayed uri_tests without_authority (Dots ∷ HexDigit Query 1 ∷ [])
     ≡ Some (record without_authority { path = codes "/.//b"; query = Some (codes "%AB") })
-unfolding replayed step with_capital_digit whole_triplets dots is_dot_segment
+unfolding replayed_in step_in with_capital_digit whole_triplets dots is_dot_segment
 guarded = refl
 
 guarded_once : replayed uri_tests without_authority (Dots ∷ Dots ∷ []) ≡ None
-unfolding replayed step dots is_dot_segment
+unfolding replayed_in step_in dots is_dot_segment
 guarded_once = refl
+
+-- steps by scheme rules, which are none otherwise
+abbrev bare : Parts
+bare = record { scheme = Some (codes "HTTP"); authority = Some (codes "a:80"); path = []; query = None; fragment = None }
+
+by_scheme : replayed_in uri_tests Scheme bare (DefaultPort ∷ SlashPath ∷ [])
+    ≡ Some (record { scheme = Some (codes "HTTP"); authority = Some (codes "a"); path = codes "/"; query = None; fragment = None })
+unfolding replayed_in step_in default_port authority_parts recompose_authority
+by_scheme = refl
+
+in_one_mode : (step uri_tests bare DefaultPort ∷ step uri_tests bare SlashPath ∷ []) ≡ None ∷ None ∷ []
+unfolding step_in authority_parts recompose_authority
+in_one_mode = refl

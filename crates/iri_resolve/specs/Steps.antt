@@ -1,17 +1,22 @@
--- Steps that lead parts towards their normal form (RFC 3986 section 6.2.2), and parts that steps join.
+-- Steps that lead parts towards their normal form (RFC 3986 sections 6.2.2 and 6.2.3), and parts that steps join.
 use Rattle.std.specs.Prelude.{◌≡◌, ℕ, ◌-◌, cond, List, [], ◌∷◌, Option, Some, None, is_some, length, nat_lt}
 use Rattle.std.specs.Str.{bytes_eq}
 use Rattle.iri_grammar.specs.Classes.{Tests}
 use Rattle.iri_grammar.specs.Authority.{AuthorityParts, authority_parts, recompose_authority, userinfo_text}
 use Rattle.iri_grammar.specs.Parts.{Parts}
-use Rattle.iri_percent.specs.NormalHost.{is_ascii_host}
+use Rattle.iri_percent.specs.NormalHost.{is_ascii_host, is_dropped}
+use Rattle.iri_percent.specs.SchemeRules.{dropped_port}
+use Rattle.iri_percent.specs.declared.canon_mode.CanonMode.{CanonMode}
+use Rattle.iri_percent.specs.declared.canon_mode.CanonMode.TheVariants.{Default}
+use Rattle.iri_grammar.specs.Characters.{slash}
 use Rattle.iri_resolve.specs.DotRemoval.{dots}
 use Rattle.iri_resolve.specs.Guard.{guard}
+use Rattle.iri_resolve.specs.NormalForm.{becomes_slash}
 use Rattle.iri_resolve.specs.Changes.{with_small_letter, with_small_host_letter, with_capital_digit, with_decoded}
 use Rattle.iri_resolve.specs.declared.step.Part.{Part}
 use Rattle.iri_resolve.specs.declared.step.Part.TheVariants.{Authority, Path, Query, Fragment}
 use Rattle.iri_resolve.specs.declared.step.Step.{Step}
-use Rattle.iri_resolve.specs.declared.step.Step.TheVariants.{SchemeLetter, HostLetter, HexDigit, Decode, EmptyPort, Dots}
+use Rattle.iri_resolve.specs.declared.step.Step.TheVariants.{SchemeLetter, HostLetter, HexDigit, Decode, EmptyPort, Dots, DefaultPort, SlashPath}
 
 -- what a change gives, put to its place; none where the change gives nothing
 abbrev pub placed : {X : Type 0} → (List ℕ → X) → Option (List ℕ) → Option X
@@ -42,6 +47,15 @@ abbrev pub without_empty_port : AuthorityParts → Option (List ℕ) → Option 
 without_empty_port a (Some []) = Some (recompose_authority (record a { port = None }))
 without_empty_port a _ = None
 
+-- an authority without the port that is dropped
+abbrev pub without_dropped_port : Option (List ℕ) → AuthorityParts → Option (List ℕ) → Option (List ℕ)
+without_dropped_port dropped a None = None
+without_dropped_port dropped a (Some port) = cond (is_dropped dropped port) (Some (recompose_authority (record a { port = None }))) None
+
+-- the path `/`, where an empty one becomes it
+abbrev pub with_slash : Option (List ℕ) → Parts → Option (List ℕ)
+with_slash dropped t = cond (becomes_slash dropped t.authority t.path) (Some (slash ∷ [])) None
+
 -- a capital in an ASCII host becomes small
 abbrev pub with_small_letter_in_host : ℕ → AuthorityParts → Option (List ℕ)
 with_small_letter_in_host i a = cond (is_ascii_host a.host) (in_host with_small_host_letter i a) None
@@ -59,34 +73,53 @@ at_place change t Path i = placed (λ p. record t { path = p }) (change i t.path
 at_place change t Query i = placed (λ q. record t { query = Some q }) (in_part (change i) t.query)
 at_place change t Fragment i = placed (λ f. record t { fragment = Some f }) (in_part (change i) t.fragment)
 
--- the parts after a step; none where it is no step from these parts
-unfoldable pub step : Tests → Parts → Step → Option Parts
-step s t (SchemeLetter i) = placed (λ x. record t { scheme = Some x }) (in_part (with_small_letter i) t.scheme)
-step s t (HostLetter i) = placed (λ a. record t { authority = Some a })
+-- the parts after a step of a mode; none where it is no step from these parts
+unfoldable pub step_in : Tests → CanonMode → Parts → Step → Option Parts
+step_in s mode t (SchemeLetter i) = placed (λ x. record t { scheme = Some x }) (in_part (with_small_letter i) t.scheme)
+step_in s mode t (HostLetter i) = placed (λ a. record t { authority = Some a })
     (in_part (λ a. with_small_letter_in_host i (authority_parts a)) t.authority)
-step s t (HexDigit part i) = at_place with_capital_digit t part i
-step s t (Decode part i) = at_place (with_decoded s) t part i
-step s t EmptyPort = placed (λ a. record t { authority = Some a })
+step_in s mode t (HexDigit part i) = at_place with_capital_digit t part i
+step_in s mode t (Decode part i) = at_place (with_decoded s) t part i
+step_in s mode t EmptyPort = placed (λ a. record t { authority = Some a })
     (in_part (λ a. without_empty_port (authority_parts a) (authority_parts a).port) t.authority)
-step s t Dots = placed (λ p. record t { path = p }) (with_dots_removed t)
+step_in s mode t Dots = placed (λ p. record t { path = p }) (with_dots_removed t)
+step_in s mode t DefaultPort = placed (λ a. record t { authority = Some a })
+    (in_part (λ a. without_dropped_port (dropped_port mode t.scheme) (authority_parts a) (authority_parts a).port) t.authority)
+step_in s mode t SlashPath = placed (λ p. record t { path = p }) (with_slash (dropped_port mode t.scheme) t)
 
 abbrev pub onward : Option Parts → (Parts → Option Parts) → Option Parts
 onward None go = None
 onward (Some t) go = go t
 
 -- the parts after all of these steps, one after the other; none where one of them is no step from the parts reached
-unfoldable pub replayed : Tests → Parts → List Step → Option Parts
-replayed s t [] = Some t
-replayed s t (x ∷ xs) = onward (step s t x) (λ u. replayed s u xs)
+unfoldable pub replayed_in : Tests → CanonMode → Parts → List Step → Option Parts
+replayed_in s mode t [] = Some t
+replayed_in s mode t (x ∷ xs) = onward (step_in s mode t x) (λ u. replayed_in s mode u xs)
 
 -- steps from both lead to the same parts
-abbrev pub Joined : Tests → Parts → Parts → Type 0
-Joined s t u = (l m : List Step) × (v : Parts) × (replayed s t l ≡ Some v) × (replayed s u m ≡ Some v)
+abbrev pub JoinedIn : Tests → CanonMode → Parts → Parts → Type 0
+JoinedIn s mode t u = (l m : List Step) × (v : Parts) × (replayed_in s mode t l ≡ Some v) × (replayed_in s mode u m ≡ Some v)
 
 -- no two lists of steps lead from both to the same parts
-abbrev pub AreApart : Tests → Parts → Parts → Type 0
-AreApart s t u = Joined s t u → ⊥
+abbrev pub AreApartIn : Tests → CanonMode → Parts → Parts → Type 0
+AreApartIn s mode t u = JoinedIn s mode t u → ⊥
 
 -- these two lists do
+abbrev pub LeadToOneIn : Tests → CanonMode → Parts → Parts → List Step → List Step → Type 0
+LeadToOneIn s mode t u l m = (v : Parts) × (replayed_in s mode t l ≡ Some v) × (replayed_in s mode u m ≡ Some v)
+
+-- the same by the rules of every scheme
+abbrev pub step : Tests → Parts → Step → Option Parts
+step s t x = step_in s Default t x
+
+abbrev pub replayed : Tests → Parts → List Step → Option Parts
+replayed s t l = replayed_in s Default t l
+
+abbrev pub Joined : Tests → Parts → Parts → Type 0
+Joined s t u = JoinedIn s Default t u
+
+abbrev pub AreApart : Tests → Parts → Parts → Type 0
+AreApart s t u = AreApartIn s Default t u
+
 abbrev pub LeadToOne : Tests → Parts → Parts → List Step → List Step → Type 0
-LeadToOne s t u l m = (v : Parts) × (replayed s t l ≡ Some v) × (replayed s u m ≡ Some v)
+LeadToOne s t u l m = LeadToOneIn s Default t u l m

@@ -1,5 +1,5 @@
 -- The target of a reference against a base (RFC 3986 sections 5.2.2 and 5.2.3). No dot is removed.
-use Rattle.std.specs.Prelude.{◌≡◌, ℕ, ◌+◌, ◌<◌, length, take, slice_index, Bool, true, false, cond, ◌&&◌, ◌||◌, not, ◌==◌, List, [], ◌∷◌}
+use Rattle.std.specs.Prelude.{ℕ, Bool, true, cond, ◌&&◌, ◌||◌, not, ◌==◌, List, [], ◌∷◌}
 use Rattle.std.specs.Prelude.{◌++◌, Option, Some, None, is_some}
 use Rattle.iri_grammar.specs.Cut.{lacks}
 use Rattle.iri_grammar.specs.Parts.{Parts, is_empty, starts_with_slash}
@@ -9,18 +9,6 @@ use Rattle.iri_grammar.specs.Characters.{slash}
 abbrev pub to_last_slash : List ℕ → List ℕ
 to_last_slash [] = []
 to_last_slash (x ∷ xs) = cond (lacks slash (x ∷ xs)) [] (x ∷ to_last_slash xs)
-
--- the last `/` stands at k
-pub record LastSlash (path : List ℕ) (k : ℕ) : Type 0 where
-  pub inside : k < length path
-  pub byte : slice_index path k ≡ slash
-  pub front : take (k + 1) path ≡ to_last_slash path
-  pub has : lacks slash path ≡ false
-
--- there is no `/`
-pub record NoSlash (path : List ℕ) : Type 0 where
-  pub front : [] ≡ to_last_slash path
-  pub has : lacks slash path ≡ true
 
 -- nothing, or a text that ends with a `/`
 abbrev pub ends_at_slash : List ℕ → Bool

@@ -4,6 +4,7 @@ ghost use Rattle.iri_grammar.specs.Authority.{authority_parts, is_authority};
 ghost use Rattle.iri_grammar.specs.Components.{if_there, is_path};
 ghost use Rattle.iri_grammar.specs.Parts.{Fits};
 ghost use Rattle.iri_grammar.specs.OptionalSlices.{now_of};
+ghost use Rattle.iri_percent.specs.SchemeRules.{dropped_port};
 ghost use Rattle.iri_percent.specs.Units.{whole_triplets};
 ghost use Rattle.iri_resolve.specs.inside.ChangeOf.{change_of};
 ghost use Rattle.iri_resolve.specs.DotRemoval.{dots};
@@ -11,13 +12,17 @@ ghost use Rattle.iri_resolve.specs.Guard.{guard};
 ghost use Rattle.iri_resolve.specs.inside.PartTexts.{changed_in_part, is_part_whole, part_text, with_part};
 ghost use Rattle.iri_resolve.specs.Resolver.{bytes_of};
 ghost use Rattle.iri_resolve.specs.Slices.{slices};
-ghost use Rattle.iri_resolve.specs.Steps.{placed, in_part, at_place, step, without_empty_port, with_dots_removed};
-ghost use Rattle.iri_resolve.specs.Steps.{with_small_letter_in_host};
+ghost use Rattle.iri_resolve.specs.Steps.{placed, in_part, at_place, step, step_in, with_slash, without_dropped_port, without_empty_port};
+ghost use Rattle.iri_resolve.specs.Steps.{with_dots_removed, with_small_letter_in_host};
 ghost use Rattle.iri_resolve.specs.declared.step.Part.TheVariants.{Authority, Path};
-ghost use Rattle.iri_resolve.specs.declared.step.Step.TheVariants.{SchemeLetter, HostLetter, EmptyPort, Dots};
+ghost use Rattle.iri_resolve.specs.declared.step.Step.TheVariants.{SchemeLetter, HostLetter, EmptyPort, Dots, DefaultPort, SlashPath};
 
-use crate::authority_change::{changed_in_authority, small_letter_in_host, without_empty_port};
+use crate::authority_change::{
+    changed_in_authority, small_letter_in_host, without_dropped_port, without_empty_port,
+};
 use crate::change::{Change, changed, small_letter};
+use crate::form::becomes_slash;
+use crate::mode::CanonMode;
 use crate::owned_target::Target;
 use crate::path_writer::show_guarded;
 use crate::step::{Part, Step};
@@ -228,13 +233,60 @@ fn dots_step<S: Spec>(alloc: Global, target: &Target<S>) -> Result<Option<Target
     with_part(alloc, target, Part::Path, path)
 }
 
-/// The parts after a step; none exactly where it is no step from these parts. Allocation failure is the only error.
+// The parts after the default port goes.
+fn default_port_step<S: Spec>(
+    alloc: Global,
+    mode: CanonMode,
+    target: &Target<S>,
+) -> Result<Option<Target<S>>, AllocError>
+    ensures { IfOk result (λ o. o ≡ step_in S.tests mode target.now DefaultPort) }
+{
+    let _valid = target.slices();
+    let dropped = mode.dropped_port(Some(target.scheme()));
+    let Some(authority) = target.authority() else {
+        return Ok(None);
+    };
+    let authority = without_dropped_port::<S>(alloc, authority, dropped)?;
+    with_part(alloc, target, Part::Authority, authority)
+}
+
+// The path `/`, where an empty one becomes it.
+fn slash_for_empty<S: Spec>(
+    alloc: Global,
+    mode: CanonMode,
+    target: &Target<S>,
+) -> Result<Option<String>, AllocError>
+    ensures { IfOk result (λ o. bytes_of o ≡ with_slash (dropped_port mode target.now.scheme) target.now) }
+{
+    let slices = target.slices();
+    let dropped = mode.dropped_port(Some(target.scheme()));
+    if !becomes_slash(&slices, dropped) {
+        return Ok(None);
+    }
+    Ok(Some(String::from_str(alloc, "/")?))
+}
+
+// The parts after the empty path becomes `/`.
+fn slash_step<S: Spec>(
+    alloc: Global,
+    mode: CanonMode,
+    target: &Target<S>,
+) -> Result<Option<Target<S>>, AllocError>
+    ensures { IfOk result (λ o. o ≡ step_in S.tests mode target.now SlashPath) }
+{
+    let _valid = target.slices();
+    let path = slash_for_empty(alloc, mode, target)?;
+    with_part(alloc, target, Part::Path, path)
+}
+
+/// The parts after a step of a mode; none exactly where it is no step from these parts. Allocation failure is the only error.
 pub(crate) fn after_step<S: Spec>(
     alloc: Global,
+    mode: CanonMode,
     target: &Target<S>,
     next: Step,
 ) -> Result<Option<Target<S>>, AllocError>
-    ensures { IfOk result (λ o. o ≡ step S.tests target.now next) }
+    ensures { IfOk result (λ o. o ≡ step_in S.tests mode target.now next) }
 {
     match next {
         Step::SchemeLetter(i) => scheme_step(alloc, target, i),
@@ -243,5 +295,7 @@ pub(crate) fn after_step<S: Spec>(
         Step::Decode(part, i) => triplet_step(alloc, target, Change::Decoded, part, i),
         Step::EmptyPort => port_step(alloc, target),
         Step::Dots => dots_step(alloc, target),
+        Step::DefaultPort => default_port_step(alloc, mode, target),
+        Step::SlashPath => slash_step(alloc, mode, target),
     }
 }

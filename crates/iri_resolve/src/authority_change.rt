@@ -11,13 +11,13 @@ ghost use Rattle.iri_resolve.specs.inside.ChangeOf.{change_of};
 ghost use Rattle.iri_resolve.specs.Changes.{with_small_host_letter};
 ghost use Rattle.iri_resolve.specs.Resolver.{bytes_of};
 ghost use Rattle.iri_resolve.specs.Steps.{host_start, in_host, in_part, in_userinfo_or_host, placed};
-ghost use Rattle.iri_resolve.specs.Steps.{with_small_letter_in_host, without_empty_port};
+ghost use Rattle.iri_resolve.specs.Steps.{with_small_letter_in_host, without_dropped_port, without_empty_port};
 ghost use Rattle.iri_grammar.specs.Characters.{colon};
 
 use crate::change::{Change, changed, small_host_letter};
 use iri_grammar::authority::AuthoritySpan;
 use iri_grammar::spec::Spec;
-use iri_percent::is_ascii_host;
+use iri_percent::{is_ascii_host, is_dropped};
 use std::alloc::{AllocError, Global};
 
 // The userinfo and the `@` behind it, where it stands.
@@ -194,4 +194,24 @@ pub(crate) fn without_empty_port<S: Spec>(
         Some("") => Ok(Some(recomposed(alloc, span.userinfo(), span.host(), None)?)),
         _ => Ok(None),
     }
+}
+
+// The port that is dropped goes with its colon.
+pub(crate) fn without_dropped_port<S: Spec>(
+    alloc: Global,
+    authority: &str,
+    dropped: Option<&str>,
+) -> Result<Option<String>, AllocError>
+    requires { is_authority S.tests authority.now ≡ true }
+    ensures { IfOk result (λ o. bytes_of o ≡ without_dropped_port (now_of dropped.entry)
+        (authority_parts authority.now) (authority_parts authority.now).port) }
+{
+    let span = AuthoritySpan::of::<S>(authority);
+    let Some(port) = span.port() else {
+        return Ok(None);
+    };
+    if !is_dropped(port, dropped) {
+        return Ok(None);
+    }
+    Ok(Some(recomposed(alloc, span.userinfo(), span.host(), None)?))
 }

@@ -1,13 +1,14 @@
 //! Steps that lead two targets to one.
-ghost use Rattle.std.specs.Prelude.{◌≡◌, IfOk, MatchOption, string_bytes};
+ghost use Rattle.std.specs.Prelude.{◌≡◌, false, IfOk, MatchOption, string_bytes};
 ghost use Rattle.iri_grammar.specs.Parts.{recompose};
-ghost use Rattle.iri_resolve.specs.NormalForm.{normal_form};
+ghost use Rattle.iri_resolve.specs.NormalForm.{form};
 ghost use Rattle.std.specs.Str.{bytes_eq};
-ghost use Rattle.iri_resolve.specs.Steps.{AreApart, LeadToOne};
+ghost use Rattle.iri_resolve.specs.Modes.{mode_of};
+ghost use Rattle.iri_resolve.specs.Steps.{AreApart, AreApartIn, LeadToOne, LeadToOneIn};
 
 use crate::form::show_form;
-use crate::mode::Mode;
-use crate::normal_steps::steps_to_normal;
+use crate::mode::{CanonMode, mode_of};
+use crate::normal_steps::steps_to_normal_in;
 use crate::owned_target::Target;
 use crate::step_list::StepList;
 use crate::target::TargetSlices;
@@ -16,9 +17,12 @@ use iri_text::StringSink;
 use std::alloc::{AllocError, Global};
 
 // The text of a target in normal form.
-#[tactic(auto, unfolding(crate::specs::NormalForm::normal_form))]
-fn normal_text<S: Spec>(alloc: Global, target: &Target<S>) -> Result<String, AllocError>
-    ensures { IfOk result (λ text. string_bytes text ≡ recompose (normal_form S.tests target.now)) }
+fn normal_text<S: Spec>(
+    alloc: Global,
+    mode: CanonMode,
+    target: &Target<S>,
+) -> Result<String, AllocError>
+    ensures { IfOk result (λ text. string_bytes text ≡ recompose (form S.tests (mode_of mode) false target.now)) }
 {
     let _valid = target.slices();
     let slices = TargetSlices {
@@ -31,7 +35,7 @@ fn normal_text<S: Spec>(alloc: Global, target: &Target<S>) -> Result<String, All
     };
     let mut text = String::new(alloc);
     let mut sink = StringSink::new(&mut text);
-    match show_form::<S, StringSink<'_>>(&mut sink, &slices, Mode::Normal, false) {
+    match show_form::<S, StringSink<'_>>(&mut sink, &slices, mode_of(mode), false) {
         Ok(()) => {}
         Err(_) => return Err(AllocError),
     }
@@ -41,14 +45,15 @@ fn normal_text<S: Spec>(alloc: Global, target: &Target<S>) -> Result<String, All
 // Whether two targets have one text in normal form.
 fn have_one_normal_text<S: Spec>(
     alloc: Global,
+    mode: CanonMode,
     a: &Target<S>,
     b: &Target<S>,
 ) -> Result<bool, AllocError>
-    ensures { IfOk result (λ same. same ≡ bytes_eq (recompose (normal_form S.tests a.now))
-        (recompose (normal_form S.tests b.now))) }
+    ensures { IfOk result (λ same. same ≡ bytes_eq (recompose (form S.tests (mode_of mode) false a.now))
+        (recompose (form S.tests (mode_of mode) false b.now))) }
 {
-    let first = normal_text(alloc, a)?;
-    let second = normal_text(alloc, b)?;
+    let first = normal_text(alloc, mode, a)?;
+    let second = normal_text(alloc, mode, b)?;
     Ok(first.as_str() == second.as_str())
 }
 
@@ -62,12 +67,25 @@ pub fn join_steps<S: Spec>(
     ensures { IfOk result (λ lists. MatchOption lists (AreApart S.tests a.now b.now)
         (λ l. LeadToOne S.tests a.now b.now l.0 l.1)) }
 {
+    join_steps_in(alloc, CanonMode::Default, a, b)
+}
+
+/// The same with the steps and the canonical texts of a mode.
+pub fn join_steps_in<S: Spec>(
+    alloc: Global,
+    mode: CanonMode,
+    a: &Target<S>,
+    b: &Target<S>,
+) -> Result<Option<(StepList, StepList)>, AllocError>
+    ensures { IfOk result (λ lists. MatchOption lists (AreApartIn S.tests mode a.now b.now)
+        (λ l. LeadToOneIn S.tests mode a.now b.now l.0 l.1)) }
+{
     let _first = a.slices();
     let _second = b.slices();
-    if !have_one_normal_text(alloc, a, b)? {
+    if !have_one_normal_text(alloc, mode, a, b)? {
         return Ok(None);
     }
-    let first = steps_to_normal(alloc, a)?;
-    let second = steps_to_normal(alloc, b)?;
+    let first = steps_to_normal_in(alloc, mode, a)?;
+    let second = steps_to_normal_in(alloc, mode, b)?;
     Ok(Some((first, second)))
 }

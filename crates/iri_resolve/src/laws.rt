@@ -1,4 +1,5 @@
-//! The laws of targets, dot removal, normal forms and canonical texts.
+//! The laws of targets, dot removal, normal forms and canonical texts. Where a law has a `CanonMode`, it holds of the
+//! normal form by the rules of every scheme, and of that by scheme rules.
 ghost use Rattle.std.specs.Prelude.{◌≡◌, ◌≢◌, ◌↔◌, ℕ, ◌+◌, ◌≤◌, Bool, List, IsSome, Some, true, false, length};
 ghost use Rattle.iri_grammar.specs.Classes.{uri_tests};
 ghost use Rattle.iri_grammar.specs.Parts.{Parts, Fits, Splits, IsReference, IsIri, IsAbsolute, recompose};
@@ -10,13 +11,13 @@ ghost use Rattle.iri_resolve.specs.Dots.{has_dot_segment};
 ghost use Rattle.iri_resolve.specs.DotRemoval.{IsWithoutDots, dots};
 ghost use Rattle.iri_resolve.specs.Guard.{guard};
 ghost use Rattle.iri_percent.specs.Mapping.{mapped, mapped_parts};
-ghost use Rattle.iri_resolve.specs.NormalForm.{form, normal_form, canonical_parts, canonical};
+ghost use Rattle.iri_resolve.specs.NormalForm.{canonical_in, canonical_parts_in, form, normal_form_in};
 ghost use Rattle.iri_resolve.specs.declared.mode.Mode.TheVariants.{Preserving};
 ghost use Rattle.iri_resolve.specs.Changes.{with_decoded};
 ghost use Rattle.iri_resolve.specs.DecodedPlace.{IsCharacterAt};
-ghost use Rattle.iri_resolve.specs.Steps.{step, replayed, Joined};
+ghost use Rattle.iri_resolve.specs.Steps.{JoinedIn, replayed_in, step_in};
 
-use crate::mode::Mode;
+use crate::mode::{CanonMode, Mode};
 use crate::step::Step;
 use iri_grammar::spec::Spec;
 
@@ -49,14 +50,14 @@ pub fn dot_removal_commutes_with_triplets<S: Spec>()
 
 /// The normal form of parts that fit and have a scheme fits and has a scheme.
 pub fn normal_form_fits<S: Spec>()
-    ensures { (parts : Parts) → Fits S.tests parts → IsSome parts.scheme
-        → Fits S.tests (normal_form S.tests parts) × IsSome (normal_form S.tests parts).scheme }
+    ensures { (mode : CanonMode) (parts : Parts) → Fits S.tests parts → IsSome parts.scheme
+        → Fits S.tests (normal_form_in S.tests mode parts) × IsSome (normal_form_in S.tests mode parts).scheme }
 {}
 
 /// The normal form of parts that fit is its own normal form.
 pub fn normal_form_is_stable<S: Spec>()
-    ensures { (parts : Parts) → Fits S.tests parts
-        → normal_form S.tests (normal_form S.tests parts) ≡ normal_form S.tests parts }
+    ensures { (mode : CanonMode) (parts : Parts) → Fits S.tests parts
+        → normal_form_in S.tests mode (normal_form_in S.tests mode parts) ≡ normal_form_in S.tests mode parts }
 {}
 
 /// Parts that fit and have a scheme do so in every mode.
@@ -73,37 +74,38 @@ pub fn preserving_form_is_stable<S: Spec>()
 
 /// The canonical text of a reference against an absolute base is a URI of the spec, and its split is the normal form of the target.
 pub fn canonical_text_splits_into_normal_parts<S: Spec>()
-    ensures uri { (base reference : List ℕ) → IsAbsolute S.tests base → IsReference S.tests reference
-        → IsIri S.tests (canonical S.tests base reference) }
-    ensures splits { (base reference : List ℕ) → IsAbsolute S.tests base → IsReference S.tests reference
-        → Splits S.tests (canonical S.tests base reference) (canonical_parts S.tests base reference) }
-    ensures split { (base reference : List ℕ) → IsAbsolute S.tests base → IsReference S.tests reference
-        → split_of (canonical S.tests base reference) ≡ canonical_parts S.tests base reference }
+    ensures uri { (mode : CanonMode) (base reference : List ℕ) → IsAbsolute S.tests base → IsReference S.tests reference
+        → IsIri S.tests (canonical_in S.tests mode base reference) }
+    ensures splits { (mode : CanonMode) (base reference : List ℕ) → IsAbsolute S.tests base → IsReference S.tests reference
+        → Splits S.tests (canonical_in S.tests mode base reference) (canonical_parts_in S.tests mode base reference) }
+    ensures split { (mode : CanonMode) (base reference : List ℕ) → IsAbsolute S.tests base → IsReference S.tests reference
+        → split_of (canonical_in S.tests mode base reference) ≡ canonical_parts_in S.tests mode base reference }
 {}
 
 /// The canonical text is its own canonical form, against every base.
 pub fn canonical_text_is_its_own<S: Spec>()
-    ensures { (base reference other : List ℕ) → IsAbsolute S.tests base → IsReference S.tests reference
-        → canonical S.tests other (canonical S.tests base reference) ≡ canonical S.tests base reference }
+    ensures { (mode : CanonMode) (base reference other : List ℕ) → IsAbsolute S.tests base
+        → IsReference S.tests reference → canonical_in S.tests mode other (canonical_in S.tests mode base reference)
+        ≡ canonical_in S.tests mode base reference }
 {}
 
 /// The canonical text has at most 3 bytes more than base and reference together.
 pub fn canonical_text_is_short<S: Spec>()
-    ensures { (base reference : List ℕ) → IsAbsolute S.tests base → IsReference S.tests reference
-        → length (canonical S.tests base reference) ≤ length base + length reference + 3 }
+    ensures { (mode : CanonMode) (base reference : List ℕ) → IsAbsolute S.tests base → IsReference S.tests reference
+        → length (canonical_in S.tests mode base reference) ≤ length base + length reference + 3 }
 {}
 
 /// The parts after a step are valid again, have a scheme, and have the same normal form.
 pub fn steps_keep_the_normal_form<S: Spec>()
-    ensures fits { (t u : Parts) (x : Step) → Fits S.tests t → IsSome t.scheme → step S.tests t x ≡ Some u
-        → Fits S.tests u × IsSome u.scheme }
-    ensures form { (t u : Parts) (x : Step) → Fits S.tests t → IsSome t.scheme → step S.tests t x ≡ Some u
-        → normal_form S.tests u ≡ normal_form S.tests t }
+    ensures fits { (mode : CanonMode) (t u : Parts) (x : Step) → Fits S.tests t → IsSome t.scheme
+        → step_in S.tests mode t x ≡ Some u → Fits S.tests u × IsSome u.scheme }
+    ensures form { (mode : CanonMode) (t u : Parts) (x : Step) → Fits S.tests t → IsSome t.scheme
+        → step_in S.tests mode t x ≡ Some u → normal_form_in S.tests mode u ≡ normal_form_in S.tests mode t }
 {}
 
 /// A step changes the parts: what would change nothing is no step.
 pub fn steps_change_something<S: Spec>()
-    ensures { (t u : Parts) (x : Step) → step S.tests t x ≡ Some u → u ≢ t }
+    ensures { (mode : CanonMode) (t u : Parts) (x : Step) → step_in S.tests mode t x ≡ Some u → u ≢ t }
 {}
 
 /// Where triplets are decoded, an unreserved character stands among the units of the text.
@@ -114,26 +116,27 @@ pub fn decoded_places_are_characters<S: Spec>()
 
 /// From all valid parts, steps lead to their normal form.
 pub fn steps_lead_to_the_normal_form<S: Spec>()
-    ensures { (t : Parts) → Fits S.tests t → (l : List Step) × (replayed S.tests t l ≡ Some (normal_form S.tests t)) }
+    ensures { (mode : CanonMode) (t : Parts) → Fits S.tests t
+        → (l : List Step) × (replayed_in S.tests mode t l ≡ Some (normal_form_in S.tests mode t)) }
 {}
 
 /// Steps join exactly the valid parts that have one normal form, which are those with one canonical text.
 pub fn steps_join_what_has_one_normal_form<S: Spec>()
-    ensures joined { (t u : Parts) → Fits S.tests t → IsSome t.scheme → Fits S.tests u → IsSome u.scheme
-        → Joined S.tests t u ↔ (normal_form S.tests t ≡ normal_form S.tests u) }
-    ensures texts { (t u : Parts) → Fits S.tests t → IsSome t.scheme → Fits S.tests u → IsSome u.scheme
-        → (recompose (normal_form S.tests t) ≡ recompose (normal_form S.tests u))
-        ↔ (normal_form S.tests t ≡ normal_form S.tests u) }
+    ensures joined { (mode : CanonMode) (t u : Parts) → Fits S.tests t → IsSome t.scheme → Fits S.tests u
+        → IsSome u.scheme → JoinedIn S.tests mode t u ↔ (normal_form_in S.tests mode t ≡ normal_form_in S.tests mode u) }
+    ensures texts { (mode : CanonMode) (t u : Parts) → Fits S.tests t → IsSome t.scheme → Fits S.tests u
+        → IsSome u.scheme → (recompose (normal_form_in S.tests mode t) ≡ recompose (normal_form_in S.tests mode u))
+        ↔ (normal_form_in S.tests mode t ≡ normal_form_in S.tests mode u) }
 {}
 
 /// Mapping and normal form may be done in either order.
 pub fn mapping_commutes_with_normal_form<S: Spec>()
-    ensures { (t : Parts) → Fits S.tests t → mapped_parts (normal_form S.tests t)
-        ≡ normal_form uri_tests (mapped_parts t) }
+    ensures { (mode : CanonMode) (t : Parts) → Fits S.tests t → mapped_parts (normal_form_in S.tests mode t)
+        ≡ normal_form_in uri_tests mode (mapped_parts t) }
 {}
 
 /// The canonical text, mapped, is the canonical text of the mapped base and reference.
 pub fn mapping_commutes_with_canonical_texts<S: Spec>()
-    ensures { (base reference : List ℕ) → IsAbsolute S.tests base → IsReference S.tests reference
-        → mapped (canonical S.tests base reference) ≡ canonical uri_tests (mapped base) (mapped reference) }
+    ensures { (mode : CanonMode) (base reference : List ℕ) → IsAbsolute S.tests base → IsReference S.tests reference
+        → mapped (canonical_in S.tests mode base reference) ≡ canonical_in uri_tests mode (mapped base) (mapped reference) }
 {}

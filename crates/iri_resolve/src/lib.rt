@@ -1,15 +1,18 @@
-//! References resolved against a base, their normal form, and canonical texts (RFC 3986 sections 5.2.2, 5.2.3, 5.2.4 and 6.2.2).
+//! References resolved against a base, their normal form, and canonical texts (RFC 3986 sections 5.2.2, 5.2.3, 5.2.4, 6.2.2 and
+//! 6.2.3).
 //!
 //! [`FixedBaseResolver`](resolver::FixedBaseResolver) has a base. It gives each reference resolved against it as a
-//! [`Normalized`](normalized::Normalized), which shows its text to any sink without memory, in one of three modes: resolved alone,
-//! in normal form, or in the normal form that preserves relative paths. It also gives the reference's
-//! [`Target`](owned_target::Target), owned, with its dots kept. `views` has the same for views: `normalize` and `resolve_against`.
+//! [`Normalized`](normalized::Normalized), which shows its text to any sink without memory, in one of four modes: resolved alone,
+//! in normal form, in the normal form that preserves relative paths, or in normal form by scheme rules, where default ports go and
+//! empty paths become `/`. It also gives the reference's [`Target`](owned_target::Target), owned, with its dots kept. `views` has the
+//! same for views: `normalize` and `resolve_against`.
 //! [`canonicalize`](canonical::canonicalize) answers the canonical text of two texts of bytes, and
 //! [`show_canonical`](canonical::show_canonical) shows that of a reference against a resolver's base.
 //! [`IsNormalized`](is_normalized::IsNormalized) tells whether a text is in normal form. [`Step`](step::Step)s lead a target to its
 //! normal form: [`steps_to_normal`](normal_steps::steps_to_normal) gives them, [`replay`](replay::replay) does them, and
-//! [`join_steps`](join::join_steps) gives those that lead two targets to one. `laws` has what holds of all targets, forms, canonical
-//! texts and steps.
+//! [`join_steps`](join::join_steps) gives those that lead two targets to one. The calls that end with `_in` take a
+//! [`CanonMode`](mode::CanonMode): the normal form by the rules of every scheme, or by scheme rules too. `laws` has what holds of all
+//! targets, forms, canonical texts and steps.
 //!
 //! Proved: a target is that of section 5.2.2, with its dots kept. What is shown is exactly the recomposition of the target's form in
 //! the mode, whatever the sink and however many segments the path has; a sink that stops, stops within that text. Only a path that
@@ -17,9 +20,11 @@
 //! normal form; it is a URI of the grammar, splits into exactly the normal parts, and is its own canonical text against every base.
 //! `canonicalize` refuses exactly a base or a reference outside its grammar, with its first fault, the base first; memory is
 //! wanted only where both are valid. Dot removal is the rewriting of section 5.2.4, and is stable; each form fits the grammar again,
-//! and the normal and the preserving one are stable; a canonical text has at most three bytes more than base and reference together.
-//! A text is told to be in normal form exactly where it is, without memory. Steps keep parts valid, keep their normal form, and
-//! change something; those to the normal form replay to it; two targets are joined exactly where their canonical texts are equal.
+//! and the normal ones and the preserving one are stable; a canonical text has at most three bytes more than base and reference
+//! together. A text is told to be in normal form exactly where it is, without memory. Steps keep parts valid, keep their normal form,
+//! and change something; those to the normal form replay to it; two targets are joined exactly where their canonical texts are equal.
+//! What is said of shown texts, canonical texts and steps holds of the mode by scheme rules too; the tests of being in normal form have
+//! no such mode.
 //!
 //! Not proved: that memory is allocated, so that a call that always answered `Memory` would keep its contract, `replay` among them;
 //! tests show that each succeeds with ample memory. The words of `Display` of `CanonError` and `ReplayError`, which `thiserror`

@@ -1,4 +1,4 @@
-//! Steps from a target to its normal form (RFC 3986 section 6.2.2).
+//! Steps from a target to its normal form (RFC 3986 sections 6.2.2 and 6.2.3).
 ghost use Rattle.std.specs.Prelude.{◌≡◌, ◌<◌, ◌+◌, ◌^◌, ◌++◌, ◌&&◌, ◌||◌, IfOk, OnOk, Some, length, not, true};
 ghost use Rattle.std.specs.Char.{is_ascii_uppercase};
 ghost use Rattle.iri_grammar.specs.Authority.{AuthorityParts, FitsAuthority, authority_parts, is_authority};
@@ -12,24 +12,26 @@ ghost use Rattle.iri_percent.specs.NormalHost.{normal_authority};
 ghost use Rattle.iri_percent.specs.Units.{whole_triplets};
 ghost use Rattle.iri_resolve.specs.DotRemoval.{is_two_dots};
 ghost use Rattle.iri_resolve.specs.Dots.{has_dot_segment, is_dot_segment};
-ghost use Rattle.iri_resolve.specs.NormalForm.{normal_form};
+ghost use Rattle.iri_resolve.specs.NormalForm.{normal_form, normal_form_in};
 ghost use Rattle.iri_resolve.specs.inside.NormalSteps.{AuthorityLed, HostLed, PartLed, PathLed, PortLed, SchemeLed};
-ghost use Rattle.iri_resolve.specs.inside.NormalSteps.{UserinfoLed, dots_steps, is_guard_alone, loses_dots};
-ghost use Rattle.iri_resolve.specs.inside.NormalSteps.{scheme_steps};
-ghost use Rattle.iri_resolve.specs.Steps.{replayed};
+ghost use Rattle.iri_resolve.specs.inside.NormalSteps.{UserinfoLed, dots_steps, has_port, is_guard_alone, loses_dots};
+ghost use Rattle.iri_resolve.specs.inside.NormalSteps.{port_steps, scheme_steps, slash_steps};
+ghost use Rattle.iri_resolve.specs.Steps.{replayed, replayed_in};
 ghost use Rattle.iri_resolve.specs.declared.step.Part.{Part};
 ghost use Rattle.iri_grammar.specs.Characters.{slash};
 
 use crate::component::Component;
 use crate::component_steps::push_component;
 use crate::dots::{has_dot_segment, is_dot_segment, is_two_dots};
+use crate::form::becomes_slash;
+use crate::mode::CanonMode;
 use crate::owned_target::Target;
 use crate::step::{Part, Step};
 use crate::step_list::StepList;
 use iri_grammar::authority::AuthoritySpan;
 use iri_grammar::cutting::cut;
 use iri_grammar::spec::Spec;
-use iri_percent::is_ascii_host;
+use iri_percent::{is_ascii_host, is_dropped};
 use std::alloc::{AllocError, Global};
 
 // A letter of the scheme becomes small, where it is a capital.
@@ -213,6 +215,63 @@ fn push_triplets<S: Spec>(
     };
     push_component::<S>(steps, component, text)?;
     Ok(())
+}
+
+// Whether the authority has the port that is dropped.
+fn has_port<S: Spec>(authority: &str, dropped: Option<&str>) -> bool
+    requires { is_authority S.tests authority.now ≡ true }
+    ensures { result ≡ has_port (now_of dropped.entry) (Some authority.now) }
+{
+    match AuthoritySpan::of::<S>(authority).port() {
+        Some(port) => is_dropped(port, dropped),
+        None => false,
+    }
+}
+
+// The step of the port that is dropped.
+fn push_default_port<S: Spec>(
+    steps: &mut StepList,
+    authority: Option<&str>,
+    dropped: Option<&str>,
+) -> Result<(), AllocError>
+    requires { if_there (is_authority S.tests) (now_of authority) ≡ true }
+    ensures { OnOk result (steps.new ≡ steps.old
+        ++ port_steps (has_port (now_of dropped.entry) (now_of authority.entry))) }
+{
+    let Some(authority) = authority else {
+        return Ok(());
+    };
+    if !has_port::<S>(authority, dropped) {
+        return Ok(());
+    }
+    steps.push(Step::DefaultPort)
+}
+
+// The step of an empty path that becomes `/`.
+fn push_slash(steps: &mut StepList, go: bool) -> Result<(), AllocError>
+    ensures { OnOk result (steps.new ≡ steps.old ++ slash_steps go) }
+{
+    if !go {
+        return Ok(());
+    }
+    steps.push(Step::SlashPath)
+}
+
+/// Steps of a mode that lead from a target to its normal form: those of every scheme, and then the default port and the empty path.
+/// Allocation failure is the only error.
+pub fn steps_to_normal_in<S: Spec>(
+    alloc: Global,
+    mode: CanonMode,
+    target: &Target<S>,
+) -> Result<StepList, AllocError>
+    ensures { IfOk result (λ l. replayed_in S.tests mode target.now l ≡ Some (normal_form_in S.tests mode target.now)) }
+{
+    let _valid = target.slices();
+    let mut steps = steps_to_normal(alloc, target)?;
+    let dropped = mode.dropped_port(Some(target.scheme()));
+    push_default_port::<S>(&mut steps, target.authority(), dropped)?;
+    push_slash(&mut steps, becomes_slash(&target.slices(), dropped))?;
+    Ok(steps)
 }
 
 /// Steps that lead from a target to its normal form, part by part and from left to right; the dot segments go behind the other

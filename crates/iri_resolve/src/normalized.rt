@@ -1,14 +1,15 @@
 //! Texts that show themselves resolved (RFC 3986 section 5.2) or in normal form (section 6.2.2). They take no memory.
-ghost use Rattle.std.specs.Prelude.{◌≡◌, ◌↔◌, true, Some, IsErr};
+ghost use Rattle.std.specs.Prelude.{◌≡◌, ◌↔◌, true, None, Some, IsErr};
 ghost use Rattle.std.proofs.Props.{props};
 ghost use Rattle.iri_grammar.specs.OptionalSlices.{now_of};
 ghost use Rattle.iri_resolve.specs.Normalized.{AreSound, Written, written_text, has_no_normal_form};
+ghost use Rattle.iri_resolve.specs.Modes.{is_by_scheme, mode_of};
 ghost use Rattle.iri_resolve.specs.Prefix.{IsPrefix};
 ghost use Rattle.iri_resolve.specs.Slices.{slices};
-ghost use Rattle.iri_resolve.specs.declared.mode.Mode.TheVariants.{Normal, Preserving};
+ghost use Rattle.iri_resolve.specs.declared.mode.Mode.TheVariants.{ByScheme, Normal, Preserving};
 
 use crate::form::{show_behind, show_form};
-use crate::mode::Mode;
+use crate::mode::{CanonMode, Mode, is_by_scheme, mode_of};
 use crate::normal_kind::NormalKind;
 use crate::path_writer::is_unresolvable;
 use crate::target::TargetSlices;
@@ -21,7 +22,7 @@ use std::alloc::{AllocError, Global};
 use std::fmt;
 use std::marker::PhantomData;
 
-/// Parts, borrowed, that show themselves as one text of the kind `K` in a mode: without dot segments alone, or in normal form.
+/// Parts, borrowed, that show themselves as one text of the kind `K` in a mode: without dot segments alone, or in a normal form.
 pub struct NormalizedText<'a, S: Spec, K: NormalKind> {
     prefix: Option<&'a str>,
     target: TargetSlices<'a>,
@@ -97,6 +98,14 @@ impl<'a, S: Spec, K: NormalKind> NormalizedText<'a, S, K> {
         self.mode = Mode::Preserving;
     }
 
+    /// From now on the text is in normal form by scheme rules too (RFC 3986 section 6.2.3): the scheme's default port goes, and an
+    /// empty path beside an authority becomes `/`, for `http`, `https`, `ws`, `wss` and `ftp`.
+    pub fn enable_scheme_normalization(&mut self)
+        ensures { written self.new ≡ record (written self.old) { mode = ByScheme } }
+    {
+        self.mode = Mode::ByScheme;
+    }
+
     /// The same parts in normal form (RFC 3986 section 6.2.2).
     pub fn and_normalize(self) -> Self
         ensures { written result ≡ record (written self.entry) { mode = Normal } }
@@ -109,6 +118,31 @@ impl<'a, S: Spec, K: NormalKind> NormalizedText<'a, S, K> {
         ensures { written result ≡ record (written self.entry) { mode = Preserving } }
     {
         NormalizedText::behind(self.prefix, self.target, self.whole, Mode::Preserving)
+    }
+
+    /// The same parts in normal form by scheme rules too (RFC 3986 section 6.2.3).
+    pub fn and_normalize_by_scheme(self) -> Self
+        ensures { written result ≡ record (written self.entry) { mode = ByScheme } }
+    {
+        NormalizedText::behind(self.prefix, self.target, self.whole, Mode::ByScheme)
+    }
+
+    // The same parts in either normal form.
+    pub(crate) fn and_normalize_in(self, mode: CanonMode) -> Self
+        ensures { written result ≡ record (written self.entry) { mode = mode_of mode } }
+    {
+        NormalizedText::behind(self.prefix, self.target, self.whole, mode_of(mode))
+    }
+
+    // The prefix, where it can be used in the mode.
+    fn usable_prefix(&self) -> Option<&'a str>
+        ensures { (IsPrefix S.tests (slices self.now.target) (now_of result)) × ((is_by_scheme self.now.mode ≡ true) → (result ≡ None)) }
+    {
+        if is_by_scheme(self.mode) {
+            None
+        } else {
+            self.prefix
+        }
     }
 
     /// Whether RFC 3986 alone has a normal form of the parts, without the `/.` before a path that would be read as an authority.
@@ -130,7 +164,7 @@ impl<S: Spec, K: NormalKind> Show for NormalizedText<'_, S, K> {
     ghost text = { λ n. written_text S.tests (written n) };
 
     fn show<W: TextSink>(&self, sink: &mut W) -> Result<(), Stop> {
-        match self.prefix {
+        match self.usable_prefix() {
             Some(prefix) => {
                 show_behind::<S, W>(sink, prefix, &self.target, self.mode, self.whole)
             }

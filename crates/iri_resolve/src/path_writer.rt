@@ -402,7 +402,7 @@ pub fn show_path<S: Spec, W: TextSink>(
         (path_in S.tests mode whole (slices target.now).authority (slices target.now).path) sink.new result }
 {
     match mode {
-        Mode::Normal => show_normal_path::<S, W>(sink, target),
+        Mode::Normal | Mode::ByScheme => show_normal_path::<S, W>(sink, target),
         Mode::Preserving => show_preserved::<S, W>(sink, target),
         Mode::Plain => show_plain::<S, W>(sink, target, whole),
     }

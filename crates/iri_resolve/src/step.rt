@@ -24,4 +24,8 @@ pub enum Step {
     EmptyPort,
     /// The dot segments of the path are removed, and the guard is put where it is needed.
     Dots,
+    /// By scheme rules (RFC 3986 section 6.2.3): the port that is the scheme's default port goes with its colon.
+    DefaultPort,
+    /// By scheme rules: the empty path beside an authority becomes `/`, where the scheme has a default port.
+    SlashPath,
 }

@@ -21,7 +21,7 @@ impl Show for Part {
 }
 
 /// What changes, in which part and at which byte of it: `scheme letter 0`, `host letter 3`, `hex digit path 5`,
-/// `decode query 2`, `empty port`, `dot segments`.
+/// `decode query 2`, `empty port`, `dot segments`, `default port`, `empty path`.
 impl Show for Step {
     ghost text = { step_text };
 
@@ -33,6 +33,8 @@ impl Show for Step {
             Step::Decode(part, at) => show_four(sink, &"decode ", part, &" ", at),
             Step::EmptyPort => sink.put("empty port"),
             Step::Dots => sink.put("dot segments"),
+            Step::DefaultPort => sink.put("default port"),
+            Step::SlashPath => sink.put("empty path"),
         }
     }
 }

@@ -1,10 +1,11 @@
 // The target of a reference against a base.
-ghost use Rattle.std.specs.Prelude.{◌≡◌, ◌++◌, ◌||◌, cond, is_some, None, true, MatchOption};
+ghost use Rattle.std.specs.Prelude.{◌≡◌, ◌++◌, ◌||◌, cond, is_some, None, true};
+ghost use Rattle.memchr.specs.Find.{IsLastByte, is_byte};
 ghost use Rattle.iri_grammar.specs.Parts.{starts_with_slash};
 ghost use Rattle.iri_grammar.specs.Splitters.{parts};
 ghost use Rattle.iri_grammar.specs.OptionalSlices.{now_of};
 ghost use Rattle.iri_resolve.specs.Target.{takes_base_path, target, target_under, to_last_slash, merge_prefix};
-ghost use Rattle.iri_resolve.specs.Target.{ends_at_slash, LastSlash, NoSlash};
+ghost use Rattle.iri_resolve.specs.Target.{ends_at_slash};
 ghost use Rattle.iri_resolve.specs.Slices.{slices, is_cut_at_segment};
 ghost use Rattle.iri_grammar.specs.Characters.{slash};
 
@@ -23,9 +24,8 @@ pub struct TargetSlices<'a> {
 }
 
 // Where the last slash stands.
-#[tactic(auto, using(crate::proofs::SlashLemmas::found))]
 pub(crate) fn last_slash(path: &str) -> Option<usize>
-    ensures { MatchOption result (NoSlash path.now) (λ k. LastSlash path.now k) }
+    ensures { IsLastByte (is_byte slash) path.now result }
 {
     memrchr(b'/', path.as_bytes())
 }
@@ -44,7 +44,7 @@ fn to_last_slash(path: &str) -> &str
 /// The prefix that a relative path is put behind.
 pub fn merge_prefix<'a>(base: &Splitter<'a>) -> &'a str
     ensures ends { ends_at_slash result.now ≡ true }
-    ensures front { result.now ≡ merge_prefix (parts base.now) }
+    ensures prefix { result.now ≡ merge_prefix (parts base.now) }
 {
     if base.authority().is_some() && base.path().is_empty() {
         "/"
@@ -69,7 +69,7 @@ fn behind_base<'a>(
     front: &'a str,
     reference: &Splitter<'a>,
 ) -> TargetSlices<'a>
-    requires front { front.now ≡ merge_prefix (parts base.now) }
+    requires prefix { front.now ≡ merge_prefix (parts base.now) }
     requires ends { ends_at_slash front.now ≡ true }
     ensures cut { is_cut_at_segment result ≡ true }
     ensures parts { slices result ≡ target_under (parts base.now) (parts reference.now) None None }
@@ -116,7 +116,7 @@ fn under_scheme<'a>(scheme: Option<&'a str>, reference: &Splitter<'a>) -> Target
 /// `merge_prefix`.
 #[tactic(auto, unfolding(crate::specs::Target::target))]
 pub fn target<'a>(base: &Splitter<'a>, front: &'a str, reference: &Splitter<'a>) -> TargetSlices<'a>
-    requires front { front.now ≡ merge_prefix (parts base.now) }
+    requires prefix { front.now ≡ merge_prefix (parts base.now) }
     requires ends { ends_at_slash front.now ≡ true }
     ensures cut { is_cut_at_segment result ≡ true }
     ensures parts { slices result ≡ target (parts base.now) (parts reference.now) }

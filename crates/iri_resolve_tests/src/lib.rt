@@ -3,6 +3,8 @@
 #![tactic(auto)]
 
 #[cfg(test)]
+mod by_scheme;
+#[cfg(test)]
 mod canonical;
 #[cfg(test)]
 mod is_normalized;

@@ -48,7 +48,7 @@ fn text_after<S: Spec>(alloc: Global, reference: &str, step: Step) -> Result<Opt
     match replay(alloc, &target, &steps) {
         Ok(after) => Ok(Some(text_of(alloc, &after)?)),
         Err(ReplayError::Illegal(0)) => Ok(None),
-        Err(_) => Err("a step is refused for another reason")?,
+        Err(error) => Err(error)?,
     }
 }
 
@@ -67,10 +67,8 @@ fn gives<S: Spec>(
 fn normal<S: Spec>(alloc: Global, reference: &str) -> Result<String, Fail> {
     let target = target::<S>(alloc, reference)?;
     let steps = steps_to_normal(alloc, &target)?;
-    match replay(alloc, &target, &steps) {
-        Ok(after) => Ok(text_of(alloc, &after)?),
-        Err(_) => Err("the steps to the normal form are refused")?,
-    }
+    let after = replay(alloc, &target, &steps)?;
+    Ok(text_of(alloc, &after)?)
 }
 
 #[test]
@@ -303,8 +301,11 @@ fn the_first_illegal_step_is_named(rt: HostRuntime) -> Result<(), Fail> {
     steps.push(Step::SchemeLetter(1))?;
     steps.push(Step::SchemeLetter(1))?;
     steps.push(Step::EmptyPort)?;
-    let answer = replay(rt.alloc(), &target, &steps);
-    assert!(rt; matches!(answer, Err(ReplayError::Illegal(1))));
+    match replay(rt.alloc(), &target, &steps) {
+        Ok(_) => assert!(rt; false),
+        Err(ReplayError::Illegal(place)) => assert_eq!(rt; place, 1),
+        Err(error) => Err(error)?,
+    }
     Ok(())
 }
 
@@ -315,10 +316,8 @@ fn lead_to(
     steps: &StepList,
     text: &str,
 ) -> Result<bool, Fail> {
-    match replay(alloc, target, steps) {
-        Ok(after) => Ok(text_of(alloc, &after)?.as_str() == text),
-        Err(_) => Err("joining steps are refused")?,
-    }
+    let after = replay(alloc, target, steps)?;
+    Ok(text_of(alloc, &after)?.as_str() == text)
 }
 
 // Whether steps join the targets of two references in this text.

@@ -13,6 +13,8 @@ fn steps_as_text(rt: HostRuntime) -> Result<(), Fail> {
         (Step::HexDigit(Part::Fragment, 5), "hex digit fragment 5"),
         (Step::EmptyPort, "empty port"),
         (Step::Dots, "dot segments"),
+        (Step::DefaultPort, "default port"),
+        (Step::SlashPath, "empty path"),
     ] {
         assert_eq!(rt; step.try_to_string(rt.alloc())?.as_str(), text);
         assert_eq!(rt; format!(in rt.alloc(); "{step}")?.as_str(), text);

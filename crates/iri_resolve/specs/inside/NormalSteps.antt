@@ -1,11 +1,11 @@
 -- How the steps of each part lead to its normal form.
 use Rattle.std.specs.Prelude.{◌≡◌, ℕ, ◌≤◌, Bool, true, false, cond, not, ◌&&◌, ◌||◌, is_some, List, [], ◌∷◌, Option, Some, None, length}
 use Rattle.std.specs.Char.{is_ascii_uppercase}
-use Rattle.iri_grammar.specs.Authority.{AuthorityParts, FitsAuthority, recompose_authority, userinfo_text}
+use Rattle.iri_grammar.specs.Authority.{AuthorityParts, FitsAuthority, authority_parts, recompose_authority, userinfo_text}
 use Rattle.iri_grammar.specs.Classes.{Tests}
 use Rattle.iri_grammar.specs.Parts.{Parts, is_empty}
 use Rattle.iri_grammar.specs.Pieces.{pieces}
-use Rattle.iri_percent.specs.NormalHost.{normal_authority, normal_host, normal_port, normal_userinfo}
+use Rattle.iri_percent.specs.NormalHost.{is_dropped, normal_authority, normal_host, normal_port, normal_userinfo}
 use Rattle.iri_percent.specs.Triplets.{pct}
 use Rattle.iri_resolve.specs.inside.ComponentSteps.{IsComponent}
 use Rattle.iri_resolve.specs.DotRemoval.{dots, is_two_dots}
@@ -15,7 +15,7 @@ use Rattle.iri_resolve.specs.LowerCase.{lowered, where_there}
 use Rattle.iri_resolve.specs.Steps.{host_start, replayed}
 use Rattle.iri_resolve.specs.declared.step.Part.{Part}
 use Rattle.iri_resolve.specs.declared.step.Step.{Step}
-use Rattle.iri_resolve.specs.declared.step.Step.TheVariants.{SchemeLetter, Dots}
+use Rattle.iri_resolve.specs.declared.step.Step.TheVariants.{SchemeLetter, Dots, DefaultPort, SlashPath}
 
 -- a slash stands before these segments
 abbrev pub is_behind_slash : List (List ℕ) → Bool
@@ -38,6 +38,22 @@ scheme_steps at letter = cond (is_ascii_uppercase letter) (SchemeLetter at ∷ [
 
 abbrev pub dots_steps : Bool → List Step
 dots_steps go = cond go (Dots ∷ []) []
+
+abbrev pub is_port_dropped : Option (List ℕ) → Option (List ℕ) → Bool
+is_port_dropped dropped None = false
+is_port_dropped dropped (Some port) = is_dropped dropped port
+
+-- the authority has the port that is dropped
+abbrev pub has_port : Option (List ℕ) → Option (List ℕ) → Bool
+has_port dropped None = false
+has_port dropped (Some a) = is_port_dropped dropped (authority_parts a).port
+
+-- the steps of a port that is dropped, and of a path that becomes `/`
+abbrev pub port_steps : Bool → List Step
+port_steps go = cond go (DefaultPort ∷ []) []
+
+abbrev pub slash_steps : Bool → List Step
+slash_steps go = cond go (SlashPath ∷ []) []
 
 -- where l leads to the parts u, m leads to v
 abbrev pub Onward : Tests → List Step → List Step → Parts → Parts → Type 0

@@ -1,13 +1,12 @@
 // A path cut between its segments, and how many of them later dot segments remove.
 ghost use Rattle.std.specs.Prelude.{◌≡◌, ◌<◌, ◌≤◌, ◌+◌, ◌^◌, ◌++◌, [], ◌∷◌, false, true, length, slice_index};
-ghost use Rattle.std.specs.Prelude.{MatchOption};
 ghost use Rattle.memchr.specs.Find.{IsLastByte, is_byte};
 ghost use Rattle.iri_grammar.specs.Cut.{lacks};
 ghost use Rattle.iri_percent.specs.Units.{whole_triplets};
 ghost use Rattle.iri_resolve.specs.Dots.{any_dot_segment};
 ghost use Rattle.iri_resolve.specs.Kept.{begins, behind_front_dots, ended, kept, kept_from_first, one_begins, removed};
 ghost use Rattle.iri_resolve.specs.Kept.{removing};
-ghost use Rattle.iri_resolve.specs.Target.{ends_at_slash, LastSlash, NoSlash};
+ghost use Rattle.iri_resolve.specs.Target.{ends_at_slash};
 
 use crate::dots::{is_dot_segment, is_two_dots};
 use crate::target::last_slash;
@@ -37,13 +36,6 @@ fn rfind_near(bytes: &[u8]) -> Option<usize>
         }
     }
     None
-}
-
-#[tactic(auto, using(crate::proofs::SlashLemmas::found))]
-fn near_slash(path: &str) -> Option<usize>
-    ensures { MatchOption result (NoSlash path.now) (λ k. LastSlash path.now k) }
-{
-    rfind_near(path.as_bytes())
 }
 
 /// The path up to and with its last slash, and the segment behind it.
@@ -76,7 +68,7 @@ pub fn cut_last(text: &str) -> (&str, &str)
     ensures last { lacks 47 result.1.now ≡ true }
 {
     let text = without_end(text);
-    match near_slash(text) {
+    match rfind_near(text.as_bytes()) {
         Some(i) => cut_at(text, i),
         None => ("", text),
     }

@@ -1,7 +1,7 @@
 use Rattle.std.proofs.Common.{◌≡◌, Some, sym, ap, subst, ◌∙◌}
 use Rattle.std.specs.Prelude.{IfOk}
 use Rattle.iri_resolve.specs.Changes.{with_small_letter}
-use Rattle.iri_resolve.specs.Steps.{placed, in_part, step}
+use Rattle.iri_resolve.specs.Steps.{placed, in_part, step_in}
 use Rattle.iri_resolve.proofs.StepsKept.{scheme-step}
 use Rattle.iri_resolve.proofs.after_step.scheme_step.Goals as goal
 
@@ -11,7 +11,7 @@ with_scheme-requires g c = λ x e. (scheme-step g.S.Spec.tests c.args.target.now
     (sym c.in_ok-scheme.ensures ∙ e)).fits
 
 pub returns : goal.returns
-unfolding step
+unfolding step_in
 returns g c = subst (λ z. IfOk c.with_scheme.result (λ o. o ≡ z))
     (ap (placed (λ x. record c.args.target.now { scheme = Some x }))
     (c.in_ok-scheme.ensures ∙ ap (in_part (with_small_letter c.args.i)) c.scheme.ensures.scheme)) c.with_scheme.ensures

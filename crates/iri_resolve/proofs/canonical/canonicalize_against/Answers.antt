@@ -1,11 +1,11 @@
 use Rattle.std.proofs.Common.{◌∙◌, ap}
 use Rattle.iri_grammar.specs.Split.{split_of}
 use Rattle.iri_types.specs.SplitText.{split_text}
-use Rattle.iri_resolve.specs.NormalForm.{canonical}
+use Rattle.iri_resolve.specs.NormalForm.{canonical_in}
 use Rattle.iri_resolve.specs.NormalizedText.{written}
 use Rattle.iri_resolve.specs.Resolver.{base_text}
 use Rattle.iri_resolve.specs.Target.{takes_base_path}
-use Rattle.iri_resolve.proofs.ModeLemmas.{made-normal, written-canonical}
+use Rattle.iri_resolve.proofs.ModeLemmas.{made-normal_in, written-canonical_in}
 use Rattle.iri_resolve.proofs.canonical.canonicalize_against.Goals as goal
 
 pub returns-in-Ok-try_to_dedicated_string : goal.returns-in-Ok-try_to_dedicated_string
@@ -15,7 +15,7 @@ returns-in-Ok-try_to_dedicated_string g c =
     let r = split_text c.in-Ok.reference in (
       c.in-Ok.ensures.fault,
       c.in-Ok-try_to_dedicated_string.ensures
-          ∙ (written-canonical s b r (takes_base_path (split_of r)) (written c.and_normalize.result)
-          (c.and_normalize.ensures ∙ ap made-normal c.resolve_split-target.ensures)
-          ∙ (ap (λ x. canonical s x r) c.new.ensures ∙ ap (canonical s _) c.in-Ok.ensures.text)),
+          ∙ (written-canonical_in s c.args.mode b r (takes_base_path (split_of r)) (written c.and_normalize_in.result)
+          (c.and_normalize_in.ensures ∙ ap (made-normal_in c.args.mode) c.resolve_split-target.ensures)
+          ∙ (ap (λ x. canonical_in s c.args.mode x r) c.new.ensures ∙ ap (canonical_in s c.args.mode _) c.in-Ok.ensures.text)),
     )

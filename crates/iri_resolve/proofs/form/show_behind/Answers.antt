@@ -18,12 +18,12 @@ returns-in_err-put g c =
     let tail = path_in s mode c.args.whole t.authority t.path
     ++ (marked 63 (part_in n (pct s) t.query) ++ marked 35 (part_in n (pct s) t.fragment)) in
     subst (λ x. Shows g.W.TextSink.puts g.W.TextSink.halts g.W.TextSink.stops c.args.sink.now x c.put.new.self c.from_residual.result)
-    (prefix-form s mode c.args.whole t c.args.prefix.now c.requires.prefix)
+    (prefix-form s mode c.args.whole t c.args.prefix.now c.requires.mode c.requires.prefix)
     (shows_exit g.met.W.TextSink.rules tail c.from_residual.ensures.0 c.in_err-put.ensures)
 
 pub returns : goal.returns
 returns g c =
     let t = slices c.args.target.now in
     subst (λ x. Shows g.W.TextSink.puts g.W.TextSink.halts g.W.TextSink.stops c.args.sink.now x c.show_from_path.new.sink c.show_from_path.result)
-    (prefix-form g.S.Spec.tests c.args.mode c.args.whole t c.args.prefix.now c.requires.prefix)
+    (prefix-form g.S.Spec.tests c.args.mode c.args.whole t c.args.prefix.now c.requires.mode c.requires.prefix)
     (shows_then g.met.W.TextSink.rules c.in_ok-put.ensures c.show_from_path.ensures)

@@ -1,7 +1,7 @@
 use Rattle.iri_grammar.specs.Components.{is_query, is_fragment}
 use Rattle.iri_grammar.specs.OptionalSlices.{now_of}
 use Rattle.iri_percent.proofs.WholeLaws.{query-whole, fragment-whole}
-use Rattle.iri_resolve.proofs.NormalLemmas.{part_whole}
+use Rattle.iri_percent.proofs.Authorities.{part_whole}
 use Rattle.iri_resolve.proofs.form.show_tail.Goals as goal
 
 pub show_marked-requires-clause-part : goal.show_marked-requires-clause-part

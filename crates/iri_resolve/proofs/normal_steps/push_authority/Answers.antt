@@ -8,7 +8,7 @@ use Rattle.iri_percent.proofs.WholeLaws.{userinfo-whole}
 use Rattle.iri_percent.proofs.MapKinds.{authority-reads as reads}
 use Rattle.iri_resolve.specs.inside.NormalSteps.{UserinfoLed, HostLed, PortLed}
 use Rattle.iri_resolve.proofs.NormalStepLemmas.{authority-led}
-use Rattle.iri_resolve.proofs.NormalLemmas.{part_whole}
+use Rattle.iri_percent.proofs.Authorities.{part_whole}
 use Rattle.iri_resolve.proofs.normal_steps.push_authority.Goals as goal
 
 pub push_userinfo-requires : goal.push_userinfo-requires

@@ -2,9 +2,9 @@ use Rattle.std.proofs.Common.{◌≡◌, true, sym, subst}
 use Rattle.iri_grammar.specs.Components.{if_there, is_userinfo}
 use Rattle.iri_grammar.specs.Spans.{span_parts}
 use Rattle.iri_percent.specs.Units.{whole_triplets}
+use Rattle.iri_percent.proofs.Authorities.{part_whole}
 use Rattle.iri_percent.proofs.WholeLaws.{userinfo-whole}
-use Rattle.iri_resolve.proofs.NormalLemmas.{part_whole}
-use Rattle.iri_resolve.proofs.form.show_span.Goals as goal
+use Rattle.iri_percent.proofs.authority.show_span.Goals as goal
 
 pub show_userinfo-requires : goal.show_userinfo-requires
 show_userinfo-requires g c =

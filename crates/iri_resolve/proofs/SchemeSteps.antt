@@ -1,0 +1,417 @@
+-- Steps of either mode keep the parts valid, and their normal form, and lead to it.
+use Rattle.std.proofs.Common.{◌≡◌, ◌≢◌, ◌↔◌, ℕ, Bool, true, false, cond, ◌&&◌, ◌||◌, List, [], ◌∷◌, ◌++◌, Option, Some, None, refl, sym}
+use Rattle.std.proofs.Common.{◌∙◌, ap, subst, append-nil}
+use Rattle.std.specs.Prelude.{IsSome, is_some, codes}
+use Rattle.std.specs.Str.{bytes_eq, str_eq_ignore_ascii_case}
+use Rattle.iri_grammar.specs.Authority.{AuthorityParts, FitsAuthority, authority_parts, is_authority, recompose_authority}
+use Rattle.iri_grammar.specs.Classes.{Tests, IsSpec, path_char}
+use Rattle.iri_grammar.specs.Components.{if_there}
+use Rattle.iri_grammar.specs.Parts.{Parts, Fits, path_rules, recompose, is_empty, starts_with_slash}
+use Rattle.iri_grammar.proofs.AuthorityLaws.{authority_recomposed, reading_is, passes}
+use Rattle.iri_grammar.proofs.SplitUnique.{one_split}
+use Rattle.iri_percent.specs.NormalHost.{is_dropped, normal_authority, normal_authority_in, normal_authority_parts, normal_authority_parts_in}
+use Rattle.iri_percent.specs.NormalHost.{normal_port, normal_port_in, normal_userinfo, normal_host}
+use Rattle.iri_percent.specs.SchemeRules.{default_port, dropped_port, is_either}
+use Rattle.iri_percent.specs.declared.canon_mode.CanonMode.{CanonMode}
+use Rattle.iri_percent.specs.declared.canon_mode.CanonMode.TheVariants.{Default, Scheme}
+use Rattle.iri_percent.proofs.Authorities.{authority_in}
+use Rattle.iri_percent.proofs.MapKinds.{authority-reads as reads}
+use Rattle.iri_resolve.specs.LowerCase.{lowered, where_there}
+use Rattle.iri_resolve.specs.Modes.{mode_of}
+use Rattle.iri_resolve.specs.NormalForm.{becomes_slash, form, normal_form, normal_form_in, normal_path, slash_or}
+use Rattle.iri_resolve.specs.Steps.{in_part, onward, placed, replayed, replayed_in, step, step_in, with_slash, without_dropped_port, Joined, JoinedIn}
+use Rattle.iri_resolve.specs.inside.NormalSteps.{has_port, is_port_dropped, port_steps, slash_steps}
+use Rattle.iri_resolve.specs.declared.step.Step.{Step}
+use Rattle.iri_resolve.specs.declared.step.Step.TheVariants.{SchemeLetter, HostLetter, HexDigit, Decode, EmptyPort, Dots, DefaultPort, SlashPath}
+use Rattle.iri_resolve.proofs.AuthorityForm.{normal-parts}
+use Rattle.iri_resolve.proofs.AuthoritySteps.{placed-is, in_part-is}
+use Rattle.iri_resolve.proofs.Confluence.{normal-leads}
+use Rattle.iri_resolve.proofs.FormLaws.{form-fits}
+use Rattle.iri_resolve.proofs.Leads.{replayed_in-append}
+use Rattle.iri_resolve.proofs.SchemeForm.{by_scheme, dropped-lowered, form-by_scheme, kept_port, normal-slash, normal_in-fits, one-form, slash-normal, without}
+use Rattle.iri_resolve.proofs.StepsKept.{Kept, Valid, authority-rules, no_default_port, step-kept}
+use Rattle.iri_resolve.proofs.TargetLaws.{slash_in_path}
+use Rattle.iri_resolve.proofs.TextLaws.{slash_over}
+
+-- u is valid, has a scheme, and has the normal form of t in the mode
+pub record KeptIn (s : Tests) (m : CanonMode) (t u : Parts) : Type 0 where
+  pub fits : Fits s u
+  pub scheme : IsSome u.scheme
+  pub form : normal_form_in s m u ≡ normal_form_in s m t
+
+kept_in : (s : Tests) (m : CanonMode) (t u : Parts) → IsSpec s → Valid s t → Kept s t u → KeptIn s m t u
+kept_in s m t u k v h = record { fits = h.fits; scheme = h.scheme; form = one-form s m u t k h.fits v.fits h.form }
+
+-- ---- the port that is dropped
+port-gone : (d : Option (List ℕ)) (o : Option (List ℕ)) → is_port_dropped d o ≡ true → normal_port_in d o ≡ None
+port-gone d None h = refl
+port-gone d (Some []) h = refl
+port-gone d (Some (x ∷ xs)) h = rw h refl
+
+without-fits : (s : Tests) (p : AuthorityParts) → FitsAuthority s p → FitsAuthority s (record p { port = None })
+without-fits s p f = record { userinfo = f.userinfo; host = f.host; port = refl }
+
+-- what is read of an authority without its port, and its normal form
+without-kept : (s : Tests) (d : Option (List ℕ)) (a : List ℕ) → IsSpec s → is_authority s a ≡ true
+    → is_port_dropped d (authority_parts a).port ≡ true
+    → (is_authority s (recompose_authority (record (authority_parts a) { port = None })) ≡ true)
+    × (normal_authority_in s d (recompose_authority (record (authority_parts a) { port = None })) ≡ normal_authority_in s d a)
+without-kept s d a k h g =
+    let p = authority_parts a in
+    let q : AuthorityParts = record p { port = None } in
+    let f = without-fits s p (reads s a k h) in
+    let e : authority_parts (recompose_authority q) ≡ q = reading_is s k (recompose_authority q) q (f, refl) in
+    let same : normal_authority_parts_in s d q ≡ normal_authority_parts_in s d p =
+    ap (λ o. record (normal_authority_parts_in s d p) { port = o }) (sym (port-gone d p.port g)) in (
+      passes s k (recompose_authority q) q (f, refl),
+      sym (authority_in s d (recompose_authority q) q (sym e)) ∙ (ap recompose_authority same ∙ authority_in s d a p refl),
+    )
+
+-- what a step that drops a port gives
+port-dropped : (d : Option (List ℕ)) (p : AuthorityParts) (o : Option (List ℕ)) (b : List ℕ) → without_dropped_port d p o ≡ Some b
+    → (is_port_dropped d o ≡ true) × (recompose_authority (record p { port = None }) ≡ b)
+port-dropped d p None b h = cc
+port-dropped d p (Some x) b h =
+    elim (is_dropped d x) as (λ v. cond v (Some (recompose_authority (record p { port = None }))) None ≡ Some b
+    → (v ≡ true) × (recompose_authority (record p { port = None }) ≡ b)) [ true ↦ λ k. (refl, cc) | false ↦ λ k. cc ] h
+
+still-stands : (d : Option (List ℕ)) (a b p : List ℕ) → becomes_slash d (Some a) p ≡ becomes_slash d (Some b) p
+still-stands None a b p = refl
+still-stands (Some d) a b p = refl
+
+still-path : (s : Tests) (a b p : List ℕ) → normal_path s (Some a) p ≡ normal_path s (Some b) p
+unfolding normal_path
+still-path s a b p = refl
+
+default_port-kept : (s : Tests) (t : Parts) (a b : List ℕ) → IsSpec s → Valid s t → t.authority ≡ Some a
+    → without_dropped_port (dropped_port Scheme t.scheme) (authority_parts a) (authority_parts a).port ≡ Some b
+    → KeptIn s Scheme t (record t { authority = Some b })
+unfolding form
+default_port-kept s t a b k v e h =
+    let d = dropped_port Scheme t.scheme in
+    let old : is_authority s a ≡ true = ap (if_there (is_authority s)) (sym e) ∙ v.fits.authority in
+    let r = port-dropped d (authority_parts a) (authority_parts a).port b h in
+    let kept = without-kept s d a k old r.0 in
+    let new : is_authority s b ≡ true = subst (λ z. is_authority s z ≡ true) r.1 kept.0 in
+    let same : normal_authority_in s d b ≡ normal_authority_in s d a = ap (normal_authority_in s d) (sym r.1) ∙ kept.1 in
+    record {
+      fits = record {
+        scheme = v.fits.scheme;
+        authority = new;
+        path = v.fits.path;
+        query = v.fits.query;
+        fragment = v.fits.fragment;
+        rules = authority-rules t.scheme a b t.path (ap (λ o. path_rules t.scheme o t.path) (sym e) ∙ v.fits.rules);
+      };
+      scheme = v.scheme;
+      form = rw (e, same, still-stands d b a t.path, still-path s b a t.path) refl;
+    }
+
+-- ---- the empty path
+slash-given : (d : Option (List ℕ)) (t : Parts) (p : List ℕ) → with_slash d t ≡ Some p
+    → (becomes_slash d t.authority t.path ≡ true) × (p ≡ 47 ∷ [])
+slash-given d t p h =
+    elim (becomes_slash d t.authority t.path) as (λ b. cond b (Some (47 ∷ [])) None ≡ Some p → (b ≡ true) × (p ≡ 47 ∷ [])) [
+      | true ↦ λ k. (refl, cc)
+      | false ↦ λ k. cc
+    ] h
+
+slash-stands : (d a : Option (List ℕ)) (p : List ℕ) → becomes_slash d a p ≡ true → (z : List ℕ) × (a ≡ Some z)
+slash-stands None a p h = cc
+slash-stands (Some d) None p h = cc
+slash-stands (Some d) (Some z) p h = (z, refl)
+
+not-empty : (d a : Option (List ℕ)) → becomes_slash d a (47 ∷ []) ≡ false
+not-empty None a = refl
+not-empty (Some d) None = refl
+not-empty (Some d) (Some z) = refl
+
+slash-kept : (s : Tests) (t : Parts) → IsSpec s → Valid s t → becomes_slash (dropped_port Scheme t.scheme) t.authority t.path ≡ true
+    → KeptIn s Scheme t (record t { path = 47 ∷ [] })
+unfolding form
+slash-kept s t k v h =
+    let d = dropped_port Scheme t.scheme in
+    let z = slash-stands d t.authority t.path h in
+    let normal : normal_path s t.authority (47 ∷ []) ≡ 47 ∷ [] = ap (λ a. normal_path s a (47 ∷ [])) z.1 ∙ normal-slash s z.0 in
+    record {
+      fits = record {
+        scheme = v.fits.scheme;
+        authority = v.fits.authority;
+        path = slash_over (path_char s) (slash_in_path s);
+        query = v.fits.query;
+        fragment = v.fits.fragment;
+        rules = ap (λ a. path_rules t.scheme a (47 ∷ [])) z.1;
+      };
+      scheme = v.scheme;
+      form = rw (h, not-empty d t.authority, normal) refl;
+    }
+
+-- ---- each step
+-- the steps of every scheme are steps of each mode
+pub step-in : (s : Tests) (m : CanonMode) (t u : Parts) (x : Step) → step s t x ≡ Some u → step_in s m t x ≡ Some u
+unfolding step_in
+step-in s m t u (SchemeLetter i) h = h
+step-in s m t u (HostLetter i) h = h
+step-in s m t u (HexDigit part i) h = h
+step-in s m t u (Decode part i) h = h
+step-in s m t u EmptyPort h = h
+step-in s m t u Dots h = h
+step-in s m t u DefaultPort h = absurd (no_default_port s t u h)
+step-in s m t u SlashPath h = cc
+
+pub step_in-kept : (s : Tests) (m : CanonMode) (t u : Parts) (x : Step) → IsSpec s → Valid s t → step_in s m t x ≡ Some u → KeptIn s m t u
+unfolding step_in
+step_in-kept s Default t u x k v h = kept_in s Default t u k v (step-kept s t u x k v h)
+step_in-kept s Scheme t u DefaultPort k v h =
+    let change : List ℕ → Option (List ℕ) = λ a. without_dropped_port (dropped_port Scheme t.scheme) (authority_parts a) (authority_parts a).port in
+    let r = placed-is (λ a. record t { authority = Some a }) (in_part change t.authority) u h in
+    let q = in_part-is change t.authority r.0 r.1 in
+    subst (λ z. KeptIn s Scheme t z) r.2 (default_port-kept s t q.0 r.0 k v q.1 q.2)
+step_in-kept s Scheme t u SlashPath k v h =
+    let r = placed-is (λ p. record t { path = p }) (with_slash (dropped_port Scheme t.scheme) t) u h in
+    let q = slash-given (dropped_port Scheme t.scheme) t r.0 r.1 in
+    subst (λ z. KeptIn s Scheme t z) (ap (λ p. record t { path = p }) (sym q.1) ∙ r.2) (slash-kept s t k v q.0)
+step_in-kept s Scheme t u (SchemeLetter i) k v h = kept_in s Scheme t u k v (step-kept s t u (SchemeLetter i) k v h)
+step_in-kept s Scheme t u (HostLetter i) k v h = kept_in s Scheme t u k v (step-kept s t u (HostLetter i) k v h)
+step_in-kept s Scheme t u (HexDigit part i) k v h = kept_in s Scheme t u k v (step-kept s t u (HexDigit part i) k v h)
+step_in-kept s Scheme t u (Decode part i) k v h = kept_in s Scheme t u k v (step-kept s t u (Decode part i) k v h)
+step_in-kept s Scheme t u EmptyPort k v h = kept_in s Scheme t u k v (step-kept s t u EmptyPort k v h)
+step_in-kept s Scheme t u Dots k v h = kept_in s Scheme t u k v (step-kept s t u Dots k v h)
+
+-- ---- lists of steps
+pub valid_in : (s : Tests) (m : CanonMode) (t u : Parts) → KeptIn s m t u → Valid s u
+valid_in s m t u k = record { fits = k.fits; scheme = k.scheme }
+
+pub replayed_in-kept : (s : Tests) (m : CanonMode) (t u : Parts) (l : List Step) → IsSpec s → Valid s t → replayed_in s m t l ≡ Some u
+    → KeptIn s m t u
+unfolding replayed_in
+replayed_in-kept s m t u [] k v h = let same : t ≡ u = cc in
+    subst (λ z. KeptIn s m t z) same (record { fits = v.fits; scheme = v.scheme; form = refl })
+replayed_in-kept s m t u (x ∷ xs) k v h = at (step_in s m t x) refl h (λ w o j. replayed_in-kept s m w u xs k o j)
+  where
+    at : (o : Option Parts) → step_in s m t x ≡ o → onward o (λ w. replayed_in s m w xs) ≡ Some u
+        → ((w : Parts) → Valid s w → replayed_in s m w xs ≡ Some u → KeptIn s m w u) → KeptIn s m t u
+    at None e j go = cc
+    at (Some w) e j go =
+        let one = step_in-kept s m t w x k v e in
+        let rest = go w (valid_in s m t w one) j in
+        record { fits = rest.fits; scheme = rest.scheme; form = rest.form ∙ one.form }
+
+pub replayed-in : (s : Tests) (m : CanonMode) (t u : Parts) (l : List Step) → replayed s t l ≡ Some u → replayed_in s m t l ≡ Some u
+unfolding replayed_in
+replayed-in s m t u [] h = h
+replayed-in s m t u (x ∷ xs) h = at (step s t x) refl h (λ w j. replayed-in s m w u xs j)
+  where
+    at : (o : Option Parts) → step s t x ≡ o → onward o (λ w. replayed s w xs) ≡ Some u
+        → ((w : Parts) → replayed s w xs ≡ Some u → replayed_in s m w xs ≡ Some u)
+        → onward (step_in s m t x) (λ w. replayed_in s m w xs) ≡ Some u
+    at None e j go = cc
+    at (Some w) e j go = ap (λ o. onward o (λ w. replayed_in s m w xs)) (step-in s m t w x e) ∙ go w j
+
+-- ---- to the normal form
+one-step : (s : Tests) (m : CanonMode) (t u : Parts) (x : Step) → step_in s m t x ≡ Some u → replayed_in s m t (x ∷ []) ≡ Some u
+unfolding replayed_in
+one-step s m t u x h = ap (λ o. onward o (λ v. Some v)) h
+
+no-step : (s : Tests) (m : CanonMode) (t : Parts) → replayed_in s m t [] ≡ Some t
+unfolding replayed_in
+no-step s m t = refl
+
+-- a default port isn't empty
+port-some : (x : List ℕ) → default_port x ≢ Some []
+unfolding default_port
+port-some x h = at (is_either x (codes "http") (codes "ws")) (is_either x (codes "https") (codes "wss"))
+    (str_eq_ignore_ascii_case x (codes "ftp")) h
+  where
+    at : (a b c : Bool) → cond a (Some (codes "80")) (cond b (Some (codes "443")) (cond c (Some (codes "21")) None)) ≡ Some [] → ⊥
+    at true b c j = cc
+    at false true c j = cc
+    at false false true j = cc
+    at false false false j = cc
+
+dropped-some : (o : Option (List ℕ)) → dropped_port Scheme o ≢ Some []
+dropped-some None h = cc
+dropped-some (Some x) h = port-some x h
+
+port-normal : (d o : Option (List ℕ)) → d ≢ Some [] → is_port_dropped d (normal_port o) ≡ is_port_dropped d o
+port-normal d None n = refl
+port-normal None (Some []) n = refl
+port-normal (Some []) (Some []) n = absurd (n refl)
+port-normal (Some (y ∷ ys)) (Some []) n = refl
+port-normal d (Some (x ∷ xs)) n = refl
+
+-- an authority has the port that is dropped exactly where its normal form has it
+has_port-normal : (s : Tests) (d o : Option (List ℕ)) → IsSpec s → d ≢ Some [] → if_there (is_authority s) o ≡ true
+    → has_port d (where_there (normal_authority s) o) ≡ has_port d o
+has_port-normal s d None k n h = refl
+has_port-normal s d (Some a) k n h =
+    ap (λ p. is_port_dropped d p.port) (normal-parts s None a k h) ∙ port-normal d (authority_parts a).port n
+
+port-stays : (d : List ℕ) (o : Option (List ℕ)) → is_port_dropped (Some d) o ≡ false → kept_port d o ≡ o
+port-stays d None h = refl
+port-stays d (Some p) h = rw h refl
+
+port-goes : (d : List ℕ) (o : Option (List ℕ)) → is_port_dropped (Some d) o ≡ true → kept_port d o ≡ None
+port-goes d None h = cc
+port-goes d (Some p) h = rw h refl
+
+without-same : (d o : Option (List ℕ)) → has_port d o ≡ false → where_there (without d) o ≡ o
+without-same d None h = refl
+without-same None (Some a) h = refl
+without-same (Some d) (Some a) h =
+    let p = authority_parts a in
+    ap Some (ap (λ z. recompose_authority (record p { port = z })) (port-stays d p.port h) ∙ authority_recomposed a)
+
+without-other : (d : Option (List ℕ)) (a : List ℕ) → has_port d (Some a) ≡ true
+    → without d a ≡ recompose_authority (record (authority_parts a) { port = None })
+without-other None a h = absurd (never (authority_parts a).port h)
+  where
+    never : (o : Option (List ℕ)) → is_port_dropped None o ≡ true → ⊥
+    never None k = cc
+    never (Some p) k = cc
+without-other (Some d) a h =
+    let p = authority_parts a in ap (λ z. recompose_authority (record p { port = z })) (port-goes d p.port h)
+
+dropped-is : (d : Option (List ℕ)) (p : AuthorityParts) (o : Option (List ℕ)) → is_port_dropped d o ≡ true
+    → without_dropped_port d p o ≡ Some (recompose_authority (record p { port = None }))
+dropped-is d p None h = cc
+dropped-is d p (Some x) h = rw h refl
+
+abbrev without_port_of : Parts → Parts
+without_port_of t = record t { authority = where_there (without (dropped_port Scheme t.scheme)) t.authority }
+
+port-led : (s : Tests) (t : Parts) (o : Option (List ℕ)) (b : Bool) → t.authority ≡ o → has_port (dropped_port Scheme t.scheme) o ≡ b
+    → replayed_in s Scheme t (port_steps b) ≡ Some (without_port_of t)
+unfolding step_in
+port-led s t o false e h =
+    let d = dropped_port Scheme t.scheme in
+    let same : where_there (without d) t.authority ≡ t.authority = without-same d t.authority (ap (has_port d) e ∙ h) in
+    no-step s Scheme t ∙ ap (λ z. Some (record t { authority = z })) (sym same)
+port-led s t None true e h = cc
+port-led s t (Some a) true e h =
+    let d = dropped_port Scheme t.scheme in
+    let p = authority_parts a in
+    let change : List ℕ → Option (List ℕ) = λ a. without_dropped_port d (authority_parts a) (authority_parts a).port in
+    let put : List ℕ → Parts = λ a. record t { authority = Some a } in
+    let new : where_there (without d) t.authority ≡ Some (recompose_authority (record p { port = None })) =
+    ap (where_there (without d)) e ∙ ap Some (without-other d a h) in
+    one-step s Scheme t (without_port_of t) DefaultPort
+    (ap (λ z. placed put (in_part change z)) e ∙ (ap (placed put) (dropped-is d p p.port h)
+    ∙ ap (λ z. Some (record t { authority = z })) (sym new)))
+
+stands-on : (d a : Option (List ℕ)) (f : List ℕ → List ℕ) (p : List ℕ) → becomes_slash d (where_there f a) p ≡ becomes_slash d a p
+stands-on None a f p = refl
+stands-on (Some d) None f p = refl
+stands-on (Some d) (Some z) f p = refl
+
+slash-led : (s : Tests) (t : Parts) (b : Bool) → becomes_slash (dropped_port Scheme t.scheme) t.authority t.path ≡ b
+    → replayed_in s Scheme t (slash_steps b) ≡ Some (record t { path = slash_or b t.path })
+unfolding step_in
+slash-led s t false h = no-step s Scheme t
+slash-led s t true h = one-step s Scheme t (record t { path = 47 ∷ [] }) SlashPath
+    (ap (λ b. placed (λ p. record t { path = p }) (cond b (Some (47 ∷ [])) None)) h)
+
+by_scheme-led : (s : Tests) (t : Parts) → replayed_in s Scheme t (port_steps (has_port (dropped_port Scheme t.scheme) t.authority)
+    ++ slash_steps (becomes_slash (dropped_port Scheme t.scheme) t.authority t.path)) ≡ Some (by_scheme t)
+by_scheme-led s t =
+    let d = dropped_port Scheme t.scheme in
+    let b = becomes_slash d t.authority t.path in
+    replayed_in-append s Scheme t (without_port_of t) (port_steps (has_port d t.authority)) (slash_steps b)
+    (port-led s t t.authority (has_port d t.authority) refl refl)
+    ∙ slash-led s (without_port_of t) b (stands-on d t.authority (without d) t.path)
+
+-- a normal form is a form
+pub form-in : (s : Tests) (m : CanonMode) (t : Parts) → normal_form_in s m t ≡ form s (mode_of m) false t
+unfolding normal_form
+form-in s Default t = refl
+form-in s Scheme t = refl
+
+abbrev pub scheme_steps_of : CanonMode → Parts → List Step
+scheme_steps_of m t = port_steps (has_port (dropped_port m t.scheme) t.authority)
+    ++ slash_steps (becomes_slash (dropped_port m t.scheme) t.authority t.path)
+
+nothing-more : (t : Parts) → scheme_steps_of Default t ≡ []
+nothing-more t = ap (λ b. port_steps b ++ []) (none t.authority)
+  where
+    none-here : (o : Option (List ℕ)) → is_port_dropped None o ≡ false
+    none-here None = refl
+    none-here (Some p) = refl
+
+    none : (o : Option (List ℕ)) → has_port None o ≡ false
+    none None = refl
+    none (Some a) = none-here (authority_parts a).port
+
+normal-scheme : (s : Tests) (t : Parts) → (normal_form s t).scheme ≡ where_there lowered t.scheme
+unfolding normal_form form
+normal-scheme s t = refl
+
+normal-authority : (s : Tests) (t : Parts) → (normal_form s t).authority ≡ where_there (normal_authority s) t.authority
+unfolding normal_form form
+normal-authority s t = refl
+
+normal-path : (s : Tests) (t : Parts) → (normal_form s t).path ≡ normal_path s t.authority t.path
+unfolding normal_form form
+normal-path s t = refl
+
+-- the steps of scheme rules are those of the normal form
+steps-normal : (s : Tests) (t : Parts) → IsSpec s → Fits s t → scheme_steps_of Scheme (normal_form s t) ≡ scheme_steps_of Scheme t
+steps-normal s t k f =
+    let d = dropped_port Scheme t.scheme in
+    rw (
+      normal-scheme s t,
+      normal-authority s t,
+      normal-path s t,
+      dropped-lowered t.scheme,
+      has_port-normal s d t.authority k (dropped-some t.scheme) f.authority,
+      slash-normal s (normal_authority s) t.scheme d t.authority t.path f.rules,
+    )
+    refl
+
+pub led-on : (s : Tests) (m : CanonMode) (t : Parts) (l : List Step) → IsSpec s → Fits s t → replayed s t l ≡ Some (normal_form s t)
+    → replayed_in s m t (l ++ scheme_steps_of m t) ≡ Some (normal_form_in s m t)
+led-on s Default t l k f h = ap (λ z. replayed_in s Default t (l ++ z)) (nothing-more t) ∙ (ap (replayed_in s Default t) (append-nil l) ∙ h)
+led-on s Scheme t l k f h =
+    replayed_in-append s Scheme t (normal_form s t) l (scheme_steps_of Scheme t) (replayed-in s Scheme t (normal_form s t) l h)
+    ∙ (ap (replayed_in s Scheme (normal_form s t)) (sym (steps-normal s t k f))
+    ∙ (by_scheme-led s (normal_form s t) ∙ ap Some (form-by_scheme s t k f)))
+
+pub normal_in-leads : (s : Tests) (m : CanonMode) (t : Parts) → IsSpec s → Fits s t
+    → (l : List Step) × (replayed_in s m t l ≡ Some (normal_form_in s m t))
+normal_in-leads s m t k f = let l = normal-leads s t k f in (l.0 ++ scheme_steps_of m t, led-on s m t l.0 k f l.1)
+
+-- ---- steps join what has one normal form
+joined_in-form : (s : Tests) (m : CanonMode) (t u : Parts) → IsSpec s → Valid s t → Valid s u → JoinedIn s m t u
+    → normal_form_in s m t ≡ normal_form_in s m u
+joined_in-form s m t u k v w j = sym (replayed_in-kept s m t j.2 j.0 k v j.3).form ∙ (replayed_in-kept s m u j.2 j.1 k w j.4).form
+
+form_in-joined : (s : Tests) (m : CanonMode) (t u : Parts) → IsSpec s → Fits s t → Fits s u
+    → normal_form_in s m t ≡ normal_form_in s m u → JoinedIn s m t u
+form_in-joined s m t u k f g e =
+    let l = normal_in-leads s m t k f in
+    let n = normal_in-leads s m u k g in
+    (l.0, n.0, normal_form_in s m t, l.1, n.1 ∙ ap Some (sym e))
+
+pub joined_in-exactly : (s : Tests) (m : CanonMode) (t u : Parts) → IsSpec s → Fits s t → IsSome t.scheme → Fits s u → IsSome u.scheme
+    → JoinedIn s m t u ↔ (normal_form_in s m t ≡ normal_form_in s m u)
+joined_in-exactly s m t u k f i g j = (
+  λ h. joined_in-form s m t u k (record { fits = f; scheme = i }) (record { fits = g; scheme = j }) h,
+  λ e. form_in-joined s m t u k f g e,
+)
+
+-- that is where their canonical texts are equal
+pub texts_in-exactly : (s : Tests) (m : CanonMode) (t u : Parts) → IsSpec s → Fits s t → IsSome t.scheme → Fits s u → IsSome u.scheme
+    → (recompose (normal_form_in s m t) ≡ recompose (normal_form_in s m u)) ↔ (normal_form_in s m t ≡ normal_form_in s m u)
+texts_in-exactly s m t u k f i g j = (
+  λ e. one_split s k (recompose (normal_form_in s m u)) (normal_form_in s m t) (normal_form_in s m u)
+      (record { fits = (normal_in-fits s m t k f i).0; text = e }) (record { fits = (normal_in-fits s m u k g j).0; text = refl }),
+  λ e. ap recompose e,
+)
+
+-- ---- by the rules of every scheme
+pub joined-exactly : (s : Tests) (t u : Parts) → IsSpec s → Fits s t → IsSome t.scheme → Fits s u → IsSome u.scheme
+    → Joined s t u ↔ (normal_form s t ≡ normal_form s u)
+joined-exactly s t u k f i g j = joined_in-exactly s Default t u k f i g j
+
+pub texts-exactly : (s : Tests) (t u : Parts) → IsSpec s → Fits s t → IsSome t.scheme → Fits s u → IsSome u.scheme
+    → (recompose (normal_form s t) ≡ recompose (normal_form s u)) ↔ (normal_form s t ≡ normal_form s u)
+texts-exactly s t u k f i g j = texts_in-exactly s Default t u k f i g j

@@ -1,0 +1,6 @@
+use Rattle.std.proofs.Common.{◌≡◌, Some, take}
+use Rattle.iri_resolve.specs.Steps.{replayed_in}
+use Rattle.iri_resolve.proofs.replay.replay_in.Given as goal
+
+abbrev pub invariant-loop-k : goal.invariant-loop-k
+invariant-loop-k g l = replayed_in g.S.Spec.tests l.mode l.target (take l.k l.steps) ≡ Some l.reached
