@@ -15,7 +15,7 @@
  *   IRIKIT_BAD_..             the kind of the first fault from the left, one of irikit_fault
  *   IRIKIT_NOT_NORMAL, IRIKIT_UNKNOWN   0
  *
- * A text that is written stands at the front of `out`, and what lies behind it stays as it was. Where it is longer than `size`,
+ * A text that is written stands at the start of `out`, and what lies behind it stays as it was. Where it is longer than `size`,
  * `out` holds its first `size` bytes, the status is IRIKIT_SHORT, and `told` is the size that is wanted: so a call with size 0
  * measures. At every other status `out` stays as it was.
  */

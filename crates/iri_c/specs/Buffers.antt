@@ -1,4 +1,4 @@
--- A text written over the front of a buffer.
+-- A text written over the start of a buffer.
 use Rattle.std.specs.Prelude.{ℕ, List, [], ◌∷◌}
 
 -- the bytes of the text, and behind them what stood there; what the buffer has no room for is cut off

@@ -10,7 +10,7 @@ pub data Outcome : Type 0 where
   fault : (status : ℕ) (kind : ErrorKind) → Outcome
   plain : (status : ℕ) → Outcome
 
--- A text is written over the front of the buffer as far as there is room, and its length in bytes is told, up to 2^64 - 1; a fault
+-- A text is written over the start of the buffer as far as there is room, and its length in bytes is told, up to 2^64 - 1; a fault
 -- is told by its number. Where there is no text the buffer stays as it was.
 abbrev pub Answered : Outcome → List ℕ → List ℕ → ℕ → ℕ → Type 0
 Answered (text t) old new told status =

@@ -1,4 +1,4 @@
-// A text written over the front of the caller's buffer.
+// A text written over the start of the caller's buffer.
 ghost use Rattle.std.specs.Prelude.{◌≡◌, ◌^◌, ◌-◌, min, length};
 ghost use Rattle.iri_c.specs.Buffers.{over};
 ghost use Rattle.iri_c.specs.Outcome.{Answered};
@@ -76,7 +76,7 @@ impl<'b> TextSink for BufferSink<'b> {
     }
 }
 
-/// Writes the text of a value over the front of a buffer, as far as there is room, and says how many bytes the whole text has.
+/// Writes the text of a value over the start of a buffer, as far as there is room, and says how many bytes the whole text has.
 #[tactic(auto, using(crate::specs::inside::PlacedLaws::over_at_start))]
 pub fn write_text<T: Show>(buf: &mut [u8], value: &T) -> usize
     ensures bytes { buf.new ≡ over (T.text value.now) buf.old }
@@ -89,7 +89,7 @@ pub fn write_text<T: Show>(buf: &mut [u8], value: &T) -> usize
     }
 }
 
-/// Writes the text of a value over the front of a buffer as far as there is room, tells how many bytes it has, and returns whether
+/// Writes the text of a value over the start of a buffer as far as there is room, tells how many bytes it has, and returns whether
 /// it had room.
 pub fn answer_text<T: Show>(out: &mut [u8], value: &T, told: &mut usize) -> u8
     ensures { Answered (text (T.text value.now)) out.old out.new told.new result }

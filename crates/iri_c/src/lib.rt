@@ -2,7 +2,7 @@
 //! length. `include/irikit.h` has the declarations and the numbers. Nothing here takes memory or keeps anything.
 //!
 //! Proved: each call answers by its outcome (`Answered`), which is a function of what is passed: an unknown number, the first fault
-//! and whose it is, or a text. A text is written over the front of the caller's buffer as far as there is room, what lies behind it
+//! and whose it is, or a text. A text is written over the start of the caller's buffer as far as there is room, what lies behind it
 //! stays, and its whole length is told; the status says whether it had room. The texts, tests and splits are those of the crates below.
 //!
 //! Not proved: that a caller in C passes what the header asks for.

@@ -7,7 +7,7 @@ use Rattle.iri_grammar.specs.Classes.{is_sub_delim, query_char, is_ascii_query}
 use Rattle.iri_grammar.specs.Components.{is_letter, is_scheme_char}
 use Rattle.iri_grammar.specs.Over.{over_from}
 use Rattle.iri_grammar.specs.Split.{split_of}
-use Rattle.iri_grammar.specs.WholeFault.{front_fault, parts_fault}
+use Rattle.iri_grammar.specs.WholeFault.{fault_before_fragment, parts_fault}
 use Rattle.iri_grammar.specs.declared.error.ErrorKind.TheVariants.{InvalidPath}
 use Rattle.iri_link.specs.Token.{plain, pair, done}
 use Rattle.iri_link.specs.Field.{LinkValue, IsField, last, more, empty as no_element, link as element, link}
@@ -62,19 +62,19 @@ faults : map fault_of (codes "a" ∷ codes "<a" ∷ codes "<a> b" ∷ codes "<a>
     ∷ Some (record { kind = NoParam; place = 4 }) ∷ Some (record { kind = NoValue; place = 6 })
     ∷ Some (record { kind = OpenString; place = 6 }) ∷ Some (record { kind = NoParam; place = 7 })
     ∷ Some (record { kind = NoParam; place = 11 }) ∷ Some (record { kind = NoValue; place = 6 }) ∷ []
-unfolding fault_from closes_from split_of front_fault parts_fault is_letter is_scheme_char is_utf8 chars encode over_from path_char
+unfolding fault_from closes_from split_of fault_before_fragment parts_fault is_letter is_scheme_char is_utf8 chars encode over_from path_char
     is_ascii_path is_ascii_pchar is_ascii_reg_name is_ascii_unreserved is_sub_delim query_char is_ascii_query
 faults = refl
 
 bad_target : fault_of (codes "<%4>") ≡ Some (record { kind = BadTarget (record { kind = InvalidPath }); place = 1 })
-unfolding fault_from closes_from split_of front_fault parts_fault is_letter is_scheme_char is_utf8 chars encode over_from path_char
+unfolding fault_from closes_from split_of fault_before_fragment parts_fault is_letter is_scheme_char is_utf8 chars encode over_from path_char
     is_ascii_path is_ascii_pchar is_ascii_reg_name is_ascii_unreserved is_sub_delim query_char is_ascii_query
 bad_target = refl
 
 no_fault : map fault_of (codes "" ∷ codes " , ," ∷ codes "<a,b>; rel=\"x,y\", <?page=1> ; rel = prev;;"
     ∷ codes "</%7Eu/../x>;REL=up;title=\"a\\\"b\";" ∷ [])
     ≡ None ∷ None ∷ None ∷ None ∷ []
-unfolding fault_from closes_from split_of front_fault parts_fault is_letter is_scheme_char is_utf8 chars encode over_from path_char
+unfolding fault_from closes_from split_of fault_before_fragment parts_fault is_letter is_scheme_char is_utf8 chars encode over_from path_char
     is_ascii_path is_ascii_pchar is_ascii_reg_name is_ascii_unreserved is_sub_delim query_char is_ascii_query
 no_fault = refl
 

@@ -43,7 +43,7 @@ impl Run {
     }
 }
 
-// How many bytes at the front are of the run.
+// How many bytes at the start are of the run.
 fn run_len(run: Run, bytes: &[u8]) -> usize
     ensures { result ≡ run_of (run_test run) bytes.now }
 {
@@ -55,7 +55,7 @@ fn run_len(run: Run, bytes: &[u8]) -> usize
     bytes.len()
 }
 
-/// The run at the front, and what follows it.
+/// The run at the start, and what follows it.
 pub(crate) fn cut_run(run: Run, s: &str) -> (&str, &str)
     ensures { IsRun (run_test run) s.now result.0.now result.1.now }
 {
@@ -72,7 +72,7 @@ fn begins_with(bytes: &[u8], mark: u8) -> bool
     }
 }
 
-/// What follows the mark at the front, where it stands there. The mark must be ASCII.
+/// What follows the mark at the start, where it stands there. The mark must be ASCII.
 pub(crate) fn past(s: &str, mark: u8) -> Option<&str>
     requires { mark < 128 }
     ensures { MatchOption result (begins (λ c. c == mark) s.now ≡ false) (λ r. s.now ≡ mark ∷ r.now) }

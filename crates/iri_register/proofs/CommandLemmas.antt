@@ -2,6 +2,7 @@
 use Rattle.std.proofs.Common.{◌≡◌, ℕ, List, [], ◌∷◌, ◌++◌, Bool, true, false, not, ◌&&◌, cond, fold, bytes_eq, refl, sym, ◌∙◌, ap}
 use Rattle.std.proofs.Common.{append_assoc}
 use Rattle.std.proofs.lemmas.List.{append-nil}
+use mathlib.Core.Bool.{and_assoc}
 use Rattle.iri_register.specs.Entries.{added, removed}
 use Rattle.iri_register.specs.Commands.{Command, Add, Remove, Line, stays, live, entries_of_lines, entries_of_commands, obeyed}
 use Rattle.iri_register.proofs.GroupLemmas.{without_lines, entries_grouped, grouped_after, grouped_without}
@@ -11,10 +12,6 @@ stays_add u t n [] = refl
 stays_add u t n (Add v m ∷ cs) = stays_add u t n cs
 stays_add u t n (Remove v ∷ cs) = ap (λ b. not (bytes_eq v u) && b) (stays_add u t n cs)
 
-and_assoc : (a b c : Bool) → (a && (b && c)) ≡ ((a && b) && c)
-and_assoc true b c = refl
-and_assoc false b c = refl
-
 and_true : (a : Bool) → (a && true) ≡ a
 and_true true = refl
 and_true false = refl
@@ -23,7 +20,7 @@ stays_remove : (u t : List ℕ) (cs : List Command) → stays u (cs ++ Remove t 
 stays_remove u t [] = and_true (not (bytes_eq t u))
 stays_remove u t (Add v m ∷ cs) = stays_remove u t cs
 stays_remove u t (Remove v ∷ cs) = ap (λ b. not (bytes_eq v u) && b) (stays_remove u t cs)
-    ∙ and_assoc (not (bytes_eq v u)) (stays u cs) (not (bytes_eq t u))
+    ∙ sym (and_assoc (not (bytes_eq v u)) (stays u cs) (not (bytes_eq t u)))
 
 cond_append : (b : Bool) (l : Line) (xs ys : List Line) → cond b (l ∷ (xs ++ ys)) (xs ++ ys) ≡ cond b (l ∷ xs) xs ++ ys
 cond_append true l xs ys = refl

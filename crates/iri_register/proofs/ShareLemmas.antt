@@ -8,7 +8,7 @@ use Rattle.iri_grammar.specs.Split.{split_of}
 use Rattle.iri_grammar.proofs.SplitUnique.{split_is}
 use Rattle.iri_resolve.specs.NormalForm.{canonical}
 use Rattle.iri_resolve.specs.Target.{target}
-use Rattle.iri_resolve.proofs.Confluence.{joined-exactly, texts-exactly}
+use Rattle.iri_resolve.proofs.SchemeSteps.{joined-exactly, texts-exactly}
 use Rattle.iri_resolve.proofs.TargetLaws.{target-fits}
 use Rattle.iri_register.specs.Entries.{Entry, place}
 use Rattle.iri_register.specs.Commands.{Command, Line, live, numbers, entries_of_commands}

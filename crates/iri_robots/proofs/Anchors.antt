@@ -28,15 +28,15 @@ filling_fits q s (fill_same c q' s' h f) = same c q' s' h (filling_fits q' s' f)
 longer : (q q' s : List ℕ) (t : List ℕ) → HasFilledPrefix q s → ((u : List ℕ) → IsFilling q u → IsFilling q' (t ++ u))
     → HasFilledPrefix q' (t ++ s)
 longer q q' s t k f = record {
-  front = t ++ k.front;
+  prefix = t ++ k.prefix;
   rest = k.rest;
   split = ap (λ x. t ++ x) k.split
-      ∙ sym (append_assoc t k.front k.rest);
-  filled = f k.front k.filled;
+      ∙ sym (append_assoc t k.prefix k.rest);
+  filled = f k.prefix k.filled;
 }
 
 pub fits_prefix : (q s : List ℕ) → Fits false q s → HasFilledPrefix q s
-fits_prefix q s (ended s' h) = record { front = []; rest = s'; split = refl; filled = nothing }
+fits_prefix q s (ended s' h) = record { prefix = []; rest = s'; split = refl; filled = nothing }
 fits_prefix q s (star t q' s' f) = longer q' (42 ∷ q') s' t (fits_prefix q' s' f) (λ u g. fill_star t q' u g)
 fits_prefix q s (escaped l m q' s' e f) = longer q' (37 ∷ 50 ∷ l ∷ q') s' (m ∷ []) (fits_prefix q' s' f) (λ u g. filled_escape l m q' u e g)
 fits_prefix q s (same c q' s' h f) = longer q' (c ∷ q') s' (c ∷ []) (fits_prefix q' s' f) (λ u g. fill_same c q' u h g)
@@ -50,7 +50,7 @@ front_fits q t r (escaped_dollar q' s' f) = escaped 52 36 q' (s' ++ r) dollar_es
 front_fits q t r (fill_same c q' s' h f) = same c q' (s' ++ r) h (front_fits q' s' r f)
 
 pub prefix_fits : (q s : List ℕ) → HasFilledPrefix q s → Fits false q s
-prefix_fits q s k = let P : List ℕ → Type 0 = λ x. Fits false q x in subst P (sym k.split) (front_fits q k.front k.rest k.filled)
+prefix_fits q s k = let P : List ℕ → Type 0 = λ x. Fits false q x in subst P (sym k.split) (front_fits q k.prefix k.rest k.filled)
 
 -- ---- the `$` at the end
 

@@ -16,6 +16,7 @@ use Rattle.iri_percent.specs.NormalLaws.{decoded, unreserved_only}
 use Rattle.iri_percent.proofs.CaseLaws.{is_decoded}
 use Rattle.iri_percent.proofs.CharLaws.{normal-by_bytes}
 use Rattle.iri_percent.proofs.CharUnits.{units_stray}
+use Rattle.iri_percent.proofs.MapForms.{unreserved_ascii, low_scalar, ascii-decoded, uri-decoded}
 use Rattle.iri_percent.proofs.MapTexts.{mapped-low, mapped-high, mapped-triplet, capital_is_hex, first_digit, second_digit}
 use Rattle.iri_percent.proofs.MapTexts.{octet_of}
 use Rattle.iri_percent.proofs.NormalLaws.{normal_nil, normal_plain, normal_decoded, normal_kept}
@@ -25,37 +26,9 @@ use Rattle.iri_robots.specs.inside.Fronts.{IsFront, written_text}
 use Rattle.iri_robots.specs.declared.compared.Written.TheVariants.{Char, Triplet}
 
 -- ---- what is decoded: the first octet alone tells it
-unreserved_ascii : (c : ℕ) → is_ascii_unreserved c ≡ true → c < 128
-unfolding is_ascii_unreserved
-unreserved_ascii c h = grind (arith, nat_tests)
-
-low_scalar : (c : ℕ) → c < 128 → scalar c ≡ true
-low_scalar c h = grind (arith, nat_tests)
-
-octet_decoded : (o : ℕ) (os : List ℕ) → is_ascii_unreserved o ≡ true → decoded uri_tests (o ∷ os) ≡ Some o
-unfolding unreserved
-octet_decoded o os h =
-    let l = unreserved_ascii o h in
-    let there : first_char (o ∷ os) ≡ Some o = ap (λ z. first_char (z ++ os)) (sym (encode_ascii o l)) ∙ char_first o os (low_scalar o l) in
-    ap (unreserved_only uri_tests) there ∙ (rw h refl)
-
 or_false : (b : Bool) → (b || false) ≡ b
 or_false true = refl
 or_false false = refl
-
-octet_kept : (o : ℕ) (os : List ℕ) → is_ascii_unreserved o ≡ false → decoded uri_tests (o ∷ os) ≡ None
-unfolding unreserved
-octet_kept o os n = at (decoded uri_tests (o ∷ os)) refl
-  where
-    at : (v : Option ℕ) → decoded uri_tests (o ∷ os) ≡ v → v ≡ None
-    at None e = refl
-    at (Some c) e =
-        let d = is_decoded uri_tests (o ∷ os) c e in
-        let free : is_ascii_unreserved c ≡ true = sym (or_false (is_ascii_unreserved c)) ∙ d.1 in
-        let w : o ∷ os ≡ c ∷ d.0.rest = d.0.split ∙ ap (λ z. z ++ d.0.rest) (encode_ascii c (unreserved_ascii c free)) in
-        let same : o ≡ c = cc in
-        let no : true ≡ false = sym free ∙ ap is_ascii_unreserved (sym same) ∙ n in
-        cc
 
 record Decodes (o c : ℕ) : Type 0 where
   same : o ≡ c
@@ -64,14 +37,14 @@ record Decodes (o c : ℕ) : Type 0 where
 decodes : (o : ℕ) (os : List ℕ) (c : ℕ) → decoded uri_tests (o ∷ os) ≡ Some c → Decodes o c
 decodes o os c h =
     elim (is_ascii_unreserved o) as (λ b. is_ascii_unreserved o ≡ b → Decodes o c) [
-      | true ↦ λ e. let k : Some o ≡ Some c = sym (octet_decoded o os e) ∙ h in record { same = cc; free = e }
-      | false ↦ λ e. let k : None ≡ Some c = sym (octet_kept o os e) ∙ h in cc
+      | true ↦ λ e. let k : Some o ≡ Some c = sym (ascii-decoded uri_tests o os e) ∙ h in record { same = cc; free = e }
+      | false ↦ λ e. let k : None ≡ Some c = sym (uri-decoded o os e) ∙ h in cc
     ] refl
 
 keeps : (o : ℕ) (os : List ℕ) → decoded uri_tests (o ∷ os) ≡ None → is_ascii_unreserved o ≡ false
 keeps o os h =
     elim (is_ascii_unreserved o) as (λ b. is_ascii_unreserved o ≡ b → b ≡ false) [
-      | true ↦ λ e. let k : Some o ≡ None = sym (octet_decoded o os e) ∙ h in cc
+      | true ↦ λ e. let k : Some o ≡ None = sym (ascii-decoded uri_tests o os e) ∙ h in cc
       | false ↦ λ e. refl
     ] refl
 
@@ -104,7 +77,7 @@ compared_decoded a b xs p q h =
 kept_form : (a b : ℕ) (xs : List ℕ) → is_ascii_hexdigit a ≡ true → is_ascii_hexdigit b ≡ true → is_ascii_unreserved (octet a b) ≡ false
     → normal uri_tests as_it_is (37 ∷ a ∷ b ∷ xs) ≡ 37 ∷ to_ascii_uppercase a ∷ to_ascii_uppercase b ∷ normal uri_tests as_it_is xs
 kept_form a b xs p q n =
-    normal_kept uri_tests as_it_is a b xs p q (ap (decoded uri_tests) (octets_triplet a b xs p q) ∙ octet_kept (octet a b) (octets xs) n)
+    normal_kept uri_tests as_it_is a b xs p q (ap (decoded uri_tests) (octets_triplet a b xs p q) ∙ uri-decoded (octet a b) (octets xs) n)
 
 compared_kept : (a b : ℕ) (xs : List ℕ) → is_ascii_hexdigit a ≡ true → is_ascii_hexdigit b ≡ true → is_ascii_unreserved (octet a b) ≡ false
     → compared (37 ∷ a ∷ b ∷ xs) ≡ 37 ∷ to_ascii_uppercase a ∷ to_ascii_uppercase b ∷ compared xs

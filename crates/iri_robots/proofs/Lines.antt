@@ -2,6 +2,7 @@
 use Rattle.std.proofs.Common.{◌≡◌, ℕ, Bool, true, false, cond, ◌&&◌, List, [], ◌∷◌, ◌++◌, refl, sym, ◌∙◌, ap}
 use Rattle.std.specs.Str.{IsUtf8, is_utf8}
 use Rattle.std.proofs.lemmas.Str.{IsUtf8-from_is_utf8}
+use Rattle.iri_grammar.proofs.CutLemmas.{false-where}
 use Rattle.iri_robots.specs.FileLines.{is_blank, all_blank, without_end}
 
 and_moved : (a b c d : Bool) → b ≡ c && d → a && b ≡ (a && c) && d
@@ -42,9 +43,5 @@ blank_at_end t xs x e h = ap without_end e ∙ blank_ends xs x h
 pub text_at_end : (t xs : List ℕ) (x : ℕ) → t ≡ xs ++ x ∷ [] → is_blank x ≡ false → without_end t ≡ t
 text_at_end t xs x e h = ap without_end e ∙ text_ends xs x h ∙ sym e
 
-not_true : (b : Bool) → (b ≡ true → ⊥) → b ≡ false
-not_true true h = absurd (h refl)
-not_true false h = refl
-
 pub not_text : (line : List ℕ) → (IsUtf8 line → ⊥) → is_utf8 line ≡ false
-not_text line h = not_true (is_utf8 line) (λ e. h (IsUtf8-from_is_utf8 line e))
+not_text line h = false-where (is_utf8 line) (λ e. h (IsUtf8-from_is_utf8 line e))

@@ -5,7 +5,7 @@ use Rattle.std.specs.Str.{str_eq_ignore_ascii_case}
 use Rattle.iri_robots.specs.declared.rule.Best.{Best}
 use Rattle.iri_robots.specs.Allowed.{IsAmong, first, later}
 use Rattle.iri_robots.specs.inside.BestRule.{IsBestOf}
-use Rattle.iri_robots.specs.Records.{FileRule, FileRecord, UserAgent, Judged, Group, rules_at_front, with_agent, groups, has_agent}
+use Rattle.iri_robots.specs.Records.{FileRule, FileRecord, UserAgent, Judged, Group, leading_rules, with_agent, groups, has_agent}
 use Rattle.iri_robots.specs.Records.{rules_of}
 
 -- the rules from here on: `belongs` says that the last run has the name, `in_run` that its last record came last
@@ -52,11 +52,11 @@ with_more name a b (g ∷ gs) = ap (λ x. cond x g.rules [] ++ rules_of name gs)
     a name) b)
 
 record Reads (name : List ℕ) (rs : List FileRecord) : Type 0 where
-  behind : (b : Bool) → rules_from name b false rs ≡ cond b (rules_at_front rs) [] ++ rules_of name (groups rs)
+  behind : (b : Bool) → rules_from name b false rs ≡ cond b (leading_rules rs) [] ++ rules_of name (groups rs)
   run : (b : Bool) (a : List ℕ) → rules_from name b true (UserAgent a ∷ rs) ≡ rules_with b name (groups (UserAgent a ∷ rs))
 
 rule_behind : (name : List ℕ) (r : FileRule) (rs : List FileRecord) → Reads name rs → (b : Bool)
-    → rules_from name b false (Judged r ∷ rs) ≡ cond b (r ∷ rules_at_front rs) [] ++ rules_of name (groups rs)
+    → rules_from name b false (Judged r ∷ rs) ≡ cond b (r ∷ leading_rules rs) [] ++ rules_of name (groups rs)
 rule_behind name r rs h true = ap (λ l. r ∷ l) (h.behind true)
 rule_behind name r rs h false = h.behind false
 
@@ -67,7 +67,7 @@ reads name (Judged r ∷ rs) =
     record {
       behind = λ b. rule_behind name r rs h b;
       run = λ b a. let s = str_eq_ignore_ascii_case a name in rule_behind name r rs h (s || b)
-          ∙ ap (λ x. cond x (r ∷ rules_at_front rs) [] ++ rules_of name (groups rs)) (or_false s b);
+          ∙ ap (λ x. cond x (r ∷ leading_rules rs) [] ++ rules_of name (groups rs)) (or_false s b);
     }
 reads name (UserAgent u ∷ rs) =
     let h = reads name rs in

@@ -30,17 +30,17 @@ abbrev pub all_blank : List ℕ → Bool
 all_blank [] = true
 all_blank (x ∷ xs) = is_blank x && all_blank xs
 
--- without the blanks at the front, and at the end
-abbrev pub without_front : List ℕ → List ℕ
-without_front [] = []
-without_front (x ∷ xs) = cond (is_blank x) (without_front xs) (x ∷ xs)
+-- without the blanks at the start, and at the end
+abbrev pub without_start : List ℕ → List ℕ
+without_start [] = []
+without_start (x ∷ xs) = cond (is_blank x) (without_start xs) (x ∷ xs)
 
 abbrev pub without_end : List ℕ → List ℕ
 without_end [] = []
 without_end (x ∷ xs) = cond (all_blank (x ∷ xs)) [] (x ∷ without_end xs)
 
 abbrev pub trimmed : List ℕ → List ℕ
-trimmed t = without_end (without_front t)
+trimmed t = without_end (without_start t)
 
 -- U+FEFF in UTF-8
 abbrev pub byte_order_mark : List ℕ

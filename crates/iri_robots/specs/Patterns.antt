@@ -27,10 +27,10 @@ pub data IsFilling : List ℕ → List ℕ → Type 0 where
 
 -- some prefix of the text is a filling
 pub record HasFilledPrefix (q s : List ℕ) : Type 0 where
-  pub front : List ℕ
+  pub prefix : List ℕ
   pub rest : List ℕ
-  pub split : s ≡ front ++ rest
-  pub filled : IsFilling q front
+  pub split : s ≡ prefix ++ rest
+  pub filled : IsFilling q prefix
 
 -- a `$` at the end of a pattern anchors it at the end of the text
 abbrev pub is_anchored : List ℕ → Bool

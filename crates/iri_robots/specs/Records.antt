@@ -26,10 +26,10 @@ pub record Group : Type 0 where
   pub rules : List FileRule
 
 -- the rules up to the next user-agent record
-abbrev pub rules_at_front : List FileRecord → List FileRule
-rules_at_front [] = []
-rules_at_front (UserAgent a ∷ rs) = []
-rules_at_front (Judged r ∷ rs) = r ∷ rules_at_front rs
+abbrev pub leading_rules : List FileRecord → List FileRule
+leading_rules [] = []
+leading_rules (UserAgent a ∷ rs) = []
+leading_rules (Judged r ∷ rs) = r ∷ leading_rules rs
 
 -- a user-agent record right before another one is of its run
 abbrev pub with_agent : List ℕ → List Group → List Group
@@ -41,7 +41,7 @@ abbrev pub groups : List FileRecord → List Group
 groups [] = []
 groups (Judged r ∷ rs) = groups rs
 groups (UserAgent a ∷ []) = record { agents = a ∷ []; rules = [] } ∷ []
-groups (UserAgent a ∷ Judged r ∷ rs) = record { agents = a ∷ []; rules = r ∷ rules_at_front rs } ∷ groups rs
+groups (UserAgent a ∷ Judged r ∷ rs) = record { agents = a ∷ []; rules = r ∷ leading_rules rs } ∷ groups rs
 groups (UserAgent a ∷ UserAgent b ∷ rs) = with_agent a (groups (UserAgent b ∷ rs))
 
 -- some agent is equal to this name without case

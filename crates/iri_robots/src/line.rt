@@ -4,7 +4,7 @@ ghost use Rattle.std.specs.List.{prefix_len};
 ghost use Rattle.std.specs.Str.{is_utf8, str_eq_ignore_ascii_case};
 ghost use Rattle.iri_grammar.specs.Characters.{number_sign};
 ghost use Rattle.iri_grammar.specs.Cut.{before, CutAt, NoCut};
-ghost use Rattle.iri_robots.specs.FileLines.{line_of, line_of_text, keyed, is_blank, trimmed, without_front};
+ghost use Rattle.iri_robots.specs.FileLines.{line_of, line_of_text, keyed, is_blank, trimmed, without_start};
 ghost use Rattle.iri_robots.specs.FileLines.{without_end, without_mark, agent_of, is_token_char};
 ghost use Rattle.iri_robots.specs.inside.ReadLines.{said};
 
@@ -39,7 +39,7 @@ fn is_of_token(c: u8) -> bool
 }
 
 fn trim_front(text: &[u8]) -> &[u8]
-    ensures { result.now ≡ without_front text.now }
+    ensures { result.now ≡ without_start text.now }
 {
     let mut text = text;
     while !text.is_empty() {

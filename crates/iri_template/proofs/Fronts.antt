@@ -5,12 +5,12 @@ use Rattle.std.specs.Prelude.{◌==◌, slice_range}
 use Rattle.std.specs.Char.{len_utf8}
 use Rattle.std.specs.Str.{chars, IsUtf8, encode_utf8_all}
 use Rattle.std.proofs.lemmas.Bool.Decides.{nat_tests}
-use Rattle.std.proofs.lemmas.Grind.{common_steps}
 use Rattle.std.proofs.lemmas.List.{length-drop}
 use Rattle.std.proofs.lemmas.Str.{chars_from_encodes, len_utf8_bounds}
 use denote.Ref.{Bor}
 use Rattle.iri_grammar.specs.Cut.{lacks, tail}
 use Rattle.iri_grammar.specs.Pieces.{pieces}
+use Rattle.iri_grammar.proofs.Ranges.{range_front}
 use Rattle.iri_template.specs.Template.{literal, literal_char, expression, operator_text}
 use Rattle.iri_template.specs.Reading.{first_of, body_of, varspec_of, expression_of, triplet_of, operator_of, behind_operator, piece_len}
 use Rattle.iri_template.specs.Reading.{len_at, pieces_of}
@@ -35,9 +35,8 @@ take_front (x ∷ xs) ys = ap (λ l. x ∷ l) (take_front xs ys)
 
 pub front_range : (t xs ys : List ℕ) (n : ℕ) → xs ++ ys ≡ t → n ≡ length t - length ys → slice_range t 0 n ≡ xs
 front_range t xs ys n e h =
-    let same : slice_range t 0 n ≡ take n t = grind (arith, common_steps) in
     let z : n ≡ length xs = omega (arith, ap length e, length-append xs ys) in
-    same ∙ (ap (λ k. take k t) z ∙ (ap (take (length xs)) (sym e) ∙ take_front xs ys))
+    range_front t n ∙ (ap (λ k. take k t) z ∙ (ap (take (length xs)) (sym e) ∙ take_front xs ys))
 
 pub literals_front : (b : Bor (List ℕ)) (at : ℕ) (t r : List ℕ) → IsUtf8 t → IsUtf8 b.now → IsPastLiterals t r → length r < length t
     → b.now ≡ slice_range t 0 (length t - length r) → IsFront (part.Literals b) t at r

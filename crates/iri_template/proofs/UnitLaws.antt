@@ -16,7 +16,7 @@ use Rattle.iri_percent.specs.MarkLaws.{IsMark}
 use Rattle.iri_percent.proofs.MarkLaws.{char_within, unit_within, units_mark}
 use Rattle.iri_percent.proofs.Characters.{first_of_four}
 use Rattle.iri_text.specs.inside.Through.{after, texts}
-use Rattle.iri_template.specs.Expansion.{front, kept_unit}
+use Rattle.iri_template.specs.Expansion.{limited, kept_unit}
 use Rattle.iri_template.specs.inside.UnitSteps.{is_part, is_closed, is_settled, behind_unit, told_units, left_over, UnitState, fewer}
 use Rattle.iri_template.specs.inside.UnitSteps.{step_units, step_held, unit_step, written_units, unit_step_text}
 
@@ -225,14 +225,14 @@ take_front (suc n) [] vs = let e : suc n ≡ suc n - 0 = omega arith in ap (λ k
 take_front (suc n) (u ∷ us) vs = let e : n - length us ≡ suc n - suc (length us) = omega arith in
     ap (λ l. u ∷ l) (take_front n us vs ∙ ap (λ k. take n us ++ take k vs) e)
 
-front_both : {U : Type 0} (left : Option ℕ) (us vs : List U) → front left (us ++ vs) ≡ front left us ++ front (fewer left (length us)) vs
+front_both : {U : Type 0} (left : Option ℕ) (us vs : List U) → limited left (us ++ vs) ≡ limited left us ++ limited (fewer left (length us)) vs
 front_both None us vs = refl
 front_both (Some n) us vs = take_front n us vs
 
 pub written-append : (s : Tests) (left : Option ℕ) (us vs : List TextUnit)
     → written_units s left (us ++ vs) ≡ written_units s left us ++ written_units s (fewer left (length us)) vs
 written-append s left us vs = ap (flat_map (kept_unit s)) (front_both left us vs)
-    ∙ flat_map-append (kept_unit s) (front left us) (front (fewer left (length us)) vs)
+    ∙ flat_map-append (kept_unit s) (limited left us) (limited (fewer left (length us)) vs)
 
 -- ---- the whole: what was written for a text, and what is held behind it
 pub units_all : (s : Tests) (u : UnitState) (t : List ℕ)

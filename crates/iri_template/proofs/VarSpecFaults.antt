@@ -1,8 +1,6 @@
 -- The faults of varspecs, one by one.
 use Rattle.std.proofs.Common.{◌≡◌, ℕ, ◌+◌, ◌-◌, true, false, cond, Bool, List, ◌∷◌, length, take, map, Option, Some, None, refl, sym, ◌∙◌}
 use Rattle.std.proofs.Common.{ap, arith, length-append}
-use Rattle.std.specs.Prelude.{slice_range}
-use Rattle.std.proofs.lemmas.Grind.{common_steps}
 use Rattle.iri_grammar.specs.Cut.{before, behind, marked}
 use Rattle.iri_grammar.proofs.CutLaws.{joined}
 use Rattle.iri_grammar.specs.Marks.{from_any}
@@ -15,9 +13,6 @@ use Rattle.iri_template.specs.Fault.{fault, moved, first, unless, name_fault, mo
 use Rattle.iri_template.specs.declared.error.Error.{Error}
 use Rattle.iri_template.specs.declared.error.ErrorKind.TheVariants.{InvalidExpression}
 use Rattle.iri_template.proofs.FaultLemmas.{moved_moved}
-
-pub front_of_range : (t : List ℕ) (n : ℕ) → slice_range t 0 n ≡ take n t
-front_of_range t n = grind (arith, common_steps)
 
 -- ---- one varspec
 good : (b : Bool) (f : Option Error) (e : Error) → unless b (Some e) ≡ None → cond b f (Some e) ≡ f

@@ -35,9 +35,9 @@ row_of FormContinuation = record { first = ampersand ∷ []; sep = ampersand; na
 
 -- ---- encoding (section 3.2.1)
 -- the first so many, or all
-abbrev pub front : {A : Type 0} → Option ℕ → List A → List A
-front None xs = xs
-front (Some n) xs = take n xs
+abbrev pub limited : {A : Type 0} → Option ℕ → List A → List A
+limited None xs = xs
+limited (Some n) xs = take n xs
 
 -- the units of a text (RFC 3986 section 2.1), read from its characters, so that one past ASCII is one unit
 abbrev pub text_units : List ℕ → List TextUnit
@@ -53,8 +53,8 @@ kept_unit s (IllFormed b) = mapping.triplet b
 
 -- A text, or its first characters, encoded (section 2.4.1). Where triplets stay, the first units: a character in triplets is one, and so is a triplet where none begins.
 abbrev pub shown_text : Tests → Bool → Option ℕ → List ℕ → List ℕ
-shown_text s true n t = flat_map (kept_unit s) (front n (text_units t))
-shown_text s false n t = flat_map (encoded_char (unreserved s)) (front n (chars t))
+shown_text s true n t = flat_map (kept_unit s) (limited n (text_units t))
+shown_text s false n t = flat_map (encoded_char (unreserved s)) (limited n (chars t))
 
 -- ---- variables (sections 3.2.2 to 3.2.9)
 -- `=` and the text behind the name of a string; where it is empty, what the operator has

@@ -193,7 +193,7 @@ fn cut_char(text: &str) -> Option<(&str, &str)>
     }
 }
 
-/// What is written next, and what follows: a character, and in a plain state the run in front of the next `%`.
+/// What is written next, and what follows: a character, and in a plain state the run before the next `%`.
 fn next_piece(text: &str, plain: bool) -> Option<(&str, &str)>
     ensures { MatchOption result (length text.now ≡ 0) (λ p. IsCut text.now p.0.now p.1.now) }
 {

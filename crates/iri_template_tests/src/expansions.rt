@@ -556,35 +556,38 @@ fn within(rt: HostRuntime) -> Result<(), Fail> {
     Ok(())
 }
 
+// What a conversion gives, or its refusal as a test's error.
+fn converted<T>(conversion: Result<T, ExpandedError>) -> Result<T, Fail> {
+    match conversion {
+        Ok(text) => Ok(text),
+        Err(ExpandedError::Invalid(_)) => Err("a valid expansion is refused")?,
+        Err(ExpandedError::Memory(error)) => Err(error)?,
+    }
+}
+
 #[test]
 fn conversions(rt: HostRuntime) -> Result<(), Fail> {
     let context = variables(rt.alloc())?;
     let template = UriTemplateStr::new("{+base}index")?;
     let expanded = template.expand::<UriSpec, SimpleContext>(&context)?;
     let index = "http://example.com/home/index";
-    match expanded.try_into_iri(rt.alloc()) {
-        Ok(iri) => assert_eq!(rt; iri.as_str(), index),
-        Err(_) => assert!(rt; false),
-    }
-    match expanded.try_into_reference(rt.alloc()) {
-        Ok(reference) => assert_eq!(rt; reference.as_str(), index),
-        Err(_) => assert!(rt; false),
-    }
-    match expanded.try_into_absolute(rt.alloc()) {
-        Ok(absolute) => assert_eq!(rt; absolute.as_str(), index),
-        Err(_) => assert!(rt; false),
-    }
+    let iri = converted(expanded.try_into_iri(rt.alloc()))?;
+    assert_eq!(rt; iri.as_str(), index);
+    let reference = converted(expanded.try_into_reference(rt.alloc()))?;
+    assert_eq!(rt; reference.as_str(), index);
+    let absolute = converted(expanded.try_into_absolute(rt.alloc()))?;
+    assert_eq!(rt; absolute.as_str(), index);
     Ok(())
 }
 
 // What is wrong with an expansion, and its text.
-fn refused(error: ExpandedError) -> Option<(iri_grammar::error::ErrorKind, String)> {
+fn refused(error: ExpandedError) -> Result<(iri_grammar::error::ErrorKind, String), AllocError> {
     match error {
         ExpandedError::Invalid(error) => {
             let kind = error.validation_error().kind();
-            Some((kind, error.into_source()))
+            Ok((kind, error.into_source()))
         }
-        ExpandedError::Memory(_) => None,
+        ExpandedError::Memory(error) => Err(error),
     }
 }
 
@@ -595,13 +598,11 @@ fn refused_conversion(rt: HostRuntime) -> Result<(), Fail> {
     let expanded = template.expand::<UriSpec, SimpleContext>(&context)?;
     match expanded.try_into_relative(rt.alloc()) {
         Ok(_relative) => assert!(rt; false),
-        Err(error) => match refused(error) {
-            Some((kind, text)) => {
-                assert_eq!(rt; kind, iri_grammar::error::ErrorKind::InvalidPath);
-                assert_eq!(rt; text.as_str(), "http://example.com/home/index");
-            }
-            None => assert!(rt; false),
-        },
+        Err(error) => {
+            let (kind, text) = refused(error)?;
+            assert_eq!(rt; kind, iri_grammar::error::ErrorKind::InvalidPath);
+            assert_eq!(rt; text.as_str(), "http://example.com/home/index");
+        }
     }
     Ok(())
 }
@@ -611,9 +612,7 @@ fn relative_conversion(rt: HostRuntime) -> Result<(), Fail> {
     let context = variables(rt.alloc())?;
     let template = UriTemplateStr::new("{+path}")?;
     let expanded = template.expand::<IriSpec, SimpleContext>(&context)?;
-    match expanded.try_into_relative(rt.alloc()) {
-        Ok(relative) => assert_eq!(rt; relative.as_str(), "/foo/bar"),
-        Err(_error) => assert!(rt; false),
-    }
+    let relative = converted(expanded.try_into_relative(rt.alloc()))?;
+    assert_eq!(rt; relative.as_str(), "/foo/bar");
     Ok(())
 }

@@ -5,7 +5,7 @@ use Rattle.std.specs.List.{flat_map}
 use Rattle.std.specs.Char.{is_ascii_hexdigit}
 use Rattle.iri_grammar.specs.Classes.{Tests}
 use Rattle.iri_percent.specs.Units.{TextUnit, Plain, is_triplet, octets, first_char, first_unit, unit_text, units}
-use Rattle.iri_template.specs.Expansion.{front, kept_unit}
+use Rattle.iri_template.specs.Expansion.{limited, kept_unit}
 
 -- a `%` or a hex digit, which may be part of a triplet
 abbrev pub is_part : ℕ → Bool
@@ -62,7 +62,7 @@ abbrev pub unit_step : UnitState → ℕ → UnitState
 unit_step u c = record { held = step_held u.held c; left = fewer u.left (length (step_units u.held c)) }
 
 abbrev pub written_units : Tests → Option ℕ → List TextUnit → List ℕ
-written_units s left us = flat_map (kept_unit s) (front left us)
+written_units s left us = flat_map (kept_unit s) (limited left us)
 
 abbrev pub unit_step_text : Tests → UnitState → ℕ → List ℕ
 unit_step_text s u c = written_units s u.left (step_units u.held c)

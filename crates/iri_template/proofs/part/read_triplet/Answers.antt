@@ -1,11 +1,8 @@
-use Rattle.std.proofs.Common.{◌≡◌, ◌<◌, ℕ, true, get_or, sym, ◌∙◌, ap, arith}
+use Rattle.std.proofs.Common.{get_or, sym, ◌∙◌, ap, arith}
 use Rattle.std.specs.Char.{is_ascii_hexdigit}
-use Rattle.std.proofs.lemmas.Bool.Decides.{nat_tests}
 use Rattle.std.proofs.lemmas.Str.{IsCharBoundary-after_ascii}
+use Rattle.iri_grammar.proofs.Units.{hex_is_ascii}
 use Rattle.iri_template.proofs.part.read_triplet.Goals as goal
-
-hex_is_ascii : (x : ℕ) → is_ascii_hexdigit x ≡ true → x < 128
-hex_is_ascii x h = grind (arith, nat_tests)
 
 pub range-requires-clause-end_boundary : goal.range-requires-clause-end_boundary
 range-requires-clause-end_boundary c =
