@@ -4,17 +4,18 @@ use Rattle.iri_grammar.specs.Classes.{Tests}
 use Rattle.iri_grammar.specs.Fault.{bytes_fault}
 use Rattle.iri_grammar.specs.WholeFault.{reference_fault}
 use Rattle.iri_grammar.specs.declared.error.ErrorKind.{ErrorKind}
-use Rattle.iri_resolve.specs.NormalForm.{canonical}
-use Rattle.iri_cli.specs.Answer.{answer, answer_by, good_answer, bad_answer}
+use Rattle.iri_percent.specs.declared.canon_mode.CanonMode.{CanonMode}
+use Rattle.iri_resolve.specs.NormalForm.{canonical_in}
+use Rattle.iri_cli.specs.Answer.{answer_in, answer_by, good_answer, bad_answer}
 
 -- the answer to a line that is a reference, and to one that has a fault
-pub answer_of_reference : (s : Tests) (base reference line : List ℕ) → bytes_fault (reference_fault s) line ≡ None → reference ≡ line
-    → good_answer (canonical s base reference) ≡ answer s base line
-unfolding answer
-answer_of_reference s base reference line none is =
-    ap (λ r. good_answer (canonical s base r)) is ∙ ap (λ f. answer_by f (canonical s base line)) (sym none)
+pub answer_of_reference : (s : Tests) (m : CanonMode) (base reference line : List ℕ) → bytes_fault (reference_fault s) line ≡ None → reference ≡ line
+    → good_answer (canonical_in s m base reference) ≡ answer_in s m base line
+unfolding answer_in
+answer_of_reference s m base reference line none is =
+    ap (λ r. good_answer (canonical_in s m base r)) is ∙ ap (λ f. answer_by f (canonical_in s m base line)) (sym none)
 
-pub answer_of_fault : (s : Tests) (base line : List ℕ) (kind : ErrorKind) → bytes_fault (reference_fault s) line ≡ Some kind
-    → bad_answer kind ≡ answer s base line
-unfolding answer
-answer_of_fault s base line kind some = ap (λ f. answer_by f (canonical s base line)) (sym some)
+pub answer_of_fault : (s : Tests) (m : CanonMode) (base line : List ℕ) (kind : ErrorKind) → bytes_fault (reference_fault s) line ≡ Some kind
+    → bad_answer kind ≡ answer_in s m base line
+unfolding answer_in
+answer_of_fault s m base line kind some = ap (λ f. answer_by f (canonical_in s m base line)) (sym some)

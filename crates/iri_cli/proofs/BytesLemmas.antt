@@ -4,15 +4,16 @@ use Rattle.iri_grammar.specs.Classes.{Tests, IsSpec}
 use Rattle.iri_grammar.specs.Fault.{bytes_fault}
 use Rattle.iri_grammar.proofs.FaultLaws.{absolute-law, reference-law}
 use Rattle.iri_grammar.specs.Parts.{IsAbsolute, IsReference}
-use Rattle.iri_resolve.proofs.FormLaws.{canonical-iri, canonical-split, canonical-own}
-use Rattle.iri_resolve.specs.NormalForm.{canonical}
+use Rattle.iri_percent.specs.declared.canon_mode.CanonMode.{CanonMode}
+use Rattle.iri_resolve.proofs.CanonLaws.{canonical_in-iri, canonical_in-split, canonical_in-own}
+use Rattle.iri_resolve.specs.NormalForm.{canonical_in}
 use Rattle.iri_grammar.specs.WholeFault.{absolute_fault, reference_fault}
 use Rattle.iri_grammar.specs.declared.error.ErrorKind.{ErrorKind}
 use Rattle.iri_grammar.specs.inside.Laws.{uri_is_spec, iri_is_spec}
 use Rattle.iri_cli.specs.Words.{tests_of}
 use Rattle.iri_cli.specs.declared.command.Grammar.{Grammar}
 use Rattle.iri_cli.specs.declared.command.Grammar.TheVariants.{Uri, Iri}
-use Rattle.iri_cli.specs.Answer.{refusal, words_of_fault, answer, AnswersAreCanonical}
+use Rattle.iri_cli.specs.Answer.{refusal, words_of_fault, answer_in, AnswersAreCanonicalIn}
 use Rattle.iri_resolve.proofs.CanonLemmas.{fault_none}
 
 pub refused_none : (k : Option ErrorKind) → words_of_fault k ≡ None → k ≡ None
@@ -29,18 +30,18 @@ pub line_reference : (s : Tests) → IsSpec s → (bs : List ℕ) → bytes_faul
 line_reference s l bs h = (reference-law s l bs).0 (fault_none (reference_fault s) bs h)
 
 -- each good answer is canonical
-pub canonical_answers : (s : Tests) → IsSpec s → AnswersAreCanonical s
-unfolding answer
-canonical_answers s l base line taken none =
+pub canonical_answers : (s : Tests) (m : CanonMode) → IsSpec s → AnswersAreCanonicalIn s m
+unfolding answer_in
+canonical_answers s m l base line taken none =
     let b = base_absolute s l base taken in
     let r = line_reference s l line none in
     record {
-      text = canonical s base line;
+      text = canonical_in s m base line;
       answer_is = rw none refl;
       canonical_is = refl;
-      valid = canonical-iri s base line l b r;
-      splits = canonical-split s base line l b r;
-      own = λ other _. canonical-own s base line other l b r;
+      valid = canonical_in-iri s m base line l b r;
+      splits = canonical_in-split s m base line l b r;
+      own = λ other _. canonical_in-own s m base line other l b r;
     }
 
 -- both grammars are specs

@@ -7,17 +7,18 @@ use Rattle.iri_grammar.specs.WholeFault.{absolute_fault, reference_fault}
 use Rattle.iri_text.specs.Sink.{PutsAll, KeepsRoom}
 use Rattle.iri_text.proofs.Puts.{room-so}
 use Rattle.iri_text.specs.declared.Failed.{Failed}
-use Rattle.iri_resolve.proofs.LengthLaws.{length-canonical}
-use Rattle.iri_resolve.specs.NormalForm.{canonical}
+use Rattle.iri_percent.specs.declared.canon_mode.CanonMode.{CanonMode}
+use Rattle.iri_resolve.proofs.LengthLaws.{length-canonical_in}
+use Rattle.iri_resolve.specs.NormalForm.{canonical_in}
 use Rattle.iri_cli.specs.Limits.{longest_line, answer_room}
-use Rattle.iri_cli.specs.Answer.{refusal, answer}
+use Rattle.iri_cli.specs.Answer.{refusal, answer_in}
 use Rattle.iri_cli.specs.Answering.{IsReady, Answering, AnswersLine, PutsAnswer}
 use Rattle.iri_text.specs.Line.{LineState}
 use Rattle.iri_cli.specs.Buffers.{AreBuffers}
 use Rattle.iri_cli.specs.Steps.{IsNew, GivesBase}
 use Rattle.iri_cli.specs.Read.{HasRead, IsGoing}
 use Rattle.iri_cli.specs.CanonAnswers.{PutsLine, told_of, IsCanonAt}
-use Rattle.iri_cli.specs.Words.{canon_rules, is_ok}
+use Rattle.iri_cli.specs.Words.{canon_rules_in, is_ok}
 use Rattle.iri_cli.specs.declared.answers.AnswerError.{AnswerError}
 use Rattle.iri_cli.specs.declared.answers.AnswerError.TheVariants.{SinkFailed, Memory}
 use Rattle.iri_cli.specs.Ending.{Rules}
@@ -39,17 +40,17 @@ line_room good (Ok x) text p = room-so (λ _ h. cc h) p.room
 line_room good (Err f) text p = room-so (λ h. absurd (cc h)) p.room
 
 -- the buffer has room for the text of an answer and its LF
-pub has_room : (s : Tests) (base line text output : List ℕ) → IsSpec s → refusal s base ≡ None → bytes_fault (reference_fault s) line ≡ None
+pub has_room : (s : Tests) (m : CanonMode) (base line text output : List ℕ) → IsSpec s → refusal s base ≡ None → bytes_fault (reference_fault s) line ≡ None
     → text ≡ line → length base + length line + 4 ≤ length output
-    → length (canonical s base text) + 1 ≤ length output
-has_room s base line text output l taken none is room =
-    let h = length-canonical s base line l (base_absolute s l base taken) (line_reference s l line none) in
-    let e : length (canonical s base text) ≡ length (canonical s base line) = ap (λ (t : List ℕ). length (canonical s base t)) is in
+    → length (canonical_in s m base text) + 1 ≤ length output
+has_room s m base line text output l taken none is room =
+    let h = length-canonical_in s m base line l (base_absolute s l base taken) (line_reference s l line none) in
+    let e : length (canonical_in s m base text) ≡ length (canonical_in s m base line) = ap (λ (t : List ℕ). length (canonical_in s m base t)) is in
     omega (arith, h, e, room)
 
 -- the buffers have a new reader
-pub new_reader : (s : Tests) (reader : LineState) (base output : List ℕ) → AreBuffers reader base output → IsNew (canon_rules s) reader
-new_reader s reader base output b = record {
+pub new_reader : (s : Tests) (m : CanonMode) (reader : LineState) (base output : List ℕ) → AreBuffers reader base output → IsNew (canon_rules_in s m) reader
+new_reader s m reader base output b = record {
   held = b.held;
   taken = b.taken;
   ended = b.ended;
@@ -65,30 +66,30 @@ refuses_empty s h = let e : absolute_fault s [] ≡ None =
     fault_none (absolute_fault s) [] (refused_none (bytes_fault (absolute_fault s) []) h) in cc e
 
 -- the base line is the base, and the reader goes on
-pub base_read : (s : Tests) (lo lm : Option (List ℕ)) (reader : LineState) (base text : List ℕ)
-    → GivesBase (canon_rules s) lo lm reader base → text ≡ base → refusal s base ≡ None
-    → HasRead (canon_rules s) lo lm reader (text ∷ []) × IsGoing (canon_rules s) reader
-base_read s lo lm reader base text gives is taken =
+pub base_read : (s : Tests) (m : CanonMode) (lo lm : Option (List ℕ)) (reader : LineState) (base text : List ℕ)
+    → GivesBase (canon_rules_in s m) lo lm reader base → text ≡ base → refusal s base ≡ None
+    → HasRead (canon_rules_in s m) lo lm reader (text ∷ []) × IsGoing (canon_rules_in s m) reader
+base_read s m lo lm reader base text gives is taken =
     ⊎_elim
-    (λ h. (subst (λ (t : List ℕ). HasRead (canon_rules s) lo lm reader (t ∷ [])) (sym is) h.0, h.1))
+    (λ h. (subst (λ (t : List ℕ). HasRead (canon_rules_in s m) lo lm reader (t ∷ [])) (sym is) h.0, h.1))
     (λ h. absurd (refuses_empty s (subst (λ (t : List ℕ). refusal s t ≡ None) h.1 taken)))
     gives
 
 -- `canon` stands behind the base line
-pub canon_ready : (s : Tests) (lo lm : Option (List ℕ)) (reader : LineState) (base text output : List ℕ) → IsSpec s
-    → GivesBase (canon_rules s) lo lm reader base → text ≡ prepared s base → refusal s base ≡ None → length text ≤ longest_line
-    → length output ≡ answer_room → IsReady (IsCanonAt s text output) (record { rules = canon_rules s; base = base; between = [] }) reader
-canon_ready s lo lm reader base text output k gives is taken short room = record {
+pub canon_ready : (s : Tests) (m : CanonMode) (lo lm : Option (List ℕ)) (reader : LineState) (base text output : List ℕ) → IsSpec s
+    → GivesBase (canon_rules_in s m) lo lm reader base → text ≡ prepared s base → refusal s base ≡ None → length text ≤ longest_line
+    → length output ≡ answer_room → IsReady (IsCanonAt s m text output) (record { rules = canon_rules_in s m; base = base; between = [] }) reader
+canon_ready s m lo lm reader base text output k gives is taken short room = record {
   at = record {
     rules = refl;
-    same = λ line. ap (λ (t : List ℕ). answer s t line) is ∙ same_answer s base line k taken;
+    same = λ line. ap (λ (t : List ℕ). answer_in s m t line) is ∙ same_answer s m base line k taken;
     taken = ap (refusal s) is ∙ prepared_taken s base k taken;
     short = short;
     room = room;
   };
   first = refl;
   base_taken = taken;
-  going = (base_read s lo lm reader base base gives refl taken).1;
+  going = (base_read s m lo lm reader base base gives refl taken).1;
 }
 
 -- the answer to a line
@@ -102,11 +103,11 @@ pub on_ok : {X : Type 0} (r : Result Bool AnswerError) → X → OnOk r X
 on_ok (Ok x) h = h
 on_ok (Err x) h = tt
 
-pub answers_line : (s : Tests) (base line output new : List ℕ) (at : Answering) (wo wn : Option (List ℕ)) (fo fn : ℕ) (ro rn : Option ℕ)
-    (r : Result Bool AnswerError) → IsCanonAt s base output at → length new ≡ length output → PutsLine wo wn fo fn (answer s base line) r
-    → KeepsRoom ro rn (answer s base line) (r ≢ Err SinkFailed) → AnswersLine (IsCanonAt s base new) at line wo wn fo fn ro rn r
-answers_line s base line output new at wo wn fo fn ro rn r is size p room =
-    let e : answer s base line ≡ at.rules.answer at.base at.between line =
+pub answers_line : (s : Tests) (m : CanonMode) (base line output new : List ℕ) (at : Answering) (wo wn : Option (List ℕ)) (fo fn : ℕ) (ro rn : Option ℕ)
+    (r : Result Bool AnswerError) → IsCanonAt s m base output at → length new ≡ length output → PutsLine wo wn fo fn (answer_in s m base line) r
+    → KeepsRoom ro rn (answer_in s m base line) (r ≢ Err SinkFailed) → AnswersLine (IsCanonAt s m base new) at line wo wn fo fn ro rn r
+answers_line s m base line output new at wo wn fo fn ro rn r is size p room =
+    let e : answer_in s m base line ≡ at.rules.answer at.base at.between line =
     is.same line ∙ ap (λ (rules : Rules). rules.answer at.base at.between line) (sym is.rules) in
     record {
       puts = puts_answer at.rules wo wn fo fn r (at.rules.answer at.base at.between line) (ap (λ (rules : Rules). rules.is_good) is.rules)

@@ -23,7 +23,7 @@ use Rattle.iri_template.specs.TypeFaults.{type_fault}
 use Rattle.iri_template.specs.declared.error.Error.{Error}
 use Rattle.iri_template.specs.declared.simple_context.SimpleContext.{SimpleContext}
 use Rattle.iri_cli.specs.Limits.{answer_room}
-use Rattle.iri_cli.specs.Answer.{answer, answer_by, refusal}
+use Rattle.iri_cli.specs.Answer.{answer, answer_by, answer_in, refusal}
 use Rattle.iri_cli.specs.Answering.{Answering, AnswersLine, IsReady, PutsAnswer}
 use Rattle.iri_cli.specs.CanonAnswers.{PutsLine, told_of}
 use Rattle.iri_cli.specs.Ending.{Rules}
@@ -63,7 +63,7 @@ template_refused s base values t e is = ap (λ f. unless_fault f (expansion_answ
 
 -- each answer to a template has bytes
 answer_good : (s : Tests) (base line : List ℕ) → is_ok_or_none (answer s base line) ≡ is_ok (answer s base line)
-unfolding answer
+unfolding answer_in
 answer_good s base line = by_fault (bytes_fault (reference_fault s) line)
   where
     by_fault : (f : Option ErrorKind) → is_ok_or_none (answer_by f (canonical s base line)) ≡ is_ok (answer_by f (canonical s base line))

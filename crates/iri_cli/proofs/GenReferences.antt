@@ -26,7 +26,7 @@ use Rattle.iri_grammar.proofs.AuthorityTexts.{all_below}
 use Rattle.iri_grammar.specs.Parts.{IsAbsolute, recompose, is_empty, starts_with_slash, starts_with_slashes}
 use Rattle.iri_grammar.proofs.MadeLaws.{made-reference}
 use Rattle.iri_grammar.specs.Split.{split_of}
-use Rattle.iri_grammar.specs.WholeFault.{absolute_fault, reference_fault, front_fault, parts_fault}
+use Rattle.iri_grammar.specs.WholeFault.{absolute_fault, reference_fault, fault_before_fragment, parts_fault}
 use Rattle.iri_grammar.proofs.FaultLaws.{absolute-law, of_bytes, reference-utf8}
 use Rattle.iri_grammar.proofs.UriLaws.{absolute-wider}
 use Rattle.iri_grammar.specs.inside.Laws.{uri_is_spec}
@@ -203,7 +203,7 @@ module _ (s : Tests) (k : IsSpec s) where
 
 -- ---- the base
 base_of_uris : absolute_fault uri_tests gen_base ≡ None
-unfolding split_of front_fault parts_fault authority_parts over_from chars is_utf8 encode is_letter is_scheme_char reg_name_char path_char
+unfolding split_of fault_before_fragment parts_fault authority_parts over_from chars is_utf8 encode is_letter is_scheme_char reg_name_char path_char
     query_char is_ascii_query is_ascii_reg_name is_ascii_path is_ascii_pchar is_ascii_unreserved is_sub_delim is_group
 base_of_uris = refl
 

@@ -18,13 +18,22 @@ use Rattle.iri_grammar.specs.Classes.{Tests, IsSpec}
 use Rattle.iri_grammar.specs.Parts.{Parts, Fits, Splits, IsAbsolute, path_rules, recompose, is_empty, starts_with_slash, scheme_text}
 use Rattle.iri_grammar.specs.Parts.{authority_text, starts_with_slashes}
 use Rattle.iri_grammar.specs.Cut.{marked}
-use Rattle.iri_grammar.specs.Components.{is_letter}
+use Rattle.iri_grammar.specs.Authority.{is_authority}
+use Rattle.iri_grammar.specs.Components.{if_there, is_letter}
 use Rattle.iri_grammar.specs.Pieces.{pieces}
 use Rattle.iri_grammar.specs.Split.{split_of}
 use Rattle.iri_grammar.proofs.SplitUnique.{split_is}
 use Rattle.iri_resolve.specs.LowerCase.{where_there}
 use Rattle.iri_resolve.specs.Target.{target, target_under, target_path, to_last_slash}
-use Rattle.iri_resolve.specs.NormalForm.{normal_path, normal_form, form, canonical}
+use Rattle.iri_percent.specs.NormalHost.{normal_authority, normal_authority_in}
+use Rattle.iri_percent.specs.SchemeRules.{dropped_port}
+use Rattle.iri_percent.specs.declared.canon_mode.CanonMode.{CanonMode}
+use Rattle.iri_percent.specs.declared.canon_mode.CanonMode.TheVariants.{Default, Scheme}
+use Rattle.iri_resolve.specs.NormalForm.{becomes_slash, normal_path, normal_form, normal_form_in, form, canonical, canonical_in}
+use Rattle.iri_resolve.specs.declared.mode.Mode.TheVariants.{ByScheme}
+use Rattle.iri_resolve.proofs.CanonLaws.{canonical_in-text}
+use Rattle.iri_resolve.proofs.AuthorityForm.{authority-fits, authority-stable}
+use Rattle.iri_resolve.proofs.SchemeForm.{dropped-lowered, without, without-normal}
 use Rattle.iri_resolve.proofs.FormLaws.{form-fits, scheme-stable, authorities-stable}
 use Rattle.iri_resolve.specs.Prefix.{prefix_in}
 use Rattle.iri_resolve.proofs.LengthLaws.{length-canonical, length-parts, length-scheme, length-authorities}
@@ -32,7 +41,7 @@ use Rattle.iri_grammar.specs.Fault.{bytes_fault}
 use Rattle.iri_grammar.specs.WholeFault.{absolute_fault, reference_fault}
 use Rattle.iri_grammar.proofs.FaultLaws.{absolute-law, reference-law, of_bytes, reference-utf8}
 use Rattle.iri_resolve.proofs.NormalStepLemmas.{stands-still as same_there}
-use Rattle.iri_cli.specs.Answer.{refusal, words_of_fault, answer, answer_by}
+use Rattle.iri_cli.specs.Answer.{refusal, words_of_fault, answer_in, answer_by}
 use Rattle.iri_cli.specs.Prepared.{prepared_parts, prepared}
 use Rattle.iri_cli.proofs.BytesLemmas.{base_absolute}
 
@@ -94,21 +103,63 @@ form_under s t r (Some x) authority k f = refl
 form_under s t r None (Some a) k f = rw (scheme-stable t.scheme) refl
 form_under s t r None None k f = rw (scheme-stable t.scheme, authorities-stable s t.authority k f.authority, normal_same s t r.path) refl
 
-pub same_canonical : (s : Tests) (base reference : List ℕ) → IsSpec s → IsAbsolute s base
-    → canonical s (prepared s base) reference ≡ canonical s base reference
-unfolding canonical target
-same_canonical s base reference k b =
+-- an authority loses its port where its normal form does
+authority_again : (s : Tests) (d : Option (List ℕ)) (x : List ℕ) → IsSpec s → is_authority s x ≡ true
+    → normal_authority_in s d (normal_authority s x) ≡ normal_authority_in s d x
+authority_again s d x k h =
+    sym (without-normal s d (normal_authority s x) k (authority-fits s x k h))
+    ∙ (ap (without d) (authority-stable s x k h) ∙ without-normal s d x k h)
+
+authority_same : (s : Tests) (d o : Option (List ℕ)) → IsSpec s → if_there (is_authority s) o ≡ true
+    → where_there (normal_authority_in s d) (where_there (normal_authority s) o) ≡ where_there (normal_authority_in s d) o
+authority_same s d None k h = refl
+authority_same s d (Some x) k h = ap Some (authority_again s d x k h)
+
+slash_same : (s : Tests) (d : Option (List ℕ)) (t : Parts) (path : List ℕ)
+    → becomes_slash d (normal_form s t).authority (target_path (prepared_parts s t) path) ≡ becomes_slash d t.authority (target_path t path)
+slash_same s None t path = refl
+slash_same s (Some d) t path = rw (same_path s t path, normal_there s t) refl
+
+scheme_under : (s : Tests) (t r : Parts) (scheme authority : Option (List ℕ)) → IsSpec s → Fits s t
+    → form s ByScheme false (target_under (prepared_parts s t) r scheme authority)
+    ≡ form s ByScheme false (target_under t r scheme authority)
+unfolding normal_form form
+scheme_under s t r (Some x) authority k f = refl
+scheme_under s t r None (Some a) k f = rw (dropped-lowered t.scheme, scheme-stable t.scheme) refl
+scheme_under s t r None None k f =
+    let d = dropped_port Scheme t.scheme in
+    rw (
+      dropped-lowered t.scheme,
+      scheme-stable t.scheme,
+      authority_same s d t.authority k f.authority,
+      slash_same s d t r.path,
+      normal_same s t r.path,
+    )
+    refl
+
+same_under : (s : Tests) (m : CanonMode) (t r : Parts) (scheme authority : Option (List ℕ)) → IsSpec s → Fits s t
+    → normal_form_in s m (target_under (prepared_parts s t) r scheme authority) ≡ normal_form_in s m (target_under t r scheme authority)
+same_under s Default t r scheme authority k f = form_under s t r scheme authority k f
+same_under s Scheme t r scheme authority k f = scheme_under s t r scheme authority k f
+
+pub same_canonical : (s : Tests) (m : CanonMode) (base reference : List ℕ) → IsSpec s → IsAbsolute s base
+    → canonical_in s m (prepared s base) reference ≡ canonical_in s m base reference
+unfolding target
+same_canonical s m base reference k b =
     let e = split_is s (prepared s base) (prepared_parts s (split_of base)) k (prepared_splits s base k b) in
     let eb = split_is s base b.0 k b.1 in
     let f : Fits s (split_of base) = rw eb b.1.fits in
     let r = split_of reference in
-    ap (λ p. recompose (normal_form s (target p r))) e
-    ∙ ap recompose (form_under s (split_of base) r r.scheme r.authority k f)
+    sym (canonical_in-text s m (prepared s base) reference)
+    ∙ ap (λ p. recompose (normal_form_in s m (target p r))) e
+    ∙ ap recompose (same_under s m (split_of base) r r.scheme r.authority k f)
+    ∙ canonical_in-text s m base reference
 
-pub same_answer : (s : Tests) (base line : List ℕ) → IsSpec s → refusal s base ≡ None → answer s (prepared s base) line ≡ answer s base line
-unfolding answer
-same_answer s base line k taken =
-    ap (answer_by (bytes_fault (reference_fault s) line)) (same_canonical s base line k (base_absolute s k base taken))
+pub same_answer : (s : Tests) (m : CanonMode) (base line : List ℕ) → IsSpec s → refusal s base ≡ None
+    → answer_in s m (prepared s base) line ≡ answer_in s m base line
+unfolding answer_in
+same_answer s m base line k taken =
+    ap (answer_by (bytes_fault (reference_fault s) line)) (same_canonical s m base line k (base_absolute s k base taken))
 
 -- ---- it is taken where the base is
 pub prepared_taken : (s : Tests) (base : List ℕ) → IsSpec s → refusal s base ≡ None → refusal s (prepared s base) ≡ None

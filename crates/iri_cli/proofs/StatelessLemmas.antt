@@ -23,10 +23,10 @@ module _ (answer : Tests → List ℕ → List ℕ → List ℕ) (s : Tests) whe
   abbrev pub start : List ℕ → Answering
   start base = record { rules = stateless_rules answer s; base = base; between = [] }
 
-  pub ready : (base : List ℕ) (reader : LineState) → (stateless_rules answer s).refusal base ≡ None
-      → IsGoing (stateless_rules answer s) reader → IsReady (IsStatelessAt answer s base) (start base) reader
-  ready base reader taken going =
-      record { at = record { rules = refl; base_is = refl }; first = refl; base_taken = taken; going = going }
+  pub ready : (kept base : List ℕ) (reader : LineState) → kept ≡ base → (stateless_rules answer s).refusal base ≡ None
+      → IsGoing (stateless_rules answer s) reader → IsReady (IsStatelessAt answer s kept) (start base) reader
+  ready kept base reader kept_is taken going =
+      record { at = record { rules = refl; base_is = kept_is }; first = refl; base_taken = taken; going = going }
 
   -- ---- one line more
   module _ (base : List ℕ) (at : Answering) (is : IsStatelessAt answer s base at) (line : List ℕ) where

@@ -1,8 +1,10 @@
 -- Words are the words of one command at most.
-use Rattle.std.proofs.Common.{◌≡◌, ◌==◌, ◌∙◌, ℕ, List, [], ap, arith, if◌then◌else◌, refl, sym}
+use Rattle.std.proofs.Common.{◌≡◌, ◌==◌, ◌∙◌, ℕ, List, [], ◌∷◌, drop, ap, arith, if◌then◌else◌, refl, sym}
 use Rattle.std.specs.Prelude.{get_or}
 use Rattle.std.proofs.lemmas.Fmt.{decimal_injective}
-use Rattle.iri_cli.specs.Words.{IsCommand, command_word, rules_of, tests_of, word_of}
+use Rattle.iri_percent.specs.declared.canon_mode.CanonMode.{CanonMode}
+use Rattle.iri_percent.specs.declared.canon_mode.CanonMode.TheVariants.{Default, Scheme}
+use Rattle.iri_cli.specs.Words.{IsCommand, command_word, rules_of, tests_of, word_of, words_behind}
 use Rattle.iri_cli.specs.declared.command.Command.TheVariants.{Gen, Lines}
 use Rattle.iri_cli.specs.declared.command.Grammar.{Grammar}
 use Rattle.iri_cli.specs.declared.command.Grammar.TheVariants.{Uri, Iri}
@@ -26,12 +28,18 @@ one_gen words a b m n p q =
           (sym p.2.spelled ∙ number ∙ q.2.spelled),
     )
 
--- the command over lines whose name begins with this byte
-abbrev named : ℕ → LineCommand
-named first = if first == 99 then Canon else (if first == 114 then Register else (if first == 108 then Links else (if first == 100 then Docs else Expand)))
+-- the mode of `canon` with these words behind that of its grammar
+abbrev mode_named : List (List ℕ) → CanonMode
+mode_named [] = Default
+mode_named (word ∷ words) = Scheme
 
-one_name : (c : LineCommand) → named (get_or (command_word c) 0 0) ≡ c
-one_name Canon = refl
+-- the command over lines whose name begins with this byte, with these words behind that of its grammar
+abbrev named : ℕ → List (List ℕ) → LineCommand
+named first behind = if first == 99 then Canon (mode_named behind) else (if first == 114 then Register else (if first == 108 then Links else (if first == 100 then Docs else Expand)))
+
+one_name : (c : LineCommand) → named (get_or (command_word c) 0 0) (words_behind c) ≡ c
+one_name (Canon Default) = refl
+one_name (Canon Scheme) = refl
 one_name Expand = refl
 one_name Register = refl
 one_name Links = refl
@@ -44,5 +52,7 @@ one_lines words c d a b p q =
     let e = sym q ∙ p in
     let name : command_word d ≡ command_word c = ap (λ (ws : List (List ℕ)). get_or ws 0 []) e in
     let grammar = one_grammar b a (ap (λ (ws : List (List ℕ)). get_or ws 1 []) e) in
-    let command : d ≡ c = sym (one_name d) ∙ ap (λ (w : List ℕ). named (get_or w 0 0)) name ∙ one_name c in
+    let behind : words_behind d ≡ words_behind c = ap (λ (ws : List (List ℕ)). drop 2 ws) e in
+    let command : d ≡ c = sym (one_name d) ∙ ap (λ (w : List ℕ). named (get_or w 0 0) (words_behind d)) name
+    ∙ ap (named (get_or (command_word c) 0 0)) behind ∙ one_name c in
     ap (λ (x : LineCommand). rules_of x (tests_of b)) command ∙ ap (λ (g : Grammar). rules_of c (tests_of g)) grammar

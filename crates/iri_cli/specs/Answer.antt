@@ -7,7 +7,9 @@ use Rattle.iri_grammar.specs.Parts.{IsIri, IsAbsolute}
 use Rattle.iri_grammar.specs.Split.{split_of}
 use Rattle.iri_grammar.specs.WholeFault.{absolute_fault, reference_fault}
 use Rattle.iri_grammar.specs.declared.error.ErrorKind.{ErrorKind}
-use Rattle.iri_resolve.specs.NormalForm.{canonical, canonical_parts}
+use Rattle.iri_percent.specs.declared.canon_mode.CanonMode.{CanonMode}
+use Rattle.iri_percent.specs.declared.canon_mode.CanonMode.TheVariants.{Default}
+use Rattle.iri_resolve.specs.NormalForm.{canonical_in, canonical_parts_in}
 use Rattle.iri_text.specs.LineEnds.{line_feed}
 
 abbrev pub words_of_fault : Option ErrorKind → Option (List ℕ)
@@ -28,21 +30,29 @@ abbrev pub answer_by : Option ErrorKind → List ℕ → List ℕ
 answer_by None text = good_answer text
 answer_by (Some kind) text = bad_answer kind
 
--- the line, with its LF, that answers a reference line against a base: its canonical text (RFC 3986 sections 5.2 and 6.2.2), or
--- the words for its first fault where it isn't UTF-8 or no `URI-reference`
-unfoldable pub answer : Tests → List ℕ → List ℕ → List ℕ
-answer s base line = answer_by (bytes_fault (reference_fault s) line) (canonical s base line)
+-- the line, with its LF, that answers a reference line against a base: its canonical text by the rules of a mode
+-- (RFC 3986 sections 5.2, 6.2.2 and 6.2.3), or the words for its first fault where it isn't UTF-8 or no `URI-reference`
+unfoldable pub answer_in : Tests → CanonMode → List ℕ → List ℕ → List ℕ
+answer_in s mode base line = answer_by (bytes_fault (reference_fault s) line) (canonical_in s mode base line)
+
+-- the same by the rules of every scheme
+abbrev pub answer : Tests → List ℕ → List ℕ → List ℕ
+answer s base line = answer_in s Default base line
 
 -- What a good answer says: its text is a URI of the spec, splits into exactly the normal form of the target, and is its own
 -- canonical text against every base.
-pub record IsCanonical (s : Tests) (base line : List ℕ) : Type 0 where
+pub record IsCanonical (s : Tests) (mode : CanonMode) (base line : List ℕ) : Type 0 where
   pub text : List ℕ
-  pub answer_is : answer s base line ≡ good_answer text
-  pub canonical_is : text ≡ canonical s base line
+  pub answer_is : answer_in s mode base line ≡ good_answer text
+  pub canonical_is : text ≡ canonical_in s mode base line
   pub valid : IsIri s text
-  pub splits : split_of text ≡ canonical_parts s base line
-  pub own : (other : List ℕ) → IsAbsolute s other → canonical s other text ≡ text
+  pub splits : split_of text ≡ canonical_parts_in s mode base line
+  pub own : (other : List ℕ) → IsAbsolute s other → canonical_in s mode other text ≡ text
 
 -- What is said of each base that is taken and each line without a fault.
+abbrev pub AnswersAreCanonicalIn : Tests → CanonMode → Type 0
+AnswersAreCanonicalIn s mode = (base line : List ℕ) → refusal s base ≡ None → bytes_fault (reference_fault s) line ≡ None
+    → IsCanonical s mode base line
+
 abbrev pub AnswersAreCanonical : Tests → Type 0
-AnswersAreCanonical s = (base line : List ℕ) → refusal s base ≡ None → bytes_fault (reference_fault s) line ≡ None → IsCanonical s base line
+AnswersAreCanonical s = AnswersAreCanonicalIn s Default

@@ -3,10 +3,11 @@ use Rattle.std.specs.Prelude.{◌≡◌, ◌≤◌, ℕ, Bool, List, length, Opt
 use Rattle.iri_grammar.specs.Classes.{Tests}
 use Rattle.iri_text.specs.Sink.{Appends}
 use Rattle.iri_text.specs.declared.Failed.{Failed}
+use Rattle.iri_percent.specs.declared.canon_mode.CanonMode.{CanonMode}
 use Rattle.iri_cli.specs.Limits.{longest_line, answer_room}
-use Rattle.iri_cli.specs.Answer.{refusal, answer}
+use Rattle.iri_cli.specs.Answer.{refusal, answer_in}
 use Rattle.iri_cli.specs.Answering.{Answering, FailsWithin}
-use Rattle.iri_cli.specs.Words.{canon_rules, is_ok}
+use Rattle.iri_cli.specs.Words.{canon_rules_in, is_ok}
 use Rattle.iri_cli.specs.declared.answers.AnswerError.{AnswerError}
 use Rattle.iri_cli.specs.declared.answers.AnswerError.TheVariants.{SinkFailed, Memory}
 
@@ -24,9 +25,9 @@ told_of good (Ok x) = Ok good
 told_of good (Err failed) = Err SinkFailed
 
 -- `canon` stands at a base that is taken, holds a text that has the same answers, and has room for each of them.
-pub record IsCanonAt (s : Tests) (base output : List ℕ) (at : Answering) : Type 0 where
-  pub rules : at.rules ≡ canon_rules s
-  pub same : (line : List ℕ) → answer s base line ≡ answer s at.base line
+pub record IsCanonAt (s : Tests) (mode : CanonMode) (base output : List ℕ) (at : Answering) : Type 0 where
+  pub rules : at.rules ≡ canon_rules_in s mode
+  pub same : (line : List ℕ) → answer_in s mode base line ≡ answer_in s mode at.base line
   pub taken : refusal s base ≡ None
   pub short : length base ≤ longest_line
   pub room : length output ≡ answer_room

@@ -11,7 +11,7 @@ use Rattle.iri_grammar.specs.Components.{is_letter, is_scheme_char}
 use Rattle.iri_grammar.specs.Over.{over_from}
 use Rattle.iri_grammar.specs.Parts.{recompose}
 use Rattle.iri_grammar.specs.Split.{split_of, relative_split_of}
-use Rattle.iri_grammar.specs.WholeFault.{front_fault, parts_fault}
+use Rattle.iri_grammar.specs.WholeFault.{fault_before_fragment, parts_fault}
 use Rattle.iri_percent.specs.CharUnits.{char_units_from}
 use Rattle.iri_percent.specs.NormalHost.{normal_host, is_ascii_host, normal_authority}
 use Rattle.iri_percent.specs.Triplets.{normal}
@@ -31,7 +31,7 @@ use Rattle.iri_cli.specs.Words.{docs_rules}
 unfoldable on_literals : ⊤
 unfolding serde_json_on_literals docs_answer is_utf8 chars encode digits authority_parts recompose_authority any_char unreserved is_ascii_any
     is_ascii_reg_name is_ascii_unreserved is_sub_delim is_gen_delim is_letter is_scheme_char over_from recompose split_of relative_split_of
-    front_fault parts_fault path_char query_char is_ascii_path is_ascii_pchar is_ascii_query char_units_from normal_host is_ascii_host
+    fault_before_fragment parts_fault path_char query_char is_ascii_path is_ascii_pchar is_ascii_query char_units_from normal_host is_ascii_host
     normal_authority normal units_from first_char fault_from varspec_fault is_reserved_operator is_varname is_name_char pieces_from target
     is_dot_segment dots normal_path normal_form form canonical
 on_literals = tt

@@ -27,5 +27,6 @@ pub mod RobotsAnswers
 pub mod RobotsExamples
 pub mod Gen
 pub mod GenExamples
+pub mod SchemeExamples
 pub mod Examples
 pub mod ExpandExamples

@@ -10,7 +10,7 @@ use Rattle.iri_grammar.specs.Components.{is_letter, is_scheme_char}
 use Rattle.iri_grammar.specs.Over.{over_from}
 use Rattle.iri_grammar.specs.Parts.{recompose}
 use Rattle.iri_grammar.specs.Split.{split_of, relative_split_of}
-use Rattle.iri_grammar.specs.WholeFault.{front_fault, parts_fault}
+use Rattle.iri_grammar.specs.WholeFault.{fault_before_fragment, parts_fault}
 use Rattle.iri_link.specs.Fault.{fault_from, closes_from}
 use Rattle.iri_link.specs.Readings.{reading}
 use Rattle.iri_percent.specs.CharUnits.{char_units_from}
@@ -35,7 +35,7 @@ pub answers_to_some_lines : answers (links_rules uri_tests) (codes "https://api.
     ∷ codes "bad parameter value at 6\n" ∷ codes "bad unclosed string at 6\n" ∷ []
 unfolding links_answer fault_from closes_from reading digits canonical normal_form form normal_path target split_of relative_split_of recompose
     dots is_dot_segment is_letter is_scheme_char authority_parts recompose_authority normal_authority normal_host is_ascii_host normal
-    char_units_from first_char chars encode is_utf8 unreserved is_ascii_unreserved front_fault parts_fault over_from userinfo_char
+    char_units_from first_char chars encode is_utf8 unreserved is_ascii_unreserved fault_before_fragment parts_fault over_from userinfo_char
     reg_name_char path_char query_char fragment_char is_ascii_userinfo is_ascii_reg_name is_ascii_path is_ascii_pchar is_ascii_query
     is_sub_delim
 answers_to_some_lines = refl

@@ -11,7 +11,7 @@ use Rattle.iri_grammar.specs.Components.{is_letter, is_scheme_char}
 use Rattle.iri_grammar.specs.Over.{over_from}
 use Rattle.iri_grammar.specs.Parts.{recompose}
 use Rattle.iri_grammar.specs.Split.{split_of, relative_split_of}
-use Rattle.iri_grammar.specs.WholeFault.{front_fault, parts_fault}
+use Rattle.iri_grammar.specs.WholeFault.{fault_before_fragment, parts_fault}
 use Rattle.iri_percent.specs.CharUnits.{char_units_from}
 use Rattle.iri_percent.specs.NormalHost.{normal_host, is_ascii_host, normal_authority}
 use Rattle.iri_percent.specs.Triplets.{normal}
@@ -33,7 +33,7 @@ pub answers_to_some_lines : answers (register_rules uri_tests) base
     ≡ codes "new 1\n" ∷ codes "old 1\n" ∷ codes "new 2\n" ∷ codes "at 1\n" ∷ codes "gone 1\n" ∷ codes "none\n" ∷ codes "bad line\n" ∷ []
 unfolding line_of entries_behind digits canonical normal_form form normal_path target split_of relative_split_of recompose dots
     is_dot_segment is_letter is_scheme_char authority_parts recompose_authority normal_authority normal_host is_ascii_host normal
-    char_units_from first_char chars encode is_utf8 unreserved is_ascii_unreserved front_fault parts_fault over_from userinfo_char
+    char_units_from first_char chars encode is_utf8 unreserved is_ascii_unreserved fault_before_fragment parts_fault over_from userinfo_char
     reg_name_char path_char query_char fragment_char is_ascii_userinfo is_ascii_reg_name is_ascii_path is_ascii_pchar is_ascii_query
     is_sub_delim
 answers_to_some_lines = refl

@@ -9,7 +9,7 @@ use Rattle.iri_grammar.specs.Components.{is_letter, is_scheme_char}
 use Rattle.iri_grammar.specs.Over.{over_from}
 use Rattle.iri_grammar.specs.Parts.{recompose}
 use Rattle.iri_grammar.specs.Split.{split_of, relative_split_of}
-use Rattle.iri_grammar.specs.WholeFault.{front_fault, parts_fault}
+use Rattle.iri_grammar.specs.WholeFault.{fault_before_fragment, parts_fault}
 use Rattle.iri_percent.specs.CharUnits.{char_units_from}
 use Rattle.iri_percent.specs.NormalHost.{normal_host, is_ascii_host, normal_authority}
 use Rattle.iri_percent.specs.Triplets.{normal}
@@ -35,6 +35,6 @@ pub answers_by_rules : answers (robots_rules uri_tests (codes "examplebot")) (co
 unfolding line_of records_behind compared mark_of piece_of pieces some_suffix begins fills is_match matching most_bytes longest_allow is_allowed
     same_site canonical normal_form form normal_path target split_of relative_split_of recompose dots is_dot_segment is_letter is_scheme_char
     authority_parts recompose_authority normal_authority normal_host is_ascii_host normal char_units_from first_char chars encode is_utf8
-    unreserved is_ascii_unreserved front_fault parts_fault over_from userinfo_char reg_name_char path_char query_char fragment_char
+    unreserved is_ascii_unreserved fault_before_fragment parts_fault over_from userinfo_char reg_name_char path_char query_char fragment_char
     is_ascii_userinfo is_ascii_reg_name is_ascii_path is_ascii_pchar is_ascii_query is_sub_delim
 answers_by_rules = refl

@@ -2,9 +2,11 @@
 use Rattle.std.specs.Prelude.{◌≡◌, ◌≤◌, ℕ, codes, decimal, nat_eq, Bool, true, false, List, [], ◌∷◌}
 use Rattle.std.specs.List.{starts_with}
 use Rattle.iri_grammar.specs.Classes.{Tests, uri_tests, iri_tests}
+use Rattle.iri_percent.specs.declared.canon_mode.CanonMode.{CanonMode}
+use Rattle.iri_percent.specs.declared.canon_mode.CanonMode.TheVariants.{Default, Scheme}
 use Rattle.iri_cli.specs.Limits.{longest_line, longest_input}
 use Rattle.iri_cli.specs.Ending.{Rules}
-use Rattle.iri_cli.specs.Answer.{refusal, answer}
+use Rattle.iri_cli.specs.Answer.{refusal, answer_in}
 use Rattle.iri_cli.specs.DocsAnswers.{docs_answer}
 use Rattle.iri_cli.specs.ExpandAnswers.{expand_answer}
 use Rattle.iri_cli.specs.LinksAnswers.{links_answer}
@@ -33,15 +35,24 @@ notice_word Version = codes "--version"
 
 -- how a command over lines is named
 abbrev pub command_word : LineCommand → List ℕ
-command_word Canon = codes "canon"
+command_word (Canon mode) = codes "canon"
 command_word Expand = codes "expand"
 command_word Register = codes "register"
 command_word Links = codes "links"
 command_word Docs = codes "docs"
 
+-- how the mode of `canon` is named
+abbrev pub mode_words : CanonMode → List (List ℕ)
+mode_words Default = []
+mode_words Scheme = codes "scheme" ∷ []
+
 -- the words behind that of its grammar
 abbrev pub words_behind : LineCommand → List (List ℕ)
-words_behind command = []
+words_behind (Canon mode) = mode_words mode
+words_behind Expand = []
+words_behind Register = []
+words_behind Links = []
+words_behind Docs = []
 
 -- a number from 1 to 100000 in decimal, without a leading zero
 pub record IsCount (word : List ℕ) (count : ℕ) : Type 0 where
@@ -74,18 +85,22 @@ abbrev pub is_ok_or_none : List ℕ → Bool
 is_ok_or_none [] = true
 is_ok_or_none (b ∷ answer) = is_ok (b ∷ answer)
 
--- `canon` over the lines of an input: each answer depends on the base and the line alone, nothing is written behind the last one, and no
--- line takes memory
-abbrev pub canon_rules : Tests → Rules
-canon_rules s = record {
+-- `canon` in a mode over the lines of an input: each answer depends on the base and the line alone, nothing is written behind the last
+-- one, and no line takes memory
+abbrev pub canon_rules_in : Tests → CanonMode → Rules
+canon_rules_in s mode = record {
   line_limit = longest_line;
   input_limit = longest_input;
   refusal = refusal s;
-  answer = λ base between line. answer s base line;
+  answer = λ base between line. answer_in s mode base line;
   is_good = is_ok;
   closing = λ base between. [];
   takes_memory = false;
 }
+
+-- the same by the rules of every scheme
+abbrev pub canon_rules : Tests → Rules
+canon_rules s = canon_rules_in s Default
 
 -- `expand`: base and limits as those of `canon`; each answer depends on the lines before, and a line that gives a variable a value has none
 abbrev pub expand_rules : Tests → Rules
@@ -120,7 +135,7 @@ robots_rules s token = record (canon_rules s) { answer = robots_answer s token; 
 
 -- what a command over lines says of them
 abbrev pub rules_of : LineCommand → Tests → Rules
-rules_of Canon s = canon_rules s
+rules_of (Canon mode) s = canon_rules_in s mode
 rules_of Expand s = expand_rules s
 rules_of Register s = register_rules s
 rules_of Links s = links_rules s

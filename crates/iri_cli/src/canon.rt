@@ -3,16 +3,17 @@ ghost use Rattle.std.specs.Prelude.{◌≡◌, ◌≢◌, ◌≤◌, ◌+◌, []
 ghost use Rattle.iri_text.specs.Sink.{PutsAll, KeepsRoom};
 ghost use Rattle.iri_types.specs.SplitText.{split_text};
 ghost use Rattle.iri_types.specs.Texts.{text};
-ghost use Rattle.iri_resolve.specs.NormalForm.{canonical};
+ghost use Rattle.iri_resolve.specs.NormalForm.{canonical_in};
 ghost use Rattle.iri_resolve.specs.Resolver.{base_text};
-ghost use Rattle.iri_cli.specs.Answer.{refusal, answer};
+ghost use Rattle.iri_cli.specs.Answer.{refusal, answer_in};
 ghost use Rattle.iri_cli.specs.CanonAnswers.{PutsLine, told_of};
 ghost use Rattle.iri_cli.specs.declared.answers.AnswerError.TheVariants.{SinkFailed};
 ghost use Rattle.iri_text.specs.LineEnds.{line_feed};
 
 use crate::answers::{AnswerError, Answers};
 use iri_grammar::spec::Spec;
-use iri_resolve::canonical::show_canonical;
+use iri_resolve::canonical::show_canonical_in;
+use iri_resolve::mode::CanonMode;
 use iri_resolve::resolver::FixedBaseResolver;
 use iri_text::{Failed, Sink, SliceSink, TextSink};
 use iri_types::kind::Reference;
@@ -42,17 +43,20 @@ pub fn resolver_of<S: Spec>(line: &[u8]) -> FixedBaseResolver<'_, S>
     }
 }
 
-// The canonical text of a reference and an LF, in a buffer with room for both.
+// The canonical text of a reference by the rules of a mode and an LF, in a buffer with room for both.
 fn fill<'a, S: Spec>(
     line: &mut SliceSink<'_>,
+    mode: CanonMode,
     resolver: &FixedBaseResolver<'a, S>,
     reference: &SplitView<'a, S, Reference>,
 )
     requires empty { line.old.taken ≡ [] }
-    requires room { length (canonical S.tests (base_text resolver.now) (split_text reference.now)) + 1 ≤ line.old.room }
-    ensures { line.new.taken ≡ canonical S.tests (base_text resolver.now) (split_text reference.now) ++ line_feed ∷ [] }
+    requires room { length (canonical_in S.tests mode (base_text resolver.now) (split_text reference.now)) + 1
+        ≤ line.old.room }
+    ensures { line.new.taken
+        ≡ canonical_in S.tests mode (base_text resolver.now) (split_text reference.now) ++ line_feed ∷ [] }
 {
-    if let Ok(()) = show_canonical(line, resolver, reference) {
+    if let Ok(()) = show_canonical_in(line, mode, resolver, reference) {
         let _ = line.put("\n");
     }
 }
@@ -61,16 +65,19 @@ fn fill<'a, S: Spec>(
 fn put_good<'a, S: Spec, O: Sink>(
     sink: &mut O,
     output: &mut [u8],
+    mode: CanonMode,
     resolver: &FixedBaseResolver<'a, S>,
     reference: &SplitView<'a, S, Reference>,
 ) -> Result<(), Failed>
-    requires { length (canonical S.tests (base_text resolver.now) (split_text reference.now)) + 1 ≤ length output.old }
+    requires { length (canonical_in S.tests mode (base_text resolver.now) (split_text reference.now)) + 1
+        ≤ length output.old }
     ensures { PutsAll (O.written sink.old) (O.written sink.new) (O.faults sink.old) (O.faults sink.new)
         (O.room_left sink.old) (O.room_left sink.new) result
-        (codes "ok " ++ (canonical S.tests (base_text resolver.now) (split_text reference.now) ++ line_feed ∷ [])) }
+        (codes "ok " ++ (canonical_in S.tests mode (base_text resolver.now) (split_text reference.now)
+        ++ line_feed ∷ [])) }
 {
     let mut line = SliceSink::new(output);
-    fill(&mut line, resolver, reference);
+    fill(&mut line, mode, resolver, reference);
     sink.put_all(b"ok ")?;
     sink.put_all(line.as_str().as_bytes())
 }
@@ -95,29 +102,31 @@ pub(crate) fn told(good: bool, put: Result<(), Failed>) -> Result<bool, AnswerEr
     }
 }
 
-/// Puts the answer to a line, and says whether it is good.
+/// Puts the answer to a line by the rules of a mode, and says whether it is good.
 pub(crate) fn put_answer<S: Spec, O: Sink>(
     sink: &mut O,
     output: &mut [u8],
+    mode: CanonMode,
     resolver: FixedBaseResolver<'_, S>,
     line: &[u8],
 ) -> Result<bool, AnswerError>
     requires base { refusal S.tests (base_text resolver) ≡ None }
     requires room { length (base_text resolver) + length line.now + 4 ≤ length output.old }
     ensures puts { PutsLine (O.written sink.old) (O.written sink.new) (O.faults sink.old) (O.faults sink.new)
-        (answer S.tests (base_text resolver.entry) line.now) result }
+        (answer_in S.tests mode (base_text resolver.entry) line.now) result }
     ensures room { KeepsRoom (O.room_left sink.old) (O.room_left sink.new)
-        (answer S.tests (base_text resolver.entry) line.now) (result ≢ Err SinkFailed) }
+        (answer_in S.tests mode (base_text resolver.entry) line.now) (result ≢ Err SinkFailed) }
 {
     match SplitView::<S, Reference>::try_from_bytes(line) {
-        Ok(reference) => told(true, put_good(sink, output, &resolver, &reference)),
+        Ok(reference) => told(true, put_good(sink, output, mode, &resolver, &reference)),
         Err(error) => told(false, put_bad(sink, error.kind().description())),
     }
 }
 
-/// Answers each line by its canonical text against a base.
+/// Answers each line by its canonical text against a base, by the rules of a mode.
 #[derive(Drop)]
 pub struct Canon<'a, S: Spec> {
+    pub(crate) mode: CanonMode,
     pub(crate) resolver: FixedBaseResolver<'a, S>,
     pub(crate) output: Vec<u8>,
 }
@@ -126,10 +135,10 @@ impl<'a, S: Spec> Answers for Canon<'a, S> {
     ghost use Rattle.iri_resolve.specs.Resolver.{base_text};
     ghost use Rattle.iri_cli.specs.CanonAnswers.{IsCanonAt};
 
-    ghost stands_at = { λ c at. IsCanonAt S.tests (base_text c.resolver) c.output.items at };
+    ghost stands_at = { λ c at. IsCanonAt S.tests c.mode (base_text c.resolver) c.output.items at };
 
     fn answer<O: Sink>(&mut self, line: &[u8], sink: &mut O) -> Result<bool, AnswerError> {
-        put_answer::<S, O>(sink, &mut self.output, self.resolver, line)
+        put_answer::<S, O>(sink, &mut self.output, self.mode, self.resolver, line)
     }
 
     fn close<O: Sink>(&mut self, _sink: &mut O) -> Result<(), AnswerError> {

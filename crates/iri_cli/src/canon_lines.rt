@@ -1,9 +1,9 @@
 //! The lines of `canon`.
 ghost use Rattle.std.specs.Prelude.{◌≢◌};
-ghost use Rattle.iri_cli.specs.Answer.{AnswersAreCanonical};
+ghost use Rattle.iri_cli.specs.Answer.{AnswersAreCanonical, AnswersAreCanonicalIn};
 ghost use Rattle.iri_cli.specs.Buffers.{AreBuffers};
 ghost use Rattle.iri_cli.specs.Run.{outside, Ran, Runs};
-ghost use Rattle.iri_cli.specs.Words.{canon_rules};
+ghost use Rattle.iri_cli.specs.Words.{canon_rules, canon_rules_in};
 
 use crate::answer_lines::{answer_lines, fault_end};
 use crate::base::{read_base, refuse_base};
@@ -12,10 +12,12 @@ use crate::canon::{Canon, resolver_of};
 use crate::end::{End, finish};
 use crate::prepared::prepare_base;
 use iri_grammar::spec::Spec;
+use iri_resolve::mode::CanonMode;
 use iri_text::{LineReader, Sink, Source};
 
 // Reads the base line into a buffer, prepares it there, and answers the lines behind it.
 fn answer_with<S: Spec, I: Source, O: Sink>(
+    mode: CanonMode,
     mut reader: LineReader,
     buffer: &mut [u8],
     mut output: Vec<u8>,
@@ -23,7 +25,7 @@ fn answer_with<S: Spec, I: Source, O: Sink>(
     sink: &mut O,
 ) -> End
     requires { AreBuffers reader buffer.old output.items }
-    ensures { Ran (canon_rules S.tests) (outside (I.left source.old) (O.written sink.old) (I.faults source.old)
+    ensures { Ran (canon_rules_in S.tests mode) (outside (I.left source.old) (O.written sink.old) (I.faults source.old)
         (O.faults sink.old))
         (outside (I.left source.new) (O.written sink.new) (I.faults source.new) (O.faults sink.new))
         (O.room_left sink.old) (O.room_left sink.new) result }
@@ -35,7 +37,11 @@ fn answer_with<S: Spec, I: Source, O: Sink>(
     match prepare_base::<S>(buffer, len, &mut output) {
         Ok(len) => {
             let resolver = resolver_of::<S>(&buffer[..len]);
-            let mut canon = Canon { resolver, output };
+            let mut canon = Canon {
+                mode,
+                resolver,
+                output,
+            };
             answer_lines(&mut canon, reader, source, sink)
         }
         Err(words) => refuse_base(sink, words),
@@ -44,11 +50,12 @@ fn answer_with<S: Spec, I: Source, O: Sink>(
 
 // Answers the lines of the source in these buffers.
 fn answer_all<S: Spec, I: Source, O: Sink>(
+    mode: CanonMode,
     buffers: CanonBuffers,
     source: &mut I,
     sink: &mut O,
 ) -> End
-    ensures { Ran (canon_rules S.tests) (outside (I.left source.old) (O.written sink.old) (I.faults source.old)
+    ensures { Ran (canon_rules_in S.tests mode) (outside (I.left source.old) (O.written sink.old) (I.faults source.old)
         (O.faults sink.old))
         (outside (I.left source.new) (O.written sink.new) (I.faults source.new) (O.faults sink.new))
         (O.room_left sink.old) (O.room_left sink.new) result }
@@ -58,7 +65,7 @@ fn answer_all<S: Spec, I: Source, O: Sink>(
         mut base,
         output,
     } = buffers;
-    answer_with::<S, I, O>(reader, &mut base, output, source, sink)
+    answer_with::<S, I, O>(mode, reader, &mut base, output, source, sink)
 }
 
 /// Reads a base line and reference lines, answers each reference line by its canonical text, and gives the program's status. It
@@ -83,6 +90,27 @@ pub fn canon_lines<S: Spec, I: Source, O: Sink>(
     // Each good answer is a URI of the spec that splits into exactly the normal form of the target, and is its own canonical text.
     ensures canonical { AnswersAreCanonical S.tests }
 {
-    let end = answer_all::<S, I, O>(buffers, source, sink);
+    canon_lines_in::<S, I, O>(CanonMode::Default, buffers, source, sink)
+}
+
+/// The same by the rules of a mode; [`canon_lines`] is this call with those of every scheme. By scheme rules, for five
+/// schemes, the default port goes, and beside an authority an empty path becomes `/` (RFC 3986 section 6.2.3).
+pub fn canon_lines_in<S: Spec, I: Source, O: Sink>(
+    mode: CanonMode,
+    buffers: CanonBuffers,
+    source: &mut I,
+    sink: &mut O,
+) -> u8
+    ensures runs { Runs (canon_rules_in S.tests mode)
+        (outside (I.left source.old) (O.written sink.old) (I.faults source.old) (O.faults sink.old))
+        (outside (I.left source.new) (O.written sink.new) (I.faults source.new) (O.faults sink.new))
+        (O.room_left sink.old) (O.room_left sink.new) result }
+    ensures a_command { result ≢ 2 }
+    ensures in_memory { result ≢ 6 }
+
+    // Each good answer is a URI of the spec that splits into exactly the normal form of the target, and is its own canonical text.
+    ensures canonical { AnswersAreCanonicalIn S.tests mode }
+{
+    let end = answer_all::<S, I, O>(mode, buffers, source, sink);
     finish(sink, end)
 }

@@ -1,11 +1,12 @@
 //! The commands.
 ghost use Rattle.std.specs.Prelude.{◌≡◌, ◌≢◌, ◌↔◌, ℕ, decimal, true, [], ◌∷◌, map, string_bytes, MatchOption};
-ghost use Rattle.iri_cli.specs.Words.{IsCommand, IsCount, command_word, word_of};
+ghost use Rattle.iri_cli.specs.Words.{IsCommand, IsCount, command_word, word_of, words_behind};
 ghost use Rattle.iri_cli.specs.declared.command.Command.{Command};
 ghost use Rattle.iri_cli.specs.declared.command.Grammar.{Grammar};
 ghost use Rattle.iri_cli.specs.declared.command.LineCommand.{LineCommand};
 
 use crate::notice::{Notice, notice_of};
+use iri_resolve::mode::CanonMode;
 use iri_robots::is_product_token;
 use iri_text::write_to_slice;
 
@@ -21,8 +22,8 @@ pub enum Grammar {
 /// A command over the lines of an input, of which the first is the base.
 #[derive(Clone, Copy)]
 pub enum LineCommand {
-    /// To answer each reference line by its canonical text.
-    Canon,
+    /// To answer each reference line by its canonical text, by the rules of a mode.
+    Canon(CanonMode),
     /// To answer each template by the canonical text of its expansion, with the values that lines before give variables.
     Expand,
     /// To keep each canonical link once, with the numbers of its lines.
@@ -60,13 +61,13 @@ fn grammar_of(word: &str) -> Option<Grammar>
     }
 }
 
-// The command over lines of this name.
+// The command over lines of this name, without a word behind that of its grammar.
 fn line_command_of(word: &str) -> Option<LineCommand>
     ensures { MatchOption result ((command : LineCommand) → word.now ≢ command_word command)
-        (λ command. word.now ≡ command_word command) }
+        (λ command. (word.now ≡ command_word command) × (words_behind command ≡ [])) }
 {
     if word == "canon" {
-        Some(LineCommand::Canon)
+        Some(LineCommand::Canon(CanonMode::Default))
     } else if word == "expand" {
         Some(LineCommand::Expand)
     } else if word == "register" {
@@ -132,6 +133,9 @@ fn command_of_three(name: &str, grammar: &str, third: &str) -> Option<Command>
         (IsCommand (name.now ∷ grammar.now ∷ third.now ∷ [])) }
 {
     let grammar = grammar_of(grammar)?;
+    if name == "canon" && third == "scheme" {
+        return Some(Command::Lines(LineCommand::Canon(CanonMode::Scheme), grammar));
+    }
     if name == "robots" && is_product_token(third) {
         return Some(Command::Robots(grammar));
     }

@@ -17,6 +17,7 @@ use crate::expand_line::{Said, line_of};
 use crate::puts::put_number;
 use crate::variables::apply;
 use iri_grammar::spec::Spec;
+use iri_resolve::mode::CanonMode;
 use iri_resolve::resolver::FixedBaseResolver;
 use iri_template::error::Error;
 use iri_template::expanded::Expanded;
@@ -56,7 +57,7 @@ fn put_expansion<S: Spec, O: Sink>(
         (result ≢ Err SinkFailed) }
 {
     match write_to_slice(expansion, expanded) {
-        Ok(text) => put_answer::<S, O>(sink, output, resolver, text.as_bytes()),
+        Ok(text) => put_answer::<S, O>(sink, output, CanonMode::Default, resolver, text.as_bytes()),
         Err(CapacityOverflowError) => told(false, sink.put_all(b"bad expansion too long\n")),
     }
 }

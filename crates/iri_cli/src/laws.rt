@@ -6,8 +6,8 @@ ghost use Rattle.iri_link.specs.Field.{LinkValue};
 ghost use Rattle.iri_link.specs.Links.{HasLinks};
 ghost use Rattle.iri_link.specs.Resolved.{resolved};
 ghost use Rattle.iri_link.specs.Written.{written};
-ghost use Rattle.iri_resolve.specs.NormalForm.{canonical};
-ghost use Rattle.iri_cli.specs.Answer.{refusal, answer};
+ghost use Rattle.iri_resolve.specs.NormalForm.{canonical_in};
+ghost use Rattle.iri_cli.specs.Answer.{refusal, answer_in};
 ghost use Rattle.iri_cli.specs.LinksAnswers.{field_refusal, links_answer, links_line};
 ghost use Rattle.iri_cli.specs.Prepared.{prepared};
 ghost use Rattle.iri_text.specs.Memory.{SinkState, room_left_of};
@@ -15,6 +15,7 @@ ghost use Rattle.iri_cli.specs.Ending.{Rules, ending};
 ghost use Rattle.iri_cli.specs.Run.{outside, Runs};
 
 use iri_grammar::spec::Spec;
+use iri_resolve::mode::CanonMode;
 
 /// Over plain bytes, and a sink over memory that is told no failing calls and has room for the output of their ending, a
 /// run has that ending's status and writes its output, or allocation failed at a line.
@@ -28,14 +29,14 @@ pub fn run_over_memory()
 {}
 
 /// A base whose scheme and authority are put into normal form is an absolute URI again, is no longer than before, and has the same
-/// canonical texts. So each line has the same answer against it.
+/// canonical texts in every mode. So each line has the same answer against it.
 pub fn prepared_base_has_the_same_answers<S: Spec>()
     ensures valid { (base : List ℕ) → IsAbsolute S.tests base → IsAbsolute S.tests (prepared S.tests base) }
     ensures len { (base : List ℕ) → IsAbsolute S.tests base → length (prepared S.tests base) ≤ length base }
-    ensures texts { (base reference : List ℕ) → IsAbsolute S.tests base
-        → canonical S.tests (prepared S.tests base) reference ≡ canonical S.tests base reference }
-    ensures answers { (base line : List ℕ) → refusal S.tests base ≡ None
-        → answer S.tests (prepared S.tests base) line ≡ answer S.tests base line }
+    ensures texts { (mode : CanonMode) (base reference : List ℕ) → IsAbsolute S.tests base
+        → canonical_in S.tests mode (prepared S.tests base) reference ≡ canonical_in S.tests mode base reference }
+    ensures answers { (mode : CanonMode) (base line : List ℕ) → refusal S.tests base ≡ None
+        → answer_in S.tests mode (prepared S.tests base) line ≡ answer_in S.tests mode base line }
 {}
 
 /// `links` answers a field value whose targets are URI-references by its one list of link-values, with their canonical targets, and

@@ -21,6 +21,7 @@ pub enum Notice {
 pub const HELP: &str = "\
 irikit: canonical texts of URI and IRI references (RFC 3986, RFC 3987)
   irikit canon GRAMMAR          answers each reference line by its canonical text against a base
+  irikit canon GRAMMAR scheme   the same by the rules of five schemes too: default ports go, empty paths become / (RFC 3986 6.2.3)
   irikit expand GRAMMAR         answers each URI template by the canonical text of its expansion (RFC 6570)
   irikit register GRAMMAR       keeps each link once, with the numbers of its lines, and writes them at the end
   irikit links GRAMMAR          answers the value of each Link header field by its links in one form (RFC 8288)

@@ -1,9 +1,9 @@
 //! The run of the program.
 ghost use Rattle.std.specs.Prelude.{◌≡◌, ◌≢◌, ◌⊎◌, ◌≤◌, ℕ, List, true, IfOk, map, string_bytes};
 ghost use Rattle.iri_text.specs.Sink.{KeepsRoom};
-ghost use Rattle.iri_cli.specs.Words.{IsCommand, IsRobots, canon_rules, robots_rules, rules_of, tests_of};
+ghost use Rattle.iri_cli.specs.Words.{IsCommand, IsRobots, canon_rules_in, robots_rules, rules_of, tests_of};
 ghost use Rattle.iri_robots.specs.FileLines.{is_token};
-ghost use Rattle.iri_cli.specs.Answer.{AnswersAreCanonical};
+ghost use Rattle.iri_cli.specs.Answer.{AnswersAreCanonicalIn};
 ghost use Rattle.iri_cli.specs.Run.{RunsLines, outside};
 ghost use Rattle.iri_cli.specs.Gen.{gen_text};
 ghost use Rattle.iri_cli.specs.Notices.{PutsText, Tells, notice_text};
@@ -13,7 +13,7 @@ ghost use Rattle.iri_cli.specs.declared.command.LineCommand.{LineCommand};
 ghost use Rattle.iri_cli.specs.declared.notice.Notice.{Notice};
 
 use crate::buffers::CanonBuffers;
-use crate::canon_lines::canon_lines;
+use crate::canon_lines::canon_lines_in;
 use crate::command::{Command, Grammar, LineCommand, command_of};
 use crate::docs::Docs;
 use crate::expand_lines::expand_lines;
@@ -24,6 +24,7 @@ use crate::register_lines::register_lines;
 use crate::robots_lines::robots_lines;
 use crate::stateless_lines::stateless_lines;
 use iri_grammar::spec::{IriSpec, Spec, UriSpec};
+use iri_resolve::mode::CanonMode;
 use iri_text::{Sink, Source};
 use std::alloc::{AllocError, Global};
 
@@ -33,15 +34,20 @@ pub const NO_COMMAND: u8 = 2;
 /// The status where allocation failed.
 pub const MEMORY: u8 = 6;
 
-// `canon`: makes the buffers, and answers the lines of the source in them.
-fn canon<S: Spec, I: Source, O: Sink>(alloc: Global, source: &mut I, sink: &mut O) -> u8
-    ensures { RunsLines (canon_rules S.tests)
+// `canon` in a mode: makes the buffers, and answers the lines of the source in them.
+fn canon<S: Spec, I: Source, O: Sink>(
+    alloc: Global,
+    mode: CanonMode,
+    source: &mut I,
+    sink: &mut O,
+) -> u8
+    ensures { RunsLines (canon_rules_in S.tests mode)
         (outside (I.left source.old) (O.written sink.old) (I.faults source.old) (O.faults sink.old))
         (outside (I.left source.new) (O.written sink.new) (I.faults source.new) (O.faults sink.new))
         (O.room_left sink.old) (O.room_left sink.new) result }
 {
     match CanonBuffers::new(alloc) {
-        Ok(buffers) => canon_lines::<S, I, O>(buffers, source, sink),
+        Ok(buffers) => canon_lines_in::<S, I, O>(mode, buffers, source, sink),
         Err(_) => MEMORY,
     }
 }
@@ -59,7 +65,7 @@ fn lines_in<S: Spec, I: Source, O: Sink>(
         (O.room_left sink.old) (O.room_left sink.new) result }
 {
     match command {
-        LineCommand::Canon => canon::<S, I, O>(alloc, source, sink),
+        LineCommand::Canon(mode) => canon::<S, I, O>(alloc, mode, source, sink),
         LineCommand::Expand => expand_lines::<S, I, O>(alloc, source, sink),
         LineCommand::Register => register_lines::<S, I, O>(alloc, source, sink),
         LineCommand::Links => stateless_lines::<S, Links, I, O>(alloc, source, sink),
@@ -179,10 +185,11 @@ pub fn run<I: Source, O: Sink>(alloc: Global, words: &[String], source: &mut I, 
         let new = outside (I.left source.new) (O.written sink.new) (I.faults source.new) (O.faults sink.new) in
         Tells (gen_text (tests_of grammar) count) old new (O.room_left sink.old) (O.room_left sink.new) result ⊎ ((result ≡ 6) × (new ≡ old))) }
 
-    // `canon`: each good answer is a URI of the spec that splits into exactly the normal form of the target, and is its own
-    // canonical text.
-    ensures canonical { (grammar : Grammar) → IsCommand (map string_bytes words.now) (Command.Lines LineCommand.Canon grammar)
-        → AnswersAreCanonical (tests_of grammar) }
+    // `canon`, in the mode that its words name: each good answer is a URI of the spec that splits into exactly the normal form of
+    // the target, and is its own canonical text.
+    ensures canonical { (mode : CanonMode) (grammar : Grammar)
+        → IsCommand (map string_bytes words.now) (Command.Lines (LineCommand.Canon mode) grammar)
+        → AnswersAreCanonicalIn (tests_of grammar) mode }
 {
     match command_of(words) {
         Some(Command::Lines(command, grammar)) => lines_by(alloc, command, grammar, source, sink),

@@ -62,6 +62,19 @@ pub struct StatelessAnswers<S: Spec, C: Stateless> {
     pub(crate) command: PhantomData<C>,
 }
 
+impl<S: Spec, C: Stateless> StatelessAnswers<S, C> {
+    /// The answers by a base.
+    pub(crate) fn new(alloc: Global, base: RiAbsoluteString<S>) -> Self
+        ensures { result.base.text ≡ base.text }
+    {
+        StatelessAnswers {
+            alloc,
+            base,
+            command: PhantomData,
+        }
+    }
+}
+
 impl<S: Spec, C: Stateless> Answers for StatelessAnswers<S, C> {
     ghost use Rattle.iri_cli.specs.inside.StatelessAt.{IsStatelessAt};
 

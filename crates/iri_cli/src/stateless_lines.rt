@@ -9,7 +9,6 @@ use crate::stateless::{Stateless, StatelessAnswers};
 use iri_grammar::spec::Spec;
 use iri_text::{Sink, Source};
 use std::alloc::Global;
-use std::marker::PhantomData;
 
 // Reads the base line, and answers the lines behind it.
 fn answer_all<S: Spec, C: Stateless, I: Source, O: Sink>(
@@ -24,11 +23,7 @@ fn answer_all<S: Spec, C: Stateless, I: Source, O: Sink>(
 {
     match open_lines::<S, I, O>(alloc, source, sink) {
         Ok((reader, base)) => {
-            let mut answers = StatelessAnswers::<S, C> {
-                alloc,
-                base,
-                command: PhantomData,
-            };
+            let mut answers = StatelessAnswers::<S, C>::new(alloc, base);
             answer_lines(&mut answers, reader, source, sink)
         }
         Err(end) => end,

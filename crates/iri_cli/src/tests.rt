@@ -6,6 +6,7 @@ mod documents;
 mod expansions;
 mod link_fields;
 mod registers;
+mod schemes;
 
 use crate::buffers::{CanonBuffers, LINE};
 use crate::canon_lines::canon_lines;
@@ -95,7 +96,7 @@ fn line_ends(rt: HostRuntime) -> Result<(), Fail> {
 
 #[test]
 fn words_that_are_no_command(rt: HostRuntime) -> Result<(), Fail> {
-    let lists: [&[&str]; 14] = [
+    let lists: [&[&str]; 19] = [
         &[],
         &["canon"],
         &["gen", "uri", "0"],
@@ -106,6 +107,11 @@ fn words_that_are_no_command(rt: HostRuntime) -> Result<(), Fail> {
         &["canon", "url"],
         &["Canon", "uri"],
         &["canon", "uri", "x"],
+        &["canon", "uri", "Scheme"],
+        &["canon", "uri", ""],
+        &["canon", "scheme", "uri"],
+        &["canon", "uri", "scheme", "x"],
+        &["expand", "uri", "scheme"],
         &["expand"],
         &["expand", "url"],
         &["expand", "uri", "x"],
@@ -189,6 +195,7 @@ fn notices(rt: HostRuntime) -> Result<(), Fail> {
     }
     for command in [
         "canon GRAMMAR",
+        "canon GRAMMAR scheme",
         "expand GRAMMAR",
         "links GRAMMAR",
         "docs GRAMMAR",
@@ -221,10 +228,10 @@ fn long_lines(rt: HostRuntime) -> Result<(), Fail> {
     Ok(())
 }
 
-// Whether this reference line against this base has this answer.
+// Whether this reference line against this base has this answer in the run of these words.
 fn row(
     rt: &HostRuntime,
-    grammar: &str,
+    words: &[&str],
     base: &str,
     line: &[u8],
     answer: &str,
@@ -239,7 +246,7 @@ fn row(
     let status = if answer.starts_with("ok ") { 0 } else { 1 };
     answers(
         rt,
-        &["canon", grammar],
+        words,
         &mut PlainSource::new(&input),
         &[],
         status,
@@ -247,11 +254,11 @@ fn row(
     )
 }
 
-// How many rows come before the first reference that has another answer against this base: all in one run, and one by one where
-// that has another output.
+// How many rows come before the first reference that has another answer against this base in the run of these words: all in one
+// run, and one by one where that has another output.
 fn right_rows(
     rt: &HostRuntime,
-    grammar: &str,
+    words: &[&str],
     base: &str,
     rows: &[(&str, &str)],
 ) -> Result<usize, Fail> {
@@ -269,12 +276,12 @@ fn right_rows(
         }
     }
     let mut source = PlainSource::new(&input);
-    if answers(rt, &["canon", grammar], &mut source, &[], status, &output)? {
+    if answers(rt, words, &mut source, &[], status, &output)? {
         return Ok(rows.len());
     }
     let mut right = 0usize;
     for (reference, answer) in rows {
-        if !row(rt, grammar, base, reference.as_bytes(), answer)? {
+        if !row(rt, words, base, reference.as_bytes(), answer)? {
             break;
         }
         right = right.saturating_add(1);
@@ -329,7 +336,7 @@ fn reference_resolution_examples(rt: HostRuntime) -> Result<(), Fail> {
         ("http:g", "ok http:g"),
     ];
     assert_eq!(rt;
-        right_rows(&rt, "uri", "http://a/b/c/d;p?q", &examples)?,
+        right_rows(&rt, &["canon", "uri"], "http://a/b/c/d;p?q", &examples)?,
         examples.len()
     );
     let input = b"http://a/b/c/d;p?q\n\n";
@@ -374,27 +381,27 @@ fn answers_of_both_grammars(rt: HostRuntime) -> Result<(), Fail> {
     ];
     for grammar in ["uri", "iri"] {
         assert_eq!(rt;
-            right_rows(&rt, grammar, "http://a/", &against_host)?,
+            right_rows(&rt, &["canon", grammar], "http://a/", &against_host)?,
             against_host.len()
         );
         assert_eq!(rt;
-            right_rows(&rt, grammar, "scheme:a", &against_scheme)?,
+            right_rows(&rt, &["canon", grammar], "scheme:a", &against_scheme)?,
             against_scheme.len()
         );
         assert_eq!(rt;
-            right_rows(&rt, grammar, "http://a/b", &against_path)?,
+            right_rows(&rt, &["canon", grammar], "http://a/b", &against_path)?,
             against_path.len()
         );
         for (base, reference, answer) in others {
             assert!(rt;
-                row(&rt, grammar, base, reference.as_bytes(), answer)?,
+                row(&rt, &["canon", grammar], base, reference.as_bytes(), answer)?,
                 "{reference} against {base}"
             );
         }
         assert!(rt;
             row(
                 &rt,
-                grammar,
+                &["canon", grammar],
                 "http://a/",
                 b"\xff",
                 "bad invalid utf-8 bytes"
@@ -434,8 +441,8 @@ fn answers_of_each_grammar(rt: HostRuntime) -> Result<(), Fail> {
         ),
     ];
     for (base, reference, uri, iri) in rows {
-        assert!(rt; row(&rt, "uri", base, reference.as_bytes(), uri)?);
-        assert!(rt; row(&rt, "iri", base, reference.as_bytes(), iri)?);
+        assert!(rt; row(&rt, &["canon", "uri"], base, reference.as_bytes(), uri)?);
+        assert!(rt; row(&rt, &["canon", "iri"], base, reference.as_bytes(), iri)?);
     }
     Ok(())
 }

@@ -3,9 +3,9 @@ use Rattle.std.specs.Prelude.{codes}
 use Rattle.iri_text.specs.Sink.{PutsAll, KeepsRoom}
 use Rattle.iri_cli.specs.declared.answers.AnswerError.TheVariants.{SinkFailed}
 use Rattle.iri_types.specs.SplitText.{split_text}
-use Rattle.iri_resolve.specs.NormalForm.{canonical}
+use Rattle.iri_resolve.specs.NormalForm.{canonical_in}
 use Rattle.iri_resolve.specs.Resolver.{base_text}
-use Rattle.iri_cli.specs.Answer.{answer, good_answer, bad_answer}
+use Rattle.iri_cli.specs.Answer.{answer_in, good_answer, bad_answer}
 use Rattle.iri_cli.specs.CanonAnswers.{PutsLine, told_of}
 use Rattle.iri_cli.proofs.AnswerLemmas.{answer_of_reference, answer_of_fault}
 use Rattle.iri_cli.proofs.CanonLemmas.{puts_line, line_room, has_room}
@@ -14,27 +14,29 @@ use Rattle.iri_cli.proofs.canon.put_answer.Goals as goal
 pub put_good-requires : goal.put_good-requires
 put_good-requires g c =
     let h = c.in-Ok.ensures in
-    has_room g.S.Spec.tests (base_text c.args.resolver) c.args.line.now
+    has_room g.S.Spec.tests c.args.mode (base_text c.args.resolver) c.args.line.now
     (split_text c.in-Ok.reference) c.args.output.now g.met.S.Spec.lawful c.requires.base h.fault h.text c.requires.room
 
 pub returns-in-Ok-clause-puts : goal.returns-in-Ok-clause-puts
 returns-in-Ok-clause-puts g c =
     let h = c.in-Ok.ensures in
     let s = g.S.Spec.tests in
+    let m = c.args.mode in
     let base = base_text c.args.resolver in
     let wo = g.O.Sink.written c.args.sink.now in
     let wn = g.O.Sink.written c.put_good.new.sink in
     let fo = g.O.Sink.faults c.args.sink.now in
     let fn = g.O.Sink.faults c.put_good.new.sink in
-    let text = canonical s base (split_text c.in-Ok.reference) in
-    subst (λ r. PutsLine wo wn fo fn (answer s base c.args.line.now) r) (sym c.told.ensures)
+    let text = canonical_in s m base (split_text c.in-Ok.reference) in
+    subst (λ r. PutsLine wo wn fo fn (answer_in s m base c.args.line.now) r) (sym c.told.ensures)
     (subst (λ t. PutsLine wo wn fo fn t (told_of true c.put_good.result))
-    (answer_of_reference s base (split_text c.in-Ok.reference) c.args.line.now h.fault h.text)
+    (answer_of_reference s m base (split_text c.in-Ok.reference) c.args.line.now h.fault h.text)
     (puts_line true c.put_good.result (good_answer text) c.put_good.ensures refl))
 
 pub returns-in-Err-clause-puts : goal.returns-in-Err-clause-puts
 returns-in-Err-clause-puts g c =
     let s = g.S.Spec.tests in
+    let m = c.args.mode in
     let base = base_text c.args.resolver in
     let wo = g.O.Sink.written c.args.sink.now in
     let wn = g.O.Sink.written c.put_bad.new.sink in
@@ -44,27 +46,29 @@ returns-in-Err-clause-puts g c =
     let rn = g.O.Sink.room_left c.put_bad.new.sink in
     let puts = subst (λ t. PutsAll wo wn fo fn ro rn c.put_bad.result
     (codes "bad " ++ (t ++ 10 ∷ []))) c.description.ensures c.put_bad.ensures in
-    subst (λ r. PutsLine wo wn fo fn (answer s base c.args.line.now) r) (sym c.told-in-Err.ensures)
+    subst (λ r. PutsLine wo wn fo fn (answer_in s m base c.args.line.now) r) (sym c.told-in-Err.ensures)
     (subst (λ t. PutsLine wo wn fo fn t (told_of false c.put_bad.result))
-    (answer_of_fault s base c.args.line.now c.kind.result (c.in-Err.ensures.fault ∙ ap Some (sym c.kind.ensures)))
+    (answer_of_fault s m base c.args.line.now c.kind.result (c.in-Err.ensures.fault ∙ ap Some (sym c.kind.ensures)))
     (puts_line false c.put_bad.result (bad_answer c.kind.result) puts refl))
 
 pub returns-in-Ok-clause-room : goal.returns-in-Ok-clause-room
 returns-in-Ok-clause-room g c =
     let h = c.in-Ok.ensures in
     let s = g.S.Spec.tests in
+    let m = c.args.mode in
     let base = base_text c.args.resolver in
     let ro = g.O.Sink.room_left c.args.sink.now in
     let rn = g.O.Sink.room_left c.put_good.new.sink in
-    let text = canonical s base (split_text c.in-Ok.reference) in
-    subst (λ r. KeepsRoom ro rn (answer s base c.args.line.now) (r ≢ Err SinkFailed)) (sym c.told.ensures)
+    let text = canonical_in s m base (split_text c.in-Ok.reference) in
+    subst (λ r. KeepsRoom ro rn (answer_in s m base c.args.line.now) (r ≢ Err SinkFailed)) (sym c.told.ensures)
     (subst (λ t. KeepsRoom ro rn t (told_of true c.put_good.result ≢ Err SinkFailed))
-    (answer_of_reference s base (split_text c.in-Ok.reference) c.args.line.now h.fault h.text)
+    (answer_of_reference s m base (split_text c.in-Ok.reference) c.args.line.now h.fault h.text)
     (line_room true c.put_good.result (good_answer text) c.put_good.ensures))
 
 pub returns-in-Err-clause-room : goal.returns-in-Err-clause-room
 returns-in-Err-clause-room g c =
     let s = g.S.Spec.tests in
+    let m = c.args.mode in
     let base = base_text c.args.resolver in
     let wo = g.O.Sink.written c.args.sink.now in
     let wn = g.O.Sink.written c.put_bad.new.sink in
@@ -74,7 +78,7 @@ returns-in-Err-clause-room g c =
     let rn = g.O.Sink.room_left c.put_bad.new.sink in
     let puts = subst (λ t. PutsAll wo wn fo fn ro rn c.put_bad.result
     (codes "bad " ++ (t ++ 10 ∷ []))) c.description.ensures c.put_bad.ensures in
-    subst (λ r. KeepsRoom ro rn (answer s base c.args.line.now) (r ≢ Err SinkFailed)) (sym c.told-in-Err.ensures)
+    subst (λ r. KeepsRoom ro rn (answer_in s m base c.args.line.now) (r ≢ Err SinkFailed)) (sym c.told-in-Err.ensures)
     (subst (λ t. KeepsRoom ro rn t (told_of false c.put_bad.result ≢ Err SinkFailed))
-    (answer_of_fault s base c.args.line.now c.kind.result (c.in-Err.ensures.fault ∙ ap Some (sym c.kind.ensures)))
+    (answer_of_fault s m base c.args.line.now c.kind.result (c.in-Err.ensures.fault ∙ ap Some (sym c.kind.ensures)))
     (line_room false c.put_bad.result (bad_answer c.kind.result) puts))

@@ -2,12 +2,12 @@ use Rattle.std.proofs.Common.{[], ◌∷◌, ◌++◌, ◌∙◌, subst}
 use Rattle.iri_text.specs.Sink.{PutsAll}
 use Rattle.iri_text.proofs.Puts.{puts-then, puts-exit}
 use Rattle.iri_types.specs.SplitText.{split_text}
-use Rattle.iri_resolve.specs.NormalForm.{canonical}
+use Rattle.iri_resolve.specs.NormalForm.{canonical_in}
 use Rattle.iri_resolve.specs.Resolver.{base_text}
 use Rattle.iri_cli.proofs.canon.put_good.Goals as goal
 
 pub returns-in_err-put_all : goal.returns-in_err-put_all
-returns-in_err-put_all g c = puts-exit (canonical g.S.Spec.tests (base_text c.args.resolver.now) (split_text c.args.reference.now) ++ 10
+returns-in_err-put_all g c = puts-exit (canonical_in g.S.Spec.tests c.args.mode (base_text c.args.resolver.now) (split_text c.args.reference.now) ++ 10
     ∷ []) c.from_residual.ensures.0 c.in_err-put_all.ensures
 
 pub returns : goal.returns

@@ -1,14 +1,9 @@
-use Rattle.std.proofs.Common.{◌≡◌, ◌∙◌, ℕ, List, [], ◌∷◌, ◌++◌, Option, Result, ap, subst}
+use Rattle.std.proofs.Common.{◌∙◌, [], ◌∷◌, ◌++◌, ap}
 use Rattle.std.specs.Prelude.{codes, decimal}
-use Rattle.iri_text.specs.Sink.{PutsAll}
-use Rattle.iri_text.specs.declared.Failed.{Failed}
 use Rattle.iri_text.proofs.Puts.{puts-then, puts-exit}
 use Rattle.iri_template.specs.ErrorTexts.{description}
+use Rattle.iri_cli.proofs.PutLemmas.{puts_so}
 use Rattle.iri_cli.proofs.expand.put_refusal.Goals as goal
-
-puts_as : {a b : Option (List ℕ)} {fa fb : ℕ} {ra rb : Option ℕ} {r : Result (Unit {0}) Failed} {t u : List ℕ} → t ≡ u
-    → PutsAll a b fa fb ra rb r t → PutsAll a b fa fb ra rb r u
-puts_as {a} {b} {fa} {fb} {ra} {rb} {r} e p = subst (PutsAll a b fa fb ra rb r) e p
 
 pub returns-in_err-put_all : goal.returns-in_err-put_all
 returns-in_err-put_all g c =
@@ -19,22 +14,22 @@ pub returns-in_err-put_all-2 : goal.returns-in_err-put_all-2
 returns-in_err-put_all-2 g c =
     let words = c.as_bytes.ensures.value ∙ c.description.ensures ∙ ap description c.kind.ensures in
     puts-then c.in_ok-put_all.ensures (puts-exit (codes " at " ++ (decimal c.args.error.location ++ 10 ∷ []))
-    c.from_residual-in_err-put_all-2.ensures.0 (puts_as words c.in_err-put_all-2.ensures))
+    c.from_residual-in_err-put_all-2.ensures.0 (puts_so words c.in_err-put_all-2.ensures))
 
 pub returns-in_err-put_all-3 : goal.returns-in_err-put_all-3
 returns-in_err-put_all-3 g c =
     let words = c.as_bytes.ensures.value ∙ c.description.ensures ∙ ap description c.kind.ensures in
-    puts-then c.in_ok-put_all.ensures (puts-then (puts_as words c.in_ok-put_all-2.ensures)
+    puts-then c.in_ok-put_all.ensures (puts-then (puts_so words c.in_ok-put_all-2.ensures)
     (puts-exit (decimal c.args.error.location ++ 10 ∷ []) c.from_residual-in_err-put_all-3.ensures.0 c.in_err-put_all-3.ensures))
 
 pub returns-in_err-put_number : goal.returns-in_err-put_number
 returns-in_err-put_number g c =
     let words = c.as_bytes.ensures.value ∙ c.description.ensures ∙ ap description c.kind.ensures in
-    puts-then c.in_ok-put_all.ensures (puts-then (puts_as words c.in_ok-put_all-2.ensures) (puts-then c.in_ok-put_all-3.ensures
-    (puts-exit (10 ∷ []) c.from_residual-in_err-put_number.ensures.0 (puts_as (ap decimal c.location.ensures) c.in_err-put_number.ensures))))
+    puts-then c.in_ok-put_all.ensures (puts-then (puts_so words c.in_ok-put_all-2.ensures) (puts-then c.in_ok-put_all-3.ensures
+    (puts-exit (10 ∷ []) c.from_residual-in_err-put_number.ensures.0 (puts_so (ap decimal c.location.ensures) c.in_err-put_number.ensures))))
 
 pub returns : goal.returns
 returns g c =
     let words = c.as_bytes.ensures.value ∙ c.description.ensures ∙ ap description c.kind.ensures in
-    puts-then c.in_ok-put_all.ensures (puts-then (puts_as words c.in_ok-put_all-2.ensures) (puts-then c.in_ok-put_all-3.ensures
-    (puts-then (puts_as (ap decimal c.location.ensures) c.in_ok-put_number.ensures) c.put_all-4.ensures)))
+    puts-then c.in_ok-put_all.ensures (puts-then (puts_so words c.in_ok-put_all-2.ensures) (puts-then c.in_ok-put_all-3.ensures
+    (puts-then (puts_so (ap decimal c.location.ensures) c.in_ok-put_number.ensures) c.put_all-4.ensures)))

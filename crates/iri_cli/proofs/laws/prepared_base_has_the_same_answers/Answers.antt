@@ -8,7 +8,7 @@ pub returns-clause-len : goal.returns-clause-len
 returns-clause-len g c base b = prepared_short g.S.Spec.tests base g.met.S.Spec.lawful b
 
 pub returns-clause-texts : goal.returns-clause-texts
-returns-clause-texts g c base reference b = same_canonical g.S.Spec.tests base reference g.met.S.Spec.lawful b
+returns-clause-texts g c mode base reference b = same_canonical g.S.Spec.tests mode base reference g.met.S.Spec.lawful b
 
 pub returns-clause-answers : goal.returns-clause-answers
-returns-clause-answers g c base line taken = same_answer g.S.Spec.tests base line g.met.S.Spec.lawful taken
+returns-clause-answers g c mode base line taken = same_answer g.S.Spec.tests mode base line g.met.S.Spec.lawful taken

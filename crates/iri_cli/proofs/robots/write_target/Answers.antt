@@ -13,7 +13,7 @@ use Rattle.iri_resolve.specs.Normalized.{written_text}
 use Rattle.iri_resolve.specs.NormalizedText.{written}
 use Rattle.iri_resolve.specs.Resolver.{base_text}
 use Rattle.iri_resolve.specs.Target.{takes_base_path}
-use Rattle.iri_resolve.proofs.FormLaws.{canonical-iri}
+use Rattle.iri_resolve.proofs.CanonLaws.{canonical-iri}
 use Rattle.iri_resolve.proofs.ModeLemmas.{made-normal, written-canonical}
 use Rattle.iri_cli.proofs.robots.write_target.Goals as goal
 

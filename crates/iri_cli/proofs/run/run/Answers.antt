@@ -11,19 +11,19 @@ use Rattle.iri_cli.proofs.WordLemmas.{one_gen}
 use Rattle.iri_cli.proofs.run.run.Goals as goal
 
 pub returns-in-Some-Lines-clause-canonical : goal.returns-in-Some-Lines-clause-canonical
-returns-in-Some-Lines-clause-canonical g c = λ grammar _ base line taken none. canonical_answers (tests_of grammar)
+returns-in-Some-Lines-clause-canonical g c = λ mode grammar _ base line taken none. canonical_answers (tests_of grammar) mode
     (grammar_is_spec grammar) base line taken none
 
 pub returns-in-Some-Tell-clause-canonical : goal.returns-in-Some-Tell-clause-canonical
-returns-in-Some-Tell-clause-canonical g c = λ grammar _ base line taken none. canonical_answers (tests_of grammar)
+returns-in-Some-Tell-clause-canonical g c = λ mode grammar _ base line taken none. canonical_answers (tests_of grammar) mode
     (grammar_is_spec grammar) base line taken none
 
 pub returns-in-Some-Gen-clause-canonical : goal.returns-in-Some-Gen-clause-canonical
-returns-in-Some-Gen-clause-canonical g c = λ grammar _ base line taken none. canonical_answers (tests_of grammar)
+returns-in-Some-Gen-clause-canonical g c = λ mode grammar _ base line taken none. canonical_answers (tests_of grammar) mode
     (grammar_is_spec grammar) base line taken none
 
 pub returns-in-None-clause-canonical : goal.returns-in-None-clause-canonical
-returns-in-None-clause-canonical g c = λ grammar _ base line taken none. canonical_answers (tests_of grammar)
+returns-in-None-clause-canonical g c = λ mode grammar _ base line taken none. canonical_answers (tests_of grammar) mode
     (grammar_is_spec grammar) base line taken none
 
 pub returns-in-None-clause-tells : goal.returns-in-None-clause-tells
