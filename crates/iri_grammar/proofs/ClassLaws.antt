@@ -50,7 +50,7 @@ class_past_ascii s Fragment c h = rw (ascii_test_past Fragment c h) refl
 class_past_ascii s Any c h = rw (ascii_test_past Any c h) refl
 
 -- `%` is in no class
-no_percent : (k : Class) → ascii_test k 37 ≡ false
+pub no_percent : (k : Class) → ascii_test k 37 ≡ false
 unfolding is_ascii_unreserved is_ascii_reg_name is_ascii_userinfo is_ascii_pchar is_ascii_path is_ascii_query is_ascii_any is_sub_delim
     is_gen_delim
 no_percent Unreserved = refl

@@ -2,6 +2,7 @@ pub mod CutLemmas
 pub mod Tables
 pub mod Units
 pub mod MarkLemmas
+pub mod PlainTails
 pub mod Octets
 pub mod Marks
 pub mod Groups

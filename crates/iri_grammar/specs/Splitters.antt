@@ -1,4 +1,5 @@
 -- What a splitter holds.
+use Rattle.std.specs.Prelude.{Bool}
 use Rattle.iri_grammar.specs.Parts.{Parts}
 use Rattle.iri_grammar.specs.OptionalSlices.{now_of}
 use Rattle.iri_grammar.specs.declared.splitter.Splitter.{Splitter}
@@ -12,3 +13,7 @@ parts s = record {
   query = now_of s.query;
   fragment = now_of s.fragment;
 }
+
+-- whether path, query and fragment were found to be plain
+abbrev pub found_plain : Splitter → Bool
+found_plain s = s.plain

@@ -5,3 +5,4 @@ pub mod Laws
 pub mod Marks
 pub mod PiecesLaws
 pub mod Runs
+pub mod Tails

@@ -20,4 +20,5 @@ pub mod laws;
 pub mod over;
 pub mod spec;
 pub mod splitter;
+mod tail;
 pub mod validate;

@@ -1,5 +1,6 @@
 //! Texts over a class: characters of the class and triplets (RFC 3986 section 2.1).
-ghost use Rattle.std.specs.Prelude.{◌≡◌, drop, false, MatchOption};
+ghost use Rattle.std.specs.Prelude.{◌≡◌, ◌++◌, drop, false, true, MatchOption};
+ghost use Rattle.std.specs.List.{list_all};
 ghost use Rattle.iri_grammar.specs.ClassTests.{class_test, ascii_test};
 ghost use Rattle.iri_grammar.specs.Over.{text_over};
 ghost use Rattle.iri_grammar.specs.Runs.{run_of};
@@ -25,6 +26,23 @@ pub fn past_run(class: Class, s: &str) -> &str
     ensures { result.now ≡ drop (run_of (ascii_test class) s.now) s.now }
 {
     &s[run_len(class, s.as_bytes())..]
+}
+
+/// The ASCII characters of the class at the start, and what follows them.
+pub(crate) fn cut_run(class: Class, s: &str) -> (&str, &str)
+    ensures whole { s.now ≡ result.0.now ++ result.1.now }
+    ensures run { list_all (ascii_test class) result.0.now ≡ true }
+{
+    let end = run_len(class, s.as_bytes());
+    (&s[..end], &s[end..])
+}
+
+/// Whether the text is made of ASCII characters of the class alone.
+#[tactic(auto, using(crate::proofs::MarkLemmas::run_of_all))]
+pub(crate) fn is_plain(class: Class, s: &str) -> bool
+    ensures { result ≡ list_all (ascii_test class) s.now }
+{
+    run_len(class, s.as_bytes()) == s.len()
 }
 
 /// Whether the bytes begin with a triplet.

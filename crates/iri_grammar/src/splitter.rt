@@ -1,36 +1,51 @@
 //! The split of a reference into its five parts (RFC 3986 section 3).
-ghost use Rattle.std.specs.Prelude.{◌≡◌, None, IfOk, MatchOption};
+ghost use Rattle.std.specs.Prelude.{◌≡◌, None, IfOk, MatchOption, true};
 ghost use Rattle.std.specs.List.{list_all};
 ghost use Rattle.iri_grammar.specs.Components.{is_scheme, is_scheme_char};
-ghost use Rattle.iri_grammar.specs.Cut.{before, behind};
 ghost use Rattle.iri_grammar.specs.Fault.{Answers};
 ghost use Rattle.iri_grammar.specs.Marks.{before_any, from_any};
 ghost use Rattle.iri_grammar.specs.inside.Marks.{ends_scheme, SchemeAt, NoScheme, ends_authority, AuthorityEndAt};
-ghost use Rattle.iri_grammar.specs.inside.Marks.{NoAuthorityEnd, IsPastAuthority, TailAt, NoTail};
+ghost use Rattle.iri_grammar.specs.inside.Marks.{NoAuthorityEnd, IsPastAuthority};
+ghost use Rattle.iri_grammar.specs.inside.Tails.{IsPlainTail};
 ghost use Rattle.iri_grammar.specs.Parts.{Splits};
 ghost use Rattle.iri_grammar.specs.Runs.{run_of};
 ghost use Rattle.iri_grammar.specs.Split.{split_of, relative_split_of, parts_of, scheme_of, after_scheme, authority_of};
 ghost use Rattle.iri_grammar.specs.Split.{hier_of};
-ghost use Rattle.iri_grammar.specs.Splitters.{parts};
+ghost use Rattle.iri_grammar.specs.PlainParts.{ArePlain};
+ghost use Rattle.std.proofs.Props.{props};
 ghost use Rattle.iri_grammar.specs.OptionalSlices.{now_of};
 ghost use Rattle.iri_grammar.specs.WholeFault.{reference_fault};
-ghost use Rattle.iri_grammar.specs.Characters.{number_sign, question_mark};
 
-use crate::cutting::cut;
 use crate::error::Error;
 use crate::spec::Spec;
-use crate::validate::front_and_fragment;
-use memchr::{memchr2, memchr3};
+use crate::tail::Tail;
+use crate::validate::judge;
+use memchr::memchr3;
+use std::alloc::AllocError;
 
 /// The five parts of a reference, as slices of its text.
-#[derive(Clone, Copy)]
 pub struct Splitter<'a> {
     scheme: Option<&'a str>,
     authority: Option<&'a str>,
     path: &'a str,
     query: Option<&'a str>,
     fragment: Option<&'a str>,
+    // Path, query and fragment were found to be made of ASCII characters of their classes alone.
+    plain: bool,
+    pub ghost told: { plain ≡ true → ArePlain path.now (now_of query) (now_of fragment) } by { Prim.hlevel props },
 }
+
+impl Clone for Splitter<'_> {
+    ghost is_clone = { λ a b. b ≡ a };
+
+    ghost is_infallible = { λ _. Unit {0} };
+
+    fn clone(&self) -> Result<Self, AllocError> {
+        Ok(*self)
+    }
+}
+
+impl Copy for Splitter<'_> {}
 
 // For each byte an `s` where it may stand in a scheme: letters, digits, `+`, `-` and `.`.
 static SCHEME_BYTES: [u8; 256] = *b"\
@@ -145,43 +160,17 @@ fn cut_authority(s: &str) -> (Option<&str>, &str)
     }
 }
 
-/// Where the first question mark or number sign stands.
-#[tactic(auto, using(crate::proofs::MarkLemmas::tail_found))]
-fn find_tail(bytes: &[u8]) -> Option<usize>
-    ensures { MatchOption result (NoTail bytes.now) (λ k. TailAt bytes.now k) }
-{
-    memchr2(b'?', b'#', bytes)
-}
-
-/// Path, query and fragment.
-fn cut_tail(s: &str) -> (&str, Option<&str>, Option<&str>)
-    ensures path { result.0.now ≡ hier_of s.now }
-    ensures query { now_of result.1 ≡ behind question_mark (before number_sign s.now) }
-    ensures fragment { now_of result.2 ≡ behind number_sign s.now }
-{
-    match find_tail(s.as_bytes()) {
-        Some(i) => {
-            let rest = &s[i + 1..];
-            if s.as_bytes()[i] == b'?' {
-                let (query, fragment) = cut(rest, b'#');
-                (&s[..i], Some(query), fragment)
-            } else {
-                (&s[..i], None, Some(rest))
-            }
-        }
-        None => (s, None, None),
-    }
-}
-
 impl<'a> Splitter<'a> {
+    ghost use Rattle.iri_grammar.specs.Splitters.{found_plain, parts};
+
     /// The split of a text, where it is a reference of `S`: otherwise the kind of its first fault. The same as
     /// `validate::iri_reference` and `of`, in one look at the text.
     pub fn new<S: Spec>(text: &'a str) -> Result<Splitter<'a>, Error>
         ensures fault { Answers result (reference_fault S.tests text.now) }
         ensures value { IfOk result (λ p. parts p ≡ split_of text.now) }
     {
-        let parts = Splitter::cut(text);
-        match front_and_fragment::<S>(&parts) {
+        let parts = Splitter::look_at(text);
+        match judge::<S>(&parts) {
             Ok(()) => Ok(parts),
             Err(error) => Err(error),
         }
@@ -194,6 +183,17 @@ impl<'a> Splitter<'a> {
         ensures value { parts result ≡ split_of text.now }
     {
         Splitter::cut(text)
+    }
+
+    /// The parts of any text read as a reference, and what was found of path, query and fragment.
+    #[tactic(auto, unfolding(crate::specs::Split::split_of))]
+    fn look_at(text: &'a str) -> Splitter<'a>
+        ensures { parts result ≡ split_of text.now }
+    {
+        let (scheme, rest) = cut_scheme(text);
+        let (authority, rest) = cut_authority(rest);
+        let (tail, plain) = Tail::look_at(rest);
+        Splitter::with_tail(scheme, authority, tail, plain)
     }
 
     /// The parts of any text read as a reference.
@@ -218,14 +218,42 @@ impl<'a> Splitter<'a> {
         ensures { parts result ≡ parts_of (now_of scheme.entry) rest.now }
     {
         let (authority, rest) = cut_authority(rest);
-        let (path, query, fragment) = cut_tail(rest);
+        Splitter::with_tail(scheme, authority, Tail::of(rest), false)
+    }
+
+    // `plain` says that path, query and fragment are made of ASCII characters of their classes alone.
+    fn with_tail(
+        scheme: Option<&'a str>,
+        authority: Option<&'a str>,
+        tail: Tail<'a>,
+        plain: bool,
+    ) -> Splitter<'a>
+        requires { plain ≡ true → IsPlainTail tail }
+        ensures { parts result ≡ record {
+          scheme = now_of scheme.entry;
+          authority = now_of authority.entry;
+          path = tail.entry.path.now;
+          query = now_of tail.entry.query;
+          fragment = now_of tail.entry.fragment;
+        } }
+    {
         Splitter {
             scheme,
             authority,
-            path,
-            query,
-            fragment,
+            path: tail.path,
+            query: tail.query,
+            fragment: tail.fragment,
+            plain,
         }
+    }
+
+    /// Whether `new` found path, query and fragment to be made of ASCII characters of their classes alone, without triplets. `of`
+    /// doesn't look.
+    pub fn is_plain(&self) -> bool
+        ensures found { result ≡ found_plain self.now }
+        ensures plain { result ≡ true → ArePlain (parts self.now).path (parts self.now).query (parts self.now).fragment }
+    {
+        self.plain
     }
 
     /// The scheme, without its colon.

@@ -1,7 +1,7 @@
 //! The validators of whole texts (RFC 3986 section 4).
 ghost use Rattle.std.specs.Prelude.{◌≡◌, ◌&&◌};
 ghost use Rattle.iri_grammar.specs.Components.{is_path};
-ghost use Rattle.iri_grammar.specs.Fault.{Answers, unless, fragment_fault};
+ghost use Rattle.iri_grammar.specs.Fault.{Answers, unless, authority_fault, first, fragment_fault, part_fault};
 ghost use Rattle.iri_grammar.specs.WholeFault.{colon_allowed, fault_before_fragment, parts_fault, missing_scheme_fault};
 ghost use Rattle.iri_grammar.specs.WholeFault.{reference_fault, iri_fault, absolute_fault, relative_fault};
 ghost use Rattle.iri_grammar.specs.Splitters.{parts};
@@ -18,16 +18,33 @@ fn colon_allowed(p: &Splitter<'_>) -> bool
     p.scheme().is_some() || p.authority().is_some() || lacks(cut_before(p.path(), b'/').0, b':')
 }
 
-/// The path over its characters, and its first segment without a colon where it has to.
+/// The first segment without a colon where it has to be.
+fn colon_in_place(p: &Splitter<'_>) -> Result<(), Error>
+    ensures { Answers result (unless (colon_allowed (parts p.now)) ErrorKind.InvalidPath) }
+{
+    if colon_allowed(p) {
+        Ok(())
+    } else {
+        Err(Error::new(ErrorKind::InvalidPath))
+    }
+}
+
+/// The path over its characters, and its first segment without a colon where it has to be.
 fn path_in_place<S: Spec>(p: &Splitter<'_>) -> Result<(), Error>
     ensures { Answers result (unless (is_path S.tests (parts p.now).path
         && colon_allowed (parts p.now)) ErrorKind.InvalidPath) }
 {
     path::<S>(p.path())?;
-    if colon_allowed(p) {
-        Ok(())
-    } else {
-        Err(Error::new(ErrorKind::InvalidPath))
+    colon_in_place(p)
+}
+
+/// The authority, where it stands.
+fn authority_in_place<S: Spec>(p: &Splitter<'_>) -> Result<(), Error>
+    ensures { Answers result (part_fault (authority_fault S.tests) (parts p.now).authority) }
+{
+    match p.authority() {
+        Some(a) => authority::<S>(a),
+        None => Ok(()),
     }
 }
 
@@ -36,9 +53,7 @@ fn path_in_place<S: Spec>(p: &Splitter<'_>) -> Result<(), Error>
 fn front<S: Spec>(p: &Splitter<'_>) -> Result<(), Error>
     ensures { Answers result (fault_before_fragment S.tests (parts p.now)) }
 {
-    if let Some(a) = p.authority() {
-        authority::<S>(a)?;
-    }
+    authority_in_place::<S>(p)?;
     path_in_place::<S>(p)?;
     if let Some(q) = p.query() {
         query::<S>(q)?;
@@ -48,7 +63,7 @@ fn front<S: Spec>(p: &Splitter<'_>) -> Result<(), Error>
 
 /// Authority, path, query and fragment.
 #[tactic(auto, unfolding(crate::specs::WholeFault::parts_fault))]
-pub(crate) fn front_and_fragment<S: Spec>(p: &Splitter<'_>) -> Result<(), Error>
+fn front_and_fragment<S: Spec>(p: &Splitter<'_>) -> Result<(), Error>
     ensures { Answers result (parts_fault S.tests (fragment_fault S.tests) (parts p.now)) }
 {
     front::<S>(p)?;
@@ -56,6 +71,26 @@ pub(crate) fn front_and_fragment<S: Spec>(p: &Splitter<'_>) -> Result<(), Error>
         fragment::<S>(f)?;
     }
     Ok(())
+}
+
+/// The authority, and the first segment without a colon where it has to be.
+fn authority_and_colon<S: Spec>(p: &Splitter<'_>) -> Result<(), Error>
+    ensures { Answers result (first (part_fault (authority_fault S.tests) (parts p.now).authority)
+        (unless (colon_allowed (parts p.now)) ErrorKind.InvalidPath)) }
+{
+    authority_in_place::<S>(p)?;
+    colon_in_place(p)
+}
+
+/// Authority, path, query and fragment, of which the last three may have been found to be plain.
+pub(crate) fn judge<S: Spec>(p: &Splitter<'_>) -> Result<(), Error>
+    ensures { Answers result (parts_fault S.tests (fragment_fault S.tests) (parts p.now)) }
+{
+    if p.is_plain() {
+        authority_and_colon::<S>(p)
+    } else {
+        front_and_fragment::<S>(p)
+    }
 }
 
 /// The scheme and its colon.
