@@ -2,7 +2,7 @@
 use Rattle.std.proofs.Common.{◌≡◌, ℕ, zero, suc, ◌+◌, ◌-◌, ◌*◌, ◌<◌, ◌≤◌, Bool, true, false, not, ◌&&◌, List, [], ◌∷◌, ◌++◌, Some, None}
 use Rattle.std.proofs.Common.{length, take, drop, get_or, refl, sym, ◌∙◌, ap, subst, arith, append_assoc, length-append, length-drop}
 use Rattle.std.proofs.Common.{drop-drop, take-append-drop}
-use Rattle.std.specs.Prelude.{◌==◌}
+use Rattle.std.specs.Prelude.{◌==◌, ◌||◌}
 use Rattle.std.specs.Char.{is_ascii_hexdigit, is_ascii_uppercase, is_ascii_lowercase, to_ascii_uppercase, to_ascii_lowercase, encode_utf8}
 use Rattle.std.specs.Char.{len_utf8}
 use lib.Utf8.{scalar}
@@ -21,7 +21,8 @@ use Rattle.iri_percent.proofs.NormalLaws.{normal_nil, normal_plain, normal_decod
 use Rattle.iri_percent.proofs.Reading.{whole_plain, whole_triplet, whole_behind, Follows, percent_follows}
 use Rattle.iri_percent.proofs.CaseLaws.{encode_case, is_decoded}
 use Rattle.iri_percent.proofs.Stability.{IsCase, as_it_is-case, lower-case}
-use Rattle.iri_percent.specs.inside.Pieces.{case_of, piece_text, stays, NoMark, MarkAt, Rewrites, KeepsTriplet}
+use Rattle.iri_percent.specs.inside.Pieces.{case_of, piece_text, stays, changes, NoMark, MarkAt, Becomes, Rewrites}
+use Rattle.iri_percent.specs.declared.piece.Piece.{Piece}
 use Rattle.iri_percent.specs.declared.piece.Piece.TheVariants.{Char, Triplet}
 
 -- ---- runs
@@ -66,18 +67,16 @@ joined_runs s f t at n r h k = h ∙ ap (λ l. take at t ++ l) k ∙ sym (append
     ∙ ap (λ l. l ++ r) (sym (take-add at n t))
 
 -- a change behind what stays
-pub later : (s : Tests) (lower : Bool) (t : List ℕ) (at len : ℕ) (piece : _) → at ≤ length t
-    → normal s (case_of lower) t ≡ take at t ++ normal s (case_of lower) (drop at t) → Rewrites s lower (drop at t) 0 len piece
-    → Rewrites s lower t at len piece
-later s lower t at len piece l h r = record {
-  text = h ∙ ap (λ l. take at t ++ l) (r.text ∙ ap (λ m. piece_text piece ++ normal s (case_of lower) m)
-      (behind (0 + len) len (omega arith)));
+later_becomes : (s : Tests) (lower : Bool) (t : List ℕ) (at len : ℕ) (l : List ℕ) → at ≤ length t
+    → normal s (case_of lower) t ≡ take at t ++ normal s (case_of lower) (drop at t) → Becomes s lower (drop at t) 0 len l
+    → Becomes s lower t at len l
+later_becomes s lower t at len l h e r = record {
+  text = e ∙ ap (λ x. take at t ++ x) (r.text ∙ ap (λ m. l ++ normal s (case_of lower) m) (behind (0 + len) len (omega arith)));
   within = omega (arith, r.within, length-drop at t);
   some = r.some;
   first = subst (λ b. b < 128) (get_or-drop at t 0 0 ∙ ap (λ k. get_or t k 0) (omega arith)) r.first;
   last = subst (λ b. b < 128) (get_or-drop at t (0 + len - 1) 0 ∙ ap (λ k. get_or t k 0) (places r.some)) r.last;
   whole = ap whole_triplets (sym (behind (0 + len) len (omega arith))) ∙ r.whole;
-  ascii = r.ascii;
 }
   where
     behind : (k n : ℕ) → k ≡ n → drop k (drop at t) ≡ drop (at + n) t
@@ -85,6 +84,37 @@ later s lower t at len piece l h r = record {
 
     places : 0 < len → at + (0 + len - 1) ≡ at + len - 1
     places p = omega arith
+
+pub later : (s : Tests) (lower : Bool) (t : List ℕ) (at len : ℕ) (piece : _) → at ≤ length t
+    → normal s (case_of lower) t ≡ take at t ++ normal s (case_of lower) (drop at t) → Rewrites s lower (drop at t) 0 len piece
+    → Rewrites s lower t at len piece
+later s lower t at len piece l h r = record {
+  becomes = later_becomes s lower t at len (piece_text piece) l h r.becomes;
+  ascii = r.ascii;
+  stood = r.stood;
+}
+
+-- a change behind a change
+pub joined : (s : Tests) (lower : Bool) (t tail : List ℕ) (at n m : ℕ) (l k : List ℕ) → tail ≡ drop (at + n) t
+    → Becomes s lower t at n l → Becomes s lower tail 0 m k → Becomes s lower t at (n + m) (l ++ k)
+joined s lower t tail at n m l k is p q =
+    let r : Becomes s lower (drop (at + n) t) 0 m k = subst (λ x. Becomes s lower x 0 m k) is q in
+    let behind : drop (0 + m) (drop (at + n) t) ≡ drop (at + (n + m)) t =
+    drop-drop (0 + m) (at + n) t ∙ ap (λ i. drop i t) (omega arith) in
+    let place : at + n + (0 + m - 1) ≡ at + (n + m) - 1 = sum r.some in
+    record {
+      text = p.text
+          ∙ ap (λ x. take at t ++ (l ++ x)) (r.text ∙ ap (λ x. k ++ normal s (case_of lower) x) behind)
+          ∙ ap (λ x. take at t ++ x) (sym (append_assoc l k (normal s (case_of lower) (drop (at + (n + m)) t))));
+      within = omega (arith, p.within, r.within, length-drop (at + n) t);
+      some = omega (arith, p.some);
+      first = p.first;
+      last = subst (λ b. b < 128) (get_or-drop (at + n) t (0 + m - 1) 0 ∙ ap (λ i. get_or t i 0) place) r.last;
+      whole = ap whole_triplets (sym behind) ∙ r.whole;
+    }
+  where
+    sum : 0 < m → at + n + (0 + m - 1) ≡ at + (n + m) - 1
+    sum h = omega arith
 
 -- ---- changes at the start
 -- what stands behind a `%`
@@ -114,11 +144,11 @@ spells_ascii sp os (more a b sp' os' p q r) (suc (suc (suc k))) = spells_ascii s
 
 -- a character that is decoded
 pub decodes : (s : Tests) (lower : Bool) (t : List ℕ) (c : ℕ) → whole_triplets t ≡ true → get_or t 0 0 ≡ 37 → decoded s (octets t) ≡ Some c
-    → Rewrites s lower t 0 (3 * len_utf8 c) (Char (case_of lower c))
+    → Becomes s lower t 0 (3 * len_utf8 c) (encode_utf8 (case_of lower c))
 decodes s lower t c w p h = let d = is_decoded s (octets t) c h in at d.1 d.0.is_scalar (spelled (encode_utf8 c) d.0.rest t d.0.split)
   where
     at : unreserved s c ≡ true → scalar c ≡ true → {rest : List ℕ} → Spelled t (encode_utf8 c) rest
-        → Rewrites s lower t 0 (3 * len_utf8 c) (Char (case_of lower c))
+        → Becomes s lower t 0 (3 * len_utf8 c) (encode_utf8 (case_of lower c))
     at u k r =
         let size : length r.sp ≡ 3 * len_utf8 c = length-spelled r.sp (encode_utf8 c) r.spells ∙ ap (λ n. 3 * n) (length-encode c) in
         let some : 0 < 3 * len_utf8 c = omega (arith, len_utf8_bounds c) in
@@ -136,21 +166,23 @@ decodes s lower t c w p h = let d = is_decoded s (octets t) c h in at d.1 d.0.is
           first = omega (arith, p);
           last = omega (arith, end, spells_ascii r.sp (encode_utf8 c) r.spells (0 + 3 * len_utf8 c - 1));
           whole = ap whole_triplets rest ∙ sym (whole_behind r.sp (encode_utf8 c) r.xs r.spells) ∙ sym (ap whole_triplets r.text) ∙ w;
-          ascii = tt;
         }
 
--- a triplet that gets capital digits
+-- a triplet whose digits get capital
 raises_at : (s : Tests) (lower : Bool) (a b : ℕ) (ys : List ℕ) → is_ascii_hexdigit a ≡ true → is_ascii_hexdigit b ≡ true
     → whole_triplets (37 ∷ a ∷ b ∷ ys) ≡ true → decoded s (octets (37 ∷ a ∷ b ∷ ys)) ≡ None
     → Rewrites s lower (37 ∷ a ∷ b ∷ ys) 0 3 (Triplet a b)
 raises_at s lower a b ys p q w n = record {
-  text = normal_kept s (case_of lower) a b ys p q n;
-  within = omega arith;
-  some = omega arith;
-  first = omega arith;
-  last = digit_below b q;
-  whole = sym (whole_triplet a b ys p q) ∙ w;
+  becomes = record {
+    text = normal_kept s (case_of lower) a b ys p q n;
+    within = omega arith;
+    some = omega arith;
+    first = omega arith;
+    last = digit_below b q;
+    whole = sym (whole_triplet a b ys p q) ∙ w;
+  };
   ascii = (digit_below a p, digit_below b q);
+  stood = refl;
 }
 
 pub raises : (s : Tests) (lower : Bool) (t : List ℕ) → whole_triplets t ≡ true → 0 < length t → get_or t 0 0 ≡ 37
@@ -165,27 +197,24 @@ raises s lower t w l e n =
 capital_stays : (a : ℕ) → is_ascii_lowercase a ≡ false → to_ascii_uppercase a ≡ a
 capital_stays a h = grind (arith, nat_tests)
 
-keeps_at : (s : Tests) (lower : Bool) (a b : ℕ) (ys : List ℕ) → is_ascii_hexdigit a ≡ true → is_ascii_hexdigit b ≡ true
-    → is_ascii_lowercase a ≡ false → is_ascii_lowercase b ≡ false → whole_triplets (37 ∷ a ∷ b ∷ ys) ≡ true
-    → decoded s (octets (37 ∷ a ∷ b ∷ ys)) ≡ None → KeepsTriplet s lower (37 ∷ a ∷ b ∷ ys)
-keeps_at s lower a b ys p q j k w n = record {
-  text = normal_kept s (case_of lower) a b ys p q n
-      ∙ ap (λ x. 37 ∷ x ∷ to_ascii_uppercase b ∷ normal s (case_of lower) ys) (capital_stays a j)
-      ∙ ap (λ x. 37 ∷ a ∷ x ∷ normal s (case_of lower) ys) (capital_stays b k);
-  within = omega arith;
-  whole = sym (whole_triplet a b ys p q) ∙ w;
-}
+capitals_stay : (a b : ℕ) → (is_ascii_lowercase a || is_ascii_lowercase b) ≡ false
+    → piece_text (Triplet a b) ≡ 37 ∷ a ∷ b ∷ []
+capitals_stay a b h = ap (λ x. 37 ∷ x ∷ to_ascii_uppercase b ∷ []) (capital_stays a (neither (is_ascii_lowercase a) (is_ascii_lowercase b) h).0)
+    ∙ ap (λ x. 37 ∷ a ∷ x ∷ []) (capital_stays b (neither (is_ascii_lowercase a) (is_ascii_lowercase b) h).1)
+  where
+    neither : (x y : Bool) → (x || y) ≡ false → (x ≡ false) × (y ≡ false)
+    neither false y h = (refl, h)
+    neither true y h = cc
 
-pub keeps : (s : Tests) (lower : Bool) (t : List ℕ) → whole_triplets t ≡ true → 0 < length t → get_or t 0 0 ≡ 37
-    → None ≡ decoded s (octets t) → is_ascii_lowercase (get_or t 1 0) ≡ false → is_ascii_lowercase (get_or t 2 0) ≡ false
-    → KeepsTriplet s lower t
-keeps s lower t w l e n j k =
-    let r = at_percent t w l e in
-    let f = r.0 in
-    subst (λ x. KeepsTriplet s lower x) (sym r.1)
-    (keeps_at s lower f.a f.b f.ys f.first f.second (ap (λ x. is_ascii_lowercase (get_or x 1 0)) (sym r.1) ∙ j)
-    (ap (λ x. is_ascii_lowercase (get_or x 2 0)) (sym r.1) ∙ k) (ap whole_triplets (sym r.1) ∙ w)
-    (ap (λ x. decoded s (octets x)) (sym r.1) ∙ sym n))
+pub keeps : (s : Tests) (lower : Bool) (t : List ℕ) (len : ℕ) (piece : Piece) → Rewrites s lower t 0 len piece → changes piece ≡ false
+    → normal s (case_of lower) t ≡ take len t ++ normal s (case_of lower) (drop len t)
+keeps s lower t len (Char c) r h = cc
+keeps s lower t len (Triplet a b) r h =
+    r.becomes.text ∙ ap (λ l. l ++ normal s (case_of lower) (drop (0 + len) t)) (capitals_stay a b h ∙ sym r.stood)
+    ∙ ap (λ n. take len t ++ normal s (case_of lower) (drop n t)) from_start
+  where
+    from_start : 0 + len ≡ len
+    from_start = omega arith
 
 -- a letter that is lowered
 is_letter : (lower : Bool) (x : ℕ) → stays lower x ≡ false → (x == 37) ≡ false → (lower ≡ true) × (is_ascii_uppercase x ≡ true)
@@ -200,14 +229,17 @@ letter_at : (s : Tests) (x : ℕ) (xs : List ℕ) → is_ascii_uppercase x ≡ t
 letter_at s x xs u n w =
     let low : to_ascii_lowercase x < 128 = lower-case.below x (upper_below x u) in
     record {
-      text = normal_plain s to_ascii_lowercase x xs n
-          ∙ ap (λ l. l ++ normal s to_ascii_lowercase xs) (sym (encode_ascii (to_ascii_lowercase x) low));
-      within = omega arith;
-      some = omega arith;
-      first = upper_below x u;
-      last = upper_below x u;
-      whole = sym (whole_plain x xs n) ∙ w;
+      becomes = record {
+        text = normal_plain s to_ascii_lowercase x xs n
+            ∙ ap (λ l. l ++ normal s to_ascii_lowercase xs) (sym (encode_ascii (to_ascii_lowercase x) low));
+        within = omega arith;
+        some = omega arith;
+        first = upper_below x u;
+        last = upper_below x u;
+        whole = sym (whole_plain x xs n) ∙ w;
+      };
       ascii = tt;
+      stood = tt;
     }
 
 pub lowers : (s : Tests) (lower : Bool) (t : List ℕ) → whole_triplets t ≡ true → 0 < length t → stays lower (get_or t 0 0) ≡ false
@@ -247,22 +279,23 @@ pub record Onward (s : Tests) (lower : Bool) (t : List ℕ) (at : ℕ) : Type 0 
   pub whole : whole_triplets (drop at t) ≡ true
   pub same : normal s (case_of lower) t ≡ take at t ++ normal s (case_of lower) (drop at t)
 
-pub onward : (s : Tests) (lower : Bool) (t tail : List ℕ) (at : ℕ) → tail ≡ drop at t → AtMark s lower t at → KeepsTriplet s lower tail
-    → Onward s lower t (at + 3)
-onward s lower t tail at e a k =
-    let j : KeepsTriplet s lower (drop at t) = subst (λ x. KeepsTriplet s lower x) e k in
-    let behind : drop 3 (drop at t) ≡ drop (at + 3) t = drop-drop 3 at t in
+pub onward : (s : Tests) (lower : Bool) (t tail : List ℕ) (at len : ℕ) (piece : Piece) → tail ≡ drop at t → AtMark s lower t at
+    → Rewrites s lower tail 0 len piece → changes piece ≡ false → Onward s lower t (at + len)
+onward s lower t tail at len piece e a q h =
+    let r : Rewrites s lower (drop at t) 0 len piece = subst (λ x. Rewrites s lower x 0 len piece) e q in
+    let behind : drop len (drop at t) ≡ drop (at + len) t = drop-drop len at t in
+    let zero_len : drop (0 + len) (drop at t) ≡ drop len (drop at t) = ap (λ n. drop n (drop at t)) (omega arith) in
     record {
-      within = omega (arith, j.within, length-drop at t);
-      whole = ap whole_triplets (sym behind) ∙ j.whole;
-      same = joined_runs s (case_of lower) t at 3 (normal s (case_of lower) (drop 3 (drop at t))) a.same j.text
-          ∙ ap (λ x. take (at + 3) t ++ normal s (case_of lower) x) behind;
+      within = omega (arith, r.becomes.within, length-drop at t);
+      whole = ap whole_triplets (sym (zero_len ∙ behind)) ∙ r.becomes.whole;
+      same = joined_runs s (case_of lower) t at len (normal s (case_of lower) (drop len (drop at t))) a.same (keeps s lower (drop at t) len piece r h)
+          ∙ ap (λ x. take (at + len) t ++ normal s (case_of lower) x) behind;
     }
 
-pub changed : (s : Tests) (lower : Bool) (t tail : List ℕ) (at k len : ℕ) (piece : _) → tail ≡ drop at t → AtMark s lower t at → k ≡ 0
-    → Rewrites s lower tail k len piece → Rewrites s lower t at len piece
-changed s lower t tail at k len piece e a z r = later s lower t at len piece a.within a.same
-    (subst (λ x. Rewrites s lower x 0 len piece) e (subst (λ n. Rewrites s lower tail n len piece) z r))
+pub changed : (s : Tests) (lower : Bool) (t tail : List ℕ) (at len : ℕ) (piece : _) → tail ≡ drop at t → AtMark s lower t at
+    → Rewrites s lower tail 0 len piece → Rewrites s lower t at len piece
+changed s lower t tail at len piece e a r = later s lower t at len piece a.within a.same
+    (subst (λ x. Rewrites s lower x 0 len piece) e r)
 
 pub unchanged : (s : Tests) (lower : Bool) (t tail : List ℕ) (at : ℕ) → tail ≡ drop at t
     → normal s (case_of lower) t ≡ take at t ++ normal s (case_of lower) (drop at t) → NoMark lower tail (length tail)
@@ -277,17 +310,17 @@ boundary t at len u some low inside high =
     subst (λ k. 192 ≤ get_or t k 0) next (lead_after_ascii t (at + len - 1) u low (omega arith)
     (subst (λ k. 128 ≤ get_or t k 0) (sym next) high))
 
--- what has been put, with one change more
-pub one_change : (s : Tests) (lower : Bool) (text rest done front tail : List ℕ) (at len : ℕ) (piece : _)
-    → normal s (case_of lower) text ≡ done ++ normal s (case_of lower) rest → Rewrites s lower rest at len piece
+-- what has been put, with the next run and what is written behind it
+pub one_change : (s : Tests) (lower : Bool) (text rest done front tail : List ℕ) (at len : ℕ) (l : List ℕ)
+    → normal s (case_of lower) text ≡ done ++ normal s (case_of lower) rest → Becomes s lower rest at len l
     → front ≡ slice_range rest 0 at → tail ≡ drop (at + len) rest
-    → normal s (case_of lower) text ≡ ((done ++ front) ++ piece_text piece) ++ normal s (case_of lower) tail
-one_change s lower text rest done front tail at len piece h r f b =
+    → normal s (case_of lower) text ≡ ((done ++ front) ++ l) ++ normal s (case_of lower) tail
+one_change s lower text rest done front tail at len l h r f b =
     h
-    ∙ ap (λ l. done ++ l) (r.text ∙ ap (λ x. x ++ (piece_text piece ++ normal s (case_of lower) (drop (at + len) rest)))
-    (sym (f ∙ ap (λ n. take n rest) from_start)) ∙ ap (λ x. front ++ (piece_text piece ++ normal s (case_of lower) x)) (sym b))
-    ∙ sym (append_assoc done front (piece_text piece ++ normal s (case_of lower) tail))
-    ∙ sym (append_assoc (done ++ front) (piece_text piece) (normal s (case_of lower) tail))
+    ∙ ap (λ x. done ++ x) (r.text ∙ ap (λ x. x ++ (l ++ normal s (case_of lower) (drop (at + len) rest)))
+    (sym (f ∙ ap (λ n. take n rest) from_start)) ∙ ap (λ x. front ++ (l ++ normal s (case_of lower) x)) (sym b))
+    ∙ sym (append_assoc done front (l ++ normal s (case_of lower) tail))
+    ∙ sym (append_assoc (done ++ front) l (normal s (case_of lower) tail))
   where
     from_start : at - 0 ≡ at
     from_start = omega arith

@@ -1,95 +1,193 @@
--- The character with whose UTF-8 some bytes begin, found by its width.
-use Rattle.std.proofs.Common.{◌≡◌, ℕ, zero, suc, ◌+◌, ◌-◌, ◌<◌, ◌≤◌, true, false, cond, ◌||◌, List, [], ◌∷◌, ◌++◌, Some, None, length}
-use Rattle.std.proofs.Common.{take, drop, get_or, set, refl, sym, ◌∙◌, ap, subst, arith, append_assoc, append-nil, length-append}
-use Rattle.std.proofs.Common.{length-drop, drop-drop, take-append-drop, ltb-true}
-use Rattle.std.specs.Prelude.{◌/◌, ◌*◌}
-use Rattle.std.specs.List.{slice_get}
-use Rattle.std.specs.Str.{chars, continuation_len, IsUtf8}
+-- The character with whose UTF-8 some octets begin, told from the octets one by one.
+use Rattle.std.proofs.Common.{◌≡◌, ℕ, ◌+◌, ◌-◌, ◌<◌, ◌≤◌, Bool, true, false, cond, ◌||◌, List, [], ◌∷◌, ◌++◌, Some, None}
+use Rattle.std.proofs.Common.{zero, suc, length, take, drop, take-append-drop, refl, sym, ◌∙◌, ap, arith, ltb-true, ltb-false}
+use Rattle.std.specs.Prelude.{◌/◌, ◌*◌, ◌%◌}
+use Rattle.std.specs.Str.{chars}
 use lib.Dec.{ltb}
-use lib.Utf8.{encode, encodes, next, scalar, scalars}
-use Rattle.std.proofs.lemmas.Str.{IsUtf8-encode, cons_from_encodes, encode_ascii, chars-encodes}
-use Rattle.std.proofs.lemmas.List.{take_at, take_more_set, take_all}
+use lib.Utf8.{encode, next, scalar}
+use Rattle.std.proofs.lemmas.Str.{encode_ascii, length-encode, len_utf8_bounds}
 use Rattle.std.proofs.lemmas.Bool.Decides.{nat_tests}
-use Rattle.iri_grammar.proofs.CutLaws.{both}
 use Rattle.iri_grammar.specs.Classes.{Tests, IsSpec, unreserved, is_ascii_unreserved}
-use Rattle.iri_percent.specs.Units.{first_char, octets}
-use Rattle.iri_percent.proofs.UnitLaws.{BeginsChar, first_char_is, char_first, none_in_front, continuation_none, is_continuation}
+use Rattle.iri_percent.specs.Units.{first_char}
+use Rattle.iri_percent.proofs.UnitLaws.{BeginsChar, first_char_is, char_first, none_in_front, continuation_none, is_continuation, next_continues}
 use Rattle.iri_percent.specs.NormalLaws.{decoded, unreserved_only}
+use Rattle.iri_percent.specs.inside.Octets.{goes_on, char_from}
 
-pub empty_none : (bs : List ℕ) → length bs ≡ 0 → first_char bs ≡ None
+pub empty_none : (os : List ℕ) → os ≡ [] → first_char os ≡ None
 unfolding first_char chars
-empty_none [] h = refl
-empty_none (b ∷ bs) h = absurd (omega arith)
+empty_none os e = ap first_char e
 
--- the width of a character by its first byte
-width_one : (c : ℕ) → ltb c 128 ≡ true → continuation_len c ≡ 0
-width_one c h = grind (arith, nat_tests)
+-- ---- the spelling of a character, by its width
+pub data Wide (c lead : ℕ) (tail rest : List ℕ) : Type 0 where
+  one : c < 128 → lead ≡ c → Wide c lead tail rest
+  two : 128 ≤ c → c < 2048 → lead ≡ 192 + c / 64 → tail ≡ next c ∷ rest → Wide c lead tail rest
+  three : 2048 ≤ c → c < 65536 → lead ≡ 224 + c / 4096 → tail ≡ next (c / 64) ∷ next c ∷ rest → Wide c lead tail rest
+  four : 65536 ≤ c → lead ≡ 240 + c / 262144 → tail ≡ next (c / 4096) ∷ next (c / 64) ∷ next c ∷ rest → Wide c lead tail rest
 
-width_two : (x : ℕ) → 192 ≤ x → x < 224 → continuation_len x ≡ 1
-width_two x h k = grind (arith, nat_tests)
+heads : (x y : ℕ) (xs ys : List ℕ) → x ∷ xs ≡ y ∷ ys → (x ≡ y) × (xs ≡ ys)
+heads x y xs ys h = ((cc), (cc))
 
-width_three : (x : ℕ) → 224 ≤ x → x < 240 → continuation_len x ≡ 2
-width_three x h k = grind (arith, nat_tests)
-
-width_four : (x : ℕ) → 240 ≤ x → continuation_len x ≡ 3
-width_four x h = grind (arith, nat_tests)
-
-pub encode_width : (c : ℕ) (rest : List ℕ) → length (encode c) ≡ continuation_len (get_or (encode c ++ rest) 0 0) + 1
+wide : (c lead : ℕ) (tail rest : List ℕ) → lead ∷ tail ≡ encode c ++ rest → Wide c lead tail rest
 unfolding encode
-encode_width c rest =
-    elim (ltb c 128) as (λ b. ltb c 128 ≡ b → At (cond b (c ∷ [])
+wide c lead tail rest h =
+    elim (ltb c 128) as (λ b. ltb c 128 ≡ b → lead ∷ tail ≡ cond b (c ∷ [])
     (cond (ltb c 2048) ((192 + c / 64) ∷ next c ∷ [])
     (cond (ltb c 65536) ((224 + c / 4096) ∷ next (c / 64) ∷ next c ∷ [])
-    ((240 + c / 262144) ∷ next (c / 4096) ∷ next (c / 64) ∷ next c ∷ []))))) [
-      | true ↦ λ e. one 1 (continuation_len c) (width_one c e)
-      | false ↦ λ _. elim (ltb c 2048) as (λ b. ltb c 2048 ≡ b
-          → At (cond b ((192 + c / 64) ∷ next c ∷ [])
+    ((240 + c / 262144) ∷ next (c / 4096) ∷ next (c / 64) ∷ next c ∷ []))) ++ rest → Wide c lead tail rest) [
+      | true ↦ λ e k. one (ltb-true c 128 e) (heads lead c tail rest k).0
+      | false ↦ λ e. elim (ltb c 2048) as (λ b. ltb c 2048 ≡ b → lead ∷ tail ≡ cond b ((192 + c / 64) ∷ next c ∷ [])
           (cond (ltb c 65536) ((224 + c / 4096) ∷ next (c / 64) ∷ next c ∷ [])
-          ((240 + c / 262144) ∷ next (c / 4096) ∷ next (c / 64) ∷ next c ∷ [])))) [
-            | true ↦ λ e. let k : c < 2048 = ltb-true c 2048 e in rw (width_two (192 + c / 64) (omega arith) (omega arith)) refl
-            | false ↦ λ _. elim (ltb c 65536) as (λ b. ltb c 65536 ≡ b
-                → At (cond b ((224 + c / 4096) ∷ next (c / 64) ∷ next c ∷ [])
-                ((240 + c / 262144) ∷ next (c / 4096) ∷ next (c / 64) ∷ next c ∷ []))) [
-                  | true ↦ λ e. let k : c < 65536 = ltb-true c 65536 e in rw (width_three (224 + c / 4096) (omega arith) (omega arith)) refl
-                  | false ↦ λ _. rw (width_four (240 + c / 262144) (omega arith)) refl
+          ((240 + c / 262144) ∷ next (c / 4096) ∷ next (c / 64) ∷ next c ∷ [])) ++ rest → Wide c lead tail rest) [
+            | true ↦ λ f k. let t = heads lead (192 + c / 64) tail (next c ∷ rest) k in
+                two (ltb-false c 128 e) (ltb-true c 2048 f) t.0 t.1
+            | false ↦ λ f. elim (ltb c 65536) as (λ b. ltb c 65536 ≡ b → lead ∷ tail ≡ cond b ((224 + c / 4096) ∷ next (c / 64) ∷ next c ∷ [])
+                ((240 + c / 262144) ∷ next (c / 4096) ∷ next (c / 64) ∷ next c ∷ []) ++ rest → Wide c lead tail rest) [
+                  | true ↦ λ g k. let t = heads lead (224 + c / 4096) tail (next (c / 64) ∷ next c ∷ rest) k in
+                      three (ltb-false c 2048 f) (ltb-true c 65536 g) t.0 t.1
+                  | false ↦ λ g k. let t = heads lead (240 + c / 262144) tail (next (c / 4096) ∷ next (c / 64) ∷ next c ∷ rest) k in
+                      four (ltb-false c 65536 g) t.0 t.1
                 ] refl
           ] refl
+    ] refl h
+
+-- ---- no character
+no_char : (os : List ℕ) → ((c : ℕ) → BeginsChar os c → ⊥) → None ≡ first_char os
+no_char os bad =
+    elim (first_char os) as (λ o. first_char os ≡ o → None ≡ o) [
+      | None ↦ λ _. refl
+      | Some c ↦ λ h. absurd (bad c (first_char_is os c h))
     ] refl
+
+-- what continues a character is no end of it
+ended : (os : List ℕ) (x : ℕ) (rest : List ℕ) → goes_on os ≡ false → os ≡ next x ∷ rest → ⊥
+ended os x rest h e = let k : is_continuation (next x) ≡ false = sym (ap goes_on e) ∙ h in cc (next_continues x)
+
+pub ends_at_one : (lead : ℕ) (os : List ℕ) → 192 ≤ lead → goes_on os ≡ false → None ≡ first_char (lead ∷ os)
+ends_at_one lead os l h = no_char (lead ∷ os) (λ c g. at c g.rest (wide c lead os g.rest g.split))
   where
-    At : List ℕ → Type 0
-    At os = length os ≡ continuation_len (get_or (os ++ rest) 0 0) + 1
+    at : (c : ℕ) (rest : List ℕ) → Wide c lead os rest → ⊥
+    at c rest (one p e) = omega arith
+    at c rest (two p q e t) = ended os c rest h t
+    at c rest (three p q e t) = ended os (c / 64) (next c ∷ rest) h t
+    at c rest (four p e t) = ended os (c / 4096) (next (c / 64) ∷ next c ∷ rest) h t
 
-    one : (n m : ℕ) → m ≡ 0 → 1 ≡ m + 1
-    one n m h = omega arith
+pub ends_at_two : (lead x : ℕ) (os : List ℕ) → 224 ≤ lead → goes_on os ≡ false → None ≡ first_char (lead ∷ x ∷ os)
+ends_at_two lead x os l h = no_char (lead ∷ x ∷ os) (λ c g. at c g.rest (wide c lead (x ∷ os) g.rest g.split))
+  where
+    at : (c : ℕ) (rest : List ℕ) → Wide c lead (x ∷ os) rest → ⊥
+    at c rest (one p e) = omega arith
+    at c rest (two p q e t) = omega arith
+    at c rest (three p q e t) = ended os c rest h (heads x (next (c / 64)) os (next c ∷ rest) t).1
+    at c rest (four p e t) = ended os (c / 64) (next c ∷ rest) h (heads x (next (c / 4096)) os (next (c / 64) ∷ next c ∷ rest) t).1
 
--- where a character begins, it is as wide as its first byte says
-width_of : (bs : List ℕ) (c : ℕ) → first_char bs ≡ Some c → (BeginsChar bs c) × (length (encode c) ≡ continuation_len (get_or bs 0 0) + 1)
-width_of bs c h = let g = first_char_is bs c h in (g, encode_width c g.rest ∙ ap (λ l. continuation_len (get_or l 0 0) + 1) (sym g.split))
+pub ends_at_three : (lead x y : ℕ) (os : List ℕ) → 240 ≤ lead → goes_on os ≡ false → None ≡ first_char (lead ∷ x ∷ y ∷ os)
+ends_at_three lead x y os l h = no_char (lead ∷ x ∷ y ∷ os) (λ c g. at c g.rest (wide c lead (x ∷ y ∷ os) g.rest g.split))
+  where
+    at : (c : ℕ) (rest : List ℕ) → Wide c lead (x ∷ y ∷ os) rest → ⊥
+    at c rest (one p e) = omega arith
+    at c rest (two p q e t) = omega arith
+    at c rest (three p q e t) = omega arith
+    at c rest (four p e t) = ended os c rest h
+        (heads y (next (c / 64)) os (next c ∷ rest)
+        (heads x (next (c / 4096)) (y ∷ os) (next (c / 64) ∷ next c ∷ rest) t).1).1
 
-pub short_none : (bs : List ℕ) (n : ℕ) → n ≡ continuation_len (get_or bs 0 0) + 1 → length bs < n → first_char bs ≡ None
-short_none bs n e l =
-    elim (first_char bs) as (λ o. first_char bs ≡ o → o ≡ None) [
-      | None ↦ λ _. refl
-      | Some c ↦ λ h. let w = width_of bs c h in absurd (omega (arith, e, l, w.1, ap length w.0.split, length-append (encode c) w.0.rest))
+-- ---- the character of some octets
+decide : (os rest : List ℕ) (code least : ℕ) → (least ≤ code → os ≡ encode code ++ rest)
+    → ((c : ℕ) → BeginsChar os c → (c ≡ code) × (least ≤ c)) → char_from code least ≡ first_char os
+decide os rest code least spells seen =
+    elim (ltb code least) as (λ b. ltb code least ≡ b → cond b None (cond (scalar code) (Some code) None) ≡ first_char os) [
+      | true ↦ λ e. no_char os (λ c g. let k = seen c g in absurd (omega (arith, k.0, k.1, ltb-true code least e)))
+      | false ↦ λ e. elim (scalar code) as (λ b. scalar code ≡ b → cond b (Some code) None ≡ first_char os) [
+        | true ↦ λ f. sym (ap first_char (spells (ltb-false code least e)) ∙ char_first code rest f)
+        | false ↦ λ f. no_char os (λ c g. let k : scalar code ≡ true = ap scalar (sym (seen c g).0) ∙ g.is_scalar in cc)
+      ] refl
     ] refl
 
-pub invalid_none : (bs : List ℕ) (n : ℕ) → n ≡ continuation_len (get_or bs 0 0) + 1 → (IsUtf8 (take n bs) → ⊥) → first_char bs ≡ None
-invalid_none bs n e bad =
-    elim (first_char bs) as (λ o. first_char bs ≡ o → o ≡ None) [
-      | None ↦ λ _. refl
-      | Some c ↦ λ h.
-          let w = width_of bs c h in
-          let t : take n bs ≡ encode c = ap (take n) w.0.split ∙ take_at (encode c) w.0.rest n (w.1 ∙ sym e) in
-          absurd (bad (subst (λ l. IsUtf8 l) (sym t) (IsUtf8-encode c w.0.is_scalar)))
-    ] refl
+below : (a b : ℕ) → a < b → ltb a b ≡ true
+below a b h = grind (arith, nat_tests)
 
-pub valid_some : (bs rest t : List ℕ) (n c : ℕ) → t ≡ take n bs → IsUtf8 (take n bs) → t ≡ encode c ++ rest → first_char bs ≡ Some c
-valid_some bs rest t n c is u e =
-    let split = cons_from_encodes u.0 rest c (u.1.1 ∙ sym is ∙ e) in
-    let all : scalars (c ∷ split.0) ≡ true = ap scalars (sym split.1) ∙ u.1.0 in
-    let whole : bs ≡ encode c ++ (rest ++ drop n bs) =
-    sym (take-append-drop n bs) ∙ ap (λ l. l ++ drop n bs) (sym is ∙ e) ∙ append_assoc (encode c) rest (drop n bs) in
-    ap first_char whole ∙ char_first c (rest ++ drop n bs) (both (scalar c) (scalars split.0) all).0
+not_below : (a b : ℕ) → b ≤ a → ltb a b ≡ false
+not_below a b h = grind (arith, nat_tests)
+
+spelled_in_two : (code lead a : ℕ) (os : List ℕ) → 192 ≤ lead → lead < 224 → a < 64 → code ≡ (lead - 192) * 64 + a → 128 ≤ code
+    → lead ∷ (128 + a) ∷ os ≡ encode code ++ os
+unfolding encode
+spelled_in_two code lead a os l u p e h =
+    let x : lead ≡ 192 + code / 64 = omega arith in
+    let y : a ≡ code % 64 = omega arith in
+    rw (not_below code 128 h, below code 2048 (omega arith)) (ap (λ n. n ∷ (128 + a) ∷ os) x ∙ ap (λ n. (192 + code / 64) ∷ (128 + n) ∷ os) y)
+
+pub two_octets : (lead a : ℕ) (os : List ℕ) → 192 ≤ lead → lead < 224 → a < 64
+    → char_from ((lead - 192) * 64 + a) 128 ≡ first_char (lead ∷ (128 + a) ∷ os)
+two_octets lead a os l u p = decide (lead ∷ (128 + a) ∷ os) os ((lead - 192) * 64 + a) 128
+    (spelled_in_two ((lead - 192) * 64 + a) lead a os l u p refl)
+    (λ c g. at c g.rest (wide c lead ((128 + a) ∷ os) g.rest g.split))
+  where
+    at : (c : ℕ) (rest : List ℕ) → Wide c lead ((128 + a) ∷ os) rest → (c ≡ (lead - 192) * 64 + a) × (128 ≤ c)
+    at c rest (one q e) = absurd (omega arith)
+    at c rest (two q r e t) = let k : 128 + a ≡ next c = (heads (128 + a) (next c) os rest t).0 in (omega arith, q)
+    at c rest (three q r e t) = absurd (omega arith)
+    at c rest (four q e t) = absurd (omega arith)
+
+spelled_in_three : (code lead a b : ℕ) (os : List ℕ) → 224 ≤ lead → lead < 240 → a < 64 → b < 64
+    → code ≡ ((lead - 224) * 64 + a) * 64 + b → 2048 ≤ code → lead ∷ (128 + a) ∷ (128 + b) ∷ os ≡ encode code ++ os
+unfolding encode
+spelled_in_three code lead a b os l u p q e h =
+    let x : lead ≡ 224 + code / 4096 = omega arith in
+    let y : a ≡ code / 64 % 64 = omega arith in
+    let z : b ≡ code % 64 = omega arith in
+    rw (not_below code 128 (omega arith), not_below code 2048 h, below code 65536 (omega arith))
+    (ap (λ n. n ∷ (128 + a) ∷ (128 + b) ∷ os) x ∙ ap (λ n. (224 + code / 4096) ∷ (128 + n) ∷ (128 + b) ∷ os) y
+    ∙ ap (λ n. (224 + code / 4096) ∷ next (code / 64) ∷ (128 + n) ∷ os) z)
+
+pub three_octets : (lead a b : ℕ) (os : List ℕ) → 224 ≤ lead → lead < 240 → a < 64 → b < 64
+    → char_from (((lead - 224) * 64 + a) * 64 + b) 2048 ≡ first_char (lead ∷ (128 + a) ∷ (128 + b) ∷ os)
+three_octets lead a b os l u p q = decide (lead ∷ (128 + a) ∷ (128 + b) ∷ os) os (((lead - 224) * 64 + a) * 64 + b) 2048
+    (spelled_in_three (((lead - 224) * 64 + a) * 64 + b) lead a b os l u p q refl)
+    (λ c g. at c g.rest (wide c lead ((128 + a) ∷ (128 + b) ∷ os) g.rest g.split))
+  where
+    at : (c : ℕ) (rest : List ℕ) → Wide c lead ((128 + a) ∷ (128 + b) ∷ os) rest
+        → (c ≡ ((lead - 224) * 64 + a) * 64 + b) × (2048 ≤ c)
+    at c rest (one r e) = absurd (omega arith)
+    at c rest (two r s e t) = absurd (omega arith)
+    at c rest (three r s e t) =
+        let k = heads (128 + a) (next (c / 64)) ((128 + b) ∷ os) (next c ∷ rest) t in
+        let j = heads (128 + b) (next c) os rest k.1 in
+        (omega (arith, k.0, j.0), r)
+    at c rest (four r e t) = absurd (omega arith)
+
+spelled_in_four : (code lead a b d : ℕ) (os : List ℕ) → 240 ≤ lead → a < 64 → b < 64 → d < 64
+    → code ≡ (((lead - 240) * 64 + a) * 64 + b) * 64 + d → 65536 ≤ code
+    → lead ∷ (128 + a) ∷ (128 + b) ∷ (128 + d) ∷ os ≡ encode code ++ os
+unfolding encode
+spelled_in_four code lead a b d os l p q r e h =
+    let w : lead ≡ 240 + code / 262144 = omega arith in
+    let x : a ≡ code / 4096 % 64 = omega arith in
+    let y : b ≡ code / 64 % 64 = omega arith in
+    let z : d ≡ code % 64 = omega arith in
+    rw (not_below code 128 (omega arith), not_below code 2048 (omega arith), not_below code 65536 h)
+    (ap (λ n. n ∷ (128 + a) ∷ (128 + b) ∷ (128 + d) ∷ os) w
+    ∙ ap (λ n. (240 + code / 262144) ∷ (128 + n) ∷ (128 + b) ∷ (128 + d) ∷ os) x
+    ∙ ap (λ n. (240 + code / 262144) ∷ next (code / 4096) ∷ (128 + n) ∷ (128 + d) ∷ os) y
+    ∙ ap (λ n. (240 + code / 262144) ∷ next (code / 4096) ∷ next (code / 64) ∷ (128 + n) ∷ os) z)
+
+pub four_octets : (lead a b d : ℕ) (os : List ℕ) → 240 ≤ lead → a < 64 → b < 64 → d < 64
+    → char_from ((((lead - 240) * 64 + a) * 64 + b) * 64 + d) 65536 ≡ first_char (lead ∷ (128 + a) ∷ (128 + b) ∷ (128 + d) ∷ os)
+four_octets lead a b d os l p q r = decide (lead ∷ (128 + a) ∷ (128 + b) ∷ (128 + d) ∷ os) os
+    ((((lead - 240) * 64 + a) * 64 + b) * 64 + d) 65536
+    (spelled_in_four ((((lead - 240) * 64 + a) * 64 + b) * 64 + d) lead a b d os l p q r refl)
+    (λ c g. at c g.rest (wide c lead ((128 + a) ∷ (128 + b) ∷ (128 + d) ∷ os) g.rest g.split))
+  where
+    at : (c : ℕ) (rest : List ℕ) → Wide c lead ((128 + a) ∷ (128 + b) ∷ (128 + d) ∷ os) rest
+        → (c ≡ (((lead - 240) * 64 + a) * 64 + b) * 64 + d) × (65536 ≤ c)
+    at c rest (one s e) = absurd (omega arith)
+    at c rest (two s u e t) = absurd (omega arith)
+    at c rest (three s u e t) = absurd (omega arith)
+    at c rest (four s e t) =
+        let k = heads (128 + a) (next (c / 4096)) ((128 + b) ∷ (128 + d) ∷ os) (next (c / 64) ∷ next c ∷ rest) t in
+        let j = heads (128 + b) (next (c / 64)) ((128 + d) ∷ os) (next c ∷ rest) k.1 in
+        let i = heads (128 + d) (next c) os rest j.1 in
+        (omega (arith, k.0, j.0, i.0), s)
 
 -- more than four octets tell no more
 pub first_of_four : (os : List ℕ) → first_char (take 4 os) ≡ first_char os
@@ -97,75 +195,34 @@ first_of_four os =
     elim (first_char os) as (λ o. first_char os ≡ o → first_char (take 4 os) ≡ o) [
       | None ↦ λ h. none_in_front (take 4 os) os (drop 4 os) (sym (take-append-drop 4 os)) h
       | Some c ↦ λ h.
-          let w = width_of os c h in
-          let short : length (encode c) ≤ 4 = omega (arith, w.1, widest (get_or os 0 0)) in
-          let t : take 4 os ≡ encode c ++ take (4 - length (encode c)) w.0.rest =
-          ap (take 4) w.0.split ∙ front_of (encode c) w.0.rest 4 short in
-          ap first_char t ∙ char_first c (take (4 - length (encode c)) w.0.rest) w.0.is_scalar
+          let g = first_char_is os c h in
+          let short : length (encode c) ≤ 4 = omega (arith, length-encode c, len_utf8_bounds c) in
+          let t : take 4 os ≡ encode c ++ take (4 - length (encode c)) g.rest =
+          ap (take 4) g.split ∙ front_of (encode c) g.rest 4 short in
+          ap first_char t ∙ char_first c (take (4 - length (encode c)) g.rest) g.is_scalar
     ] refl
   where
-    widest : (b : ℕ) → continuation_len b ≤ 3
-    widest b = grind (arith, nat_tests)
-
     front_of : (xs ys : List ℕ) (n : ℕ) → length xs ≤ n → take n (xs ++ ys) ≡ xs ++ take (n - length xs) ys
     front_of [] ys n h = ap (λ m. take m ys) (omega arith)
     front_of (x ∷ xs) ys zero h = absurd (omega arith)
     front_of (x ∷ xs) ys (suc n) h = let e : suc n - suc (length xs) ≡ n - length xs = omega arith in
         ap (λ l. x ∷ l) (front_of xs ys n (omega arith)) ∙ ap (λ m. x ∷ (xs ++ take m ys)) (sym e)
 
--- what `chars` of the front gives
-front_chars : (bs cs : List ℕ) (n : ℕ) → 0 < n → n ≤ length bs → scalars cs ≡ true → encodes cs ≡ take n bs → first_char bs ≡ slice_get cs 0
-front_chars bs [] n some l ok e = let no : 0 ≡ n = ap length e ∙ taken bs n l in absurd (omega arith)
-  where
-    taken : (bs : List ℕ) (n : ℕ) → n ≤ length bs → length (take n bs) ≡ n
-    taken bs zero l = refl
-    taken [] (suc n) l = absurd (omega arith)
-    taken (b ∷ bs) (suc n) l = let h = taken bs n (omega arith) in omega arith
-front_chars bs (c ∷ cs) n some l ok e = valid_some bs (encodes cs) (take n bs) n c refl (c ∷ cs, (ok, e)) (sym e)
-
-pub valid : (bs : List ℕ) (n : ℕ) → 0 < n → n ≤ length bs → IsUtf8 (take n bs) → first_char bs ≡ slice_get (chars (take n bs)) 0
-valid bs n some l (cs, (ok, e)) = front_chars bs cs n some l ok e ∙ ap (λ l. slice_get l 0) (sym (ap chars (sym e) ∙ chars-encodes cs ok))
-
-pub no_first : (bs : List ℕ) → None ≡ slice_get bs 0 → length bs ≡ 0
-no_first [] h = refl
-no_first (b ∷ bs) h = cc
-
--- ---- octets, one by one
-pub octets_room : (t os : List ℕ) (o : ℕ) → octets t ≡ o ∷ os → 3 ≤ length t
-octets_room [] os o h = cc
-octets_room (x ∷ []) os o h = cc
-octets_room (x ∷ a ∷ []) os o h = cc
-octets_room (x ∷ a ∷ b ∷ t) os o h = omega arith
-
-pub no_more : (n : ℕ) (buf os rest : List ℕ) → n ≤ 4 → length buf ≡ 4 → os ≡ take n buf ++ rest → rest ≡ [] → take n buf ≡ take 4 os
-no_more n buf os rest l r e h =
-    let all : os ≡ take n buf = e ∙ ap (λ ys. take n buf ++ ys) h ∙ append-nil (take n buf) in
-    sym (ap (take 4) all ∙ take_all 4 (take n buf) (short n buf (omega arith)))
-  where
-    short : (n : ℕ) (xs : List ℕ) → n ≤ 4 → length (take n xs) ≤ 4
-    short zero xs l = omega arith
-    short (suc n) [] l = omega arith
-    short (suc n) (x ∷ xs) l = let h = shorter n xs in omega arith
-      where
-        shorter : (n : ℕ) (xs : List ℕ) → length (take n xs) ≤ n
-        shorter zero xs = omega arith
-        shorter (suc n) [] = omega arith
-        shorter (suc n) (x ∷ xs) = let h = shorter n xs in omega arith
-
-pub four_read : (n : ℕ) (buf os rest : List ℕ) → n ≡ 4 → length buf ≡ 4 → os ≡ take n buf ++ rest → take n buf ≡ take 4 os
-four_read n buf os rest e r h =
-    let all : take n buf ≡ buf = take_all n buf (omega arith) in
-    all ∙ sym (ap (take 4) (h ∙ ap (λ l. l ++ rest) all) ∙ take_at buf rest 4 r)
-
 -- ---- the unreserved character
 pub none_decoded : (s : Tests) (os : List ℕ) → os ≡ [] → decoded s os ≡ None
-none_decoded s os e = ap (decoded s) e ∙ ap (unreserved_only s) (empty_none [] refl)
+none_decoded s os e = ap (unreserved_only s) (empty_none os e)
 
 low_scalar : (o : ℕ) → o < 128 → scalar o ≡ true
 low_scalar o h = grind (arith, nat_tests)
 
-ascii_first : (o : ℕ) (os : List ℕ) → o < 128 → first_char (o ∷ os) ≡ Some o
+pub ascii_first : (o : ℕ) (os : List ℕ) → o < 128 → first_char (o ∷ os) ≡ Some o
 ascii_first o os l = ap (λ b. first_char (b ++ os)) (sym (encode_ascii o l)) ∙ char_first o os (low_scalar o l)
+
+pub middle_none : (o : ℕ) (os : List ℕ) → 128 ≤ o → o < 192 → first_char (o ∷ os) ≡ None
+middle_none o os l h = continuation_none o os (continues o l h)
+  where
+    continues : (o : ℕ) → 128 ≤ o → o < 192 → is_continuation o ≡ true
+    continues o l h = grind (arith, nat_tests)
 
 unreserved_low : (o : ℕ) → is_ascii_unreserved o ≡ true → o < 128
 unfolding is_ascii_unreserved
@@ -184,28 +241,26 @@ low_decoded s o t os k e l h =
           let low : o < 128 = ltb-true o 128 f in
           ap (decoded s) e ∙ ap (unreserved_only s) (ascii_first o os low) ∙ ap (λ b. cond (b || s.ucs o) (Some o) None) h
           ∙ ap (λ b. cond b (Some o) None) (k.ucs_ascii o low)
-      | false ↦ λ f. ap (decoded s) e ∙ ap (unreserved_only s) (continuation_none o os (continues o f l))
+      | false ↦ λ f. ap (decoded s) e ∙ ap (unreserved_only s) (middle_none o os (ltb-false o 128 f) l)
     ] refl
+
+-- a character past ASCII is unreserved where the spec says so
+pub high_decoded : (s : Tests) (lead c : ℕ) (os : List ℕ) → 192 ≤ lead → first_char (lead ∷ os) ≡ Some c
+    → decoded s (lead ∷ os) ≡ cond (s.ucs c) (Some c) None
+unfolding unreserved
+high_decoded s lead c os l h =
+    ap (unreserved_only s) h ∙ ap (λ b. cond (b || s.ucs c) (Some c) None) (reserved (is_ascii_unreserved c) refl)
   where
-    continues : (o : ℕ) → ltb o 128 ≡ false → o < 192 → is_continuation o ≡ true
-    continues o f l = grind (arith, nat_tests)
+    past : Wide c lead os (first_char_is (lead ∷ os) c h).rest → 128 ≤ c
+    past (one p e) = absurd (omega arith)
+    past (two p q e t) = p
+    past (three p q e t) = omega arith
+    past (four p e t) = omega arith
 
--- one octet more
-pub record OneMore (text buf : List ℕ) (n o : ℕ) : Type 0 where
-  pub within : 3 * (n + 1) ≤ length text
-  pub read : octets text ≡ take (n + 1) (set buf n o) ++ octets (drop (3 * (n + 1)) text)
-
-pub one_more : (text buf tail os : List ℕ) (n o : ℕ) → n < length buf → 3 * n ≤ length text
-    → octets text ≡ take n buf ++ octets (drop (3 * n) text) → tail ≡ drop (3 * n) text → octets tail ≡ o ∷ octets (drop 3 tail)
-    → OneMore text buf n o
-one_more text buf tail os n o l w e is h =
-    let room : 3 ≤ length (drop (3 * n) text) = octets_room (drop (3 * n) text) (octets (drop 3 tail)) o (ap octets (sym is) ∙ h) in
-    let sum : 3 * n + 3 ≡ 3 * (n + 1) = omega arith in
-    let behind : octets (drop (3 * n) text) ≡ o ∷ octets (drop (3 * (n + 1)) text) =
-    ap octets (sym is) ∙ h ∙ ap (λ t. o ∷ octets (drop 3 t)) is
-    ∙ ap (λ t. o ∷ octets t) (drop-drop 3 (3 * n) text ∙ ap (λ k. drop k text) sum) in
-    record {
-      within = omega (arith, room, length-drop (3 * n) text);
-      read = e ∙ ap (λ l. take n buf ++ l) behind ∙ sym (append_assoc (take n buf) (o ∷ []) (octets (drop (3 * (n + 1)) text)))
-          ∙ ap (λ l. l ++ octets (drop (3 * (n + 1)) text)) (sym (take_more_set buf n o l));
-    }
+    reserved : (b : Bool) → is_ascii_unreserved c ≡ b → b ≡ false
+    reserved false e = refl
+    reserved true e = absurd (omega (
+      arith,
+      unreserved_low c e,
+      past (wide c lead os (first_char_is (lead ∷ os) c h).rest (first_char_is (lead ∷ os) c h).split),
+    ))

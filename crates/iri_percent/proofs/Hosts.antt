@@ -10,8 +10,8 @@ use Rattle.iri_grammar.specs.Classes.{Tests}
 use Rattle.iri_grammar.proofs.CutLaws.{both}
 use Rattle.iri_percent.specs.Units.{two_digits, whole_triplets}
 use Rattle.iri_percent.specs.Triplets.{normal}
-use Rattle.iri_percent.specs.NormalHost.{octet_below_128, is_ascii_host, normal_host}
-use Rattle.iri_percent.specs.inside.Pieces.{case_of, stays, NoMark, is_plain_byte}
+use Rattle.iri_percent.specs.NormalHost.{octet_below_128, is_ascii_host, is_plain_byte, normal_host}
+use Rattle.iri_percent.specs.inside.Pieces.{case_of, stays, NoMark}
 use Rattle.iri_percent.proofs.Changes.{run_all}
 
 pub percent_digits : (x : ℕ) (xs : List ℕ) → x ≡ 37 → whole_triplets (x ∷ xs) ≡ true → two_digits xs ≡ true

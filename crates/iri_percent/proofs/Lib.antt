@@ -1,7 +1,9 @@
 pub mod Characters
 pub mod Changes
 pub mod Hosts
+pub mod PlainTexts
 pub mod DecodingLemmas
+pub mod HexTable
 mod Strays
 pub mod EncodedRuns
 pub mod Spelled

@@ -146,7 +146,7 @@ pub record Bytes (c : ℕ) (os : List ℕ) : Type 0 where
   pub continue : list_all is_continuation tail ≡ true
   pub percent : (lead == 37) ≡ (c == 37)
 
-next_continues : (x : ℕ) → is_continuation (next x) ≡ true
+pub next_continues : (x : ℕ) → is_continuation (next x) ≡ true
 next_continues x = grind (arith, nat_tests)
 
 pub encode_bytes : (c : ℕ) → Bytes c (encode c)

@@ -1,6 +1,6 @@
 -- The normal form of a host and of an authority (RFC 3986 sections 3.2.2, 6.2.2.1 and 6.2.3, RFC 3987 section 5.3.2).
-use Rattle.std.specs.Prelude.{ℕ, Bool, true, false, cond, ◌&&◌, ◌==◌, List, [], ◌∷◌, Option, Some, None, nat_lt}
-use Rattle.std.specs.Char.{to_ascii_lowercase}
+use Rattle.std.specs.Prelude.{ℕ, Bool, true, false, cond, not, ◌&&◌, ◌==◌, List, [], ◌∷◌, Option, Some, None, nat_lt}
+use Rattle.std.specs.Char.{is_ascii_uppercase, to_ascii_lowercase}
 use Rattle.std.specs.Str.{bytes_eq}
 use Rattle.iri_grammar.specs.Classes.{Tests}
 use Rattle.iri_grammar.specs.Authority.{AuthorityParts, authority_parts, recompose_authority}
@@ -24,6 +24,10 @@ lowered_host s h = normal s to_ascii_lowercase h
 -- the normal form of a host. One past ASCII keeps its letters
 unfoldable pub normal_host : Tests → List ℕ → List ℕ
 normal_host s h = cond (is_ascii_host h) (lowered_host s h) (pct s h)
+
+-- a byte that stays in it: ASCII, no `%` and no capital letter
+abbrev pub is_plain_byte : ℕ → Bool
+is_plain_byte x = nat_lt x 128 && (not (x == percent_sign) && not (is_ascii_uppercase x))
 
 abbrev pub normal_userinfo : Tests → Option (List ℕ) → Option (List ℕ)
 normal_userinfo s None = None

@@ -1,5 +1,6 @@
 -- What private contracts cite, and laws that an `impl` cites.
 pub mod EncoderText
 pub mod MapRuns
+pub mod Octets
 pub mod Pieces
 pub mod Runs

@@ -1,79 +1,94 @@
 //! Characters in triplets.
-ghost use Rattle.std.specs.Prelude.{◌≡◌, ◌≤◌, ◌+◌, take};
-ghost use Rattle.std.specs.Str.{continuation_len};
+ghost use Rattle.std.specs.Prelude.{◌≡◌, ◌≤◌, ◌<◌, ◌∷◌};
 ghost use Rattle.iri_percent.specs.Units.{octets, first_char};
 ghost use Rattle.iri_percent.specs.NormalLaws.{decoded};
+ghost use Rattle.iri_percent.specs.inside.Octets.{char_from};
 
-use crate::octets::first_octet;
-use iri_grammar::class::{Class, is_unreserved};
+use crate::octets::{split_bits, split_octet};
+use iri_grammar::class::Class;
 use iri_grammar::spec::Spec;
 
-// How many bytes a character has that begins with this one.
-fn width(lead: u8) -> usize
-    ensures { result ≡ continuation_len lead + 1 }
+// The character of a code, unless it is below the least that so many octets spell.
+fn char_from(code: u32, least: u32) -> Option<char>
+    ensures { result ≡ char_from code least }
 {
-    match lead {
-        0..=0x7F => 1,
-        0x80..=0xDF => 2,
-        0xE0..=0xEF => 3,
-        _ => 4,
-    }
-}
-
-// The character with whose UTF-8 the bytes begin.
-fn front_char(bytes: &[u8]) -> Option<char>
-    ensures { result ≡ first_char bytes.now }
-{
-    let lead = *bytes.first()?;
-    let n = width(lead);
-    if bytes.len() < n {
+    if code < least {
         return None;
     }
-    match str::from_utf8(&bytes[..n]) {
-        Ok(s) => s.chars().next(),
-        Err(_) => None,
-    }
+    char::from_u32(code)
 }
 
-// The octets of up to four triplets with which the text begins.
-fn front_octets(text: &[u8], buf: &mut [u8; 4]) -> usize
-    ensures count { result ≤ 4 }
-    ensures octets { take result buf.new ≡ take 4 (octets text.now) }
+fn char_of_two(lead: u8, rest: &[u8]) -> Option<char>
+    requires { (192 ≤ lead) × (lead < 224) }
+    ensures { result ≡ first_char (lead ∷ octets rest.now) }
 {
-    let mut n = 0;
-    while n < 4 {
-        match first_octet(&text[3 * n..]) {
-            Some(octet) => buf[n] = octet,
-            None => return n,
-        }
-        n += 1;
+    let (a, _) = split_bits(rest)?;
+    char_from(u32::from(lead - 0xC0) * 64 + a, 0x80)
+}
+
+fn char_of_three(lead: u8, rest: &[u8]) -> Option<char>
+    requires { (224 ≤ lead) × (lead < 240) }
+    ensures { result ≡ first_char (lead ∷ octets rest.now) }
+{
+    let (a, behind) = split_bits(rest)?;
+    let (b, _) = split_bits(behind)?;
+    char_from((u32::from(lead - 0xE0) * 64 + a) * 64 + b, 0x800)
+}
+
+fn char_of_four(lead: u8, rest: &[u8]) -> Option<char>
+    requires { 240 ≤ lead }
+    ensures { result ≡ first_char (lead ∷ octets rest.now) }
+{
+    let (a, second) = split_bits(rest)?;
+    let (b, third) = split_bits(second)?;
+    let (c, _) = split_bits(third)?;
+    char_from(
+        ((u32::from(lead - 0xF0) * 64 + a) * 64 + b) * 64 + c,
+        0x1_0000,
+    )
+}
+
+// The character with whose UTF-8 this octet and those of the triplets behind it begin (RFC 3629 section 3). It has no
+// loop, so that the compiler leaves it out where a grammar takes no character past ASCII.
+fn front_char(lead: u8, rest: &[u8]) -> Option<char>
+    ensures { result ≡ first_char (lead ∷ octets rest.now) }
+{
+    match lead {
+        0..=0x7F => Some(char::from(lead)),
+        0x80..=0xBF => None,
+        0xC0..=0xDF => char_of_two(lead, rest),
+        0xE0..=0xEF => char_of_three(lead, rest),
+        _ => char_of_four(lead, rest),
     }
-    n
 }
 
 /// The character in triplets with which the text begins.
 pub fn triplets_char(text: &[u8]) -> Option<char>
     ensures { result ≡ first_char (octets text.now) }
 {
-    let mut buf = [0u8; 4];
-    let n = front_octets(text, &mut buf);
-    front_char(&buf[..n])
+    let (lead, rest) = split_octet(text)?;
+    front_char(lead, rest)
 }
 
-fn char_past_ascii<S: Spec>(text: &[u8]) -> Option<char>
-    ensures { result ≡ decoded S.tests (octets text.now) }
+fn char_past_ascii<S: Spec>(lead: u8, rest: &[u8]) -> Option<char>
+    requires { 192 ≤ lead }
+    ensures { result ≡ decoded S.tests (lead ∷ octets rest.now) }
 {
-    let c = triplets_char(text)?;
-    if is_unreserved::<S>(c) { Some(c) } else { None }
+    let c = front_char(lead, rest)?;
+    if S::is_nonascii_char_unreserved(c) {
+        Some(c)
+    } else {
+        None
+    }
 }
 
 /// The unreserved character in triplets with which the text begins.
 pub fn decoded_char<S: Spec>(text: &[u8]) -> Option<char>
     ensures { result ≡ decoded S.tests (octets text.now) }
 {
-    let octet = first_octet(text)?;
+    let (octet, rest) = split_octet(text)?;
     if octet >= 0xC0 {
-        char_past_ascii::<S>(text)
+        char_past_ascii::<S>(octet, rest)
     } else if Class::Unreserved.has_byte(octet) {
         Some(char::from(octet))
     } else {

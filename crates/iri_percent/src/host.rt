@@ -3,8 +3,7 @@ ghost use Rattle.std.specs.Prelude.{◌≡◌, ◌==◌, ◌&&◌, ◌∷◌, tr
 ghost use Rattle.std.specs.List.{list_all};
 ghost use Rattle.iri_grammar.specs.Host.{is_host};
 ghost use Rattle.iri_percent.specs.Units.{two_digits, whole_triplets};
-ghost use Rattle.iri_percent.specs.NormalHost.{is_ascii_host, normal_host, octet_below_128};
-ghost use Rattle.iri_percent.specs.inside.Pieces.{is_plain_byte};
+ghost use Rattle.iri_percent.specs.NormalHost.{is_ascii_host, is_plain_byte, normal_host, octet_below_128};
 ghost use Rattle.iri_grammar.specs.Characters.{percent_sign};
 
 use crate::normal::show_normal;
@@ -79,12 +78,28 @@ pub fn is_ascii_host(host: &[u8]) -> bool
     true
 }
 
-// Whether the host is ASCII and holds no triplet and no capital letter.
-fn is_plain(host: &[u8]) -> bool
-    ensures { result ≡ list_all is_plain_byte host.now }
+// For each byte a `p` where it is ASCII, no `%` and no capital letter.
+static PLAIN_BYTES: [u8; 256] = *b"\
+    pppppppppppppppppppppppppppppppp\
+    ppppp.pppppppppppppppppppppppppp\
+    p..........................ppppp\
+    pppppppppppppppppppppppppppppppp\
+    ................................\
+    ................................\
+    ................................\
+    ................................";
+
+fn is_plain_byte(b: u8) -> bool
+    ensures { result ≡ is_plain_byte b }
 {
-    host.iter()
-        .all(|b| *b < 128 && *b != b'%' && !b.is_ascii_uppercase())
+    PLAIN_BYTES[usize::from(b)] == b'p'
+}
+
+/// Whether the text is ASCII without a triplet and a capital letter: as a host or a scheme it is in normal form as it stands.
+pub fn is_plain(text: &[u8]) -> bool
+    ensures { result ≡ list_all is_plain_byte text.now }
+{
+    text.iter().all(|b| is_plain_byte(*b))
 }
 
 impl<S: Spec> Show for NormalizedHost<'_, S> {

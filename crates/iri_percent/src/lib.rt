@@ -39,7 +39,7 @@ pub use authority::{NormalizedAuthority, is_dropped};
 pub use canon_mode::CanonMode;
 pub use decode::{DecodeTextError, PercentDecodedWhatwgBytes, decode_whatwg_bytes};
 pub use fragments::{DecodedFragment, PercentDecodedBytesFragments};
-pub use host::{NormalizedHost, is_ascii_host};
+pub use host::{NormalizedHost, is_ascii_host, is_plain};
 pub use mapped::MappedToUri;
 pub use mapped_kind::MappedKind;
 pub use percent_encoded::{PercentEncoded, PercentEncodedForIri, PercentEncodedForUri};

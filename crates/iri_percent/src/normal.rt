@@ -1,28 +1,46 @@
 // Triplet normal form, written run by run.
-ghost use Rattle.std.specs.Prelude.{◌≡◌, ◌<◌, true, false, MatchOption, length, slice_index};
+ghost use Rattle.std.specs.Prelude.{◌≡◌, ◌<◌, ◌≤◌, true, false, not, MatchOption, length, slice_index, take};
+ghost use Rattle.std.specs.Str.{IsUtf8};
 ghost use Rattle.iri_text.specs.Shown.{Shows};
 ghost use Rattle.iri_percent.specs.Units.{whole_triplets};
 ghost use Rattle.iri_percent.specs.Triplets.{normal};
-ghost use Rattle.iri_percent.specs.inside.Pieces.{case_of, stays, NoMark, MarkAt, Rewrites, KeepsTriplet};
+ghost use Rattle.iri_percent.specs.inside.Pieces.{case_of, stays, NoMark, MarkAt, Becomes, Rewrites, changes};
 ghost use Rattle.iri_grammar.specs.Characters.{percent_sign};
 
 use crate::character::decoded_char;
-use crate::piece::{Piece, put_piece};
+use crate::piece::{Piece, write_piece};
 use iri_grammar::spec::Spec;
 use iri_text::{Stop, TextSink};
 use memchr::memchr;
 
-// So many bytes from `at` on are rewritten.
+// So many bytes are rewritten.
 #[derive(Clone, Copy)]
 struct Change {
-    at: usize,
     len: usize,
     piece: Piece,
 }
 
+// So many bytes were read, and so many written for them.
+#[derive(Clone, Copy)]
+struct Run {
+    read: usize,
+    written: usize,
+}
+
+// Whether a change may begin with this byte.
+fn is_mark(b: u8, lower: bool) -> bool
+    ensures { stays lower b ≡ not result }
+{
+    b == b'%' || (lower && b.is_ascii_uppercase())
+}
+
+// Triplets often stand in a row: the next byte is looked at before the search begins.
 fn find_percent(text: &[u8]) -> Option<usize>
     ensures { MatchOption result (NoMark false text.now (length text.now)) (λ i. MarkAt false text.now i) }
 {
+    if let [b'%', ..] = text {
+        return Some(0);
+    }
     memchr(b'%', text)
 }
 
@@ -30,7 +48,7 @@ fn find_percent_or_capital(text: &[u8]) -> Option<usize>
     ensures { MatchOption result (NoMark true text.now (length text.now)) (λ i. MarkAt true text.now i) }
 {
     for (i, b) in text.iter().enumerate() {
-        if *b == b'%' || b.is_ascii_uppercase() {
+        if is_mark(*b, true) {
             return Some(i);
         }
     }
@@ -54,66 +72,82 @@ fn in_case(c: char, lower: bool) -> char
     if lower { c.to_ascii_lowercase() } else { c }
 }
 
-// The change at a triplet of these digits.
-fn change_of_triplet<S: Spec>(text: &[u8], lower: bool) -> Option<Change>
+// The change at a triplet, which may write it as it stands.
+fn change_of_triplet<S: Spec>(text: &[u8], lower: bool) -> Change
     requires { (whole_triplets text.now ≡ true) × (0 < length text.now) × (slice_index text.now 0 ≡ percent_sign) }
-    ensures { MatchOption result (KeepsTriplet S.tests lower text.now)
-        (λ c. Rewrites S.tests lower text.now c.at c.len c.piece × (c.at ≡ 0)) }
+    ensures { Rewrites S.tests lower text.now 0 result.len result.piece }
 {
-    if let Some(c) = decoded_char::<S>(text) {
-        return Some(Change {
-            at: 0,
+    match decoded_char::<S>(text) {
+        Some(c) => Change {
             len: 3 * c.len_utf8(),
             piece: Piece::Char(in_case(c, lower)),
-        });
-    }
-    let (high, low) = (text[1], text[2]);
-    if high.is_ascii_lowercase() || low.is_ascii_lowercase() {
-        return Some(Change {
-            at: 0,
+        },
+        None => Change {
             len: 3,
-            piece: Piece::Triplet(high, low),
-        });
+            piece: Piece::Triplet(text[1], text[2]),
+        },
     }
-    None
 }
 
 // The change at the first byte, a `%` or a letter that is lowered.
-fn change_at<S: Spec>(text: &[u8], lower: bool) -> Option<Change>
+fn change_at<S: Spec>(text: &[u8], lower: bool) -> Change
     requires { (whole_triplets text.now ≡ true) × (0 < length text.now)
         × (stays lower (slice_index text.now 0) ≡ false) }
-    ensures { MatchOption result (KeepsTriplet S.tests lower text.now)
-        (λ c. Rewrites S.tests lower text.now c.at c.len c.piece × (c.at ≡ 0)) }
+    ensures { Rewrites S.tests lower text.now 0 result.len result.piece }
 {
     let first = text[0];
     if first == b'%' {
         return change_of_triplet::<S>(text, lower);
     }
-    Some(Change {
-        at: 0,
+    Change {
         len: 1,
         piece: Piece::Char(char::from(first.to_ascii_lowercase())),
-    })
+    }
 }
 
-fn next_change<S: Spec>(text: &[u8], lower: bool) -> Option<Change>
+// The first change that writes something else, and where it begins.
+fn next_change<S: Spec>(text: &[u8], lower: bool) -> Option<(usize, Change)>
     requires { whole_triplets text.now ≡ true }
     ensures { MatchOption result (normal S.tests (case_of lower) text.now ≡ text.now)
-        (λ c. Rewrites S.tests lower text.now c.at c.len c.piece) }
+        (λ c. Rewrites S.tests lower text.now c.0 c.1.len c.1.piece) }
 {
     let mut at = 0;
     while let Some(i) = find_mark(&text[at..], lower) {
         at += i;
-        if let Some(change) = change_at::<S>(&text[at..], lower) {
-            return Some(Change {
-                at,
-                len: change.len,
-                piece: change.piece,
-            });
+        let change = change_at::<S>(&text[at..], lower);
+        if change.piece.changes() {
+            return Some((at, change));
         }
-        at += 3;
+        at += change.len;
     }
     None
+}
+
+// Gathers what is written from the first change on, up to a byte that stays or a full buffer.
+fn gather<S: Spec>(text: &[u8], at: usize, first: Change, lower: bool, buf: &mut [u8; 64]) -> Run
+    requires { Rewrites S.tests lower text.now at first.len first.piece }
+    ensures becomes { Becomes S.tests lower text.now at result.read (take result.written buf.new) }
+    ensures utf8 { IsUtf8 (take result.written buf.new) }
+    ensures room { result.written ≤ 64 }
+{
+    let mut read = first.len;
+    let mut written = write_piece(first.piece, buf, 0);
+    while written <= 60 && at + read < text.len() && is_mark(text[at + read], lower) {
+        let change = change_at::<S>(&text[at + read..], lower);
+        written = write_piece(change.piece, buf, written);
+        read += change.len;
+    }
+    Run { read, written }
+}
+
+// Puts a run, which may be empty.
+fn put_run<W: TextSink>(sink: &mut W, run: &str) -> Result<(), Stop>
+    ensures { Shows W.puts W.halts W.stops sink.old run.now sink.new result }
+{
+    if run.is_empty() {
+        return Ok(());
+    }
+    sink.put(run)
 }
 
 // Writes a text in triplet normal form, and where it is asked for, its letters outside triplets in lower case.
@@ -126,10 +160,12 @@ pub(crate) fn show_normal<S: Spec, W: TextSink>(
     ensures { Shows W.puts W.halts W.stops sink.old (normal S.tests (case_of lower) text.now) sink.new result }
 {
     let mut rest = text;
-    while let Some(change) = next_change::<S>(rest.as_bytes(), lower) {
-        sink.put(&rest[..change.at])?;
-        put_piece(sink, change.piece)?;
-        rest = &rest[change.at + change.len..];
+    while let Some((at, change)) = next_change::<S>(rest.as_bytes(), lower) {
+        put_run(sink, &rest[..at])?;
+        let mut buf = [0u8; 64];
+        let run = gather::<S>(rest.as_bytes(), at, change, lower, &mut buf);
+        sink.put(unsafe { str::from_utf8_unchecked(&buf[..run.written]) })?;
+        rest = &rest[at + run.read..];
     }
-    sink.put(rest)
+    put_run(sink, rest)
 }

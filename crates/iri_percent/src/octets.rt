@@ -1,19 +1,26 @@
 // Octets in triplets.
-ghost use Rattle.std.specs.Prelude.{◌≡◌, ◌<◌, ◌∷◌, [], true, false, ◌&&◌, MatchOption, drop};
+ghost use Rattle.std.specs.Prelude.{◌≡◌, ◌<◌, ◌+◌, ◌∷◌, [], true, false, ◌&&◌, MatchOption, drop};
 ghost use Rattle.std.specs.Char.{is_ascii_hexdigit, digit_value};
 ghost use Rattle.iri_percent.specs.Units.{octet, octets};
+ghost use Rattle.iri_percent.specs.inside.Octets.{goes_on};
 
-// Each digit of a triplet comes here. `char::to_digit` tests as many ranges, and then the value against the radix.
+// For each byte its value as a hex digit, counted from `0` on, and `@`, one past the last, where it is none.
+static VALUES: [u8; 256] = *b"\
+    @@@@@@@@@@@@@@@@@@@@@@@@@@@@@@@@\
+    @@@@@@@@@@@@@@@@0123456789@@@@@@\
+    @:;<=>?@@@@@@@@@@@@@@@@@@@@@@@@@\
+    @:;<=>?@@@@@@@@@@@@@@@@@@@@@@@@@\
+    @@@@@@@@@@@@@@@@@@@@@@@@@@@@@@@@\
+    @@@@@@@@@@@@@@@@@@@@@@@@@@@@@@@@\
+    @@@@@@@@@@@@@@@@@@@@@@@@@@@@@@@@\
+    @@@@@@@@@@@@@@@@@@@@@@@@@@@@@@@@";
+
 fn hex_value(digit: u8) -> Option<u8>
     ensures { MatchOption result (is_ascii_hexdigit digit ≡ false)
         (λ v. (is_ascii_hexdigit digit ≡ true) × (v ≡ digit_value digit) × (v < 16)) }
 {
-    match digit {
-        b'0'..=b'9' => Some(digit - b'0'),
-        b'A'..=b'F' => Some(digit - b'A' + 10),
-        b'a'..=b'f' => Some(digit - b'a' + 10),
-        _ => None,
-    }
+    let value = VALUES[usize::from(digit)];
+    if value < b'@' { Some(value % 16) } else { None }
 }
 
 fn octet(high: u8, low: u8) -> Option<u8>
@@ -25,12 +32,32 @@ fn octet(high: u8, low: u8) -> Option<u8>
     Some(high * 16 + low)
 }
 
+// The octet of the triplet with which the text begins, and the rest.
+pub(crate) fn split_octet(text: &[u8]) -> Option<(u8, &[u8])>
+    ensures { MatchOption result (octets text.now ≡ [])
+        (λ r. (octets text.now ≡ r.0 ∷ octets r.1.now) × (r.1.now ≡ drop 3 text.now)) }
+{
+    match text {
+        [b'%', high, low, rest @ ..] => Some((octet(*high, *low)?, rest)),
+        _ => None,
+    }
+}
+
 // The octet of the triplet with which the text begins.
 pub(crate) fn first_octet(text: &[u8]) -> Option<u8>
     ensures { MatchOption result (octets text.now ≡ []) (λ o. octets text.now ≡ o ∷ octets (drop 3 text.now)) }
 {
-    match text {
-        [b'%', high, low, ..] => octet(*high, *low),
+    let (octet, _) = split_octet(text)?;
+    Some(octet)
+}
+
+// The six bits of an octet that continues a character, where the text begins with such a triplet, and the rest.
+pub(crate) fn split_bits(text: &[u8]) -> Option<(u32, &[u8])>
+    ensures { MatchOption result (goes_on (octets text.now) ≡ false)
+        (λ r. (octets text.now ≡ (128 + r.0) ∷ octets r.1.now) × (r.0 < 64)) }
+{
+    match split_octet(text)? {
+        (octet @ 0x80..=0xBF, rest) => Some((u32::from(octet - 0x80), rest)),
         _ => None,
     }
 }

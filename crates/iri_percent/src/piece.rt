@@ -1,11 +1,9 @@
 // What a place of a text is rewritten to.
-ghost use Rattle.std.specs.Prelude.{◌<◌, ◌∷◌, []};
+ghost use Rattle.std.specs.Prelude.{◌≡◌, ◌<◌, ◌≤◌, ◌+◌, ◌∷◌, ◌++◌, [], take};
 ghost use Rattle.std.specs.Char.{to_ascii_uppercase, encode_utf8};
-ghost use Rattle.iri_text.specs.Shown.{Shows};
-ghost use Rattle.iri_percent.specs.inside.Pieces.{piece_text, IsAsciiPiece};
+ghost use Rattle.std.specs.Str.{IsUtf8};
+ghost use Rattle.iri_percent.specs.inside.Pieces.{piece_text, changes, IsAsciiPiece};
 ghost use Rattle.iri_grammar.specs.Characters.{percent_sign};
-
-use iri_text::{Stop, TextSink};
 
 #[derive(Clone, Copy)]
 pub(crate) enum Piece {
@@ -15,28 +13,57 @@ pub(crate) enum Piece {
     Triplet(u8, u8),
 }
 
-fn put_char<W: TextSink>(sink: &mut W, c: char) -> Result<(), Stop>
-    ensures { Shows W.puts W.halts W.stops sink.old (encode_utf8 c) sink.new result }
-{
-    let mut buf = [0u8; 4];
-    sink.put(c.encode_utf8(&mut buf))
+impl Piece {
+    // Whether something else is written than stood there.
+    pub(crate) fn changes(self) -> bool
+        ensures { result ≡ changes self }
+    {
+        match self {
+            Piece::Char(_) => true,
+            Piece::Triplet(high, low) => high.is_ascii_lowercase() || low.is_ascii_lowercase(),
+        }
+    }
 }
 
-fn put_triplet<W: TextSink>(sink: &mut W, high: u8, low: u8) -> Result<(), Stop>
-    requires { (high < 128) × (low < 128) }
-    ensures { Shows W.puts W.halts W.stops sink.old
-        (percent_sign ∷ to_ascii_uppercase high ∷ to_ascii_uppercase low ∷ []) sink.new result }
+fn write_char(c: char, buf: &mut [u8; 64], at: usize) -> usize
+    requires { at ≤ 60 }
+    ensures within { result ≤ at + 4 }
+    ensures text { take result buf.new ≡ take at buf.old ++ encode_utf8 c }
+    ensures utf8 { IsUtf8 (encode_utf8 c) }
 {
-    let buf = [b'%', high.to_ascii_uppercase(), low.to_ascii_uppercase()];
-    sink.put(unsafe { str::from_utf8_unchecked(&buf) })
+    if c.is_ascii() {
+        buf[at] = c as u8;
+        return at + 1;
+    }
+    let mut four = [0u8; 4];
+    let bytes = c.encode_utf8(&mut four).as_bytes();
+    let end = at + bytes.len();
+    buf[at..end].copy_from_slice(bytes);
+    end
 }
 
-pub(crate) fn put_piece<W: TextSink>(sink: &mut W, piece: Piece) -> Result<(), Stop>
-    requires { IsAsciiPiece piece }
-    ensures { Shows W.puts W.halts W.stops sink.old (piece_text piece) sink.new result }
+fn write_triplet(high: u8, low: u8, buf: &mut [u8; 64], at: usize) -> usize
+    requires { (high < 128) × (low < 128) × (at ≤ 60) }
+    ensures within { result ≤ at + 4 }
+    ensures text { take result buf.new
+        ≡ take at buf.old ++ (percent_sign ∷ to_ascii_uppercase high ∷ to_ascii_uppercase low ∷ []) }
+    ensures utf8 { IsUtf8 (percent_sign ∷ to_ascii_uppercase high ∷ to_ascii_uppercase low ∷ []) }
+{
+    buf[at] = b'%';
+    buf[at + 1] = high.to_ascii_uppercase();
+    buf[at + 2] = low.to_ascii_uppercase();
+    at + 3
+}
+
+// Writes a piece to a buffer, from a place on, and answers where it ends.
+pub(crate) fn write_piece(piece: Piece, buf: &mut [u8; 64], at: usize) -> usize
+    requires { IsAsciiPiece piece × (at ≤ 60) }
+    ensures within { result ≤ at + 4 }
+    ensures text { take result buf.new ≡ take at buf.old ++ piece_text piece }
+    ensures utf8 { IsUtf8 (piece_text piece) }
 {
     match piece {
-        Piece::Char(c) => put_char(sink, c),
-        Piece::Triplet(high, low) => put_triplet(sink, high, low),
+        Piece::Char(c) => write_char(c, buf, at),
+        Piece::Triplet(high, low) => write_triplet(high, low, buf, at),
     }
 }

@@ -158,6 +158,23 @@ fn all_triplets(rt: HostRuntime) {
     }
 }
 
+// Rows of triplets of all lengths, also such as are put in several pieces.
+#[test]
+fn long_rows(rt: HostRuntime) -> Result<(), Fail> {
+    let mut text = String::new(rt.alloc());
+    let mut uri = String::new(rt.alloc());
+    let mut iri = String::new(rt.alloc());
+    for _ in 0..40 {
+        text.push_str("%41%ce%b1%2f")?;
+        uri.push_str("A%CE%B1%2F")?;
+        iri.push_str("A\u{3b1}%2F")?;
+        let mut buf = [0u8; 512];
+        assert_eq!(rt; part::<UriSpec>(&mut buf, text.as_str()), uri.as_str());
+        assert_eq!(rt; part::<IriSpec>(&mut buf, text.as_str()), iri.as_str());
+    }
+    Ok(())
+}
+
 #[test]
 fn hosts(rt: HostRuntime) {
     for (text, uri, iri) in [

@@ -1,4 +1,4 @@
-use Rattle.std.proofs.Common.{Some, ap, sym, ◌∙◌, arith, drop}
+use Rattle.std.proofs.Common.{Some, ap, sym, ◌∙◌, arith}
 use Rattle.iri_percent.specs.Units.{octets}
 use Rattle.iri_percent.proofs.Characters.{none_decoded, ascii_decoded, low_decoded}
 use Rattle.iri_percent.proofs.character.decoded_char.Goals as goal
@@ -8,9 +8,9 @@ returns-in_err-octet g c = c.from_residual.ensures ∙ sym (none_decoded g.S.Spe
 
 pub returns-then-has_byte : goal.returns-then-has_byte
 returns-then-has_byte g c = ap (λ x. Some x) c.from.ensures
-    ∙ sym (ascii_decoded g.S.Spec.tests c.in_ok-octet.octet (octets c.args.text.now) (octets (drop 3 c.args.text.now)) c.in_ok-octet.ensures
+    ∙ sym (ascii_decoded g.S.Spec.tests c.in_ok-octet.octet (octets c.args.text.now) (octets c.in_ok-octet.rest.now) c.in_ok-octet.ensures.0
     (sym c.if-has_byte.ensures))
 
 pub returns-else-has_byte : goal.returns-else-has_byte
 returns-else-has_byte g c = sym (low_decoded g.S.Spec.tests c.in_ok-octet.octet (octets c.args.text.now)
-    (octets (drop 3 c.args.text.now)) g.met.S.Spec.lawful c.in_ok-octet.ensures (omega arith) (sym c.if-has_byte.ensures))
+    (octets c.in_ok-octet.rest.now) g.met.S.Spec.lawful c.in_ok-octet.ensures.0 (omega arith) (sym c.if-has_byte.ensures))

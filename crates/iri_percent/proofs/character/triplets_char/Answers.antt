@@ -1,7 +1,7 @@
-use Rattle.std.proofs.Common.{ap, ◌∙◌}
-use Rattle.iri_percent.specs.Units.{octets, first_char}
-use Rattle.iri_percent.proofs.Characters.{first_of_four}
+use Rattle.std.proofs.Common.{sym, ◌∙◌}
+use Rattle.iri_percent.specs.Units.{octets}
+use Rattle.iri_percent.proofs.Characters.{empty_none}
 use Rattle.iri_percent.proofs.character.triplets_char.Goals as goal
 
-pub returns : goal.returns
-returns c = c.front_char.ensures ∙ ap first_char c.front_octets-n.ensures.octets ∙ first_of_four (octets c.args.text.now)
+pub returns-in_err-lead : goal.returns-in_err-lead
+returns-in_err-lead c = c.from_residual.ensures ∙ sym (empty_none (octets c.args.text.now) c.in_err-lead.ensures)

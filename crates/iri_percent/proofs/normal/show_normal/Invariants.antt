@@ -7,8 +7,8 @@ use Rattle.iri_percent.specs.inside.Pieces.{case_of}
 use Rattle.iri_percent.proofs.normal.show_normal.Given as goal
 
 -- what went into the sink, and what is left
-abbrev pub invariant-loop-change : goal.invariant-loop-change
-invariant-loop-change g l = record {
+abbrev pub invariant-loop-at : goal.invariant-loop-at
+invariant-loop-at g l = record {
   done : List ℕ;
   shown : HasShown g.W.TextSink.puts g.W.TextSink.stops l.initial.sink done l.sink;
   same : normal g.S.Spec.tests (case_of l.lower) l.text ≡ done ++ normal g.S.Spec.tests (case_of l.lower) l.rest;
@@ -16,5 +16,5 @@ invariant-loop-change g l = record {
   utf8 : IsUtf8 l.rest;
 }
 
-abbrev pub decreases-loop-change : goal.decreases-loop-change
-decreases-loop-change g l = length l.rest
+abbrev pub decreases-loop-at : goal.decreases-loop-at
+decreases-loop-at g l = length l.rest

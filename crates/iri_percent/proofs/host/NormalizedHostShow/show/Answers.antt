@@ -3,8 +3,8 @@ use Rattle.std.specs.List.{list_all}
 use Rattle.iri_text.specs.Shown.{Shows}
 use Rattle.iri_percent.specs.Units.{whole_triplets}
 use Rattle.iri_percent.specs.Triplets.{normal}
-use Rattle.iri_percent.specs.NormalHost.{is_ascii_host}
-use Rattle.iri_percent.specs.inside.Pieces.{case_of, is_plain_byte}
+use Rattle.iri_percent.specs.NormalHost.{is_ascii_host, is_plain_byte}
+use Rattle.iri_percent.specs.inside.Pieces.{case_of}
 use Rattle.iri_percent.proofs.WholeLaws.{host-whole}
 use Rattle.iri_percent.proofs.Hosts.{plain_host, host_case}
 use Rattle.iri_percent.proofs.host.NormalizedHostShow.show.Goals as goal

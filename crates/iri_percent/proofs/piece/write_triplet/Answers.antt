@@ -1,9 +1,9 @@
-use Rattle.std.proofs.Common.{◌≡◌, ℕ, zero, suc, ◌<◌, [], ◌∷◌, arith}
+use Rattle.std.proofs.Common.{◌≡◌, ℕ, zero, suc, ◌<◌, [], ◌∷◌, refl, arith}
 use Rattle.std.specs.Str.{IsAscii}
 use Rattle.std.specs.Char.{to_ascii_uppercase}
 use Rattle.std.proofs.lemmas.Str.{IsUtf8-from_ascii}
 use Rattle.std.proofs.lemmas.Bool.Decides.{nat_tests}
-use Rattle.iri_percent.proofs.piece.put_triplet.Goals as goal
+use Rattle.iri_percent.proofs.piece.write_triplet.Goals as goal
 
 three : (a b c : ℕ) → a < 128 → b < 128 → c < 128 → IsAscii (a ∷ b ∷ c ∷ [])
 three a b c p q r zero = p
@@ -14,8 +14,6 @@ three a b c p q r (suc (suc (suc i))) = omega arith
 low : (x y : ℕ) → x < 128 → y ≡ to_ascii_uppercase x → y < 128
 low x y h e = grind (arith, nat_tests)
 
-pub from_utf8_unchecked-requires : goal.from_utf8_unchecked-requires
-from_utf8_unchecked-requires g c =
-    IsUtf8-from_ascii _ (three 37 c.to_ascii_uppercase.result c.to_ascii_uppercase-2.result (omega arith)
-    (low c.args.high _ c.requires.0 c.to_ascii_uppercase.ensures.value)
-    (low c.args.low _ c.requires.1 c.to_ascii_uppercase-2.ensures.value))
+pub returns-clause-utf8 : goal.returns-clause-utf8
+returns-clause-utf8 c = IsUtf8-from_ascii _ (three 37 (to_ascii_uppercase c.args.high) (to_ascii_uppercase c.args.low) (omega arith)
+    (low c.args.high _ c.requires.0 refl) (low c.args.low _ c.requires.1 refl))

@@ -1,0 +1,52 @@
+-- The table of hex digits agrees with what they stand for at each of the 256 bytes, by computing.
+use Rattle.std.proofs.Common.{◌≡◌, ℕ, ◌<◌, ◌≤◌, Bool, true, false, not, get_or, refl, sym, ◌∙◌, subst, arith, eqb-true}
+use Rattle.std.specs.Prelude.{nat_lt, nat_eq, ◌%◌, ◌||◌}
+use Rattle.std.specs.Char.{is_ascii_hexdigit, digit_value}
+use Rattle.std.proofs.lemmas.Bool.Decides.{nat_tests}
+use Rattle.iri_grammar.proofs.Tables.{agree_below, agree_at}
+use Rattle.iri_percent.specs.declared.octets.TheConstants.{VALUES}
+
+abbrev is_value : ℕ → Bool
+is_value b = nat_lt (get_or VALUES b 0) 64
+
+abbrev is_right : ℕ → Bool
+is_right b = not (is_ascii_hexdigit b) || nat_eq (get_or VALUES b 0 % 16) (digit_value b)
+
+values : agree_below is_value is_ascii_hexdigit 256 ≡ true
+values = refl
+
+right : agree_below is_right (λ _. true) 256 ≡ true
+right = refl
+
+below : (x y : ℕ) → x < y → nat_lt x y ≡ true
+below x y h = grind (arith, nat_tests)
+
+not_below : (x y : ℕ) → y ≤ x → nat_lt x y ≡ false
+not_below x y h = grind (arith, nat_tests)
+
+second : (p q : Bool) → p ≡ true → (not p || q) ≡ true → q ≡ true
+second true q e h = h
+second false q e h = cc
+
+remainder : (x : ℕ) → x % 16 < 16
+remainder x = omega arith
+
+is_digit : (b : ℕ) → b < 256 → get_or VALUES b 0 < 64 → is_ascii_hexdigit b ≡ true
+is_digit b h l = sym (agree_at is_value is_ascii_hexdigit 256 values b h) ∙ below (get_or VALUES b 0) 64 l
+
+-- a digit
+pub digit_here : (b n : ℕ) → b ≡ n → b < 256 → get_or VALUES n 0 < 64
+    → (is_ascii_hexdigit b ≡ true) × (get_or VALUES n 0 % 16 ≡ digit_value b) × (get_or VALUES n 0 % 16 < 16)
+digit_here b n e h = subst (λ m. get_or VALUES m 0 < 64
+    → (is_ascii_hexdigit b ≡ true) × (get_or VALUES m 0 % 16 ≡ digit_value b) × (get_or VALUES m 0 % 16 < 16)) e
+    (λ l. (
+      is_digit b h l,
+      eqb-true (get_or VALUES b 0 % 16) (digit_value b) (second (is_ascii_hexdigit b) (nat_eq (get_or VALUES b 0 % 16) (digit_value b))
+          (is_digit b h l) (agree_at is_right (λ _. true) 256 right b h)),
+      remainder (get_or VALUES b 0),
+    ))
+
+-- no digit
+pub none_here : (b n : ℕ) → b ≡ n → b < 256 → 64 ≤ get_or VALUES n 0 → is_ascii_hexdigit b ≡ false
+none_here b n e h = subst (λ m. 64 ≤ get_or VALUES m 0 → is_ascii_hexdigit b ≡ false) e
+    (λ l. sym (agree_at is_value is_ascii_hexdigit 256 values b h) ∙ not_below (get_or VALUES b 0) 64 l)

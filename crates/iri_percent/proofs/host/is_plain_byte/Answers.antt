@@ -1,0 +1,16 @@
+use Rattle.std.proofs.Common.{◌≡◌, ℕ, Bool, true, get_or, refl, arith}
+use Rattle.std.specs.Prelude.{◌==◌}
+use Rattle.iri_grammar.proofs.Tables.{agree_below, agree_at}
+use Rattle.iri_percent.specs.NormalHost.{is_plain_byte}
+use Rattle.iri_percent.specs.declared.host.TheConstants.{PLAIN_BYTES}
+use Rattle.iri_percent.proofs.host.is_plain_byte.Goals as goal
+
+abbrev marked : ℕ → Bool
+marked b = get_or PLAIN_BYTES b 0 == 112
+
+-- the table has a `p` at each plain byte, by computing
+computed : agree_below marked is_plain_byte 256 ≡ true
+computed = refl
+
+pub returns : goal.returns
+returns c = rw c.from.ensures (agree_at marked is_plain_byte 256 computed c.args.b (omega arith))
