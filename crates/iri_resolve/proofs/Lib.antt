@@ -24,6 +24,7 @@ pub mod JoinLemmas
 pub mod ChangedLemmas
 pub mod ComparedLemmas
 pub mod PrefixLemmas
+pub mod PlainReferences
 pub mod AuthorityForm
 pub mod AuthoritySteps
 pub mod ByteLaws

@@ -1,16 +1,16 @@
 -- Steps of either mode keep the parts valid, and their normal form, and lead to it.
-use Rattle.std.proofs.Common.{◌≡◌, ◌≢◌, ◌↔◌, ℕ, Bool, true, false, cond, ◌&&◌, ◌||◌, List, [], ◌∷◌, ◌++◌, Option, Some, None, refl, sym}
+use Rattle.std.proofs.Common.{◌≡◌, ◌≢◌, ◌↔◌, ℕ, Bool, true, false, cond, List, [], ◌∷◌, ◌++◌, Option, Some, None, refl, sym}
 use Rattle.std.proofs.Common.{◌∙◌, ap, subst, append-nil}
-use Rattle.std.specs.Prelude.{IsSome, is_some, codes}
-use Rattle.std.specs.Str.{bytes_eq, str_eq_ignore_ascii_case}
+use Rattle.std.specs.Prelude.{IsSome, codes}
+use Rattle.std.specs.Str.{str_eq_ignore_ascii_case}
 use Rattle.iri_grammar.specs.Authority.{AuthorityParts, FitsAuthority, authority_parts, is_authority, recompose_authority}
 use Rattle.iri_grammar.specs.Classes.{Tests, IsSpec, path_char}
 use Rattle.iri_grammar.specs.Components.{if_there}
-use Rattle.iri_grammar.specs.Parts.{Parts, Fits, path_rules, recompose, is_empty, starts_with_slash}
+use Rattle.iri_grammar.specs.Parts.{Parts, Fits, path_rules, recompose}
 use Rattle.iri_grammar.proofs.AuthorityLaws.{authority_recomposed, reading_is, passes}
 use Rattle.iri_grammar.proofs.SplitUnique.{one_split}
-use Rattle.iri_percent.specs.NormalHost.{is_dropped, normal_authority, normal_authority_in, normal_authority_parts, normal_authority_parts_in}
-use Rattle.iri_percent.specs.NormalHost.{normal_port, normal_port_in, normal_userinfo, normal_host}
+use Rattle.iri_percent.specs.NormalHost.{is_dropped, normal_authority, normal_authority_in, normal_authority_parts_in}
+use Rattle.iri_percent.specs.NormalHost.{normal_port, normal_port_in}
 use Rattle.iri_percent.specs.SchemeRules.{default_port, dropped_port, is_either}
 use Rattle.iri_percent.specs.declared.canon_mode.CanonMode.{CanonMode}
 use Rattle.iri_percent.specs.declared.canon_mode.CanonMode.TheVariants.{Default, Scheme}
@@ -26,7 +26,6 @@ use Rattle.iri_resolve.specs.declared.step.Step.TheVariants.{SchemeLetter, HostL
 use Rattle.iri_resolve.proofs.AuthorityForm.{normal-parts}
 use Rattle.iri_resolve.proofs.AuthoritySteps.{placed-is, in_part-is}
 use Rattle.iri_resolve.proofs.Confluence.{normal-leads}
-use Rattle.iri_resolve.proofs.FormLaws.{form-fits}
 use Rattle.iri_resolve.proofs.Leads.{replayed_in-append}
 use Rattle.iri_resolve.proofs.SchemeForm.{by_scheme, dropped-lowered, form-by_scheme, kept_port, normal-slash, normal_in-fits, one-form, slash-normal, without}
 use Rattle.iri_resolve.proofs.StepsKept.{Kept, Valid, authority-rules, no_default_port, step-kept}

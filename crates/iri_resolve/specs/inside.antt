@@ -6,3 +6,4 @@ pub mod DotSearch
 pub mod LookBack
 pub mod NormalSteps
 pub mod PartTexts
+pub mod Unchanged

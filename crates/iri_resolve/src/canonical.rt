@@ -14,7 +14,7 @@ use crate::resolver::FixedBaseResolver;
 use iri_grammar::error::Error as GrammarError;
 use iri_grammar::spec::Spec;
 use iri_owned::owned::RiString;
-use iri_text::{Show, Stop, TextSink, ToDedicatedString};
+use iri_text::{Show, Stop, TextSink, ToDedicatedString, show_three};
 use iri_types::kind::Reference;
 use iri_types::split::SplitView;
 use iri_types::view::RiAbsoluteStr;
@@ -58,6 +58,12 @@ pub fn show_canonical_in<'a, S: Spec, W: TextSink>(
     ensures { Shows W.puts W.halts W.stops sink.old
         (canonical_in S.tests mode (base_text resolver.now) (split_text reference.now)) sink.new result }
 {
+    if let CanonMode::Default = mode {
+        if let Some(before) = resolver.before_unchanged(reference) {
+            let text = reference.view().as_str();
+            return show_three(sink, &before.prefix, &before.front, &text);
+        }
+    }
     resolver
         .resolve_split(reference)
         .and_normalize_in(mode)

@@ -10,8 +10,8 @@ ghost use Rattle.iri_grammar.specs.Characters.{slash};
 
 use memchr::memchr;
 
-// What follows a dot at the start, in any spelling.
-fn behind_dot(s: &[u8]) -> Option<&[u8]>
+/// What follows a dot at the start, in any spelling.
+pub(crate) fn behind_dot(s: &[u8]) -> Option<&[u8]>
     ensures { now_of result ≡ behind_dot s.now }
 {
     match s {

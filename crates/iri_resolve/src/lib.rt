@@ -28,9 +28,9 @@
 //!
 //! Not proved: that memory is allocated, so that a call that always answered `Memory` would keep its contract, `replay` among them;
 //! tests show that each succeeds with ample memory. The words of `Display` of `CanonError` and `ReplayError`, which `thiserror`
-//! makes. Any bound on time: a path is written from its end, in O(n log n) looks at its bytes, and a resolver tells once whether the
-//! scheme and the authority of its base are in normal form, so as to write them as they stand; one that told it of no base would write
-//! the same texts more slowly. Which of two equal texts a law hands back (`mapping_laws::canonicalize_commutes_with_mapping`).
+//! makes. Any bound on time: a path is written from its end, in O(n log n) looks at its bytes; a resolver tells once whether the
+//! scheme and the authority of its base are in normal form, and of each reference whether anything in it changes, so as to write
+//! them as they stand; one that told it of none would write the same texts more slowly. Which of two equal texts a law hands back (`mapping_laws::canonicalize_commutes_with_mapping`).
 #![tactic(auto)]
 
 mod after_step;
@@ -59,5 +59,6 @@ pub mod step;
 pub mod step_list;
 mod step_text;
 mod target;
+mod unchanged;
 pub mod unresolvable;
 pub mod views;

@@ -1,11 +1,14 @@
 //! References against one base (RFC 3986 section 5.2).
-ghost use Rattle.std.specs.Prelude.{◌≡◌, IfOk, IsSome, Some, true};
-ghost use Rattle.iri_grammar.specs.Parts.{Fits};
+ghost use Rattle.std.specs.Prelude.{◌≡◌, ◌++◌, IfOk, IsSome, MatchOption, None, Some, true};
+ghost use Rattle.iri_grammar.specs.Parts.{Fits, Parts};
 ghost use Rattle.iri_grammar.specs.Split.{split_of};
+ghost use Rattle.iri_grammar.specs.Splitters.{parts};
 ghost use Rattle.iri_grammar.specs.OptionalSlices.{now_of};
 ghost use Rattle.iri_types.specs.SplitText.{split_text};
 ghost use Rattle.iri_types.specs.Texts.{text, text_of};
+ghost use Rattle.iri_resolve.specs.NormalForm.{canonical};
 ghost use Rattle.iri_resolve.specs.Prefix.{IsPrefix};
+ghost use Rattle.iri_resolve.specs.inside.Unchanged.{StandBefore, is_plain_front};
 ghost use Rattle.iri_resolve.specs.Slices.{slices, is_cut_at_segment};
 ghost use Rattle.iri_resolve.specs.Target.{ends_at_slash, merge_prefix, target, takes_base_path};
 ghost use Rattle.std.proofs.Props.{props};
@@ -15,8 +18,10 @@ use crate::mode::Mode;
 use crate::normalized::{Normalized, NormalizedText};
 use crate::owned_target::Target;
 use crate::prefix::normal_prefix;
-use crate::target::{TargetSlices, merge_prefix, takes_base_path, target};
+use crate::target::{TargetSlices, merge_prefix, starts_with_slash, takes_base_path, target};
+use crate::unchanged::{Before, is_plain, is_plain_reference, keeps_prefix};
 use iri_grammar::spec::Spec;
+use iri_grammar::splitter::Splitter;
 use iri_types::kind::{Absolute, Reference};
 use iri_types::split::SplitView;
 use iri_types::view::{RiAbsoluteStr, RiQueryStr, RiReferenceStr};
@@ -27,9 +32,12 @@ use std::alloc::{AllocError, Global};
 pub struct FixedBaseResolver<'a, S: Spec> {
     base: SplitView<'a, S, Absolute>,
     front: &'a str,
+    // Nothing in the prefix of relative paths changes.
+    plain: bool,
     prefix: Option<&'a str>,
     pub ghost prepared: { (front.now ≡ merge_prefix (split_of (split_text base))) × (ends_at_slash front.now ≡ true)
-        × IsPrefix S.tests (split_of (split_text base)) (now_of prefix) } by { Prim.hlevel props },
+        × IsPrefix S.tests (split_of (split_text base)) (now_of prefix)
+        × (plain ≡ is_plain_front (split_of (split_text base)) front.now) } by { Prim.hlevel props },
 }
 
 impl<S: Spec> Clone for FixedBaseResolver<'_, S> {
@@ -54,10 +62,12 @@ impl<'a, S: Spec> FixedBaseResolver<'a, S> {
     {
         let base = SplitView::of(base);
         let front = merge_prefix(base.parts());
+        let plain = base.parts().authority().is_some() && is_plain(front, front);
         let prefix = normal_prefix(&base);
         FixedBaseResolver {
             base,
             front,
+            plain,
             prefix,
         }
     }
@@ -123,6 +133,59 @@ impl<'a, S: Spec> FixedBaseResolver<'a, S> {
         match (parts.scheme(), parts.authority()) {
             (None, None) => self.prefix,
             _ => None,
+        }
+    }
+
+    // What the base puts before the path of a plain reference that has neither scheme nor authority. An empty path is the base's.
+    fn base_before(&self, path: &str) -> Option<Before<'a>>
+        ensures { MatchOption result (Unit {0}) (λ b. (r : Parts) → r.path ≡ path.now → r.scheme ≡ None → r.authority ≡ None
+            → Fits S.tests r → StandBefore S.tests (split_of (base_text self.now)) r b.prefix.now b.front.now) }
+    {
+        let prefix = self.prefix?;
+        if path.is_empty() {
+            return None;
+        }
+        if starts_with_slash(path) {
+            return Some(Before { prefix, front: "" });
+        }
+        if self.plain {
+            let front = self.front;
+            Some(Before { prefix, front })
+        } else {
+            None
+        }
+    }
+
+    // The same for the parts of any plain reference.
+    fn before(&self, reference: &Splitter<'_>) -> Option<Before<'a>>
+        requires { Fits S.tests (parts reference.now) }
+        ensures { MatchOption result (Unit {0}) (λ b. StandBefore S.tests (split_of (base_text self.now)) (parts reference.now)
+            b.prefix.now b.front.now) }
+    {
+        match (reference.scheme(), reference.authority()) {
+            (Some(_), _) if keeps_prefix::<S>(reference) => Some(Before {
+                prefix: "",
+                front: "",
+            }),
+            (None, None) => self.base_before(reference.path()),
+            _ => None,
+        }
+    }
+
+    /// What stands before a reference in its canonical text, where nothing in the reference changes: behind these two its own text
+    /// follows. `None` says nothing.
+    pub(crate) fn before_unchanged(
+        &self,
+        reference: &SplitView<'a, S, Reference>,
+    ) -> Option<Before<'a>>
+        ensures { MatchOption result (Unit {0}) (λ b. canonical S.tests (base_text self.now) (split_text reference.now)
+            ≡ b.prefix.now ++ (b.front.now ++ split_text reference.now)) }
+    {
+        let parts = reference.parts();
+        if is_plain_reference(parts) {
+            self.before(parts)
+        } else {
+            None
         }
     }
 

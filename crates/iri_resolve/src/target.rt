@@ -53,13 +53,20 @@ pub fn merge_prefix<'a>(base: &Splitter<'a>) -> &'a str
     }
 }
 
+/// Whether a path begins with a slash.
+pub(crate) fn starts_with_slash(path: &str) -> bool
+    ensures { result ≡ starts_with_slash path.now }
+{
+    matches!(path.as_bytes(), [b'/', ..])
+}
+
 // The prefix of the path of a reference that has one, with neither scheme nor authority.
 fn path_front<'a>(front: &'a str, path: &str) -> &'a str
     requires { ends_at_slash front.now ≡ true }
     ensures ends { ends_at_slash result.now ≡ true }
     ensures path { result.now ++ path.now ≡ cond (starts_with_slash path.now) path.now (front.now ++ path.now) }
 {
-    if path.starts_with('/') { "" } else { front }
+    if starts_with_slash(path) { "" } else { front }
 }
 
 // The target of a reference with neither scheme nor authority.

@@ -8,7 +8,7 @@ ghost use Rattle.iri_resolve.specs.Kept.{begins, behind_front_dots, ended, kept,
 ghost use Rattle.iri_resolve.specs.Kept.{removing};
 ghost use Rattle.iri_resolve.specs.Target.{ends_at_slash};
 
-use crate::dots::{is_dot_segment, is_two_dots};
+use crate::dots::{behind_dot, is_dot_segment};
 use crate::target::last_slash;
 use iri_grammar::cutting::cut;
 use memchr::memchr;
@@ -75,17 +75,20 @@ pub fn cut_last(text: &str) -> (&str, &str)
 }
 
 /// How many segments are removed in front of a segment, where `count` are removed in front of what follows it.
+#[tactic(auto, unfolding(crate::specs::Dots::is_dot_segment))]
 pub fn removing(segment: &str, count: usize) -> usize
     requires { count + 1 < 2 ^ 64 }
     ensures { result ≡ removing segment.now count }
 {
-    if !is_dot_segment(segment) {
+    let Some(rest) = behind_dot(segment.as_bytes()) else {
         return count.saturating_sub(1);
+    };
+    if rest.is_empty() {
+        return count;
     }
-    if is_two_dots(segment) {
-        count + 1
-    } else {
-        count
+    match behind_dot(rest) {
+        Some([]) => count + 1,
+        _ => count.saturating_sub(1),
     }
 }
 
