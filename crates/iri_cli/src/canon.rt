@@ -107,18 +107,18 @@ pub(crate) fn put_answer<S: Spec, O: Sink>(
     sink: &mut O,
     output: &mut [u8],
     mode: CanonMode,
-    resolver: FixedBaseResolver<'_, S>,
+    resolver: &FixedBaseResolver<'_, S>,
     line: &[u8],
 ) -> Result<bool, AnswerError>
-    requires base { refusal S.tests (base_text resolver) ≡ None }
-    requires room { length (base_text resolver) + length line.now + 4 ≤ length output.old }
+    requires base { refusal S.tests (base_text resolver.now) ≡ None }
+    requires room { length (base_text resolver.now) + length line.now + 4 ≤ length output.old }
     ensures puts { PutsLine (O.written sink.old) (O.written sink.new) (O.faults sink.old) (O.faults sink.new)
-        (answer_in S.tests mode (base_text resolver.entry) line.now) result }
+        (answer_in S.tests mode (base_text resolver.now) line.now) result }
     ensures room { KeepsRoom (O.room_left sink.old) (O.room_left sink.new)
-        (answer_in S.tests mode (base_text resolver.entry) line.now) (result ≢ Err SinkFailed) }
+        (answer_in S.tests mode (base_text resolver.now) line.now) (result ≢ Err SinkFailed) }
 {
     match SplitView::<S, Reference>::try_from_bytes(line) {
-        Ok(reference) => told(true, put_good(sink, output, mode, &resolver, &reference)),
+        Ok(reference) => told(true, put_good(sink, output, mode, resolver, &reference)),
         Err(error) => told(false, put_bad(sink, error.kind().description())),
     }
 }
@@ -138,7 +138,7 @@ impl<'a, S: Spec> Answers for Canon<'a, S> {
     ghost stands_at = { λ c at. IsCanonAt S.tests c.mode (base_text c.resolver) c.output.items at };
 
     fn answer<O: Sink>(&mut self, line: &[u8], sink: &mut O) -> Result<bool, AnswerError> {
-        put_answer::<S, O>(sink, &mut self.output, self.mode, self.resolver, line)
+        put_answer::<S, O>(sink, &mut self.output, self.mode, &self.resolver, line)
     }
 
     fn close<O: Sink>(&mut self, _sink: &mut O) -> Result<(), AnswerError> {

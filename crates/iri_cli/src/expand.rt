@@ -57,7 +57,13 @@ fn put_expansion<S: Spec, O: Sink>(
         (result ≢ Err SinkFailed) }
 {
     match write_to_slice(expansion, expanded) {
-        Ok(text) => put_answer::<S, O>(sink, output, CanonMode::Default, resolver, text.as_bytes()),
+        Ok(text) => put_answer::<S, O>(
+            sink,
+            output,
+            CanonMode::Default,
+            &resolver,
+            text.as_bytes(),
+        ),
         Err(CapacityOverflowError) => told(false, sink.put_all(b"bad expansion too long\n")),
     }
 }

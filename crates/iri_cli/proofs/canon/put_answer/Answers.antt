@@ -14,7 +14,7 @@ use Rattle.iri_cli.proofs.canon.put_answer.Goals as goal
 pub put_good-requires : goal.put_good-requires
 put_good-requires g c =
     let h = c.in-Ok.ensures in
-    has_room g.S.Spec.tests c.args.mode (base_text c.args.resolver) c.args.line.now
+    has_room g.S.Spec.tests c.args.mode (base_text c.args.resolver.now) c.args.line.now
     (split_text c.in-Ok.reference) c.args.output.now g.met.S.Spec.lawful c.requires.base h.fault h.text c.requires.room
 
 pub returns-in-Ok-clause-puts : goal.returns-in-Ok-clause-puts
@@ -22,7 +22,7 @@ returns-in-Ok-clause-puts g c =
     let h = c.in-Ok.ensures in
     let s = g.S.Spec.tests in
     let m = c.args.mode in
-    let base = base_text c.args.resolver in
+    let base = base_text c.args.resolver.now in
     let wo = g.O.Sink.written c.args.sink.now in
     let wn = g.O.Sink.written c.put_good.new.sink in
     let fo = g.O.Sink.faults c.args.sink.now in
@@ -37,7 +37,7 @@ pub returns-in-Err-clause-puts : goal.returns-in-Err-clause-puts
 returns-in-Err-clause-puts g c =
     let s = g.S.Spec.tests in
     let m = c.args.mode in
-    let base = base_text c.args.resolver in
+    let base = base_text c.args.resolver.now in
     let wo = g.O.Sink.written c.args.sink.now in
     let wn = g.O.Sink.written c.put_bad.new.sink in
     let fo = g.O.Sink.faults c.args.sink.now in
@@ -56,7 +56,7 @@ returns-in-Ok-clause-room g c =
     let h = c.in-Ok.ensures in
     let s = g.S.Spec.tests in
     let m = c.args.mode in
-    let base = base_text c.args.resolver in
+    let base = base_text c.args.resolver.now in
     let ro = g.O.Sink.room_left c.args.sink.now in
     let rn = g.O.Sink.room_left c.put_good.new.sink in
     let text = canonical_in s m base (split_text c.in-Ok.reference) in
@@ -69,7 +69,7 @@ pub returns-in-Err-clause-room : goal.returns-in-Err-clause-room
 returns-in-Err-clause-room g c =
     let s = g.S.Spec.tests in
     let m = c.args.mode in
-    let base = base_text c.args.resolver in
+    let base = base_text c.args.resolver.now in
     let wo = g.O.Sink.written c.args.sink.now in
     let wn = g.O.Sink.written c.put_bad.new.sink in
     let fo = g.O.Sink.faults c.args.sink.now in
