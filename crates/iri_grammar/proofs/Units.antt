@@ -1,18 +1,20 @@
 -- The first unit of a text over a class, and a run of ASCII characters at its start.
 use Rattle.std.proofs.Common.{◌≡◌, ℕ, suc, ◌<◌, ◌≤◌, ◌≢◌, Bool, true, false, cond, ◌&&◌, List, [], ◌∷◌, ◌++◌, length, drop, refl, sym, ◌∙◌}
-use Rattle.std.proofs.Common.{ap, subst, inl, inr, arith, length-append}
-use Rattle.std.specs.Prelude.{◌==◌}
+use Rattle.std.proofs.Common.{◌+◌, ap, subst, inl, inr, arith, length-append, drop-drop}
+use Rattle.std.specs.Prelude.{◌==◌, slice_index}
 use Rattle.std.specs.Char.{is_ascii_hexdigit, encode_utf8}
 use Rattle.std.specs.Str.{chars, IsUtf8}
 use lib.Utf8.{encodes}
 use Rattle.std.proofs.lemmas.Bool.{cases_lt, cases_eq, and_parts as both, eqb-true}
 use Rattle.std.proofs.lemmas.Bool.Decides.{nat_tests}
+use Rattle.std.proofs.lemmas.List.{length-drop}
+use Rattle.std.proofs.Math.Seq.{drop-cons}
 use Rattle.std.proofs.lemmas.Str.{chars_past_char, chars-nil, chars_from_encodes, encode_ascii, IsUtf8-past_char, byte_from_char}
 use Rattle.std.proofs.lemmas.Str.{is_utf8-from_IsUtf8, length-encode, len_utf8_bounds}
 use Rattle.iri_grammar.specs.Cut.{tail}
 use Rattle.iri_grammar.specs.Over.{over, over_from, text_over}
 use Rattle.iri_grammar.specs.Runs.{run_of}
-use Rattle.iri_grammar.specs.inside.Runs.{begins_with_digit, begins_with_triplet, HasNoUnit}
+use Rattle.iri_grammar.specs.inside.Runs.{begins_with_digit, begins_with_triplet, HasNoUnit, IsPastUnits}
 
 -- an ASCII byte is a character
 ascii_front : (b : ℕ) (bs : List ℕ) → b < 128 → b ∷ bs ≡ encode_utf8 b ++ bs
@@ -151,6 +153,20 @@ run_of_le q [] = omega arith
 run_of_le q (x ∷ xs) =
     elim (q x) as (λ b. cond b (suc (run_of q xs)) 0 ≤ length (x ∷ xs)) [ true ↦ omega (arith, run_of_le q xs) | false ↦ omega arith ]
 
+-- it is taken four at a time
+pub run_of_four : (q : ℕ → Bool) (t : List ℕ) → 4 ≤ length t
+    → (((q (slice_index t 0) && q (slice_index t 1)) && q (slice_index t 2)) && q (slice_index t 3)) ≡ true
+    → run_of q t ≡ suc (suc (suc (suc (run_of q (drop 4 t)))))
+run_of_four q [] l h = absurd (omega arith)
+run_of_four q (w ∷ []) l h = absurd (omega arith)
+run_of_four q (w ∷ x ∷ []) l h = absurd (omega arith)
+run_of_four q (w ∷ x ∷ y ∷ []) l h = absurd (omega arith)
+run_of_four q (w ∷ x ∷ y ∷ z ∷ r) l h =
+    let a = both ((q w && q x) && q y) (q z) h in
+    let b = both (q w && q x) (q y) a.0 in
+    let c = both (q w) (q x) b.0 in
+    rw (c.0, c.1, b.1, a.1) refl
+
 -- what follows a character is shorter
 pub char_shorter : (c : ℕ) (t r : List ℕ) → t ≡ encode_utf8 c ++ r → length r < length t
 char_shorter c t r e = omega (arith, ap length e, length-append (encode_utf8 c) r, length-encode c, (len_utf8_bounds c).0)
@@ -169,6 +185,34 @@ triplet_text (x ∷ a ∷ b ∷ cs) u h =
       text_after_ascii b cs (text_after_ascii a (b ∷ cs) (text_after_ascii x (a ∷ b ∷ cs) u first) (hex_is_ascii a two.0))
           (hex_is_ascii b two.1),
     )
+
+-- past one more ASCII character of the class
+pub char_onward : (p q : ℕ → Bool) (t : List ℕ) (i : ℕ) → ((c : ℕ) → q c ≡ true → (c < 128) × (p c ≡ true)) → p 37 ≡ false
+    → i < length t → q (slice_index t i) ≡ true → IsPastUnits p t i → IsPastUnits p t (i + 1)
+char_onward p q t i w n l h u =
+    let x = slice_index t i in
+    let r = drop (suc i) t in
+    let is : drop i t ≡ x ∷ r = drop-cons t i 0 l in
+    let k = w x h in
+    let text = subst IsUtf8 is u.text in
+    let more : suc i ≡ i + 1 = omega arith in
+    subst (IsPastUnits p t) more (record {
+      within = l;
+      text = text_after_ascii x r text k.0;
+      same = char_past p x (x ∷ r) r text (ascii_front x r k.0) n k.1 ∙ (ap (λ l. over p (chars l)) (sym is) ∙ u.same);
+    })
+
+-- past one more triplet
+pub triplet_onward : (p : ℕ → Bool) (t : List ℕ) (i : ℕ) → begins_with_triplet (drop i t) ≡ true → IsPastUnits p t i
+    → IsPastUnits p t (i + 3)
+triplet_onward p t i h u =
+    let r = triplet_text (drop i t) u.text h in
+    let next : drop 3 (drop i t) ≡ drop (i + 3) t = drop-drop 3 i t in
+    record {
+      within = omega (arith, r.0, length-drop i t, u.within);
+      text = subst IsUtf8 next r.1;
+      same = ap (λ l. over p (chars l)) (sym next) ∙ (triplet_past p (drop i t) u.text h ∙ u.same);
+    }
 
 -- of a text
 pub of_text : (p : ℕ → Bool) (t : List ℕ) → IsUtf8 t → text_over p t ≡ over p (chars t)

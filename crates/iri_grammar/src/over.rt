@@ -1,16 +1,41 @@
 //! Texts over a class: characters of the class and triplets (RFC 3986 section 2.1).
-ghost use Rattle.std.specs.Prelude.{◌≡◌, ◌++◌, drop, false, true, MatchOption};
+ghost use Rattle.std.specs.Prelude.{◌≡◌, ◌≤◌, ◌+◌, ◌&&◌, ◌++◌, drop, length, false, true, MatchOption};
 ghost use Rattle.std.specs.List.{list_all};
+ghost use Rattle.std.specs.Str.{chars, IsUtf8};
 ghost use Rattle.iri_grammar.specs.ClassTests.{class_test, ascii_test};
-ghost use Rattle.iri_grammar.specs.Over.{text_over};
+ghost use Rattle.iri_grammar.specs.Over.{over, text_over};
 ghost use Rattle.iri_grammar.specs.Runs.{run_of};
-ghost use Rattle.iri_grammar.specs.inside.Runs.{begins_with_triplet, IsPast, HasNoUnit};
+ghost use Rattle.iri_grammar.specs.inside.Runs.{begins_with_triplet, IsPast, IsPastUnits, HasNoUnit};
 
 use crate::class::Class;
 use crate::spec::Spec;
 
-/// How many bytes at the start are ASCII characters of the class.
-fn run_len(class: Class, bytes: &[u8]) -> usize
+/// Whether four bytes are ASCII characters of the class, told without a branch.
+#[inline(always)]
+fn has_four(class: Class, w: u8, x: u8, y: u8, z: u8) -> bool
+    ensures { result ≡ (((ascii_test class w && ascii_test class x) && ascii_test class y) && ascii_test class z) }
+{
+    class.has_byte(w) & class.has_byte(x) & class.has_byte(y) & class.has_byte(z)
+}
+
+/// What is left where ASCII characters of the class are taken from the start, four at a time.
+fn past_fours(class: Class, bytes: &[u8]) -> &[u8]
+    ensures within { length result.now ≤ length bytes.now }
+    ensures run { run_of (ascii_test class) bytes.now + length result.now
+        ≡ length bytes.now + run_of (ascii_test class) result.now }
+{
+    let mut rest = bytes;
+    'fours: while let [w, x, y, z, next @ ..] = rest {
+        if !has_four(class, *w, *x, *y, *z) {
+            return rest;
+        }
+        rest = next;
+    }
+    rest
+}
+
+/// How many bytes at the start are ASCII characters of the class, told one by one.
+fn near_run_len(class: Class, bytes: &[u8]) -> usize
     ensures { result ≡ run_of (ascii_test class) bytes.now }
 {
     for (i, b) in bytes.iter().enumerate() {
@@ -19,6 +44,14 @@ fn run_len(class: Class, bytes: &[u8]) -> usize
         }
     }
     bytes.len()
+}
+
+/// How many bytes at the start are ASCII characters of the class.
+fn run_len(class: Class, bytes: &[u8]) -> usize
+    ensures { result ≡ run_of (ascii_test class) bytes.now }
+{
+    let rest = past_fours(class, bytes);
+    bytes.len() - rest.len() + near_run_len(class, rest)
 }
 
 /// What follows the ASCII characters of the class at the start.
@@ -39,7 +72,7 @@ pub(crate) fn cut_run(class: Class, s: &str) -> (&str, &str)
 
 /// Whether the text is made of ASCII characters of the class alone.
 #[tactic(auto, using(crate::proofs::MarkLemmas::run_of_all))]
-pub(crate) fn is_plain(class: Class, s: &str) -> bool
+pub(crate) fn is_run(class: Class, s: &str) -> bool
     ensures { result ≡ list_all (ascii_test class) s.now }
 {
     run_len(class, s.as_bytes()) == s.len()
@@ -74,16 +107,34 @@ fn past_char<S: Spec>(class: Class, s: &str) -> Option<&str>
     }
 }
 
-/// What follows the first character or triplet, where there is one over the class.
-fn past_unit<S: Spec>(class: Class, s: &str) -> Option<&str>
-    ensures { MatchOption result (HasNoUnit (class_test S.tests class) s.now)
-        (λ r. IsPast (class_test S.tests class) s.now r.now) }
+/// How many bytes at the start are ASCII characters of the class and triplets.
+fn ascii_units_len<S: Spec>(class: Class, bytes: &[u8]) -> usize
+    requires { IsUtf8 bytes.now }
+    ensures past { IsPastUnits (class_test S.tests class) bytes.now result }
+    ensures stops { begins_with_triplet (drop result bytes.now) ≡ false }
 {
-    if begins_with_triplet(s.as_bytes()) {
-        Some(&s[3..])
-    } else {
-        past_char::<S>(class, s)
+    let mut i = 0;
+    'units: while i < bytes.len() {
+        if class.has_byte(bytes[i]) {
+            i += 1;
+            continue;
+        }
+        if !begins_with_triplet(&bytes[i..]) {
+            return i;
+        }
+        i += 3;
     }
+    i
+}
+
+/// What follows the ASCII characters of the class and the triplets at the start.
+fn past_ascii_units<S: Spec>(class: Class, s: &str) -> &str
+    ensures same { over (class_test S.tests class) (chars result.now) ≡ over (class_test S.tests class) (chars s.now) }
+    ensures stops { begins_with_triplet result.now ≡ false }
+    ensures within { length result.now ≤ length s.now }
+{
+    let len = ascii_units_len::<S>(class, s.as_bytes());
+    &s[len..]
 }
 
 /// Whether the text is made of characters of the class and of triplets.
@@ -92,8 +143,8 @@ pub fn is_over<S: Spec>(class: Class, s: &str) -> bool
 {
     let mut rest = s;
     'units: loop {
-        let tail = past_run(class, rest);
-        match past_unit::<S>(class, tail) {
+        let tail = past_ascii_units::<S>(class, rest);
+        match past_char::<S>(class, tail) {
             Some(next) => rest = next,
             None => return tail.is_empty(),
         }

@@ -1,5 +1,5 @@
--- What a scan of a text over a class takes at a time: a run of ASCII characters of the class, or one unit.
-use Rattle.std.specs.Prelude.{◌≡◌, ℕ, ◌<◌, Bool, false, ◌&&◌, ◌==◌, List, [], ◌∷◌, length}
+-- What a scan of a text over a class takes at a time: ASCII characters of the class and triplets, or one character.
+use Rattle.std.specs.Prelude.{◌≡◌, ℕ, ◌<◌, ◌≤◌, Bool, false, ◌&&◌, ◌==◌, List, [], ◌∷◌, length, drop}
 use Rattle.std.specs.Char.{is_ascii_hexdigit}
 use Rattle.std.specs.Str.{chars, IsUtf8}
 use Rattle.iri_grammar.specs.Cut.{tail}
@@ -19,6 +19,12 @@ pub record IsPast (p : ℕ → Bool) (t r : List ℕ) : Type 0 where
   pub text : IsUtf8 r
   pub same : over p (chars r) ≡ over p (chars t)
   pub shorter : length r < length t
+
+-- ASCII characters of the class and triplets stand before i in t: what follows decides as the whole does
+pub record IsPastUnits (p : ℕ → Bool) (t : List ℕ) (i : ℕ) : Type 0 where
+  pub within : i ≤ length t
+  pub text : IsUtf8 (drop i t)
+  pub same : over p (chars (drop i t)) ≡ over p (chars t)
 
 -- no unit stands at the start of t
 abbrev pub HasNoUnit : (ℕ → Bool) → List ℕ → Type 0

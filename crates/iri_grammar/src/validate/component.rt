@@ -9,7 +9,7 @@ use crate::class::Class;
 use crate::error::{Error, ErrorKind};
 use crate::host::is_host;
 use crate::ipv4::is_ipv4;
-use crate::over::{is_over, is_plain};
+use crate::over::{is_over, is_run};
 use crate::spec::Spec;
 use crate::splitter::is_scheme;
 
@@ -100,7 +100,7 @@ pub fn authority<S: Spec>(s: &str) -> Result<(), Error>
     ensures { Answers result (authority_fault S.tests s.now) }
 {
     // Most are a name alone: one look, and no search for an `@` and a colon.
-    if is_plain(Class::RegName, s) {
+    if is_run(Class::RegName, s) {
         return Ok(());
     }
     let parts = AuthoritySpan::cut(s);
