@@ -18,7 +18,7 @@ use Rattle.iri_resolve.specs.NormalForm.{canonical, normal_form, normal_path}
 use Rattle.iri_resolve.specs.Prefix.{IsPrefix, prefix_in}
 use Rattle.iri_resolve.specs.Target.{ends_at_slash, merge_prefix, target, target_path}
 use Rattle.iri_resolve.specs.declared.mode.Mode.TheVariants.{Normal}
-use Rattle.iri_resolve.specs.inside.Unchanged.{IsPlainReference, StandBefore, is_plain, is_plain_front}
+use Rattle.iri_resolve.specs.inside.Unchanged.{IsPlainReference, StandBefore, lacks_triplets_and_dots, is_plain_front}
 use Rattle.iri_resolve.proofs.PieceLaws.{nothing-is_no_dot}
 use Rattle.iri_resolve.proofs.PrefixLemmas.{prefix-form, rest, text-cut}
 use Rattle.iri_resolve.proofs.SegmentLemmas.{dot_in_parts}
@@ -57,7 +57,7 @@ no_dots : (front path : List ℕ) → has_dot_segment front ≡ false → ends_a
     → has_dot_segment (front ++ path) ≡ false
 no_dots front path f e d = dot_in_parts front path (ap (λ b. is_empty path || b) e ∙ or-true (is_empty path)) ∙ rw (f, d) refl
 
-plain : (s : Tests) (r : Parts) (front : List ℕ) → is_plain front front ≡ true → ends_at_slash front ≡ true → IsPlainReference r
+plain : (s : Tests) (r : Parts) (front : List ℕ) → lacks_triplets_and_dots front front ≡ true → ends_at_slash front ≡ true → IsPlainReference r
     → Plain s r front
 plain s r front f e h =
     let base = both (lacks 37 front) (not (has_dot_segment front)) f in
@@ -130,7 +130,7 @@ path-merged b [] n h = cc
 path-merged b (x ∷ xs) n h = rw h refl
 
 -- what the base puts before it
-base-before : (s : Tests) (b r : Parts) (p f : List ℕ) → HasPath r → IsPrefix s b (Some p) → is_plain f f ≡ true → ends_at_slash f ≡ true
+base-before : (s : Tests) (b r : Parts) (p f : List ℕ) → HasPath r → IsPrefix s b (Some p) → lacks_triplets_and_dots f f ≡ true → ends_at_slash f ≡ true
     → target_path b r.path ≡ f ++ r.path → (is_some b.authority || not (starts_with_slashes (f ++ r.path))) ≡ true → StandBefore s b r p f
 unfolding target
 base-before s b r p f h i plain e path g =
@@ -161,7 +161,7 @@ pub merged-before : (s : Tests) (b r : Parts) (p f : List ℕ) → r.scheme ≡ 
     → starts_with_slash r.path ≡ false → IsPrefix s b (Some p) → f ≡ merge_prefix b → ends_at_slash f ≡ true → is_plain_front b f ≡ true
     → StandBefore s b r p f
 merged-before s b r p f h k n st i m e plain =
-    let both-of = both (is_some b.authority) (is_plain f f) plain in
+    let both-of = both (is_some b.authority) (lacks_triplets_and_dots f f) plain in
     base-before s b r p f (record { scheme = h; authority = k; some = n }) i both-of.1 e
     (path-merged b r.path n st ∙ ap (λ x. x ++ r.path) (sym m)) (rw both-of.0 refl)
 

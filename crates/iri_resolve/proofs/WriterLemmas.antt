@@ -3,6 +3,7 @@ use Rattle.std.proofs.Common.{◌≡◌, ℕ, ◌<◌, ◌≤◌, Bool, true, fa
 use Rattle.std.proofs.Common.{subst, arith, append_assoc}
 use Rattle.std.specs.Prelude.{◌==◌}
 use Rattle.std.proofs.lemmas.Bool.Decides.{nat_tests}
+use Rattle.std.proofs.lemmas.List.{append-nil}
 use Rattle.iri_grammar.specs.Classes.{Tests}
 use Rattle.iri_grammar.specs.Cut.{before, behind, lacks}
 use Rattle.iri_grammar.proofs.CutLaws.{both}
@@ -68,14 +69,31 @@ form-halves s normal t a b n k e h r =
     ∙ (form-append s normal (kept (ended a) (removed (ended b) n)) (kept (ended b) n) (kept-ends (ended a) (removed (ended b) n))
     ∙ ap (λ m. in_form s normal (kept (ended a) m) ++ in_form s normal (kept (ended b) n)) (sym r)))))
 
--- ---- the segments at the end that stay side by side
-pub form-empty : (s : Tests) (normal : Bool) (t : List ℕ) (n : ℕ) → length t ≡ 0 → in_form s normal (kept (ended t) n) ≡ []
-form-empty s normal [] n z = form-nil s normal
-form-empty s normal (x ∷ xs) n z = absurd (omega arith)
+-- ---- what segments leave of a front, and what stays of them
+abbrev leaves : List ℕ → List ℕ → ℕ → List ℕ
+leaves f t n = kept_from_first (ended f) (removed (ended t) n) ++ kept (ended t) n
 
-pub form-run : (s : Tests) (normal : Bool) (t a b : List ℕ) (n : ℕ) → kept (ended t) n ≡ kept (ended a) 0 ++ b
-    → in_form s normal (kept (ended a) 0) ++ in_form s normal b ≡ in_form s normal (kept (ended t) n)
-form-run s normal t a b n e = sym (ap (in_form s normal) e ∙ form-append s normal (kept (ended a) 0) b (kept-ends (ended a) 0))
+leaves-ends : (f t : List ℕ) (n : ℕ) → ends_at_slash (leaves f t n) ≡ true
+leaves-ends f t n = both-end (kept_from_first (ended f) (removed (ended t) n)) (kept (ended t) n)
+    (from_first-ends (ended f) (removed (ended t) n)) (kept-ends (ended t) n)
+
+-- there are none
+pub form-front : (s : Tests) (normal : Bool) (f t g : List ℕ) (n : ℕ) → length t ≡ 0 → kept_from_first (ended f) n ≡ g
+    → in_form s normal g ≡ in_form s normal (kept_from_first (ended f) (removed (ended t) n) ++ kept (ended t) n)
+form-front s normal f [] g n z e = ap (in_form s normal) (sym e ∙ sym (append-nil (kept_from_first (ended f) n)))
+form-front s normal f (x ∷ xs) g n z e = absurd (omega arith)
+
+-- those at the end stay side by side
+pub form-run : (s : Tests) (normal : Bool) (f t a b : List ℕ) (n k : ℕ) → kept (ended t) n ≡ kept (ended a) k ++ b
+    → removed (ended t) n ≡ removed (ended a) k
+    → in_form s normal (kept_from_first (ended f) (removed (ended a) k) ++ kept (ended a) k) ++ in_form s normal b
+    ≡ in_form s normal (kept_from_first (ended f) (removed (ended t) n) ++ kept (ended t) n)
+form-run s normal f t a b n k e r =
+    let front = kept_from_first (ended f) in
+    sym (ap (λ l. in_form s normal (front (removed (ended t) n) ++ l)) e
+    ∙ (ap (λ m. in_form s normal (front m ++ (kept (ended a) k ++ b))) r
+    ∙ (ap (in_form s normal) (sym (append_assoc (front (removed (ended a) k)) (kept (ended a) k) b))
+    ∙ form-append s normal (leaves f a k) b (leaves-ends f a k))))
 
 -- ---- one dot segment leaves nothing
 pub dotted-some : (t : List ℕ) → has_dot_segment t ≡ true → 0 < length t
@@ -172,6 +190,16 @@ form-both s normal f t (x ∷ xs) n k l h e r =
     (from_first-ends (some.first ∷ some.rest) (removed (ended t) n))
     ∙ (ap (λ m. in_form s normal (kept_from_first (some.first ∷ some.rest) m) ++ in_form s normal (kept (ended t) n)) (sym r)
     ∙ ap (λ ss. in_form s normal (kept_from_first ss k) ++ in_form s normal (kept (ended t) n)) (sym some.whole)))))
+
+-- both at once
+pub form-short : (s : Tests) (normal : Bool) (f t g : List ℕ) (n : ℕ) → 0 < length g → ends_at_slash g ≡ true
+    → ended g ≡ behind_front_dots (ended f)
+    → in_form s normal (kept_from_first (ended g) (removed (ended t) n) ++ kept (ended t) n)
+    ≡ in_form s normal (kept_from_first (behind_front_dots (ended f ++ ended t)) n)
+form-short s normal f t g n l h e =
+    let k = removed (ended t) n in
+    form-append s normal (kept_from_first (ended g) k) (kept (ended t) n) (from_first-ends (ended g) k)
+    ∙ form-both s normal f t g n k l h e refl
 
 -- ---- the whole path
 pub form-pieces : (s : Tests) (normal : Bool) (f p a l : List ℕ) (n : ℕ) → ends_at_slash f ≡ true → p ≡ a ++ l → ends_at_slash a ≡ true

@@ -1,5 +1,5 @@
 // Dot segments.
-ghost use Rattle.std.specs.Prelude.{◌≡◌};
+ghost use Rattle.std.specs.Prelude.{◌≡◌, ◌≤◌, MatchOption, length, true};
 ghost use Rattle.iri_grammar.specs.Cut.{before, behind};
 ghost use Rattle.iri_grammar.specs.Parts.{is_empty};
 ghost use Rattle.iri_grammar.specs.OptionalSlices.{now_of};
@@ -76,24 +76,37 @@ fn begins_with_slash_and_dots(path: &[u8]) -> bool
     }
 }
 
-// Whether a dot segment stands behind a slash of the path. A slash and what begins a dot all stand from `%` to `/`; where the
-// second byte is none of them, no dot segment begins behind either of the first two.
-fn has_dots_by_pairs(path: &[u8]) -> bool
-    ensures { result ≡ dots_behind path.now }
+// What is left behind the first bytes of a path, up to `stop` bytes, or `None` where a dot segment stands behind a slash of them. A
+// slash and what begins a dot all stand from `%` to `/`; where the second byte is none of them, no dot segment begins behind either
+// of the first two.
+fn past_pairs(path: &[u8], stop: usize) -> Option<&[u8]>
+    requires { 1 ≤ stop }
+    ensures { MatchOption result (dots_behind path.now ≡ true)
+        (λ r. (dots_behind r.now ≡ dots_behind path.now) × (length r.now ≤ stop)) }
 {
     let mut rest = path;
-    'pairs: while rest.len() >= 2 {
+    'pairs: while rest.len() > stop {
         let second = rest[1];
         if second < b'%' || b'/' < second {
             rest = &rest[2..];
             continue;
         }
         if begins_with_slash_and_dots(rest) {
-            return true;
+            return None;
         }
         rest = &rest[1..];
     }
-    false
+    Some(rest)
+}
+
+// Whether a dot segment stands behind a slash of the path, by pairs alone.
+fn has_dots_by_pairs(path: &[u8]) -> bool
+    ensures { result ≡ dots_behind path.now }
+{
+    match past_pairs(path, 1) {
+        Some(_) => false,
+        None => true,
+    }
 }
 
 // What follows the first slash.
@@ -104,12 +117,17 @@ fn behind_slash(path: &[u8]) -> Option<&[u8]>
     Some(&path[i + 1..])
 }
 
-// The same; a path that `memchr` takes in blocks, of 32 bytes or more, is searched from slash to slash.
+// The same; behind each 16 bytes of a longer path `memchr` finds the next slash, so that neither short segments nor long ones cost
+// much.
 fn has_dots_behind(path: &[u8]) -> bool
     ensures { result ≡ dots_behind path.now }
 {
     let mut rest = path;
     'slashes: while rest.len() >= 32 {
+        match past_pairs(rest, rest.len() - 16) {
+            Some(near) => rest = near,
+            None => return true,
+        }
         match behind_slash(rest) {
             Some(next) => rest = next,
             None => return false,

@@ -1,6 +1,7 @@
 // A path without its dot segments (RFC 3986 section 5.2.4), written into a sink with no memory. Which segments stay is told from
-// what follows them: a short text is gone through once, from its end, and its segments are written on the way back. A long one is
-// cut in halves, and the second one is searched for how many segments it removes in the first.
+// what follows them: a short text is gone through once, from its end, and on the way back what it leaves of the segments before it
+// is written, and then its own. A long one is cut in halves, and the second one is searched for how many segments it removes in the
+// first.
 ghost use Rattle.std.specs.Prelude.{◌≡◌, ◌<◌, ◌+◌, ◌^◌, ◌++◌, ◌&&◌, ◌||◌, [], ◌∷◌, false, not, true, length};
 ghost use Rattle.iri_grammar.specs.Components.{is_path};
 ghost use Rattle.iri_grammar.specs.Cut.{lacks};
@@ -10,7 +11,7 @@ ghost use Rattle.iri_resolve.specs.DotRemoval.{dots};
 ghost use Rattle.iri_resolve.specs.Dots.{has_dot_segment};
 ghost use Rattle.iri_resolve.specs.Guard.{guard};
 ghost use Rattle.iri_resolve.specs.Kept.{begin_from_first, behind_front_dots, bottom, ended, kept, kept_from_first};
-ghost use Rattle.iri_resolve.specs.Kept.{kept_last};
+ghost use Rattle.iri_resolve.specs.Kept.{kept_last, removed};
 ghost use Rattle.iri_resolve.specs.NormalForm.{is_unresolvable, normal_path, path_in, plain_path, preserved_path};
 ghost use Rattle.iri_resolve.specs.PathForm.{in_form};
 ghost use Rattle.iri_resolve.specs.Slices.{slices, is_cut_at_segment};
@@ -52,28 +53,32 @@ pub fn show_part<S: Spec, W: TextSink>(sink: &mut W, part: &str, normal: bool) -
     }
 }
 
-// Segments of a short text, where `count` are removed in front of what follows them.
+// What a short text leaves of the segments of a front, and then its own, where `count` are removed in front of what follows them.
 fn show_short<S: Spec, W: TextSink>(
     sink: &mut W,
+    front: &str,
     text: &str,
     count: usize,
     normal: bool,
 ) -> Result<(), Stop>
-    requires ends { ends_at_slash text.now ≡ true }
-    requires whole { whole_triplets text.now ≡ true }
+    requires ends { ends_at_slash front.now ≡ true }
+    requires text_ends { ends_at_slash text.now ≡ true }
+    requires no_dots { has_dot_segment front.now ≡ false }
+    requires whole { whole_triplets front.now ≡ true }
+    requires text_whole { whole_triplets text.now ≡ true }
     requires room { count + length text.now < 2 ^ 64 }
-    ensures { Shows W.puts W.halts W.stops sink.old
-        (in_form S.tests normal (kept (ended text.now) count)) sink.new result }
+    ensures { Shows W.puts W.halts W.stops sink.old (in_form S.tests normal
+        (kept_from_first (ended front.now) (removed (ended text.now) count) ++ kept (ended text.now) count)) sink.new result }
 {
     if text.is_empty() {
-        return Ok(());
+        return show_part::<S, W>(sink, first_segments(front, count), normal);
     }
-    let (front, run) = last_run(text, count);
-    show_short::<S, W>(sink, front, 0, normal)?;
+    let (rest, run, pending) = last_run(text, count);
+    show_short::<S, W>(sink, front, rest, pending, normal)?;
     show_part::<S, W>(sink, run, normal)
 }
 
-// The same of any text.
+// Segments of a text, where `count` are removed in front of what follows them.
 fn show_segments<S: Spec, W: TextSink>(
     sink: &mut W,
     text: &str,
@@ -87,7 +92,7 @@ fn show_segments<S: Spec, W: TextSink>(
         (in_form S.tests normal (kept (ended text.now) count)) sink.new result }
 {
     if text.len() <= SHORT {
-        return show_short::<S, W>(sink, text, count, normal);
+        return show_short::<S, W>(sink, "", text, count, normal);
     }
     let text = behind_front_dots(text);
     if !has_dot_segment(text) {
@@ -145,6 +150,17 @@ fn show_from_first<S: Spec, W: TextSink>(
     }
 }
 
+// Whether two texts are gone through once: the second is short, and no dot segment stands in the first.
+fn are_short(front: &str, text: &str) -> bool
+    ensures { result ≡ true → has_dot_segment front.now ≡ false }
+{
+    if text.len() <= SHORT {
+        !has_dot_segment(front)
+    } else {
+        false
+    }
+}
+
 // The segments of two texts, without the dot segments at their start.
 fn show_two<S: Spec, W: TextSink>(
     sink: &mut W,
@@ -165,6 +181,9 @@ fn show_two<S: Spec, W: TextSink>(
     let front = behind_front_dots(front);
     if front.is_empty() {
         return show_from_first::<S, W>(sink, behind_front_dots(text), count, normal);
+    }
+    if are_short(front, text) {
+        return show_short::<S, W>(sink, front, text, count, normal);
     }
     show_from_first::<S, W>(sink, front, removed(text, count), normal)?;
     show_segments::<S, W>(sink, text, count, normal)

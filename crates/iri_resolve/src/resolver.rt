@@ -19,7 +19,7 @@ use crate::normalized::{Normalized, NormalizedText};
 use crate::owned_target::Target;
 use crate::prefix::normal_prefix;
 use crate::target::{TargetSlices, merge_prefix, starts_with_slash, takes_base_path, target};
-use crate::unchanged::{Before, is_plain, is_plain_reference, keeps_prefix};
+use crate::unchanged::{Before, is_plain_reference, keeps_prefix, lacks_triplets_and_dots};
 use iri_grammar::spec::Spec;
 use iri_grammar::splitter::Splitter;
 use iri_types::kind::{Absolute, Reference};
@@ -62,7 +62,7 @@ impl<'a, S: Spec> FixedBaseResolver<'a, S> {
     {
         let base = SplitView::of(base);
         let front = merge_prefix(base.parts());
-        let plain = base.parts().authority().is_some() && is_plain(front, front);
+        let plain = base.parts().authority().is_some() && lacks_triplets_and_dots(front, front);
         let prefix = normal_prefix(&base);
         FixedBaseResolver {
             base,

@@ -5,7 +5,7 @@ ghost use Rattle.iri_grammar.specs.Splitters.{parts};
 ghost use Rattle.iri_percent.specs.NormalHost.{normal_authority};
 ghost use Rattle.iri_resolve.specs.LowerCase.{lowered, where_there};
 ghost use Rattle.iri_resolve.specs.Prefix.{prefix_in};
-ghost use Rattle.iri_resolve.specs.inside.Unchanged.{IsPlainReference, is_plain};
+ghost use Rattle.iri_resolve.specs.inside.Unchanged.{IsPlainReference, lacks_triplets_and_dots};
 
 use crate::dots::has_dot_segment;
 use iri_grammar::cutting::lacks;
@@ -21,8 +21,8 @@ pub(crate) struct Before<'a> {
 }
 
 /// Whether a text has no triplet, and a path of it no dot segment.
-pub(crate) fn is_plain(text: &str, path: &str) -> bool
-    ensures { result ≡ is_plain text.now path.now }
+pub(crate) fn lacks_triplets_and_dots(text: &str, path: &str) -> bool
+    ensures { result ≡ lacks_triplets_and_dots text.now path.now }
 {
     lacks(text, b'%') && !has_dot_segment(path)
 }

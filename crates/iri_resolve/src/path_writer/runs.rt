@@ -1,8 +1,8 @@
 // Segments that stay side by side, found from the end of a text.
-ghost use Rattle.std.specs.Prelude.{◌≡◌, ◌==◌, ◌<◌, ◌+◌, ◌^◌, ◌++◌, ◌&&◌, not, true, length, drop};
+ghost use Rattle.std.specs.Prelude.{◌≡◌, ◌==◌, ◌<◌, ◌≤◌, ◌+◌, ◌^◌, ◌++◌, ◌&&◌, not, true, length, drop};
 ghost use Rattle.iri_percent.specs.Units.{whole_triplets};
 ghost use Rattle.iri_resolve.specs.Dots.{is_dot_segment};
-ghost use Rattle.iri_resolve.specs.Kept.{ended, kept};
+ghost use Rattle.iri_resolve.specs.Kept.{ended, kept, removed};
 ghost use Rattle.iri_resolve.specs.Target.{ends_at_slash};
 
 use super::segments::{cut_last, removing};
@@ -15,8 +15,9 @@ fn stays(segment: &str, count: usize) -> bool
     count == 0 && !is_dot_segment(segment)
 }
 
-// What stands before the last segment that stays, and the text up to and with that segment. Both are empty where none stays.
-fn last_kept(text: &str, count: usize) -> (&str, &str)
+// What stands before the last segment that stays, the text up to and with that segment, and how many segments are removed in front
+// of them. Where none stays, both texts are empty.
+fn last_kept(text: &str, count: usize) -> (&str, &str, usize)
     requires ends { ends_at_slash text.now ≡ true }
     requires whole { whole_triplets text.now ≡ true }
     requires room { count + length text.now < 2 ^ 64 }
@@ -24,20 +25,23 @@ fn last_kept(text: &str, count: usize) -> (&str, &str)
     ensures ends { ends_at_slash result.0.now ≡ true }
     ensures whole { whole_triplets result.1.now ≡ true }
     ensures shorter { 0 < length text.now → length result.0.now < length text.now }
+    ensures room { result.2 + length result.0.now ≤ count + length text.now }
+    ensures none { 0 < result.2 → length result.0.now ≡ 0 }
     ensures kept { kept (ended text.now) count
         ≡ kept (ended result.0.now) 0 ++ drop (length result.0.now) result.1.now }
+    ensures removed { removed (ended text.now) count ≡ removed (ended result.0.now) result.2 }
 {
     let mut rest = text;
     let mut pending = count;
     'segments: while !rest.is_empty() {
         let (front, segment) = cut_last(rest);
         if stays(segment, pending) {
-            return (front, rest);
+            return (front, rest, 0);
         }
         pending = removing(segment, pending);
         rest = front;
     }
-    ("", "")
+    ("", "", pending)
 }
 
 // What stands before the segments at the end of a text that are no dot segments.
@@ -46,6 +50,7 @@ fn before_run(text: &str) -> &str
     ensures front { text.now ≡ result.now ++ drop (length result.now) text.now }
     ensures ends { ends_at_slash result.now ≡ true }
     ensures kept { kept (ended text.now) 0 ≡ kept (ended result.now) 0 ++ drop (length result.now) text.now }
+    ensures removed { removed (ended text.now) 0 ≡ removed (ended result.now) 0 }
 {
     let mut rest = text;
     'segments: while !rest.is_empty() {
@@ -67,8 +72,8 @@ fn behind<'a>(text: &'a str, front: &str) -> &'a str
     &text[front.len()..]
 }
 
-/// What stands before the last segments that stay side by side, and those. Nothing is removed in front of them.
-pub fn last_run(text: &str, count: usize) -> (&str, &str)
+/// What stands before the last segments that stay side by side, those, and how many segments are removed in front of them.
+pub fn last_run(text: &str, count: usize) -> (&str, &str, usize)
     requires ends { ends_at_slash text.now ≡ true }
     requires whole { whole_triplets text.now ≡ true }
     requires room { count + length text.now < 2 ^ 64 }
@@ -76,9 +81,11 @@ pub fn last_run(text: &str, count: usize) -> (&str, &str)
     ensures front_whole { whole_triplets result.0.now ≡ true }
     ensures whole { whole_triplets result.1.now ≡ true }
     ensures shorter { 0 < length text.now → length result.0.now < length text.now }
-    ensures kept { kept (ended text.now) count ≡ kept (ended result.0.now) 0 ++ result.1.now }
+    ensures room { result.2 + length result.0.now ≤ count + length text.now }
+    ensures kept { kept (ended text.now) count ≡ kept (ended result.0.now) result.2 ++ result.1.now }
+    ensures removed { removed (ended text.now) count ≡ removed (ended result.0.now) result.2 }
 {
-    let (front, rest) = last_kept(text, count);
+    let (front, rest, pending) = last_kept(text, count);
     let front = before_run(front);
-    (front, behind(rest, front))
+    (front, behind(rest, front), pending)
 }

@@ -1,4 +1,4 @@
-use Rattle.std.proofs.Common.{◌≡◌, ◌∙◌, ◌+◌, ◌<◌, ◌^◌, Ok, true, length, length-append, sym, subst, ap, arith, rules}
+use Rattle.std.proofs.Common.{◌≡◌, ◌∙◌, ◌+◌, ◌<◌, ◌^◌, Ok, true, false, ◌||◌, length, length-append, refl, sym, subst, ap, arith, rules}
 use Rattle.std.proofs.lemmas.Bool.Decides.{nat_tests}
 use Rattle.iri_text.proofs.Compose.{shown_none, shows_all, shows_exit, shows_then}
 use Rattle.iri_text.specs.Shown.{Shows}
@@ -7,8 +7,16 @@ use Rattle.iri_resolve.specs.Kept.{ended, kept}
 use Rattle.iri_resolve.specs.PathForm.{in_form}
 use Rattle.iri_resolve.proofs.EndedLemmas.{dots-ended}
 use Rattle.iri_resolve.proofs.NormalLemmas.{whole_two}
+use Rattle.iri_resolve.proofs.PieceLaws.{nothing-is_no_dot}
 use Rattle.iri_resolve.proofs.WriterLemmas.{form-behind, form-halves, form-one, dotted-some}
 use Rattle.iri_resolve.proofs.path_writer.+show_segments.Goals as goal
+
+pub show_short-requires-clause-no_dots : goal.show_short-requires-clause-no_dots
+show_short-requires-clause-no_dots g t c = ap (λ b. b || false) nothing-is_no_dot
+
+pub show_short-requires-clause-whole : goal.show_short-requires-clause-whole
+unfolding whole_triplets
+show_short-requires-clause-whole g t c = refl
 
 pub without_last_segments-requires-clause-no_dots : goal.without_last_segments-requires-clause-no_dots
 without_last_segments-requires-clause-no_dots g t c =

@@ -4,7 +4,7 @@ use Rattle.iri_text.proofs.Compose.{shows_exit, shows_then}
 use Rattle.iri_text.specs.Shown.{Shows}
 use Rattle.iri_resolve.specs.Kept.{ended, kept}
 use Rattle.iri_resolve.specs.PathForm.{in_form}
-use Rattle.iri_resolve.proofs.WriterLemmas.{form-second, form-both}
+use Rattle.iri_resolve.proofs.WriterLemmas.{form-second, form-both, form-short}
 use Rattle.iri_resolve.proofs.path_writer.show_two.Goals as goal
 
 pub returns-then-is_empty : goal.returns-then-is_empty
@@ -12,6 +12,17 @@ returns-then-is_empty g c =
     let z : length c.behind_front_dots-front.result.now ≡ 0 = grind (arith, nat_tests) in
     let e = form-second g.S.Spec.tests c.args.normal c.args.front.now c.args.text.now c.behind_front_dots-front.result.now c.behind_front_dots.result.now c.args.count z c.behind_front_dots-front.ensures.segments c.behind_front_dots.ensures.segments in
     subst (λ x. Shows g.W.TextSink.puts g.W.TextSink.halts g.W.TextSink.stops c.args.sink.now x c.show_from_first.new.sink c.show_from_first.result) e c.show_from_first.ensures
+
+pub show_short-requires-clause-no_dots : goal.show_short-requires-clause-no_dots
+show_short-requires-clause-no_dots g c = c.are_short.ensures c.if-are_short.true
+
+pub returns-then-are_short : goal.returns-then-are_short
+returns-then-are_short g c =
+    let some : 0 < length c.behind_front_dots-front.result.now = grind (arith, nat_tests) in
+    let f = c.behind_front_dots-front in
+    subst (λ x. Shows g.W.TextSink.puts g.W.TextSink.halts g.W.TextSink.stops c.args.sink.now x c.show_short.new.sink c.show_short.result)
+    (form-short g.S.Spec.tests c.args.normal c.args.front.now c.args.text.now f.result.now c.args.count some f.ensures.ends f.ensures.segments)
+    c.show_short.ensures
 
 pub returns-in_err-show_from_first : goal.returns-in_err-show_from_first
 returns-in_err-show_from_first g c =

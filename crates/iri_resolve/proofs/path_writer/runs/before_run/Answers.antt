@@ -2,7 +2,7 @@ use Rattle.std.proofs.Common.{◌++◌, [], ◌∷◌, ◌∙◌, length, drop, 
 use Rattle.std.specs.Str.{IsUtf8}
 use Rattle.iri_resolve.specs.Kept.{ended, kept}
 use Rattle.iri_resolve.proofs.EndedLemmas.{utf8-front}
-use Rattle.iri_resolve.proofs.RunLemmas.{last-stays, part-whole, part-more, kept-more}
+use Rattle.iri_resolve.proofs.RunLemmas.{last-stays, none-removed, part-whole, part-more, kept-more}
 use Rattle.iri_resolve.proofs.path_writer.runs.before_run.Goals as goal
 
 pub segments-preserved : goal.segments-preserved
@@ -21,4 +21,5 @@ segments-preserved c =
       front = part-whole x a ((s ++ 47 ∷ []) ++ y) (part-more x t a (s ++ 47 ∷ []) y i.front e.whole);
       same = i.same ∙ kept-more x t a (s ++ 47 ∷ []) y (kept (ended t) 0) (kept (ended a) 0) i.front e.whole
           (last-stays t a s e.ends e.last e.whole d);
+      gone = i.gone ∙ none-removed t a s e.ends e.last e.whole d;
     }

@@ -1,7 +1,7 @@
 use Rattle.std.proofs.Common.{◌≡◌, ◌++◌, true, length, drop}
 use denote.Text.{Utf8}
 use denote.Shadow.{shadow}
-use Rattle.iri_resolve.specs.Kept.{ended, kept}
+use Rattle.iri_resolve.specs.Kept.{ended, kept, removed}
 use Rattle.iri_resolve.specs.Target.{ends_at_slash}
 use Rattle.iri_resolve.proofs.path_writer.runs.before_run.Given as goal
 
@@ -11,6 +11,7 @@ invariant-segments l = record {
   ends : ends_at_slash l.rest ≡ true;
   front : l.text ≡ l.rest ++ drop (length l.rest) l.text;
   same : kept (ended l.text) 0 ≡ kept (ended l.rest) 0 ++ drop (length l.rest) l.text;
+  gone : removed (ended l.text) 0 ≡ removed (ended l.rest) 0;
 }
 
 abbrev pub decreases-segments : goal.decreases-segments

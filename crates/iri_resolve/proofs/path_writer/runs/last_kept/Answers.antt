@@ -1,11 +1,11 @@
 use Rattle.std.proofs.Common.{◌≡◌, ◌++◌, [], ◌∷◌, ◌∙◌, true, subst, sym, ap, arith}
 use Rattle.std.specs.Str.{IsUtf8}
 use Rattle.iri_percent.specs.Units.{whole_triplets}
-use Rattle.iri_resolve.specs.Kept.{ended, kept}
-use Rattle.iri_resolve.proofs.EndedLemmas.{utf8-front, removing-le, length-last}
+use Rattle.iri_resolve.specs.Kept.{ended, kept, removed}
+use Rattle.iri_resolve.proofs.EndedLemmas.{utf8-front, removed-last, removing-le, length-last}
 use Rattle.iri_resolve.proofs.NormalLemmas.{whole_two}
 use Rattle.iri_resolve.specs.Dots.{is_dot_segment}
-use Rattle.iri_resolve.proofs.RunLemmas.{last-goes, last-stays, zero-stays, drop-part}
+use Rattle.iri_resolve.proofs.RunLemmas.{last-goes, last-stays, none-removed, zero-stays, drop-part}
 use Rattle.iri_resolve.proofs.path_writer.runs.last_kept.Goals as goal
 
 pub segments-preserved : goal.segments-preserved
@@ -23,6 +23,7 @@ segments-preserved c =
       whole = (whole_two a (s ++ 47 ∷ []) e.ends (subst (λ l. whole_triplets l ≡ true) e.whole i.whole)).0;
       same = i.same ∙ (last-goes t a s n e.ends e.last e.whole (sym c.stays.ensures ∙ c.if-stays.false)
           ∙ ap (kept (ended a)) (sym c.removing-pending.ensures));
+      gone = i.gone ∙ (removed-last t a s n e.ends e.last e.whole ∙ ap (removed (ended a)) (sym c.removing-pending.ensures));
       within = omega (arith, i.within, size);
       room = omega (arith, i.room, removing-le s n, size, c.removing-pending.ensures);
     }
@@ -37,3 +38,11 @@ returns-then-stays-clause-kept c =
     let z = zero-stays c.segments.pending (is_dot_segment s) (sym c.stays.ensures ∙ c.if-stays.true) in
     i.same ∙ (ap (kept (ended t)) z.0 ∙ (last-stays t a s e.ends e.last e.whole z.1
     ∙ ap (λ l. kept (ended a) 0 ++ l) (sym (drop-part t a (s ++ 47 ∷ []) e.whole))))
+
+pub returns-then-stays-clause-removed : goal.returns-then-stays-clause-removed
+returns-then-stays-clause-removed c =
+    let t = c.segments.rest.now in
+    let e = c.cut_last.ensures in
+    let z = zero-stays c.segments.pending (is_dot_segment c.cut_last.result.1.now) (sym c.stays.ensures ∙ c.if-stays.true) in
+    c.segments.invariant.gone ∙ (ap (removed (ended t)) z.0
+    ∙ none-removed t c.cut_last.result.0.now c.cut_last.result.1.now e.ends e.last e.whole z.1)

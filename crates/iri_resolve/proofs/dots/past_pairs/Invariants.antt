@@ -1,6 +1,6 @@
 use Rattle.std.proofs.Common.{◌≡◌, length}
 use Rattle.iri_resolve.specs.inside.DotSearch.{dots_behind}
-use Rattle.iri_resolve.proofs.dots.has_dots_by_pairs.Given as goal
+use Rattle.iri_resolve.proofs.dots.past_pairs.Given as goal
 
 -- what is left decides as the whole does
 abbrev pub invariant-pairs : goal.invariant-pairs
