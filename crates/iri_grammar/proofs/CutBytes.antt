@@ -35,7 +35,7 @@ either c true xs ys h k = h
 either c false xs ys h k = k
 
 -- the bytes of another character
-encode-lacks : (c x : ℕ) → c < 128 → (x == c) ≡ false → lacks c (encode x) ≡ true
+pub encode-lacks : (c x : ℕ) → c < 128 → (x == c) ≡ false → lacks c (encode x) ≡ true
 unfolding encode
 encode-lacks c x l n =
     let h : (y : ℕ) (ys : List ℕ) → 128 ≤ y → lacks c ys ≡ true → lacks c (y ∷ ys) ≡ true =

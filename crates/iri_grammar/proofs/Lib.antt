@@ -1,6 +1,8 @@
 pub mod CutLemmas
 pub mod Tables
 pub mod Units
+pub mod UnitRuns
+pub mod HexDigits
 pub mod MarkLemmas
 pub mod PlainTails
 pub mod Octets

@@ -1,13 +1,15 @@
 -- Parts that are made of ASCII characters of their classes alone.
 use Rattle.std.proofs.Common.{◌≡◌, ℕ, suc, Bool, true, false, cond, List, [], ◌∷◌, ◌++◌, Option, Some, None, length, take, drop, refl, sym}
-use Rattle.std.proofs.Common.{◌∙◌, ◌||◌, ap, append_assoc, append-nil}
+use Rattle.std.proofs.Common.{◌∙◌, ◌||◌, ap, append_assoc, append-nil, arith}
+use Rattle.std.specs.Prelude.{◌==◌}
 use Rattle.std.specs.List.{list_all}
 use Rattle.std.specs.Str.{chars}
 use Rattle.std.proofs.lemmas.Str.{IsUtf8-from_ascii}
 use Rattle.std.proofs.lemmas.Bool.{eqb-true}
 use Rattle.iri_grammar.specs.Authority.{recompose_authority}
-use Rattle.iri_grammar.specs.Classes.{Tests, IsSpec, is_ascii_path, is_ascii_pchar, is_ascii_query, is_ascii_reg_name, is_ascii_unreserved}
-use Rattle.iri_grammar.specs.Classes.{is_sub_delim}
+use Rattle.iri_grammar.specs.Classes.{Tests, IsSpec, path_char, is_ascii_reg_name, is_ascii_unreserved, is_sub_delim}
+use Rattle.iri_grammar.specs.Marks.{before_any, from_any}
+use Rattle.iri_grammar.specs.inside.Marks.{ends_at_start, ends_authority}
 use Rattle.iri_grammar.specs.ClassTests.{ascii_test, class_test}
 use Rattle.iri_grammar.specs.Components.{if_there, is_fragment, is_query}
 use Rattle.iri_grammar.specs.Cut.{before, behind, lacks, marked}
@@ -20,16 +22,16 @@ use Rattle.iri_grammar.specs.Runs.{run_of}
 use Rattle.iri_grammar.specs.WholeFault.{colon_allowed, fault_before_fragment, parts_fault}
 use Rattle.iri_grammar.specs.declared.error.ErrorKind.{ErrorKind}
 use Rattle.iri_grammar.specs.declared.error.ErrorKind.TheVariants.{InvalidFragment, InvalidPath, InvalidQuery}
-use Rattle.iri_grammar.specs.PlainParts.{ArePlain}
-use Rattle.iri_grammar.specs.inside.Tails.{IsPlainTail, IsTail}
+use Rattle.iri_grammar.specs.inside.Tails.{AreOver, IsOverTail, IsTail}
 use Rattle.iri_grammar.specs.declared.class.Class.{Class}
-use Rattle.iri_grammar.specs.declared.class.Class.TheVariants.{Fragment, Path, Query, RegName}
+use Rattle.iri_grammar.specs.declared.class.Class.TheVariants.{RegName}
 use Rattle.iri_grammar.specs.declared.tail.Tail.{Tail}
-use Rattle.iri_grammar.proofs.AuthorityTexts.{all_below}
-use Rattle.iri_grammar.proofs.ClassLaws.{no_percent, ascii_test_below, class_has_ascii, class_has_no_percent}
+use Rattle.iri_grammar.proofs.AuthorityTexts.{all_below, over_text-lacks}
+use Rattle.iri_grammar.proofs.SplitUnique.{path_apart, queries-lack}
+use Rattle.iri_grammar.proofs.ClassLaws.{ascii_test_below, class_has_ascii, class_has_no_percent}
 use Rattle.iri_grammar.proofs.AuthorityLaws.{passes}
 use Rattle.iri_grammar.proofs.FaultLaws.{authority-no_fault, part-no_fault}
-use Rattle.iri_grammar.proofs.CutLaws.{all-lacks, before-marked, behind-marked, lacks-append, lacks-other}
+use Rattle.iri_grammar.proofs.CutLaws.{both, test_apart, before-marked, behind-marked, lacks-append, lacks-other}
 use Rattle.iri_grammar.proofs.MarkLemmas.{run_of_all}
 use Rattle.iri_grammar.proofs.Units.{nothing_left, of_text, run_past}
 
@@ -42,49 +44,39 @@ run-all p (x ∷ xs) =
       | false ↦ λ _. refl
     ] refl
 
--- ---- the delimiters are in no class before them
-path_mark : ascii_test Path 63 ≡ false
-unfolding is_ascii_path is_ascii_pchar is_ascii_reg_name is_ascii_unreserved is_sub_delim
-path_mark = refl
-
-path_hash : ascii_test Path 35 ≡ false
-unfolding is_ascii_path is_ascii_pchar is_ascii_reg_name is_ascii_unreserved is_sub_delim
-path_hash = refl
-
-query_hash : ascii_test Query 35 ≡ false
-unfolding is_ascii_query is_ascii_pchar is_ascii_reg_name is_ascii_unreserved is_sub_delim
-query_hash = refl
-
-marked-lacks : (o : Option (List ℕ)) → if_there (list_all (ascii_test Query)) o ≡ true → lacks 35 (marked 63 o) ≡ true
-marked-lacks None h = refl
-marked-lacks (Some q) h = lacks-other 35 63 q refl (all-lacks (ascii_test Query) 35 q query_hash h)
-
 -- ---- where the parts end
-pub plain_tail : (t : List ℕ) (p : Tail) → t ≡ p.path.now ++ (marked 63 (now_of p.query) ++ marked 35 (now_of p.fragment))
-    → list_all (ascii_test Path) p.path.now ≡ true → if_there (list_all (ascii_test Query)) (now_of p.query) ≡ true
-    → if_there (list_all (ascii_test Fragment)) (now_of p.fragment) ≡ true → IsTail t p × IsPlainTail p
-plain_tail t p e path query fragment =
+pub nothing : (r : List ℕ) → (length r == 0) ≡ true → r ≡ []
+nothing [] h = refl
+nothing (x ∷ xs) h = let none = eqb-true (length (x ∷ xs)) 0 h in absurd (omega (arith, none))
+
+marked-lacks : (o : Option (List ℕ)) → if_there (lacks 35) o ≡ true → lacks 35 (marked 63 o) ≡ true
+marked-lacks None h = refl
+marked-lacks (Some q) h = lacks-other 35 63 q refl h
+
+pub over-tail : (s : Tests) → IsSpec s → (t : List ℕ) (p : Tail)
+    → t ≡ p.path.now ++ (marked 63 (now_of p.query) ++ marked 35 (now_of p.fragment)) → IsOverTail s p → IsTail t p
+over-tail s k t p e h =
     let x = p.path.now in
     let q = now_of p.query in
     let f = now_of p.fragment in
+    let apart = path_apart s k in
     let whole = e ∙ sym (append_assoc x (marked 63 q) (marked 35 f)) in
-    let front = lacks-append 35 x (marked 63 q) (all-lacks (ascii_test Path) 35 x path_hash path) (marked-lacks q query) in
-    let mark = all-lacks (ascii_test Path) 63 x path_mark path in
-    let first = ap (before 35) whole ∙ before-marked 35 (x ++ marked 63 q) f front in (
-      record {
-        path = sym (ap (before 63) first ∙ before-marked 63 x q mark);
-        query = sym (ap (behind 63) first ∙ behind-marked 63 x q mark);
-        fragment = sym (ap (behind 35) whole ∙ behind-marked 35 (x ++ marked 63 q) f front);
-      },
-      (path, query, fragment),
-    )
+    let hash = over_text-lacks (path_char s) 35 x (omega arith) apart.0 refl refl h.0 in
+    let mark = over_text-lacks (path_char s) 63 x (omega arith) apart.1 refl refl h.0 in
+    let front = lacks-append 35 x (marked 63 q) hash (marked-lacks q (queries-lack s q k h.1)) in
+    let first = ap (before 35) whole ∙ before-marked 35 (x ++ marked 63 q) f front in
+    record {
+      path = sym (ap (before 63) first ∙ before-marked 63 x q mark);
+      query = sym (ap (behind 63) first ∙ behind-marked 63 x q mark);
+      fragment = sym (ap (behind 35) whole ∙ behind-marked 35 (x ++ marked 63 q) f front);
+    }
 
 -- ---- such a part is in its production
 drop_all : (t : List ℕ) → drop (length t) t ≡ []
 drop_all [] = refl
 drop_all (x ∷ xs) = drop_all xs
 
-plain-over : (s : Tests) → IsSpec s → (k : Class) (t : List ℕ) → list_all (ascii_test k) t ≡ true → text_over (class_test s k) t ≡ true
+pub plain-over : (s : Tests) → IsSpec s → (k : Class) (t : List ℕ) → list_all (ascii_test k) t ≡ true → text_over (class_test s k) t ≡ true
 plain-over s l k t h =
     let q = ascii_test k in
     let u = IsUtf8-from_ascii t (all_below q (ascii_test_below k) t h) in
@@ -93,20 +85,15 @@ plain-over s l k t h =
     of_text (class_test s k) t u ∙ sym (run_past (class_test s k) q t (class_has_ascii s l k) (class_has_no_percent s l k) u)
     ∙ ap (λ x. over (class_test s k) (chars x)) rest ∙ nothing_left (class_test s k) [] refl
 
-plain-part : (s : Tests) → IsSpec s → (k : Class) (o : Option (List ℕ)) → if_there (list_all (ascii_test k)) o ≡ true
-    → if_there (text_over (class_test s k)) o ≡ true
-plain-part s l k None h = refl
-plain-part s l k (Some x) h = plain-over s l k x h
-
--- the fault of plain parts is that of the authority, or a colon out of its place
-pub plain-fault : (s : Tests) (p : Parts) → IsSpec s → ArePlain p.path p.query p.fragment
+-- the fault of parts that are each in their production is that of the authority, or a colon out of its place
+pub over-fault : (s : Tests) (p : Parts) → AreOver s p.path p.query p.fragment
     → first (part_fault (authority_fault s) p.authority) (unless (colon_allowed p) InvalidPath) ≡ parts_fault s (fragment_fault s) p
 unfolding parts_fault fault_before_fragment
-plain-fault s p l h =
+over-fault s p h =
     rw (
-      plain-over s l Path p.path h.0,
-      part-no_fault (is_query s) InvalidQuery p.query (plain-part s l Query p.query h.1),
-      part-no_fault (is_fragment s) InvalidFragment p.fragment (plain-part s l Fragment p.fragment h.2),
+      h.0,
+      part-no_fault (is_query s) InvalidQuery p.query h.1,
+      part-no_fault (is_fragment s) InvalidFragment p.fragment h.2,
     )
     (alone (part_fault (authority_fault s) p.authority) (unless (colon_allowed p) InvalidPath))
   where
@@ -128,16 +115,31 @@ plain_name s l a h = authority-no_fault s a (passes s l a (record { userinfo = N
     or-true true = refl
     or-true false = refl
 
--- ---- no triplet stands in such a part
-part-lacks : (k : Class) (o : Option (List ℕ)) → ascii_test k 37 ≡ false → if_there (list_all (ascii_test k)) o ≡ true
-    → if_there (lacks 37) o ≡ true
-part-lacks k None n h = refl
-part-lacks k (Some x) n h = all-lacks (ascii_test k) 37 x n h
+plain-names : (s : Tests) → IsSpec s → (o : Option (List ℕ)) → if_there (list_all (ascii_test RegName)) o ≡ true
+    → part_fault (authority_fault s) o ≡ None
+plain-names s l None h = refl
+plain-names s l (Some a) h = plain_name s l a h
 
-pub plain-lacks : (path : List ℕ) (query fragment : Option (List ℕ)) → ArePlain path query fragment
-    → (lacks 37 path ≡ true) × (if_there (lacks 37) query ≡ true) × (if_there (lacks 37) fragment ≡ true)
-plain-lacks path query fragment h = (
-  all-lacks (ascii_test Path) 37 path (no_percent Path) h.0,
-  part-lacks Query query (no_percent Query) h.1,
-  part-lacks Fragment fragment (no_percent Fragment) h.2,
-)
+-- then only a colon out of its place is left to be a fault
+pub colon-fault : (s : Tests) (p : Parts) → IsSpec s → if_there (list_all (ascii_test RegName)) p.authority ≡ true
+    → AreOver s p.path p.query p.fragment → unless (colon_allowed p) InvalidPath ≡ parts_fault s (fragment_fault s) p
+colon-fault s p l n h =
+    ap (λ o. first o (unless (colon_allowed p) InvalidPath)) (sym (plain-names s l p.authority n)) ∙ over-fault s p h
+
+-- what ends a name: none of its characters
+name-goes_on : (x : ℕ) → ascii_test RegName x ≡ true → ends_authority x ≡ false
+unfolding is_ascii_reg_name is_ascii_unreserved is_sub_delim
+name-goes_on x h = rw (
+  test_apart (ascii_test RegName) 47 x refl h,
+  test_apart (ascii_test RegName) 63 x refl h,
+  test_apart (ascii_test RegName) 35 x refl h,
+) refl
+
+pub name-ends : (a r : List ℕ) → list_all (ascii_test RegName) a ≡ true → ends_at_start r ≡ true
+    → (a ≡ before_any ends_authority (a ++ r)) × (r ≡ from_any ends_authority (a ++ r))
+name-ends [] [] h e = (refl, refl)
+name-ends [] (x ∷ xs) h e = rw e (refl, refl)
+name-ends (x ∷ xs) r h e =
+    let k = both (ascii_test RegName x) (list_all (ascii_test RegName) xs) h in
+    let n = name-ends xs r k.1 e in
+    rw (name-goes_on x k.0) (ap (λ l. x ∷ l) n.0, n.1)

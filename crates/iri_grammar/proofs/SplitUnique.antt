@@ -23,7 +23,7 @@ authorities-lack : (s : Tests) (c : ℕ) (o : Option (List ℕ)) → IsForeign s
 authorities-lack s c None f h = refl
 authorities-lack s c (Some xs) f h = authority-lacks s c xs f h
 
-path_apart : (s : Tests) → IsSpec s → (path_char s 35 ≡ false) × (path_char s 63 ≡ false)
+pub path_apart : (s : Tests) → IsSpec s → (path_char s 35 ≡ false) × (path_char s 63 ≡ false)
 unfolding path_char is_ascii_path is_ascii_pchar is_ascii_reg_name is_ascii_unreserved is_sub_delim
 path_apart s k = (rw (k.ucs_ascii 35 (omega arith)) refl, rw (k.ucs_ascii 63 (omega arith)) refl)
 
@@ -31,7 +31,7 @@ query_apart : (s : Tests) → IsSpec s → query_char s 35 ≡ false
 unfolding query_char is_ascii_query is_ascii_pchar is_ascii_reg_name is_ascii_unreserved is_sub_delim
 query_apart s k = rw (k.ucs_ascii 35 (omega arith), k.priv_ascii 35 (omega arith)) refl
 
-queries-lack : (s : Tests) (o : Option (List ℕ)) → IsSpec s → if_there (is_query s) o ≡ true → if_there (lacks 35) o ≡ true
+pub queries-lack : (s : Tests) (o : Option (List ℕ)) → IsSpec s → if_there (is_query s) o ≡ true → if_there (lacks 35) o ≡ true
 queries-lack s None k h = refl
 queries-lack s (Some xs) k h = over_text-lacks (query_char s) 35 xs (omega arith) (query_apart s k) refl refl h
 

@@ -14,6 +14,6 @@ parts s = record {
   fragment = now_of s.fragment;
 }
 
--- whether path, query and fragment were found to be plain
-abbrev pub found_plain : Splitter → Bool
-found_plain s = s.plain
+-- whether path, query and fragment were found to be without triplets
+abbrev pub found_no_triplet : Splitter → Bool
+found_no_triplet s = s.bare

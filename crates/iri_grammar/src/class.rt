@@ -62,6 +62,7 @@ impl Class {
         RANKS[usize::from(b)] <= self.rank()
     }
 
+    #[inline(always)]
     fn has_past_ascii<S: Spec>(self, c: char) -> bool
         ensures { result ≡ past_ascii_test S.tests self c }
     {
@@ -74,6 +75,7 @@ impl Class {
     }
 
     /// Whether the character is in the class.
+    #[inline(always)]
     pub fn has<S: Spec>(self, c: char) -> bool
         ensures { result ≡ class_test S.tests self c }
     {

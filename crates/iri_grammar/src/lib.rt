@@ -21,4 +21,5 @@ pub mod over;
 pub mod spec;
 pub mod splitter;
 mod tail;
+mod unit;
 pub mod validate;

@@ -9,6 +9,7 @@ ghost use Rattle.iri_grammar.specs.inside.Runs.{begins_with_triplet, IsPast, IsP
 
 use crate::class::Class;
 use crate::spec::Spec;
+use crate::unit::begins_with_triplet;
 
 /// Whether four bytes are ASCII characters of the class, told without a branch.
 #[inline(always)]
@@ -47,7 +48,7 @@ fn near_run_len(class: Class, bytes: &[u8]) -> usize
 }
 
 /// How many bytes at the start are ASCII characters of the class.
-fn run_len(class: Class, bytes: &[u8]) -> usize
+pub(crate) fn run_len(class: Class, bytes: &[u8]) -> usize
     ensures { result ≡ run_of (ascii_test class) bytes.now }
 {
     let rest = past_fours(class, bytes);
@@ -62,6 +63,7 @@ pub fn past_run(class: Class, s: &str) -> &str
 }
 
 /// The ASCII characters of the class at the start, and what follows them.
+#[inline(always)]
 pub(crate) fn cut_run(class: Class, s: &str) -> (&str, &str)
     ensures whole { s.now ≡ result.0.now ++ result.1.now }
     ensures run { list_all (ascii_test class) result.0.now ≡ true }
@@ -76,16 +78,6 @@ pub(crate) fn is_run(class: Class, s: &str) -> bool
     ensures { result ≡ list_all (ascii_test class) s.now }
 {
     run_len(class, s.as_bytes()) == s.len()
-}
-
-/// Whether the bytes begin with a triplet.
-fn begins_with_triplet(bytes: &[u8]) -> bool
-    ensures { result ≡ begins_with_triplet bytes.now }
-{
-    match bytes {
-        [x, a, b, ..] => *x == b'%' && a.is_ascii_hexdigit() && b.is_ascii_hexdigit(),
-        _ => false,
-    }
 }
 
 /// What follows the first character, where that is in the class.

@@ -1,22 +1,26 @@
 //! The split of a reference into its five parts (RFC 3986 section 3).
 ghost use Rattle.std.specs.Prelude.{◌≡◌, None, IfOk, MatchOption, true};
 ghost use Rattle.std.specs.List.{list_all};
-ghost use Rattle.iri_grammar.specs.Components.{is_scheme, is_scheme_char};
+ghost use Rattle.iri_grammar.specs.ClassTests.{ascii_test};
+ghost use Rattle.iri_grammar.specs.Components.{if_there, is_scheme, is_scheme_char};
+ghost use Rattle.iri_grammar.specs.declared.class.Class.TheVariants.{RegName};
 ghost use Rattle.iri_grammar.specs.Fault.{Answers};
 ghost use Rattle.iri_grammar.specs.Marks.{before_any, from_any};
 ghost use Rattle.iri_grammar.specs.inside.Marks.{ends_scheme, SchemeAt, NoScheme, ends_authority, AuthorityEndAt};
-ghost use Rattle.iri_grammar.specs.inside.Marks.{NoAuthorityEnd, IsPastAuthority};
-ghost use Rattle.iri_grammar.specs.inside.Tails.{IsPlainTail};
+ghost use Rattle.iri_grammar.specs.inside.Marks.{NoAuthorityEnd, IsPastAuthority, ends_at_start};
+ghost use Rattle.iri_grammar.specs.inside.Tails.{AreOver, LacksTripletsInTail};
 ghost use Rattle.iri_grammar.specs.Parts.{Splits};
 ghost use Rattle.iri_grammar.specs.Runs.{run_of};
 ghost use Rattle.iri_grammar.specs.Split.{split_of, relative_split_of, parts_of, scheme_of, after_scheme, authority_of};
 ghost use Rattle.iri_grammar.specs.Split.{hier_of};
-ghost use Rattle.iri_grammar.specs.PlainParts.{ArePlain};
+ghost use Rattle.iri_grammar.specs.Triplets.{LackTriplets};
 ghost use Rattle.std.proofs.Props.{props};
 ghost use Rattle.iri_grammar.specs.OptionalSlices.{now_of};
 ghost use Rattle.iri_grammar.specs.WholeFault.{reference_fault};
 
+use crate::class::Class;
 use crate::error::Error;
+use crate::over::cut_run;
 use crate::spec::Spec;
 use crate::tail::Tail;
 use crate::validate::judge;
@@ -30,9 +34,9 @@ pub struct Splitter<'a> {
     path: &'a str,
     query: Option<&'a str>,
     fragment: Option<&'a str>,
-    // Path, query and fragment were found to be made of ASCII characters of their classes alone.
-    plain: bool,
-    pub ghost told: { plain ≡ true → ArePlain path.now (now_of query) (now_of fragment) } by { Prim.hlevel props },
+    // Path, query and fragment were found to be without triplets.
+    bare: bool,
+    pub ghost told: { bare ≡ true → LackTriplets path.now (now_of query) (now_of fragment) } by { Prim.hlevel props },
 }
 
 impl Clone for Splitter<'_> {
@@ -146,31 +150,61 @@ fn cut_before_end(s: &str) -> (&str, &str)
     }
 }
 
-/// The authority, and what follows it, or all.
-fn cut_authority(s: &str) -> (Option<&str>, &str)
+/// Whether an authority ends at the start.
+#[inline(always)]
+fn ends_at_start(bytes: &[u8]) -> bool
+    ensures { result ≡ ends_at_start bytes.now }
+{
+    match bytes {
+        [b, ..] => *b == b'/' || *b == b'?' || *b == b'#',
+        [] => true,
+    }
+}
+
+/// What stands before the end of an authority, the rest from it on, and whether the first was found to be a plain name.
+#[inline(always)]
+fn look_before_end(s: &str) -> (&str, &str, bool)
+    ensures front { result.0.now ≡ before_any ends_authority s.now }
+    ensures rest { result.1.now ≡ from_any ends_authority s.now }
+    ensures name { result.2 ≡ true → list_all (ascii_test RegName) result.0.now ≡ true }
+{
+    // Most are a name alone: one look, and no search for the end.
+    let (name, rest) = cut_run(Class::RegName, s);
+    if ends_at_start(rest.as_bytes()) {
+        return (name, rest, true);
+    }
+    let (front, rest) = cut_before_end(s);
+    (front, rest, false)
+}
+
+/// The authority, what follows it, or all, and whether there is none or it was found to be a plain name.
+#[inline(always)]
+fn cut_authority(s: &str) -> (Option<&str>, &str, bool)
     ensures authority { now_of result.0 ≡ authority_of (hier_of s.now) }
     ensures past { IsPastAuthority s.now result.1.now }
+    ensures name { result.2 ≡ true → if_there (list_all (ascii_test RegName)) (now_of result.0) ≡ true }
 {
     match s.strip_prefix("//") {
         Some(rest) => {
-            let (authority, path) = cut_before_end(rest);
-            (Some(authority), path)
+            let (authority, path, named) = look_before_end(rest);
+            (Some(authority), path, named)
         }
-        None => (None, s),
+        None => (None, s, true),
     }
 }
 
 impl<'a> Splitter<'a> {
-    ghost use Rattle.iri_grammar.specs.Splitters.{found_plain, parts};
+    ghost use Rattle.iri_grammar.specs.Splitters.{found_no_triplet, parts};
 
     /// The split of a text, where it is a reference of `S`: otherwise the kind of its first fault. The same as
     /// `validate::iri_reference` and `of`, in one look at the text.
+    #[inline(always)]
     pub fn new<S: Spec>(text: &'a str) -> Result<Splitter<'a>, Error>
         ensures fault { Answers result (reference_fault S.tests text.now) }
         ensures value { IfOk result (λ p. parts p ≡ split_of text.now) }
     {
-        let parts = Splitter::look_at(text);
-        match judge::<S>(&parts) {
+        let (parts, named, over) = Splitter::look_at::<S>(text);
+        match judge::<S>(&parts, named, over) {
             Ok(()) => Ok(parts),
             Err(error) => Err(error),
         }
@@ -185,15 +219,29 @@ impl<'a> Splitter<'a> {
         Splitter::cut(text)
     }
 
-    /// The parts of any text read as a reference, and what was found of path, query and fragment.
+    /// The parts of any text read as a reference, whether the authority was found to be a plain name or none, and whether path,
+    /// query and fragment were found to be each in its production.
     #[tactic(auto, unfolding(crate::specs::Split::split_of))]
-    fn look_at(text: &'a str) -> Splitter<'a>
-        ensures { parts result ≡ split_of text.now }
+    #[inline(always)]
+    fn look_at<S: Spec>(text: &'a str) -> (Splitter<'a>, bool, bool)
+        ensures split { parts result.0 ≡ split_of text.now }
+        ensures name { result.1 ≡ true → if_there (list_all (ascii_test RegName)) (parts result.0).authority ≡ true }
+        ensures over { result.2 ≡ true → AreOver S.tests (parts result.0).path (parts result.0).query (parts result.0).fragment }
     {
         let (scheme, rest) = cut_scheme(text);
-        let (authority, rest) = cut_authority(rest);
-        let (tail, plain) = Tail::look_at(rest);
-        Splitter::with_tail(scheme, authority, tail, plain)
+        let (authority, rest, named) = cut_authority(rest);
+        match Tail::look_at::<S>(rest) {
+            Some((tail, bare)) => (
+                Splitter::with_tail(scheme, authority, tail, bare),
+                named,
+                true,
+            ),
+            None => (
+                Splitter::with_tail(scheme, authority, Tail::of(rest), false),
+                named,
+                false,
+            ),
+        }
     }
 
     /// The parts of any text read as a reference.
@@ -217,18 +265,18 @@ impl<'a> Splitter<'a> {
     fn behind(scheme: Option<&'a str>, rest: &'a str) -> Splitter<'a>
         ensures { parts result ≡ parts_of (now_of scheme.entry) rest.now }
     {
-        let (authority, rest) = cut_authority(rest);
+        let (authority, rest, _) = cut_authority(rest);
         Splitter::with_tail(scheme, authority, Tail::of(rest), false)
     }
 
-    // `plain` says that path, query and fragment are made of ASCII characters of their classes alone.
+    // `bare` says that no triplet stands in path, query and fragment.
     fn with_tail(
         scheme: Option<&'a str>,
         authority: Option<&'a str>,
         tail: Tail<'a>,
-        plain: bool,
+        bare: bool,
     ) -> Splitter<'a>
-        requires { plain ≡ true → IsPlainTail tail }
+        requires { bare ≡ true → LacksTripletsInTail tail }
         ensures { parts result ≡ record {
           scheme = now_of scheme.entry;
           authority = now_of authority.entry;
@@ -243,17 +291,16 @@ impl<'a> Splitter<'a> {
             path: tail.path,
             query: tail.query,
             fragment: tail.fragment,
-            plain,
+            bare,
         }
     }
 
-    /// Whether `new` found path, query and fragment to be made of ASCII characters of their classes alone, without triplets. `of`
-    /// doesn't look.
-    pub fn is_plain(&self) -> bool
-        ensures found { result ≡ found_plain self.now }
-        ensures plain { result ≡ true → ArePlain (parts self.now).path (parts self.now).query (parts self.now).fragment }
+    /// Whether `new` found path, query and fragment to be without triplets. `of` doesn't look.
+    pub fn lacks_triplets(&self) -> bool
+        ensures found { result ≡ found_no_triplet self.now }
+        ensures bare { result ≡ true → LackTriplets (parts self.now).path (parts self.now).query (parts self.now).fragment }
     {
-        self.plain
+        self.bare
     }
 
     /// The scheme, without its colon.

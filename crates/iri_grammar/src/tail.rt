@@ -1,18 +1,16 @@
 //! Path, query and fragment (RFC 3986 sections 3.3 to 3.5).
 ghost use Rattle.std.specs.Prelude.{◌≡◌, ◌++◌, true, MatchOption};
-ghost use Rattle.std.specs.List.{list_all};
-ghost use Rattle.iri_grammar.specs.Characters.{number_sign, question_mark};
-ghost use Rattle.iri_grammar.specs.ClassTests.{ascii_test};
-ghost use Rattle.iri_grammar.specs.Components.{if_there};
-ghost use Rattle.iri_grammar.specs.Cut.{marked};
+ghost use Rattle.iri_grammar.specs.Characters.{number_sign, percent_sign, question_mark};
+ghost use Rattle.iri_grammar.specs.Components.{if_there, is_fragment, is_query};
+ghost use Rattle.iri_grammar.specs.Cut.{lacks, marked};
 ghost use Rattle.iri_grammar.specs.OptionalSlices.{now_of};
-ghost use Rattle.iri_grammar.specs.declared.class.Class.TheVariants.{Fragment, Query};
 ghost use Rattle.iri_grammar.specs.inside.Marks.{TailAt, NoTail};
-ghost use Rattle.iri_grammar.specs.inside.Tails.{IsTail, IsPlainTail};
+ghost use Rattle.iri_grammar.specs.inside.Tails.{IsTail, IsOverTail, LacksTripletsInTail};
 
 use crate::class::Class;
 use crate::cutting::cut;
-use crate::over::cut_run;
+use crate::spec::Spec;
+use crate::unit::cut_units;
 use memchr::memchr2;
 
 /// Path, query and fragment, as slices of a text.
@@ -31,46 +29,36 @@ fn find_tail(bytes: &[u8]) -> Option<usize>
     memchr2(b'?', b'#', bytes)
 }
 
-// The ASCII characters of a query behind a question mark at the start, and the rest.
-fn cut_plain_query(s: &str) -> (Option<&str>, &str)
+// The characters of a query behind a question mark at the start, the rest, and whether no triplet was found.
+#[inline(always)]
+fn cut_query<S: Spec>(s: &str) -> (Option<&str>, &str, bool)
     ensures whole { s.now ≡ marked question_mark (now_of result.0) ++ result.1.now }
-    ensures plain { if_there (list_all (ascii_test Query)) (now_of result.0) ≡ true }
+    ensures over { if_there (is_query S.tests) (now_of result.0) ≡ true }
+    ensures bare { result.2 ≡ true → if_there (lacks percent_sign) (now_of result.0) ≡ true }
 {
     match s.strip_prefix('?') {
         Some(s) => {
-            let (query, rest) = cut_run(Class::Query, s);
-            (Some(query), rest)
+            let (query, rest, bare) = cut_units::<S>(Class::Query, s);
+            (Some(query), rest, bare)
         }
-        None => (None, s),
+        None => (None, s, true),
     }
 }
 
-// The fragment, where the text is a number sign and ASCII characters of a fragment, or nothing.
-fn cut_plain_fragment(s: &str) -> Option<Option<&str>>
-    ensures { MatchOption result (Unit {0}) (λ f. (s.now ≡ marked number_sign (now_of f))
-        × (if_there (list_all (ascii_test Fragment)) (now_of f) ≡ true)) }
+// The same of a fragment behind a number sign.
+#[inline(always)]
+fn cut_fragment<S: Spec>(s: &str) -> (Option<&str>, &str, bool)
+    ensures whole { s.now ≡ marked number_sign (now_of result.0) ++ result.1.now }
+    ensures over { if_there (is_fragment S.tests) (now_of result.0) ≡ true }
+    ensures bare { result.2 ≡ true → if_there (lacks percent_sign) (now_of result.0) ≡ true }
 {
     match s.strip_prefix('#') {
-        Some(s) => match cut_run(Class::Fragment, s) {
-            (fragment, rest) if rest.is_empty() => Some(Some(fragment)),
-            _ => None,
-        },
-        None => { if s.is_empty() { Some(None) } else { None } }
+        Some(s) => {
+            let (fragment, rest, bare) = cut_units::<S>(Class::Fragment, s);
+            (Some(fragment), rest, bare)
+        }
+        None => (None, s, true),
     }
-}
-
-// The parts of a text, where they are made of ASCII characters of their classes alone: its bytes are looked at once.
-fn cut_plain_tail(s: &str) -> Option<Tail<'_>>
-    ensures { MatchOption result (Unit {0}) (λ p. IsTail s.now p × IsPlainTail p) }
-{
-    let (path, rest) = cut_run(Class::Path, s);
-    let (query, rest) = cut_plain_query(rest);
-    let fragment = cut_plain_fragment(rest)?;
-    Some(Tail {
-        path,
-        query,
-        fragment,
-    })
 }
 
 impl<'a> Tail<'a> {
@@ -104,14 +92,23 @@ impl<'a> Tail<'a> {
         }
     }
 
-    /// The same, and whether they are made of ASCII characters of their classes alone. `false` says nothing.
-    pub(crate) fn look_at(s: &'a str) -> (Tail<'a>, bool)
-        ensures tail { IsTail s.now result.0 }
-        ensures plain { result.1 ≡ true → IsPlainTail result.0 }
+    /// The parts of a text, where each is in its production, and whether no triplet was found in them: its bytes are looked at once.
+    #[inline(always)]
+    pub(crate) fn look_at<S: Spec>(s: &'a str) -> Option<(Tail<'a>, bool)>
+        ensures { MatchOption result (Unit {0}) (λ r. IsTail s.now r.0 × IsOverTail S.tests r.0
+            × (r.1 ≡ true → LacksTripletsInTail r.0)) }
     {
-        match cut_plain_tail(s) {
-            Some(tail) => (tail, true),
-            None => (Tail::of(s), false),
+        let (path, rest, bare_path) = cut_units::<S>(Class::Path, s);
+        let (query, rest, bare_query) = cut_query::<S>(rest);
+        let (fragment, rest, bare_fragment) = cut_fragment::<S>(rest);
+        if !rest.is_empty() {
+            return None;
         }
+        let tail = Tail {
+            path,
+            query,
+            fragment,
+        };
+        Some((tail, bare_path & bare_query & bare_fragment))
     }
 }

@@ -1,5 +1,5 @@
 -- Where the parts of a reference end, as the splitter finds them.
-use Rattle.std.specs.Prelude.{◌≡◌, ℕ, ◌+◌, ◌<◌, Bool, true, false, ◌&&◌, ◌||◌, ◌==◌, nat_lt, List, [], Some, None, length, take, drop}
+use Rattle.std.specs.Prelude.{◌≡◌, ℕ, ◌+◌, ◌<◌, Bool, true, false, ◌&&◌, ◌||◌, ◌==◌, nat_lt, List, [], ◌∷◌, Some, None, length, take, drop}
 use Rattle.std.specs.Prelude.{slice_index}
 use Rattle.std.specs.Char.{is_ascii_alphabetic}
 use Rattle.iri_grammar.specs.Cut.{before, behind}
@@ -27,6 +27,11 @@ pub record NoScheme (bs : List ℕ) : Type 0 where
 -- the delimiters that end it
 abbrev pub ends_authority : ℕ → Bool
 ends_authority x = x == 47 || x == 63 || x == 35
+
+-- it ends at the start of the text
+abbrev pub ends_at_start : List ℕ → Bool
+ends_at_start [] = true
+ends_at_start (x ∷ xs) = ends_authority x
 
 -- the first such delimiter stands at k
 pub record AuthorityEndAt (bs : List ℕ) (k : ℕ) : Type 0 where

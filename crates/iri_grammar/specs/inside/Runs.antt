@@ -1,9 +1,9 @@
 -- What a scan of a text over a class takes at a time: ASCII characters of the class and triplets, or one character.
-use Rattle.std.specs.Prelude.{◌≡◌, ℕ, ◌<◌, ◌≤◌, Bool, false, ◌&&◌, ◌==◌, List, [], ◌∷◌, length, drop}
+use Rattle.std.specs.Prelude.{◌≡◌, ℕ, ◌<◌, ◌≤◌, Bool, true, false, ◌&&◌, ◌==◌, List, [], ◌∷◌, length, take, drop}
 use Rattle.std.specs.Char.{is_ascii_hexdigit}
 use Rattle.std.specs.Str.{chars, IsUtf8}
 use Rattle.iri_grammar.specs.Cut.{tail}
-use Rattle.iri_grammar.specs.Over.{over}
+use Rattle.iri_grammar.specs.Over.{over, text_over}
 
 -- the first byte is a hex digit
 abbrev pub begins_with_digit : List ℕ → Bool
@@ -29,3 +29,9 @@ pub record IsPastUnits (p : ℕ → Bool) (t : List ℕ) (i : ℕ) : Type 0 wher
 -- no unit stands at the start of t
 abbrev pub HasNoUnit : (ℕ → Bool) → List ℕ → Type 0
 HasNoUnit p t = over p (chars t) ≡ (length t == 0)
+
+-- units of the class stand before i in t
+pub record AreUnits (p : ℕ → Bool) (t : List ℕ) (i : ℕ) : Type 0 where
+  pub within : i ≤ length t
+  pub rest : IsUtf8 (drop i t)
+  pub over : text_over p (take i t) ≡ true

@@ -1,9 +1,11 @@
 -- Path, query and fragment of a text, as the splitter cuts them.
-use Rattle.std.specs.Prelude.{◌≡◌, ℕ, List}
+use Rattle.std.specs.Prelude.{◌≡◌, ℕ, true, List, Option}
 use Rattle.iri_grammar.specs.Characters.{number_sign, question_mark}
+use Rattle.iri_grammar.specs.Classes.{Tests}
+use Rattle.iri_grammar.specs.Components.{if_there, is_path, is_query, is_fragment}
 use Rattle.iri_grammar.specs.Cut.{before, behind}
 use Rattle.iri_grammar.specs.OptionalSlices.{now_of}
-use Rattle.iri_grammar.specs.PlainParts.{ArePlain}
+use Rattle.iri_grammar.specs.Triplets.{LackTriplets}
 use Rattle.iri_grammar.specs.Split.{hier_of}
 use Rattle.iri_grammar.specs.declared.tail.Tail.{Tail}
 
@@ -13,5 +15,13 @@ pub record IsTail (t : List ℕ) (p : Tail) : Type 0 where
   pub query : now_of p.query ≡ behind question_mark (before number_sign t)
   pub fragment : now_of p.fragment ≡ behind number_sign t
 
-abbrev pub IsPlainTail : Tail → Type 0
-IsPlainTail p = ArePlain p.path.now (now_of p.query) (now_of p.fragment)
+-- no triplet stands in them
+abbrev pub LacksTripletsInTail : Tail → Type 0
+LacksTripletsInTail p = LackTriplets p.path.now (now_of p.query) (now_of p.fragment)
+
+-- each is in its production
+abbrev pub AreOver : Tests → List ℕ → Option (List ℕ) → Option (List ℕ) → Type 0
+AreOver s path query fragment = (is_path s path ≡ true) × (if_there (is_query s) query ≡ true) × (if_there (is_fragment s) fragment ≡ true)
+
+abbrev pub IsOverTail : Tests → Tail → Type 0
+IsOverTail s p = AreOver s p.path.now (now_of p.query) (now_of p.fragment)

@@ -1,10 +1,16 @@
 //! The validators of whole texts (RFC 3986 section 4).
-ghost use Rattle.std.specs.Prelude.{◌≡◌, ◌&&◌};
-ghost use Rattle.iri_grammar.specs.Components.{is_path};
+ghost use Rattle.std.specs.Prelude.{◌≡◌, ◌&&◌, true};
+ghost use Rattle.std.specs.List.{list_all};
+ghost use Rattle.iri_grammar.specs.Characters.{colon, slash};
+ghost use Rattle.iri_grammar.specs.ClassTests.{ascii_test};
+ghost use Rattle.iri_grammar.specs.Components.{if_there, is_path};
+ghost use Rattle.iri_grammar.specs.Cut.{before, lacks};
+ghost use Rattle.iri_grammar.specs.declared.class.Class.TheVariants.{RegName};
 ghost use Rattle.iri_grammar.specs.Fault.{Answers, unless, authority_fault, first, fragment_fault, part_fault};
 ghost use Rattle.iri_grammar.specs.WholeFault.{colon_allowed, fault_before_fragment, parts_fault, missing_scheme_fault};
 ghost use Rattle.iri_grammar.specs.WholeFault.{reference_fault, iri_fault, absolute_fault, relative_fault};
 ghost use Rattle.iri_grammar.specs.Splitters.{parts};
+ghost use Rattle.iri_grammar.specs.inside.Tails.{AreOver};
 
 use crate::cutting::{cut_before, lacks};
 use crate::error::{Error, ErrorKind};
@@ -12,13 +18,33 @@ use crate::spec::Spec;
 use crate::splitter::Splitter;
 use crate::validate::component::{authority, fragment, path, query, scheme};
 
+/// Whether no colon stands before the first slash.
+#[inline(always)]
+fn lacks_front_colon(path: &[u8]) -> bool
+    ensures { result ≡ lacks colon (before slash path.now) }
+{
+    let mut rest = path;
+    'front: while let [b, next @ ..] = rest {
+        if *b == b'/' {
+            return true;
+        }
+        if *b == b':' {
+            return false;
+        }
+        rest = next;
+    }
+    true
+}
+
+#[inline(always)]
 fn colon_allowed(p: &Splitter<'_>) -> bool
     ensures { result ≡ colon_allowed (parts p.now) }
 {
-    p.scheme().is_some() || p.authority().is_some() || lacks(cut_before(p.path(), b'/').0, b':')
+    p.scheme().is_some() || p.authority().is_some() || lacks_front_colon(p.path().as_bytes())
 }
 
 /// The first segment without a colon where it has to be.
+#[inline(always)]
 fn colon_in_place(p: &Splitter<'_>) -> Result<(), Error>
     ensures { Answers result (unless (colon_allowed (parts p.now)) ErrorKind.InvalidPath) }
 {
@@ -82,14 +108,23 @@ fn authority_and_colon<S: Spec>(p: &Splitter<'_>) -> Result<(), Error>
     colon_in_place(p)
 }
 
-/// Authority, path, query and fragment, of which the last three may have been found to be plain.
-pub(crate) fn judge<S: Spec>(p: &Splitter<'_>) -> Result<(), Error>
+/// Authority, path, query and fragment, of which the first may have been found to be a plain name or none, and the last three
+/// to be each in its production.
+#[inline(always)]
+pub(crate) fn judge<S: Spec>(p: &Splitter<'_>, named: bool, over: bool) -> Result<(), Error>
+    requires name { named ≡ true → if_there (list_all (ascii_test RegName)) (parts p.now).authority ≡ true }
+    requires over { over ≡ true → AreOver S.tests (parts p.now).path (parts p.now).query (parts p.now).fragment }
     ensures { Answers result (parts_fault S.tests (fragment_fault S.tests) (parts p.now)) }
 {
-    if p.is_plain() {
-        authority_and_colon::<S>(p)
+    if named && over {
+        return colon_in_place(p);
+    }
+    // The calls get a copy: the parts themselves can stay in registers.
+    let parts = *p;
+    if over {
+        authority_and_colon::<S>(&parts)
     } else {
-        front_and_fragment::<S>(p)
+        front_and_fragment::<S>(&parts)
     }
 }
 

@@ -1,0 +1,28 @@
+use Rattle.std.proofs.Common.{◌++◌, ◌∙◌, ap, append-nil, sym}
+use Rattle.std.proofs.lemmas.Bool.{and_parts as both}
+use Rattle.iri_grammar.specs.Cut.{marked}
+use Rattle.iri_grammar.specs.OptionalSlices.{now_of}
+use Rattle.iri_grammar.specs.declared.tail.Tail.{Tail}
+use Rattle.iri_grammar.specs.inside.Tails.{IsOverTail}
+use Rattle.iri_grammar.proofs.PlainTails.{nothing, over-tail}
+use Rattle.iri_grammar.proofs.tail.Tail.look_at.Goals as goal
+use Rattle.std.specs.Prelude.{◌&&◌}
+
+pub returns : goal.returns
+returns g c =
+    let x = c.cut_units-bare_path in
+    let y = c.cut_query-bare_query in
+    let z = c.cut_fragment-bare_fragment in
+    let p : Tail = record { path = x.result.0; query = y.result.0; fragment = z.result.0 } in
+    let mark = marked 35 (now_of z.result.0) in
+    let none = nothing z.result.1.now (sym c.is_empty.ensures ∙ c.if-not-is_empty.false) in
+    let last = z.ensures.whole ∙ ap (λ r. mark ++ r) none ∙ append-nil mark in
+    let rest = y.ensures.whole ∙ ap (λ r. marked 63 (now_of y.result.0) ++ r) last in
+    let over : IsOverTail g.S.Spec.tests p = (x.ensures.over, y.ensures.over, z.ensures.over) in (
+      over-tail g.S.Spec.tests g.met.S.Spec.lawful c.args.s.now p (x.ensures.whole ∙ ap (λ r. x.result.0.now ++ r) rest) over,
+      over,
+      λ h.
+          let two = both (x.result.2 && y.result.2) z.result.2 h in
+          let one = both x.result.2 y.result.2 two.0 in
+          (x.ensures.bare one.0, y.ensures.bare one.1, z.ensures.bare two.1),
+    )

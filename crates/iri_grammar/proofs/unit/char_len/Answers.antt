@@ -1,0 +1,27 @@
+use Rattle.std.proofs.Common.{◌≡◌, true, sym, subst, length, take, ◌∙◌, ◌-◌}
+use Rattle.iri_grammar.specs.ClassTests.{class_test}
+use Rattle.iri_grammar.specs.inside.Runs.{AreUnits}
+use Rattle.iri_grammar.proofs.ClassLaws.{class_has_no_percent}
+use Rattle.iri_grammar.specs.Cut.{lacks}
+use Rattle.iri_grammar.proofs.UnitRuns.{char_units, char_lacks}
+use Rattle.iri_grammar.proofs.unit.char_len.Goals as goal
+
+pub returns-then-has-clause-units : goal.returns-then-has-clause-units
+returns-then-has-clause-units g c =
+    let s = g.S.Spec.tests in
+    let p = class_test s c.args.class in
+    let t = c.args.s.now in
+    let r = c.next.new.self.rest.now in
+    let e = sym c.chars-chars.ensures.rest ∙ c.in-Some.ensures.steps.0 in
+    subst (λ l. AreUnits p t (length t - length l)) (sym c.as_str.ensures)
+    (char_units p c.in-Some.c t r c.utf8.s e (class_has_no_percent s g.met.S.Spec.lawful c.args.class) (sym c.has.ensures ∙ c.if-has.true))
+
+pub returns-then-has-clause-bare : goal.returns-then-has-clause-bare
+returns-then-has-clause-bare g c =
+    let s = g.S.Spec.tests in
+    let p = class_test s c.args.class in
+    let t = c.args.s.now in
+    let r = c.next.new.self.rest.now in
+    let e = sym c.chars-chars.ensures.rest ∙ c.in-Some.ensures.steps.0 in
+    subst (λ l. lacks 37 (take (length t - length l) t) ≡ true) (sym c.as_str.ensures)
+    (char_lacks p c.in-Some.c t r e (class_has_no_percent s g.met.S.Spec.lawful c.args.class) (sym c.has.ensures ∙ c.if-has.true))

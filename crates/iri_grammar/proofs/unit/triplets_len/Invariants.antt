@@ -1,0 +1,12 @@
+use Rattle.std.proofs.Common.{◌-◌, ◌≤◌, ℕ, Bool, length}
+use Rattle.iri_grammar.specs.inside.Runs.{AreUnits}
+use Rattle.iri_grammar.proofs.unit.triplets_len.Given as goal
+
+abbrev pub invariant-triplets : goal.invariant-triplets
+invariant-triplets l = record {
+  within : l.i ≤ length l.bytes;
+  units : (p : ℕ → Bool) → AreUnits p l.bytes l.i;
+}
+
+abbrev pub decreases-triplets : goal.decreases-triplets
+decreases-triplets l = length l.bytes - l.i

@@ -1,0 +1,165 @@
+//! Units of a class, its characters and triplets (RFC 3986 section 2.1), at the start of a text.
+ghost use Rattle.std.specs.Prelude.{◌≡◌, ◌++◌, ◌&&◌, ℕ, Bool, true, take};
+ghost use Rattle.std.specs.Char.{is_ascii_hexdigit};
+ghost use Rattle.std.specs.Str.{IsUtf8};
+ghost use Rattle.iri_grammar.specs.Characters.{percent_sign};
+ghost use Rattle.iri_grammar.specs.ClassTests.{class_test, ascii_test};
+ghost use Rattle.iri_grammar.specs.Cut.{lacks};
+ghost use Rattle.iri_grammar.specs.Over.{text_over};
+ghost use Rattle.iri_grammar.specs.inside.Runs.{begins_with_triplet, AreUnits};
+
+use crate::class::Class;
+use crate::over::run_len;
+use crate::spec::Spec;
+
+// For each byte a `1` where it is a hex digit, otherwise a `0`.
+static HEX_DIGITS: [u8; 256] = *b"\
+    00000000000000000000000000000000\
+    00000000000000001111111111000000\
+    01111110000000000000000000000000\
+    01111110000000000000000000000000\
+    00000000000000000000000000000000\
+    00000000000000000000000000000000\
+    00000000000000000000000000000000\
+    00000000000000000000000000000000";
+
+/// Whether both bytes are hex digits, told without a branch.
+#[inline(always)]
+fn are_hex_digits(a: u8, b: u8) -> bool
+    ensures { result ≡ (is_ascii_hexdigit a && is_ascii_hexdigit b) }
+{
+    HEX_DIGITS[usize::from(a)] & HEX_DIGITS[usize::from(b)] == b'1'
+}
+
+/// Whether the bytes begin with a triplet.
+#[inline(always)]
+pub(crate) fn begins_with_triplet(bytes: &[u8]) -> bool
+    ensures { result ≡ begins_with_triplet bytes.now }
+{
+    match bytes {
+        [x, a, b, ..] => *x == b'%' && are_hex_digits(*a, *b),
+        _ => false,
+    }
+}
+
+/// How many bytes at the start are triplets.
+#[inline(always)]
+fn triplets_len(bytes: &[u8]) -> usize
+    requires { IsUtf8 bytes.now }
+    ensures { (p : ℕ → Bool) → AreUnits p bytes.now result }
+{
+    let mut i = 0;
+    'triplets: while begins_with_triplet(&bytes[i..]) {
+        i += 3;
+    }
+    i
+}
+
+/// The length of the first character, where it is in the class, otherwise 0.
+#[tactic(auto, using(crate::proofs::UnitRuns::no_units))]
+#[inline(always)]
+fn char_len<S: Spec>(class: Class, s: &str) -> usize
+    ensures units { AreUnits (class_test S.tests class) s.now result }
+    ensures bare { lacks percent_sign (take result s.now) ≡ true }
+{
+    let mut chars = s.chars();
+    match chars.next() {
+        Some(c) => {
+            if class.has::<S>(c) {
+                s.len() - chars.as_str().len()
+            } else {
+                0
+            }
+        }
+        None => 0,
+    }
+}
+
+/// The same of a character past ASCII.
+#[tactic(auto, using(crate::proofs::UnitRuns::no_units))]
+#[inline(always)]
+fn wide_char_len<S: Spec>(class: Class, s: &str) -> usize
+    ensures units { AreUnits (class_test S.tests class) s.now result }
+    ensures bare { lacks percent_sign (take result s.now) ≡ true }
+{
+    match s.as_bytes() {
+        [b, ..] if !b.is_ascii() => char_len::<S>(class, s),
+        _ => 0,
+    }
+}
+
+/// How many bytes at the start are characters of the class past ASCII.
+#[tactic(auto, using(crate::proofs::UnitRuns::no_units))]
+#[inline(always)]
+fn wide_chars_len<S: Spec>(class: Class, s: &str) -> usize
+    ensures units { AreUnits (class_test S.tests class) s.now result }
+    ensures bare { lacks percent_sign (take result s.now) ≡ true }
+{
+    let mut i = 0;
+    'chars: loop {
+        let len = wide_char_len::<S>(class, &s[i..]);
+        if len == 0 {
+            return i;
+        }
+        i += len;
+    }
+}
+
+/// How many bytes at the start are triplets, or characters of the class past ASCII, and whether they are no triplets.
+#[tactic(auto, using(crate::proofs::UnitRuns::no_units))]
+#[inline(always)]
+fn wide_len<S: Spec>(class: Class, s: &str) -> (usize, bool)
+    ensures units { AreUnits (class_test S.tests class) s.now result.0 }
+    ensures bare { result.1 ≡ true → lacks percent_sign (take result.0 s.now) ≡ true }
+{
+    match s.as_bytes() {
+        [b'%', ..] => (triplets_len(s.as_bytes()), false),
+        _ => (wide_chars_len::<S>(class, s), true),
+    }
+}
+
+/// How many bytes at the start are units of the class, behind its ASCII characters, and whether none of them is a triplet.
+#[tactic(auto, using(crate::proofs::UnitRuns::no_units))]
+#[inline(never)]
+fn units_len<S: Spec>(class: Class, s: &str) -> (usize, bool)
+    ensures units { AreUnits (class_test S.tests class) s.now result.0 }
+    ensures bare { result.1 ≡ true → lacks percent_sign (take result.0 s.now) ≡ true }
+{
+    let mut i = 0;
+    let mut bare = true;
+    'units: loop {
+        let (len, wide_bare) = wide_len::<S>(class, &s[i..]);
+        if len == 0 {
+            return (i, bare);
+        }
+        bare &= wide_bare;
+        i += len;
+        i += run_len(class, s[i..].as_bytes());
+    }
+}
+
+/// The same, which are mostly none.
+#[tactic(auto, using(crate::proofs::UnitRuns::no_units))]
+#[inline(always)]
+fn more_len<S: Spec>(class: Class, s: &str) -> (usize, bool)
+    ensures units { AreUnits (class_test S.tests class) s.now result.0 }
+    ensures bare { result.1 ≡ true → lacks percent_sign (take result.0 s.now) ≡ true }
+{
+    match s.as_bytes() {
+        [b, ..] if *b == b'%' || !b.is_ascii() => units_len::<S>(class, s),
+        _ => (0, true),
+    }
+}
+
+/// Units of the class at the start and what follows them, and whether no triplet was found among them.
+#[inline(always)]
+pub(crate) fn cut_units<S: Spec>(class: Class, s: &str) -> (&str, &str, bool)
+    ensures whole { s.now ≡ result.0.now ++ result.1.now }
+    ensures over { text_over (class_test S.tests class) result.0.now ≡ true }
+    ensures bare { result.2 ≡ true → lacks percent_sign result.0.now ≡ true }
+{
+    let run = run_len(class, s.as_bytes());
+    let (more, bare) = more_len::<S>(class, &s[run..]);
+    let end = run + more;
+    (&s[..end], &s[end..], bare)
+}
