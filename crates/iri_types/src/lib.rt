@@ -23,4 +23,5 @@ pub mod laws;
 pub mod split;
 #[cfg(test)]
 mod tests;
+mod utf8;
 pub mod view;

@@ -9,12 +9,12 @@ ghost use Rattle.iri_grammar.specs.WholeFault.{reference_fault};
 ghost use Rattle.iri_types.specs.Texts.{text};
 
 use crate::kind::{Reference, WholeKind};
+use crate::utf8::text_of;
 use crate::view::View;
 use iri_grammar::error::{Error, ErrorKind};
 use iri_grammar::spec::Spec;
 use iri_grammar::splitter::Splitter;
 use std::alloc::AllocError;
-use std::str;
 
 /// A view and its five parts, which are cut once. A program that asks for several parts of a text, or resolves many references
 /// against one base, keeps this in place of the view.
@@ -68,17 +68,19 @@ impl<'a, S: Spec> SplitView<'a, S, Reference> {
 
     /// The split view of bytes, where they are the UTF-8 of a reference: otherwise `InvalidUtf8`, or the kind of the text's first
     /// fault. The same as `View::try_from_bytes` and `of`, in one look at the text.
+    #[inline(always)]
     pub fn try_from_bytes(b: &'a [u8]) -> Result<Self, Error>
         ensures fault { Answers result (bytes_fault (reference_fault S.tests) b.now) }
         ensures text { IfOk result (λ v. split_text v ≡ b.now) }
     {
-        match str::from_utf8(b) {
-            Ok(s) => SplitView::new(s),
-            Err(_) => Err(Error::new(ErrorKind::InvalidUtf8)),
+        match text_of(b) {
+            Some(s) => SplitView::new(s),
+            None => Err(Error::new(ErrorKind::InvalidUtf8)),
         }
     }
 
     /// The split view of a text, where it is a reference: otherwise the kind of its first fault.
+    #[inline(always)]
     pub fn new(s: &'a str) -> Result<Self, Error>
         ensures fault { Answers result (reference_fault S.tests s.now) }
         ensures text { IfOk result (λ v. split_text v ≡ s.now) }

@@ -3,12 +3,13 @@ ghost use Rattle.std.specs.Prelude.{◌≡◌, ◌==◌, length, IfOk, None, Som
 ghost use Rattle.iri_grammar.specs.Fault.{Answers, bytes_fault};
 
 use crate::kind::{Absolute, Fragment, Iri, Kind, Query, Reference, Relative};
+use crate::utf8::text_of;
 use iri_grammar::error::{Error, ErrorKind};
 use iri_grammar::spec::{IriSpec, Spec, UriSpec};
 use iri_text::{FormatSink, Show, Stop, TextSink};
 use std::alloc::AllocError;
+use std::fmt;
 use std::marker::PhantomData;
-use std::{fmt, str};
 
 /// A text of the kind `K` in the grammar `S`, borrowed. It is as small as a `&str`, and its slices outlive it.
 /// Views are equal, ordered and hashed as their texts.
@@ -56,9 +57,9 @@ impl<'a, S: Spec, K: Kind> View<'a, S, K> {
         ensures fault { Answers result (bytes_fault (K.fault S.tests) b.now) }
         ensures text { IfOk result (λ v. text v ≡ b.now) }
     {
-        match str::from_utf8(b) {
-            Ok(s) => View::new(s),
-            Err(_) => Err(Error::new(ErrorKind::InvalidUtf8)),
+        match text_of(b) {
+            Some(s) => View::new(s),
+            None => Err(Error::new(ErrorKind::InvalidUtf8)),
         }
     }
 
