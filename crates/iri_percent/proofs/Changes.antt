@@ -1,29 +1,29 @@
 -- Changes of a text, and the runs between them.
-use Rattle.std.proofs.Common.{◌≡◌, ℕ, zero, suc, ◌+◌, ◌-◌, ◌*◌, ◌<◌, ◌≤◌, Bool, true, false, not, ◌&&◌, List, [], ◌∷◌, ◌++◌, Some, None}
+use Rattle.std.proofs.Common.{◌≡◌, ℕ, zero, suc, ◌+◌, ◌-◌, ◌*◌, ◌<◌, ◌≤◌, Bool, true, false, not, ◌&&◌, List, [], ◌∷◌, ◌++◌, Option, Some, None}
 use Rattle.std.proofs.Common.{length, take, drop, get_or, refl, sym, ◌∙◌, ap, subst, arith, append_assoc, length-append, length-drop}
-use Rattle.std.proofs.Common.{drop-drop, take-append-drop}
-use Rattle.std.specs.Prelude.{◌==◌, ◌||◌}
-use Rattle.std.specs.Char.{is_ascii_hexdigit, is_ascii_uppercase, is_ascii_lowercase, to_ascii_uppercase, to_ascii_lowercase, encode_utf8}
+use Rattle.std.proofs.Common.{cond, drop-drop, ltb-true, ltb-false}
+use Rattle.std.specs.Prelude.{◌==◌, MatchOption}
+use Rattle.std.specs.Char.{is_ascii_hexdigit, is_ascii_uppercase, to_ascii_uppercase, to_ascii_lowercase, encode_utf8}
 use Rattle.std.specs.Char.{len_utf8}
 use lib.Utf8.{scalar}
-use Rattle.std.proofs.lemmas.Str.{encode_ascii, length-encode, len_utf8_bounds, lead_after_ascii}
-use Rattle.std.specs.Str.{IsUtf8}
+use Rattle.std.proofs.lemmas.Str.{IsUtf8-encode, IsUtf8-from_ascii, encode_ascii, length-encode, len_utf8_bounds, lead_after_ascii}
+use Rattle.std.specs.Str.{IsAscii, IsUtf8}
+use lib.Dec.{ltb}
 use Rattle.std.proofs.lemmas.List.{drop_at, get_or_append_left}
 use Rattle.std.proofs.lemmas.Bool.Decides.{nat_tests}
-use Rattle.std.proofs.Common.{take-add, get_or-drop, slice_range}
-use Rattle.iri_grammar.specs.Classes.{Tests, unreserved}
+use Rattle.std.proofs.Common.{get_or-drop, slice_range}
+use Rattle.iri_grammar.specs.Classes.{Tests, IsSpec, unreserved, is_ascii_unreserved}
 use Rattle.iri_grammar.proofs.CutLaws.{both}
-use Rattle.iri_percent.specs.Units.{octets, whole_triplets}
+use Rattle.iri_percent.specs.Units.{octet, octets, whole_triplets}
+use Rattle.iri_percent.proofs.Characters.{ascii_decoded, low_decoded, past_ascii, unreserved_low}
 use Rattle.iri_percent.specs.Triplets.{normal}
-use Rattle.iri_percent.proofs.UnitLaws.{Spells, none, more, spelled, Spelled, length-spelled}
+use Rattle.iri_percent.proofs.UnitLaws.{octets_triplet, Spells, none, more, spelled, Spelled, length-spelled}
 use Rattle.iri_percent.specs.NormalLaws.{decoded}
 use Rattle.iri_percent.proofs.NormalLaws.{normal_nil, normal_plain, normal_decoded, normal_kept}
 use Rattle.iri_percent.proofs.Reading.{whole_plain, whole_triplet, whole_behind, Follows, percent_follows}
 use Rattle.iri_percent.proofs.CaseLaws.{encode_case, is_decoded}
 use Rattle.iri_percent.proofs.Stability.{IsCase, as_it_is-case, lower-case}
-use Rattle.iri_percent.specs.inside.Pieces.{case_of, piece_text, stays, changes, NoMark, MarkAt, Becomes, Rewrites}
-use Rattle.iri_percent.specs.declared.piece.Piece.{Piece}
-use Rattle.iri_percent.specs.declared.piece.Piece.TheVariants.{Char, Triplet}
+use Rattle.iri_percent.specs.inside.Pieces.{case_of, octet_text, stays, NoMark, MarkAt, FirstMark, Becomes, Gathered, Writes}
 
 -- ---- runs
 stays_percent : (lower : Bool) (x : ℕ) → stays lower x ≡ true → (x == 37) ≡ false
@@ -36,6 +36,22 @@ not_upper x h = grind (arith, nat_tests)
 stays_case : (lower : Bool) (x : ℕ) → stays lower x ≡ true → case_of lower x ≡ x
 stays_case true x h = not_upper x (both (not (x == 37)) (not (is_ascii_uppercase x)) h).1
 stays_case false x h = refl
+
+one_more : (t : List ℕ) (i : ℕ) → NoMark false t i → stays false (get_or t i 0) ≡ true → NoMark false t (i + 1)
+one_more t i n s k h =
+    elim (ltb k i) as (λ b. ltb k i ≡ b → stays false (get_or t k 0) ≡ true) [
+      | true ↦ λ e. n k (ltb-true k i e)
+      | false ↦ λ e. let same : i ≡ k = omega (arith, h, ltb-false k i e) in subst (λ m. stays false (get_or t m 0) ≡ true) same s
+    ] refl
+
+pub four_more : (t : List ℕ) (i : ℕ) → NoMark false t i
+    → (stays false (get_or t i 0) ≡ true) × (stays false (get_or t (i + 1) 0) ≡ true)
+    × (stays false (get_or t (i + 2) 0) ≡ true) × (stays false (get_or t (i + 3) 0) ≡ true) → NoMark false t (i + 4)
+four_more t i n s k h =
+    let two : i + 2 ≡ i + 1 + 1 = omega arith in
+    let three : i + 3 ≡ i + 1 + 1 + 1 = omega arith in
+    one_more t (i + 1 + 1 + 1) (one_more t (i + 1 + 1) (one_more t (i + 1) (one_more t i n s.0) s.1)
+    (subst (λ m. stays false (get_or t m 0) ≡ true) two s.2)) (subst (λ m. stays false (get_or t m 0) ≡ true) three s.3) k (omega (arith, h))
 
 pub record Run (s : Tests) (lower : Bool) (t : List ℕ) (n : ℕ) : Type 0 where
   pub text : normal s (case_of lower) t ≡ take n t ++ normal s (case_of lower) (drop n t)
@@ -60,43 +76,35 @@ run_all s lower (x ∷ xs) h =
     normal_plain s (case_of lower) x xs (stays_percent lower x first) ∙ ap (λ y. y ∷ normal s (case_of lower) xs) (stays_case lower x first)
     ∙ ap (λ l. x ∷ l) (run_all s lower xs (λ k j. h (suc k) (omega arith)))
 
--- a run behind what stays
-pub joined_runs : (s : Tests) (f : ℕ → ℕ) (t : List ℕ) (at n : ℕ) (r : List ℕ) → normal s f t ≡ take at t ++ normal s f (drop at t)
-    → normal s f (drop at t) ≡ take n (drop at t) ++ r → normal s f t ≡ take (at + n) t ++ r
-joined_runs s f t at n r h k = h ∙ ap (λ l. take at t ++ l) k ∙ sym (append_assoc (take at t) (take n (drop at t)) r)
-    ∙ ap (λ l. l ++ r) (sym (take-add at n t))
+-- nothing is gathered yet
+mark_below : (lower : Bool) (x : ℕ) → stays lower x ≡ false → x < 128
+mark_below true x h = grind (arith, nat_tests)
+mark_below false x h = grind (arith, nat_tests)
 
--- a change behind what stays
-later_becomes : (s : Tests) (lower : Bool) (t : List ℕ) (at len : ℕ) (l : List ℕ) → at ≤ length t
-    → normal s (case_of lower) t ≡ take at t ++ normal s (case_of lower) (drop at t) → Becomes s lower (drop at t) 0 len l
-    → Becomes s lower t at len l
-later_becomes s lower t at len l h e r = record {
-  text = e ∙ ap (λ x. take at t ++ x) (r.text ∙ ap (λ m. l ++ normal s (case_of lower) m) (behind (0 + len) len (omega arith)));
-  within = omega (arith, r.within, length-drop at t);
-  some = r.some;
-  first = subst (λ b. b < 128) (get_or-drop at t 0 0 ∙ ap (λ k. get_or t k 0) (omega arith)) r.first;
-  last = subst (λ b. b < 128) (get_or-drop at t (0 + len - 1) 0 ∙ ap (λ k. get_or t k 0) (places r.some)) r.last;
-  whole = ap whole_triplets (sym (behind (0 + len) len (omega arith))) ∙ r.whole;
-}
-  where
-    behind : (k n : ℕ) → k ≡ n → drop k (drop at t) ≡ drop (at + n) t
-    behind k n e = drop-drop k at t ∙ ap (λ m. drop (at + m) t) e
+pub first_mark : (s : Tests) (lower : Bool) (t : List ℕ) (o : Option ℕ) → whole_triplets t ≡ true
+    → MatchOption o (NoMark lower t (length t)) (λ i. MarkAt lower t i)
+    → MatchOption o (normal s (case_of lower) t ≡ t) (λ i. FirstMark s lower t i)
+first_mark s lower t None w n = run_all s lower t n
+first_mark s lower t (Some i) w m =
+    let r = run s lower t i (omega (arith, m.inside)) m.before in
+    record { inside = m.inside; mark = m.mark; same = r.text; whole = r.whole ∙ w }
 
-    places : 0 < len → at + (0 + len - 1) ≡ at + len - 1
-    places p = omega arith
+pub gathers : (s : Tests) (lower : Bool) (t : List ℕ) (at : ℕ) → FirstMark s lower t at → Gathered s lower t at 0 []
+gathers s lower t at m =
+    let same : at ≡ at + 0 = omega arith in
+    record {
+      text = m.same ∙ ap (λ n. take at t ++ normal s (case_of lower) (drop n t)) same;
+      within = omega (arith, m.inside);
+      first = mark_below lower (get_or t at 0) m.mark;
+      whole = ap (λ n. whole_triplets (drop n t)) (sym same) ∙ m.whole;
+    }
 
-pub later : (s : Tests) (lower : Bool) (t : List ℕ) (at len : ℕ) (piece : _) → at ≤ length t
-    → normal s (case_of lower) t ≡ take at t ++ normal s (case_of lower) (drop at t) → Rewrites s lower (drop at t) 0 len piece
-    → Rewrites s lower t at len piece
-later s lower t at len piece l h r = record {
-  becomes = later_becomes s lower t at len (piece_text piece) l h r.becomes;
-  ascii = r.ascii;
-  stood = r.stood;
-}
+pub so_far : {s : Tests} {lower : Bool} {t : List ℕ} {at len : ℕ} {l : List ℕ} → Becomes s lower t at len l → Gathered s lower t at len l
+so_far r = record { text = r.text; within = r.within; first = r.first; whole = r.whole }
 
 -- a change behind a change
 pub joined : (s : Tests) (lower : Bool) (t tail : List ℕ) (at n m : ℕ) (l k : List ℕ) → tail ≡ drop (at + n) t
-    → Becomes s lower t at n l → Becomes s lower tail 0 m k → Becomes s lower t at (n + m) (l ++ k)
+    → Gathered s lower t at n l → Becomes s lower tail 0 m k → Becomes s lower t at (n + m) (l ++ k)
 joined s lower t tail at n m l k is p q =
     let r : Becomes s lower (drop (at + n) t) 0 m k = subst (λ x. Becomes s lower x 0 m k) is q in
     let behind : drop (0 + m) (drop (at + n) t) ≡ drop (at + (n + m)) t =
@@ -107,7 +115,7 @@ joined s lower t tail at n m l k is p q =
           ∙ ap (λ x. take at t ++ (l ++ x)) (r.text ∙ ap (λ x. k ++ normal s (case_of lower) x) behind)
           ∙ ap (λ x. take at t ++ x) (sym (append_assoc l k (normal s (case_of lower) (drop (at + (n + m)) t))));
       within = omega (arith, p.within, r.within, length-drop (at + n) t);
-      some = omega (arith, p.some);
+      some = omega (arith, r.some);
       first = p.first;
       last = subst (λ b. b < 128) (get_or-drop (at + n) t (0 + m - 1) 0 ∙ ap (λ i. get_or t i 0) place) r.last;
       whole = ap whole_triplets (sym behind) ∙ r.whole;
@@ -171,52 +179,116 @@ decodes s lower t c w p h = let d = is_decoded s (octets t) c h in at d.1 d.0.is
 -- a triplet whose digits get capital
 raises_at : (s : Tests) (lower : Bool) (a b : ℕ) (ys : List ℕ) → is_ascii_hexdigit a ≡ true → is_ascii_hexdigit b ≡ true
     → whole_triplets (37 ∷ a ∷ b ∷ ys) ≡ true → decoded s (octets (37 ∷ a ∷ b ∷ ys)) ≡ None
-    → Rewrites s lower (37 ∷ a ∷ b ∷ ys) 0 3 (Triplet a b)
+    → Becomes s lower (37 ∷ a ∷ b ∷ ys) 0 3 (37 ∷ to_ascii_uppercase a ∷ to_ascii_uppercase b ∷ [])
 raises_at s lower a b ys p q w n = record {
-  becomes = record {
-    text = normal_kept s (case_of lower) a b ys p q n;
-    within = omega arith;
-    some = omega arith;
-    first = omega arith;
-    last = digit_below b q;
-    whole = sym (whole_triplet a b ys p q) ∙ w;
-  };
-  ascii = (digit_below a p, digit_below b q);
-  stood = refl;
+  text = normal_kept s (case_of lower) a b ys p q n;
+  within = omega arith;
+  some = omega arith;
+  first = omega arith;
+  last = digit_below b q;
+  whole = sym (whole_triplet a b ys p q) ∙ w;
 }
 
-pub raises : (s : Tests) (lower : Bool) (t : List ℕ) → whole_triplets t ≡ true → 0 < length t → get_or t 0 0 ≡ 37
-    → None ≡ decoded s (octets t) → Rewrites s lower t 0 3 (Triplet (get_or t 1 0) (get_or t 2 0))
-raises s lower t w l e n =
+-- the digits of a triplet at the start
+pub record Digits (t : List ℕ) : Type 0 where
+  pub high : is_ascii_hexdigit (get_or t 1 0) ≡ true
+  pub low : is_ascii_hexdigit (get_or t 2 0) ≡ true
+  pub octets_are : octets t ≡ octet (get_or t 1 0) (get_or t 2 0) ∷ octets (drop 3 t)
+  pub room : 3 ≤ length t
+
+pub digits : (t : List ℕ) → whole_triplets t ≡ true → 0 < length t → get_or t 0 0 ≡ 37 → Digits t
+digits t w l e =
     let r = at_percent t w l e in
-    let f = r.0 in
-    subst (λ x. Rewrites s lower x 0 3 (Triplet (get_or x 1 0) (get_or x 2 0))) (sym r.1)
-    (raises_at s lower f.a f.b f.ys f.first f.second (ap whole_triplets (sym r.1) ∙ w) (ap (λ x. decoded s (octets x)) (sym r.1) ∙ sym n))
+    subst Digits (sym r.1) (record { high = r.0.first; low = r.0.second; octets_are = octets_triplet r.0.a r.0.b r.0.ys r.0.first r.0.second; room = omega arith })
 
--- a triplet that stays
-capital_stays : (a : ℕ) → is_ascii_lowercase a ≡ false → to_ascii_uppercase a ≡ a
-capital_stays a h = grind (arith, nat_tests)
+pub at_octet : (t : List ℕ) (o : ℕ) → whole_triplets t ≡ true → 0 < length t → get_or t 0 0 ≡ 37
+    → o ≡ octet (get_or t 1 0) (get_or t 2 0) → octets t ≡ o ∷ octets (drop 3 t)
+at_octet t o w l e is = (digits t w l e).octets_are ∙ ap (λ n. n ∷ octets (drop 3 t)) (sym is)
 
-capitals_stay : (a b : ℕ) → (is_ascii_lowercase a || is_ascii_lowercase b) ≡ false
-    → piece_text (Triplet a b) ≡ 37 ∷ a ∷ b ∷ []
-capitals_stay a b h = ap (λ x. 37 ∷ x ∷ to_ascii_uppercase b ∷ []) (capital_stays a (neither (is_ascii_lowercase a) (is_ascii_lowercase b) h).0)
-    ∙ ap (λ x. 37 ∷ a ∷ x ∷ []) (capital_stays b (neither (is_ascii_lowercase a) (is_ascii_lowercase b) h).1)
+-- an octet that begins no character past ASCII
+octet_becomes : (s : Tests) (lower : Bool) (t : List ℕ) (o : ℕ) → IsSpec s → whole_triplets t ≡ true → 0 < length t → get_or t 0 0 ≡ 37
+    → o ≡ octet (get_or t 1 0) (get_or t 2 0) → (192 ≤ o → decoded s (octets t) ≡ None)
+    → Becomes s lower t 0 3 (octet_text lower o (get_or t 1 0) (get_or t 2 0))
+octet_becomes s lower t o i w l e is high =
+    elim (is_ascii_unreserved o) as (λ b. is_ascii_unreserved o ≡ b → Becomes s lower t 0 3
+    (cond b (case_of lower o ∷ []) (37 ∷ to_ascii_uppercase (get_or t 1 0) ∷ to_ascii_uppercase (get_or t 2 0) ∷ []))) [
+      | true ↦ λ u. one (unreserved_low o u) (decodes s lower t o w e (ascii_decoded s o (octets t) (octets (drop 3 t)) here u))
+      | false ↦ λ u. three (elim (ltb o 192) as (λ b. ltb o 192 ≡ b → decoded s (octets t) ≡ None) [
+        | true ↦ λ f. low_decoded s o (octets t) (octets (drop 3 t)) i here (ltb-true o 192 f) u
+        | false ↦ λ f. high (ltb-false o 192 f)
+      ] refl)
+    ] refl
   where
-    neither : (x y : Bool) → (x || y) ≡ false → (x ≡ false) × (y ≡ false)
-    neither false y h = (refl, h)
-    neither true y h = cc
+    here : octets t ≡ o ∷ octets (drop 3 t)
+    here = at_octet t o w l e is
 
-pub keeps : (s : Tests) (lower : Bool) (t : List ℕ) (len : ℕ) (piece : Piece) → Rewrites s lower t 0 len piece → changes piece ≡ false
-    → normal s (case_of lower) t ≡ take len t ++ normal s (case_of lower) (drop len t)
-keeps s lower t len (Char c) r h = cc
-keeps s lower t len (Triplet a b) r h =
-    r.becomes.text ∙ ap (λ l. l ++ normal s (case_of lower) (drop (0 + len) t)) (capitals_stay a b h ∙ sym r.stood)
-    ∙ ap (λ n. take len t ++ normal s (case_of lower) (drop n t)) from_start
-  where
-    from_start : 0 + len ≡ len
-    from_start = omega arith
+    one : o < 128 → Becomes s lower t 0 (3 * len_utf8 o) (encode_utf8 (case_of lower o)) → Becomes s lower t 0 3 (case_of lower o ∷ [])
+    one h r = subst (λ n. Becomes s lower t 0 n (case_of lower o ∷ [])) (ap (λ n. 3 * n) (sym (length-encode o) ∙ ap length (encode_ascii o h)))
+        (subst (λ x. Becomes s lower t 0 (3 * len_utf8 o) x) (encode_ascii (case_of lower o) ((case_is lower).below o h)) r)
+
+    three : decoded s (octets t) ≡ None → Becomes s lower t 0 3 (37 ∷ to_ascii_uppercase (get_or t 1 0) ∷ to_ascii_uppercase (get_or t 2 0) ∷ [])
+    three n =
+        let r = at_percent t w l e in
+        let f = r.0 in
+        subst (λ x. Becomes s lower x 0 3 (37 ∷ to_ascii_uppercase (get_or x 1 0) ∷ to_ascii_uppercase (get_or x 2 0) ∷ [])) (sym r.1)
+        (raises_at s lower f.a f.b f.ys f.first f.second (ap whole_triplets (sym r.1) ∙ w) (ap (λ x. decoded s (octets x)) (sym r.1) ∙ n))
+
+pub upper_digit : (a : ℕ) → is_ascii_hexdigit a ≡ true → to_ascii_uppercase a < 128
+upper_digit a h = grind (arith, nat_tests)
+
+one_ascii : (x : ℕ) → x < 128 → IsAscii (x ∷ [])
+one_ascii x p zero = p
+one_ascii x p (suc i) = omega arith
+
+three_ascii : (a b c : ℕ) → a < 128 → b < 128 → c < 128 → IsAscii (a ∷ b ∷ c ∷ [])
+three_ascii a b c p q r zero = p
+three_ascii a b c p q r (suc zero) = q
+three_ascii a b c p q r (suc (suc zero)) = r
+three_ascii a b c p q r (suc (suc (suc i))) = omega arith
+
+octet_utf8 : (lower : Bool) (o a b : ℕ) → is_ascii_hexdigit a ≡ true → is_ascii_hexdigit b ≡ true → IsUtf8 (octet_text lower o a b)
+octet_utf8 lower o a b p q =
+    elim (is_ascii_unreserved o) as (λ v. is_ascii_unreserved o ≡ v
+    → IsUtf8 (cond v (case_of lower o ∷ []) (37 ∷ to_ascii_uppercase a ∷ to_ascii_uppercase b ∷ []))) [
+      | true ↦ λ u. IsUtf8-from_ascii _ (one_ascii (case_of lower o) ((case_is lower).below o (unreserved_low o u)))
+      | false ↦ λ _. IsUtf8-from_ascii _ (three_ascii 37 (to_ascii_uppercase a) (to_ascii_uppercase b) (omega arith) (upper_digit a p) (upper_digit b q))
+    ] refl
+
+pub writes_octet : (s : Tests) (lower : Bool) (t old new : List ℕ) (at written o : ℕ) → IsSpec s → whole_triplets t ≡ true → 0 < length t
+    → get_or t 0 0 ≡ 37 → o ≡ octet (get_or t 1 0) (get_or t 2 0) → (192 ≤ o → decoded s (octets t) ≡ None)
+    → take written new ≡ take at old ++ octet_text lower o (get_or t 1 0) (get_or t 2 0) → Writes s lower t old new at 3 written
+writes_octet s lower t old new at written o i w l e is high put =
+    let d = digits t w l e in
+    record {
+      text = octet_text lower o (get_or t 1 0) (get_or t 2 0);
+      becomes = octet_becomes s lower t o i w l e is high;
+      utf8 = octet_utf8 lower o (get_or t 1 0) (get_or t 2 0) d.high d.low;
+      put = put;
+    }
+
+-- a decoded character past ASCII, which has no case
+pub writes_char : (s : Tests) (lower : Bool) (t old new : List ℕ) (at written o c : ℕ) → whole_triplets t ≡ true → 0 < length t
+    → get_or t 0 0 ≡ 37 → o ≡ octet (get_or t 1 0) (get_or t 2 0) → 192 ≤ o → Some c ≡ decoded s (o ∷ octets (drop 3 t))
+    → take written new ≡ take at old ++ encode_utf8 c → Writes s lower t old new at (3 * len_utf8 c) written
+writes_char s lower t old new at written o c w l e is high h put =
+    let here = at_octet t o w l e is in
+    record {
+      text = encode_utf8 c;
+      becomes = subst (λ n. Becomes s lower t 0 (3 * len_utf8 c) (encode_utf8 n)) ((case_is lower).past c (past_ascii s o c (octets (drop 3 t)) high (sym h)))
+          (decodes s lower t c w e (ap (decoded s) here ∙ sym h));
+      utf8 = IsUtf8-encode c (is_decoded s (o ∷ octets (drop 3 t)) c (sym h)).0.is_scalar;
+      put = put;
+    }
 
 -- a letter that is lowered
+pub letter_mark : (lower : Bool) (x : ℕ) → (lower && not (x == 37)) ≡ true → (x == 37) ≡ false
+letter_mark true x h = elim (x == 37) as (λ b. not b ≡ true → b ≡ false) [ true ↦ λ k. cc | false ↦ λ _. refl ] h
+letter_mark false x h = cc
+
+pub triplet_mark : (lower : Bool) (x : ℕ) → stays lower x ≡ false → (lower && not (x == 37)) ≡ false → x ≡ 37
+triplet_mark true x m h = grind (arith, nat_tests)
+triplet_mark false x m h = grind (arith, nat_tests)
+
 is_letter : (lower : Bool) (x : ℕ) → stays lower x ≡ false → (x == 37) ≡ false → (lower ≡ true) × (is_ascii_uppercase x ≡ true)
 is_letter true x h n = (refl, grind (arith, nat_tests))
 is_letter false x h n = absurd (grind (arith, nat_tests))
@@ -225,83 +297,28 @@ upper_below : (x : ℕ) → is_ascii_uppercase x ≡ true → x < 128
 upper_below x h = grind (arith, nat_tests)
 
 letter_at : (s : Tests) (x : ℕ) (xs : List ℕ) → is_ascii_uppercase x ≡ true → (x == 37) ≡ false → whole_triplets (x ∷ xs) ≡ true
-    → Rewrites s true (x ∷ xs) 0 1 (Char (to_ascii_lowercase x))
-letter_at s x xs u n w =
-    let low : to_ascii_lowercase x < 128 = lower-case.below x (upper_below x u) in
+    → Becomes s true (x ∷ xs) 0 1 (to_ascii_lowercase x ∷ [])
+letter_at s x xs u n w = record {
+  text = normal_plain s to_ascii_lowercase x xs n;
+  within = omega arith;
+  some = omega arith;
+  first = upper_below x u;
+  last = upper_below x u;
+  whole = sym (whole_plain x xs n) ∙ w;
+}
+
+pub writes_letter : (s : Tests) (lower : Bool) (t old new : List ℕ) (at written : ℕ) → whole_triplets t ≡ true → 0 < length t
+    → stays lower (get_or t 0 0) ≡ false → (get_or t 0 0 == 37) ≡ false
+    → take written new ≡ take at old ++ (to_ascii_lowercase (get_or t 0 0) ∷ []) → Writes s lower t old new at 1 written
+writes_letter s lower [] old new at written w l h n put = absurd (omega arith)
+writes_letter s lower (x ∷ xs) old new at written w l h n put =
+    let k = is_letter lower x h n in
     record {
-      becomes = record {
-        text = normal_plain s to_ascii_lowercase x xs n
-            ∙ ap (λ l. l ++ normal s to_ascii_lowercase xs) (sym (encode_ascii (to_ascii_lowercase x) low));
-        within = omega arith;
-        some = omega arith;
-        first = upper_below x u;
-        last = upper_below x u;
-        whole = sym (whole_plain x xs n) ∙ w;
-      };
-      ascii = tt;
-      stood = tt;
+      text = to_ascii_lowercase x ∷ [];
+      becomes = subst (λ b. Becomes s b (x ∷ xs) 0 1 (to_ascii_lowercase x ∷ [])) (sym k.0) (letter_at s x xs k.1 n w);
+      utf8 = IsUtf8-from_ascii _ (one_ascii (to_ascii_lowercase x) (lower-case.below x (upper_below x k.1)));
+      put = put;
     }
-
-pub lowers : (s : Tests) (lower : Bool) (t : List ℕ) → whole_triplets t ≡ true → 0 < length t → stays lower (get_or t 0 0) ≡ false
-    → (get_or t 0 0 == 37) ≡ false → Rewrites s lower t 0 1 (Char (to_ascii_lowercase (get_or t 0 0)))
-lowers s lower [] w l h n = absurd (omega arith)
-lowers s lower (x ∷ xs) w l h n = let k = is_letter lower x h n in
-    subst (λ b. Rewrites s b (x ∷ xs) 0 1 (Char (to_ascii_lowercase x))) (sym k.0) (letter_at s x xs k.1 n w)
-
--- ---- the next place
-pub record AtMark (s : Tests) (lower : Bool) (t : List ℕ) (at : ℕ) : Type 0 where
-  pub within : at ≤ length t
-  pub same : normal s (case_of lower) t ≡ take at t ++ normal s (case_of lower) (drop at t)
-  pub whole : whole_triplets (drop at t) ≡ true
-  pub some : 0 < length (drop at t)
-  pub mark : stays lower (get_or (drop at t) 0 0) ≡ false
-
-pub at_mark : (s : Tests) (lower : Bool) (t front : List ℕ) (at i : ℕ) → front ≡ drop at t → at ≤ length t
-    → whole_triplets (drop at t) ≡ true → normal s (case_of lower) t ≡ take at t ++ normal s (case_of lower) (drop at t)
-    → MarkAt lower front i → AtMark s lower t (at + i)
-at_mark s lower t front at i e l w h m =
-    let k : MarkAt lower (drop at t) i = subst (λ x. MarkAt lower x i) e m in
-    let r = run s lower (drop at t) i (omega (arith, k.inside)) k.before in
-    let behind : drop i (drop at t) ≡ drop (at + i) t = drop-drop i at t in
-    record {
-      within = omega (arith, k.inside, length-drop at t);
-      same = joined_runs s (case_of lower) t at i (normal s (case_of lower) (drop i (drop at t))) h r.text
-          ∙ ap (λ x. take (at + i) t ++ normal s (case_of lower) x) behind;
-      whole = ap whole_triplets (sym behind) ∙ r.whole ∙ w;
-      some = omega (arith, k.inside, length-drop at t, length-drop (at + i) t);
-      mark = ap (λ x. stays lower (get_or x 0 0)) (sym behind)
-          ∙ ap (stays lower) (get_or-drop i (drop at t) 0 0 ∙ ap (λ n. get_or (drop at t) n 0) (omega arith)) ∙ k.mark;
-    }
-
--- a triplet that stays, behind what stays
-pub record Onward (s : Tests) (lower : Bool) (t : List ℕ) (at : ℕ) : Type 0 where
-  pub within : at ≤ length t
-  pub whole : whole_triplets (drop at t) ≡ true
-  pub same : normal s (case_of lower) t ≡ take at t ++ normal s (case_of lower) (drop at t)
-
-pub onward : (s : Tests) (lower : Bool) (t tail : List ℕ) (at len : ℕ) (piece : Piece) → tail ≡ drop at t → AtMark s lower t at
-    → Rewrites s lower tail 0 len piece → changes piece ≡ false → Onward s lower t (at + len)
-onward s lower t tail at len piece e a q h =
-    let r : Rewrites s lower (drop at t) 0 len piece = subst (λ x. Rewrites s lower x 0 len piece) e q in
-    let behind : drop len (drop at t) ≡ drop (at + len) t = drop-drop len at t in
-    let zero_len : drop (0 + len) (drop at t) ≡ drop len (drop at t) = ap (λ n. drop n (drop at t)) (omega arith) in
-    record {
-      within = omega (arith, r.becomes.within, length-drop at t);
-      whole = ap whole_triplets (sym (zero_len ∙ behind)) ∙ r.becomes.whole;
-      same = joined_runs s (case_of lower) t at len (normal s (case_of lower) (drop len (drop at t))) a.same (keeps s lower (drop at t) len piece r h)
-          ∙ ap (λ x. take (at + len) t ++ normal s (case_of lower) x) behind;
-    }
-
-pub changed : (s : Tests) (lower : Bool) (t tail : List ℕ) (at len : ℕ) (piece : _) → tail ≡ drop at t → AtMark s lower t at
-    → Rewrites s lower tail 0 len piece → Rewrites s lower t at len piece
-changed s lower t tail at len piece e a r = later s lower t at len piece a.within a.same
-    (subst (λ x. Rewrites s lower x 0 len piece) e r)
-
-pub unchanged : (s : Tests) (lower : Bool) (t tail : List ℕ) (at : ℕ) → tail ≡ drop at t
-    → normal s (case_of lower) t ≡ take at t ++ normal s (case_of lower) (drop at t) → NoMark lower tail (length tail)
-    → normal s (case_of lower) t ≡ t
-unchanged s lower t tail at e h n = h ∙ ap (λ l. take at t ++ l) (run_all s lower (drop at t) (subst (λ x. NoMark lower x (length x)) e n))
-    ∙ take-append-drop at t
 
 pub boundary : (t : List ℕ) (at len : ℕ) → IsUtf8 t → 0 < len → get_or t (at + len - 1) 0 < 128 → at + len < length t
     → 128 ≤ get_or t (at + len) 0 → 192 ≤ get_or t (at + len) 0

@@ -1,5 +1,5 @@
 -- The character with whose UTF-8 some octets begin, told from the octets one by one.
-use Rattle.std.proofs.Common.{◌≡◌, ℕ, ◌+◌, ◌-◌, ◌<◌, ◌≤◌, Bool, true, false, cond, ◌||◌, List, [], ◌∷◌, ◌++◌, Some, None}
+use Rattle.std.proofs.Common.{◌≡◌, ℕ, ◌+◌, ◌-◌, ◌<◌, ◌≤◌, Bool, true, false, cond, ◌||◌, List, [], ◌∷◌, ◌++◌, Option, Some, None}
 use Rattle.std.proofs.Common.{zero, suc, length, take, drop, take-append-drop, refl, sym, ◌∙◌, ap, arith, ltb-true, ltb-false}
 use Rattle.std.specs.Prelude.{◌/◌, ◌*◌, ◌%◌}
 use Rattle.std.specs.Str.{chars}
@@ -108,6 +108,30 @@ below a b h = grind (arith, nat_tests)
 
 not_below : (a b : ℕ) → b ≤ a → ltb a b ≡ false
 not_below a b h = grind (arith, nat_tests)
+
+-- the UTF-8 of a character past ASCII
+pub encode_two : (c code y : ℕ) → code ≡ c → 128 ≤ c → code < 2048 → y ≡ next code → (192 + code / 64) ∷ y ∷ [] ≡ encode c
+unfolding encode
+encode_two c code y e l h p =
+    ap (λ n. (192 + code / 64) ∷ n ∷ []) p ∙ ap (λ n. (192 + n / 64) ∷ next n ∷ []) e
+    ∙ rw (not_below c 128 l, below c 2048 (omega (arith, e, h))) refl
+
+pub encode_three : (c code y z : ℕ) → code ≡ c → 2048 ≤ code → code < 65536 → y ≡ next (code / 64) → z ≡ next code
+    → (224 + code / 4096) ∷ y ∷ z ∷ [] ≡ encode c
+unfolding encode
+encode_three c code y z e l h p q =
+    ap (λ n. (224 + code / 4096) ∷ n ∷ z ∷ []) p ∙ ap (λ n. (224 + code / 4096) ∷ next (code / 64) ∷ n ∷ []) q
+    ∙ ap (λ n. (224 + n / 4096) ∷ next (n / 64) ∷ next n ∷ []) e
+    ∙ rw (not_below c 128 (omega (arith, e, l)), not_below c 2048 (omega (arith, e, l)), below c 65536 (omega (arith, e, h))) refl
+
+pub encode_four : (c code x y z : ℕ) → code ≡ c → 65536 ≤ code → x ≡ next (code / 4096) → y ≡ next (code / 64) → z ≡ next code
+    → (240 + code / 262144) ∷ x ∷ y ∷ z ∷ [] ≡ encode c
+unfolding encode
+encode_four c code x y z e l p q r =
+    ap (λ n. (240 + code / 262144) ∷ n ∷ y ∷ z ∷ []) p ∙ ap (λ n. (240 + code / 262144) ∷ next (code / 4096) ∷ n ∷ z ∷ []) q
+    ∙ ap (λ n. (240 + code / 262144) ∷ next (code / 4096) ∷ next (code / 64) ∷ n ∷ []) r
+    ∙ ap (λ n. (240 + n / 262144) ∷ next (n / 4096) ∷ next (n / 64) ∷ next n ∷ []) e
+    ∙ rw (not_below c 128 (omega (arith, e, l)), not_below c 2048 (omega (arith, e, l)), not_below c 65536 (omega (arith, e, l))) refl
 
 spelled_in_two : (code lead a : ℕ) (os : List ℕ) → 192 ≤ lead → lead < 224 → a < 64 → code ≡ (lead - 192) * 64 + a → 128 ≤ code
     → lead ∷ (128 + a) ∷ os ≡ encode code ++ os
@@ -224,7 +248,7 @@ middle_none o os l h = continuation_none o os (continues o l h)
     continues : (o : ℕ) → 128 ≤ o → o < 192 → is_continuation o ≡ true
     continues o l h = grind (arith, nat_tests)
 
-unreserved_low : (o : ℕ) → is_ascii_unreserved o ≡ true → o < 128
+pub unreserved_low : (o : ℕ) → is_ascii_unreserved o ≡ true → o < 128
 unfolding is_ascii_unreserved
 unreserved_low o h = grind (arith, nat_tests)
 
@@ -244,6 +268,23 @@ low_decoded s o t os k e l h =
       | false ↦ λ f. ap (decoded s) e ∙ ap (unreserved_only s) (middle_none o os (ltb-false o 128 f) l)
     ] refl
 
+-- a character of more octets than one is past ASCII
+past_first : (lead c : ℕ) (os : List ℕ) → 192 ≤ lead → first_char (lead ∷ os) ≡ Some c → 128 ≤ c
+past_first lead c os l h = at (wide c lead os (first_char_is (lead ∷ os) c h).rest (first_char_is (lead ∷ os) c h).split)
+  where
+    at : {rest : List ℕ} → Wide c lead os rest → 128 ≤ c
+    at (one p e) = absurd (omega arith)
+    at (two p q e t) = p
+    at (three p q e t) = omega arith
+    at (four p e t) = omega arith
+
+only_first : (s : Tests) (o : Option ℕ) (c : ℕ) → unreserved_only s o ≡ Some c → o ≡ Some c
+only_first s None c h = cc
+only_first s (Some d) c h = elim (unreserved s d) as (λ b. cond b (Some d) None ≡ Some c → Some d ≡ Some c) [ true ↦ λ k. k | false ↦ λ k. cc ] h
+
+pub past_ascii : (s : Tests) (lead c : ℕ) (os : List ℕ) → 192 ≤ lead → decoded s (lead ∷ os) ≡ Some c → 128 ≤ c
+past_ascii s lead c os l h = past_first lead c os l (only_first s (first_char (lead ∷ os)) c h)
+
 -- a character past ASCII is unreserved where the spec says so
 pub high_decoded : (s : Tests) (lead c : ℕ) (os : List ℕ) → 192 ≤ lead → first_char (lead ∷ os) ≡ Some c
     → decoded s (lead ∷ os) ≡ cond (s.ucs c) (Some c) None
@@ -251,16 +292,10 @@ unfolding unreserved
 high_decoded s lead c os l h =
     ap (unreserved_only s) h ∙ ap (λ b. cond (b || s.ucs c) (Some c) None) (reserved (is_ascii_unreserved c) refl)
   where
-    past : Wide c lead os (first_char_is (lead ∷ os) c h).rest → 128 ≤ c
-    past (one p e) = absurd (omega arith)
-    past (two p q e t) = p
-    past (three p q e t) = omega arith
-    past (four p e t) = omega arith
-
     reserved : (b : Bool) → is_ascii_unreserved c ≡ b → b ≡ false
     reserved false e = refl
     reserved true e = absurd (omega (
       arith,
       unreserved_low c e,
-      past (wide c lead os (first_char_is (lead ∷ os) c h).rest (first_char_is (lead ∷ os) c h).split),
+      past_first lead c os l h,
     ))

@@ -1,10 +1,10 @@
 -- The table of hex digits agrees with what they stand for at each of the 256 bytes, by computing.
 use Rattle.std.proofs.Common.{◌≡◌, ℕ, ◌<◌, ◌≤◌, Bool, true, false, not, get_or, refl, sym, ◌∙◌, subst, arith, eqb-true}
 use Rattle.std.specs.Prelude.{nat_lt, nat_eq, ◌%◌, ◌||◌}
-use Rattle.std.specs.Char.{is_ascii_hexdigit, digit_value}
+use Rattle.std.specs.Char.{is_ascii_hexdigit, digit_value, to_ascii_uppercase}
 use Rattle.std.proofs.lemmas.Bool.Decides.{nat_tests}
 use Rattle.iri_grammar.proofs.Tables.{agree_below, agree_at}
-use Rattle.iri_percent.specs.declared.octets.TheConstants.{VALUES}
+use Rattle.iri_percent.specs.declared.octets.TheConstants.{VALUES, CAPITALS}
 
 abbrev is_value : ℕ → Bool
 is_value b = nat_lt (get_or VALUES b 0) 64
@@ -50,3 +50,20 @@ digit_here b n e h = subst (λ m. get_or VALUES m 0 < 64
 pub none_here : (b n : ℕ) → b ≡ n → b < 256 → 64 ≤ get_or VALUES n 0 → is_ascii_hexdigit b ≡ false
 none_here b n e h = subst (λ m. 64 ≤ get_or VALUES m 0 → is_ascii_hexdigit b ≡ false) e
     (λ l. sym (agree_at is_value is_ascii_hexdigit 256 values b h) ∙ not_below (get_or VALUES b 0) 64 l)
+
+pub value_here : (b n : ℕ) → b ≡ n → b < 256 → is_ascii_hexdigit b ≡ true → get_or VALUES n 0 % 16 ≡ digit_value b
+value_here b n e l h = subst (λ m. get_or VALUES m 0 % 16 ≡ digit_value b) e
+    (eqb-true (get_or VALUES b 0 % 16) (digit_value b) (second (is_ascii_hexdigit b) (nat_eq (get_or VALUES b 0 % 16) (digit_value b)) h
+    (agree_at is_right (λ _. true) 256 right b l)))
+
+-- ---- the capital form
+abbrev is_capital : ℕ → Bool
+is_capital b = not (is_ascii_hexdigit b) || nat_eq (get_or CAPITALS b 0) (to_ascii_uppercase b)
+
+capitals : agree_below is_capital (λ _. true) 256 ≡ true
+capitals = refl
+
+pub capital_here : (b n : ℕ) → b ≡ n → b < 256 → is_ascii_hexdigit b ≡ true → get_or CAPITALS n 0 ≡ to_ascii_uppercase b
+capital_here b n e l h = subst (λ m. get_or CAPITALS m 0 ≡ to_ascii_uppercase b) e
+    (eqb-true (get_or CAPITALS b 0) (to_ascii_uppercase b) (second (is_ascii_hexdigit b) (nat_eq (get_or CAPITALS b 0) (to_ascii_uppercase b)) h
+    (agree_at is_capital (λ _. true) 256 capitals b l)))

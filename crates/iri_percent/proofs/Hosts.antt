@@ -1,6 +1,6 @@
 -- Hosts, byte by byte.
 use Rattle.std.proofs.Common.{◌≡◌, ℕ, zero, suc, ◌-◌, ◌<◌, Bool, true, false, cond, not, ◌&&◌, List, [], ◌∷◌, length, take, drop, get_or}
-use Rattle.std.proofs.Common.{refl, sym, ◌∙◌, ap, subst, arith}
+use Rattle.std.proofs.Common.{◌≤◌, refl, sym, ◌∙◌, ap, subst, arith}
 use mathlib.Core.Bool.{and_assoc}
 use Rattle.std.specs.Prelude.{◌==◌, nat_lt}
 use Rattle.std.specs.List.{list_all}
@@ -56,6 +56,19 @@ plain_ascii (x ∷ xs) h =
     percent : (b : Bool) → not b ≡ true → b ≡ false
     percent true e = cc
     percent false e = refl
+
+pub plain_four : (t : List ℕ) → 4 ≤ length t
+    → (((is_plain_byte (get_or t 0 0) && is_plain_byte (get_or t 1 0)) && is_plain_byte (get_or t 2 0)) && is_plain_byte (get_or t 3 0)) ≡ true
+    → list_all is_plain_byte t ≡ list_all is_plain_byte (drop 4 t)
+plain_four [] l h = absurd (omega arith)
+plain_four (w ∷ []) l h = absurd (omega arith)
+plain_four (w ∷ x ∷ []) l h = absurd (omega arith)
+plain_four (w ∷ x ∷ y ∷ []) l h = absurd (omega arith)
+plain_four (w ∷ x ∷ y ∷ z ∷ r) l h =
+    let a = both ((is_plain_byte w && is_plain_byte x) && is_plain_byte y) (is_plain_byte z) h in
+    let b = both (is_plain_byte w && is_plain_byte x) (is_plain_byte y) a.0 in
+    let c = both (is_plain_byte w) (is_plain_byte x) b.0 in
+    rw (c.0, c.1, b.1, a.1) refl
 
 plain_stays : (t : List ℕ) → list_all is_plain_byte t ≡ true → NoMark true t (length t)
 plain_stays [] h k j = absurd (omega arith)

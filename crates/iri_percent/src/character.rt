@@ -18,6 +18,7 @@ fn char_from(code: u32, least: u32) -> Option<char>
     char::from_u32(code)
 }
 
+#[inline(always)]
 fn char_of_two(lead: u8, rest: &[u8]) -> Option<char>
     requires { (192 ≤ lead) × (lead < 224) }
     ensures { result ≡ first_char (lead ∷ octets rest.now) }
@@ -26,6 +27,7 @@ fn char_of_two(lead: u8, rest: &[u8]) -> Option<char>
     char_from(u32::from(lead - 0xC0) * 64 + a, 0x80)
 }
 
+#[inline(always)]
 fn char_of_three(lead: u8, rest: &[u8]) -> Option<char>
     requires { (224 ≤ lead) × (lead < 240) }
     ensures { result ≡ first_char (lead ∷ octets rest.now) }
@@ -35,6 +37,7 @@ fn char_of_three(lead: u8, rest: &[u8]) -> Option<char>
     char_from((u32::from(lead - 0xE0) * 64 + a) * 64 + b, 0x800)
 }
 
+#[inline(always)]
 fn char_of_four(lead: u8, rest: &[u8]) -> Option<char>
     requires { 240 ≤ lead }
     ensures { result ≡ first_char (lead ∷ octets rest.now) }
@@ -50,6 +53,7 @@ fn char_of_four(lead: u8, rest: &[u8]) -> Option<char>
 
 // The character with whose UTF-8 this octet and those of the triplets behind it begin (RFC 3629 section 3). It has no
 // loop, so that the compiler leaves it out where a grammar takes no character past ASCII.
+#[inline(always)]
 fn front_char(lead: u8, rest: &[u8]) -> Option<char>
     ensures { result ≡ first_char (lead ∷ octets rest.now) }
 {
@@ -70,7 +74,8 @@ pub fn triplets_char(text: &[u8]) -> Option<char>
     front_char(lead, rest)
 }
 
-fn char_past_ascii<S: Spec>(lead: u8, rest: &[u8]) -> Option<char>
+#[inline(always)]
+pub(crate) fn char_past_ascii<S: Spec>(lead: u8, rest: &[u8]) -> Option<char>
     requires { 192 ≤ lead }
     ensures { result ≡ decoded S.tests (lead ∷ octets rest.now) }
 {

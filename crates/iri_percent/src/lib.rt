@@ -16,6 +16,7 @@
 
 mod authority;
 pub mod canon_mode;
+mod change;
 pub mod character;
 mod context;
 mod decode;
@@ -30,7 +31,6 @@ mod mapped_kind;
 mod normal;
 mod octets;
 mod percent_encoded;
-mod piece;
 mod spelling;
 mod triplets;
 mod uris;

@@ -1,31 +1,16 @@
 // Triplet normal form, written run by run.
 ghost use Rattle.std.specs.Prelude.{◌≡◌, ◌<◌, ◌≤◌, true, false, not, MatchOption, length, slice_index, take};
+ghost use Rattle.std.specs.Bool.{OnTrue};
 ghost use Rattle.std.specs.Str.{IsUtf8};
 ghost use Rattle.iri_text.specs.Shown.{Shows};
 ghost use Rattle.iri_percent.specs.Units.{whole_triplets};
 ghost use Rattle.iri_percent.specs.Triplets.{normal};
-ghost use Rattle.iri_percent.specs.inside.Pieces.{case_of, stays, NoMark, MarkAt, Becomes, Rewrites, changes};
-ghost use Rattle.iri_grammar.specs.Characters.{percent_sign};
+ghost use Rattle.iri_percent.specs.inside.Pieces.{case_of, stays, NoMark, MarkAt, FirstMark, Becomes};
 
-use crate::character::decoded_char;
-use crate::piece::{Piece, write_piece};
+use crate::change::{Run, write_change};
 use iri_grammar::spec::Spec;
 use iri_text::{Stop, TextSink};
 use memchr::memchr;
-
-// So many bytes are rewritten.
-#[derive(Clone, Copy)]
-struct Change {
-    len: usize,
-    piece: Piece,
-}
-
-// So many bytes were read, and so many written for them.
-#[derive(Clone, Copy)]
-struct Run {
-    read: usize,
-    written: usize,
-}
 
 // Whether a change may begin with this byte.
 fn is_mark(b: u8, lower: bool) -> bool
@@ -34,14 +19,50 @@ fn is_mark(b: u8, lower: bool) -> bool
     b == b'%' || (lower && b.is_ascii_uppercase())
 }
 
-// Triplets often stand in a row: the next byte is looked at before the search begins.
+#[inline(always)]
+fn stay(w: u8, x: u8, y: u8, z: u8) -> bool
+    ensures { OnTrue result ((stays false w ≡ true) × (stays false x ≡ true) × (stays false y ≡ true) × (stays false z ≡ true)) }
+{
+    !is_mark(w, false) && !is_mark(x, false) && !is_mark(y, false) && !is_mark(z, false)
+}
+
+// How many bytes at the start have no `%`, told four at a time.
+fn past_fours(text: &[u8]) -> usize
+    ensures within { result ≤ length text.now }
+    ensures run { NoMark false text.now result }
+{
+    let mut i = 0;
+    'fours: while i + 4 <= text.len() {
+        if !stay(text[i], text[i + 1], text[i + 2], text[i + 3]) {
+            return i;
+        }
+        i += 4;
+    }
+    i
+}
+
+fn find_near_percent(text: &[u8]) -> Option<usize>
+    ensures { MatchOption result (NoMark false text.now (length text.now)) (λ i. MarkAt false text.now i) }
+{
+    let mut i = past_fours(text);
+    'bytes: while i < text.len() {
+        if is_mark(text[i], false) {
+            return Some(i);
+        }
+        i += 1;
+    }
+    None
+}
+
+// The parts of a reference are mostly short, and then a search by blocks isn't worth its call.
 fn find_percent(text: &[u8]) -> Option<usize>
     ensures { MatchOption result (NoMark false text.now (length text.now)) (λ i. MarkAt false text.now i) }
 {
-    if let [b'%', ..] = text {
-        return Some(0);
+    if text.len() < 32 {
+        find_near_percent(text)
+    } else {
+        memchr(b'%', text)
     }
-    memchr(b'%', text)
 }
 
 fn find_percent_or_capital(text: &[u8]) -> Option<usize>
@@ -55,7 +76,6 @@ fn find_percent_or_capital(text: &[u8]) -> Option<usize>
     None
 }
 
-// Where a change may begin.
 fn find_mark(text: &[u8], lower: bool) -> Option<usize>
     ensures { MatchOption result (NoMark lower text.now (length text.now)) (λ i. MarkAt lower text.now i) }
 {
@@ -66,78 +86,59 @@ fn find_mark(text: &[u8], lower: bool) -> Option<usize>
     }
 }
 
-fn in_case(c: char, lower: bool) -> char
-    ensures { result ≡ case_of lower c }
-{
-    if lower { c.to_ascii_lowercase() } else { c }
-}
-
-// The change at a triplet, which may write it as it stands.
-fn change_of_triplet<S: Spec>(text: &[u8], lower: bool) -> Change
-    requires { (whole_triplets text.now ≡ true) × (0 < length text.now) × (slice_index text.now 0 ≡ percent_sign) }
-    ensures { Rewrites S.tests lower text.now 0 result.len result.piece }
-{
-    match decoded_char::<S>(text) {
-        Some(c) => Change {
-            len: 3 * c.len_utf8(),
-            piece: Piece::Char(in_case(c, lower)),
-        },
-        None => Change {
-            len: 3,
-            piece: Piece::Triplet(text[1], text[2]),
-        },
-    }
-}
-
-// The change at the first byte, a `%` or a letter that is lowered.
-fn change_at<S: Spec>(text: &[u8], lower: bool) -> Change
-    requires { (whole_triplets text.now ≡ true) × (0 < length text.now)
-        × (stays lower (slice_index text.now 0) ≡ false) }
-    ensures { Rewrites S.tests lower text.now 0 result.len result.piece }
-{
-    let first = text[0];
-    if first == b'%' {
-        return change_of_triplet::<S>(text, lower);
-    }
-    Change {
-        len: 1,
-        piece: Piece::Char(char::from(first.to_ascii_lowercase())),
-    }
-}
-
-// The first change that writes something else, and where it begins.
-fn next_change<S: Spec>(text: &[u8], lower: bool) -> Option<(usize, Change)>
+// Where a change may begin, where one may. What stands in front of it stays.
+fn next_mark<S: Spec>(text: &[u8], lower: bool) -> Option<usize>
     requires { whole_triplets text.now ≡ true }
-    ensures { MatchOption result (normal S.tests (case_of lower) text.now ≡ text.now)
-        (λ c. Rewrites S.tests lower text.now c.0 c.1.len c.1.piece) }
+    ensures { MatchOption result (normal S.tests (case_of lower) text.now ≡ text.now) (λ i. FirstMark S.tests lower text.now i) }
 {
-    let mut at = 0;
-    while let Some(i) = find_mark(&text[at..], lower) {
-        at += i;
-        let change = change_at::<S>(&text[at..], lower);
-        if change.piece.changes() {
-            return Some((at, change));
-        }
-        at += change.len;
-    }
-    None
+    find_mark(text, lower)
 }
 
-// Gathers what is written from the first change on, up to a byte that stays or a full buffer.
-fn gather<S: Spec>(text: &[u8], at: usize, first: Change, lower: bool, buf: &mut [u8; 64]) -> Run
-    requires { Rewrites S.tests lower text.now at first.len first.piece }
+// Whether one more change is written: the buffer has room for it, and the text has a mark there.
+#[inline(always)]
+fn has_next(text: &[u8], at: usize, lower: bool, written: usize) -> bool
+    ensures { OnTrue result ((written ≤ 60) × (at < length text.now) × (stays lower (slice_index text.now at) ≡ false)) }
+{
+    written <= 60 && at < text.len() && is_mark(text[at], lower)
+}
+
+// Gathers what is written from the first mark on, up to a byte that stays or a full buffer: triplets that are in normal form too.
+#[inline(always)]
+fn gather_in<S: Spec>(text: &[u8], at: usize, lower: bool, buf: &mut [u8; 64]) -> Run
+    requires { (whole_triplets text.now ≡ true) × FirstMark S.tests lower text.now at }
     ensures becomes { Becomes S.tests lower text.now at result.read (take result.written buf.new) }
     ensures utf8 { IsUtf8 (take result.written buf.new) }
     ensures room { result.written ≤ 64 }
 {
-    let mut read = first.len;
-    let mut written = write_piece(first.piece, buf, 0);
-    while written <= 60 && at + read < text.len() && is_mark(text[at + read], lower) {
-        let change = change_at::<S>(&text[at + read..], lower);
-        written = write_piece(change.piece, buf, written);
-        read += change.len;
+    let mut run = Run {
+        read: 0,
+        written: 0,
+    };
+    'changes: loop {
+        let change = write_change::<S>(&text[at + run.read..], lower, buf, run.written);
+        run = Run {
+            read: run.read + change.read,
+            written: change.written,
+        };
+        if !has_next(text, at + run.read, lower, run.written) {
+            return run;
+        }
     }
-    Run { read, written }
+}
+
+// The loop is compiled for each case of its own.
+#[inline(never)]
+fn gather<S: Spec>(text: &[u8], at: usize, lower: bool, buf: &mut [u8; 64]) -> Run
+    requires { (whole_triplets text.now ≡ true) × FirstMark S.tests lower text.now at }
+    ensures becomes { Becomes S.tests lower text.now at result.read (take result.written buf.new) }
+    ensures utf8 { IsUtf8 (take result.written buf.new) }
+    ensures room { result.written ≤ 64 }
+{
+    if lower {
+        gather_in::<S>(text, at, true, buf)
+    } else {
+        gather_in::<S>(text, at, false, buf)
+    }
 }
 
 // Puts a run, which may be empty.
@@ -160,10 +161,10 @@ pub(crate) fn show_normal<S: Spec, W: TextSink>(
     ensures { Shows W.puts W.halts W.stops sink.old (normal S.tests (case_of lower) text.now) sink.new result }
 {
     let mut rest = text;
-    while let Some((at, change)) = next_change::<S>(rest.as_bytes(), lower) {
+    while let Some(at) = next_mark::<S>(rest.as_bytes(), lower) {
         put_run(sink, &rest[..at])?;
         let mut buf = [0u8; 64];
-        let run = gather::<S>(rest.as_bytes(), at, change, lower, &mut buf);
+        let run = gather::<S>(rest.as_bytes(), at, lower, &mut buf);
         sink.put(unsafe { str::from_utf8_unchecked(&buf[..run.written]) })?;
         rest = &rest[at + run.read..];
     }

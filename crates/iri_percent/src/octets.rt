@@ -1,6 +1,6 @@
 // Octets in triplets.
 ghost use Rattle.std.specs.Prelude.{◌≡◌, ◌<◌, ◌+◌, ◌∷◌, [], true, false, ◌&&◌, MatchOption, drop};
-ghost use Rattle.std.specs.Char.{is_ascii_hexdigit, digit_value};
+ghost use Rattle.std.specs.Char.{is_ascii_hexdigit, digit_value, to_ascii_uppercase};
 ghost use Rattle.iri_percent.specs.Units.{octet, octets};
 ghost use Rattle.iri_percent.specs.inside.Octets.{goes_on};
 
@@ -21,6 +21,44 @@ fn hex_value(digit: u8) -> Option<u8>
 {
     let value = VALUES[usize::from(digit)];
     if value < b'@' { Some(value % 16) } else { None }
+}
+
+// For each hex digit its capital form.
+static CAPITALS: [u8; 256] = *b"\
+    ................................\
+    ................0123456789......\
+    .ABCDEF.........................\
+    .ABCDEF.........................\
+    ................................\
+    ................................\
+    ................................\
+    ................................";
+
+// The capital form of a hex digit, by a table: an unpredictable branch costs more.
+#[inline(always)]
+pub(crate) fn capital(digit: u8) -> u8
+    requires { is_ascii_hexdigit digit ≡ true }
+    ensures { result ≡ to_ascii_uppercase digit }
+{
+    CAPITALS[usize::from(digit)]
+}
+
+#[inline(always)]
+fn value_of_digit(digit: u8) -> u8
+    requires { is_ascii_hexdigit digit ≡ true }
+    ensures value { result ≡ digit_value digit }
+    ensures below { result < 16 }
+{
+    VALUES[usize::from(digit)] % 16
+}
+
+// The octet that two hex digits spell.
+#[inline(always)]
+pub(crate) fn octet_of_digits(high: u8, low: u8) -> u8
+    requires { (is_ascii_hexdigit high ≡ true) × (is_ascii_hexdigit low ≡ true) }
+    ensures { result ≡ octet high low }
+{
+    value_of_digit(high) * 16 + value_of_digit(low)
 }
 
 fn octet(high: u8, low: u8) -> Option<u8>

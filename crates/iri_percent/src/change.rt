@@ -1,0 +1,186 @@
+// What a change of a text writes: a letter in lower case, a decoded character, or a triplet of capital digits.
+ghost use Rattle.std.specs.Prelude.{◌≡◌, ◌<◌, ◌≤◌, ◌+◌, ◌∷◌, ◌++◌, ◌&&◌, ◌==◌, not, [], true, false, cond, drop, length, slice_index, take};
+ghost use Rattle.std.specs.Char.{is_ascii_hexdigit, encode_utf8};
+ghost use Rattle.std.specs.Str.{IsUtf8};
+ghost use lib.Utf8.{next};
+ghost use Rattle.iri_percent.specs.Units.{whole_triplets};
+ghost use Rattle.iri_percent.specs.inside.Pieces.{case_of, octet_text, stays, Writes};
+ghost use Rattle.iri_grammar.specs.Characters.{percent_sign};
+
+use crate::character::char_past_ascii;
+use crate::octets::{capital, octet_of_digits};
+use iri_grammar::class::Class;
+use iri_grammar::spec::Spec;
+
+// So many bytes were read, and the buffer is written up to here.
+#[derive(Clone, Copy)]
+pub(crate) struct Run {
+    pub(crate) read: usize,
+    pub(crate) written: usize,
+}
+
+fn in_case(b: u8, lower: bool) -> u8
+    ensures { result ≡ case_of lower b }
+{
+    if lower { b.to_ascii_lowercase() } else { b }
+}
+
+fn put_two(buf: &mut [u8; 64], at: usize, x: u8, y: u8) -> usize
+    requires { at ≤ 60 }
+    ensures count { result ≡ at + 2 }
+    ensures text { take result buf.new ≡ take at buf.old ++ (x ∷ y ∷ []) }
+{
+    buf[at] = x;
+    buf[at + 1] = y;
+    at + 2
+}
+
+fn put_three(buf: &mut [u8; 64], at: usize, x: u8, y: u8, z: u8) -> usize
+    requires { at ≤ 60 }
+    ensures count { result ≡ at + 3 }
+    ensures text { take result buf.new ≡ take at buf.old ++ (x ∷ y ∷ z ∷ []) }
+{
+    buf[at] = x;
+    buf[at + 1] = y;
+    buf[at + 2] = z;
+    at + 3
+}
+
+fn put_four(buf: &mut [u8; 64], at: usize, w: u8, x: u8, y: u8, z: u8) -> usize
+    requires { at ≤ 60 }
+    ensures count { result ≡ at + 4 }
+    ensures text { take result buf.new ≡ take at buf.old ++ (w ∷ x ∷ y ∷ z ∷ []) }
+{
+    buf[at] = w;
+    buf[at + 1] = x;
+    buf[at + 2] = y;
+    buf[at + 3] = z;
+    at + 4
+}
+
+// The last octet of the UTF-8 of a character of this code.
+fn next_octet(code: u32) -> u8
+    ensures { result ≡ next code }
+{
+    (0x80 + code % 64) as u8
+}
+
+// Writes a character past ASCII (RFC 3629 section 3).
+#[inline(always)]
+fn write_char(c: char, buf: &mut [u8; 64], at: usize) -> usize
+    requires { (at ≤ 60) × (128 ≤ c) }
+    ensures within { result ≤ at + 4 }
+    ensures text { take result buf.new ≡ take at buf.old ++ encode_utf8 c }
+{
+    let code = u32::from(c);
+    if code < 0x800 {
+        return put_two(buf, at, (0xC0 + code / 64) as u8, next_octet(code));
+    }
+    if code < 0x1_0000 {
+        return put_three(
+            buf,
+            at,
+            (0xE0 + code / 4096) as u8,
+            next_octet(code / 64),
+            next_octet(code),
+        );
+    }
+    put_four(
+        buf,
+        at,
+        (0xF0 + code / 262_144) as u8,
+        next_octet(code / 4096),
+        next_octet(code / 64),
+        next_octet(code),
+    )
+}
+
+fn lead_of(decodes: bool, octet: u8) -> u8
+    ensures { result ≡ cond decodes octet percent_sign }
+{
+    if decodes { octet } else { b'%' }
+}
+
+fn len_of(decodes: bool) -> usize
+    ensures { result ≡ cond decodes 1 3 }
+{
+    if decodes { 1 } else { 3 }
+}
+
+// An octet alone: three bytes are written in either case, and counted where the triplet stays. So no branch depends on the octet.
+#[inline(always)]
+fn write_octet(octet: u8, high: u8, low: u8, lower: bool, buf: &mut [u8; 64], at: usize) -> usize
+    requires { (is_ascii_hexdigit high ≡ true) × (is_ascii_hexdigit low ≡ true) × (at ≤ 60) }
+    ensures within { result ≤ at + 3 }
+    ensures text { take result buf.new ≡ take at buf.old ++ octet_text lower octet high low }
+{
+    let decodes = Class::Unreserved.has_byte(octet);
+    buf[at] = lead_of(decodes, in_case(octet, lower));
+    buf[at + 1] = capital(high);
+    buf[at + 2] = capital(low);
+    at + len_of(decodes)
+}
+
+fn behind_triplet(text: &[u8]) -> &[u8]
+    requires { 3 ≤ length text.now }
+    ensures { result.now ≡ drop 3 text.now }
+{
+    &text[3..]
+}
+
+#[inline(always)]
+fn write_triplet<S: Spec>(text: &[u8], lower: bool, buf: &mut [u8; 64], at: usize) -> Run
+    requires { (whole_triplets text.now ≡ true) × (0 < length text.now) × (slice_index text.now 0 ≡ percent_sign) × (at ≤ 60) }
+    ensures writes { Writes S.tests lower text.now buf.old buf.new at result.read result.written }
+    ensures within { result.written ≤ at + 4 }
+{
+    let high = text[1];
+    let low = text[2];
+    let octet = octet_of_digits(high, low);
+    if octet >= 0xC0 {
+        if let Some(c) = char_past_ascii::<S>(octet, behind_triplet(text)) {
+            return Run {
+                read: 3 * c.len_utf8(),
+                written: write_char(c, buf, at),
+            };
+        }
+    }
+    Run {
+        read: 3,
+        written: write_octet(octet, high, low, lower, buf, at),
+    }
+}
+
+// Whether a mark is a letter and no `%`.
+fn is_letter(mark: u8, lower: bool) -> bool
+    ensures { result ≡ (lower && not (mark == percent_sign)) }
+{
+    lower && mark != b'%'
+}
+
+fn write_letter(letter: u8, buf: &mut [u8; 64], at: usize) -> Run
+    requires { at ≤ 60 }
+    ensures read { result.read ≡ 1 }
+    ensures within { result.written ≤ at + 4 }
+    ensures text { take result.written buf.new ≡ take at buf.old ++ (case_of true letter ∷ []) }
+{
+    buf[at] = letter.to_ascii_lowercase();
+    Run {
+        read: 1,
+        written: at + 1,
+    }
+}
+
+// Writes the change at the first byte, a `%` or a letter that is lowered, to the buffer from a place on.
+#[inline(always)]
+pub(crate) fn write_change<S: Spec>(text: &[u8], lower: bool, buf: &mut [u8; 64], at: usize) -> Run
+    requires { (whole_triplets text.now ≡ true) × (0 < length text.now)
+        × (stays lower (slice_index text.now 0) ≡ false) × (at ≤ 60) }
+    ensures writes { Writes S.tests lower text.now buf.old buf.new at result.read result.written }
+    ensures within { result.written ≤ at + 4 }
+{
+    if is_letter(text[0], lower) {
+        return write_letter(text[0], buf, at);
+    }
+    write_triplet::<S>(text, lower, buf, at)
+}
