@@ -20,7 +20,7 @@ use Rattle.iri_percent.proofs.CaseLaws.{is_decoded}
 use Rattle.iri_percent.proofs.Reading.{Reading, done, plain, char, lone, whole_plain, read}
 use Rattle.iri_percent.proofs.Stability.{as_it_is-case, upper_hex, upper_octet, upper_twice, encode_percent, unreserved_percent}
 use Rattle.iri_percent.proofs.Stability.{decoded_octets}
-use Rattle.iri_resolve.proofs.TextLaws.{text_over-append}
+use Rattle.iri_grammar.proofs.UnitRuns.{text_over-append}
 use Rattle.iri_resolve.specs.Changes.{is_small_digit, with_capital_digit, with_character, with_decoded}
 use Rattle.iri_percent.proofs.SeamLaws.{leads, normal-seam, whole-percent}
 use Rattle.iri_resolve.proofs.ByteLaws.{capital_digit, IsAsGood, byte_change-over, text_over-percent, text_over-behind}

@@ -31,13 +31,6 @@ too_short (x ∷ []) l = elim (x == 47) as (λ b. any_dot_segment (more_pieces 4
 ]
 too_short (x ∷ y ∷ xs) l = absurd (omega arith)
 
--- or from slash to slash
-pub slash_at : (t r : List ℕ) → behind 47 t ≡ Some r → dots_behind t ≡ (dots_in_front r || dots_behind r)
-slash_at t r e = ap (λ o. any_dot_segment (more_pieces 47 o)) e ∙ first_or_behind r
-
-pub no_slash : (t : List ℕ) → behind 47 t ≡ None → dots_behind t ≡ false
-no_slash t e = ap (λ o. any_dot_segment (more_pieces 47 o)) e
-
 -- ---- what begins a dot
 no_dot : (x : ℕ) (xs : List ℕ) → (x == 46) ≡ false → (x == 37) ≡ false → behind_dot (x ∷ xs) ≡ None
 no_dot x [] h k = rw h refl
@@ -98,7 +91,7 @@ dot_cut (x ∷ xs) =
     refl)
     refl
 
-plain_front : (x : ℕ) (xs : List ℕ) → (x == 46) ≡ false → (x == 37) ≡ false → is_dot_segment (before 47 (x ∷ xs)) ≡ false
+pub plain_front : (x : ℕ) (xs : List ℕ) → (x == 46) ≡ false → (x == 37) ≡ false → is_dot_segment (before 47 (x ∷ xs)) ≡ false
 unfolding is_dot_segment
 plain_front x xs h k = ap is_dot_segment_behind (dot_cut (x ∷ xs) ∙ ap cut_rest (no_dot x xs h k))
 

@@ -12,6 +12,8 @@ pub mod BeginLemmas
 pub mod Borrowed
 pub mod CanonLemmas
 pub mod DotLemmas
+pub mod LaneLemmas
+pub mod LastDotLemmas
 pub mod Edits
 pub mod Replayed
 pub mod MapPaths

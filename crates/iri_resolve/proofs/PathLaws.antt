@@ -19,7 +19,8 @@ use Rattle.iri_resolve.specs.Dots.{is_dot_segment}
 use Rattle.iri_resolve.specs.DotRemoval.{is_two_dots, without_last, closed, remove_behind, remove_dots, path_text, dots}
 use Rattle.iri_resolve.specs.Guard.{guard}
 use Rattle.iri_resolve.specs.NormalForm.{normal_path}
-use Rattle.iri_resolve.proofs.TextLaws.{nothing_over, slash_over, point_over, text_over-append, text_over-cut}
+use Rattle.iri_grammar.proofs.UnitRuns.{text_over-append}
+use Rattle.iri_resolve.proofs.TextLaws.{nothing_over, slash_over, point_over, text_over-cut}
 use Rattle.iri_resolve.proofs.TargetLaws.{slash_in_path}
 use Rattle.iri_resolve.specs.LowerCase.{where_there}
 use Rattle.iri_resolve.proofs.PieceLaws.{nothing-is_no_dot, pieces-some}

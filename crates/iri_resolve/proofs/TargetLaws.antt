@@ -9,7 +9,8 @@ use Rattle.iri_grammar.specs.Cut.{lacks, before}
 use Rattle.iri_grammar.proofs.CutLaws.{both, by_test}
 use Rattle.iri_grammar.specs.Parts.{Parts, Fits, path_rules, is_empty, starts_with_slash, starts_with_slashes}
 use Rattle.iri_resolve.specs.Target.{target, target_under, target_path, merged, merge_prefix, to_last_slash, or_base}
-use Rattle.iri_resolve.proofs.TextLaws.{text_over-append, text_over-cut, nothing_over, slash_over}
+use Rattle.iri_grammar.proofs.UnitRuns.{text_over-append}
+use Rattle.iri_resolve.proofs.TextLaws.{text_over-cut, nothing_over, slash_over}
 
 -- ---- a path up to its last slash
 -- it is nothing, or a text with a slash behind it

@@ -11,19 +11,6 @@ use Rattle.iri_grammar.specs.Over.{over_from, over, text_over}
 use Rattle.iri_grammar.proofs.CutLaws.{both, by_test}
 use Rattle.iri_grammar.proofs.AuthorityTexts.{one_byte-utf8, text_over-utf8}
 
-pub over-append : (p : ℕ → Bool) (n : ℕ) (xs ys : List ℕ) → over_from p n xs ≡ true → over_from p 0 ys ≡ true
-    → over_from p n (xs ++ ys) ≡ true
-unfolding over_from
-over-append p zero [] ys h k = k
-over-append p (suc n) [] ys h k = cc
-over-append p zero (x ∷ xs) ys h k =
-    by_test x 37 (λ b. cond b (over_from p 2 xs) (p x && over_from p 0 xs) ≡ true
-    → cond b (over_from p 2 (xs ++ ys)) (p x && over_from p 0 (xs ++ ys)) ≡ true)
-    (λ _ l. over-append p 2 xs ys l k)
-    (λ _ l. let r = both (p x) (over_from p 0 xs) l in rw r.0 (over-append p 0 xs ys r.1 k))
-    h
-over-append p (suc n) (x ∷ xs) ys h k = let r = both (is_ascii_hexdigit x) (over_from p n xs) h in rw r.0 (over-append p n xs ys r.1 k)
-
 -- what is over the class on both sides of a slash
 pub record Sides (p : ℕ → Bool) (n : ℕ) (xs ys : List ℕ) : Type 0 where
   pub left : over_from p n xs ≡ true
@@ -77,13 +64,6 @@ is_utf8-of p xs u h = rw (is_utf8-from_IsUtf8 xs u) h
 
 pub over-of : (p : ℕ → Bool) (xs : List ℕ) → text_over p xs ≡ true → over p (chars xs) ≡ true
 over-of p xs h = (both (is_utf8 xs) (over p (chars xs)) h).1
-
-pub text_over-append : (p : ℕ → Bool) (xs ys : List ℕ) → text_over p xs ≡ true → text_over p ys ≡ true → text_over p (xs ++ ys) ≡ true
-text_over-append p xs ys h k =
-    let u = text_over-utf8 p xs h in
-    let e = chars-append xs ys u in
-    is_utf8-of p (xs ++ ys) (IsUtf8-append xs ys u (text_over-utf8 p ys k))
-    (rw e (over-append p 0 (chars xs) (chars ys) (over-of p xs h) (over-of p ys k)))
 
 pub record TextSides (p : ℕ → Bool) (xs ys : List ℕ) : Type 0 where
   pub left : text_over p xs ≡ true

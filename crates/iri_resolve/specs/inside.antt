@@ -4,6 +4,7 @@ pub mod Comparison
 pub mod ComponentSteps
 pub mod DotSearch
 pub mod LookBack
+pub mod LastDots
 pub mod NormalSteps
 pub mod PartTexts
 pub mod Unchanged

@@ -11,10 +11,11 @@ ghost use Rattle.iri_resolve.specs.Resolver.{base_text};
 
 use crate::mode::CanonMode;
 use crate::resolver::FixedBaseResolver;
+use crate::unchanged::show_behind;
 use iri_grammar::error::Error as GrammarError;
 use iri_grammar::spec::Spec;
 use iri_owned::owned::RiString;
-use iri_text::{Show, Stop, TextSink, ToDedicatedString, show_three};
+use iri_text::{Show, Stop, TextSink, ToDedicatedString};
 use iri_types::kind::Reference;
 use iri_types::split::SplitView;
 use iri_types::view::RiAbsoluteStr;
@@ -61,7 +62,7 @@ pub fn show_canonical_in<'a, S: Spec, W: TextSink>(
     if let CanonMode::Default = mode {
         if let Some(before) = resolver.before_unchanged(reference) {
             let text = reference.view().as_str();
-            return show_three(sink, &before.prefix, &before.front, &text);
+            return show_behind(sink, before.prefix, before.front, text);
         }
     }
     resolver

@@ -1,14 +1,14 @@
 // Dot segments.
-ghost use Rattle.std.specs.Prelude.{◌≡◌, ◌≤◌, MatchOption, length, true};
-ghost use Rattle.iri_grammar.specs.Cut.{before, behind};
+ghost use Rattle.std.specs.Prelude.{◌≡◌, ◌<◌, ◌≤◌, ◌+◌, ℕ, MatchOption, length, slice_index, false, true};
+ghost use Rattle.iri_grammar.specs.Cut.{before};
 ghost use Rattle.iri_grammar.specs.Parts.{is_empty};
 ghost use Rattle.iri_grammar.specs.OptionalSlices.{now_of};
 ghost use Rattle.iri_resolve.specs.Dots.{behind_dot, is_dot_segment, has_dot_segment};
 ghost use Rattle.iri_resolve.specs.DotRemoval.{is_two_dots};
-ghost use Rattle.iri_resolve.specs.inside.DotSearch.{dots_in_front, slash_and_dots, dots_behind};
+ghost use Rattle.iri_resolve.specs.inside.DotSearch.{begins_plain, dots_in_front, slash_and_dots, dots_behind};
 ghost use Rattle.iri_grammar.specs.Characters.{slash};
 
-use memchr::memchr;
+use std::simd::prelude::*;
 
 /// What follows a dot at the start, in any spelling.
 pub(crate) fn behind_dot(s: &[u8]) -> Option<&[u8]>
@@ -109,31 +109,31 @@ fn has_dots_by_pairs(path: &[u8]) -> bool
     }
 }
 
-// What follows the first slash.
-fn behind_slash(path: &[u8]) -> Option<&[u8]>
-    ensures { now_of result ≡ behind slash path.now }
+// Whether what begins a dot stands behind a slash of the first eight bytes.
+#[inline(always)]
+fn has_slash_and_dot(path: &[u8]) -> bool
+    requires { 9 ≤ length path.now }
+    ensures { result ≡ false → (k : ℕ) → k < 8 → begins_plain (slice_index path.now k) (slice_index path.now (k + 1)) ≡ true }
 {
-    let i = memchr(b'/', path)?;
-    Some(&path[i + 1..])
+    let next = u8x8::from_slice(&path[1..]);
+    let slashes = u8x8::from_slice(path).simd_eq(u8x8::splat(b'/'));
+    let dots = next.simd_eq(u8x8::splat(b'.')) | next.simd_eq(u8x8::splat(b'%'));
+    (slashes & dots).any()
 }
 
-// The same; behind each 16 bytes of a longer path `memchr` finds the next slash, so that neither short segments nor long ones cost
-// much.
+// Whether a dot segment stands behind a slash of the path. Eight bytes at a time are passed where no dot begins behind a slash.
 fn has_dots_behind(path: &[u8]) -> bool
     ensures { result ≡ dots_behind path.now }
 {
     let mut rest = path;
-    'slashes: while rest.len() >= 32 {
-        match past_pairs(rest, rest.len() - 16) {
+    'lanes: while rest.len() > 8 {
+        if !has_slash_and_dot(rest) {
+            rest = &rest[8..];
+            continue;
+        }
+        match past_pairs(rest, rest.len() - 8) {
             Some(near) => rest = near,
             None => return true,
-        }
-        match behind_slash(rest) {
-            Some(next) => rest = next,
-            None => return false,
-        }
-        if begins_with_dot_segment(rest) {
-            return true;
         }
     }
     has_dots_by_pairs(rest)

@@ -131,6 +131,7 @@ fn show_marked<S: Spec, W: TextSink>(
 }
 
 // Query and fragment.
+#[inline(always)]
 fn show_tail<S: Spec, W: TextSink>(
     sink: &mut W,
     target: &TargetSlices<'_>,
@@ -166,6 +167,7 @@ pub(crate) fn becomes_slash(target: &TargetSlices<'_>, dropped: Option<&str>) ->
 }
 
 // The path, or `/` in the place of an empty one.
+#[inline(always)]
 fn show_path_or_slash<S: Spec, W: TextSink>(
     sink: &mut W,
     target: &TargetSlices<'_>,
@@ -187,6 +189,7 @@ fn show_path_or_slash<S: Spec, W: TextSink>(
 }
 
 // Path, query and fragment.
+#[inline(always)]
 fn show_from_path<S: Spec, W: TextSink>(
     sink: &mut W,
     target: &TargetSlices<'_>,
@@ -252,6 +255,7 @@ pub fn show_form<S: Spec, W: TextSink>(
 
 /// The same in a mode without scheme rules, with a prefix that was put into the mode before.
 #[tactic(auto, unfolding(crate::specs::NormalForm::form, iri_grammar::specs::Parts::recompose))]
+#[inline(always)]
 pub fn show_behind<S: Spec, W: TextSink>(
     sink: &mut W,
     prefix: &str,

@@ -16,15 +16,18 @@ ghost use Rattle.iri_resolve.specs.NormalForm.{is_unresolvable, normal_path, pat
 ghost use Rattle.iri_resolve.specs.PathForm.{in_form};
 ghost use Rattle.iri_resolve.specs.Slices.{slices, is_cut_at_segment};
 ghost use Rattle.iri_resolve.specs.Target.{ends_at_slash};
+ghost use Rattle.iri_resolve.specs.inside.LastDots.{kind_of};
 ghost use Rattle.iri_text.specs.Shown.{Shows};
 ghost use Rattle.iri_grammar.specs.Characters.{slash};
 
+use self::kinds::{is_ordinary, kind_of, removing, removing_at};
 use self::runs::last_run;
+use self::segment_kind::SegmentKind;
 use self::segments::{
-    begins_with_slash, behind_front_dots, first_segments, halves, removed, removing, split_last,
+    begins_with_slash, behind_front_dots, first_segments, halves, removed, split_last,
     without_last_segments,
 };
-use crate::dots::{has_dot_segment, is_dot_segment};
+use crate::dots::has_dot_segment;
 use crate::mode::Mode;
 use crate::target::TargetSlices;
 use iri_grammar::cutting::cut;
@@ -32,11 +35,14 @@ use iri_grammar::spec::Spec;
 use iri_percent::PctCaseNormalized;
 use iri_text::{Show, Stop, TextSink};
 
+mod kinds;
+mod last_dots;
 mod runs;
+mod segment_kind;
 mod segments;
 
 // How many bytes a text has at most that is gone through once: calls go as deep as it has runs of segments that stay.
-const SHORT: usize = 512;
+const SHORT: usize = 1024;
 
 /// A part, its triplets in normal form where that is asked for.
 pub fn show_part<S: Spec, W: TextSink>(sink: &mut W, part: &str, normal: bool) -> Result<(), Stop>
@@ -150,18 +156,19 @@ fn show_from_first<S: Spec, W: TextSink>(
     }
 }
 
-// Whether two texts are gone through once: the second is short, and no dot segment stands in the first.
+// Whether two texts are gone through once: the second is short, and the first has segments and no dot segment.
 fn are_short(front: &str, text: &str) -> bool
-    ensures { result ≡ true → has_dot_segment front.now ≡ false }
+    ensures { result ≡ true → (0 < length front.now) × (has_dot_segment front.now ≡ false) }
 {
-    if text.len() <= SHORT {
-        !has_dot_segment(front)
-    } else {
+    if front.is_empty() || text.len() > SHORT {
         false
+    } else {
+        !has_dot_segment(front)
     }
 }
 
 // The segments of two texts, without the dot segments at their start.
+#[inline(always)]
 fn show_two<S: Spec, W: TextSink>(
     sink: &mut W,
     front: &str,
@@ -178,26 +185,32 @@ fn show_two<S: Spec, W: TextSink>(
         (in_form S.tests normal (kept_from_first
         (behind_front_dots (ended front.now ++ ended text.now)) count)) sink.new result }
 {
+    if are_short(front, text) {
+        return show_short::<S, W>(sink, front, text, count, normal);
+    }
     let front = behind_front_dots(front);
     if front.is_empty() {
         return show_from_first::<S, W>(sink, behind_front_dots(text), count, normal);
-    }
-    if are_short(front, text) {
-        return show_short::<S, W>(sink, front, text, count, normal);
     }
     show_from_first::<S, W>(sink, front, removed(text, count), normal)?;
     show_segments::<S, W>(sink, text, count, normal)
 }
 
 // The last segment of a path, behind its last slash.
-fn show_last<S: Spec, W: TextSink>(sink: &mut W, segment: &str, normal: bool) -> Result<(), Stop>
-    requires { whole_triplets segment.now ≡ true }
+fn show_last<S: Spec, W: TextSink>(
+    sink: &mut W,
+    segment: &str,
+    kind: SegmentKind,
+    normal: bool,
+) -> Result<(), Stop>
+    requires whole { whole_triplets segment.now ≡ true }
+    requires kind { kind ≡ kind_of segment.now }
     ensures { Shows W.puts W.halts W.stops sink.old (in_form S.tests normal (kept_last segment.now)) sink.new result }
 {
-    if is_dot_segment(segment) {
-        Ok(())
-    } else {
+    if is_ordinary(kind) {
         show_part::<S, W>(sink, segment, normal)
+    } else {
+        Ok(())
     }
 }
 
@@ -214,8 +227,9 @@ fn show_pieces<S: Spec, W: TextSink>(
         (in_form S.tests normal (dots (front.now ++ path.now))) sink.new result }
 {
     let (text, last) = split_last(path);
-    show_two::<S, W>(sink, front, text, removing(last, 0), normal)?;
-    show_last::<S, W>(sink, last, normal)
+    let kind = kind_of(last);
+    show_two::<S, W>(sink, front, text, removing_at(kind, 0), normal)?;
+    show_last::<S, W>(sink, last, kind, normal)
 }
 
 // A path in two pieces as it stands.
@@ -242,6 +256,7 @@ fn has_dots(front: &str, path: &str) -> bool
 }
 
 /// A path in two pieces, cut where a segment ends or with nothing behind the cut, without its dot segments.
+#[inline(always)]
 pub fn show_without_dots<S: Spec, W: TextSink>(
     sink: &mut W,
     front: &str,
@@ -333,6 +348,7 @@ fn is_guarded(front: &str, path: &str, authority_stands: bool) -> bool
 
 /// A path in two pieces, cut where a segment ends or with nothing behind the cut, without its dot segments, and with `/.` before
 /// it where it would be read as an authority.
+#[inline(always)]
 pub fn show_guarded<S: Spec, W: TextSink>(
     sink: &mut W,
     front: &str,
@@ -364,6 +380,7 @@ fn is_rooted(front: &str, path: &str) -> bool
 }
 
 /// Shows the path of a target in normal form. It takes no memory.
+#[inline(always)]
 pub fn show_normal_path<S: Spec, W: TextSink>(
     sink: &mut W,
     target: &TargetSlices<'_>,
@@ -409,6 +426,7 @@ fn show_plain<S: Spec, W: TextSink>(
 }
 
 /// Shows the path of a target in a mode. It takes no memory.
+#[inline(always)]
 pub fn show_path<S: Spec, W: TextSink>(
     sink: &mut W,
     target: &TargetSlices<'_>,

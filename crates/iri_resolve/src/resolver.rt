@@ -115,6 +115,7 @@ impl<'a, S: Spec> FixedBaseResolver<'a, S> {
     }
 
     // The target of a reference, as slices of the base and the reference.
+    #[inline(always)]
     pub(crate) fn slices(&self, reference: &SplitView<'a, S, Reference>) -> TargetSlices<'a>
         ensures cut { is_cut_at_segment result ≡ true }
         ensures fits { Fits S.tests (slices result) }
@@ -125,6 +126,7 @@ impl<'a, S: Spec> FixedBaseResolver<'a, S> {
     }
 
     // The prefix of a reference's target, where it is the base's and in normal form.
+    #[inline(always)]
     fn prefix(&self, reference: &SplitView<'a, S, Reference>) -> Option<&'a str>
         ensures { IsPrefix S.tests (target (split_of (base_text self.now)) (split_of (split_text reference.now)))
             (now_of result) }
@@ -204,6 +206,7 @@ impl<'a, S: Spec> FixedBaseResolver<'a, S> {
     }
 
     /// The same of a reference that was cut into its parts before.
+    #[inline(always)]
     pub fn resolve_split(&self, reference: &SplitView<'a, S, Reference>) -> Normalized<'a, S>
         ensures { written result ≡ record {
           parts = target (split_of (base_text self.now))

@@ -122,6 +122,7 @@ fn under_scheme<'a>(scheme: Option<&'a str>, reference: &Splitter<'a>) -> Target
 /// The target of a reference against a base (RFC 3986 sections 5.2.2 and 5.2.3), with its dots kept. `front` is the base's, by
 /// `merge_prefix`.
 #[tactic(auto, unfolding(crate::specs::Target::target))]
+#[inline(always)]
 pub fn target<'a>(base: &Splitter<'a>, front: &'a str, reference: &Splitter<'a>) -> TargetSlices<'a>
     requires prefix { front.now ≡ merge_prefix (parts base.now) }
     requires ends { ends_at_slash front.now ≡ true }

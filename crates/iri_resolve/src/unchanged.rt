@@ -1,17 +1,19 @@
 // References that end their canonical text as they stand: nothing in them changes.
-ghost use Rattle.std.specs.Prelude.{◌≡◌, false, true};
+ghost use Rattle.std.specs.Prelude.{◌≡◌, ◌++◌, false, true};
 ghost use Rattle.iri_grammar.specs.OptionalSlices.{now_of};
 ghost use Rattle.iri_grammar.specs.Splitters.{parts};
 ghost use Rattle.iri_percent.specs.NormalHost.{normal_authority};
 ghost use Rattle.iri_resolve.specs.LowerCase.{lowered, where_there};
 ghost use Rattle.iri_resolve.specs.Prefix.{prefix_in};
 ghost use Rattle.iri_resolve.specs.inside.Unchanged.{IsPlainReference, lacks_triplets_and_dots};
+ghost use Rattle.iri_text.specs.Shown.{Shows};
 
 use crate::dots::has_dot_segment;
 use iri_grammar::cutting::lacks;
 use iri_grammar::spec::Spec;
 use iri_grammar::splitter::Splitter;
 use iri_percent::is_plain as is_plain_text;
+use iri_text::{Stop, TextSink};
 
 /// What stands before such a reference: the prefix of the base and the path that relative ones are put behind, or nothing.
 #[derive(Clone, Copy)]
@@ -31,7 +33,7 @@ pub(crate) fn lacks_triplets_and_dots(text: &str, path: &str) -> bool
 pub(crate) fn is_plain_reference(reference: &Splitter<'_>) -> bool
     ensures { result ≡ true → IsPlainReference (parts reference.now) }
 {
-    reference.is_plain() && !has_dot_segment(reference.path())
+    reference.lacks_triplets() && !has_dot_segment(reference.path())
 }
 
 fn keeps_scheme(scheme: Option<&str>) -> bool
@@ -67,4 +69,30 @@ pub(crate) fn keeps_prefix<S: Spec>(reference: &Splitter<'_>) -> bool
     ensures { result ≡ true → prefix_in S.tests true (parts reference.now) ≡ prefix_in S.tests false (parts reference.now) }
 {
     keeps_scheme(reference.scheme()) && keeps_authority::<S>(reference.authority())
+}
+
+// A text, where it isn't empty.
+#[inline(always)]
+fn show_some<W: TextSink>(sink: &mut W, text: &str) -> Result<(), Stop>
+    ensures { Shows W.puts W.halts W.stops sink.old text.now sink.new result }
+{
+    if text.is_empty() {
+        return Ok(());
+    }
+    sink.put(text)
+}
+
+/// Shows a text behind what stands before it, of which one or both are often empty.
+#[inline(always)]
+pub(crate) fn show_behind<W: TextSink>(
+    sink: &mut W,
+    prefix: &str,
+    front: &str,
+    text: &str,
+) -> Result<(), Stop>
+    ensures { Shows W.puts W.halts W.stops sink.old (prefix.now ++ (front.now ++ text.now)) sink.new result }
+{
+    show_some(sink, prefix)?;
+    show_some(sink, front)?;
+    sink.put(text)
 }

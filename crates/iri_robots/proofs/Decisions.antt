@@ -1,5 +1,5 @@
 -- What rules say is decided by the function.
-use Rattle.std.proofs.Common.{◌≡◌, ◌≢◌, ◌↔◌, ℕ, ◌≤◌, Bool, true, false, cond, ◌||◌, ◌&&◌, max, ◌⊎◌, List, [], ◌∷◌, length, Option, Some, None}
+use Rattle.std.proofs.Common.{◌≡◌, ◌≢◌, ◌↔◌, ℕ, ◌≤◌, Bool, true, false, cond, ◌||◌, ◌&&◌, ◌⊎◌, List, [], ◌∷◌, length, Option, Some, None}
 use Rattle.std.proofs.Common.{refl, sym, ◌∙◌, ap, subst, inl, inr, arith, eq-eqb}
 use Rattle.std.specs.Prelude.{◌==◌, codes, filter}
 use Rattle.std.specs.List.{list_any}
@@ -9,10 +9,10 @@ use Rattle.std.proofs.lemmas.Bool.Decides.{eqb_tells}
 use Rattle.std.proofs.lemmas.Slice.Eq.{bytes_eq-Decides}
 use Rattle.iri_robots.specs.Records.{FileRule}
 use Rattle.iri_robots.specs.Patterns.{is_anchored, without_anchor, IsFilledBy, Matches}
-use Rattle.iri_robots.specs.Allowed.{IsAmong, first, later as among_later, NoneMatches, IsLongest, IsAllowed, robots_file, no_rule, by_rule}
-use Rattle.iri_robots.specs.Decided.{Piece, AnyText, Escape, Character, mark_of, piece_of, pieces, some_suffix, begins, ends, fills, is_match}
+use Rattle.iri_robots.specs.Allowed.{IsAmong, first, later as among_later, IsLongest, IsAllowed, robots_file, no_rule, by_rule}
+use Rattle.iri_robots.specs.Decided.{Piece, AnyText, Escape, Character, mark_of, piece_of, pieces, some_suffix, begins, fills, is_match}
 use Rattle.iri_robots.specs.Decided.{matching, most_bytes, longest_allow, allow, is_allowed}
-use Rattle.iri_robots.specs.inside.Fits.{IsEscape, star_escape, dollar_escape, Fits, ended, star, escaped, same, IsSuffix, whole, later, NoEscape}
+use Rattle.iri_robots.specs.inside.Fits.{IsEscape, star_escape, dollar_escape, Fits, ended, escaped, same, IsSuffix, whole, later, NoEscape}
 use Rattle.iri_robots.proofs.Moves.{fits_end, fits_star, star_fits, FitsEscape, by_mark, by_triplet, fits_escape, triplet_fits, same_front}
 use Rattle.iri_robots.proofs.Anchors.{fits_filling, filling_fits, fits_prefix, prefix_fits}
 

@@ -1,26 +1,25 @@
 -- The compared form, from the left.
-use Rattle.std.proofs.Common.{◌≡◌, ℕ, ◌<◌, ◌≤◌, Bool, true, false, ◌&&◌, ◌||◌, List, [], ◌∷◌, ◌++◌, Option, Some, None, length, drop}
+use Rattle.std.proofs.Common.{◌≡◌, ℕ, ◌<◌, ◌≤◌, Bool, true, false, ◌&&◌, ◌||◌, List, [], ◌∷◌, ◌++◌, Some, None, length, drop}
 use Rattle.std.proofs.Common.{get_or, map}
 use Rattle.std.proofs.Common.{refl, sym, ◌∙◌, ap, subst, arith, append_assoc, append-nil}
 use Rattle.std.specs.Prelude.{◌==◌, ◌/◌, ◌%◌, nat_lt}
 use Rattle.std.specs.Char.{is_ascii_hexdigit, to_ascii_uppercase, encode_utf8}
-use lib.Utf8.{scalar}
 use Rattle.std.proofs.lemmas.Str.{encode_ascii}
 use Rattle.std.proofs.lemmas.Bool.Decides.{nat_tests}
 use Rattle.iri_grammar.specs.Classes.{uri_tests, unreserved, is_ascii_unreserved}
-use Rattle.iri_percent.specs.Units.{octet, octets, two_digits, first_char}
+use Rattle.iri_percent.specs.Units.{octet, octets, two_digits}
 use Rattle.iri_percent.specs.Triplets.{normal, as_it_is}
 use Rattle.iri_percent.specs.ByteForm.{all_written}
 use Rattle.iri_percent.specs.Mapping.{capital_hex, triplet, mapped}
-use Rattle.iri_percent.specs.NormalLaws.{decoded, unreserved_only}
-use Rattle.iri_percent.proofs.CaseLaws.{is_decoded}
+use Rattle.iri_percent.specs.NormalLaws.{decoded}
+use Rattle.iri_percent.proofs.Changes.{upper_digit}
 use Rattle.iri_percent.proofs.CharLaws.{normal-by_bytes}
 use Rattle.iri_percent.proofs.CharUnits.{units_stray}
 use Rattle.iri_percent.proofs.MapForms.{unreserved_ascii, low_scalar, ascii-decoded, uri-decoded}
 use Rattle.iri_percent.proofs.MapTexts.{mapped-low, mapped-high, mapped-triplet, capital_is_hex, first_digit, second_digit}
 use Rattle.iri_percent.proofs.MapTexts.{octet_of}
 use Rattle.iri_percent.proofs.NormalLaws.{normal_nil, normal_plain, normal_decoded, normal_kept}
-use Rattle.iri_percent.proofs.UnitLaws.{Spells, none, more, octets_triplet, char_first}
+use Rattle.iri_percent.proofs.UnitLaws.{Spells, none, more, octets_triplet}
 use Rattle.iri_robots.specs.Compared.{compared}
 use Rattle.iri_robots.specs.inside.Fronts.{IsFront, written_text}
 use Rattle.iri_robots.specs.declared.compared.Written.TheVariants.{Char, Triplet}
@@ -201,9 +200,6 @@ front_decoded (x ∷ a ∷ b ∷ xs) c s e p q h = subst (λ y. IsFront (y ∷ a
       digits = tt;
     }
 
-capital_below : (a : ℕ) → is_ascii_hexdigit a ≡ true → to_ascii_uppercase a < 128
-capital_below a h = grind (arith, nat_tests)
-
 pub front_kept : (t : List ℕ) → 3 ≤ length t → get_or t 0 0 ≡ 37 → is_ascii_hexdigit (get_or t 1 0) ≡ true
     → is_ascii_hexdigit (get_or t 2 0) ≡ true → decoded uri_tests (octets t) ≡ None
     → IsFront t (Triplet (to_ascii_uppercase (get_or t 1 0)) (to_ascii_uppercase (get_or t 2 0))) 3
@@ -216,7 +212,7 @@ front_kept (x ∷ a ∷ b ∷ xs) s e p q h = subst (λ y. IsFront (y ∷ a ∷ 
           ∙ ap (λ y. decoded uri_tests (octets (y ∷ a ∷ b ∷ xs))) (sym e) ∙ h));
       within = omega arith;
       some = omega arith;
-      digits = (capital_below a p, capital_below b q);
+      digits = (upper_digit a p, upper_digit b q);
     })
 
 -- where no two digits follow

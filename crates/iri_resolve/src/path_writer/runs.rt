@@ -1,22 +1,24 @@
 // Segments that stay side by side, found from the end of a text.
-ghost use Rattle.std.specs.Prelude.{◌≡◌, ◌==◌, ◌<◌, ◌≤◌, ◌+◌, ◌^◌, ◌++◌, ◌&&◌, not, true, length, drop};
+ghost use Rattle.std.specs.Prelude.{◌≡◌, ◌==◌, ◌<◌, ◌≤◌, ◌+◌, ◌^◌, ◌++◌, ◌&&◌, true, length, drop};
 ghost use Rattle.iri_percent.specs.Units.{whole_triplets};
-ghost use Rattle.iri_resolve.specs.Dots.{is_dot_segment};
 ghost use Rattle.iri_resolve.specs.Kept.{ended, kept, removed};
 ghost use Rattle.iri_resolve.specs.Target.{ends_at_slash};
+ghost use Rattle.iri_resolve.specs.inside.LastDots.{is_ordinary};
 
-use super::segments::{cut_last, removing};
-use crate::dots::is_dot_segment;
+use super::kinds::{is_ordinary, removing_at};
+use super::segment_kind::SegmentKind;
+use super::segments::last_segment;
 
-// Whether a segment stays, where `count` are removed in front of what follows it.
-fn stays(segment: &str, count: usize) -> bool
-    ensures { result ≡ (count == 0 && not (is_dot_segment segment.now)) }
+// Whether a segment of this kind stays, where `count` are removed in front of what follows it.
+fn stays(kind: SegmentKind, count: usize) -> bool
+    ensures { result ≡ (count == 0 && is_ordinary kind) }
 {
-    count == 0 && !is_dot_segment(segment)
+    count == 0 && is_ordinary(kind)
 }
 
 // What stands before the last segment that stays, the text up to and with that segment, and how many segments are removed in front
 // of them. Where none stays, both texts are empty.
+#[inline(always)]
 fn last_kept(text: &str, count: usize) -> (&str, &str, usize)
     requires ends { ends_at_slash text.now ≡ true }
     requires whole { whole_triplets text.now ≡ true }
@@ -34,17 +36,18 @@ fn last_kept(text: &str, count: usize) -> (&str, &str, usize)
     let mut rest = text;
     let mut pending = count;
     'segments: while !rest.is_empty() {
-        let (front, segment) = cut_last(rest);
-        if stays(segment, pending) {
+        let (front, _, kind) = last_segment(rest);
+        if stays(kind, pending) {
             return (front, rest, 0);
         }
-        pending = removing(segment, pending);
+        pending = removing_at(kind, pending);
         rest = front;
     }
     ("", "", pending)
 }
 
 // What stands before the segments at the end of a text that are no dot segments.
+#[inline(always)]
 fn before_run(text: &str) -> &str
     requires ends { ends_at_slash text.now ≡ true }
     ensures front { text.now ≡ result.now ++ drop (length result.now) text.now }
@@ -54,8 +57,8 @@ fn before_run(text: &str) -> &str
 {
     let mut rest = text;
     'segments: while !rest.is_empty() {
-        let (front, segment) = cut_last(rest);
-        if is_dot_segment(segment) {
+        let (front, _, kind) = last_segment(rest);
+        if !is_ordinary(kind) {
             return rest;
         }
         rest = front;
@@ -73,6 +76,7 @@ fn behind<'a>(text: &'a str, front: &str) -> &'a str
 }
 
 /// What stands before the last segments that stay side by side, those, and how many segments are removed in front of them.
+#[inline(always)]
 pub fn last_run(text: &str, count: usize) -> (&str, &str, usize)
     requires ends { ends_at_slash text.now ≡ true }
     requires whole { whole_triplets text.now ≡ true }

@@ -5,10 +5,13 @@ ghost use Rattle.iri_grammar.specs.Cut.{lacks};
 ghost use Rattle.iri_percent.specs.Units.{whole_triplets};
 ghost use Rattle.iri_resolve.specs.Dots.{any_dot_segment};
 ghost use Rattle.iri_resolve.specs.Kept.{begins, behind_front_dots, ended, kept, kept_from_first, one_begins, removed};
-ghost use Rattle.iri_resolve.specs.Kept.{removing};
 ghost use Rattle.iri_resolve.specs.Target.{ends_at_slash};
+ghost use Rattle.iri_resolve.specs.inside.LastDots.{kind_of};
 
-use crate::dots::{behind_dot, is_dot_segment};
+use super::kinds::{removing, removing_at};
+use super::last_dots::last_dots;
+use super::segment_kind::SegmentKind;
+use crate::dots::is_dot_segment;
 use crate::target::last_slash;
 use iri_grammar::cutting::cut;
 use memchr::memchr;
@@ -28,12 +31,12 @@ fn cut_at(text: &str, i: usize) -> (&str, &str)
 fn rfind_near(bytes: &[u8]) -> Option<usize>
     ensures { IsLastByte (is_byte 47) bytes.now result }
 {
-    let mut i = bytes.len();
-    'bytes: while i > 0 {
-        i -= 1;
-        if bytes[i] == b'/' {
-            return Some(i);
+    let mut rest = bytes;
+    'bytes: while let [front @ .., last] = rest {
+        if *last == b'/' {
+            return Some(front.len());
         }
+        rest = front;
     }
     None
 }
@@ -47,6 +50,18 @@ pub fn split_last(path: &str) -> (&str, &str)
     match last_slash(path) {
         Some(i) => cut_at(path, i),
         None => ("", path),
+    }
+}
+
+// The same, where segments are short.
+fn cut_near(text: &str) -> (&str, &str)
+    ensures whole { text.now ≡ result.0.now ++ result.1.now }
+    ensures ends { ends_at_slash result.0.now ≡ true }
+    ensures last { lacks 47 result.1.now ≡ true }
+{
+    match rfind_near(text.as_bytes()) {
+        Some(i) => cut_at(text, i),
+        None => ("", text),
     }
 }
 
@@ -67,28 +82,27 @@ pub fn cut_last(text: &str) -> (&str, &str)
     ensures ends { ends_at_slash result.0.now ≡ true }
     ensures last { lacks 47 result.1.now ≡ true }
 {
-    let text = without_end(text);
-    match rfind_near(text.as_bytes()) {
-        Some(i) => cut_at(text, i),
-        None => ("", text),
-    }
+    cut_near(without_end(text))
 }
 
-/// How many segments are removed in front of a segment, where `count` are removed in front of what follows it.
-#[tactic(auto, unfolding(crate::specs::Dots::is_dot_segment))]
-pub fn removing(segment: &str, count: usize) -> usize
-    requires { count + 1 < 2 ^ 64 }
-    ensures { result ≡ removing segment.now count }
+/// What stands before the last of the segments, that segment without its slash, and its kind. A dot segment is told from the last
+/// bytes, so that no slash is looked for.
+#[inline(always)]
+pub fn last_segment(text: &str) -> (&str, &str, SegmentKind)
+    requires ends { ends_at_slash text.now ≡ true }
+    requires some { 0 < length text.now }
+    ensures whole { text.now ≡ result.0.now ++ (result.1.now ++ 47 ∷ []) }
+    ensures ends { ends_at_slash result.0.now ≡ true }
+    ensures last { lacks 47 result.1.now ≡ true }
+    ensures kind { result.2 ≡ kind_of result.1.now }
 {
-    let Some(rest) = behind_dot(segment.as_bytes()) else {
-        return count.saturating_sub(1);
-    };
-    if rest.is_empty() {
-        return count;
-    }
-    match behind_dot(rest) {
-        Some([]) => count + 1,
-        _ => count.saturating_sub(1),
+    let text = without_end(text);
+    match last_dots(text.as_bytes()) {
+        Some((i, kind)) => (&text[..i], &text[i..], kind),
+        None => {
+            let (front, segment) = cut_near(text);
+            (front, segment, SegmentKind::Ordinary)
+        }
     }
 }
 
@@ -102,8 +116,8 @@ pub fn removed(text: &str, count: usize) -> usize
     let mut rest = text;
     let mut pending = count;
     'segments: while !rest.is_empty() {
-        let (front, segment) = cut_last(rest);
-        pending = removing(segment, pending);
+        let (front, _, kind) = last_segment(rest);
+        pending = removing_at(kind, pending);
         rest = front;
     }
     pending

@@ -1,9 +1,12 @@
-use Rattle.std.proofs.Common.{◌≡◌, ◌<◌, length, subst, arith}
+use Rattle.std.proofs.Common.{◌≡◌, ◌<◌, ◌∙◌, length, sym, subst, arith}
 use Rattle.std.proofs.lemmas.Bool.Decides.{nat_tests}
 use Rattle.iri_text.proofs.Compose.{shows_exit, shows_then}
 use Rattle.iri_text.specs.Shown.{Shows}
 use Rattle.iri_resolve.specs.Kept.{ended, kept}
 use Rattle.iri_resolve.specs.PathForm.{in_form}
+use Rattle.iri_resolve.specs.inside.DotSearch.{dots_behind, dots_in_front}
+use Rattle.iri_resolve.proofs.DotLemmas.{first_or_behind}
+use Rattle.iri_resolve.proofs.EndedLemmas.{front-done, neither}
 use Rattle.iri_resolve.proofs.WriterLemmas.{form-second, form-both, form-short}
 use Rattle.iri_resolve.proofs.path_writer.show_two.Goals as goal
 
@@ -14,14 +17,15 @@ returns-then-is_empty g c =
     subst (λ x. Shows g.W.TextSink.puts g.W.TextSink.halts g.W.TextSink.stops c.args.sink.now x c.show_from_first.new.sink c.show_from_first.result) e c.show_from_first.ensures
 
 pub show_short-requires-clause-no_dots : goal.show_short-requires-clause-no_dots
-show_short-requires-clause-no_dots g c = c.are_short.ensures c.if-are_short.true
+show_short-requires-clause-no_dots g c = (c.are_short.ensures c.if-are_short.true).1
 
 pub returns-then-are_short : goal.returns-then-are_short
 returns-then-are_short g c =
-    let some : 0 < length c.behind_front_dots-front.result.now = grind (arith, nat_tests) in
-    let f = c.behind_front_dots-front in
+    let f = c.args.front.now in
+    let short = c.are_short.ensures c.if-are_short.true in
+    let done = front-done f (neither (dots_in_front f) (dots_behind f) (sym (first_or_behind f) ∙ short.1)).0 in
     subst (λ x. Shows g.W.TextSink.puts g.W.TextSink.halts g.W.TextSink.stops c.args.sink.now x c.show_short.new.sink c.show_short.result)
-    (form-short g.S.Spec.tests c.args.normal c.args.front.now c.args.text.now f.result.now c.args.count some f.ensures.ends f.ensures.segments)
+    (form-short g.S.Spec.tests c.args.normal f c.args.text.now f c.args.count short.0 c.requires.ends (sym done))
     c.show_short.ensures
 
 pub returns-in_err-show_from_first : goal.returns-in_err-show_from_first
