@@ -30,7 +30,7 @@ around xs i b h e =
     ∙ ap (λ (k : ℕ). take i xs ++ b ∷ drop k xs) (sym one)
 
 -- no more is held than was taken
-pub few : {buf : List ℕ} {b : Bool} {start end lf ls le taken limit input : ℕ} → IsLaidOut buf b start end lf ls le taken limit input
+pub few : {buf : List ℕ} {cap : ℕ} {b : Bool} {start end lf ls le taken limit input : ℕ} → IsLaidOut buf cap b start end lf ls le taken limit input
     → length (slice_range buf start end) ≤ taken
 few {buf = buf} {start = start} {end = end} is = omega (arith, length-part buf start end is.end_in, is.all)
 
@@ -134,19 +134,18 @@ part-kept xs ys a b h e =
     by_drop xs ∙ ap (λ (l : List ℕ). drop a l) e ∙ sym (by_drop ys)
 
 -- The bytes that are held lie from `at` on, k of them, and n more came.
-module _ (buf old : List ℕ) (b : Bool) (fresh : b ≡ false) (at start end k n lf ls le taken limit input : ℕ)
-    (kept : slice_range buf at (at + k) ≡ slice_range old start end) (len : length buf ≡ length old)
-    (was : IsLaidOut old b start end lf ls le taken limit input) (is_all : k ≡ end - start) (fits : at + k + n ≤ length buf)
+module _ (buf old : List ℕ) {cap_new cap : ℕ} (b : Bool) (fresh : b ≡ false) (at start end k n lf ls le taken limit input : ℕ)
+    (kept : slice_range buf at (at + k) ≡ slice_range old start end) (len : length old ≤ length buf) (wide : cap ≤ cap_new)
+    (was : IsLaidOut old cap b start end lf ls le taken limit input) (is_all : k ≡ end - start) (fits : at + k + n ≤ length buf)
     (no_lf : NoLf (slice_range old start end)) where
   pub next_sound : (m : ℕ) → taken + n ≤ input + 1 → (input < taken + n → 0 < n) → IsFirstLf (slice_range buf at (at + k + n)) m
-      → IsLaidOut buf b at (at + k + n) m ls le (taken + n) limit input
+      → IsLaidOut buf cap_new b at (at + k + n) m ls le (taken + n) limit input
   next_sound m count over first = record {
     start_in = omega arith;
     end_in = fits;
     line_in = was.line_in;
     line_end_in = omega (arith, was.line_end_in, len);
-    room = omega (arith, was.room, len);
-    small = was.small;
+    room = omega (arith, was.room, wide);
     limit = was.limit;
     count = count;
     all = omega (arith, was.all, was.start_in, is_all);
@@ -163,17 +162,16 @@ module _ (buf old : List ℕ) (b : Bool) (fresh : b ≡ false) (at start end k n
   next_held = part-split buf at (at + k) (at + k + n) (omega arith) (omega arith)
       ∙ ap (λ (l : List ℕ). l ++ slice_range buf (at + k) (at + k + n)) kept
 
-pub kept_sound : (buf old : List ℕ) (b : Bool) → b ≡ false → (at start end k lf ls le taken limit input : ℕ)
-    → slice_range buf at (at + k) ≡ slice_range old start end → length buf ≡ length old
-    → IsLaidOut old b start end lf ls le taken limit input → k ≡ end - start → at + k ≤ length buf → taken ≤ input
-    → IsLaidOut buf b at (at + k) lf ls le taken limit input
-kept_sound buf old b fresh at start end k lf ls le taken limit input kept len was is_all fits in_limit = record {
+pub kept_sound : (buf old : List ℕ) {cap_new cap : ℕ} (b : Bool) → b ≡ false → (at start end k lf ls le taken limit input : ℕ)
+    → slice_range buf at (at + k) ≡ slice_range old start end → length old ≤ length buf → cap ≤ cap_new
+    → IsLaidOut old cap b start end lf ls le taken limit input → k ≡ end - start → at + k ≤ length buf → taken ≤ input
+    → IsLaidOut buf cap_new b at (at + k) lf ls le taken limit input
+kept_sound buf old b fresh at start end k lf ls le taken limit input kept len wide was is_all fits in_limit = record {
   start_in = omega arith;
   end_in = fits;
   line_in = was.line_in;
   line_end_in = omega (arith, was.line_end_in, len);
-  room = omega (arith, was.room, len);
-  small = was.small;
+  room = omega (arith, was.room, wide);
   limit = was.limit;
   count = was.count;
   all = omega (arith, was.all, was.start_in, is_all);

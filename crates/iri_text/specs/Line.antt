@@ -26,13 +26,13 @@ pub record IsFirstLf (bytes : List ℕ) (lf : ℕ) : Type 0 where
   pub found : lf < length bytes → get_or bytes lf 0 ≡ line_feed
 
 -- where the parts lie in the buffer
-pub record IsLaidOut (buf : List ℕ) (ended : Bool) (start end lf line_start line_end taken line_limit input_limit : ℕ) : Type 0 where
+pub record IsLaidOut (buf : List ℕ) (capacity : ℕ) (ended : Bool) (start end lf line_start line_end taken line_limit input_limit : ℕ) : Type 0 where
   pub start_in : start ≤ end
   pub end_in : end ≤ length buf
   pub line_in : line_start ≤ line_end
   pub line_end_in : line_end ≤ length buf
-  pub room : length buf ≡ line_limit + 65536
-  pub small : line_limit ≤ 1048576
+  -- the buffer can grow until it has a line of the limit and one block behind it
+  pub room : line_limit + 65536 ≤ capacity
   pub limit : input_limit < 2 ^ 63
   pub count : taken ≤ input_limit + 1
   pub all : end ≤ start + taken

@@ -1,5 +1,6 @@
 -- How the fields of a reader are seen.
 use Rattle.std.specs.Prelude.{slice_range}
+use Rattle.std.specs.Vec.{vec_capacity}
 use Rattle.iri_text.specs.Line.{LineState, IsLaidOut}
 use Rattle.iri_text.specs.declared.streams.reader.LineReader.TheInside.{Inside}
 
@@ -15,4 +16,4 @@ line_state a = record {
 }
 
 abbrev pub IsSound : Inside → Type 0
-IsSound a = IsLaidOut a.buf.items a.ended a.start a.end a.lf a.line_start a.line_end a.taken a.line_limit a.input_limit
+IsSound a = IsLaidOut a.buf.items (vec_capacity a.buf) a.ended a.start a.end a.lf a.line_start a.line_end a.taken a.line_limit a.input_limit

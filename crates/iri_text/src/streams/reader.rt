@@ -1,6 +1,7 @@
 // Lines of a source.
 ghost use Rattle.std.specs.Prelude.{◌≡◌, ◌↔◌, ◌≤◌, ◌<◌, ◌+◌, ◌-◌, ◌^◌, [], ◌++◌, true, false, length, take};
 ghost use Rattle.std.specs.Prelude.{slice_range, slice_index, IfOk, OnErr};
+ghost use Rattle.std.specs.Vec.{vec_capacity};
 ghost use Rattle.iri_text.specs.Lines.{NoLf, no_cr};
 ghost use Rattle.iri_text.specs.Line.{IsFirstLf};
 ghost use Rattle.iri_text.specs.Source.{Consumes, IsAtEnd};
@@ -32,6 +33,7 @@ pub enum LineFault {
 #[derive(Drop)]
 pub struct LineReader {
     // What is held lies from `start` to `end`. Its first LF is the byte `lf`, counted from `start`, or `lf` is its length.
+    // The buffer grows by blocks within the capacity that it begins with, so memory is touched only where lines need it.
     buf: Vec<u8>,
     start: usize,
     end: usize,
@@ -127,17 +129,36 @@ fn is_last(answer: &Result<bool, LineFault>) -> bool
     }
 }
 
-// Moves a part to the start where it lies at the end, and says where it begins.
+// Lengthens a buffer by a block, within its capacity.
+fn grow(buf: &mut Vec<u8>)
+    requires { length buf.old.items + 65536 ≤ vec_capacity buf.old }
+    ensures capacity { vec_capacity buf.old ≤ vec_capacity buf.new }
+    ensures len { length buf.new.items ≡ length buf.old.items + 65536 }
+    ensures front { take (length buf.old.items) buf.new.items ≡ buf.old.items }
+{
+    match buf.resize(buf.len() + BLOCK, 0) {
+        Ok(()) => {}
+        Err(_) => unreachable!(),
+    }
+}
+
+// Makes room behind a part that lies at the end: it moves to the start, or the buffer grows. Says where the part begins.
 fn make_room(buf: &mut Vec<u8>, start: usize, end: usize) -> usize
-    requires { (start ≤ end) × (end ≤ length buf.old.items) × (end < start + length buf.old.items) }
-    ensures len { length buf.new.items ≡ length buf.old.items }
-    ensures room { result + (end - start) < length buf.old.items }
+    requires part { (start ≤ end) × (end ≤ length buf.old.items) }
+    requires capacity { end - start + 65536 ≤ vec_capacity buf.old }
+    ensures capacity { vec_capacity buf.old ≤ vec_capacity buf.new }
+    ensures len { length buf.old.items ≤ length buf.new.items }
+    ensures room { result + (end - start) < length buf.new.items }
     ensures part { slice_range buf.new.items result (result + (end - start)) ≡ slice_range buf.old.items start end }
 {
     if end < buf.len() {
         return start;
     }
-    buf.copy_within(start..end, 0);
+    if start == 0 {
+        grow(buf);
+    } else {
+        buf.copy_within(start..end, 0);
+    }
     0
 }
 
@@ -149,6 +170,7 @@ fn fill<I: Source>(
     source: &mut I,
 ) -> Result<usize, Failed>
     requires { (end < length buf.old.items) × (0 < most) }
+    ensures capacity { vec_capacity buf.new ≡ vec_capacity buf.old }
     ensures len { length buf.new.items ≡ length buf.old.items }
     ensures front { take end buf.new.items ≡ take end buf.old.items }
     ensures within { IfOk result (λ n. (end + n ≤ length buf.old.items) × (n ≤ most)) }
@@ -177,9 +199,8 @@ impl LineReader {
         ensures { IfOk result (λ r. (r.held ≡ []) × (r.taken ≡ 0) × (r.ended ≡ false) × (r.line_limit ≡ line_limit)
             × (r.input_limit ≡ input_limit) × (r.done ≡ false)) }
     {
-        let buf = vec![in alloc; 0; line_limit + BLOCK]?;
         Ok(LineReader {
-            buf,
+            buf: Vec::with_capacity(alloc, line_limit + BLOCK)?,
             start: 0,
             end: 0,
             lf: 0,
@@ -202,6 +223,7 @@ impl LineReader {
 
     /// Goes to the next line, and says whether there is one: `line` gives it. No earlier call may have answered `false` or a
     /// fault, which `is_done` tells. Bytes are taken only while those that are held have no LF.
+    #[inline(always)]
     pub fn advance<I: Source>(&mut self, source: &mut I) -> Result<bool, LineFault>
         requires { self.old.done ≡ false }
         ensures needed { TakesAsNeeded I.call I.left self.old.held source.old source.new }

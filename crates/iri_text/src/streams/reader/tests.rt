@@ -1,4 +1,5 @@
 use crate::{LineFault, LineReader, MemorySource, PlainSource, Source};
+use std::alloc::{AllocError, Global};
 use std::test::Fail;
 
 // These are the lines of the source, and then comes this end or fault.
@@ -61,6 +62,45 @@ fn limits(rt: HostRuntime) -> Result<(), Fail> {
     let mut reader = LineReader::new(rt.alloc(), 8, 8)?;
     let mut source = PlainSource::new(b"123456789");
     assert!(rt; gives(&mut reader, &mut source, &[], Some(LineFault::InputTooLong)));
+    Ok(())
+}
+
+// A line of so many letters, which repeat after 23.
+fn long_line(alloc: Global, len: usize) -> Result<Vec<u8>, AllocError> {
+    let mut line = Vec::new(alloc);
+    for i in 0..len {
+        line.push(b'a' + (i % 23) as u8)?;
+    }
+    Ok(line)
+}
+
+// The buffer is one block at first. With lines of two blocks it grows to its capacity.
+#[test]
+fn lines_longer_than_a_block(rt: HostRuntime) -> Result<(), Fail> {
+    let long = long_line(rt.alloc(), 131072)?;
+    let mut text = Vec::new(rt.alloc());
+    text.extend_from_slice(b"a\n")?;
+    text.extend_from_slice(&long)?;
+    text.extend_from_slice(b"\n")?;
+    text.extend_from_slice(&long)?;
+    let want: [&[u8]; 3] = [b"a", &long, &long];
+    let mut reader = LineReader::new(rt.alloc(), 131072, 1048576)?;
+    let mut whole = PlainSource::new(&text);
+    assert!(rt; gives(&mut reader, &mut whole, &want, None));
+    let mut reader = LineReader::new(rt.alloc(), 131072, 1048576)?;
+    let mut pieces = MemorySource::new(&text, &[65535, 1, 4093], &[]);
+    assert!(rt; gives(&mut reader, &mut pieces, &want, None));
+    text.push(b'z')?;
+    let mut reader = LineReader::new(rt.alloc(), 131072, 1048576)?;
+    let mut source = PlainSource::new(&text);
+    assert!(rt;
+        gives(
+            &mut reader,
+            &mut source,
+            &want[..2],
+            Some(LineFault::LineTooLong)
+        )
+    );
     Ok(())
 }
 

@@ -1,5 +1,5 @@
 use Rattle.std.proofs.Common.{rules, ◌≡◌, ◌≤◌, ◌+◌, ◌-◌, ℕ, List, [], ◌∙◌, true, Ok, Err, inr, refl, sym, ap, subst, arith, slice_range}
-use Rattle.std.proofs.Common.{length}
+use Rattle.std.proofs.Common.{length, vec_capacity}
 use Rattle.iri_text.specs.declared.streams.reader.LineFault.TheVariants.{Source, LineTooLong, InputTooLong}
 use Rattle.iri_text.specs.View.{line_state}
 use Rattle.iri_text.specs.Reader.{done_by}
@@ -78,11 +78,12 @@ loop-i-preserved g c =
     let in_limit : s.taken ≤ s.input_limit = omega (arith, p.0, u) in
     let kept = part-kept buf c.make_room-self-inside.new.buf.items r (r + k) (omega arith) c.fill.ensures.front
     ∙ c.make_room-self-inside.ensures.part in
-    let len : length buf ≡ length s.buf.items = c.fill.ensures.len ∙ c.make_room-self-inside.ensures.len in
+    let len : length s.buf.items ≤ length buf = omega (arith, c.fill.ensures.len, c.make_room-self-inside.ensures.len) in
+    let wide : vec_capacity s.buf ≤ vec_capacity c.fill.new.buf = omega (arith, c.fill.ensures.capacity, c.make_room-self-inside.ensures.capacity) in
     let fits : r + k + n ≤ length buf = omega (arith, c.in-Ok.ensures.within.0, c.fill.ensures.len) in
-    let held = next_held buf s.buf.items s.ended i.fresh.1 r s.start s.end k n s.lf s.line_start s.line_end s.taken s.line_limit s.input_limit kept len i.sound refl fits p.2 in
+    let held = next_held buf s.buf.items s.ended i.fresh.1 r s.start s.end k n s.lf s.line_start s.line_end s.taken s.line_limit s.input_limit kept len wide i.sound refl fits p.2 in
     record {
-      sound = next_sound buf s.buf.items s.ended i.fresh.1 r s.start s.end k n s.lf s.line_start s.line_end s.taken s.line_limit s.input_limit kept len i.sound refl fits p.2 c.find_lf-self-inside-in-Ok.result (omega (arith, in_limit, c.in-Ok.ensures.within.1)) (λ h. omega (arith, in_limit, h)) (rw c.deref-in-Ok.ensures.value at c.find_lf-self-inside-in-Ok.ensures);
+      sound = next_sound buf s.buf.items s.ended i.fresh.1 r s.start s.end k n s.lf s.line_start s.line_end s.taken s.line_limit s.input_limit kept len wide i.sound refl fits p.2 c.find_lf-self-inside-in-Ok.result (omega (arith, in_limit, c.in-Ok.ensures.within.1)) (λ h. omega (arith, in_limit, h)) (rw c.deref-in-Ok.ensures.value at c.find_lf-self-inside-in-Ok.ensures);
       so_far = more c.args.self.now (line_state s) _ _ _ _ (slice_range buf (r + k) (r + k + n)) i.so_far p.2 c.in-Ok.ensures.bytes held
           (omega (arith, length-part buf (r + k) (r + k + n) fits)) refl refl;
       fresh = i.fresh;
@@ -103,10 +104,11 @@ find_lf-self-inside-requires-in-Ok-clause-no_lf g c =
     let buf = c.fill.new.buf.items in
     let kept = part-kept buf c.make_room-self-inside.new.buf.items r (r + k) (omega arith) c.fill.ensures.front
     ∙ c.make_room-self-inside.ensures.part in
-    let len : length buf ≡ length s.buf.items = c.fill.ensures.len ∙ c.make_room-self-inside.ensures.len in
+    let len : length s.buf.items ≤ length buf = omega (arith, c.fill.ensures.len, c.make_room-self-inside.ensures.len) in
+    let wide : vec_capacity s.buf ≤ vec_capacity c.fill.new.buf = omega (arith, c.fill.ensures.capacity, c.make_room-self-inside.ensures.capacity) in
     let fits : r + k + n ≤ length buf = omega (arith, c.in-Ok.ensures.within.0, c.fill.ensures.len) in
     rw c.deref-in-Ok.ensures.value
-    (next_no_lf buf s.buf.items s.ended i.fresh.1 r s.start s.end k n s.lf s.line_start s.line_end s.taken s.line_limit s.input_limit kept len i.sound refl fits p.2)
+    (next_no_lf buf s.buf.items s.ended i.fresh.1 r s.start s.end k n s.lf s.line_start s.line_end s.taken s.line_limit s.input_limit kept len wide i.sound refl fits p.2)
 
 pub invariant_of-self-in-Err : goal.invariant_of-self-in-Err
 invariant_of-self-in-Err g c =
@@ -121,8 +123,9 @@ invariant_of-self-in-Err g c =
     let in_limit : s.taken ≤ s.input_limit = omega (arith, p.0, u) in
     let kept = part-kept buf c.make_room-self-inside.new.buf.items r (r + k) (omega arith) c.fill.ensures.front
     ∙ c.make_room-self-inside.ensures.part in
-    let len : length buf ≡ length s.buf.items = c.fill.ensures.len ∙ c.make_room-self-inside.ensures.len in
-    kept_sound buf s.buf.items s.ended i.fresh.1 r s.start s.end k s.lf s.line_start s.line_end s.taken s.line_limit s.input_limit kept len i.sound refl (omega (arith, c.make_room-self-inside.ensures.room, len)) in_limit
+    let len : length s.buf.items ≤ length buf = omega (arith, c.fill.ensures.len, c.make_room-self-inside.ensures.len) in
+    let wide : vec_capacity s.buf ≤ vec_capacity c.fill.new.buf = omega (arith, c.fill.ensures.capacity, c.make_room-self-inside.ensures.capacity) in
+    kept_sound buf s.buf.items s.ended i.fresh.1 r s.start s.end k s.lf s.line_start s.line_end s.taken s.line_limit s.input_limit kept len wide i.sound refl (omega (arith, c.make_room-self-inside.ensures.room, c.fill.ensures.len)) in_limit
 
 pub returns-in-Err-clause-advances : goal.returns-in-Err-clause-advances
 returns-in-Err-clause-advances g c =
