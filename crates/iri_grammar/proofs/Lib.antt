@@ -18,6 +18,7 @@ pub mod CutLaws
 pub mod FaultLaws
 pub mod Ipv6Laws
 pub mod KindLaws
+mod LeadBytes
 pub mod LiteralChars
 pub mod MadeLaws
 pub mod OverLaws

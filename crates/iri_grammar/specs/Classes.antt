@@ -1,5 +1,5 @@
 -- The two tests that a spec gives, and the classes of characters (RFC 3986 sections 2 and 3, RFC 3987 section 2.2). A character is its code.
-use Rattle.std.specs.Prelude.{◌≡◌, ℕ, ◌<◌, ◌%◌, Bool, false, ◌&&◌, ◌||◌, codes, nat_lt}
+use Rattle.std.specs.Prelude.{◌≡◌, ℕ, ◌<◌, ◌≤◌, ◌%◌, Bool, true, false, ◌&&◌, ◌||◌, codes, nat_lt}
 use Rattle.std.specs.Char.{is_ascii_alphanumeric, char_set_contains}
 use Rattle.std.specs.Int.{is_in_range}
 
@@ -77,6 +77,10 @@ is_ucschar_plane c = (is_in_range 0x10000 0xDFFFF c && nat_lt (c % 0x10000) 0xFF
 
 unfoldable pub is_ucschar : ℕ → Bool
 is_ucschar c = is_in_range 0xA0 0xD7FF c || is_in_range 0xF900 0xFDCF c || is_in_range 0xFDF0 0xFFEF c || is_ucschar_plane c
+
+-- all characters of the first range of `ucschar` pass as unreserved
+abbrev pub HasFirstUcschars : Tests → Type 0
+HasFirstUcschars s = (c : ℕ) → 0xA0 ≤ c → c ≤ 0xD7FF → s.ucs c ≡ true
 
 -- `iprivate` (RFC 3987 section 2.2)
 unfoldable pub is_iprivate : ℕ → Bool

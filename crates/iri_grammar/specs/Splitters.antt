@@ -1,5 +1,5 @@
 -- What a splitter holds.
-use Rattle.std.specs.Prelude.{Bool}
+use Rattle.std.specs.Prelude.{Bool, ◌==◌}
 use Rattle.iri_grammar.specs.Parts.{Parts}
 use Rattle.iri_grammar.specs.OptionalSlices.{now_of}
 use Rattle.iri_grammar.specs.declared.splitter.Splitter.{Splitter}
@@ -16,4 +16,4 @@ parts s = record {
 
 -- whether path, query and fragment were found to be without triplets
 abbrev pub found_no_triplet : Splitter → Bool
-found_no_triplet s = s.bare
+found_no_triplet s = s.triplets == 0

@@ -20,6 +20,7 @@ fn has_four(class: Class, w: u8, x: u8, y: u8, z: u8) -> bool
 }
 
 /// What is left where ASCII characters of the class are taken from the start, four at a time.
+#[inline(always)]
 fn past_fours(class: Class, bytes: &[u8]) -> &[u8]
     ensures within { length result.now ≤ length bytes.now }
     ensures run { run_of (ascii_test class) bytes.now + length result.now
@@ -48,6 +49,7 @@ fn near_run_len(class: Class, bytes: &[u8]) -> usize
 }
 
 /// How many bytes at the start are ASCII characters of the class.
+#[inline(always)]
 pub(crate) fn run_len(class: Class, bytes: &[u8]) -> usize
     ensures { result ≡ run_of (ascii_test class) bytes.now }
 {

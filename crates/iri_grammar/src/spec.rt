@@ -1,6 +1,6 @@
 //! The two grammars: URIs (RFC 3986) and IRIs (RFC 3987).
-ghost use Rattle.std.specs.Prelude.{◌≡◌, ℕ, ◌<◌, Bool, refl};
-ghost use Rattle.iri_grammar.specs.Classes.{Tests, IsSpec, uri_tests, iri_tests, is_ucschar_plane};
+ghost use Rattle.std.specs.Prelude.{◌≡◌, ℕ, ◌<◌, Bool, true, refl};
+ghost use Rattle.iri_grammar.specs.Classes.{Tests, IsSpec, HasFirstUcschars, uri_tests, iri_tests, is_ucschar_plane};
 ghost use Rattle.iri_grammar.specs.inside.Laws.{uri_is_spec, iri_is_spec};
 
 /// A grammar's choice of characters past ASCII.
@@ -15,6 +15,10 @@ pub trait Spec: Copy {
     /// Whether the character is for private use, which may stand in a query.
     fn is_nonascii_char_private(c: char) -> bool
         ensures { result ≡ tests.priv c };
+
+    /// Whether all characters from U+00A0 to U+D7FF, the first range of `ucschar`, are unreserved (RFC 3987 section 2.2).
+    fn has_first_ucschars() -> bool
+        ensures { result ≡ true → HasFirstUcschars tests };
 
     /// Both tests fail below 128, and no character passes both.
     ghost lawful: { IsSpec tests };
@@ -40,6 +44,10 @@ impl Spec for UriSpec {
     fn is_nonascii_char_private(_c: char) -> bool {
         false
     }
+
+    fn has_first_ucschars() -> bool {
+        false
+    }
 }
 
 impl Spec for IriSpec {
@@ -56,6 +64,11 @@ impl Spec for IriSpec {
     #[tactic(auto, using(std::proofs::lemmas::Bool::Decides::nat_tests), unfolding(crate::specs::Classes::is_iprivate))]
     fn is_nonascii_char_private(c: char) -> bool {
         matches!(c, '\u{E000}'..='\u{F8FF}' | '\u{F0000}'..='\u{FFFFD}' | '\u{100000}'..='\u{10FFFD}')
+    }
+
+    #[tactic(auto, using(std::proofs::lemmas::Bool::Decides::nat_tests), unfolding(crate::specs::Classes::is_ucschar))]
+    fn has_first_ucschars() -> bool {
+        true
     }
 }
 

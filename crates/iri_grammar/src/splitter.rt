@@ -34,9 +34,9 @@ pub struct Splitter<'a> {
     path: &'a str,
     query: Option<&'a str>,
     fragment: Option<&'a str>,
-    // Path, query and fragment were found to be without triplets.
-    bare: bool,
-    pub ghost told: { bare ≡ true → LackTriplets path.now (now_of query) (now_of fragment) } by { Prim.hlevel props },
+    // 0 where path, query and fragment were found to be without triplets, otherwise 1. Behind a `bool` each copy would copy padding.
+    triplets: usize,
+    pub ghost told: { triplets ≡ 0 → LackTriplets path.now (now_of query) (now_of fragment) } by { Prim.hlevel props },
 }
 
 impl Clone for Splitter<'_> {
@@ -291,7 +291,7 @@ impl<'a> Splitter<'a> {
             path: tail.path,
             query: tail.query,
             fragment: tail.fragment,
-            bare,
+            triplets: usize::from(!bare),
         }
     }
 
@@ -300,7 +300,7 @@ impl<'a> Splitter<'a> {
         ensures found { result ≡ found_no_triplet self.now }
         ensures bare { result ≡ true → LackTriplets (parts self.now).path (parts self.now).query (parts self.now).fragment }
     {
-        self.bare
+        self.triplets == 0
     }
 
     /// The scheme, without its colon.

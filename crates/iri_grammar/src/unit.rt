@@ -6,7 +6,7 @@ ghost use Rattle.iri_grammar.specs.Characters.{percent_sign};
 ghost use Rattle.iri_grammar.specs.ClassTests.{class_test, ascii_test};
 ghost use Rattle.iri_grammar.specs.Cut.{lacks};
 ghost use Rattle.iri_grammar.specs.Over.{text_over};
-ghost use Rattle.iri_grammar.specs.inside.Runs.{begins_with_triplet, AreUnits};
+ghost use Rattle.iri_grammar.specs.inside.Runs.{begins_with_triplet, lead_len, AreUnits};
 
 use crate::class::Class;
 use crate::over::run_len;
@@ -75,7 +75,19 @@ fn char_len<S: Spec>(class: Class, s: &str) -> usize
     }
 }
 
-/// The same of a character past ASCII.
+/// The length of each character from U+00C0 to U+CFFF by its first byte, otherwise 0 (RFC 3629 section 3).
+#[inline(always)]
+fn lead_len(b: u8) -> usize
+    ensures { result ≡ lead_len b }
+{
+    match b {
+        0xC3..=0xDF => 2,
+        0xE0..=0xEC => 3,
+        _ => 0,
+    }
+}
+
+/// The length of a character past ASCII at the start, where it is in the class, otherwise 0. Mostly the first byte tells.
 #[tactic(auto, using(crate::proofs::UnitRuns::no_units))]
 #[inline(always)]
 fn wide_char_len<S: Spec>(class: Class, s: &str) -> usize
@@ -83,6 +95,7 @@ fn wide_char_len<S: Spec>(class: Class, s: &str) -> usize
     ensures bare { lacks percent_sign (take result s.now) ≡ true }
 {
     match s.as_bytes() {
+        [b, ..] if S::has_first_ucschars() && lead_len(*b) != 0 => lead_len(*b),
         [b, ..] if !b.is_ascii() => char_len::<S>(class, s),
         _ => 0,
     }
@@ -163,3 +176,6 @@ pub(crate) fn cut_units<S: Spec>(class: Class, s: &str) -> (&str, &str, bool)
     let end = run + more;
     (&s[..end], &s[end..], bare)
 }
+
+#[cfg(test)]
+mod tests;

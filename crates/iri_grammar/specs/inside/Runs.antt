@@ -1,6 +1,7 @@
 -- What a scan of a text over a class takes at a time: ASCII characters of the class and triplets, or one character.
-use Rattle.std.specs.Prelude.{◌≡◌, ℕ, ◌<◌, ◌≤◌, Bool, true, false, ◌&&◌, ◌==◌, List, [], ◌∷◌, length, take, drop}
+use Rattle.std.specs.Prelude.{◌≡◌, ℕ, ◌<◌, ◌≤◌, Bool, true, false, cond, ◌&&◌, ◌==◌, List, [], ◌∷◌, length, take, drop}
 use Rattle.std.specs.Char.{is_ascii_hexdigit}
+use Rattle.std.specs.Int.{is_in_range}
 use Rattle.std.specs.Str.{chars, IsUtf8}
 use Rattle.iri_grammar.specs.Cut.{tail}
 use Rattle.iri_grammar.specs.Over.{over, text_over}
@@ -13,6 +14,10 @@ begins_with_digit (a ∷ cs) = is_ascii_hexdigit a
 abbrev pub begins_with_triplet : List ℕ → Bool
 begins_with_triplet [] = false
 begins_with_triplet (x ∷ xs) = x == 37 && (begins_with_digit xs && begins_with_digit (tail xs))
+
+-- how many bytes each character from U+00C0 to U+CFFF has, by its first byte (RFC 3629 section 3); 0 where no such one begins with it
+abbrev pub lead_len : ℕ → ℕ
+lead_len b = cond (is_in_range 0xC3 0xDF b) 2 (cond (is_in_range 0xE0 0xEC b) 3 0)
 
 -- the text r follows the first unit of t
 pub record IsPast (p : ℕ → Bool) (t r : List ℕ) : Type 0 where
