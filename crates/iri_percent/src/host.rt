@@ -134,6 +134,7 @@ pub fn is_plain(text: &[u8]) -> bool
 impl<S: Spec> Show for NormalizedHost<'_, S> {
     ghost text = { λ h. normal_host S.tests h.host.now };
 
+    #[inline(always)]
     fn show<W: TextSink>(&self, sink: &mut W) -> Result<(), Stop> {
         if is_plain(self.host.as_bytes()) {
             return sink.put(self.host);

@@ -127,7 +127,7 @@ fn gather_in<S: Spec>(text: &[u8], at: usize, lower: bool, buf: &mut [u8; 64]) -
 }
 
 // The loop is compiled for each case of its own.
-#[inline(never)]
+#[inline(always)]
 fn gather<S: Spec>(text: &[u8], at: usize, lower: bool, buf: &mut [u8; 64]) -> Run
     requires { (whole_triplets text.now ≡ true) × FirstMark S.tests lower text.now at }
     ensures becomes { Becomes S.tests lower text.now at result.read (take result.written buf.new) }
@@ -152,6 +152,7 @@ fn put_run<W: TextSink>(sink: &mut W, run: &str) -> Result<(), Stop>
 }
 
 // Writes a text in triplet normal form, and where it is asked for, its letters outside triplets in lower case.
+#[inline(always)]
 pub(crate) fn show_normal<S: Spec, W: TextSink>(
     text: &str,
     lower: bool,

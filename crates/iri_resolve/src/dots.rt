@@ -79,6 +79,7 @@ fn begins_with_slash_and_dots(path: &[u8]) -> bool
 // What is left behind the first bytes of a path, up to `stop` bytes, or `None` where a dot segment stands behind a slash of them. A
 // slash and what begins a dot all stand from `%` to `/`; where the second byte is none of them, no dot segment begins behind either
 // of the first two.
+#[inline(always)]
 fn past_pairs(path: &[u8], stop: usize) -> Option<&[u8]>
     requires { 1 ≤ stop }
     ensures { MatchOption result (dots_behind path.now ≡ true)

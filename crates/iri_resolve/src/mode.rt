@@ -50,6 +50,7 @@ pub(crate) fn is_by_scheme(mode: Mode) -> bool
 }
 
 /// The port that goes from an authority beside this scheme.
+#[inline(always)]
 pub(crate) fn dropped_in(mode: Mode, scheme: Option<&str>) -> Option<&'static str>
     ensures { now_of result ≡ dropped_in mode (now_of scheme.entry) }
 {

@@ -233,6 +233,7 @@ fn show_pieces<S: Spec, W: TextSink>(
 }
 
 // A path in two pieces as it stands.
+#[inline(always)]
 fn show_as_it_stands<S: Spec, W: TextSink>(
     sink: &mut W,
     front: &str,

@@ -38,6 +38,7 @@ fn begins_segment(text: &[u8]) -> bool
 }
 
 /// Where the last segment begins and its kind, where it is a dot segment.
+#[inline(always)]
 pub fn last_dots(text: &[u8]) -> Option<(usize, SegmentKind)>
     ensures { MatchOption result (HasNoLastDots text.now) (λ r. IsLastDots text.now r.0 r.1) }
 {
