@@ -46,32 +46,29 @@ module _ (rules : Rules) where
     before = read_none rules lo old is.held is.taken is.ended
 
     -- The base line was given.
-    pub gives_line : (buffer : List ℕ) (len : ℕ) → Advances old new lo ln fo fn (Ok true) → take len buffer ≡ new.line
-        → len ≡ length new.line → len ≤ length buffer → ReadsBase rules lo ln fo fn new buffer (Ok len)
-    gives_line buffer len a line_is size fits = (
+    pub gives_line : (base : List ℕ) → Advances old new lo ln fo fn (Ok true) → base ≡ new.line → ReadsBase rules lo ln fo fn new base (Ok tt)
+    gives_line base a line_is = (
       inl (
         subst (λ (l : List ℕ). HasRead rules lo ln new (l ∷ [])) (sym line_is)
             (reads_line rules lo lo ln fo fn old new [] (new_going old is) before a),
         goes_on rules lo ln fo fn old new (new_going old is) a,
       ),
-      omega (arith, size, is.line_limit, line_short lo ln fo fn old new a),
-      fits,
+      omega (arith, ap length line_is, is.line_limit, line_short lo ln fo fn old new a),
       a.later,
     )
 
     -- There is no line.
-    pub gives_none : (buffer : List ℕ) → Advances old new lo ln fo fn (Ok false) → ReadsBase rules lo ln fo fn new buffer (Ok 0)
-    gives_none buffer a = (
-      inr (reads_all rules lo lo ln fo fn old new [] (new_going old is) before a, refl),
-      omega arith,
-      omega arith,
+    pub gives_none : (base : List ℕ) → Advances old new lo ln fo fn (Ok false) → base ≡ [] → ReadsBase rules lo ln fo fn new base (Ok tt)
+    gives_none base a none = (
+      inr (reads_all rules lo lo ln fo fn old new [] (new_going old is) before a, none),
+      omega (arith, ap length none),
       a.later,
     )
 
     -- The reader answered a fault.
-    pub gives_fault : (buffer : List ℕ) (fault : LineFault) → Advances old new lo ln fo fn (Err fault)
-        → ReadsBase rules lo ln fo fn new buffer (Err fault)
-    gives_fault buffer fault a written k r = record {
+    pub gives_fault : (base : List ℕ) (fault : LineFault) → Advances old new lo ln fo fn (Err fault)
+        → ReadsBase rules lo ln fo fn new base (Err fault)
+    gives_fault base fault a written k r = record {
       to = by_fault fault a;
       front = λ x told. record { front = []; rest = (ending rules x).output; split = refl; appended = Appends-none written };
       source_later = a.later;

@@ -49,7 +49,7 @@ has_room s m base line text output l taken none is room =
     omega (arith, h, e, room)
 
 -- the buffers have a new reader
-pub new_reader : (s : Tests) (m : CanonMode) (reader : LineState) (base output : List ℕ) → AreBuffers reader base output → IsNew (canon_rules_in s m) reader
+pub new_reader : (s : Tests) (m : CanonMode) (reader : LineState) (base output : ℕ) → AreBuffers reader base output → IsNew (canon_rules_in s m) reader
 new_reader s m reader base output b = record {
   held = b.held;
   taken = b.taken;
@@ -76,9 +76,9 @@ base_read s m lo lm reader base text gives is taken =
     gives
 
 -- `canon` stands behind the base line
-pub canon_ready : (s : Tests) (m : CanonMode) (lo lm : Option (List ℕ)) (reader : LineState) (base text output : List ℕ) → IsSpec s
+pub canon_ready : (s : Tests) (m : CanonMode) (lo lm : Option (List ℕ)) (reader : LineState) (base text : List ℕ) (output : ℕ) → IsSpec s
     → GivesBase (canon_rules_in s m) lo lm reader base → text ≡ prepared s base → refusal s base ≡ None → length text ≤ longest_line
-    → length output ≡ answer_room → IsReady (IsCanonAt s m text output) (record { rules = canon_rules_in s m; base = base; between = [] }) reader
+    → answer_room ≤ output → IsReady (IsCanonAt s m text output) (record { rules = canon_rules_in s m; base = base; between = [] }) reader
 canon_ready s m lo lm reader base text output k gives is taken short room = record {
   at = record {
     rules = refl;
@@ -103,15 +103,15 @@ pub on_ok : {X : Type 0} (r : Result Bool AnswerError) → X → OnOk r X
 on_ok (Ok x) h = h
 on_ok (Err x) h = tt
 
-pub answers_line : (s : Tests) (m : CanonMode) (base line output new : List ℕ) (at : Answering) (wo wn : Option (List ℕ)) (fo fn : ℕ) (ro rn : Option ℕ)
-    (r : Result Bool AnswerError) → IsCanonAt s m base output at → length new ≡ length output → PutsLine wo wn fo fn (answer_in s m base line) r
+pub answers_line : (s : Tests) (m : CanonMode) (base line : List ℕ) (output new : ℕ) (at : Answering) (wo wn : Option (List ℕ)) (fo fn : ℕ)
+    (ro rn : Option ℕ) (r : Result Bool AnswerError) → IsCanonAt s m base output at → output ≤ new → PutsLine wo wn fo fn (answer_in s m base line) r
     → KeepsRoom ro rn (answer_in s m base line) (r ≢ Err SinkFailed) → AnswersLine (IsCanonAt s m base new) at line wo wn fo fn ro rn r
-answers_line s m base line output new at wo wn fo fn ro rn r is size p room =
+answers_line s m base line output new at wo wn fo fn ro rn r is grows p room =
     let e : answer_in s m base line ≡ at.rules.answer at.base at.between line =
     is.same line ∙ ap (λ (rules : Rules). rules.answer at.base at.between line) (sym is.rules) in
     record {
       puts = puts_answer at.rules wo wn fo fn r (at.rules.answer at.base at.between line) (ap (λ (rules : Rules). rules.is_good) is.rules)
           (subst (λ t. PutsLine wo wn fo fn t r) e p);
-      next = on_ok r (record { rules = is.rules; same = is.same; taken = is.taken; short = is.short; room = size ∙ is.room });
+      next = on_ok r (record { rules = is.rules; same = is.same; taken = is.taken; short = is.short; room = omega (arith, grows, is.room) });
       room = subst (λ t. KeepsRoom ro rn t (r ≢ Err SinkFailed)) e room;
     }

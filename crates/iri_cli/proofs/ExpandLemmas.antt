@@ -105,7 +105,7 @@ told_room {ro = ro} {rn} good r text line result told is p =
     (subst (λ t. KeepsRoom ro rn t (told_of good r ≢ Err SinkFailed)) is (line_room good r text p))
 
 -- ---- one line more
-module _ (s : Tests) (base expansion output : List ℕ) (values : Values) (at : Answering)
+module _ (s : Tests) (base expansion : List ℕ) (output : ℕ) (values : Values) (at : Answering)
     (is : IsExpandAt s base expansion output values at) (line : List ℕ) (said : ExpandLine) (reads : line_of line ≡ said) where
   answer_is : at.rules.answer at.base at.between line ≡ answer_to s base values said
   answer_is =
@@ -114,10 +114,10 @@ module _ (s : Tests) (base expansion output : List ℕ) (values : Values) (at : 
       ∙ ap (λ v. answer_to s base v (line_of line)) (sym is.values_are)
       ∙ ap (answer_to s base values) reads
 
-  next_at : (expansion_new output_new : List ℕ) (new : Values) → length expansion_new ≡ length expansion → length output_new ≡ length output
+  next_at : (expansion_new : List ℕ) (output_new : ℕ) (new : Values) → length expansion_new ≡ length expansion → output ≤ output_new
       → new ≡ after_line values said
       → IsExpandAt s base expansion_new output_new new (record at { between = at.between ++ line ∷ [] })
-  next_at expansion_new output_new new expansion_size output_size after = record {
+  next_at expansion_new output_new new expansion_size output_grows after = record {
     rules = is.rules;
     base_is = is.base_is;
     values_are = after ∙ ap (λ v. after_line v said) is.values_are ∙ ap (after_line (values_behind at.between)) (sym reads)
@@ -125,7 +125,7 @@ module _ (s : Tests) (base expansion output : List ℕ) (values : Values) (at : 
     taken = is.taken;
     short = is.short;
     expansion_room = expansion_size ∙ is.expansion_room;
-    output_room = output_size ∙ is.output_room;
+    output_room = omega (arith, output_grows, is.output_room);
   }
 
   on_ok : {X : Type 0} (r : Result Bool AnswerError) → X → OnOk r X
@@ -140,15 +140,15 @@ module _ (s : Tests) (base expansion output : List ℕ) (values : Values) (at : 
     puts_answer (Err SinkFailed) text e p = p
     puts_answer (Err Memory) text e p = absurd p
 
-    pub answers_text : (expansion_new output_new : List ℕ) (r : Result Bool AnswerError) → length expansion_new ≡ length expansion
-        → length output_new ≡ length output → values ≡ after_line values said
+    pub answers_text : (expansion_new : List ℕ) (output_new : ℕ) (r : Result Bool AnswerError) → length expansion_new ≡ length expansion
+        → output ≤ output_new → values ≡ after_line values said
         → is_ok_or_none (answer_to s base values said) ≡ is_ok (answer_to s base values said)
         → PutsLine wo wn fo fn (answer_to s base values said) r
         → KeepsRoom ro rn (answer_to s base values said) (r ≢ Err SinkFailed)
         → AnswersLine (IsExpandAt s base expansion_new output_new values) at line wo wn fo fn ro rn r
-    answers_text expansion_new output_new r expansion_size output_size same good p room = record {
+    answers_text expansion_new output_new r expansion_size output_grows same good p room = record {
       puts = subst (λ t. PutsAnswer at.rules wo wn fo fn t r) (sym answer_is) (puts_answer r (answer_to s base values said) good p);
-      next = on_ok r (next_at expansion_new output_new values expansion_size output_size same);
+      next = on_ok r (next_at expansion_new output_new values expansion_size output_grows same);
       room = subst (λ t. KeepsRoom ro rn t (r ≢ Err SinkFailed)) (sym answer_is) room;
     }
 
@@ -166,7 +166,7 @@ module _ (s : Tests) (base expansion output : List ℕ) (values : Values) (at : 
     answers_nothing new after = record {
       puts = subst (λ t. PutsAnswer at.rules w w f f t (Ok true)) (sym text_is)
           (Appends-none w, refl, ap (λ (x : Rules). x.is_good []) (sym is.rules));
-      next = next_at expansion output new refl refl after;
+      next = next_at expansion output new refl (omega arith) after;
       room = room-same r text (λ _ h. cc h);
     }
 
@@ -183,9 +183,9 @@ pub expand_begins : (s : Tests) → BeginsAsCanon s (expand_rules s)
 expand_begins s = record { line_limit = refl; input_limit = refl; refusal = refl; takes_memory = refl }
 
 -- `expand` stands behind an opened base line, with buffers and no values
-pub expand_ready : (s : Tests) (lo lm : Option (List ℕ)) (fo fm : ℕ) (reader : LineState) (base text expansion output : List ℕ)
-    (context : SimpleContext) → IsOpened (expand_rules s) lo lm fo fm reader base → text ≡ base → length expansion ≡ expansion_limit
-    → length output ≡ answer_room → ((q : List ℕ) → value_at context q ≡ None)
+pub expand_ready : (s : Tests) (lo lm : Option (List ℕ)) (fo fm : ℕ) (reader : LineState) (base text expansion : List ℕ)
+    (output : ℕ) (context : SimpleContext) → IsOpened (expand_rules s) lo lm fo fm reader base → text ≡ base → length expansion ≡ expansion_limit
+    → answer_room ≤ output → ((q : List ℕ) → value_at context q ≡ None)
     → IsReady (IsExpandAt s text expansion output (value_in context)) (record { rules = expand_rules s; base = base; between = [] }) reader
 expand_ready s lo lm fo fm reader base text expansion output context o is expansion_room output_room none = record {
   at = record {

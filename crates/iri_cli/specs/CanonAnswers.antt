@@ -24,10 +24,11 @@ abbrev pub told_of : Bool → Result (Unit {0}) Failed → Result Bool AnswerErr
 told_of good (Ok x) = Ok good
 told_of good (Err failed) = Err SinkFailed
 
--- `canon` stands at a base that is taken, holds a text that has the same answers, and has room for each of them.
-pub record IsCanonAt (s : Tests) (mode : CanonMode) (base output : List ℕ) (at : Answering) : Type 0 where
+-- `canon` stands at a base that is taken, holds a text that has the same answers, and its output buffer has the capacity for each of
+-- them.
+pub record IsCanonAt (s : Tests) (mode : CanonMode) (base : List ℕ) (output : ℕ) (at : Answering) : Type 0 where
   pub rules : at.rules ≡ canon_rules_in s mode
   pub same : (line : List ℕ) → answer_in s mode base line ≡ answer_in s mode at.base line
   pub taken : refusal s base ≡ None
   pub short : length base ≤ longest_line
-  pub room : length output ≡ answer_room
+  pub room : answer_room ≤ output

@@ -1,5 +1,5 @@
 -- The ends of a run by what its steps answer, and the base line.
-use Rattle.std.specs.Prelude.{◌≡◌, ◌⊎◌, ◌≤◌, ℕ, Bool, true, false, List, [], ◌∷◌, length, take, Option, Result, Ok, Err}
+use Rattle.std.specs.Prelude.{◌≡◌, ◌⊎◌, ◌≤◌, ℕ, Bool, true, false, List, [], ◌∷◌, length, Option, Result, Ok, Err}
 use Rattle.iri_text.specs.Line.{LineState}
 use Rattle.iri_cli.specs.Ending.{Rules}
 use Rattle.iri_cli.specs.Read.{HasRead, ReadsAll, IsGoing}
@@ -35,12 +35,11 @@ abbrev pub GivesBase : Rules → Option (List ℕ) → Option (List ℕ) → Lin
 GivesBase rules left_old left_new reader base =
     (HasRead rules left_old left_new reader (base ∷ []) × IsGoing rules reader) ⊎ (ReadsAll rules left_old left_new [] × (base ≡ []))
 
--- The base line was read into a buffer; or the run ended, and nothing was written.
-abbrev pub ReadsBase : Rules → Option (List ℕ) → Option (List ℕ) → ℕ → ℕ → LineState → List ℕ → Result ℕ LineFault → Type 0
-ReadsBase rules left_old left_new faults_old faults_new reader buffer (Ok len) =
-    GivesBase rules left_old left_new reader (take len buffer) × (len ≤ rules.line_limit) × (len ≤ length buffer)
-    × (faults_old ≤ faults_new)
-ReadsBase rules left_old left_new faults_old faults_new reader buffer (Err fault) =
+-- This base line was read; or the run ended, and nothing was written.
+abbrev pub ReadsBase : Rules → Option (List ℕ) → Option (List ℕ) → ℕ → ℕ → LineState → List ℕ → Result (Unit {0}) LineFault → Type 0
+ReadsBase rules left_old left_new faults_old faults_new reader base (Ok x) =
+    GivesBase rules left_old left_new reader base × (length base ≤ rules.line_limit) × (faults_old ≤ faults_new)
+ReadsBase rules left_old left_new faults_old faults_new reader base (Err fault) =
     (written : Option (List ℕ)) (sink_faults : ℕ) (sink_room : Option ℕ)
     → Ran rules (outside left_old written faults_old sink_faults) (outside left_new written faults_new sink_faults) sink_room sink_room
     (end_at fault)

@@ -1,5 +1,6 @@
 // The base line.
-ghost use Rattle.std.specs.Prelude.{◌≡◌, ◌≢◌, ◌≤◌, false, length, take};
+ghost use Rattle.std.specs.Prelude.{◌≡◌, ◌≢◌, ◌≤◌, false, length};
+ghost use Rattle.std.specs.Vec.{vec_capacity};
 ghost use Rattle.iri_text.specs.Sink.{PutsAll, KeepsRoom};
 ghost use Rattle.iri_cli.specs.Ending.{Rules, base_line};
 ghost use Rattle.iri_cli.specs.Steps.{IsNew, ReadsBase};
@@ -8,33 +9,41 @@ ghost use Rattle.iri_cli.specs.declared.end.End.TheVariants.{SinkFailed};
 
 use crate::end::End;
 use iri_text::{Failed, LineFault, LineReader, Sink, Source};
+use std::alloc::AllocError;
 
-/// Copies a line to the start of a buffer, and says how many bytes it has.
-pub fn copy_line(line: &[u8], buffer: &mut [u8]) -> usize
-    requires { length line.now ≤ length buffer.old }
-    ensures len { result ≡ length line.now }
-    ensures copied { take result buffer.new ≡ line.now }
+/// Copies a line to a buffer that has the capacity for it.
+pub fn copy_line(line: &[u8], buffer: &mut Vec<u8>)
+    requires { length line.now ≤ vec_capacity buffer.old }
+    ensures { buffer.new.items ≡ line.now }
 {
-    buffer[..line.len()].copy_from_slice(line);
-    line.len()
+    buffer.clear();
+    match buffer.extend_from_slice(line) {
+        Ok(()) => (),
+        Err(AllocError) => unreachable!(),
+    }
 }
 
-/// Reads the base line into the start of a buffer, and says how many bytes it has. Where there is no line, the base is the empty
-/// text.
+/// Reads the base line into a buffer. Where there is no line, the base is the empty text.
 pub fn read_base<I: Source>(
     reader: &mut LineReader,
     source: &mut I,
-    buffer: &mut [u8],
-) -> Result<usize, LineFault>
+    buffer: &mut Vec<u8>,
+) -> Result<(), LineFault>
     requires going { reader.old.done ≡ false }
-    requires room { reader.old.line_limit ≤ length buffer.old }
+    requires room { reader.old.line_limit ≤ vec_capacity buffer.old }
     ensures { (rules : Rules) → IsNew rules reader.old
         → ReadsBase rules (I.left source.old) (I.left source.new) (I.faults source.old)
-        (I.faults source.new) reader.new buffer.new result }
+        (I.faults source.new) reader.new buffer.new.items result }
 {
     match reader.advance(source) {
-        Ok(true) => Ok(copy_line(reader.line(), buffer)),
-        Ok(false) => Ok(0),
+        Ok(true) => {
+            copy_line(reader.line(), buffer);
+            Ok(())
+        }
+        Ok(false) => {
+            buffer.clear();
+            Ok(())
+        }
         Err(fault) => Err(fault),
     }
 }

@@ -1,5 +1,6 @@
 //! The memory of a run of `canon`.
-ghost use Rattle.std.specs.Prelude.{IfOk};
+ghost use Rattle.std.specs.Prelude.{◌≤◌, IfOk, length};
+ghost use Rattle.std.specs.Vec.{vec_capacity};
 ghost use Rattle.iri_cli.specs.Buffers.{AreBuffers};
 
 use iri_text::LineReader;
@@ -15,28 +16,55 @@ pub const INPUT: u64 = 1073741824;
 /// three more.
 pub const OUTPUT: usize = 2 * LINE + 4;
 
-/// All of the memory that a run of `canon` needs: for a reader of lines, the base line, and the text of an answer with its LF.
+/// All of the memory that a run of `canon` needs: for a reader of lines, the base line, and the text of an answer with its LF. Of the
+/// last two it uses only as much as its longest lines need.
 #[derive(Drop)]
 pub struct CanonBuffers {
     pub(crate) reader: LineReader,
     pub(crate) base: Vec<u8>,
     pub(crate) output: Vec<u8>,
-    pub ghost sound: { AreBuffers reader base.items output.items },
+    pub ghost sound: { AreBuffers reader (vec_capacity base) (vec_capacity output) },
 }
 
 impl CanonBuffers {
     /// Takes the memory: 65,536 bytes and a line for a reader that took nothing yet, a line for the base, and two lines and four bytes
     /// for the text of an answer with its LF. It fails only where that is refused.
     pub fn new(alloc: Global) -> Result<CanonBuffers, AllocError>
-        ensures { IfOk result (λ b. AreBuffers b.reader b.base.items b.output.items) }
+        ensures { IfOk result (λ b. AreBuffers b.reader (vec_capacity b.base) (vec_capacity b.output)) }
     {
         let reader = LineReader::new(alloc, LINE, INPUT)?;
-        let base = vec![in alloc; 0; LINE]?;
-        let output = vec![in alloc; 0; OUTPUT]?;
+        let base = Vec::with_capacity(alloc, LINE)?;
+        let output = Vec::with_capacity(alloc, OUTPUT)?;
         Ok(CanonBuffers {
             reader,
             base,
             output,
         })
+    }
+}
+
+// Lengthens a buffer within its capacity.
+#[cold]
+#[inline(never)]
+fn lengthen(buffer: &mut Vec<u8>, len: usize)
+    requires { len ≤ vec_capacity buffer.old }
+    ensures room { len ≤ length buffer.new.items }
+    ensures capacity { vec_capacity buffer.old ≤ vec_capacity buffer.new }
+{
+    match buffer.resize(len, 0) {
+        Ok(()) => (),
+        Err(AllocError) => unreachable!(),
+    }
+}
+
+/// Makes a buffer at least so long, within its capacity: what was never used of it takes no pages.
+#[inline(always)]
+pub(crate) fn room_for(buffer: &mut Vec<u8>, len: usize)
+    requires { len ≤ vec_capacity buffer.old }
+    ensures room { len ≤ length buffer.new.items }
+    ensures capacity { vec_capacity buffer.old ≤ vec_capacity buffer.new }
+{
+    if buffer.len() < len {
+        lengthen(buffer, len);
     }
 }

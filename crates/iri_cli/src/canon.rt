@@ -1,5 +1,6 @@
 // The answers of `canon`.
 ghost use Rattle.std.specs.Prelude.{◌≡◌, ◌≢◌, ◌≤◌, ◌+◌, [], ◌∷◌, ◌++◌, None, Some, Ok, Err, codes, length, MatchResult};
+ghost use Rattle.std.specs.Vec.{vec_capacity};
 ghost use Rattle.iri_text.specs.Sink.{PutsAll, KeepsRoom};
 ghost use Rattle.iri_types.specs.SplitText.{split_text};
 ghost use Rattle.iri_types.specs.Texts.{text};
@@ -11,6 +12,7 @@ ghost use Rattle.iri_cli.specs.declared.answers.AnswerError.TheVariants.{SinkFai
 ghost use Rattle.iri_text.specs.LineEnds.{line_feed};
 
 use crate::answers::{AnswerError, Answers};
+use crate::buffers::room_for;
 use iri_grammar::spec::Spec;
 use iri_resolve::canonical::show_canonical_in;
 use iri_resolve::mode::CanonMode;
@@ -105,20 +107,24 @@ pub(crate) fn told(good: bool, put: Result<(), Failed>) -> Result<bool, AnswerEr
 /// Puts the answer to a line by the rules of a mode, and says whether it is good.
 pub(crate) fn put_answer<S: Spec, O: Sink>(
     sink: &mut O,
-    output: &mut [u8],
+    output: &mut Vec<u8>,
     mode: CanonMode,
     resolver: &FixedBaseResolver<'_, S>,
     line: &[u8],
 ) -> Result<bool, AnswerError>
     requires base { refusal S.tests (base_text resolver.now) ≡ None }
-    requires room { length (base_text resolver.now) + length line.now + 4 ≤ length output.old }
+    requires room { length (base_text resolver.now) + length line.now + 4 ≤ vec_capacity output.old }
     ensures puts { PutsLine (O.written sink.old) (O.written sink.new) (O.faults sink.old) (O.faults sink.new)
         (answer_in S.tests mode (base_text resolver.now) line.now) result }
     ensures room { KeepsRoom (O.room_left sink.old) (O.room_left sink.new)
         (answer_in S.tests mode (base_text resolver.now) line.now) (result ≢ Err SinkFailed) }
+    ensures capacity { vec_capacity output.old ≤ vec_capacity output.new }
 {
     match SplitView::<S, Reference>::try_from_bytes(line) {
-        Ok(reference) => told(true, put_good(sink, output, mode, resolver, &reference)),
+        Ok(reference) => {
+            room_for(output, resolver.base().len() + line.len() + 4);
+            told(true, put_good(sink, output, mode, resolver, &reference))
+        }
         Err(error) => told(false, put_bad(sink, error.kind().description())),
     }
 }
@@ -132,10 +138,11 @@ pub struct Canon<'a, S: Spec> {
 }
 
 impl<'a, S: Spec> Answers for Canon<'a, S> {
+    ghost use Rattle.std.specs.Vec.{vec_capacity};
     ghost use Rattle.iri_resolve.specs.Resolver.{base_text};
     ghost use Rattle.iri_cli.specs.CanonAnswers.{IsCanonAt};
 
-    ghost stands_at = { λ c at. IsCanonAt S.tests c.mode (base_text c.resolver) c.output.items at };
+    ghost stands_at = { λ c at. IsCanonAt S.tests c.mode (base_text c.resolver) (vec_capacity c.output) at };
 
     fn answer<O: Sink>(&mut self, line: &[u8], sink: &mut O) -> Result<bool, AnswerError> {
         put_answer::<S, O>(sink, &mut self.output, self.mode, &self.resolver, line)

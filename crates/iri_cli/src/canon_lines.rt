@@ -1,5 +1,6 @@
 //! The lines of `canon`.
 ghost use Rattle.std.specs.Prelude.{◌≢◌};
+ghost use Rattle.std.specs.Vec.{vec_capacity};
 ghost use Rattle.iri_cli.specs.Answer.{AnswersAreCanonical, AnswersAreCanonicalIn};
 ghost use Rattle.iri_cli.specs.Buffers.{AreBuffers};
 ghost use Rattle.iri_cli.specs.Run.{outside, Ran, Runs};
@@ -19,24 +20,24 @@ use iri_text::{LineReader, Sink, Source};
 fn answer_with<S: Spec, I: Source, O: Sink>(
     mode: CanonMode,
     mut reader: LineReader,
-    buffer: &mut [u8],
+    buffer: &mut Vec<u8>,
     mut output: Vec<u8>,
     source: &mut I,
     sink: &mut O,
 ) -> End
-    requires { AreBuffers reader buffer.old output.items }
+    requires { AreBuffers reader (vec_capacity buffer.old) (vec_capacity output) }
     ensures { Ran (canon_rules_in S.tests mode) (outside (I.left source.old) (O.written sink.old) (I.faults source.old)
         (O.faults sink.old))
         (outside (I.left source.new) (O.written sink.new) (I.faults source.new) (O.faults sink.new))
         (O.room_left sink.old) (O.room_left sink.new) result }
 {
-    let len = match read_base(&mut reader, source, buffer) {
-        Ok(len) => len,
+    match read_base(&mut reader, source, buffer) {
+        Ok(()) => (),
         Err(fault) => return fault_end(fault),
-    };
-    match prepare_base::<S>(buffer, len, &mut output) {
-        Ok(len) => {
-            let resolver = resolver_of::<S>(&buffer[..len]);
+    }
+    match prepare_base::<S>(buffer, &mut output) {
+        Ok(()) => {
+            let resolver = resolver_of::<S>(buffer);
             let mut canon = Canon {
                 mode,
                 resolver,

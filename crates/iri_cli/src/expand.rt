@@ -1,5 +1,6 @@
 // The answers of `expand`.
 ghost use Rattle.std.specs.Prelude.{◌≡◌, ◌≢◌, ◌≤◌, ◌++◌, ◌∷◌, [], length, Err, None};
+ghost use Rattle.std.specs.Vec.{vec_capacity};
 ghost use Rattle.iri_template.specs.Contexts.{value_in};
 ghost use Rattle.iri_template.specs.ExpandedTexts.{expanded_text};
 ghost use Rattle.iri_text.specs.Sink.{KeepsRoom, PutsAll};
@@ -41,7 +42,7 @@ fn put_refusal<O: Sink>(sink: &mut O, error: Error) -> Result<(), Failed>
 // Puts the answer to an expansion, and says whether it is good. Two buffers have room for the expansion, and for its answer.
 fn put_expansion<S: Spec, O: Sink>(
     sink: &mut O,
-    output: &mut [u8],
+    output: &mut Vec<u8>,
     expansion: &mut [u8],
     resolver: FixedBaseResolver<'_, S>,
     expanded: &Expanded<'_, S, SimpleContext>,
@@ -49,12 +50,13 @@ fn put_expansion<S: Spec, O: Sink>(
     requires base { refusal S.tests (base_text resolver) ≡ None }
     requires short { length (base_text resolver) ≤ longest_line }
     requires room { length expansion.old ≡ expansion_limit }
-    requires output_room { length output.old ≡ answer_room }
+    requires output_room { answer_room ≤ vec_capacity output.old }
     ensures puts { PutsLine (O.written sink.old) (O.written sink.new) (O.faults sink.old) (O.faults sink.new)
         (expansion_answer S.tests (base_text resolver.entry) (expanded_text S.tests value_in expanded.now)) result }
     ensures room { KeepsRoom (O.room_left sink.old) (O.room_left sink.new)
         (expansion_answer S.tests (base_text resolver.entry) (expanded_text S.tests value_in expanded.now))
         (result ≢ Err SinkFailed) }
+    ensures capacity { vec_capacity output.old ≤ vec_capacity output.new }
 {
     match write_to_slice(expansion, expanded) {
         Ok(text) => put_answer::<S, O>(
@@ -71,7 +73,7 @@ fn put_expansion<S: Spec, O: Sink>(
 // Puts the answer to a template, and says whether it is good.
 fn put_template<'a, S: Spec, O: Sink>(
     sink: &mut O,
-    output: &mut [u8],
+    output: &mut Vec<u8>,
     expansion: &mut [u8],
     resolver: FixedBaseResolver<'_, S>,
     values: &'a SimpleContext,
@@ -80,12 +82,13 @@ fn put_template<'a, S: Spec, O: Sink>(
     requires base { refusal S.tests (base_text resolver) ≡ None }
     requires short { length (base_text resolver) ≤ longest_line }
     requires room { length expansion.old ≡ expansion_limit }
-    requires output_room { length output.old ≡ answer_room }
+    requires output_room { answer_room ≤ vec_capacity output.old }
     ensures puts { PutsLine (O.written sink.old) (O.written sink.new) (O.faults sink.old) (O.faults sink.new)
         (template_answer S.tests (base_text resolver.entry) (value_in values.now) template.now) result }
     ensures room { KeepsRoom (O.room_left sink.old) (O.room_left sink.new)
         (template_answer S.tests (base_text resolver.entry) (value_in values.now) template.now)
         (result ≢ Err SinkFailed) }
+    ensures capacity { vec_capacity output.old ≤ vec_capacity output.new }
 {
     match UriTemplateStr::try_from_bytes(template) {
         Ok(template) => match template.expand::<S, SimpleContext>(values) {
@@ -107,11 +110,12 @@ pub struct Expand<'a, S: Spec> {
 }
 
 impl<'a, S: Spec> Answers for Expand<'a, S> {
+    ghost use Rattle.std.specs.Vec.{vec_capacity};
     ghost use Rattle.iri_template.specs.Contexts.{value_in};
     ghost use Rattle.iri_resolve.specs.Resolver.{base_text};
     ghost use Rattle.iri_cli.specs.inside.ExpandAt.{IsExpandAt};
 
-    ghost stands_at = { λ e at. IsExpandAt S.tests (base_text e.resolver) e.expansion.items e.output.items
+    ghost stands_at = { λ e at. IsExpandAt S.tests (base_text e.resolver) e.expansion.items (vec_capacity e.output)
         (value_in e.values) at };
 
     fn answer<O: Sink>(&mut self, line: &[u8], sink: &mut O) -> Result<bool, AnswerError> {

@@ -24,7 +24,7 @@ fn answer_all<S: Spec, I: Source, O: Sink>(alloc: Global, source: &mut I, sink: 
 {
     let (Ok(expansion), Ok(output)) = (
         vec![in alloc; 0; EXPANSION_LIMIT],
-        vec![in alloc; 0; OUTPUT],
+        Vec::with_capacity(alloc, OUTPUT),
     ) else {
         return End::Memory;
     };

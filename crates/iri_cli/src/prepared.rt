@@ -1,5 +1,6 @@
 // The base, prepared once for all of its references.
-ghost use Rattle.std.specs.Prelude.{◌≡◌, ◌≤◌, ◌+◌, [], ◌∷◌, ◌++◌, None, Some, List, ℕ, length, take, MatchResult};
+ghost use Rattle.std.specs.Prelude.{◌≡◌, ◌≤◌, ◌+◌, [], ◌∷◌, ◌++◌, ◌*◌, None, Some, List, ℕ, length, MatchResult};
+ghost use Rattle.std.specs.Vec.{vec_capacity};
 ghost use Rattle.iri_grammar.specs.Characters.{slash};
 ghost use Rattle.iri_types.specs.Texts.{text};
 ghost use Rattle.iri_resolve.specs.NormalForm.{canonical};
@@ -8,7 +9,7 @@ ghost use Rattle.iri_cli.specs.Answer.{refusal};
 ghost use Rattle.iri_cli.specs.Prepared.{prepared};
 
 use crate::base::copy_line;
-use crate::buffers::LINE;
+use crate::buffers::room_for;
 use crate::canon::base_of;
 use iri_grammar::spec::Spec;
 use iri_resolve::canonical::show_canonical;
@@ -75,12 +76,11 @@ fn before_slash(text: &str) -> &str
 // Writes a prepared base to a buffer. It has no more bytes than the base.
 fn write_prepared<'b, S: Spec>(base: RiAbsoluteStr<'_, S>, output: &'b mut [u8]) -> &'b str
     requires taken { refusal S.tests (text base) ≡ None }
-    requires short { length (text base) ≤ longest_line }
-    requires room { length output.old ≡ answer_room }
+    requires room { 2 * length (text base) + 4 ≤ length output.old }
     ensures text { result.now ≡ prepared S.tests (text base.entry) }
     ensures len { length result.now ≤ length (text base.entry) }
 {
-    let (scratch, back) = output.split_at_mut(LINE + 4);
+    let (scratch, back) = output.split_at_mut(base.len() + 4);
     let mut sink = SliceSink::new(scratch);
     write_root(&mut sink, base);
     let prefix = before_slash(sink.as_str());
@@ -90,23 +90,23 @@ fn write_prepared<'b, S: Spec>(base: RiAbsoluteStr<'_, S>, output: &'b mut [u8])
     }
 }
 
-/// Puts scheme and authority of the base line at the start of a buffer into normal form, and says how many bytes the line then has;
-/// or says in words why it is refused. The output buffer is its scratch buffer.
-pub fn prepare_base<S: Spec>(
-    buffer: &mut [u8],
-    len: usize,
-    output: &mut [u8],
-) -> Result<usize, &'static str>
-    requires inside { len ≤ length buffer.old }
-    requires short { len ≤ longest_line }
-    requires room { length output.old ≡ answer_room }
-    ensures { MatchResult result
-        (λ n. (n ≤ len) × (refusal S.tests (take len buffer.old) ≡ None)
-        × (take n buffer.new ≡ prepared S.tests (take len buffer.old)))
-        (λ words. refusal S.tests (take len buffer.old) ≡ Some words.now) }
+/// Puts scheme and authority of the base line in a buffer into normal form, or says in words why it is refused. The output buffer is
+/// its scratch buffer.
+pub fn prepare_base<S: Spec>(buffer: &mut Vec<u8>, output: &mut Vec<u8>) -> Result<(), &'static str>
+    requires short { length buffer.old.items ≤ longest_line }
+    requires room { answer_room ≤ vec_capacity output.old }
+    ensures prepares { MatchResult result
+        (λ _. (length buffer.new.items ≤ length buffer.old.items) × (refusal S.tests buffer.old.items ≡ None)
+        × (buffer.new.items ≡ prepared S.tests buffer.old.items))
+        (λ words. refusal S.tests buffer.old.items ≡ Some words.now) }
+    ensures capacity { vec_capacity output.old ≤ vec_capacity output.new }
 {
-    match base_of::<S>(&buffer[..len]) {
-        Ok(base) => Ok(copy_line(write_prepared(base, output).as_bytes(), buffer)),
+    match base_of::<S>(buffer) {
+        Ok(base) => {
+            room_for(output, 2 * base.len() + 4);
+            copy_line(write_prepared(base, output).as_bytes(), buffer);
+            Ok(())
+        }
         Err(words) => Err(words),
     }
 }

@@ -8,12 +8,13 @@ use Rattle.iri_docs.specs.Expanded.{expansion_limit}
 use Rattle.iri_cli.specs.ExpandLines.{Values, values_behind}
 use Rattle.iri_cli.specs.Words.{expand_rules}
 
--- It has the base, which is taken, and the values behind the lines that were answered. The buffers have room for each expansion and answer.
-pub record IsExpandAt (s : Tests) (base expansion output : List ℕ) (values : Values) (at : Answering) : Type 0 where
+-- It has the base, which is taken, and the values behind the lines that were answered. Its buffers have room for each expansion, and
+-- the capacity for each answer.
+pub record IsExpandAt (s : Tests) (base expansion : List ℕ) (output : ℕ) (values : Values) (at : Answering) : Type 0 where
   pub rules : at.rules ≡ expand_rules s
   pub base_is : at.base ≡ base
   pub values_are : values ≡ values_behind at.between
   pub taken : refusal s base ≡ None
   pub short : length base ≤ longest_line
   pub expansion_room : length expansion ≡ expansion_limit
-  pub output_room : length output ≡ answer_room
+  pub output_room : answer_room ≤ output

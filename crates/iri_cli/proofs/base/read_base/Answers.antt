@@ -11,14 +11,12 @@ copy_line-requires g c =
 pub returns-in-Ok-true : goal.returns-in-Ok-true
 returns-in-Ok-true g c = λ rules is.
     let n = rw c.in-Ok-true.field-0-test at c.in-Ok-true.ensures.advances in
-    let fits = line_short _ _ _ _ _ _ n in
-    gives_line rules _ _ _ _ _ _ is _ _ n (c.copy_line.ensures.copied ∙ c.line.ensures) (c.copy_line.ensures.len ∙ ap length c.line.ensures)
-    (omega (arith, fits, c.requires.room, c.copy_line.ensures.len, ap length c.line.ensures, c.copy_line.auto.buffer))
+    gives_line rules _ _ _ _ _ _ is _ n (c.copy_line.ensures ∙ c.line.ensures)
 
 pub returns-in-Ok-false : goal.returns-in-Ok-false
 returns-in-Ok-false g c = λ rules is.
     let n = rw c.in-Ok-false.field-0-test at c.in-Ok-false.ensures.advances in
-    gives_none rules _ _ _ _ _ _ is _ n
+    gives_none rules _ _ _ _ _ _ is _ n c.clear.ensures.items
 
 pub returns-in-Err : goal.returns-in-Err
-returns-in-Err g c = λ rules is. gives_fault rules _ _ _ _ _ _ is c.args.buffer.now _ c.in-Err.ensures.advances
+returns-in-Err g c = λ rules is. gives_fault rules _ _ _ _ _ _ is c.args.buffer.now.items _ c.in-Err.ensures.advances

@@ -1,4 +1,4 @@
-use Rattle.std.proofs.Common.{◌≢◌, ◌++◌, ◌∷◌, [], ◌∙◌, Some, Err, true, false, ap, refl, subst, sym}
+use Rattle.std.proofs.Common.{◌≢◌, ◌≤◌, ◌+◌, ◌++◌, ◌∷◌, [], ◌∙◌, Some, Err, true, false, ap, arith, length, refl, subst, sym}
 use Rattle.std.specs.Prelude.{codes}
 use Rattle.iri_text.specs.Sink.{PutsAll, KeepsRoom}
 use Rattle.iri_cli.specs.declared.answers.AnswerError.TheVariants.{SinkFailed}
@@ -14,8 +14,17 @@ use Rattle.iri_cli.proofs.canon.put_answer.Goals as goal
 pub put_good-requires : goal.put_good-requires
 put_good-requires g c =
     let h = c.in-Ok.ensures in
-    has_room g.S.Spec.tests c.args.mode (base_text c.args.resolver.now) c.args.line.now
-    (split_text c.in-Ok.reference) c.args.output.now g.met.S.Spec.lawful c.requires.base h.fault h.text c.requires.room
+    let base = base_text c.args.resolver.now in
+    let output = c.deref_mut.result.now in
+    let room : length base + length c.args.line.now + 4 ≤ length output = omega (
+      arith,
+      c.room_for.ensures.room,
+      c.len.ensures,
+      ap length c.base.ensures,
+      ap length c.deref_mut.ensures.value,
+    ) in
+    has_room g.S.Spec.tests c.args.mode base c.args.line.now (split_text c.in-Ok.reference) output g.met.S.Spec.lawful c.requires.base h.fault
+    h.text room
 
 pub returns-in-Ok-clause-puts : goal.returns-in-Ok-clause-puts
 returns-in-Ok-clause-puts g c =

@@ -23,7 +23,7 @@ unreachable-requires g c =
     let whole = ap length (prefixed s base c.before_slash-prefix.result.now l valid same) in
     let short = prepared_short s base l valid in
     let long = c.in-Err.ensures.exact.0 refl in
-    omega (arith, c.split_at_mut-scratch.ensures.back_len)
+    omega (arith, c.requires.room, c.len.ensures, c.split_at_mut-scratch.ensures.back_len)
 
 pub returns : goal.returns
 returns g c =

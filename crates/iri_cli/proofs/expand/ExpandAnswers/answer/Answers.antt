@@ -1,5 +1,5 @@
-use Rattle.std.proofs.Common.{◌∙◌, false, refl, sym}
-use Rattle.std.specs.Vec.{with_items}
+use Rattle.std.proofs.Common.{◌∙◌, arith, false, refl, sym}
+use Rattle.std.specs.Vec.{vec_capacity, with_items}
 use Rattle.iri_resolve.specs.Resolver.{base_text}
 use Rattle.iri_template.specs.Contexts.{value_in}
 use Rattle.iri_cli.specs.Refused.{bad_line}
@@ -11,14 +11,14 @@ use Rattle.iri_cli.proofs.expand.ExpandAnswers.answer.Goals as goal
 pub returns-in-Ok : goal.returns-in-Ok
 returns-in-Ok g c = λ at is.
     let self = c.args.self.now in
-    answers_nothing g.S.Spec.tests (base_text self.resolver) self.expansion.items self.output.items (value_in self.values) at is c.args.line.now
+    answers_nothing g.S.Spec.tests (base_text self.resolver) self.expansion.items (vec_capacity self.output) (value_in self.values) at is c.args.line.now
     (changes (change_of c.in-Changes.change)) (sym (c.in-Changes.ensures {u = tt})) (g.O.Sink.written c.args.sink.now)
     (g.O.Sink.faults c.args.sink.now) (g.O.Sink.room_left c.args.sink.now) refl (value_in c.apply.new.values) (c.in-Ok.ensures {u = tt})
 
 pub returns-in-Err : goal.returns-in-Err
 returns-in-Err g c = λ at is.
     let self = c.args.self.now in
-    answers_memory g.S.Spec.tests (base_text self.resolver) self.expansion.items self.output.items (value_in self.values) at is c.args.line.now
+    answers_memory g.S.Spec.tests (base_text self.resolver) self.expansion.items (vec_capacity self.output) (value_in self.values) at is c.args.line.now
     (changes (change_of c.in-Changes.change)) (sym (c.in-Changes.ensures {u = tt})) (g.O.Sink.written c.args.sink.now)
     (g.O.Sink.faults c.args.sink.now) (g.O.Sink.room_left c.args.sink.now) refl _
 
@@ -30,19 +30,18 @@ returns-in-Expands g c = λ at is.
     let values = value_in self.values in
     let template = c.in-Expands.template.now in
     let expansion = with_items self.expansion c.put_template.new.expansion in
-    let output = with_items self.output c.put_template.new.output in
-    answers_text s base self.expansion.items self.output.items values at is c.args.line.now (expands template)
+    answers_text s base self.expansion.items (vec_capacity self.output) values at is c.args.line.now (expands template)
     (sym (c.in-Expands.ensures {u = tt})) (g.O.Sink.written c.args.sink.now) (g.O.Sink.written c.put_template.new.sink)
     (g.O.Sink.faults c.args.sink.now) (g.O.Sink.faults c.put_template.new.sink) (g.O.Sink.room_left c.args.sink.now)
-    (g.O.Sink.room_left c.put_template.new.sink) expansion.items output.items c.put_template.result (sym expansion.ok.0 ∙ self.expansion.ok.0)
-    (sym output.ok.0 ∙ self.output.ok.0) refl (template_good s base values template) c.put_template.ensures.puts c.put_template.ensures.room
+    (g.O.Sink.room_left c.put_template.new.sink) expansion.items (vec_capacity c.put_template.new.output) c.put_template.result (sym expansion.ok.0 ∙ self.expansion.ok.0)
+    c.put_template.ensures.capacity refl (template_good s base values template) c.put_template.ensures.puts c.put_template.ensures.room
 
 pub returns-in-Bad : goal.returns-in-Bad
 returns-in-Bad g c = λ at is.
     let self = c.args.self.now in
     let puts = told_line false c.put_all.result bad_line bad_line c.told.result c.told.ensures refl refl c.put_all.ensures in
     let room = told_room false c.put_all.result bad_line bad_line c.told.result c.told.ensures refl c.put_all.ensures in
-    answers_text g.S.Spec.tests (base_text self.resolver) self.expansion.items self.output.items (value_in self.values) at is c.args.line.now bad
+    answers_text g.S.Spec.tests (base_text self.resolver) self.expansion.items (vec_capacity self.output) (value_in self.values) at is c.args.line.now bad
     (sym (c.in-Bad.ensures {u = tt})) (g.O.Sink.written c.args.sink.now) (g.O.Sink.written c.put_all.new.self)
     (g.O.Sink.faults c.args.sink.now) (g.O.Sink.faults c.put_all.new.self) (g.O.Sink.room_left c.args.sink.now)
-    (g.O.Sink.room_left c.put_all.new.self) self.expansion.items self.output.items c.told.result refl refl refl refl puts room
+    (g.O.Sink.room_left c.put_all.new.self) self.expansion.items (vec_capacity self.output) c.told.result refl (omega arith) refl refl puts room
