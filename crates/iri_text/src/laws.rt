@@ -1,4 +1,4 @@
-// What holds of the lines of a text, of the limits, and of a sink over memory.
+//! What holds of the lines of a text, of the limits, and of a sink over memory.
 ghost use Rattle.std.specs.Prelude.{◌≡◌, ◌≢◌, ◌≤◌, ◌<◌, ◌+◌, ℕ, List, [], ◌∷◌, ◌++◌, length, Some, None};
 ghost use Rattle.iri_text.specs.Lines.{NoLf, no_cr, lines};
 ghost use Rattle.iri_text.specs.Limits.{limit_fault};

@@ -55,7 +55,7 @@ impl<'b> TextSink for StringSink<'b> {
     }
 }
 
-/// Appends the text of a value to a string. Memory is wanting only where the string has no room for the whole text, and then
+/// Appends the text of a value to a string. Allocation fails only where the string has no room for the whole text, and then
 /// the string is the old text and a prefix of the new one.
 pub fn try_append_to_string<T: Show>(dest: &mut String, value: &T) -> Result<(), AllocError>
     ensures whole { OnOk result (string_bytes dest.new ≡ string_bytes dest.old ++ T.text value.now) }

@@ -34,7 +34,8 @@ impl<'a> Model for MemorySource<'a> {
 
 impl<'a> MemorySource<'a> {
     /// All of the bytes are left, and no call is numbered yet. A call gives at most as many bytes as its number in `cuts` says,
-    /// the last one repeating. The calls whose numbers, from 1, stand in `fails` will fail.
+    /// the last one repeating; no cut may be 0, which would be the end of the source. The calls whose numbers, from 1, stand in
+    /// `fails` will fail.
     pub fn new(bytes: &'a [u8], cuts: &'a [usize], fails: &'a [u64]) -> MemorySource<'a>
         requires { All (λ cut. 0 < cut) cuts.now }
         ensures left { ⟦<MemorySource<'a> as Source>⟧.left result ≡ Some bytes.now }
@@ -69,6 +70,7 @@ fn count_of(len: usize, cuts: &[usize], number: u64) -> usize
 
 impl<'a> Source for MemorySource<'a> {
     ghost use Rattle.std.specs.Prelude.{◌≡◌, ◌+◌, ◌-◌, ◌^◌, ◌↔◌, Some, min, length, Contains, IsErr, IfOk};
+    ghost use Rattle.std.specs.Prelude.{OnOk, OnErr};
     ghost use Rattle.iri_text.specs.Source.{Takes};
     ghost use Rattle.iri_text.specs.Memory.{cut_of, capped, IsNextCall};
 
@@ -78,7 +80,7 @@ impl<'a> Source for MemorySource<'a> {
 
     ghost call = { IsNextCall };
 
-    /// Fails exactly where the number of the call stands in `fails`.
+    /// Fails exactly where the number of the call stands in `fails`. Each failure raises the count by one, up to its last value.
     fn take(&mut self, buf: &mut [u8]) -> Result<usize, Failed>
         ensures takes { Takes (Some self.old.left) (Some self.new.left) self.old.faults self.new.faults result buf.new }
         ensures call { IsNextCall self.old self.new }
@@ -88,6 +90,8 @@ impl<'a> Source for MemorySource<'a> {
             ≡ capped (cut_of self.old.cuts self.new.calls) (min (length self.old.left) (length buf.old))) }
         ensures cuts { self.new.cuts ≡ self.old.cuts }
         ensures fails { self.new.fails ≡ self.old.fails }
+        ensures same { OnOk result (self.new.faults ≡ self.old.faults) }
+        ensures raised { OnErr result (self.new.faults ≡ min (self.old.faults + 1) (2 ^ 64 - 1)) }
     {
         self.calls = self.calls.saturating_add(1);
         if self.fails.contains(&self.calls) {

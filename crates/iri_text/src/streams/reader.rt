@@ -193,7 +193,8 @@ impl LineReader {
     ghost use Rattle.iri_text.specs.contracts.streams.reader.LineReader.{the_row};
     ghost use Rattle.iri_text.specs.Reader.{NextLine};
 
-    /// Takes all of the memory that it will need: `line_limit` and 65,536 bytes. Both limits are counts of bytes.
+    /// Takes all of the memory that it will need: `line_limit` and 65,536 bytes. Both limits are counts of bytes: a line may have at
+    /// most 1,048,576, and at least 1; the input less than 2^63. It fails on allocation failure alone.
     pub fn new(alloc: Global, line_limit: usize, input_limit: u64) -> Result<LineReader, AllocError>
         requires { (0 < line_limit) × (line_limit ≤ 1048576) × (input_limit < 2 ^ 63) }
         ensures { IfOk result (λ r. (r.held ≡ []) × (r.taken ≡ 0) × (r.ended ≡ false) × (r.line_limit ≡ line_limit)
