@@ -1,3 +1,4 @@
+//! What is wrong with a text: the kind of its first fault, and the error that tells it.
 ghost use Rattle.std.specs.Prelude.{◌≡◌, ◌++◌, Some, codes};
 
 use std::fmt;

@@ -16,7 +16,8 @@ pub trait Spec: Copy {
     fn is_nonascii_char_private(c: char) -> bool
         ensures { result ≡ tests.priv c };
 
-    /// Whether all characters from U+00A0 to U+D7FF, the first range of `ucschar`, are unreserved (RFC 3987 section 2.2).
+    /// Where this is true, all characters from U+00A0 to U+D7FF, the first range of `ucschar`, are unreserved (RFC 3987 section 2.2).
+    /// False says nothing.
     fn has_first_ucschars() -> bool
         ensures { result ≡ true → HasFirstUcschars tests };
 

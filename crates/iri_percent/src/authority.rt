@@ -44,7 +44,7 @@ impl<S: Spec> Clone for NormalizedAuthority<'_, S> {
 impl<S: Spec> Copy for NormalizedAuthority<'_, S> {}
 
 impl<'a, S: Spec> NormalizedAuthority<'a, S> {
-    /// The normal form of a valid authority, without this port where one is given.
+    /// The normal form of a valid authority (`validate::authority` of `iri_grammar` tells), without this port where one is given.
     pub fn new(authority: &'a str, dropped_port: Option<&'a str>) -> Self
         requires { is_authority S.tests authority.now ≡ true }
         ensures { (result.authority.now ≡ authority.now) × (now_of result.dropped_port ≡ now_of dropped_port.entry) }

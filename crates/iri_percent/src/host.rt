@@ -35,7 +35,7 @@ impl<S: Spec> Clone for NormalizedHost<'_, S> {
 impl<S: Spec> Copy for NormalizedHost<'_, S> {}
 
 impl<'a, S: Spec> NormalizedHost<'a, S> {
-    /// The normal form of a valid host.
+    /// The normal form of a valid host (`validate::host` of `iri_grammar` tells).
     pub fn new(host: &'a str) -> Self
         requires { is_host S.tests host.now ≡ true }
         ensures { result.host.now ≡ host.now }

@@ -8,8 +8,8 @@
 //! `laws` has what holds of all texts.
 //!
 //! Proved: each shows exactly its definition, and takes no memory. A triplet is decoded, a stray `%` stays, and the fragments,
-//! joined, are the decoded bytes. A mapped text is a text of the same kind of URIs; a text that couldn't be mapped for want of
-//! memory is left as it was or handed back.
+//! joined, are the decoded bytes. A mapped text is a text of the same kind of URIs; a text that couldn't be mapped after
+//! an allocation failure is left as it was or handed back.
 //!
 //! Not proved: the words of `DecodeTextError`'s `Display`, which `thiserror` makes; that memory is allocated, which tests show.
 #![tactic(auto)]
@@ -43,6 +43,7 @@ pub use host::{NormalizedHost, is_ascii_host, is_plain};
 pub use mapped::MappedToUri;
 pub use mapped_kind::MappedKind;
 pub use percent_encoded::{PercentEncoded, PercentEncodedForIri, PercentEncodedForUri};
+pub use spelling::capital_digit;
 pub use triplets::PctCaseNormalized;
 pub use uris::{IntoUri, ToUri};
 

@@ -8,7 +8,8 @@ use iri_text::{Stop, TextSink};
 // So many octets are spelled in one piece.
 const MOST: usize = 8;
 
-fn capital_digit(value: u8) -> u8
+/// The hex digit of this value: a capital letter from ten on.
+pub fn capital_digit(value: u8) -> u8
     requires { value < 16 }
     ensures { result ≡ capital_hex value }
 {

@@ -1,7 +1,7 @@
 -- The compared form, from the left.
 use Rattle.std.proofs.Common.{◌≡◌, ℕ, ◌<◌, ◌≤◌, Bool, true, false, ◌&&◌, ◌||◌, List, [], ◌∷◌, ◌++◌, Some, None, length, drop}
 use Rattle.std.proofs.Common.{get_or, map}
-use Rattle.std.proofs.Common.{refl, sym, ◌∙◌, ap, subst, arith, append_assoc, append-nil}
+use Rattle.std.proofs.Common.{refl, sym, ◌∙◌, ap, subst, arith, append-nil}
 use Rattle.std.specs.Prelude.{◌==◌, ◌/◌, ◌%◌, nat_lt}
 use Rattle.std.specs.Char.{is_ascii_hexdigit, to_ascii_uppercase, encode_utf8}
 use Rattle.std.proofs.lemmas.Str.{encode_ascii}
@@ -21,7 +21,7 @@ use Rattle.iri_percent.proofs.MapTexts.{octet_of}
 use Rattle.iri_percent.proofs.NormalLaws.{normal_nil, normal_plain, normal_decoded, normal_kept}
 use Rattle.iri_percent.proofs.UnitLaws.{Spells, none, more, octets_triplet}
 use Rattle.iri_robots.specs.Compared.{compared}
-use Rattle.iri_robots.specs.inside.Fronts.{IsFront, written_text}
+use Rattle.iri_robots.specs.inside.Fronts.{IsFront}
 use Rattle.iri_robots.specs.declared.compared.Written.TheVariants.{Char, Triplet}
 
 -- ---- what is decoded: the first octet alone tells it
@@ -105,9 +105,6 @@ compared_past x xs h l =
     high x h = grind (arith, nat_tests)
 
 -- ---- a stray `%`
-no_digit : (x : ℕ) → nat_lt x 128 ≡ false → is_ascii_hexdigit x ≡ false
-no_digit x h = grind (arith, nat_tests)
-
 and_false : (b : Bool) → (b && false) ≡ false
 and_false true = refl
 and_false false = refl
@@ -234,13 +231,6 @@ stray_second (x ∷ a ∷ []) h = refl
 stray_second (x ∷ a ∷ b ∷ xs) h = second_other a b xs h
 
 -- ---- the text so far, and what is left
-pub form_goes_on : (t form rest form' rest' : List ℕ) (w : _) (n : ℕ) → compared t ≡ form ++ compared rest → IsFront rest w n
-    → form' ≡ form ++ written_text w
-    → rest' ≡ drop n rest → compared t ≡ form' ++ compared rest'
-form_goes_on t form rest form' rest' w n h f e d =
-    h ∙ ap (λ z. form ++ z) f.text ∙ sym (append_assoc form (written_text w) (compared (drop n rest)))
-    ∙ ap (λ z. z ++ compared (drop n rest)) (sym e) ∙ ap (λ z. form' ++ compared z) (sym d)
-
 pub form_ends : (t form rest : List ℕ) → compared t ≡ form ++ compared rest → length rest ≡ 0 → form ≡ compared t
 form_ends t form (x ∷ rest) h e = absurd (omega arith)
 form_ends t form [] h e = sym (h ∙ ap (λ z. form ++ z) compared_nil ∙ append-nil form)

@@ -17,10 +17,6 @@ pub suffix_split : (r s : List ℕ) → IsSuffix r s → (t : List ℕ) × (s �
 suffix_split r s (whole s') = ([], refl)
 suffix_split r s (later x r' s' k) = let h = suffix_split r' s' k in (x ∷ h.0, ap (λ l. x ∷ l) h.1)
 
-pub suffix_of_nothing : (r s : List ℕ) → s ≡ [] → IsSuffix r s → r ≡ []
-suffix_of_nothing r s e (whole s') = e
-suffix_of_nothing r s e (later x r' s' k) = cc
-
 pub behind_is_suffix : (r s : List ℕ) → IsBehind r s → IsSuffix r s
 behind_is_suffix r s (behind x r' s' k) = later x r' s' k
 
@@ -121,9 +117,6 @@ fits_escape a l m q s e f = elim (fits_front a 37 (50 ∷ l ∷ q) s (λ h. omeg
 suffix_of_escape : (l m : ℕ) (t s : List ℕ) → m ≢ 50 → m ≢ l → IsSuffix (m ∷ t) (50 ∷ l ∷ s) → IsBehind t s
 suffix_of_escape l m t s n k h = tail_behind m t s (suffix_cases m l t (m ∷ t) s k refl (suffix_cases m 50 t (m ∷ t) (l ∷ s) n refl h))
 
-later_at : (a : Bool) (q r s t : List ℕ) → IsBehind t s → Fits a q t → FitsBehind a q s
-later_at a q r s t h f = record { rest = t; is_behind = h; fits = f }
-
 -- `*` for `%2A`, `$` for `%24`
 behind_mark : (a : Bool) (l m : ℕ) (q r s : List ℕ) → IsSuffix r s → FitsEscape a l m q r → FitsBehind a q s
 behind_mark a l m q r s h (by_mark t e f) = record { rest = t; is_behind = tail_behind m t s (subst (λ x. IsSuffix x s) e h); fits = f }
@@ -197,9 +190,6 @@ moves_same a c q s h n = record {
 
 -- ---- where it doesn't fit
 
-pub stuck_same : (a : Bool) (c : ℕ) (q s : List ℕ) → c ≢ 42 → NoEscape (c ∷ q) → ((t : List ℕ) → s ≡ c ∷ t → ⊥) → FitsNot a (c ∷ q) s
-stuck_same a c q s h n k = record { none = λ f. let g = same_front a c q s h n f in k g.0 g.1 }
-
 no_front : (a : Bool) (l m : ℕ) (q s : List ℕ) → ((t : List ℕ) → s ≡ m ∷ t → ⊥) → ((t : List ℕ) → s ≡ 37 ∷ 50 ∷ l ∷ t → ⊥)
     → FitsEscape a l m q s → ⊥
 no_front a l m q s h k (by_mark t e f) = h t e
@@ -210,9 +200,6 @@ pub stuck_escape : (a : Bool) (l m : ℕ) (q s : List ℕ) → IsEscape l m → 
 stuck_escape a l m q s e h k = record { none = λ f. no_front a l m q s h k (fits_escape a l m q s e f) }
 
 -- ---- whole moves
-
-pub moves_none : (a : Bool) (q s : List ℕ) → MovesOn a q s q s
-moves_none a q s = record { onward = λ f. f; back = λ f. f; later = λ b. b }
 
 pub moves_both : (a : Bool) (q s q' s' q'' s'' : List ℕ) → MovesOn a q s q' s' → MovesOn a q' s' q'' s'' → MovesOn a q s q'' s''
 moves_both a q s q' s' q'' s'' h k = record {
@@ -247,12 +234,6 @@ star_takes a q t x n f = let k = fits_star a q (x ∷ t) f in skipped a q (x ∷
 
 pub star_more : (a : Bool) (q t : List ℕ) (x : ℕ) → Fits a (42 ∷ q) t → Fits a (42 ∷ q) (x ∷ t)
 star_more a q t x f = let k = fits_star a q t f in star_fits a q k.rest (x ∷ t) (later x k.rest t k.is_suffix) k.fits
-
-pub star_at_end : (a : Bool) (q : List ℕ) → FitsNot a q [] → FitsNot a (42 ∷ q) []
-star_at_end a q n = record {
-  none = λ f. let k = fits_star a q [] f in n.none (subst (λ x. Fits a q x) (suffix_of_nothing k.rest [] refl
-      k.is_suffix) k.fits);
-}
 
 pub star_stops : (a : Bool) (q s q' s' : List ℕ) → StopsAtStar a q s q' s' → Fits a (42 ∷ q) s → Fits a (42 ∷ q') s'
 star_stops a q s q' s' h f = let k = fits_star a q s f in h.onward k.rest k.is_suffix k.fits

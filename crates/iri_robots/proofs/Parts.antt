@@ -3,8 +3,8 @@ use Rattle.std.proofs.Common.{◌≡◌, ◌≢◌, ◌↔◌, ℕ, zero, suc, �
 use Rattle.std.proofs.Common.{◌∙◌, ap, subst, arith, length-drop, eqb-true}
 use Rattle.std.specs.Prelude.{◌==◌}
 use Rattle.iri_robots.specs.inside.Fits.{IsEscape, Fits, ended, MovesOn, EscapeOf, NoEscape, FitsNot, Sticks, Takes, StopsAtStar}
-use Rattle.iri_robots.proofs.Moves.{moves_mark, moves_triplet, moves_same, stuck_same, stuck_escape, fits_end, stops, moves_both}
-use Rattle.iri_robots.proofs.Moves.{star_takes, star_more, star_at_end}
+use Rattle.iri_robots.proofs.Moves.{moves_mark, moves_triplet, moves_same, stuck_escape, stops, moves_both}
+use Rattle.iri_robots.proofs.Moves.{star_takes, star_more}
 
 three : (q : List ℕ) (a b l : ℕ) → 3 ≤ length q → slice_index q 0 ≡ a → slice_index q 1 ≡ b → slice_index q 2 ≡ l → q ≡ a ∷ b ∷ l ∷ drop 3 q
 three [] a b l n h k m = absurd (omega arith)
@@ -68,11 +68,6 @@ takes_same (c ∷ q) (x ∷ s) n h k l p =
       in_text = omega arith;
     })
 
-pub same_sticks : (q s : List ℕ) → NoEscape q → slice_index q 0 ≢ 42 → 0 < length q → ((t : List ℕ) → s ≡ slice_index q 0 ∷ t → ⊥)
-    → Sticks q s
-same_sticks [] s n h k p = λ a. absurd (omega arith)
-same_sticks (c ∷ q) s n h k p = λ a. stuck_same a c q s h n p
-
 -- ---- the test of being empty
 
 pub some_left : (n : ℕ) → (n == 0) ≡ false → 0 < n
@@ -109,11 +104,6 @@ reached_end a q s p t h e k =
     let P : List ℕ → Type 0 = λ z. Fits a z t in
     h.back (subst P (sym (none_left p e)) (ended t (λ x. none_left t (k x))))
 
-pub stuck_at_end : (a : Bool) (q s p t : List ℕ) → MovesOn a q s p t → (length p == 0) ≡ true → a ≡ true → 0 < length t → FitsNot a q s
-stuck_at_end a q s p t h e k n =
-    let P : List ℕ → Type 0 = λ z. Fits a z t in
-    record { none = λ f. let g = fits_end a t (subst P (none_left p e) (h.onward f)) k in omega (arith, ap length g) }
-
 pub stuck_here : (a : Bool) (q s p t : List ℕ) → MovesOn a q s p t → Sticks p t → FitsNot a q s
 stuck_here a q s p t h k = record { none = λ f. (k a).none (h.onward f) }
 
@@ -124,9 +114,3 @@ star_moves a q [] t n k e = absurd (omega arith)
 star_moves a q (x ∷ s) t n k e =
     let P : List ℕ → Type 0 = λ z. Fits a (42 ∷ q) z in
     (λ f. subst P (sym e) (star_takes a q s x n f), λ f. star_more a q s x (subst P e f))
-
-pub star_ends : (a : Bool) (q s : List ℕ) → FitsNot a q s → (length s == 0) ≡ true → Fits a (42 ∷ q) s → ⊥
-star_ends a q s n e f =
-    let P : List ℕ → Type 0 = λ z. Fits a (42 ∷ q) z in
-    let Q : List ℕ → Type 0 = λ z. FitsNot a q z in
-    (star_at_end a q (subst Q (none_left s e) n)).none (subst P (none_left s e) f)

@@ -1,6 +1,6 @@
 -- The groups of a file, read from the front.
 use Rattle.std.proofs.Common.{◌≡◌, ℕ, Bool, true, false, cond, ◌||◌, ◌&&◌, List, [], ◌∷◌, ◌++◌, Option, None, refl, sym, ◌∙◌, ap, subst}
-use Rattle.std.proofs.Common.{append_assoc, append-nil}
+use Rattle.std.proofs.Common.{append_assoc}
 use Rattle.std.specs.Str.{str_eq_ignore_ascii_case}
 use Rattle.iri_robots.specs.declared.rule.Best.{Best}
 use Rattle.iri_robots.specs.Allowed.{IsAmong, first, later}
@@ -99,11 +99,6 @@ judged_none name s rs = record {
       name rs);
 }
 
-pub judged_all : (name s : List ℕ) (rs : List FileRecord) (best : Option Best) (b r : Bool) (rest : List FileRecord) → rest ≡ []
-    → IsJudged name s rs best b r rest → IsBestOf (rules_of name (groups rs)) s best
-judged_all name s rs best b r rest e j = subst (λ l. IsBestOf l s best) (sym (j.split ∙ ap (λ l. j.done ++ rules_from name b r l) e
-    ∙ append-nil j.done)) j.decided
-
 pub agent_read : (name s : List ℕ) (rs : List FileRecord) (best best' : Option Best) (b b' r r' : Bool) (here rest : List FileRecord) (a :
     List ℕ) → here ≡ UserAgent a ∷ rest → best' ≡ best → b' ≡ str_eq_ignore_ascii_case a name || (r && b) → r' ≡ true
     → IsJudged name s rs best b r here → IsJudged name s rs best' b' r' rest
@@ -136,9 +131,6 @@ rule_passed name s rs best best' b b' r r' here rest rule e t g h f j = record {
   split = j.split ∙ ap (λ l. j.done ++ rules_from name b r l) e ∙ ap (λ x. j.done ++ rules_from name x r (Judged rule ∷ rest)) t
       ∙ ap (λ x. j.done ++ rules_from name x false rest) (sym (g ∙ t)) ∙ ap (λ x. j.done ++ rules_from name b' x rest) (sym h);
 }
-
-pub either : (x y z a b : Bool) → z ≡ x → x ≡ true → z || (a && b) ≡ true
-either x y z a b e h = ap (λ v. v || (a && b)) (e ∙ h)
 
 -- ---- the test of belonging
 

@@ -2,11 +2,11 @@
 ghost use Rattle.std.specs.Prelude.{◌≡◌, ◌<◌, ◌≤◌, ◌++◌, true, IfOk, OnOk, length, slice_index, string_bytes};
 ghost use Rattle.std.specs.Char.{is_ascii_hexdigit};
 ghost use Rattle.iri_grammar.specs.Characters.{percent_sign};
-ghost use Rattle.iri_percent.specs.Mapping.{capital_hex};
 ghost use Rattle.iri_robots.specs.Compared.{compared};
 ghost use Rattle.iri_robots.specs.inside.Fronts.{IsFront, HasAsciiDigits, written_text};
 
 use iri_grammar::spec::UriSpec;
+use iri_percent::capital_digit;
 use iri_percent::character::decoded_char;
 use std::alloc::{AllocError, Global};
 
@@ -22,17 +22,6 @@ enum Written {
 struct Front {
     written: Written,
     taken: usize,
-}
-
-fn capital_digit(value: u8) -> u8
-    requires { value < 16 }
-    ensures { result ≡ capital_hex value }
-{
-    if value < 10 {
-        b'0' + value
-    } else {
-        b'A' - 10 + value
-    }
 }
 
 // The front of a text that begins with a triplet.

@@ -24,7 +24,9 @@ pub enum RobotsError {
 /// What the rules say of a text.
 #[derive(Clone, Copy)]
 pub enum Verdict {
+    /// The crawler may fetch it.
     Allow,
+    /// The crawler may not fetch it.
     Disallow,
 }
 
@@ -44,8 +46,8 @@ pub fn is_product_token(text: &str) -> bool
 }
 
 impl Robots {
-    /// The rules for the crawler of this product token (RFC 9309 section 2.2.1), one or more ASCII letters, `_` and
-    /// `-`. No line is read yet.
+    /// The rules for the crawler of this product token (RFC 9309 section 2.2.1). No line is read yet. `Token` comes exactly where the
+    /// text isn't one or more ASCII letters, `_` and `-`, and `Memory` on allocation failure alone.
     pub fn new(alloc: Global, token: &str) -> Result<Robots, RobotsError>
         ensures made { MatchResult result
             (λ r. (is_token token.now ≡ true) × (string_bytes r.token ≡ token.now) × (r.records.items ≡ []))
