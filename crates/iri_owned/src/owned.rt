@@ -37,7 +37,7 @@ impl<S: Spec, K: Kind> Model for Owned<S, K> {
 }
 
 impl<S: Spec, K: Kind> Owned<S, K> {
-    /// A copy of a text, where it is in its production: otherwise its first fault.
+    /// A copy of a text, where it is in its production: otherwise its first fault. `Memory` comes on allocation failure alone.
     pub fn try_from_str(alloc: Global, s: &str) -> Result<Self, CreateError>
         ensures { MatchResult result (λ t. t.text ≡ s.now) (λ e. RefusedFor e (K.fault S.tests s.now)) }
     {
@@ -48,7 +48,7 @@ impl<S: Spec, K: Kind> Owned<S, K> {
     }
 
     /// A copy of bytes, where they are the UTF-8 of a text in its production: otherwise `InvalidUtf8`, or the
-    /// text's first fault.
+    /// text's first fault. `Memory` comes on allocation failure alone.
     pub fn try_from_bytes(alloc: Global, b: &[u8]) -> Result<Self, CreateError>
         ensures { MatchResult result (λ t. t.text ≡ b.now) (λ e. RefusedFor e (bytes_fault (K.fault S.tests) b.now)) }
     {
@@ -74,7 +74,7 @@ impl<S: Spec, K: Kind> Owned<S, K> {
         }
     }
 
-    /// A copy of a view's text.
+    /// A copy of a view's text. It fails on allocation failure alone.
     pub fn from_view(alloc: Global, view: View<'_, S, K>) -> Result<Self, AllocError>
         ensures { IfOk result (λ t. t.text ≡ text view.entry) }
     {
@@ -159,14 +159,14 @@ impl<S: Spec, K: Kind> Owned<S, K> {
         self.text.try_reserve(additional)
     }
 
-    /// A copy.
+    /// A copy. It fails on allocation failure alone.
     pub fn try_clone(&self, alloc: Global) -> Result<Self, AllocError>
         ensures { IfOk result (λ t. t.text ≡ self.now.text) }
     {
         Owned::from_view(alloc, self.as_slice())
     }
 
-    /// Puts a text that is in its production in the old one's place, and gives the old one back. It takes no
+    /// Puts a text that is in its production, as `K::validate` tells, in the old one's place, and gives the old one back. It takes no
     /// memory.
     pub fn replace_text(&mut self, text: String) -> String
         requires { K.fault S.tests (string_bytes text) ≡ None }

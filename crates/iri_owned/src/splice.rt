@@ -105,10 +105,10 @@ fn replace_past(text: &mut String, start: usize, end: usize, new: &str) -> Resul
 }
 
 impl<S: Spec, K: Kind> Owned<S, K> {
-    /// Puts a text in the place of a range in bytes. The range must lie in the text on character boundaries,
-    /// and what comes out must be in the production. Allocation failure comes only where what comes out is longer
-    /// than the capacity, so never where the new text is no longer than the range; the text and its capacity
-    /// are then as they were.
+    /// Puts a text in the place of a range in bytes. The range must lie in the text on character boundaries
+    /// (`str::is_char_boundary`), and what comes out must be in the production (`K::validate`). Allocation failure
+    /// comes only where what comes out is longer than the capacity, so never where the new text is no longer than
+    /// the range; the text and its capacity are then as they were.
     pub fn splice(&mut self, range: Range<usize>, new: &str) -> Result<(), AllocError>
         requires ordered { range.start ≤ range.end }
         requires low { IsCharBoundary self.old.text range.start }

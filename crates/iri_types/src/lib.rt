@@ -1,4 +1,4 @@
-//! Lent texts of a kind, that a program passes on without testing them again (RFC 3986 sections 3 and 4,
+//! Borrowed texts of a kind, that a program passes on without testing them again (RFC 3986 sections 3 and 4,
 //! RFC 3987 section 2.2).
 //!
 //! A [`View`](view::View) is a `&str` that is in the production of its kind, in a grammar `S`. Its names are
