@@ -1,5 +1,5 @@
 -- Link-values, read one after the other.
-use Rattle.std.proofs.Common.{◌≡◌, ℕ, suc, ◌<◌, true, false, List, [], ◌∷◌, ◌++◌, Option, Some, None, length, map, refl, sym, ap, ◌∙◌, subst, arith, append_assoc, length-append}
+use Rattle.std.proofs.Common.{◌≡◌, ℕ, suc, true, false, List, [], ◌∷◌, ◌++◌, Option, Some, None, length, map, refl, sym, ap, ◌∙◌, subst, arith, append_assoc}
 use Rattle.std.specs.Prelude.{◌==◌, MatchOption, MatchResult, Result, Ok, Err}
 use denote.Bor.{Bor}
 use Rattle.std.proofs.lemmas.Bool.{eqb-true}
@@ -23,7 +23,7 @@ use Rattle.iri_link.specs.inside.Halts.{HaltsAt}
 use Rattle.iri_link.specs.Links.{HasReference}
 use Rattle.iri_link.specs.Resolved.{resolved}
 use Rattle.iri_link.specs.inside.ReadLinks.{CutsTarget, ReadsLink, SkipsEmpty, AddsLink, ReadsField, ReadsUpTo, fault_behind}
-use Rattle.iri_link.specs.declared.error.LinkKind.TheVariants.{NoTarget, OpenTarget, BadTarget}
+use Rattle.iri_link.specs.declared.error.LinkErrorKind.TheVariants.{NoTarget, OpenTarget, BadTarget}
 use Rattle.iri_link.proofs.PhaseLemmas.{start-blanks}
 use Rattle.iri_link.proofs.TargetLemmas.{before-lacks, some-lacks, none-lacks, target-goes, open_goes}
 
@@ -67,9 +67,6 @@ link_read s base w t mid rest tt kept_target ps begun cut is p = record {
   ends = p.ends;
   goes = ap (fault_from s before_link) begun ∙ (cut.goes ∙ p.goes s);
 }
-
-pub target_then : (s : Tests) (w t mid tt : List ℕ) → w ≡ 60 ∷ t → CutsTarget s t mid tt → fault_from s before_link w ≡ fault_from s behind_param mid
-target_then s w t mid tt begun cut = ap (fault_from s before_link) begun ∙ cut.goes
 
 -- ---- an element
 pub comma_or_end : (t : List ℕ) (o : Option (Bor (List ℕ))) → MatchOption o (begins (λ c. c == 44) t ≡ false) (λ r. t ≡ 44 ∷ r.now) → ends_link t ≡ true
@@ -125,9 +122,6 @@ no_target s [] a b d h = cc
 no_target s (c ∷ cs) a b d h = rw (a, d, b) refl
 
 -- ---- the elements
-pub up_none : (s : Tests) (base x : List ℕ) (ls : List LinkValue) → ls ≡ [] → ReadsUpTo s base x x ls
-up_none s base x ls e = record { sources = []; read = λ ms h. h; valid = All-nil (HasReference s); kept = e; goes = refl }
-
 module _ (s : Tests) (base x rest a next : List ℕ) (o : Option (List ℕ)) (old new : List LinkValue) (u : ReadsUpTo s base x rest old) (h : IsRun is_blank rest a next) (k : AddsLink s base next o old new) where
   parts : rest ≡ (a ++ k.front) ++ marked 44 o
   parts = h.whole ∙ (ap (λ l. a ++ l) k.whole ∙ sym (append_assoc a k.front (marked 44 o)))
@@ -158,11 +152,6 @@ module _ (s : Tests) (base x rest a next : List ℕ) (o : Option (List ℕ)) (ol
         valid = All-append (HasReference s) u.sources k.sources u.valid k.valid;
         kept = grown;
       }
-
-  pub up_shorter : (behind : List ℕ) → o ≡ Some behind → length behind < length rest
-  up_shorter behind e =
-      let is : rest ≡ (a ++ k.front) ++ 44 ∷ behind = parts ∙ ap (λ z. (a ++ k.front) ++ marked 44 z) e in
-      omega (arith, ap length is, length-append (a ++ k.front) (44 ∷ behind))
 
 pub halts_then : (e : Halt) (s : Tests) (base x rest a next : List ℕ) (ls : List LinkValue) → ReadsUpTo s base x rest ls → IsRun is_blank rest a next → HaltsAt e (fault_from s before_link next) → HaltsAt e (fault_from s before_link x)
 halts_then e s base x rest a next ls u h k = subst (λ f. HaltsAt e f) (sym (u.goes ∙ (ap (fault_from s before_link) h.whole ∙ start-blanks s a next h.all))) k

@@ -1,5 +1,5 @@
 -- Parameters, read piece by piece.
-use Rattle.std.proofs.Common.{◌≡◌, ℕ, ◌<◌, true, false, List, [], ◌∷◌, ◌++◌, Option, Some, None, length, refl, sym, ap, ◌∙◌, subst, arith, append_assoc, length-append}
+use Rattle.std.proofs.Common.{◌≡◌, ℕ, true, false, List, [], ◌∷◌, ◌++◌, Option, Some, None, refl, sym, ap, ◌∙◌, subst, append_assoc}
 use Rattle.std.specs.Prelude.{◌==◌}
 use Rattle.std.specs.Str.{str_to_ascii_lowercase}
 use Rattle.std.proofs.lemmas.List.{append-nil}
@@ -12,7 +12,7 @@ use Rattle.iri_link.specs.Fault.{fault_from}
 use Rattle.iri_link.specs.inside.Runs.{begins, IsRun}
 use Rattle.iri_link.specs.inside.ReadParams.{ends_link, ReadsValue, ReadsEquals, ReadsParam, AddsParam, ReadsSome, ReadsParams}
 use Rattle.iri_link.specs.inside.Halts.{HaltsAt}
-use Rattle.iri_link.specs.declared.error.LinkKind.TheVariants.{NoParam}
+use Rattle.iri_link.specs.declared.error.LinkErrorKind.TheVariants.{NoParam}
 use Rattle.iri_link.specs.declared.halt.Halt.{Halt}
 use Rattle.iri_link.proofs.PhaseLemmas.{ready-blanks, semicolon-blanks, named-blanks, equals-blanks, name-run, semicolon-name, name-ends, named-ends}
 
@@ -148,11 +148,6 @@ no_param s (c ∷ cs) h k e = rw (h, k, e) refl
 pub param_wanted : (t : Tests) (s rest a next : List ℕ) (ps : List LinkParam) → ReadsSome s rest ps → IsRun is_blank rest a next → begins (λ c. c == 59) next ≡ false → ends_link next ≡ false
     → fault_from t behind_param s ≡ Some (record { kind = NoParam; rest = next })
 param_wanted t s rest a next ps f h k e = f.goes t ∙ (ap (fault_from t behind_param) h.whole ∙ (ready-blanks t a next h.all ∙ no_param t next h.ends k e))
-
-pub shorter : (rest a next behind b piece after : List ℕ) (ps new : List LinkParam) → IsRun is_blank rest a next → next ≡ 59 ∷ behind → IsRun is_blank behind b piece
-    → AddsParam piece after ps new → length after < length rest
-shorter rest a next behind b piece after ps new h e k p =
-    omega (arith, ap length h.whole, length-append a next, ap length e, ap length k.whole, length-append b piece, ap length p.whole, length-append p.front after)
 
 pub halts_on : (e : Halt) (s : Tests) (p q : Phase) (t u : List ℕ) → fault_from s p t ≡ fault_from s q u → HaltsAt e (fault_from s q u) → HaltsAt e (fault_from s p t)
 halts_on e s p q t u same h = subst (λ f. HaltsAt e f) (sym same) h
