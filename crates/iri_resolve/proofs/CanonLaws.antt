@@ -1,5 +1,5 @@
 -- The canonical text in either normal form: it is valid, splits into the normal parts, and is its own canonical form.
-use Rattle.std.proofs.Common.{◌≡◌, ℕ, List, Option, Some, None, refl, sym, ◌∙◌, ap}
+use Rattle.std.proofs.Common.{◌≡◌, ℕ, Bool, List, Option, Some, None, refl, sym, ◌∙◌, ap}
 use Rattle.std.specs.Prelude.{IsSome}
 use Rattle.iri_grammar.specs.Classes.{Tests, IsSpec}
 use Rattle.iri_grammar.specs.Parts.{Parts, Fits, Splits, IsReference, IsIri, IsAbsolute, recompose}
@@ -8,7 +8,9 @@ use Rattle.iri_grammar.proofs.SplitUnique.{split_is}
 use Rattle.iri_percent.specs.declared.canon_mode.CanonMode.{CanonMode}
 use Rattle.iri_percent.specs.declared.canon_mode.CanonMode.TheVariants.{Default, Scheme}
 use Rattle.iri_resolve.specs.Target.{target, target_under}
-use Rattle.iri_resolve.specs.NormalForm.{normal_form_in, canonical_parts, canonical_parts_in, canonical, canonical_in}
+use Rattle.iri_resolve.specs.Modes.{mode_of}
+use Rattle.iri_resolve.specs.Normalized.{written_text}
+use Rattle.iri_resolve.specs.NormalForm.{form, normal_form, normal_form_in, canonical_parts_in, canonical, canonical_in}
 use Rattle.iri_resolve.proofs.SchemeForm.{normal_in-fits, normal_in-stable}
 use Rattle.iri_resolve.proofs.TargetLaws.{target-fits}
 
@@ -18,6 +20,14 @@ pub canonical_in-text : (s : Tests) (m : CanonMode) (base reference : List ℕ)
 unfolding canonical
 canonical_in-text s Default base reference = refl
 canonical_in-text s Scheme base reference = refl
+
+-- a normal form doesn't look at whether the path is the base's, taken whole
+pub written-canonical : (s : Tests) (m : CanonMode) (whole : Bool) (base reference : List ℕ)
+    → written_text s (record { parts = target (split_of base) (split_of reference); whole = whole; mode = mode_of m })
+    ≡ canonical_in s m base reference
+unfolding canonical normal_form form
+written-canonical s Default whole base reference = refl
+written-canonical s Scheme whole base reference = refl
 
 parts-fit : (s : Tests) (m : CanonMode) (base reference : List ℕ) → IsSpec s → IsAbsolute s base → IsReference s reference
     → Fits s (canonical_parts_in s m base reference) × IsSome (canonical_parts_in s m base reference).scheme
@@ -73,17 +83,9 @@ canonical_in-own s m base reference other k b r =
     ∙ (ap recompose (parts-stable s m base reference k b r) ∙ canonical_in-text s m base reference)))
 
 -- ---- by the rules of every scheme
-pub canonical-splits : (s : Tests) (base reference : List ℕ) → IsSpec s → IsAbsolute s base → IsReference s reference
-    → Splits s (canonical s base reference) (canonical_parts s base reference)
-canonical-splits s base reference k b r = canonical_in-splits s Default base reference k b r
-
 pub canonical-iri : (s : Tests) (base reference : List ℕ) → IsSpec s → IsAbsolute s base → IsReference s reference
     → IsIri s (canonical s base reference)
 canonical-iri s base reference k b r = canonical_in-iri s Default base reference k b r
-
-pub canonical-split : (s : Tests) (base reference : List ℕ) → IsSpec s → IsAbsolute s base → IsReference s reference
-    → split_of (canonical s base reference) ≡ canonical_parts s base reference
-canonical-split s base reference k b r = canonical_in-split s Default base reference k b r
 
 pub canonical-own : (s : Tests) (base reference other : List ℕ) → IsSpec s → IsAbsolute s base → IsReference s reference
     → canonical s other (canonical s base reference) ≡ canonical s base reference

@@ -5,10 +5,8 @@ use Rattle.std.specs.Prelude.{◌==◌, is_some}
 use Rattle.std.specs.Char.{is_ascii_hexdigit}
 use Rattle.std.proofs.lemmas.List.{append-nil}
 use Rattle.std.proofs.lemmas.Bool.{eqb-true}
-use Rattle.iri_grammar.specs.Authority.{AuthorityParts, authority_parts, recompose_authority}
 use Rattle.iri_grammar.specs.Classes.{Tests, IsSpec, path_char}
 use Rattle.iri_grammar.specs.OptionalSlices.{now_of}
-use Rattle.iri_percent.specs.NormalHost.{normal_authority, normal_authority_parts}
 use Rattle.iri_grammar.specs.Components.{is_path}
 use Rattle.iri_grammar.proofs.CutLaws.{both}
 use Rattle.iri_grammar.specs.Parts.{is_empty}
@@ -87,11 +85,6 @@ dots_whole s l p h = path-whole s (dots p) l (dots-over (path_char s) p (slash_i
 pub is_some-now_of : (o : Option (Bor (List ℕ))) → is_some (now_of o) ≡ is_some o
 is_some-now_of None = refl
 is_some-now_of (Some x) = refl
-
-pub authority_is : (s : Tests) (a : List ℕ) (p : AuthorityParts) → p ≡ authority_parts a
-    → recompose_authority (normal_authority_parts s p) ≡ normal_authority s a
-unfolding normal_authority
-authority_is s a p e = ap (λ q. recompose_authority (normal_authority_parts s q)) e
 
 pub path_is : (s : Tests) (a : Option (List ℕ)) (p : List ℕ) → guard (pct s (dots p)) (is_some a) ≡ normal_path s a p
 unfolding normal_path

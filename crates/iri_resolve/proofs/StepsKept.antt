@@ -21,7 +21,7 @@ use Rattle.iri_resolve.proofs.TargetLaws.{slash_in_path}
 use Rattle.iri_resolve.proofs.TripletPaths.{dots-pct}
 use Rattle.iri_resolve.specs.Changes.{with_small_letter, with_capital_digit, with_decoded}
 use Rattle.iri_resolve.specs.Steps.{in_part, in_userinfo_or_host, without_dropped_port, without_empty_port, with_small_letter_in_host, with_dots_removed}
-use Rattle.iri_resolve.specs.Steps.{at_place, step, step_in, onward, replayed, replayed_in, Joined}
+use Rattle.iri_resolve.specs.Steps.{at_place, step, step_in, onward, replayed, replayed_in}
 use Rattle.iri_resolve.proofs.ByteLaws.{small_letter}
 use Rattle.iri_resolve.proofs.ChangeKeeps.{TripletChange, rules-same, capital-keeps, decoding-keeps}
 use Rattle.iri_resolve.proofs.AuthoritySteps.{AuthorityChange, authority-kept, triplets-changed, letter-changed, port-changed}
@@ -289,7 +289,3 @@ replayed-kept s t u (x ∷ xs) k v h = at (step s t x) refl h (λ w o j. replaye
         let one = step-kept s t w x k v e in
         let rest = go w (valid-kept s t w one) j in
         record { fits = rest.fits; scheme = rest.scheme; form = rest.form ∙ one.form }
-
--- joined parts have one normal form
-pub joined-form : (s : Tests) (t u : Parts) → IsSpec s → Valid s t → Valid s u → Joined s t u → normal_form s t ≡ normal_form s u
-joined-form s t u k v w j = sym (replayed-kept s t j.2 j.0 k v j.3).form ∙ (replayed-kept s u j.2 j.1 k w j.4).form

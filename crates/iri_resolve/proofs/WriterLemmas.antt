@@ -3,7 +3,6 @@ use Rattle.std.proofs.Common.{◌≡◌, ℕ, ◌<◌, ◌≤◌, Bool, true, fa
 use Rattle.std.proofs.Common.{subst, arith, append_assoc}
 use Rattle.std.specs.Prelude.{◌==◌}
 use Rattle.std.proofs.lemmas.Bool.Decides.{nat_tests}
-use Rattle.std.proofs.lemmas.List.{append-nil}
 use Rattle.iri_grammar.specs.Classes.{Tests}
 use Rattle.iri_grammar.specs.Cut.{before, behind, lacks}
 use Rattle.iri_grammar.proofs.CutLaws.{both}
@@ -21,7 +20,7 @@ use Rattle.iri_resolve.specs.PathForm.{in_form}
 use Rattle.iri_resolve.proofs.PieceLaws.{nothing-is_no_dot}
 use Rattle.iri_resolve.specs.Target.{ends_at_slash}
 use Rattle.iri_resolve.proofs.EndedLemmas.{both-end, slash-ends, dots-ended, ended-first, ended-none}
-use Rattle.iri_resolve.proofs.KeptLemmas.{ended-append, ended-some, kept-append, from_first-append, dots-kept}
+use Rattle.iri_resolve.proofs.KeptLemmas.{ended-append, ended-some, kept-append, removed-append, from_first-append, dots-kept}
 use Rattle.iri_resolve.proofs.NormalLemmas.{pct_two, pct_nil, pct_parts}
 
 -- ---- forms
@@ -70,30 +69,48 @@ form-halves s normal t a b n k e h r =
     ∙ ap (λ m. in_form s normal (kept (ended a) m) ++ in_form s normal (kept (ended b) n)) (sym r)))))
 
 -- ---- what segments leave of a front, and what stays of them
-abbrev leaves : List ℕ → List ℕ → ℕ → List ℕ
-leaves f t n = kept_from_first (ended f) (removed (ended t) n) ++ kept (ended t) n
-
-leaves-ends : (f t : List ℕ) (n : ℕ) → ends_at_slash (leaves f t n) ≡ true
-leaves-ends f t n = both-end (kept_from_first (ended f) (removed (ended t) n)) (kept (ended t) n)
-    (from_first-ends (ended f) (removed (ended t) n)) (kept-ends (ended t) n)
-
--- there are none
-pub form-front : (s : Tests) (normal : Bool) (f t g : List ℕ) (n : ℕ) → length t ≡ 0 → kept_from_first (ended f) n ≡ g
-    → in_form s normal g ≡ in_form s normal (kept_from_first (ended f) (removed (ended t) n) ++ kept (ended t) n)
-form-front s normal f [] g n z e = ap (in_form s normal) (sym e ∙ sym (append-nil (kept_from_first (ended f) n)))
-form-front s normal f (x ∷ xs) g n z e = absurd (omega arith)
-
--- those at the end stay side by side
-pub form-run : (s : Tests) (normal : Bool) (f t a b : List ℕ) (n k : ℕ) → kept (ended t) n ≡ kept (ended a) k ++ b
-    → removed (ended t) n ≡ removed (ended a) k
-    → in_form s normal (kept_from_first (ended f) (removed (ended a) k) ++ kept (ended a) k) ++ in_form s normal b
+pub form-gathered : (s : Tests) (normal : Bool) (f t g b : List ℕ) (n k : ℕ) → kept_from_first (ended f) k ≡ g → k ≡ removed (ended t) n
+    → b ≡ kept (ended t) n → in_form s normal g ++ in_form s normal b
     ≡ in_form s normal (kept_from_first (ended f) (removed (ended t) n) ++ kept (ended t) n)
-form-run s normal f t a b n k e r =
+form-gathered s normal f t g b n k e r h =
     let front = kept_from_first (ended f) in
-    sym (ap (λ l. in_form s normal (front (removed (ended t) n) ++ l)) e
-    ∙ (ap (λ m. in_form s normal (front m ++ (kept (ended a) k ++ b))) r
-    ∙ (ap (in_form s normal) (sym (append_assoc (front (removed (ended a) k)) (kept (ended a) k) b))
-    ∙ form-append s normal (leaves f a k) b (leaves-ends f a k))))
+    let first : g ≡ front (removed (ended t) n) = sym e ∙ ap front r in
+    ap (λ l. in_form s normal l ++ in_form s normal b) first
+    ∙ (ap (λ l. in_form s normal (front (removed (ended t) n)) ++ in_form s normal l) h
+    ∙ sym (form-append s normal (front (removed (ended t) n)) (kept (ended t) n) (from_first-ends (ended f) (removed (ended t) n))))
+
+-- those of a text in two parts
+pub form-behind_front : (s : Tests) (normal : Bool) (f t a b : List ℕ) (n k : ℕ) → t ≡ a ++ b → ends_at_slash a ≡ true → k ≡ removed (ended b) n
+    → in_form s normal (kept_from_first (ended f) (removed (ended a) k) ++ kept (ended a) k) ++ in_form s normal (kept (ended b) n)
+    ≡ in_form s normal (kept_from_first (ended f) (removed (ended t) n) ++ kept (ended t) n)
+form-behind_front s normal f t a b n k e h r =
+    let front = kept_from_first (ended f) in
+    let rows : ended t ≡ ended a ++ ended b = ap ended e ∙ ended-append a b h in
+    let gone : removed (ended t) n ≡ removed (ended a) k =
+    ap (λ l. removed l n) rows ∙ (removed-append (ended a) (ended b) n ∙ ap (removed (ended a)) (sym r)) in
+    let stays : kept (ended t) n ≡ kept (ended a) k ++ kept (ended b) n =
+    ap (λ l. kept l n) rows ∙ (kept-append (ended a) (ended b) n ∙ ap (λ m. kept (ended a) m ++ kept (ended b) n) (sym r)) in
+    sym (ap (λ l. in_form s normal (front (removed (ended t) n) ++ l)) stays
+    ∙ (ap (λ m. in_form s normal (front m ++ (kept (ended a) k ++ kept (ended b) n))) gone
+    ∙ (ap (in_form s normal) (sym (append_assoc (front (removed (ended a) k)) (kept (ended a) k) (kept (ended b) n)))
+    ∙ form-append s normal (front (removed (ended a) k) ++ kept (ended a) k) (kept (ended b) n)
+    (both-end (front (removed (ended a) k)) (kept (ended a) k) (from_first-ends (ended f) (removed (ended a) k)) (kept-ends (ended a) k)))))
+
+-- from the first one on, in two parts
+pub form-from_first : (s : Tests) (normal : Bool) (t a b : List ℕ) (n k : ℕ) → 0 < length a → t ≡ a ++ b → ends_at_slash a ≡ true
+    → k ≡ removed (ended b) n
+    → in_form s normal (kept_from_first (ended a) k) ++ in_form s normal (kept (ended b) n) ≡ in_form s normal (kept_from_first (ended t) n)
+form-from_first s normal t [] b n k l e h r = absurd (omega arith)
+form-from_first s normal t (x ∷ xs) b n k l e h r =
+    let some = ended-some x xs h in
+    let rows : ended t ≡ (some.first ∷ some.rest) ++ ended b =
+    ap ended e ∙ (ended-append (x ∷ xs) b h ∙ ap (λ ss. ss ++ ended b) some.whole) in
+    sym (ap (λ ss. in_form s normal (kept_from_first ss n)) rows
+    ∙ (ap (in_form s normal) (from_first-append some.first some.rest (ended b) n)
+    ∙ (form-append s normal (kept_from_first (some.first ∷ some.rest) (removed (ended b) n)) (kept (ended b) n)
+    (from_first-ends (some.first ∷ some.rest) (removed (ended b) n))
+    ∙ (ap (λ m. in_form s normal (kept_from_first (some.first ∷ some.rest) m) ++ in_form s normal (kept (ended b) n)) (sym r)
+    ∙ ap (λ ss. in_form s normal (kept_from_first ss k) ++ in_form s normal (kept (ended b) n)) (sym some.whole)))))
 
 -- ---- one dot segment leaves nothing
 pub dotted-some : (t : List ℕ) → has_dot_segment t ≡ true → 0 < length t

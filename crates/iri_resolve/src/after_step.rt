@@ -1,4 +1,4 @@
-// The parts after a step.
+// The parts after a step. `target.slices()` is called for its contract too, which says that the parts are valid.
 ghost use Rattle.std.specs.Prelude.{◌≡◌, ◌++◌, IfOk, Some, None, is_some, string_bytes, true};
 ghost use Rattle.iri_grammar.specs.Authority.{authority_parts, is_authority};
 ghost use Rattle.iri_grammar.specs.Components.{if_there, is_path};

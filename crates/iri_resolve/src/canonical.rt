@@ -94,7 +94,9 @@ fn canonicalize_against<S: Spec>(
     }
 }
 
-/// The canonical text of a reference against a base, both as bytes. The base is validated first.
+/// The canonical text of a reference against a base, both as bytes: the reference resolved (RFC 3986 section 5.2) and put into normal
+/// form (section 6.2.2). The base is validated first: `BadBase` where it is no absolute text of the spec, `BadReference` where the
+/// reference is none, each with the first fault, and `Memory` on allocation failure alone.
 pub fn canonicalize<S: Spec>(
     alloc: Global,
     base: &[u8],

@@ -11,7 +11,6 @@ use crate::mode::{CanonMode, mode_of};
 use crate::normal_steps::steps_to_normal_in;
 use crate::owned_target::Target;
 use crate::step_list::StepList;
-use crate::target::TargetSlices;
 use iri_grammar::spec::Spec;
 use iri_text::StringSink;
 use std::alloc::{AllocError, Global};
@@ -24,18 +23,9 @@ fn normal_text<S: Spec>(
 ) -> Result<String, AllocError>
     ensures { IfOk result (λ text. string_bytes text ≡ recompose (form S.tests (mode_of mode) false target.now)) }
 {
-    let _valid = target.slices();
-    let slices = TargetSlices {
-        scheme: Some(target.scheme()),
-        authority: target.authority(),
-        front: "",
-        path: target.path(),
-        query: target.query(),
-        fragment: target.fragment(),
-    };
     let mut text = String::new(alloc);
     let mut sink = StringSink::new(&mut text);
-    match show_form::<S, StringSink<'_>>(&mut sink, &slices, mode_of(mode), false) {
+    match show_form::<S, StringSink<'_>>(&mut sink, &target.slices(), mode_of(mode), false) {
         Ok(()) => {}
         Err(_) => return Err(AllocError),
     }

@@ -12,6 +12,8 @@ ghost use Rattle.iri_resolve.specs.DotRemoval.{IsWithoutDots, dots};
 ghost use Rattle.iri_resolve.specs.Guard.{guard};
 ghost use Rattle.iri_percent.specs.Mapping.{mapped, mapped_parts};
 ghost use Rattle.iri_resolve.specs.NormalForm.{canonical_in, canonical_parts_in, form, normal_form_in};
+ghost use Rattle.iri_resolve.specs.Modes.{mode_of};
+ghost use Rattle.iri_resolve.specs.Normalized.{written_text};
 ghost use Rattle.iri_resolve.specs.declared.mode.Mode.TheVariants.{Preserving};
 ghost use Rattle.iri_resolve.specs.Changes.{with_decoded};
 ghost use Rattle.iri_resolve.specs.DecodedPlace.{IsCharacterAt};
@@ -80,6 +82,13 @@ pub fn canonical_text_splits_into_normal_parts<S: Spec>()
         → Splits S.tests (canonical_in S.tests mode base reference) (canonical_parts_in S.tests mode base reference) }
     ensures split { (mode : CanonMode) (base reference : List ℕ) → IsAbsolute S.tests base → IsReference S.tests reference
         → split_of (canonical_in S.tests mode base reference) ≡ canonical_parts_in S.tests mode base reference }
+{}
+
+/// A target that is written in a normal form is written as the canonical text, also where its path is the base's, taken whole.
+pub fn normal_targets_are_canonical_texts<S: Spec>()
+    ensures { (mode : CanonMode) (whole : Bool) (base reference : List ℕ)
+        → written_text S.tests (record { parts = target (split_of base) (split_of reference); whole = whole; mode = mode_of mode })
+        ≡ canonical_in S.tests mode base reference }
 {}
 
 /// The canonical text is its own canonical form, against every base.

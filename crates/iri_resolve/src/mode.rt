@@ -8,7 +8,8 @@ pub use iri_percent::CanonMode;
 /// How the parts of a reference are written.
 #[derive(Clone, Copy)]
 pub enum Mode {
-    /// As they stand, and the path without its dot segments (RFC 3986 section 5.2.4).
+    /// As they stand, and the path without its dot segments (RFC 3986 section 5.2.4), with `/.` before it where it would be read as an
+    /// authority. A base's path that is taken whole stays as it is.
     Plain,
     /// In normal form (section 6.2.2).
     Normal,

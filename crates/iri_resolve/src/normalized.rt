@@ -145,7 +145,8 @@ impl<'a, S: Spec, K: NormalKind> NormalizedText<'a, S, K> {
         }
     }
 
-    /// Whether RFC 3986 alone has a normal form of the parts, without the `/.` before a path that would be read as an authority.
+    /// Whether RFC 3986 alone has a normal form of the parts, without the `/.` before a path that would be read as an authority: Err
+    /// where no authority stands, the path isn't the base's, taken whole, and without its dot segments it begins with two slashes.
     /// It takes no memory.
     pub fn ensure_rfc3986_normalizable(&self) -> Result<(), Unresolvable>
         ensures { IsErr result ↔ (has_no_normal_form (written self.now) ≡ true) }

@@ -1,9 +1,9 @@
 //! The target of a reference, owned.
-ghost use Rattle.std.specs.Prelude.{◌≡◌, ◌++◌, IfOk, IsSome, Some, string_bytes};
+ghost use Rattle.std.specs.Prelude.{◌≡◌, ◌++◌, IfOk, IsSome, Some, string_bytes, true};
 ghost use Rattle.iri_grammar.specs.Parts.{Fits};
 ghost use Rattle.iri_grammar.specs.OptionalSlices.{now_of};
 ghost use Rattle.iri_resolve.specs.Resolver.{bytes_of};
-ghost use Rattle.iri_resolve.specs.Slices.{slices};
+ghost use Rattle.iri_resolve.specs.Slices.{is_cut_at_segment, slices};
 
 use crate::target::TargetSlices;
 use iri_grammar::spec::Spec;
@@ -94,6 +94,7 @@ impl<S: Spec> Target<S> {
         ensures parts { slices result ≡ self.now }
         ensures fits { Fits S.tests self.now }
         ensures scheme { IsSome self.now.scheme }
+        ensures cut { is_cut_at_segment result ≡ true }
     {
         TargetSlices {
             scheme: Some(self.scheme.as_str()),

@@ -1,8 +1,8 @@
 // A path without its dot segments (RFC 3986 section 5.2.4), written into a sink with no memory. Which segments stay is told from
-// what follows them: a short text is gone through once, from its end, and on the way back what it leaves of the segments before it
-// is written, and then its own. A long one is cut in halves, and the second one is searched for how many segments it removes in the
-// first.
-ghost use Rattle.std.specs.Prelude.{◌≡◌, ◌<◌, ◌+◌, ◌^◌, ◌++◌, ◌&&◌, ◌||◌, [], ◌∷◌, false, not, true, length};
+// what follows them: a short text is gone through once, from its end, and what stays of it is gathered on the stack. A long one is
+// cut in two, and the second part is searched for how many segments it removes in the first. That part is an eighth of the text:
+// all searches together then go through a text of 64 KiB less than twice, and through one cut in halves four times.
+ghost use Rattle.std.specs.Prelude.{◌≡◌, ◌<◌, ◌≤◌, ◌+◌, ◌^◌, ◌++◌, ◌&&◌, ◌||◌, [], ◌∷◌, false, not, true, length};
 ghost use Rattle.iri_grammar.specs.Components.{is_path};
 ghost use Rattle.iri_grammar.specs.Cut.{lacks};
 ghost use Rattle.iri_grammar.specs.Parts.{is_empty, starts_with_slash, starts_with_slashes};
@@ -20,11 +20,11 @@ ghost use Rattle.iri_resolve.specs.inside.LastDots.{kind_of};
 ghost use Rattle.iri_text.specs.Shown.{Shows};
 ghost use Rattle.iri_grammar.specs.Characters.{slash};
 
+use self::gathered::{SHORT, gather, text_from};
 use self::kinds::{is_ordinary, kind_of, removing, removing_at};
-use self::runs::last_run;
 use self::segment_kind::SegmentKind;
 use self::segments::{
-    begins_with_slash, behind_front_dots, first_segments, halves, removed, split_last,
+    begins_with_slash, behind_front_dots, cut_eighth, first_segments, removed, split_last,
     without_last_segments,
 };
 use crate::dots::has_dot_segment;
@@ -35,14 +35,12 @@ use iri_grammar::spec::Spec;
 use iri_percent::PctCaseNormalized;
 use iri_text::{Show, Stop, TextSink};
 
+mod gathered;
 mod kinds;
 mod last_dots;
 mod runs;
 mod segment_kind;
 mod segments;
-
-// How many bytes a text has at most that is gone through once: calls go as deep as it has runs of segments that stay.
-const SHORT: usize = 1024;
 
 /// A part, its triplets in normal form where that is asked for.
 pub fn show_part<S: Spec, W: TextSink>(sink: &mut W, part: &str, normal: bool) -> Result<(), Stop>
@@ -72,16 +70,30 @@ fn show_short<S: Spec, W: TextSink>(
     requires no_dots { has_dot_segment front.now ≡ false }
     requires whole { whole_triplets front.now ≡ true }
     requires text_whole { whole_triplets text.now ≡ true }
+    requires short { length text.now ≤ 512 }
     requires room { count + length text.now < 2 ^ 64 }
     ensures { Shows W.puts W.halts W.stops sink.old (in_form S.tests normal
         (kept_from_first (ended front.now) (removed (ended text.now) count) ++ kept (ended text.now) count)) sink.new result }
 {
-    if text.is_empty() {
-        return show_part::<S, W>(sink, first_segments(front, count), normal);
+    let mut buf = [0u8; SHORT];
+    let (start, pending) = gather(text, count, &mut buf);
+    show_part::<S, W>(sink, first_segments(front, pending), normal)?;
+    show_part::<S, W>(sink, text_from(&buf, start), normal)
+}
+
+// A long text in two parts of whole segments, or nothing and the text where it is short or one segment.
+fn cut_long(text: &str) -> (&str, &str)
+    requires ends { ends_at_slash text.now ≡ true }
+    ensures whole { text.now ≡ result.0.now ++ result.1.now }
+    ensures ends { ends_at_slash result.0.now ≡ true }
+    ensures rest { ends_at_slash result.1.now ≡ true }
+    ensures some { 0 < length result.0.now → 0 < length result.1.now }
+{
+    if text.len() <= SHORT {
+        ("", text)
+    } else {
+        cut_eighth(text)
     }
-    let (rest, run, pending) = last_run(text, count);
-    show_short::<S, W>(sink, front, rest, pending, normal)?;
-    show_part::<S, W>(sink, run, normal)
 }
 
 // Segments of a text, where `count` are removed in front of what follows them.
@@ -104,7 +116,7 @@ fn show_segments<S: Spec, W: TextSink>(
     if !has_dot_segment(text) {
         return show_part::<S, W>(sink, without_last_segments(text, count), normal);
     }
-    let (front, rest) = halves(text);
+    let (front, rest) = cut_eighth(text);
     if front.is_empty() {
         return Ok(());
     }
@@ -130,6 +142,29 @@ fn show_bottom<S: Spec, W: TextSink>(
     sink.put("/")
 }
 
+// The first segment, and those behind it.
+fn show_first<S: Spec, W: TextSink>(
+    sink: &mut W,
+    text: &str,
+    count: usize,
+    normal: bool,
+) -> Result<(), Stop>
+    requires ends { ends_at_slash text.now ≡ true }
+    requires whole { whole_triplets text.now ≡ true }
+    requires room { count + length text.now < 2 ^ 64 }
+    ensures { Shows W.puts W.halts W.stops sink.old
+        (in_form S.tests normal (kept_from_first (ended text.now) count)) sink.new result }
+{
+    let (segment, more) = cut(text, b'/');
+    match more {
+        Some(rest) => {
+            show_bottom::<S, W>(sink, segment, removed(rest, count), normal)?;
+            show_segments::<S, W>(sink, rest, count, normal)
+        }
+        None => Ok(()),
+    }
+}
+
 // Segments from the first one on.
 fn show_from_first<S: Spec, W: TextSink>(
     sink: &mut W,
@@ -146,19 +181,42 @@ fn show_from_first<S: Spec, W: TextSink>(
     if !has_dot_segment(text) {
         return show_part::<S, W>(sink, first_segments(text, count), normal);
     }
-    let (segment, more) = cut(text, b'/');
-    match more {
-        Some(rest) => {
-            show_bottom::<S, W>(sink, segment, removed(rest, count), normal)?;
-            show_segments::<S, W>(sink, rest, count, normal)
-        }
-        None => Ok(()),
+    let (front, rest) = cut_long(text);
+    if front.is_empty() {
+        return show_first::<S, W>(sink, text, count, normal);
     }
+    show_from_first::<S, W>(sink, front, removed(rest, count), normal)?;
+    show_segments::<S, W>(sink, rest, count, normal)
+}
+
+// The segments of a front from the first one on, and those of a text behind it.
+fn show_behind<S: Spec, W: TextSink>(
+    sink: &mut W,
+    front: &str,
+    text: &str,
+    count: usize,
+    normal: bool,
+) -> Result<(), Stop>
+    requires ends { ends_at_slash front.now ≡ true }
+    requires text_ends { ends_at_slash text.now ≡ true }
+    requires whole { whole_triplets front.now ≡ true }
+    requires text_whole { whole_triplets text.now ≡ true }
+    requires room { count + length text.now + length front.now < 2 ^ 64 }
+    ensures { Shows W.puts W.halts W.stops sink.old (in_form S.tests normal
+        (kept_from_first (ended front.now) (removed (ended text.now) count) ++ kept (ended text.now) count)) sink.new result }
+{
+    let (first, rest) = cut_long(text);
+    if first.is_empty() {
+        show_from_first::<S, W>(sink, front, removed(text, count), normal)?;
+        return show_segments::<S, W>(sink, text, count, normal);
+    }
+    show_behind::<S, W>(sink, front, first, removed(rest, count), normal)?;
+    show_segments::<S, W>(sink, rest, count, normal)
 }
 
 // Whether two texts are gone through once: the second is short, and the first has segments and no dot segment.
 fn are_short(front: &str, text: &str) -> bool
-    ensures { result ≡ true → (0 < length front.now) × (has_dot_segment front.now ≡ false) }
+    ensures { result ≡ true → (0 < length front.now) × (has_dot_segment front.now ≡ false) × (length text.now ≤ 512) }
 {
     if front.is_empty() || text.len() > SHORT {
         false
@@ -192,8 +250,7 @@ fn show_two<S: Spec, W: TextSink>(
     if front.is_empty() {
         return show_from_first::<S, W>(sink, behind_front_dots(text), count, normal);
     }
-    show_from_first::<S, W>(sink, front, removed(text, count), normal)?;
-    show_segments::<S, W>(sink, text, count, normal)
+    show_behind::<S, W>(sink, front, text, count, normal)
 }
 
 // The last segment of a path, behind its last slash.

@@ -192,7 +192,8 @@ impl<'a, S: Spec> FixedBaseResolver<'a, S> {
     }
 
     /// The text of a reference resolved against the base (RFC 3986 section 5.2): its dot segments are removed, but the base's path
-    /// stays as it is where the reference's is empty. It takes no memory.
+    /// stays as it is where the reference's is empty. Where the path would be read as an authority, `/.` stands before it. It takes no
+    /// memory.
     pub fn resolve(&self, reference: RiReferenceStr<'a, S>) -> Normalized<'a, S>
         ensures { written result ≡ record {
           parts = target (split_of (base_text self.now))

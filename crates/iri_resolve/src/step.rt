@@ -3,9 +3,13 @@
 /// A part that may hold triplets.
 #[derive(Clone, Copy, PartialEq, Eq)]
 pub enum Part {
+    /// The userinfo, host and port.
     Authority,
+    /// The path.
     Path,
+    /// What follows the question mark.
     Query,
+    /// What follows the number sign.
     Fragment,
 }
 

@@ -40,7 +40,8 @@ pub trait Normalize: Sized {
     fn normalize_but_preserve_authorityless_relative_path(self) -> Self::Text
         ensures { shown result ≡ record { parts = split_of (bytes self); whole = false; mode = Preserving } };
 
-    /// Whether RFC 3986 alone has a normal form of the text, without the `/.` before a path that would be read as an authority.
+    /// Whether RFC 3986 alone has a normal form of the text, without the `/.` before a path that would be read as an authority: Err
+    /// where no authority stands and the path without its dot segments begins with two slashes.
     fn ensure_rfc3986_normalizable(self) -> Result<(), Unresolvable>
         ensures { IsErr result ↔ (is_unresolvable false (split_of (bytes self)) ≡ true) };
 }
@@ -63,6 +64,7 @@ pub trait ResolveAgainst: Sized {
     ghost shown: { Self.Text → Written };
 
     /// The text resolved against the base: its dot segments are removed, but the base's path stays as it is where its own is empty.
+    /// Where the path would be read as an authority, `/.` stands before it.
     fn resolve_against(self, base: Self::Base) -> Self::Text
         ensures { shown result ≡ record {
           parts = target (split_of (base_bytes base)) (split_of (bytes self));

@@ -1,6 +1,7 @@
 use iri_grammar::error::ErrorKind;
 use iri_grammar::spec::{IriSpec, UriSpec};
 use iri_resolve::canonical::{CanonError, canonicalize};
+use iri_resolve::replay::ReplayError;
 use iri_resolve::resolver::FixedBaseResolver;
 use iri_types::view::{UriAbsoluteStr, UriReferenceStr};
 use std::test::Fail;
@@ -73,6 +74,26 @@ fn refusals_in_words(rt: HostRuntime) -> Result<(), Fail> {
             None => return Err("a fault is taken")?,
         }
     }
+    Ok(())
+}
+
+#[test]
+fn other_refusals_in_words(rt: HostRuntime) -> Result<(), Fail> {
+    let memory = CanonError::Memory;
+    assert_eq!(rt;
+        format!(in rt.alloc(); "{memory}")?.as_str(),
+        "out of memory"
+    );
+    let illegal = ReplayError::Illegal(3);
+    assert_eq!(rt;
+        format!(in rt.alloc(); "{illegal}")?.as_str(),
+        "step 3 is no step from the parts reached"
+    );
+    let replay = ReplayError::Memory;
+    assert_eq!(rt;
+        format!(in rt.alloc(); "{replay}")?.as_str(),
+        "out of memory"
+    );
     Ok(())
 }
 

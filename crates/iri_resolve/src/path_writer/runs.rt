@@ -1,5 +1,6 @@
 // Segments that stay side by side, found from the end of a text.
 ghost use Rattle.std.specs.Prelude.{◌≡◌, ◌==◌, ◌<◌, ◌≤◌, ◌+◌, ◌^◌, ◌++◌, ◌&&◌, true, length, drop};
+ghost use Rattle.std.specs.Str.{IsUtf8};
 ghost use Rattle.iri_percent.specs.Units.{whole_triplets};
 ghost use Rattle.iri_resolve.specs.Kept.{ended, kept, removed};
 ghost use Rattle.iri_resolve.specs.Target.{ends_at_slash};
@@ -26,6 +27,7 @@ fn last_kept(text: &str, count: usize) -> (&str, &str, usize)
     ensures front { result.1.now ≡ result.0.now ++ drop (length result.0.now) result.1.now }
     ensures ends { ends_at_slash result.0.now ≡ true }
     ensures whole { whole_triplets result.1.now ≡ true }
+    ensures within { length result.1.now ≤ length text.now }
     ensures shorter { 0 < length text.now → length result.0.now < length text.now }
     ensures room { result.2 + length result.0.now ≤ count + length text.now }
     ensures none { 0 < result.2 → length result.0.now ≡ 0 }
@@ -81,10 +83,12 @@ pub fn last_run(text: &str, count: usize) -> (&str, &str, usize)
     requires ends { ends_at_slash text.now ≡ true }
     requires whole { whole_triplets text.now ≡ true }
     requires room { count + length text.now < 2 ^ 64 }
+    ensures utf8 { IsUtf8 result.0.now }
     ensures ends { ends_at_slash result.0.now ≡ true }
     ensures front_whole { whole_triplets result.0.now ≡ true }
     ensures whole { whole_triplets result.1.now ≡ true }
     ensures shorter { 0 < length text.now → length result.0.now < length text.now }
+    ensures within { length result.0.now + length result.1.now ≤ length text.now }
     ensures room { result.2 + length result.0.now ≤ count + length text.now }
     ensures kept { kept (ended text.now) count ≡ kept (ended result.0.now) result.2 ++ result.1.now }
     ensures removed { removed (ended text.now) count ≡ removed (ended result.0.now) result.2 }

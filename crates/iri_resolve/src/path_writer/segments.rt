@@ -233,9 +233,9 @@ fn slash_from(text: &str, i: usize) -> usize
     }
 }
 
-/// The text in two parts of whole segments, where it can be of about the same length. The first is empty only where the text
-/// is one segment.
-pub fn halves(text: &str) -> (&str, &str)
+/// The text in two parts of whole segments, the second about an eighth of it where that can be. The first is empty only where the
+/// text is one segment.
+pub fn cut_eighth(text: &str) -> (&str, &str)
     requires ends { ends_at_slash text.now ≡ true }
     requires some { 0 < length text.now }
     ensures whole { text.now ≡ result.0.now ++ result.1.now }
@@ -244,7 +244,7 @@ pub fn halves(text: &str) -> (&str, &str)
     ensures some { 0 < length result.1.now }
     ensures one { length result.0.now ≡ 0 → length (ended result.1.now) ≡ 1 }
 {
-    let i = slash_from(text, text.len() / 2);
+    let i = slash_from(text, text.len() / 8 * 7);
     if i + 1 < text.len() {
         return cut_at(text, i);
     }

@@ -1,13 +1,10 @@
 use Rattle.std.proofs.Common.{◌≡◌, ◌<◌, ◌∙◌, length, sym, subst, arith}
 use Rattle.std.proofs.lemmas.Bool.Decides.{nat_tests}
-use Rattle.iri_text.proofs.Compose.{shows_exit, shows_then}
 use Rattle.iri_text.specs.Shown.{Shows}
-use Rattle.iri_resolve.specs.Kept.{ended, kept}
-use Rattle.iri_resolve.specs.PathForm.{in_form}
 use Rattle.iri_resolve.specs.inside.DotSearch.{dots_behind, dots_in_front}
 use Rattle.iri_resolve.proofs.DotLemmas.{first_or_behind}
 use Rattle.iri_resolve.proofs.EndedLemmas.{front-done, neither}
-use Rattle.iri_resolve.proofs.WriterLemmas.{form-second, form-both, form-short}
+use Rattle.iri_resolve.proofs.WriterLemmas.{form-second, form-short}
 use Rattle.iri_resolve.proofs.path_writer.show_two.Goals as goal
 
 pub returns-then-is_empty : goal.returns-then-is_empty
@@ -28,17 +25,10 @@ returns-then-are_short g c =
     (form-short g.S.Spec.tests c.args.normal f c.args.text.now f c.args.count short.0 c.requires.ends (sym done))
     c.show_short.ensures
 
-pub returns-in_err-show_from_first : goal.returns-in_err-show_from_first
-returns-in_err-show_from_first g c =
-    let some : 0 < length c.behind_front_dots-front.result.now = grind (arith, nat_tests) in
-    let e = form-both g.S.Spec.tests c.args.normal c.args.front.now c.args.text.now c.behind_front_dots-front.result.now c.args.count c.removed.result some c.behind_front_dots-front.ensures.ends c.behind_front_dots-front.ensures.segments c.removed.ensures.count in
-    subst (λ x. Shows g.W.TextSink.puts g.W.TextSink.halts g.W.TextSink.stops c.args.sink.now x c.show_from_first-2.new.sink c.from_residual.result) e
-    (shows_exit g.met.W.TextSink.rules (in_form g.S.Spec.tests c.args.normal
-    (kept (ended c.args.text.now) c.args.count)) c.from_residual.ensures.0 c.in_err-show_from_first.ensures)
-
 pub returns : goal.returns
 returns g c =
-    let some : 0 < length c.behind_front_dots-front.result.now = grind (arith, nat_tests) in
-    let e = form-both g.S.Spec.tests c.args.normal c.args.front.now c.args.text.now c.behind_front_dots-front.result.now c.args.count c.removed.result some c.behind_front_dots-front.ensures.ends c.behind_front_dots-front.ensures.segments c.removed.ensures.count in
-    subst (λ x. Shows g.W.TextSink.puts g.W.TextSink.halts g.W.TextSink.stops c.args.sink.now x c.show_segments.new.sink c.show_segments.result) e
-    (shows_then g.met.W.TextSink.rules c.in_ok-show_from_first.ensures c.show_segments.ensures)
+    let front = c.behind_front_dots-front in
+    let some : 0 < length front.result.now = grind (arith, nat_tests) in
+    subst (λ x. Shows g.W.TextSink.puts g.W.TextSink.halts g.W.TextSink.stops c.args.sink.now x c.show_behind.new.sink c.show_behind.result)
+    (form-short g.S.Spec.tests c.args.normal c.args.front.now c.args.text.now front.result.now c.args.count some front.ensures.ends front.ensures.segments)
+    c.show_behind.ensures

@@ -5,7 +5,7 @@ use Rattle.iri_resolve.specs.Kept.{ended}
 use Rattle.iri_resolve.specs.Target.{ends_at_slash}
 use Rattle.iri_resolve.proofs.EndedLemmas.{rest-ends, slash-ends, cut-boundary}
 use Rattle.iri_resolve.proofs.KeptLemmas.{ended-one}
-use Rattle.iri_resolve.proofs.path_writer.segments.halves.Goals as goal
+use Rattle.iri_resolve.proofs.path_writer.segments.cut_eighth.Goals as goal
 
 pub returns-then-i-text-clause-rest : goal.returns-then-i-text-clause-rest
 returns-then-i-text-clause-rest c = rest-ends c.cut_at.result.0.now c.cut_at.result.1.now

@@ -8,20 +8,10 @@ use Rattle.iri_percent.specs.Units.{whole_triplets}
 use Rattle.iri_resolve.specs.Kept.{bottom, ended, kept, kept_from_first}
 use Rattle.iri_resolve.specs.PathForm.{in_form}
 use Rattle.iri_resolve.specs.Target.{ends_at_slash}
-use Rattle.iri_resolve.proofs.EndedLemmas.{rest-ends, first_whole, slash-ends, dots-ended}
+use Rattle.iri_resolve.proofs.EndedLemmas.{rest-ends, first_whole, slash-ends}
 use Rattle.iri_resolve.proofs.NormalLemmas.{whole_two}
 use Rattle.iri_resolve.proofs.WriterLemmas.{form-first, form-no_first, first-whole}
-use Rattle.iri_resolve.proofs.path_writer.show_from_first.Goals as goal
-
-pub first_segments-requires-clause-no_dots : goal.first_segments-requires-clause-no_dots
-first_segments-requires-clause-no_dots g c = sym (dots-ended c.args.text.now c.requires.ends)
-    ∙ (sym c.has_dot_segment.ensures ∙ c.if-not-has_dot_segment.true)
-
-pub returns-then-not-has_dot_segment : goal.returns-then-not-has_dot_segment
-returns-then-not-has_dot_segment g c =
-    subst (λ x. Shows g.W.TextSink.puts g.W.TextSink.halts g.W.TextSink.stops c.args.sink.now
-    (in_form g.S.Spec.tests c.args.normal x) c.show_part.new.sink c.show_part.result)
-    (sym c.first_segments.ensures.kept) c.show_part.ensures
+use Rattle.iri_resolve.proofs.path_writer.show_first.Goals as goal
 
 pub returns-in-None : goal.returns-in-None
 returns-in-None g c =
