@@ -31,11 +31,13 @@ pub struct Builder<'a> {
 }
 
 /// Why no text was built.
-#[derive(Debug, Drop)]
+#[derive(Debug, Drop, thiserror::Error)]
 pub enum BuildError {
     /// The parts make no text of the kind: the first fault.
+    #[error(transparent)]
     Invalid(Error),
     /// Allocation failed. The parts make a text of the kind.
+    #[error(transparent)]
     Memory(AllocError),
 }
 
@@ -311,6 +313,10 @@ impl<'a> Builder<'a> {
 }
 
 impl Default for Builder<'_> {
+    ghost use Rattle.iri_edit.specs.Builders.{given};
+
+    ghost is_default = { λ b. given b ≡ nothing_given };
+
     fn default() -> Self {
         Builder::new()
     }

@@ -15,7 +15,7 @@ use std::alloc::AllocError;
 /// Owned texts that may have a fragment.
 pub trait SetFragment<F> {
     /// Puts a fragment in place of the text's, or behind a text that has none; `None` takes out the fragment and its number sign,
-    /// and takes no memory. Memory is taken first: after want of it the text is as it was.
+    /// and takes no memory. Memory is taken first: after an allocation failure the text is as it was.
     fn set_fragment(&mut self, fragment: Option<F>) -> Result<(), AllocError>;
 }
 

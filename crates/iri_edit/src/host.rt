@@ -19,7 +19,7 @@ use std::alloc::AllocError;
 /// Owned whole texts whose host can be replaced.
 pub trait ReplaceHost {
     /// Puts another host in place of the text's, and answers the new host's slice. `None`, with no change, exactly where no authority
-    /// stands or the new host is no host. Memory is taken first: after want of it the text is as it was.
+    /// stands or the new host is no host. Memory is taken first: after an allocation failure the text is as it was.
     fn try_replace_host(&mut self, new_host: &str) -> Result<Option<&str>, AllocError>;
 
     /// The same where the old host is a registered name, and `None` also where it is none: an IP literal or an IPv4 text.

@@ -100,7 +100,8 @@ impl<'a, S: Spec, K: WholeKind> PasswordMasked<'a, View<'a, S, K>> {
         }
     }
 
-    /// The same with the text that `replace` gives for the password. Where the userinfo has no colon, `replace` isn't called.
+    /// The same with the text that `replace` gives for the password, a function that may be called with each text. Where the userinfo
+    /// has no colon, it isn't called.
     pub fn replace_password_with<F: FnOnce(&str) -> D + Drop, D: Show>(
         &self,
         replace: F,

@@ -221,6 +221,25 @@ fn told(built: Result<UriReferenceString, BuildError>) -> Result<Option<ErrorKin
 }
 
 #[test]
+fn refusals_in_words(rt: HostRuntime) -> Result<(), Fail> {
+    let mut builder = Builder::new();
+    builder.path("%");
+    match builder.build_reference::<UriSpec>(rt.alloc()) {
+        Ok(_) => return Err("a fault is taken")?,
+        Err(error) => {
+            let words = format!(in rt.alloc(); "{error}")?;
+            assert_eq!(rt; words.as_str(), "invalid IRI: invalid path");
+        }
+    }
+    let memory = BuildError::Memory(AllocError);
+    assert_eq!(rt;
+        format!(in rt.alloc(); "{memory}")?.as_str(),
+        "memory allocation failed"
+    );
+    Ok(())
+}
+
+#[test]
 fn built(rt: HostRuntime) -> Result<(), Fail> {
     let mut builder = Builder::new();
     builder.scheme("HTTP");

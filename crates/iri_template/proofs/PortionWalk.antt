@@ -1,10 +1,10 @@
 -- How the writing of portions goes on: lists of portions one after the other, and what is still to be written.
-use Rattle.std.proofs.Common.{◌≡◌, ◌≤◌, ℕ, true, false, cond, List, [], ◌∷◌, ◌++◌, None, Some, refl, sym, ◌∙◌, ap, subst, arith}
-use Rattle.std.proofs.Common.{append_assoc, append-nil, Result, Ok, Err}
+use Rattle.std.proofs.Common.{◌≡◌, ℕ, true, false, cond, List, [], ◌∷◌, ◌++◌, None, Some, refl, sym, ◌∙◌, ap, subst}
+use Rattle.std.proofs.Common.{append_assoc, append-nil, Ok, Err}
 use Rattle.iri_text.specs.Shown.{AreSinkLaws}
 use Rattle.iri_template.specs.Fault.{fault}
 use Rattle.iri_template.specs.Portions.{Portion, portions_fault, portions_text}
-use Rattle.iri_template.specs.Writings.{StopsAt, IsRefused, EndsAs, IsCaused, HasCause}
+use Rattle.iri_template.specs.Writings.{StopsAt, IsRefused, EndsAs}
 use Rattle.iri_template.specs.declared.error.Error.{Error}
 use Rattle.iri_template.specs.declared.error.ErrorKind.{ErrorKind}
 use Rattle.iri_template.specs.declared.error.ErrorKind.TheVariants.{WriteFailed, ExpressionNotClosed, InvalidCharacter, InvalidExpression}
@@ -112,19 +112,3 @@ module _ {W : Type 0} (puts halts : W → List ℕ → W → Type 0) (laws : Are
   pub ended_exit : (all qs left : List Portion) (a b c : W) (e : Error) → HasEnded puts all a (qs ++ left) b → EndsAs puts halts qs b c (Err e)
       → EndsAs puts halts all a c (Err e)
   ended_exit all qs left a b c e h q = refused all qs left a b c e e.kind h q
-
--- ---- causes
-caused : (a b c : ℕ) (kind : ErrorKind) → a ≤ b → IsCaused b c kind → IsCaused a c kind
-caused a b c WriteFailed h q = omega arith
-caused a b c UnexpectedValueType h q = tt
-caused a b c ExpressionNotClosed h q = absurd q
-caused a b c InvalidCharacter h q = absurd q
-caused a b c InvalidExpression h q = absurd q
-caused a b c InvalidPercentEncoding h q = absurd q
-caused a b c InvalidUtf8 h q = absurd q
-caused a b c UnsupportedOperator h q = absurd q
-caused a b c Memory h q = absurd q
-
-pub has_cause : (a b c : ℕ) (r : Result (Unit {0}) Error) → a ≤ b → HasCause b c r → HasCause a c r
-has_cause a b c (Ok x) h q = tt
-has_cause a b c (Err e) h q = caused a b c e.kind h q

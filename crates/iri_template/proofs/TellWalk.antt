@@ -7,9 +7,6 @@ use Rattle.iri_template.specs.Tells.{Telling, later, WhereTold, MovesBy}
 pub later_none : (f : Telling) → later 0 f ≡ f
 later_none f = fun_ext (λ k. let e : 0 + k ≡ k = omega arith in ap f e)
 
-pub later_later : (n m : ℕ) (f : Telling) → later n (later m f) ≡ later (m + n) f
-later_later n m f = fun_ext (λ k. let e : m + (n + k) ≡ m + n + k = omega arith in ap f e)
-
 pub moves_none : (t : Option Telling) → MovesBy 0 t t
 moves_none None = tt
 moves_none (Some f) = λ k name purpose. ap (λ (h : Telling). h k name purpose) (sym (later_none f))

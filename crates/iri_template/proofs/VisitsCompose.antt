@@ -19,10 +19,6 @@ pub record HasHeard {V : Type 0} (name : V → List ℕ) (aim : V → VisitPurpo
 
 module _ {V : Type 0} {name : V → List ℕ} {aim : V → VisitPurpose} {phase : V → Phase} {hears halts : V → List Event → V
     → Type 0} {stops : V → ℕ} (laws : AreSinkLaws hears halts) where
-  pub heard_first : {a b : V} {t : List Event} {p : Phase} {x : Unit {0}} → Visits name aim phase hears halts stops a t p b (Ok x)
-      → HasHeard name aim phase hears stops a t p b
-  heard_first q = record { heard = record { appended = q.tells.appends; later = q.tells.later }; is_in = q.goes_on; same_name = q.same_name; same_aim = q.same_aim }
-
   pub heard_more : {a b c : V} {t u : List Event} {p q : Phase} {x : Unit {0}} → HasHeard name aim phase hears stops a t p b
       → Visits name aim phase hears halts stops b u q c (Ok x) → HasHeard name aim phase hears stops a (t ++ u) q c
   heard_more p q = record {

@@ -1,11 +1,11 @@
 -- How a loop tells the members of a value one by one, with those that are left.
-use Rattle.std.proofs.Common.{◌≡◌, ℕ, List, [], ◌∷◌, ◌++◌, map, ◌∙◌, ap, sym, subst, refl, append_assoc, append-nil, Result, Ok, Err, IsErr}
+use Rattle.std.proofs.Common.{◌≡◌, ℕ, List, [], ◌∷◌, ◌++◌, map, ◌∙◌, ap, sym, subst, append_assoc, append-nil, Result, Ok, Err, IsErr}
 use Rattle.std.proofs.lemmas.List.{map-append}
 use Rattle.iri_text.specs.Shown.{AreSinkLaws}
 use Rattle.iri_text.specs.declared.shown.show.Stop.{Stop}
 use Rattle.iri_template.specs.Events.{Event, Finished}
 use Rattle.iri_template.specs.Visits.{Visits}
-use Rattle.iri_template.proofs.VisitsCompose.{HasHeard, heard_first, heard_more, heard_then, heard_exit}
+use Rattle.iri_template.proofs.VisitsCompose.{HasHeard, heard_more, heard_then, heard_exit}
 use Rattle.iri_template.specs.declared.visitor.VisitPurpose.{VisitPurpose}
 use Rattle.iri_template.specs.declared.visitor.Phase.{Phase}
 
@@ -30,10 +30,6 @@ module _ {X Y : Type 0} (h : Y → Event) (f : X → Y) where
 
 module _ {V X Y : Type 0} {name : V → List ℕ} {aim : V → VisitPurpose} {phase : V → Phase} {hears halts : V → List Event → V
     → Type 0} {stops : V → ℕ} (laws : AreSinkLaws hears halts) (begun : Event) (h : Y → Event) (f : X → Y) (inside : Phase) where
-  pub up_to_none : {a b : V} {x : Unit {0}} (members : List X) → Visits name aim phase hears halts stops a (begun ∷ []) inside b (Ok x)
-      → HasHeardUpTo name aim phase hears stops begun h f inside a members members b
-  up_to_none members q = record { told = []; split = refl; heard = heard_first laws q }
-
   pub up_to_more : {a b c : V} {members rest left : List X} {y : Unit {0}} (x : X) → rest ≡ x ∷ left
       → HasHeardUpTo name aim phase hears stops begun h f inside a members rest b
       → Visits name aim phase hears halts stops b (h (f x) ∷ []) inside c (Ok y)

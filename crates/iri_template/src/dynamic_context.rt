@@ -21,7 +21,8 @@ pub trait DynamicContext {
     /// How many expansions were ended, where it is told.
     ghost ends: { Self → Option ℕ };
 
-    /// Tells the visitor the value of the variable that it names. It answers `Stop` only where the visitor did.
+    /// Tells the visitor, which was told nothing yet, the value of the variable that it names. It answers `Stop` only where the visitor
+    /// did.
     fn visit_dynamic<V: Visitor>(&mut self, visitor: &mut V) -> Result<(), Stop>
         requires { V.phase visitor.old ≡ Fresh }
         ensures visit { VisitsNext V.name V.aim V.phase V.hears V.halts V.stops (tells self.old) visitor.old visitor.new

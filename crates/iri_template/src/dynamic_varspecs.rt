@@ -177,7 +177,7 @@ pub(crate) fn write_varspecs<C: DynamicContext, S: Spec, W: TextSink>(
                     Err(error) => return Err(error),
                 }
             }
-            Err(_) => return Ok(()),
+            Err(_) => unreachable!(),
         }
     }
 }

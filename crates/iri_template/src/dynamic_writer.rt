@@ -99,7 +99,7 @@ pub(crate) fn write_template<C: DynamicContext, S: Spec, W: TextSink>(
                     Err(error) => return Err(error),
                 }
             }
-            Err(_) => return Ok(()),
+            Err(_) => unreachable!(),
         }
     }
     Ok(())

@@ -18,19 +18,32 @@ use std::marker::PhantomData;
 
 /// A template whose expansion for a URI or an IRI is shown, with the values of a context (RFC 6570 section 3). It
 /// takes no memory, and the values may put their texts in any pieces.
-#[derive(Drop)]
 pub struct Expanded<'a, S, C> {
     pub(crate) template: UriTemplateStr<'a>,
     pub(crate) context: &'a C,
     pub(crate) spec: PhantomData<S>,
 }
 
+impl<S, C> Clone for Expanded<'_, S, C> {
+    ghost is_clone = { λ e f. f ≡ e };
+
+    ghost is_infallible = { λ _. Unit {0} };
+
+    fn clone(&self) -> Result<Self, AllocError> {
+        Ok(*self)
+    }
+}
+
+impl<S, C> Copy for Expanded<'_, S, C> {}
+
 /// Why an expansion was made no owned text of its kind.
-#[derive(Drop)]
+#[derive(Debug, Drop, thiserror::Error)]
 pub enum ExpandedError {
     /// It isn't in the production of that kind. It is handed out.
+    #[error(transparent)]
     Invalid(CreationError<String>),
     /// Allocation failed.
+    #[error(transparent)]
     Memory(AllocError),
 }
 

@@ -46,7 +46,7 @@ fn push_template(whole: &mut String, other: UriTemplateStr<'_>) -> Result<(), Al
 }
 
 impl UriTemplateString {
-    /// A copy of a text, where it is a template: otherwise its first fault.
+    /// A copy of a text, where it is a template: otherwise its first fault. `Memory` comes on allocation failure alone.
     pub fn try_from_str(alloc: Global, s: &str) -> Result<Self, CreateTemplateError>
         ensures { MatchResult result (λ t. t.text ≡ s.now) (λ e. RefusedFor e (text_fault s.now)) }
     {
@@ -58,7 +58,8 @@ impl UriTemplateString {
         }
     }
 
-    /// A copy of bytes, where they are the UTF-8 of a template: otherwise `InvalidUtf8`, or the text's first fault.
+    /// A copy of bytes, where they are the UTF-8 of a template: otherwise `InvalidUtf8`, or the text's first fault. `Memory` comes on
+    /// allocation failure alone.
     pub fn try_from_bytes(alloc: Global, b: &[u8]) -> Result<Self, CreateTemplateError>
         ensures { MatchResult result (λ t. t.text ≡ b.now) (λ e. RefusedFor e (template_fault b.now)) }
     {
@@ -81,7 +82,7 @@ impl UriTemplateString {
         }
     }
 
-    /// A copy of a borrowed template.
+    /// A copy of a borrowed template. It fails on allocation failure alone.
     pub fn from_view(alloc: Global, view: UriTemplateStr<'_>) -> Result<Self, AllocError>
         ensures { IfOk result (λ t. t.text ≡ text view.entry) }
     {
@@ -142,7 +143,7 @@ impl UriTemplateString {
         push_template(&mut self.text, other)
     }
 
-    /// A copy.
+    /// A copy. It fails on allocation failure alone.
     pub fn try_clone(&self, alloc: Global) -> Result<Self, AllocError>
         ensures { IfOk result (λ t. t.text ≡ self.now.text) }
     {

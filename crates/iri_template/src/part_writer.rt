@@ -67,7 +67,7 @@ pub(crate) fn write_expansion<C: Context, S: Spec, W: TextSink>(
                     Err(stop) => return Err(stop),
                 }
             }
-            Err(_) => return sink.put(""),
+            Err(_) => unreachable!(),
         }
     }
     Ok(())

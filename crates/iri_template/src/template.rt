@@ -1,4 +1,4 @@
-//! Lent templates (RFC 6570 section 2).
+//! Borrowed templates (RFC 6570 section 2).
 ghost use Rattle.std.specs.Prelude.{◌≡◌, ◌≤◌, ◌==◌, ◌+◌, ◌*◌, ⊤, length, IfOk, OnOk, MatchResult, None, Some};
 ghost use Rattle.iri_template.specs.Fault.{Answers, text_fault, template_fault};
 ghost use Rattle.iri_template.specs.Portions.{portions};

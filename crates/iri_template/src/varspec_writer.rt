@@ -97,7 +97,7 @@ pub(crate) fn write_varspecs<C: Context, S: Spec, W: TextSink>(
                     Err(stop) => return Err(stop),
                 }
             }
-            Err(_) => return sink.put(""),
+            Err(_) => unreachable!(),
         }
     }
 }

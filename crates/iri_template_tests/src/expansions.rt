@@ -5,7 +5,7 @@ ghost use Rattle.iri_text.specs.Shown.{Shows};
 use iri_grammar::spec::{IriSpec, Spec, UriSpec};
 use iri_template::context::Context;
 use iri_template::error::ErrorKind;
-use iri_template::expanded::ExpandedError;
+use iri_template::expanded::{Expanded, ExpandedError};
 use iri_template::naive::{VisitValueNaive, visit_value_naive};
 use iri_template::simple_context::SimpleContext;
 use iri_template::template::UriTemplateStr;
@@ -556,6 +556,26 @@ fn within(rt: HostRuntime) -> Result<(), Fail> {
     Ok(())
 }
 
+// Shows an expansion that it takes.
+fn shown<C: Context>(
+    alloc: Global,
+    expanded: Expanded<'_, UriSpec, C>,
+) -> Result<String, AllocError> {
+    expanded.try_to_string(alloc)
+}
+
+#[test]
+fn copied(rt: HostRuntime) -> Result<(), Fail> {
+    let context = variables(rt.alloc())?;
+    let template = UriTemplateStr::new("{hello}{?x}")?;
+    let expanded = template.expand::<UriSpec, SimpleContext>(&context)?;
+    let text = "Hello%20World%21?x=1024";
+    assert_eq!(rt; shown(rt.alloc(), expanded)?.as_str(), text);
+    assert_eq!(rt; shown(rt.alloc(), expanded)?.as_str(), text);
+    assert_eq!(rt; shown(rt.alloc(), expanded.clone()?)?.as_str(), text);
+    Ok(())
+}
+
 // What a conversion gives, or its refusal as a test's error.
 fn converted<T>(conversion: Result<T, ExpandedError>) -> Result<T, Fail> {
     match conversion {
@@ -589,6 +609,29 @@ fn refused(error: ExpandedError) -> Result<(iri_grammar::error::ErrorKind, Strin
         }
         ExpandedError::Memory(error) => Err(error),
     }
+}
+
+#[test]
+fn refusals_in_words(rt: HostRuntime) -> Result<(), Fail> {
+    let context = SimpleContext::new(rt.alloc());
+    let template = UriTemplateStr::new("a/b")?;
+    match template
+        .expand::<UriSpec, SimpleContext>(&context)?
+        .try_into_iri(rt.alloc())
+    {
+        Ok(_) => return Err("a fault is taken")?,
+        Err(error) => {
+            let words = format!(in rt.alloc(); "{error}")?;
+            let want = "invalid IRI: expected an absolute IRI but got a relative IRI";
+            assert_eq!(rt; words.as_str(), want);
+        }
+    }
+    let memory = ExpandedError::Memory(AllocError);
+    assert_eq!(rt;
+        format!(in rt.alloc(); "{memory}")?.as_str(),
+        "memory allocation failed"
+    );
+    Ok(())
 }
 
 #[test]

@@ -1,4 +1,4 @@
-// Lent and owned templates.
+// Borrowed and owned templates.
 use iri_template::creation::CreateTemplateError;
 use iri_template::error::ErrorKind;
 use iri_template::laws;

@@ -1,4 +1,4 @@
-use Rattle.std.proofs.Common.{◌≡◌, ◌+◌, ◌-◌, None, Some, length, map, ap, sym, ◌∙◌, arith}
+use Rattle.std.proofs.Common.{◌≡◌, ◌+◌, ◌-◌, Some, length, map, ap, sym, ◌∙◌, arith}
 use Rattle.iri_grammar.specs.Cut.{before, behind}
 use Rattle.iri_grammar.specs.Pieces.{pieces}
 use Rattle.iri_grammar.specs.OptionalSlices.{now_of}
@@ -79,16 +79,8 @@ returns-in-Err-write_varspec-clause-written g c =
     c.varspecs.sink c.write_varspec.new.sink c.in-Err-write_varspec.error
     (d.tells c.args.context.now) (d.tells c.varspecs.context) c.varspecs.invariant.far c.in-Err-write_varspec.ensures.written
 
-pub returns-in-Err-clause-written : goal.returns-in-Err-clause-written
-returns-in-Err-clause-written g c =
-    let t = c.varspecs.rest.now in
-    let fine : varspecs_fault 0 (pieces 44 t) ≡ None = c.varspecs.invariant.fine in
-    let bad = bad_varspec 0 t c.in-Err.field-0 c.in-Err.ensures.fault in
-    absurd (cc)
-
-pub returns-in-Err-clause-moves : goal.returns-in-Err-clause-moves
-returns-in-Err-clause-moves g c =
-    let t = c.varspecs.rest.now in
-    let fine : varspecs_fault 0 (pieces 44 t) ≡ None = c.varspecs.invariant.fine in
-    let bad = bad_varspec 0 t c.in-Err.field-0 c.in-Err.ensures.fault in
-    absurd (cc)
+pub unreachable-requires : goal.unreachable-requires
+unreachable-requires g c =
+    let fine = c.varspecs.invariant.fine in
+    let bad = bad_varspec 0 c.varspecs.rest.now c.in-Err.field-0 c.in-Err.ensures.fault in
+    cc (fine, bad)

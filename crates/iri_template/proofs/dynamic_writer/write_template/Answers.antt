@@ -91,13 +91,9 @@ returns-in-Err-write_part-clause-written g c =
     c.parts.begin c.parts.sink c.write_part.new.sink c.in-Err-write_part.error k c.in-Ok.ensures.placed text c.in-Ok.ensures.shorter
     (d.tells c.args.context.now) (d.tells c.parts.context) i.far c.in-Err-write_part.ensures.written
 
-pub returns-in-Err-clause-written : goal.returns-in-Err-clause-written
-returns-in-Err-clause-written g c =
-    absurd (never (length c.args.template.now - length c.parts.rest.now) c.parts.rest.now c.in-Err.field-0 c.parts.invariant.fine c.in-Err.ensures)
-
-pub returns-in-Err-clause-moves : goal.returns-in-Err-clause-moves
-returns-in-Err-clause-moves g c =
-    absurd (never (length c.args.template.now - length c.parts.rest.now) c.parts.rest.now c.in-Err.field-0 c.parts.invariant.fine c.in-Err.ensures)
+pub unreachable-requires : goal.unreachable-requires
+unreachable-requires g c =
+    never (length c.args.template.now - length c.parts.rest.now) c.parts.rest.now c.in-Err.field-0 c.parts.invariant.fine c.in-Err.ensures
 
 pub returns-clause-written : goal.returns-clause-written
 returns-clause-written g c =

@@ -70,10 +70,9 @@ returns-in-Err-write_part g c =
     (length c.args.template.now - length t) t r c.in-Ok.ensures c.parts.invariant.utf8 v c.parts.invariant.fine in
     written_exit g.met.W.TextSink.rules g.S.Spec.tests value c.args.template.now c.in-Ok.part t r k c.parts.invariant.far c.in-Err-write_part.ensures
 
-pub returns-in-Err : goal.returns-in-Err
-returns-in-Err g c =
-    absurd (never
-    (length c.args.template.now - length c.parts.rest.now) c.parts.rest.now c.in-Err.field-0 c.parts.invariant.fine c.in-Err.ensures)
+pub unreachable-requires : goal.unreachable-requires
+unreachable-requires g c =
+    never (length c.args.template.now - length c.parts.rest.now) c.parts.rest.now c.in-Err.field-0 c.parts.invariant.fine c.in-Err.ensures
 
 pub returns : goal.returns
 returns g c =

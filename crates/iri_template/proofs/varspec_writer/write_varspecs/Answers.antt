@@ -1,4 +1,4 @@
-use Rattle.std.proofs.Common.{◌≡◌, ◌||◌, false, [], None, Some, Ok, Err, ap, sym, ◌∙◌, subst, refl, arith}
+use Rattle.std.proofs.Common.{◌≡◌, ◌||◌, false, [], Some, Ok, Err, ap, sym, ◌∙◌, subst, refl, arith}
 use Rattle.iri_grammar.specs.Cut.{before, behind}
 use Rattle.iri_grammar.specs.Pieces.{pieces}
 use Rattle.iri_grammar.specs.OptionalSlices.{now_of}
@@ -101,10 +101,8 @@ returns-in-Err-write_varspec g c =
     (up_to_exit (spec_step s o value) (spec_text s o value) g.met.W.TextSink.rules false all {r = Err c.in-Err-write_varspec.stop}
     (before 44 t) cut refl c.varspecs.invariant.far put)
 
-pub returns-in-Err : goal.returns-in-Err
-returns-in-Err g c =
-    let t = c.varspecs.rest.now in
-    let fine : varspecs_fault 0 (pieces 44 t) ≡ None = c.varspecs.invariant.fine in
-    let bad = bad_varspec 0 t c.in-Err.field-0 c.in-Err.ensures.fault in
-    let clash : Some c.in-Err.field-0 ≡ None = sym bad ∙ fine in
-    absurd (cc)
+pub unreachable-requires : goal.unreachable-requires
+unreachable-requires g c =
+    let fine = c.varspecs.invariant.fine in
+    let bad = bad_varspec 0 c.varspecs.rest.now c.in-Err.field-0 c.in-Err.ensures.fault in
+    cc (fine, bad)
