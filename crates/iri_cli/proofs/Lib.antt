@@ -14,9 +14,9 @@ pub mod WordLemmas
 pub mod OpeningLemmas
 pub mod StatelessLemmas
 pub mod LinksLemmas
-pub mod DocsLemmas
 pub mod VariableLemmas
 pub mod ExpandLemmas
 pub mod PutLemmas
 pub mod RegisterLemmas
+pub mod RegisterLaws
 pub mod RobotsLemmas

@@ -36,10 +36,6 @@ module _ (rules : Rules) where
       ∙ ap (λ (p : ℕ). passed_from rules p ((len + 1) + length raw) y) there
       ∙ ap (λ (k : ℕ). passed_from rules (place + length (b ∷ raw)) k y) long
 
-  -- the length of a line from its first byte
-  from_first : (place len : ℕ) (y : List ℕ) → passed_from rules place (0 + len) y ≡ passed_from rules place len y
-  from_first place len y = let e : 0 + len ≡ len = omega arith in ap (λ (k : ℕ). passed_from rules place k y) e
-
   -- a line that an LF ends
   pub past_line : (place : ℕ) (raw y : List ℕ) → NoLf raw → length raw ≤ rules.line_limit → place + length raw < rules.input_limit
       → passed_from rules place 0 (raw ++ 10 ∷ y) ≡ passed_from rules (place + length raw + 1) 0 y

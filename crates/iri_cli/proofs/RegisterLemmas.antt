@@ -14,17 +14,16 @@ use Rattle.iri_register.specs.Kept.{Kept}
 use Rattle.iri_register.proofs.CommandLemmas.{obeyed_from}
 use Rattle.iri_cli.specs.RegisterAnswers.{answer_to, entry_line, entry_lines, more_numbers}
 use Rattle.iri_cli.specs.RegisterLines.{line_of, command_of, commands_from, entries_behind}
-use Rattle.iri_text.specs.Sink.{Appends, AppendsPrefix, KeepsRoom, PutsAll}
+use Rattle.iri_text.specs.Sink.{KeepsRoom, PutsAll}
 use Rattle.iri_text.specs.declared.Failed.{Failed}
-use Rattle.iri_text.proofs.Puts.{room-same, room-so}
 use Rattle.iri_text.specs.Line.{LineState}
-use Rattle.iri_cli.specs.Answering.{Answering, AnswersLine, IsReady, PutsAnswer, PutsClosing}
+use Rattle.iri_cli.specs.Answering.{Answering, AnswersLine, IsReady, PutsAnswer}
 use Rattle.iri_cli.specs.CanonAnswers.{told_of}
 use Rattle.iri_cli.specs.Ending.{Rules}
 use Rattle.iri_cli.specs.Read.{IsGoing}
 use Rattle.iri_cli.specs.Refused.{is_not_bad}
 use Rattle.iri_cli.specs.Words.{register_rules}
-use Rattle.iri_cli.specs.declared.answers.AnswerError.TheVariants.{SinkFailed, Memory}
+use Rattle.iri_cli.specs.declared.answers.AnswerError.TheVariants.{SinkFailed}
 use Rattle.iri_cli.specs.inside.Opening.{BeginsAsCanon}
 use Rattle.iri_cli.specs.inside.RegisterAt.{IsRegisterAt}
 use Rattle.iri_cli.specs.inside.Replies.{obeyed_by}
@@ -32,17 +31,21 @@ use Rattle.iri_cli.proofs.CanonLemmas.{line_room}
 
 -- ---- one line more
 
+pub commands_append : (s : Tests) (base : List ℕ) (n : ℕ) (before after : List (List ℕ))
+    → commands_from s base n (before ++ after) ≡ commands_from s base n before ++ commands_from s base (n + length before) after
+commands_append s base n [] after = let e : n ≡ n + 0 = omega arith in ap (λ k. commands_from s base k after) e
+commands_append s base n (line ∷ before) after =
+    let e : (n + 1) + length before ≡ n + suc (length before) = omega arith in
+    ap (λ cs. command_of s base n (line_of line) ++ cs) (commands_append s base (n + 1) before after
+    ∙ ap (λ k. commands_from s base (n + 1) before ++ commands_from s base k after) e)
+    ∙ sym (append_assoc (command_of s base n (line_of line)) (commands_from s base (n + 1) before)
+    (commands_from s base (n + suc (length before)) after))
+
 commands_more : (s : Tests) (base : List ℕ) (n : ℕ) (between : List (List ℕ)) (line : List ℕ)
     → commands_from s base n (between ++ line ∷ []) ≡ commands_from s base n between ++ command_of s base (n + length between) (line_of line)
-commands_more s base n [] line =
-    let e : n ≡ n + 0 = omega arith in
-    append-nil (command_of s base n (line_of line)) ∙ ap (λ k. command_of s base k (line_of line)) e
-commands_more s base n (l ∷ between) line =
-    let e : (n + 1) + length between ≡ n + suc (length between) = omega arith in
-    ap (λ cs. command_of s base n (line_of l) ++ cs) (commands_more s base (n + 1) between line
-    ∙ ap (λ k. commands_from s base (n + 1) between ++ command_of s base k (line_of line)) e)
-    ∙ sym (append_assoc (command_of s base n (line_of l)) (commands_from s base (n + 1) between)
-    (command_of s base (n + suc (length between)) (line_of line)))
+commands_more s base n between line =
+    commands_append s base n between (line ∷ [])
+    ∙ ap (λ cs. commands_from s base n between ++ cs) (append-nil (command_of s base (n + length between) (line_of line)))
 
 pub entries_more : (s : Tests) (base : List ℕ) (between : List (List ℕ)) (line : List ℕ)
     → entries_behind s base (between ++ line ∷ [])
@@ -181,41 +184,6 @@ answers_line s kept new answered count at line text wo wn fo fn ro rn good r is 
       next = on_told good r (next_at s kept new answered count at line is counted base entries);
       room = subst (λ t. KeepsRoom ro rn t (told_of good r ≢ Err SinkFailed)) e (line_room good r text p);
     }
-
--- allocation failed, and nothing was put
-pub line_refused : (s : Tests) (kept : Kept) (answered : ℕ) (at : Answering) (is_next : Answering → Type 0) (line : List ℕ)
-    (wo : Option (List ℕ)) (fo : ℕ) (ro : Option ℕ) → IsRegisterAt s kept answered at
-    → AnswersLine is_next at line wo wo fo fo ro ro (Err Memory)
-line_refused s kept answered at is_next line wo fo ro is = record {
-  puts = (ap (λ (rules : Rules). rules.takes_memory) is.rules, refl, refl);
-  next = tt;
-  room = room-same ro (at.rules.answer at.base at.between line) (λ _ h. cc h);
-}
-
--- ---- the end
-
-closing_is : (s : Tests) (kept : Kept) (answered : ℕ) (at : Answering) → IsRegisterAt s kept answered at
-    → entry_lines 1 kept.entries ≡ at.rules.closing at.base at.between
-closing_is s kept answered at is =
-    ap (entry_lines 1) is.entries_are ∙ ap (λ (rules : Rules). rules.closing at.base at.between) (sym is.rules)
-
-pub closes_well : (s : Tests) (kept : Kept) (answered : ℕ) (at : Answering) (wo wn : Option (List ℕ)) (fo fn : ℕ) (ro rn : Option ℕ)
-    → IsRegisterAt s kept answered at → PutsAll wo wn fo fn ro rn (Ok tt) (entry_lines 1 kept.entries)
-    → PutsClosing at.rules wo wn fo fn (at.rules.closing at.base at.between) (Ok tt)
-closes_well s kept answered at wo wn fo fn ro rn is p =
-    (subst (λ t. Appends wo wn t) (closing_is s kept answered at is) p.whole, p.same)
-
-pub closes_short : (s : Tests) (kept : Kept) (answered : ℕ) (at : Answering) (wo wn : Option (List ℕ)) (fo fn : ℕ) (ro rn : Option ℕ)
-    (f : Failed) → IsRegisterAt s kept answered at → PutsAll wo wn fo fn ro rn (Err f) (entry_lines 1 kept.entries)
-    → PutsClosing at.rules wo wn fo fn (at.rules.closing at.base at.between) (Err SinkFailed)
-closes_short s kept answered at wo wn fo fn ro rn f is p =
-    (subst (λ t. AppendsPrefix wo wn t) (closing_is s kept answered at is) p.front, p.cause, p.later)
-
-pub closing_room : (s : Tests) (kept : Kept) (answered : ℕ) (at : Answering) (ro rn : Option ℕ) (A B : Type 0) → (A → B)
-    → IsRegisterAt s kept answered at → KeepsRoom ro rn (entry_lines 1 kept.entries) A
-    → KeepsRoom ro rn (at.rules.closing at.base at.between) B
-closing_room s kept answered at ro rn A B so is k =
-    room-so so (subst (λ t. KeepsRoom ro rn t A) (closing_is s kept answered at is) k)
 
 -- ---- the beginning
 

@@ -46,12 +46,6 @@ disallow_told rules s v k is = disallow_by rules s v (is_allowed rules s) k is r
 pub word_is : (site allowed a b : Bool) → site ≡ a → allowed ≡ b → verdict_word a b ≡ verdict_word site allowed
 word_is site allowed a b e h = ap (λ x. verdict_word x b) (sym e) ∙ ap (verdict_word site) (sym h)
 
--- no word begins with "bad"
-pub word_good : (site allowed : Bool) (text : List ℕ) → true ≡ is_not_bad (verdict_word site allowed ++ text)
-word_good true true text = refl
-word_good true false text = refl
-word_good false allowed text = refl
-
 -- ---- replies
 
 pub replies : {wo wn : Option (List ℕ)} {fo fn : ℕ} {ro rn : Option ℕ} (good : Bool) (r : Result (Unit {0}) Failed) (text : List ℕ)
@@ -64,9 +58,6 @@ replies {wo} {wn} {fo} {fn} good r text p e = record { puts = by r p; room = lin
 
 pub no_reply : (wo : Option (List ℕ)) (fo : ℕ) (ro : Option ℕ) → PutsReply wo wo fo fo ro ro [] (Ok true)
 no_reply wo fo ro = record { puts = (Appends-none wo, refl, refl); room = room-same ro [] (λ _ h. cc h) }
-
-pub no_memory : (wo : Option (List ℕ)) (fo : ℕ) (ro : Option ℕ) (text : List ℕ) → PutsReply wo wo fo fo ro ro text (Err Memory)
-no_memory wo fo ro text = record { puts = (refl, refl); room = room-same ro text (λ _ h. cc h) }
 
 -- ---- one line more
 

@@ -16,6 +16,7 @@ pub mod Closes
 pub mod inside
 pub mod Refused
 pub mod RegisterLines
+pub mod RegisterShared
 pub mod RegisterAnswers
 pub mod RegisterExamples
 pub mod LinksAnswers

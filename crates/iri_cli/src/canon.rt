@@ -1,5 +1,5 @@
 // The answers of `canon`.
-ghost use Rattle.std.specs.Prelude.{◌≡◌, ◌≢◌, ◌≤◌, ◌+◌, [], ◌∷◌, ◌++◌, None, Some, Ok, Err, codes, length, MatchResult};
+ghost use Rattle.std.specs.Prelude.{◌≡◌, ◌≢◌, ◌≤◌, ◌+◌, [], ◌∷◌, ◌++◌, None, Some, Err, codes, length, MatchResult};
 ghost use Rattle.std.specs.Vec.{vec_capacity};
 ghost use Rattle.iri_text.specs.Sink.{PutsAll, KeepsRoom};
 ghost use Rattle.iri_types.specs.SplitText.{split_text};
@@ -7,12 +7,13 @@ ghost use Rattle.iri_types.specs.Texts.{text};
 ghost use Rattle.iri_resolve.specs.NormalForm.{canonical_in};
 ghost use Rattle.iri_resolve.specs.Resolver.{base_text};
 ghost use Rattle.iri_cli.specs.Answer.{refusal, answer_in};
-ghost use Rattle.iri_cli.specs.CanonAnswers.{PutsLine, told_of};
+ghost use Rattle.iri_cli.specs.CanonAnswers.{PutsLine};
 ghost use Rattle.iri_cli.specs.declared.answers.AnswerError.TheVariants.{SinkFailed};
 ghost use Rattle.iri_text.specs.LineEnds.{line_feed};
 
 use crate::answers::{AnswerError, Answers};
 use crate::buffers::room_for;
+use crate::puts::{put_bad, told};
 use iri_grammar::spec::Spec;
 use iri_resolve::canonical::show_canonical_in;
 use iri_resolve::mode::CanonMode;
@@ -82,26 +83,6 @@ fn put_good<'a, S: Spec, O: Sink>(
     fill(&mut line, mode, resolver, reference);
     sink.put_all(b"ok ")?;
     sink.put_all(line.as_str().as_bytes())
-}
-
-// The prefix of a refused reference, the words for its fault and an LF.
-pub(crate) fn put_bad<O: Sink>(sink: &mut O, words: &str) -> Result<(), Failed>
-    ensures { PutsAll (O.written sink.old) (O.written sink.new) (O.faults sink.old) (O.faults sink.new)
-        (O.room_left sink.old) (O.room_left sink.new) result (codes "bad " ++ (words.now ++ line_feed ∷ [])) }
-{
-    sink.put_all(b"bad ")?;
-    sink.put_all(words.as_bytes())?;
-    sink.put_all(b"\n")
-}
-
-/// What is answered beside what was put.
-pub(crate) fn told(good: bool, put: Result<(), Failed>) -> Result<bool, AnswerError>
-    ensures { result ≡ told_of good put }
-{
-    match put {
-        Ok(()) => Ok(good),
-        Err(Failed) => Err(AnswerError::SinkFailed),
-    }
 }
 
 /// Puts the answer to a line by the rules of a mode, and says whether it is good.

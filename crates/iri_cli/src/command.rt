@@ -154,8 +154,8 @@ pub fn command_of(words: &[String]) -> Option<Command>
     match words {
         [word] => command_of_one(word.as_str()),
         [name, grammar] => command_of_two(name.as_str(), grammar.as_str()),
-        [name, grammar, number] => {
-            command_of_three(name.as_str(), grammar.as_str(), number.as_str())
+        [name, grammar, third] => {
+            command_of_three(name.as_str(), grammar.as_str(), third.as_str())
         }
         _ => None,
     }

@@ -1,5 +1,5 @@
 // The answers of `expand`.
-ghost use Rattle.std.specs.Prelude.{◌≡◌, ◌≢◌, ◌≤◌, ◌++◌, ◌∷◌, [], length, Err, None};
+ghost use Rattle.std.specs.Prelude.{◌≡◌, ◌≢◌, ◌≤◌, length, Err, None};
 ghost use Rattle.std.specs.Vec.{vec_capacity};
 ghost use Rattle.iri_template.specs.Contexts.{value_in};
 ghost use Rattle.iri_template.specs.ExpandedTexts.{expanded_text};
@@ -13,9 +13,9 @@ ghost use Rattle.iri_docs.specs.Expanded.{expansion_limit};
 ghost use Rattle.iri_cli.specs.declared.answers.AnswerError.TheVariants.{SinkFailed};
 
 use crate::answers::{AnswerError, Answers};
-use crate::canon::{put_answer, told};
+use crate::canon::put_answer;
 use crate::expand_line::{Said, line_of};
-use crate::puts::put_number;
+use crate::puts::{put_bad_line, put_number, told};
 use crate::variables::apply;
 use iri_grammar::spec::Spec;
 use iri_resolve::mode::CanonMode;
@@ -132,7 +132,7 @@ impl<'a, S: Spec> Answers for Expand<'a, S> {
                 &self.values,
                 template,
             ),
-            Said::Bad => told(false, sink.put_all(b"bad line\n")),
+            Said::Bad => told(false, put_bad_line(sink)),
         }
     }
 

@@ -9,10 +9,9 @@ use crate::expand::Expand;
 use crate::opening::open_lines;
 use iri_docs::expand::EXPANSION_LIMIT;
 use iri_grammar::spec::Spec;
-use iri_owned::owned::RiAbsoluteString;
 use iri_resolve::resolver::FixedBaseResolver;
 use iri_template::simple_context::SimpleContext;
-use iri_text::{LineReader, Sink, Source};
+use iri_text::{Sink, Source};
 use std::alloc::Global;
 
 // Reads the base line, and answers the lines behind it.

@@ -1,5 +1,5 @@
 // The command `gen`: references that are made by a counter, and what is told of their canonical texts.
-ghost use Rattle.std.specs.Prelude.{◌≡◌, ◌≤◌, ◌<◌, ◌+◌, ◌*◌, ◌%◌, ◌^◌, ◌⊎◌, ◌++◌, None, OnOk, IfOk, length, sum};
+ghost use Rattle.std.specs.Prelude.{◌≡◌, ◌≤◌, ◌<◌, ◌+◌, ◌*◌, ◌%◌, ◌^◌, ◌++◌, None, OnOk, IfOk, length, sum};
 ghost use Rattle.std.specs.Prelude.{string_bytes};
 ghost use Rattle.iri_grammar.specs.WholeFault.{reference_fault};
 ghost use Rattle.iri_resolve.specs.NormalForm.{canonical};

@@ -1,15 +1,17 @@
-//! What holds of a run over memory, of a base that is prepared once, and of the answers of `links`.
-ghost use Rattle.std.specs.Prelude.{◌≡◌, ◌≤◌, ◌+◌, ◌⊎◌, ℕ, List, [], ◌++◌, length, map, true, None, Some};
+//! What holds of a run over memory, of a base that is prepared once, of the entries of `register`, and of the answers of `links`.
+ghost use Rattle.std.specs.Prelude.{◌≡◌, ◌↔◌, ◌≤◌, ◌+◌, ◌⊎◌, ℕ, List, [], ◌++◌, length, map, true, None, Some};
 ghost use Rattle.iri_grammar.specs.Parts.{IsAbsolute};
 ghost use Rattle.iri_link.specs.Fault.{Told, field_fault};
 ghost use Rattle.iri_link.specs.Field.{LinkValue};
 ghost use Rattle.iri_link.specs.Links.{HasLinks};
 ghost use Rattle.iri_link.specs.Resolved.{resolved};
 ghost use Rattle.iri_link.specs.Written.{written};
-ghost use Rattle.iri_resolve.specs.NormalForm.{canonical_in};
+ghost use Rattle.iri_register.specs.Shared.{TargetsJoin};
+ghost use Rattle.iri_resolve.specs.NormalForm.{canonical, canonical_in};
 ghost use Rattle.iri_cli.specs.Answer.{refusal, answer_in};
 ghost use Rattle.iri_cli.specs.LinksAnswers.{field_refusal, links_answer, links_line};
 ghost use Rattle.iri_cli.specs.Prepared.{prepared};
+ghost use Rattle.iri_cli.specs.RegisterShared.{IsLiveLine, ShareEntry};
 ghost use Rattle.iri_text.specs.Memory.{SinkState, room_left_of};
 ghost use Rattle.iri_cli.specs.Ending.{Rules, ending};
 ghost use Rattle.iri_cli.specs.Run.{outside, Runs};
@@ -37,6 +39,17 @@ pub fn prepared_base_has_the_same_answers<S: Spec>()
         → canonical_in S.tests mode (prepared S.tests base) reference ≡ canonical_in S.tests mode base reference }
     ensures answers { (mode : CanonMode) (base line : List ℕ) → refusal S.tests base ≡ None
         → answer_in S.tests mode (prepared S.tests base) line ≡ answer_in S.tests mode base line }
+{}
+
+/// Two live lines of `register`, which add links that no line after them takes out, share an entry exactly where their canonical
+/// targets are equal, and that is exactly where steps join the targets of their references.
+pub fn live_lines_share_an_entry<S: Spec>()
+    ensures targets { (base q r : List ℕ) (lines : List (List ℕ)) (m n : ℕ) → IsLiveLine S.tests base lines m q
+        → IsLiveLine S.tests base lines n r
+        → ShareEntry S.tests base lines q r ↔ (canonical S.tests base q ≡ canonical S.tests base r) }
+    ensures steps { (base q r : List ℕ) (lines : List (List ℕ)) (m n : ℕ) → refusal S.tests base ≡ None
+        → IsLiveLine S.tests base lines m q → IsLiveLine S.tests base lines n r
+        → ShareEntry S.tests base lines q r ↔ TargetsJoin S.tests base q r }
 {}
 
 /// `links` answers a field value whose targets are URI-references by its one list of link-values, with their canonical targets, and

@@ -1,5 +1,5 @@
 //! What the program tells of itself.
-ghost use Rattle.std.specs.Prelude.{◌≡◌, ◌≢◌, false, MatchOption};
+ghost use Rattle.std.specs.Prelude.{◌≡◌, ◌≢◌, MatchOption};
 ghost use Rattle.iri_text.specs.Sink.{KeepsRoom};
 ghost use Rattle.iri_cli.specs.Notices.{notice_text, PutsText};
 ghost use Rattle.iri_cli.specs.Words.{notice_word};
@@ -34,9 +34,10 @@ GRAMMAR is uri or iri. The first line of the input is the base; each line behind
 Lines of expand: 's NAME VALUE' sets a string, 'l NAME ITEM' adds to a list, 'a NAME KEY VALUE' adds a pair,
   'u NAME' unsets, and 't TEMPLATE' is answered; of register: 'a REF' adds, 'd REF' removes, 'f REF' finds a link;
   of robots: 'r LINE' feeds a line of the file, 'u REF' asks for a link
-Answers of canon, expand and links: 'ok ' and the canonical text, for links the links with their canonical targets;
-  otherwise why there is none, as 'bad ' and the first fault; where the base is refused, the one line 'base ' and its
-  first fault
+Answers of canon, expand and docs: 'ok ' and the canonical text; of links: 'ok ' and the links with canonical targets;
+  of register: 'new K' or 'old K', 'gone N', 'at K' or 'none', with the place K of an entry or its count N of lines;
+  of robots: 'allow ', 'disallow ' or 'other ' and the canonical text; otherwise 'bad ' and why, and where expand or docs
+  refuses a template, 'template ' and its fault; where the base is refused, the one line 'base ' and its first fault
 Statuses: 0 every answer is good, 1 some answer is bad, 2 the words are no command, 3 the base is refused,
   4 reading failed, 5 writing failed, 6 memory was refused, 7 a line is too long, 8 the input is too long
 ";

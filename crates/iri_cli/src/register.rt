@@ -1,5 +1,5 @@
 // The answers of `register`.
-ghost use Rattle.std.specs.Prelude.{◌≡◌, ◌≢◌, ◌≤◌, ◌⊎◌, ℕ, Option, Some, Ok, IfOk, OnOk, [], length};
+ghost use Rattle.std.specs.Prelude.{◌≡◌, Option, Some, IfOk, OnOk};
 ghost use Rattle.iri_grammar.specs.declared.error.ErrorKind.{ErrorKind};
 ghost use Rattle.iri_text.specs.Sink.{PutsAll};
 ghost use Rattle.iri_register.specs.Entries.{Entry, entry_at};
@@ -11,8 +11,7 @@ ghost use Rattle.iri_cli.specs.inside.Asked.{asked};
 ghost use Rattle.iri_cli.specs.inside.Replies.{IsRefusal, reply_text, obeyed_by};
 
 use crate::answers::{AnswerError, Answers};
-use crate::canon::{put_bad, told};
-use crate::puts::put_number;
+use crate::puts::{put_bad, put_bad_line, put_number, told};
 use crate::register_line::{Asked, line_of};
 use iri_grammar::error::ErrorKind;
 use iri_grammar::spec::Spec;
@@ -111,7 +110,7 @@ fn put_reply<O: Sink>(sink: &mut O, reply: Reply) -> Result<(), Failed>
         Reply::At(place) => put_numbered(sink, "at ", place),
         Reply::NoEntry => sink.put_all(b"none\n"),
         Reply::BadReference(kind) => put_bad(sink, kind.description()),
-        Reply::BadLine => sink.put_all(b"bad line\n"),
+        Reply::BadLine => put_bad_line(sink),
     }
 }
 

@@ -17,7 +17,7 @@ ghost use Rattle.iri_cli.specs.RobotsLines.{asks};
 ghost use Rattle.iri_cli.specs.inside.RobotsAt.{PutsReply};
 
 use crate::answers::{AnswerError, Answers};
-use crate::canon::{put_bad, told};
+use crate::puts::{put_bad, put_bad_line, told};
 use crate::robots_line::{Said, line_of};
 use crate::site::is_of_site;
 use iri_grammar::spec::Spec;
@@ -160,7 +160,7 @@ impl<S: Spec> Answers for Crawls<S> {
                 Err(_) => Err(AnswerError::Memory),
             },
             Said::Asks(reference) => put_answer(sink, &self.site, &mut self.target, reference),
-            Said::Bad => told(false, sink.put_all(b"bad line\n")),
+            Said::Bad => told(false, put_bad_line(sink)),
         }
     }
 

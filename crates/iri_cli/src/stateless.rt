@@ -8,7 +8,7 @@ ghost use Rattle.iri_cli.specs.CanonAnswers.{PutsLine};
 ghost use Rattle.iri_cli.specs.declared.answers.AnswerError.TheVariants.{SinkFailed};
 
 use crate::answers::{AnswerError, Answers};
-use crate::canon::told;
+use crate::puts::told;
 use iri_grammar::spec::Spec;
 use iri_owned::owned::RiAbsoluteString;
 use iri_text::{Show, Sink, try_append_to_string};

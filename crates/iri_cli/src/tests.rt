@@ -1,4 +1,4 @@
-ghost use Rattle.std.specs.Prelude.{◌<◌, length, All, None};
+ghost use Rattle.std.specs.Prelude.{None};
 
 mod crawls;
 mod devices;
@@ -8,7 +8,7 @@ mod link_fields;
 mod registers;
 mod schemes;
 
-use crate::buffers::{CanonBuffers, OUTPUT};
+use crate::buffers::{CanonBuffers, LINE, OUTPUT};
 use crate::canon_lines::canon_lines;
 use crate::notice::HELP;
 use crate::prepared::prepare_base;
@@ -197,8 +197,10 @@ fn notices(rt: HostRuntime) -> Result<(), Fail> {
         "canon GRAMMAR",
         "canon GRAMMAR scheme",
         "expand GRAMMAR",
+        "register GRAMMAR",
         "links GRAMMAR",
         "docs GRAMMAR",
+        "robots GRAMMAR TOKEN",
         "gen GRAMMAR N",
         "--help",
         "--version",
@@ -487,9 +489,11 @@ fn bases_that_are_prepared(rt: HostRuntime) -> Result<(), Fail> {
     let input = b"URN:a:b?Q\n\nc\n/c\n//H/p\n";
     let output = b"ok urn:a:b?Q\nok urn:c\nok urn:/c\nok urn://h/p\n";
     assert!(rt; canon_uri(&rt, input, 0, output)?);
-    let mut input = long_line(&rt, b"HTTP://A/", 65527)?;
+    // A base as long as a line may be.
+    let count = LINE - b"HTTP://A/".len();
+    let mut input = long_line(&rt, b"HTTP://A/", count)?;
     input.extend_from_slice(b"\n\n")?;
-    let mut output = long_line(&rt, b"ok http://a/", 65527)?;
+    let mut output = long_line(&rt, b"ok http://a/", count)?;
     output.push(b'\n')?;
     assert!(rt; canon_uri(&rt, &input, 0, &output)?);
     Ok(())

@@ -2,7 +2,7 @@
 ghost use Rattle.std.specs.Prelude.{◌≡◌, MatchResult, OnOk};
 ghost use Rattle.iri_template.specs.Contexts.{value_in};
 ghost use Rattle.iri_template.specs.HeldValues.{shown_value};
-ghost use Rattle.iri_template.specs.ShownValues.{optional, undefined, list, pairs};
+ghost use Rattle.iri_template.specs.ShownValues.{optional, undefined};
 ghost use Rattle.iri_cli.specs.ExpandLines.{adds_item, adds_pair, changed, entries_of, items_of, with_value};
 ghost use Rattle.iri_cli.specs.inside.Said.{change_of};
 

@@ -1,5 +1,5 @@
 -- The values that names get one after the other.
-use Rattle.std.proofs.Common.{◌≡◌, ℕ, List, [], ◌∷◌, ◌++◌, Bool, true, false, if◌then◌else◌, cond, bytes_eq, Option, refl}
+use Rattle.std.proofs.Common.{◌≡◌, ℕ, List, [], ◌∷◌, ◌++◌, if◌then◌else◌, bytes_eq, refl}
 use Rattle.iri_template.specs.Contexts.{kept}
 use Rattle.iri_template.specs.HeldValues.{shown_value}
 use Rattle.iri_template.specs.ShownValues.{ShownValue, optional}
@@ -13,12 +13,6 @@ shown-kept held.Undefined = refl
 shown-kept (held.String t) = refl
 shown-kept (held.List l) = refl
 shown-kept (held.Assoc l) = refl
-
--- the same at one name
-pub shown-set : (b : Bool) (v : Value) (o : Option Value)
-    → optional shown_value (cond b (kept v) o) ≡ (if b then shown_value v else optional shown_value o)
-shown-set true v o = shown-kept v
-shown-set false v o = refl
 
 -- one more variable behind others
 pub value_among-append : (before : ShownValue) (es : List (List ℕ × ShownValue)) (e : List ℕ × ShownValue) (n : List ℕ)

@@ -38,9 +38,6 @@ other_numbers l ls t h = rw (turned l.target t false h) refl
 own_numbers : (l : Line) (ls : List Line) → numbers l.target (l ∷ ls) ≡ l.number ∷ numbers l.target ls
 own_numbers l ls = rw (same l.target) refl
 
-entry_in : List Line → List ℕ → Entry
-entry_in ls t = record { target = t; lines = numbers t ls }
-
 others : (l : Line) (ls : List Line) (ts : List (List ℕ))
     → map (λ (t : List ℕ). record { target = t; lines = numbers t (l ∷ ls) }) (filter (λ t. not (bytes_eq l.target t)) ts)
     ≡ without l.target (map (λ (t : List ℕ). record { target = t; lines = numbers t ls }) ts)

@@ -11,7 +11,7 @@ ghost use Rattle.iri_register.specs.Entries.{added, removed, place, line_count, 
 ghost use Rattle.iri_register.specs.Refusals.{CausedBy};
 
 use crate::added::Added;
-use crate::entries::{self, Map};
+use crate::entries;
 use crate::error::RegisterError;
 use indexmap::IndexMap;
 use iri_grammar::spec::Spec;

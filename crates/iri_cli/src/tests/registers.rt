@@ -104,3 +104,17 @@ fn runs_that_are_cut_off(rt: HostRuntime) -> Result<(), Fail> {
     );
     Ok(())
 }
+
+#[test]
+fn words_that_are_no_command(rt: HostRuntime) -> Result<(), Fail> {
+    let lists: [&[&str]; 3] = [
+        &["register"],
+        &["register", "url"],
+        &["register", "uri", "a"],
+    ];
+    for words in lists {
+        let mut source = PlainSource::new(b"a:");
+        assert!(rt; answers(&rt, words, &mut source, &[], 2, b"")?, "{words:?}");
+    }
+    Ok(())
+}

@@ -39,9 +39,9 @@ returns-in-Expands g c = λ at is.
 pub returns-in-Bad : goal.returns-in-Bad
 returns-in-Bad g c = λ at is.
     let self = c.args.self.now in
-    let puts = told_line false c.put_all.result bad_line bad_line c.told.result c.told.ensures refl refl c.put_all.ensures in
-    let room = told_room false c.put_all.result bad_line bad_line c.told.result c.told.ensures refl c.put_all.ensures in
+    let puts = told_line false c.put_bad_line.result bad_line bad_line c.told.result c.told.ensures refl refl c.put_bad_line.ensures in
+    let room = told_room false c.put_bad_line.result bad_line bad_line c.told.result c.told.ensures refl c.put_bad_line.ensures in
     answers_text g.S.Spec.tests (base_text self.resolver) self.expansion.items (vec_capacity self.output) (value_in self.values) at is c.args.line.now bad
-    (sym (c.in-Bad.ensures {u = tt})) (g.O.Sink.written c.args.sink.now) (g.O.Sink.written c.put_all.new.self)
-    (g.O.Sink.faults c.args.sink.now) (g.O.Sink.faults c.put_all.new.self) (g.O.Sink.room_left c.args.sink.now)
-    (g.O.Sink.room_left c.put_all.new.self) self.expansion.items (vec_capacity self.output) c.told.result refl (omega arith) refl refl puts room
+    (sym (c.in-Bad.ensures {u = tt})) (g.O.Sink.written c.args.sink.now) (g.O.Sink.written c.put_bad_line.new.sink)
+    (g.O.Sink.faults c.args.sink.now) (g.O.Sink.faults c.put_bad_line.new.sink) (g.O.Sink.room_left c.args.sink.now)
+    (g.O.Sink.room_left c.put_bad_line.new.sink) self.expansion.items (vec_capacity self.output) c.told.result refl (omega arith) refl refl puts room

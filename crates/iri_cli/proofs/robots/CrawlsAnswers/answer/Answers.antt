@@ -43,13 +43,13 @@ returns-in-Bad g c = λ at is.
     let token = string_bytes site.robots.token in
     let records = record_texts site.robots.records.items in
     let wo = g.O.Sink.written c.args.sink.now in
-    let wn = g.O.Sink.written c.put_all.new.self in
+    let wn = g.O.Sink.written c.put_bad_line.new.sink in
     let fo = g.O.Sink.faults c.args.sink.now in
-    let fn = g.O.Sink.faults c.put_all.new.self in
+    let fn = g.O.Sink.faults c.put_bad_line.new.sink in
     let ro = g.O.Sink.room_left c.args.sink.now in
-    let rn = g.O.Sink.room_left c.put_all.new.self in
-    let told = told_of false c.put_all.result in
+    let rn = g.O.Sink.room_left c.put_bad_line.new.sink in
+    let told = told_of false c.put_bad_line.result in
     subst (AnswersLine (IsRobotsAt s token site.base.text site.normal.text records) at c.args.line.now wo wn fo fn ro rn) (sym c.told.ensures)
     (answers_line s token site.base.text site.normal.text records records at c.args.line.now bad_line wo wn fo fn ro rn told is
     (ap (answer_to s token site.base.text records) c.in-Bad.ensures) (unfed told records bad c.args.line.now c.in-Bad.ensures refl)
-    (replies false c.put_all.result bad_line c.put_all.ensures refl))
+    (replies false c.put_bad_line.result bad_line c.put_bad_line.ensures refl))

@@ -1,6 +1,6 @@
 use Rattle.std.proofs.Common.{[], ◌∷◌, ◌++◌}
 use Rattle.iri_text.proofs.Puts.{puts-then, puts-exit}
-use Rattle.iri_cli.proofs.canon.put_bad.Goals as goal
+use Rattle.iri_cli.proofs.puts.put_bad.Goals as goal
 
 pub returns-in_err-put_all : goal.returns-in_err-put_all
 returns-in_err-put_all g c = puts-exit (c.args.words.now ++ 10 ∷ []) c.from_residual.ensures.0 c.in_err-put_all.ensures
