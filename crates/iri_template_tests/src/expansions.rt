@@ -620,6 +620,7 @@ fn refusals_in_words(rt: HostRuntime) -> Result<(), Fail> {
         .try_into_iri(rt.alloc())
     {
         Ok(_) => return Err("a fault is taken")?,
+        Err(ExpandedError::Memory(error)) => return Err(error)?,
         Err(error) => {
             let words = format!(in rt.alloc(); "{error}")?;
             let want = "invalid IRI: expected an absolute IRI but got a relative IRI";
