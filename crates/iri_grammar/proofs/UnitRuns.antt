@@ -13,7 +13,7 @@ use Rattle.iri_grammar.specs.ClassTests.{ascii_test, class_test}
 use Rattle.iri_grammar.specs.declared.class.Class.{Class}
 use Rattle.iri_grammar.specs.Over.{over, over_from, text_over}
 use Rattle.iri_grammar.specs.Runs.{run_of}
-use Rattle.iri_grammar.specs.inside.Runs.{begins_with_triplet, AreUnits}
+use Rattle.iri_grammar.specs.inside.Runs.{begins_with_triplet, AreUnits, HasNoUnit}
 use Rattle.iri_grammar.proofs.AuthorityTexts.{text_over-utf8}
 use Rattle.iri_grammar.proofs.CutLaws.{by_test, all-lacks, lacks-append, test_apart}
 use Rattle.iri_grammar.specs.Cut.{lacks}
@@ -22,27 +22,35 @@ use Rattle.iri_grammar.proofs.CutBytes.{encode-lacks}
 use Rattle.iri_grammar.proofs.PlainTails.{plain-over, run-all}
 use Rattle.iri_grammar.proofs.Units.{char_past, nothing_left, of_text, run_of_le, run_text, triplet_past, triplet_text}
 
--- ---- texts over a class, put together
-over-append : (p : ℕ → Bool) (n : ℕ) (xs ys : List ℕ) → over_from p n xs ≡ true → over_from p 0 ys ≡ true
-    → over_from p n (xs ++ ys) ≡ true
+-- ---- units decide nothing: what follows them decides as the whole does
+over-past : (p : ℕ → Bool) (n : ℕ) (xs ys : List ℕ) → over_from p n xs ≡ true → over_from p n (xs ++ ys) ≡ over p ys
 unfolding over_from
-over-append p zero [] ys h k = k
-over-append p (suc n) [] ys h k = cc
-over-append p zero (x ∷ xs) ys h k =
+over-past p zero [] ys h = refl
+over-past p (suc n) [] ys h = cc
+over-past p zero (x ∷ xs) ys h =
     by_test x 37 (λ b. cond b (over_from p 2 xs) (p x && over_from p 0 xs) ≡ true
-    → cond b (over_from p 2 (xs ++ ys)) (p x && over_from p 0 (xs ++ ys)) ≡ true)
-    (λ _ l. over-append p 2 xs ys l k)
-    (λ _ l. let r = both (p x) (over_from p 0 xs) l in rw r.0 (over-append p 0 xs ys r.1 k))
+    → cond b (over_from p 2 (xs ++ ys)) (p x && over_from p 0 (xs ++ ys)) ≡ over p ys)
+    (λ _ l. over-past p 2 xs ys l)
+    (λ _ l. let r = both (p x) (over_from p 0 xs) l in rw r.0 (over-past p 0 xs ys r.1))
     h
-over-append p (suc n) (x ∷ xs) ys h k = let r = both (is_ascii_hexdigit x) (over_from p n xs) h in rw r.0 (over-append p n xs ys r.1 k)
+over-past p (suc n) (x ∷ xs) ys h = let r = both (is_ascii_hexdigit x) (over_from p n xs) h in rw r.0 (over-past p n xs ys r.1)
 
+-- the longest start of whole units tells whether the text is made of them
+pub cut_decides : (p : ℕ → Bool) (t a r : List ℕ) → IsUtf8 t → t ≡ a ++ r → text_over p a ≡ true → HasNoUnit p r
+    → text_over p t ≡ (length r == 0)
+cut_decides p t a r u e h stops =
+    let ua = text_over-utf8 p a h in
+    of_text p t u ∙ (ap (λ x. over p (chars x)) e ∙ (ap (over p) (chars-append a r ua)
+    ∙ (over-past p 0 (chars a) (chars r) (sym (of_text p a ua) ∙ h) ∙ stops)))
+
+-- ---- texts over a class, put together
 pub text_over-append : (p : ℕ → Bool) (xs ys : List ℕ) → text_over p xs ≡ true → text_over p ys ≡ true → text_over p (xs ++ ys) ≡ true
 text_over-append p xs ys h k =
     let u = text_over-utf8 p xs h in
     let w = text_over-utf8 p ys k in
     let e = chars-append xs ys u in
     of_text p (xs ++ ys) (IsUtf8-append xs ys u w)
-    ∙ rw e (over-append p 0 (chars xs) (chars ys) (sym (of_text p xs u) ∙ h) (sym (of_text p ys w) ∙ k))
+    ∙ rw e (over-past p 0 (chars xs) (chars ys) (sym (of_text p xs u) ∙ h) ∙ (sym (of_text p ys w) ∙ k))
 
 -- ---- none, and some behind others
 nothing_over : (p : ℕ → Bool) → text_over p [] ≡ true

@@ -1,20 +1,18 @@
 -- The first unit of a text over a class, and a run of ASCII characters at its start.
 use Rattle.std.proofs.Common.{◌≡◌, ℕ, suc, ◌<◌, ◌≤◌, ◌≢◌, Bool, true, false, cond, ◌&&◌, List, [], ◌∷◌, ◌++◌, length, drop, refl, sym, ◌∙◌}
-use Rattle.std.proofs.Common.{◌+◌, ap, subst, inl, inr, arith, length-append, drop-drop}
+use Rattle.std.proofs.Common.{ap, subst, inl, inr, arith, length-append}
 use Rattle.std.specs.Prelude.{◌==◌, slice_index}
 use Rattle.std.specs.Char.{is_ascii_hexdigit, encode_utf8}
 use Rattle.std.specs.Str.{chars, IsUtf8}
 use lib.Utf8.{encodes}
 use Rattle.std.proofs.lemmas.Bool.{cases_lt, cases_eq, and_parts as both, eqb-true}
 use Rattle.std.proofs.lemmas.Bool.Decides.{nat_tests}
-use Rattle.std.proofs.lemmas.List.{length-drop}
-use Rattle.std.proofs.Math.Seq.{drop-cons}
 use Rattle.std.proofs.lemmas.Str.{chars_past_char, chars-nil, chars_from_encodes, encode_ascii, IsUtf8-past_char, byte_from_char}
 use Rattle.std.proofs.lemmas.Str.{is_utf8-from_IsUtf8, length-encode, len_utf8_bounds}
 use Rattle.iri_grammar.specs.Cut.{tail}
 use Rattle.iri_grammar.specs.Over.{over, over_from, text_over}
 use Rattle.iri_grammar.specs.Runs.{run_of}
-use Rattle.iri_grammar.specs.inside.Runs.{begins_with_digit, begins_with_triplet, HasNoUnit, IsPastUnits}
+use Rattle.iri_grammar.specs.inside.Runs.{begins_with_digit, begins_with_triplet, HasNoUnit}
 
 -- an ASCII byte is a character
 ascii_front : (b : ℕ) (bs : List ℕ) → b < 128 → b ∷ bs ≡ encode_utf8 b ++ bs
@@ -123,6 +121,12 @@ char_stops p c t r u e some none h =
         let front : t ≡ 37 ∷ r = e ∙ (ap (λ d. encode_utf8 d ++ r) same ∙ ap (λ l. l ++ r) (encode_ascii 37 (omega arith))) in
         ap (λ l. over p (chars l)) front ∙ no_triplet p r (subst IsUtf8 front u) (sym (ap begins_with_triplet front) ∙ none)
 
+pub percent_stops : (p : ℕ → Bool) (t : List ℕ) → IsUtf8 t → slice_index t 0 ≡ 37 → 0 < length t → begins_with_triplet t ≡ false → HasNoUnit p t
+percent_stops p [] u e some none = absurd (omega (arith, some))
+percent_stops p (x ∷ xs) u e some none =
+    let front : x ∷ xs ≡ 37 ∷ xs = ap (λ b. b ∷ xs) e in
+    ap (λ l. over p (chars l)) front ∙ (no_triplet p xs (subst IsUtf8 front u) (sym (ap begins_with_triplet front) ∙ none) ∙ sym (empty_test (x ∷ xs) some))
+
 pub nothing_left : (p : ℕ → Bool) (t : List ℕ) → length t ≡ 0 → HasNoUnit p t
 unfolding over_from
 nothing_left p [] h = rw chars-nil refl
@@ -185,34 +189,6 @@ triplet_text (x ∷ a ∷ b ∷ cs) u h =
       text_after_ascii b cs (text_after_ascii a (b ∷ cs) (text_after_ascii x (a ∷ b ∷ cs) u first) (hex_is_ascii a two.0))
           (hex_is_ascii b two.1),
     )
-
--- past one more ASCII character of the class
-pub char_onward : (p q : ℕ → Bool) (t : List ℕ) (i : ℕ) → ((c : ℕ) → q c ≡ true → (c < 128) × (p c ≡ true)) → p 37 ≡ false
-    → i < length t → q (slice_index t i) ≡ true → IsPastUnits p t i → IsPastUnits p t (i + 1)
-char_onward p q t i w n l h u =
-    let x = slice_index t i in
-    let r = drop (suc i) t in
-    let is : drop i t ≡ x ∷ r = drop-cons t i 0 l in
-    let k = w x h in
-    let text = subst IsUtf8 is u.text in
-    let more : suc i ≡ i + 1 = omega arith in
-    subst (IsPastUnits p t) more (record {
-      within = l;
-      text = text_after_ascii x r text k.0;
-      same = char_past p x (x ∷ r) r text (ascii_front x r k.0) n k.1 ∙ (ap (λ l. over p (chars l)) (sym is) ∙ u.same);
-    })
-
--- past one more triplet
-pub triplet_onward : (p : ℕ → Bool) (t : List ℕ) (i : ℕ) → begins_with_triplet (drop i t) ≡ true → IsPastUnits p t i
-    → IsPastUnits p t (i + 3)
-triplet_onward p t i h u =
-    let r = triplet_text (drop i t) u.text h in
-    let next : drop 3 (drop i t) ≡ drop (i + 3) t = drop-drop 3 i t in
-    record {
-      within = omega (arith, r.0, length-drop i t, u.within);
-      text = subst IsUtf8 next r.1;
-      same = ap (λ l. over p (chars l)) (sym next) ∙ (triplet_past p (drop i t) u.text h ∙ u.same);
-    }
 
 -- of a text
 pub of_text : (p : ℕ → Bool) (t : List ℕ) → IsUtf8 t → text_over p t ≡ over p (chars t)

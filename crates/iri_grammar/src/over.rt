@@ -5,11 +5,10 @@ ghost use Rattle.std.specs.Str.{chars, IsUtf8};
 ghost use Rattle.iri_grammar.specs.ClassTests.{class_test, ascii_test};
 ghost use Rattle.iri_grammar.specs.Over.{over, text_over};
 ghost use Rattle.iri_grammar.specs.Runs.{run_of};
-ghost use Rattle.iri_grammar.specs.inside.Runs.{begins_with_triplet, IsPast, IsPastUnits, HasNoUnit};
 
 use crate::class::Class;
 use crate::spec::Spec;
-use crate::unit::begins_with_triplet;
+use crate::unit::cut_units;
 
 /// Whether four bytes are ASCII characters of the class, told without a branch.
 #[inline(always)]
@@ -82,65 +81,11 @@ pub(crate) fn is_run(class: Class, s: &str) -> bool
     run_len(class, s.as_bytes()) == s.len()
 }
 
-/// What follows the first character, where that is in the class.
-fn past_char<S: Spec>(class: Class, s: &str) -> Option<&str>
-    requires { begins_with_triplet s.now ≡ false }
-    ensures { MatchOption result (HasNoUnit (class_test S.tests class) s.now)
-        (λ r. IsPast (class_test S.tests class) s.now r.now) }
-{
-    let mut chars = s.chars();
-    match chars.next() {
-        Some(c) => {
-            if class.has::<S>(c) {
-                Some(chars.as_str())
-            } else {
-                None
-            }
-        }
-        None => None,
-    }
-}
-
-/// How many bytes at the start are ASCII characters of the class and triplets.
-fn ascii_units_len<S: Spec>(class: Class, bytes: &[u8]) -> usize
-    requires { IsUtf8 bytes.now }
-    ensures past { IsPastUnits (class_test S.tests class) bytes.now result }
-    ensures stops { begins_with_triplet (drop result bytes.now) ≡ false }
-{
-    let mut i = 0;
-    'units: while i < bytes.len() {
-        if class.has_byte(bytes[i]) {
-            i += 1;
-            continue;
-        }
-        if !begins_with_triplet(&bytes[i..]) {
-            return i;
-        }
-        i += 3;
-    }
-    i
-}
-
-/// What follows the ASCII characters of the class and the triplets at the start.
-fn past_ascii_units<S: Spec>(class: Class, s: &str) -> &str
-    ensures same { over (class_test S.tests class) (chars result.now) ≡ over (class_test S.tests class) (chars s.now) }
-    ensures stops { begins_with_triplet result.now ≡ false }
-    ensures within { length result.now ≤ length s.now }
-{
-    let len = ascii_units_len::<S>(class, s.as_bytes());
-    &s[len..]
-}
-
 /// Whether the text is made of characters of the class and of triplets.
+#[tactic(auto, using(crate::proofs::UnitRuns::cut_decides))]
 pub fn is_over<S: Spec>(class: Class, s: &str) -> bool
     ensures { result ≡ text_over (class_test S.tests class) s.now }
 {
-    let mut rest = s;
-    'units: loop {
-        let tail = past_ascii_units::<S>(class, rest);
-        match past_char::<S>(class, tail) {
-            Some(next) => rest = next,
-            None => return tail.is_empty(),
-        }
-    }
+    let (_, rest, _) = cut_units::<S>(class, s);
+    rest.is_empty()
 }

@@ -1,12 +1,12 @@
 //! Units of a class, its characters and triplets (RFC 3986 section 2.1), at the start of a text.
-ghost use Rattle.std.specs.Prelude.{◌≡◌, ◌++◌, ◌&&◌, ℕ, Bool, true, take};
+ghost use Rattle.std.specs.Prelude.{◌≡◌, ◌++◌, ◌&&◌, ℕ, Bool, false, true, take, drop};
 ghost use Rattle.std.specs.Char.{is_ascii_hexdigit};
 ghost use Rattle.std.specs.Str.{IsUtf8};
 ghost use Rattle.iri_grammar.specs.Characters.{percent_sign};
 ghost use Rattle.iri_grammar.specs.ClassTests.{class_test, ascii_test};
 ghost use Rattle.iri_grammar.specs.Cut.{lacks};
 ghost use Rattle.iri_grammar.specs.Over.{text_over};
-ghost use Rattle.iri_grammar.specs.inside.Runs.{begins_with_triplet, lead_len, AreUnits};
+ghost use Rattle.iri_grammar.specs.inside.Runs.{begins_with_triplet, lead_len, AreUnits, HasNoUnit};
 
 use crate::class::Class;
 use crate::over::run_len;
@@ -46,7 +46,8 @@ pub(crate) fn begins_with_triplet(bytes: &[u8]) -> bool
 #[inline(always)]
 fn triplets_len(bytes: &[u8]) -> usize
     requires { IsUtf8 bytes.now }
-    ensures { (p : ℕ → Bool) → AreUnits p bytes.now result }
+    ensures units { (p : ℕ → Bool) → AreUnits p bytes.now result }
+    ensures stops { begins_with_triplet (drop result bytes.now) ≡ false }
 {
     let mut i = 0;
     'triplets: while begins_with_triplet(&bytes[i..]) {
@@ -59,7 +60,9 @@ fn triplets_len(bytes: &[u8]) -> usize
 #[tactic(auto, using(crate::proofs::UnitRuns::no_units))]
 #[inline(always)]
 fn char_len<S: Spec>(class: Class, s: &str) -> usize
+    requires { begins_with_triplet s.now ≡ false }
     ensures units { AreUnits (class_test S.tests class) s.now result }
+    ensures stops { result ≡ 0 → HasNoUnit (class_test S.tests class) s.now }
     ensures bare { lacks percent_sign (take result s.now) ≡ true }
 {
     let mut chars = s.chars();
@@ -87,93 +90,66 @@ fn lead_len(b: u8) -> usize
     }
 }
 
-/// The length of a character past ASCII at the start, where it is in the class, otherwise 0. Mostly the first byte tells.
+/// The same. Mostly the first byte tells.
 #[tactic(auto, using(crate::proofs::UnitRuns::no_units))]
 #[inline(always)]
 fn wide_char_len<S: Spec>(class: Class, s: &str) -> usize
+    requires { begins_with_triplet s.now ≡ false }
     ensures units { AreUnits (class_test S.tests class) s.now result }
+    ensures stops { result ≡ 0 → HasNoUnit (class_test S.tests class) s.now }
     ensures bare { lacks percent_sign (take result s.now) ≡ true }
 {
     match s.as_bytes() {
         [b, ..] if S::has_first_ucschars() && lead_len(*b) != 0 => lead_len(*b),
-        [b, ..] if !b.is_ascii() => char_len::<S>(class, s),
-        _ => 0,
+        _ => char_len::<S>(class, s),
     }
 }
 
-/// How many bytes at the start are characters of the class past ASCII.
+/// How many bytes at the start are units of one kind: ASCII characters of the class, triplets, or one character past ASCII;
+/// and whether they are no triplets. 0 where no unit stands there.
 #[tactic(auto, using(crate::proofs::UnitRuns::no_units))]
 #[inline(always)]
-fn wide_chars_len<S: Spec>(class: Class, s: &str) -> usize
-    ensures units { AreUnits (class_test S.tests class) s.now result }
-    ensures bare { lacks percent_sign (take result s.now) ≡ true }
-{
-    let mut i = 0;
-    'chars: loop {
-        let len = wide_char_len::<S>(class, &s[i..]);
-        if len == 0 {
-            return i;
-        }
-        i += len;
-    }
-}
-
-/// How many bytes at the start are triplets, or characters of the class past ASCII, and whether they are no triplets.
-#[tactic(auto, using(crate::proofs::UnitRuns::no_units))]
-#[inline(always)]
-fn wide_len<S: Spec>(class: Class, s: &str) -> (usize, bool)
+fn front_len<S: Spec>(class: Class, s: &str) -> (usize, bool)
     ensures units { AreUnits (class_test S.tests class) s.now result.0 }
+    ensures stops { result.0 ≡ 0 → HasNoUnit (class_test S.tests class) s.now }
     ensures bare { result.1 ≡ true → lacks percent_sign (take result.0 s.now) ≡ true }
 {
     match s.as_bytes() {
-        [b'%', ..] => (triplets_len(s.as_bytes()), false),
-        _ => (wide_chars_len::<S>(class, s), true),
+        [b, ..] if class.has_byte(*b) => (run_len(class, s.as_bytes()), true),
+        [b, ..] if *b == b'%' => (triplets_len(s.as_bytes()), false),
+        _ => (wide_char_len::<S>(class, s), true),
     }
 }
 
-/// How many bytes at the start are units of the class, behind its ASCII characters, and whether none of them is a triplet.
+/// How many bytes at the start are units of the class, and whether none of them is a triplet.
 #[tactic(auto, using(crate::proofs::UnitRuns::no_units))]
-#[inline(never)]
+#[inline(always)]
 fn units_len<S: Spec>(class: Class, s: &str) -> (usize, bool)
     ensures units { AreUnits (class_test S.tests class) s.now result.0 }
+    ensures stops { HasNoUnit (class_test S.tests class) (drop result.0 s.now) }
     ensures bare { result.1 ≡ true → lacks percent_sign (take result.0 s.now) ≡ true }
 {
     let mut i = 0;
     let mut bare = true;
     'units: loop {
-        let (len, wide_bare) = wide_len::<S>(class, &s[i..]);
+        let (len, front_bare) = front_len::<S>(class, &s[i..]);
         if len == 0 {
             return (i, bare);
         }
-        bare &= wide_bare;
+        bare &= front_bare;
         i += len;
-        i += run_len(class, s[i..].as_bytes());
     }
 }
 
-/// The same, which are mostly none.
-#[tactic(auto, using(crate::proofs::UnitRuns::no_units))]
-#[inline(always)]
-fn more_len<S: Spec>(class: Class, s: &str) -> (usize, bool)
-    ensures units { AreUnits (class_test S.tests class) s.now result.0 }
-    ensures bare { result.1 ≡ true → lacks percent_sign (take result.0 s.now) ≡ true }
-{
-    match s.as_bytes() {
-        [b, ..] if *b == b'%' || !b.is_ascii() => units_len::<S>(class, s),
-        _ => (0, true),
-    }
-}
-
-/// Units of the class at the start and what follows them, and whether no triplet was found among them.
+/// The longest start of whole units of the class, what follows it, and whether no triplet stands in the first.
 #[inline(always)]
 pub(crate) fn cut_units<S: Spec>(class: Class, s: &str) -> (&str, &str, bool)
     ensures whole { s.now ≡ result.0.now ++ result.1.now }
     ensures over { text_over (class_test S.tests class) result.0.now ≡ true }
+    ensures stops { HasNoUnit (class_test S.tests class) result.1.now }
     ensures bare { result.2 ≡ true → lacks percent_sign result.0.now ≡ true }
 {
-    let run = run_len(class, s.as_bytes());
-    let (more, bare) = more_len::<S>(class, &s[run..]);
-    let end = run + more;
+    let (end, bare) = units_len::<S>(class, s);
     (&s[..end], &s[end..], bare)
 }
 

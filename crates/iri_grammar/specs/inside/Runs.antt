@@ -1,5 +1,5 @@
 -- What a scan of a text over a class takes at a time: ASCII characters of the class and triplets, or one character.
-use Rattle.std.specs.Prelude.{◌≡◌, ℕ, ◌<◌, ◌≤◌, Bool, true, false, cond, ◌&&◌, ◌==◌, List, [], ◌∷◌, length, take, drop}
+use Rattle.std.specs.Prelude.{◌≡◌, ℕ, ◌≤◌, Bool, true, false, cond, ◌&&◌, ◌==◌, List, [], ◌∷◌, length, take, drop}
 use Rattle.std.specs.Char.{is_ascii_hexdigit}
 use Rattle.std.specs.Int.{is_in_range}
 use Rattle.std.specs.Str.{chars, IsUtf8}
@@ -18,18 +18,6 @@ begins_with_triplet (x ∷ xs) = x == 37 && (begins_with_digit xs && begins_with
 -- how many bytes each character from U+00C0 to U+CFFF has, by its first byte (RFC 3629 section 3); 0 where no such one begins with it
 abbrev pub lead_len : ℕ → ℕ
 lead_len b = cond (is_in_range 0xC3 0xDF b) 2 (cond (is_in_range 0xE0 0xEC b) 3 0)
-
--- the text r follows the first unit of t
-pub record IsPast (p : ℕ → Bool) (t r : List ℕ) : Type 0 where
-  pub text : IsUtf8 r
-  pub same : over p (chars r) ≡ over p (chars t)
-  pub shorter : length r < length t
-
--- ASCII characters of the class and triplets stand before i in t: what follows decides as the whole does
-pub record IsPastUnits (p : ℕ → Bool) (t : List ℕ) (i : ℕ) : Type 0 where
-  pub within : i ≤ length t
-  pub text : IsUtf8 (drop i t)
-  pub same : over p (chars (drop i t)) ≡ over p (chars t)
 
 -- no unit stands at the start of t
 abbrev pub HasNoUnit : (ℕ → Bool) → List ℕ → Type 0

@@ -1,9 +1,10 @@
-use Rattle.std.proofs.Common.{◌≡◌, true, sym, subst, length, take, ◌∙◌, ◌-◌}
+use Rattle.std.proofs.Common.{◌≡◌, true, sym, subst, length, take, ◌∙◌, ◌-◌, arith}
 use Rattle.iri_grammar.specs.ClassTests.{class_test}
 use Rattle.iri_grammar.specs.inside.Runs.{AreUnits}
 use Rattle.iri_grammar.proofs.ClassLaws.{class_has_no_percent}
 use Rattle.iri_grammar.specs.Cut.{lacks}
 use Rattle.iri_grammar.proofs.UnitRuns.{char_units, char_lacks}
+use Rattle.iri_grammar.proofs.Units.{char_stops, char_shorter, nothing_left}
 use Rattle.iri_grammar.proofs.unit.char_len.Goals as goal
 
 pub returns-then-has-clause-units : goal.returns-then-has-clause-units
@@ -25,3 +26,15 @@ returns-then-has-clause-bare g c =
     let e = sym c.chars-chars.ensures.rest ∙ c.in-Some.ensures.steps.0 in
     subst (λ l. lacks 37 (take (length t - length l) t) ≡ true) (sym c.as_str.ensures)
     (char_lacks p c.in-Some.c t r e (class_has_no_percent s g.met.S.Spec.lawful c.args.class) (sym c.has.ensures ∙ c.if-has.true))
+
+pub returns-else-has-clause-stops : goal.returns-else-has-clause-stops
+returns-else-has-clause-stops g c _ =
+    let p = class_test g.S.Spec.tests c.args.class in
+    let e = sym c.chars-chars.ensures.rest ∙ c.in-Some.ensures.steps.0 in
+    let some = char_shorter c.in-Some.c c.args.s.now c.next.new.self.rest.now e in
+    char_stops p c.in-Some.c c.args.s.now c.next.new.self.rest.now c.utf8.s e (omega (arith, some)) c.requires
+    (sym c.has.ensures ∙ c.if-has.false)
+
+pub returns-in-None-clause-stops : goal.returns-in-None-clause-stops
+returns-in-None-clause-stops g c _ = nothing_left (class_test g.S.Spec.tests c.args.class) c.args.s.now
+    (omega (arith, c.in-None.ensures.steps.0.0, c.chars-chars.ensures.len))
