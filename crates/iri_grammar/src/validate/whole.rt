@@ -143,7 +143,10 @@ fn leading_scheme(s: &str) -> Result<(), Error>
 pub fn iri_reference<S: Spec>(s: &str) -> Result<(), Error>
     ensures { Answers result (reference_fault S.tests s.now) }
 {
-    front_and_fragment::<S>(&Splitter::cut(s))
+    match Splitter::new::<S>(s) {
+        Ok(_) => Ok(()),
+        Err(error) => Err(error),
+    }
 }
 
 /// Whether the text is a `URI`, with a scheme (RFC 3986 section 3): otherwise the kind of its first fault.
@@ -151,8 +154,7 @@ pub fn iri<S: Spec>(s: &str) -> Result<(), Error>
     ensures { Answers result (iri_fault S.tests s.now) }
 {
     leading_scheme(s)?;
-    let p = Splitter::cut(s);
-    front_and_fragment::<S>(&p)
+    iri_reference::<S>(s)
 }
 
 /// Whether the text is an `absolute-URI`, with a scheme and without a fragment (RFC 3986 section 4.3):
