@@ -10,33 +10,9 @@ use crate::class::Class;
 use crate::spec::Spec;
 use crate::unit::cut_units;
 
-/// Whether four bytes are ASCII characters of the class, told without a branch.
+/// How many bytes at the start are ASCII characters of the class.
 #[inline(always)]
-fn has_four(class: Class, w: u8, x: u8, y: u8, z: u8) -> bool
-    ensures { result ≡ (((ascii_test class w && ascii_test class x) && ascii_test class y) && ascii_test class z) }
-{
-    class.has_byte(w) & class.has_byte(x) & class.has_byte(y) & class.has_byte(z)
-}
-
-/// What is left where ASCII characters of the class are taken from the start, four at a time.
-#[inline(always)]
-fn past_fours(class: Class, bytes: &[u8]) -> &[u8]
-    ensures within { length result.now ≤ length bytes.now }
-    ensures run { run_of (ascii_test class) bytes.now + length result.now
-        ≡ length bytes.now + run_of (ascii_test class) result.now }
-{
-    let mut rest = bytes;
-    'fours: while let [w, x, y, z, next @ ..] = rest {
-        if !has_four(class, *w, *x, *y, *z) {
-            return rest;
-        }
-        rest = next;
-    }
-    rest
-}
-
-/// How many bytes at the start are ASCII characters of the class, told one by one.
-fn near_run_len(class: Class, bytes: &[u8]) -> usize
+pub(crate) fn run_len(class: Class, bytes: &[u8]) -> usize
     ensures { result ≡ run_of (ascii_test class) bytes.now }
 {
     for (i, b) in bytes.iter().enumerate() {
@@ -45,15 +21,6 @@ fn near_run_len(class: Class, bytes: &[u8]) -> usize
         }
     }
     bytes.len()
-}
-
-/// How many bytes at the start are ASCII characters of the class.
-#[inline(always)]
-pub(crate) fn run_len(class: Class, bytes: &[u8]) -> usize
-    ensures { result ≡ run_of (ascii_test class) bytes.now }
-{
-    let rest = past_fours(class, bytes);
-    bytes.len() - rest.len() + near_run_len(class, rest)
 }
 
 /// What follows the ASCII characters of the class at the start.
