@@ -157,20 +157,6 @@ run_of_le q [] = omega arith
 run_of_le q (x ∷ xs) =
     elim (q x) as (λ b. cond b (suc (run_of q xs)) 0 ≤ length (x ∷ xs)) [ true ↦ omega (arith, run_of_le q xs) | false ↦ omega arith ]
 
--- it is taken four at a time
-pub run_of_four : (q : ℕ → Bool) (t : List ℕ) → 4 ≤ length t
-    → (((q (slice_index t 0) && q (slice_index t 1)) && q (slice_index t 2)) && q (slice_index t 3)) ≡ true
-    → run_of q t ≡ suc (suc (suc (suc (run_of q (drop 4 t)))))
-run_of_four q [] l h = absurd (omega arith)
-run_of_four q (w ∷ []) l h = absurd (omega arith)
-run_of_four q (w ∷ x ∷ []) l h = absurd (omega arith)
-run_of_four q (w ∷ x ∷ y ∷ []) l h = absurd (omega arith)
-run_of_four q (w ∷ x ∷ y ∷ z ∷ r) l h =
-    let a = both ((q w && q x) && q y) (q z) h in
-    let b = both (q w && q x) (q y) a.0 in
-    let c = both (q w) (q x) b.0 in
-    rw (c.0, c.1, b.1, a.1) refl
-
 -- what follows a character is shorter
 pub char_shorter : (c : ℕ) (t r : List ℕ) → t ≡ encode_utf8 c ++ r → length r < length t
 char_shorter c t r e = omega (arith, ap length e, length-append (encode_utf8 c) r, length-encode c, (len_utf8_bounds c).0)

@@ -17,9 +17,12 @@ pub trait Spec: Copy {
         ensures { result ≡ tests.priv c };
 
     /// Where this is true, all characters from U+00A0 to U+D7FF, the first range of `ucschar`, are unreserved (RFC 3987 section 2.2).
-    /// False says nothing.
+    /// False, the default, says nothing.
     fn has_first_ucschars() -> bool
-        ensures { result ≡ true → HasFirstUcschars tests };
+        ensures { result ≡ true → HasFirstUcschars tests }
+    {
+        false
+    }
 
     /// Both tests fail below 128, and no character passes both.
     ghost lawful: { IsSpec tests };
@@ -43,10 +46,6 @@ impl Spec for UriSpec {
     }
 
     fn is_nonascii_char_private(_c: char) -> bool {
-        false
-    }
-
-    fn has_first_ucschars() -> bool {
         false
     }
 }

@@ -109,7 +109,7 @@ fn wide_char_len<S: Spec>(class: Class, s: &str) -> usize
 /// and whether they are no triplets. 0 where no unit stands there.
 #[tactic(auto, using(crate::proofs::UnitRuns::no_units))]
 #[inline(always)]
-fn front_len<S: Spec>(class: Class, s: &str) -> (usize, bool)
+fn same_units_len<S: Spec>(class: Class, s: &str) -> (usize, bool)
     ensures units { AreUnits (class_test S.tests class) s.now result.0 }
     ensures stops { result.0 ≡ 0 → HasNoUnit (class_test S.tests class) s.now }
     ensures bare { result.1 ≡ true → lacks percent_sign (take result.0 s.now) ≡ true }
@@ -132,11 +132,11 @@ fn units_len<S: Spec>(class: Class, s: &str) -> (usize, bool)
     let mut i = 0;
     let mut bare = true;
     'units: loop {
-        let (len, front_bare) = front_len::<S>(class, &s[i..]);
+        let (len, same_bare) = same_units_len::<S>(class, &s[i..]);
         if len == 0 {
             return (i, bare);
         }
-        bare &= front_bare;
+        bare &= same_bare;
         i += len;
     }
 }

@@ -1,5 +1,26 @@
+ghost use Rattle.iri_grammar.specs.Classes.{iri_tests};
+ghost use Rattle.iri_grammar.specs.inside.Laws.{iri_is_spec};
+
 use super::*;
-use crate::spec::{IriSpec, UriSpec};
+use crate::spec::{IriSpec, Spec, UriSpec};
+
+// The grammar of IRIs by its two tests alone.
+#[derive(Clone, Copy)]
+enum TestsAlone {}
+
+impl Spec for TestsAlone {
+    ghost tests = { iri_tests };
+
+    ghost lawful = { iri_is_spec };
+
+    fn is_nonascii_char_unreserved(c: char) -> bool {
+        IriSpec::is_nonascii_char_unreserved(c)
+    }
+
+    fn is_nonascii_char_private(c: char) -> bool {
+        IriSpec::is_nonascii_char_private(c)
+    }
+}
 
 // At the borders of what the first byte tells of a character, and of `ucschar`.
 #[test]
@@ -28,6 +49,11 @@ fn characters_by_their_first_bytes(rt: HostRuntime) {
         assert!(rt;
             bare && (units == s) == want && (rest == s) == !want,
             "at {c}"
+        );
+        let (units, rest, bare) = cut_units::<TestsAlone>(Class::Path, s);
+        assert!(rt;
+            bare && (units == s) == want && (rest == s) == !want,
+            "at {c}, by the tests alone"
         );
         let (units, rest, bare) = cut_units::<UriSpec>(Class::Path, s);
         assert!(rt; bare && units.is_empty() && rest == s, "at {c}");

@@ -13,22 +13,22 @@ range_from-requires g c _ = IsCharBoundary-from_drop c.args.s.now c.units.i c.un
 pub overflow_add-i : goal.overflow_add-i
 overflow_add-i g c =
     let p = class_test g.S.Spec.tests c.args.class in
-    let len = c.front_len-len.result.0 in
+    let len = c.same_units_len-len.result.0 in
     let w = units_onward p c.args.s.now c.units.i len c.units.invariant.0
-    (subst (λ x. AreUnits p x len) c.range_from.ensures.value c.front_len-len.ensures.units) in
+    (subst (λ x. AreUnits p x len) c.range_from.ensures.value c.same_units_len-len.ensures.units) in
     omega (arith, w.within)
 
 pub units-preserved : goal.units-preserved
 units-preserved g c =
     let p = class_test g.S.Spec.tests c.args.class in
     let t = c.args.s.now in
-    let len = c.front_len-len.result.0 in
+    let len = c.same_units_len-len.result.0 in
     let here = c.range_from.ensures.value in (
-      units_onward p t c.units.i len c.units.invariant.0 (subst (λ x. AreUnits p x len) here c.front_len-len.ensures.units),
-      λ h. let both = and_parts c.units.bare c.front_len-len.result.1 h in
-          lacks_onward t c.units.i len (c.units.invariant.1 both.0) (subst (λ x. lacks 37 (take len x) ≡ true) here (c.front_len-len.ensures.bare both.1)),
+      units_onward p t c.units.i len c.units.invariant.0 (subst (λ x. AreUnits p x len) here c.same_units_len-len.ensures.units),
+      λ h. let both = and_parts c.units.bare c.same_units_len-len.result.1 h in
+          lacks_onward t c.units.i len (c.units.invariant.1 both.0) (subst (λ x. lacks 37 (take len x) ≡ true) here (c.same_units_len-len.ensures.bare both.1)),
     )
 
 pub returns-then-len-eq0-clause-stops : goal.returns-then-len-eq0-clause-stops
 returns-then-len-eq0-clause-stops g c =
-    subst (HasNoUnit (class_test g.S.Spec.tests c.args.class)) c.range_from.ensures.value (c.front_len-len.ensures.stops c.if-len-eq0.true)
+    subst (HasNoUnit (class_test g.S.Spec.tests c.args.class)) c.range_from.ensures.value (c.same_units_len-len.ensures.stops c.if-len-eq0.true)

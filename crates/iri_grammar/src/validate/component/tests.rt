@@ -1,6 +1,8 @@
 use super::*;
 use crate::host::host_is_reg_name;
 use crate::spec::{IriSpec, UriSpec};
+use crate::validate::whole::{absolute_iri, iri};
+use std::test::Fail;
 
 fn kind(answer: Result<(), Error>) -> Option<ErrorKind> {
     match answer {
@@ -216,4 +218,34 @@ fn other_components(rt: HostRuntime) {
         kind(fragment::<IriSpec>("\u{E000}")),
         Some(ErrorKind::InvalidFragment)
     );
+}
+
+#[test]
+fn faults_in_words(rt: HostRuntime) -> Result<(), Fail> {
+    for (answer, want) in [
+        (scheme("1a"), "invalid scheme"),
+        (userinfo::<UriSpec>("a@"), "invalid userinfo"),
+        (host::<UriSpec>("["), "invalid host"),
+        (reg_name::<UriSpec>("127.0.0.1"), "invalid reg-name"),
+        (port("8a"), "invalid port"),
+        (path_segment::<UriSpec>("/"), "invalid path"),
+        (query::<UriSpec>("#"), "invalid query"),
+        (fragment::<UriSpec>("#"), "invalid fragment"),
+        (absolute_iri::<UriSpec>("a:#"), "unexpected fragment"),
+        (
+            iri::<UriSpec>("a"),
+            "expected an absolute IRI but got a relative IRI",
+        ),
+        (
+            Err(Error::new(ErrorKind::InvalidUtf8)),
+            "invalid utf-8 bytes",
+        ),
+    ] {
+        let error = answer.err().ok_or("taken")?;
+        assert_eq!(rt; error.kind().description(), want);
+        let told = format!(in rt.alloc(); "{error}")?;
+        let whole = format!(in rt.alloc(); "invalid IRI: {want}")?;
+        assert_eq!(rt; told.as_str(), whole.as_str());
+    }
+    Ok(())
 }

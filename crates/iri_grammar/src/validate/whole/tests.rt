@@ -161,17 +161,6 @@ fn splits_what_was_validated(rt: HostRuntime) {
     assert_eq!(rt; parts.fragment(), Some("b?c"));
 }
 
-#[test]
-fn prints_the_kind(rt: HostRuntime) -> Result<(), std::test::Fail> {
-    let e = Error::new(ErrorKind::UnexpectedRelative);
-    let text = format!(in rt.alloc(); "{e}")?;
-    assert_eq!(rt;
-        text.as_str(),
-        "invalid IRI: expected an absolute IRI but got a relative IRI"
-    );
-    Ok(())
-}
-
 // The laws of one spec, where they speak of it.
 fn laws_of<S: Spec>() {
     laws::one_split::<S>();

@@ -6,7 +6,7 @@ use Rattle.iri_grammar.specs.Runs.{run_of}
 use Rattle.iri_grammar.specs.inside.Runs.{begins_with_triplet, AreUnits}
 use Rattle.iri_grammar.proofs.Units.{percent_stops}
 use Rattle.iri_grammar.proofs.UnitRuns.{run_lacks, run_units}
-use Rattle.iri_grammar.proofs.unit.front_len.Goals as goal
+use Rattle.iri_grammar.proofs.unit.same_units_len.Goals as goal
 
 pub returns-in-len1-up-clause-units : goal.returns-in-len1-up-clause-units
 returns-in-len1-up-clause-units g c =
@@ -34,5 +34,5 @@ returns-in-len1-up-2-clause-stops g c none =
     let t = c.args.s.now in
     let v = c.as_bytes.ensures.value in
     let here = sym (ap begins_with_triplet (ap (λ n. drop n c.as_bytes-in-len1-up-2.result.now) none ∙ c.as_bytes-in-len1-up-2.ensures.value))
-        ∙ c.triplets_len.ensures.stops in
+    ∙ c.triplets_len.ensures.stops in
     percent_stops p t c.utf8.s (sym (ap (λ z. slice_index z 0) v) ∙ c.if-b-eq37.true) (omega (arith, ap length v, c.in-len1-up.len_at_least)) here
