@@ -66,6 +66,9 @@ fn copies(rt: HostRuntime) -> Result<(), Fail> {
     let clone = iri.try_clone(rt.alloc())?;
     iri.shrink_to_fit()?;
     assert!(rt; iri.capacity() >= 11);
+    for same in [&copy, &clone, &iri] {
+        assert_eq!(rt; same.as_str(), "http://a/#f");
+    }
     assert!(rt; copy == iri && clone == iri);
     Ok(())
 }

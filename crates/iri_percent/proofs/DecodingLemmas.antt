@@ -96,6 +96,12 @@ pub run-first : (t : List ℕ) → 0 < length t → get_or t 0 0 ≢ 37 → frag
 run-first [] h n = absurd (omega arith)
 run-first (x ∷ xs) h n = fragments-run x xs (by_test x 37 (λ b. b ≡ false) (λ same. absurd (n same)) (λ _. refl))
 
+-- the run's bytes are those in front of the rest
+pub from-drop : (t : List ℕ) → from 37 t ≡ drop (length (before 37 t)) t
+from-drop [] = refl
+from-drop (x ∷ xs) = by_test x 37 (λ b. cond b (x ∷ xs) (from 37 xs) ≡ drop (length (cond b [] (x ∷ before 37 xs))) (x ∷ xs))
+    (λ _. refl) (λ _. from-drop xs)
+
 -- what a `%` begins
 record IsPercent (t : List ℕ) : Type 0 where
   tail : List ℕ

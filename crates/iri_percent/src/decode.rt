@@ -1,5 +1,6 @@
 // Decoding of triplets (the URL Standard, section 1.3, "percent-decode").
-ghost use Rattle.std.specs.Prelude.{◌≡◌, ◌++◌, true, false, IfOk, IfSome, MatchOption, MatchResult, OnOk, string_bytes};
+ghost use Rattle.std.specs.Prelude.{◌≡◌, ◌<◌, ◌++◌, length, true, false, IfOk, IfSome, MatchOption, MatchResult, OnErr, OnOk};
+ghost use Rattle.std.specs.Prelude.{string_bytes};
 ghost use Rattle.iri_percent.specs.Decoding.{decoding, has_triplet, fragments, fragment_bytes};
 ghost use Rattle.iri_percent.specs.FragmentViews.{fragment, fragments_left};
 ghost use Rattle.iri_percent.specs.TextRefusals.{IsNoText};
@@ -91,9 +92,10 @@ impl<'a> PercentDecodedWhatwgBytes<'a> {
         }
     }
 
-    /// The decoded bytes, in a vector. It fails on allocation failure alone.
+    /// The decoded bytes, in a vector. It fails on allocation failure alone, which comes only where there are bytes to decode.
     pub fn into_bytes(&self, alloc: Global) -> Result<Vec<u8>, AllocError>
-        ensures { IfOk result (λ bytes. bytes.items ≡ decoding self.now.source.now) }
+        ensures decoded { IfOk result (λ bytes. bytes.items ≡ decoding self.now.source.now) }
+        ensures memory { OnErr result (0 < length self.now.source.now) }
     {
         let mut bytes = Vec::with_capacity(alloc, self.source.len())?;
         for fragment in self.bytes_fragments() {
@@ -102,10 +104,11 @@ impl<'a> PercentDecodedWhatwgBytes<'a> {
         Ok(bytes)
     }
 
-    /// The decoded bytes as a string: `NotUtf8` with them exactly where they aren't UTF-8.
+    /// The decoded bytes as a string: `NotUtf8` with them exactly where they aren't UTF-8. Both answers hold the decoded bytes,
+    /// so that allocation failure, which comes only where there are bytes to decode, may take the place of either.
     pub fn into_string(&self, alloc: Global) -> Result<String, DecodeTextError>
         ensures { MatchResult result (λ s. string_bytes s ≡ decoding self.now.source.now)
-            (λ e. IsNoText e (decoding self.now.source.now)) }
+            (λ e. IsNoText e self.now.source.now) }
     {
         match self.into_bytes(alloc) {
             Ok(bytes) => match String::from_utf8(bytes) {
@@ -118,7 +121,8 @@ impl<'a> PercentDecodedWhatwgBytes<'a> {
 
     /// The fragments that the decoding is put together from. It takes no memory.
     pub fn bytes_fragments(&self) -> PercentDecodedBytesFragments<'a>
-        ensures { fragments_left result ≡ fragments self.now.source.now }
+        ensures fragments { fragments_left result ≡ fragments self.now.source.now }
+        ensures source { result.rest.now ≡ self.now.source.now }
     {
         PercentDecodedBytesFragments::new(self.source)
     }

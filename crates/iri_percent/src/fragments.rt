@@ -1,8 +1,8 @@
 // The fragments that a decoding is put together from.
-ghost use Rattle.std.specs.Prelude.{◌≡◌, ◌<◌, ◌∷◌, length, slice_index};
+ghost use Rattle.std.specs.Prelude.{◌≡◌, ◌<◌, ◌∷◌, length, drop, slice_index};
 ghost use Rattle.iri_grammar.specs.Cut.{before, from};
 ghost use Rattle.iri_percent.specs.Decoding.{fragments};
-ghost use Rattle.iri_percent.specs.FragmentViews.{fragment};
+ghost use Rattle.iri_percent.specs.FragmentViews.{fragment, source_len};
 ghost use Rattle.iri_grammar.specs.Characters.{percent_sign};
 
 use crate::octets::first_octet;
@@ -56,7 +56,8 @@ fn split_run(text: &[u8]) -> (&[u8], &[u8])
 // The fragment that a `%` begins, and the rest.
 fn split_percent(text: &[u8]) -> (DecodedFragment<'_>, &[u8])
     requires { (0 < length text.now) × (slice_index text.now 0 ≡ percent_sign) }
-    ensures { fragments text.now ≡ fragment result.0 ∷ fragments result.1.now }
+    ensures first { fragments text.now ≡ fragment result.0 ∷ fragments result.1.now }
+    ensures rest { result.1.now ≡ drop (source_len (fragment result.0)) text.now }
 {
     match first_octet(text) {
         Some(octet) => (DecodedFragment::DecodedByte(octet), &text[3..]),
@@ -67,7 +68,8 @@ fn split_percent(text: &[u8]) -> (DecodedFragment<'_>, &[u8])
 // The first fragment, and the rest.
 fn split_fragment(text: &[u8]) -> (DecodedFragment<'_>, &[u8])
     requires { 0 < length text.now }
-    ensures { fragments text.now ≡ fragment result.0 ∷ fragments result.1.now }
+    ensures first { fragments text.now ≡ fragment result.0 ∷ fragments result.1.now }
+    ensures rest { result.1.now ≡ drop (source_len (fragment result.0)) text.now }
 {
     if text[0] == b'%' {
         return split_percent(text);
@@ -77,12 +79,12 @@ fn split_fragment(text: &[u8]) -> (DecodedFragment<'_>, &[u8])
 }
 
 impl<'a> Iterator for PercentDecodedBytesFragments<'a> {
-    ghost use Rattle.std.specs.Iterator.{YieldsFirstBy, item_count};
-    ghost use Rattle.iri_percent.specs.FragmentViews.{fragment, fragments_left};
+    ghost use Rattle.std.specs.Iterator.{item_count};
+    ghost use Rattle.iri_percent.specs.FragmentViews.{fragments_left, GivesFirst};
 
     type Item = DecodedFragment<'a>;
 
-    ghost next_gives = { YieldsFirstBy fragment fragments_left };
+    ghost next_gives = { GivesFirst };
 
     ghost remaining = { item_count fragments_left };
 

@@ -78,7 +78,7 @@ pub fn is_ascii_host(host: &[u8]) -> bool
     true
 }
 
-// For each byte an even digit where it is ASCII, no `%` and no capital letter: so one test tells it of several bytes.
+// For each byte `0` where it is ASCII, no `%` and no capital letter, otherwise `1`.
 static PLAIN_BYTES: [u8; 256] = *b"\
     00000000000000000000000000000000\
     00000100000000000000000000000000\

@@ -61,6 +61,9 @@ fn strings(rt: HostRuntime) -> Result<(), Fail> {
         let refused = decode_whatwg_bytes(text).into_string(rt.alloc());
         not_utf8(refused.err().ok_or("taken")?).ok_or(AllocError)?;
     }
+    // Where there is nothing to decode no memory is wanted.
+    let empty = decode_whatwg_bytes(b"").into_string(rt.alloc());
+    assert_eq!(rt; empty.ok().ok_or("refused")?.as_str(), "");
     // A character whose octets stand both raw and in triplets.
     let mixed = decode_whatwg_bytes(b"\xCE%B1").into_string(rt.alloc())?;
     assert_eq!(rt; mixed.as_str(), "\u{3b1}");
@@ -93,8 +96,10 @@ fn fragments(rt: HostRuntime) {
     assert_eq!(rt; left.next(), Some(DecodedFragment::Direct(b"a")));
     assert_eq!(rt; left.not_yet_decoded(), &b"%41%"[..]);
     assert_eq!(rt; left.next(), Some(DecodedFragment::DecodedByte(0x41)));
+    assert_eq!(rt; left.not_yet_decoded(), &b"%"[..]);
     assert_eq!(rt; left.next(), Some(DecodedFragment::StrayPercent));
     assert_eq!(rt; left.next(), None);
+    assert_eq!(rt; left.not_yet_decoded(), &b""[..]);
     assert_eq!(rt; left.next(), None);
     assert_eq!(rt; left.size_hint(), (0, Some(0)));
 

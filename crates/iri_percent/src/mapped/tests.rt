@@ -92,9 +92,12 @@ fn three_ways(rt: HostRuntime) -> Result<(), Fail> {
     assert_eq!(rt; uri.as_str(), ENCODED);
     assert_eq!(rt; format!(in rt.alloc(); "{mapped}")?.as_str(), ENCODED);
     let copy = iri.try_clone(rt.alloc())?;
-    let uri = as_owned_uri(rt.alloc(), copy)?;
+    let uri = as_owned_uri(rt.alloc(), copy, ALPHA)?;
     assert_eq!(rt; uri.as_str(), ENCODED);
-    iri.try_encode_to_uri_inline(rt.alloc())?;
+    if iri.try_encode_to_uri_inline(rt.alloc()).is_err() {
+        assert_eq!(rt; iri.as_str(), ALPHA);
+        return Err(AllocError)?;
+    }
     assert_eq!(rt; iri.as_str(), ENCODED);
     iri.try_encode_to_uri_inline(rt.alloc())?;
     assert_eq!(rt; iri.as_str(), ENCODED);
@@ -125,22 +128,27 @@ fn in_ascii_or_not(rt: HostRuntime) -> Result<(), Fail> {
     Ok(())
 }
 
+// The text encoded. Where allocation fails it is handed back as it was given.
 fn as_owned_uri<K: MappedKind>(
     alloc: Global,
     text: Owned<IriSpec, K>,
+    given: &str,
 ) -> Result<Owned<UriSpec, K>, Fail> {
     match text.try_encode_into_uri(alloc) {
         Ok(uri) => Ok(uri),
-        Err(_) => Err(AllocError)?,
+        Err(back) if back.as_str() == given => Err(AllocError)?,
+        Err(_) => Err("another text is handed back")?,
     }
 }
 
 #[test]
 fn owned_parts(rt: HostRuntime) -> Result<(), Fail> {
     let query = IriQueryString::try_from_str(rt.alloc(), "\u{e000}")?;
-    assert_eq!(rt; as_owned_uri(rt.alloc(), query)?.as_str(), "%EE%80%80");
+    let uri = as_owned_uri(rt.alloc(), query, "\u{e000}")?;
+    assert_eq!(rt; uri.as_str(), "%EE%80%80");
     let fragment = IriFragmentString::try_from_str(rt.alloc(), "\u{e9}%C3")?;
-    assert_eq!(rt; as_owned_uri(rt.alloc(), fragment)?.as_str(), "%C3%A9%C3");
+    let uri = as_owned_uri(rt.alloc(), fragment, "\u{e9}%C3")?;
+    assert_eq!(rt; uri.as_str(), "%C3%A9%C3");
     Ok(())
 }
 

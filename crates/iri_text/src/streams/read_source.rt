@@ -41,7 +41,8 @@ impl<R: Read> Source for ReadSource<R> {
     ghost faults = { λ s. s.faults };
 
     /// Reads once. Each error of the reader raises the count by one, up to its last value. Where the reader tells its bytes,
-    /// these are the ones that it gives.
+    /// these are the ones that it gives. No clause says that an error isn't followed by another read, since std's contract of
+    /// readers tells of no call; a test counts the calls.
     fn take(&mut self, buf: &mut [u8]) -> Result<usize, Failed>
         ensures takes { Takes None None self.old.faults self.new.faults result buf.new }
         ensures through { ReadConsumes (R.remaining self.old.inner) (R.remaining self.new.inner) result buf.new }

@@ -78,6 +78,7 @@ impl<W: Write> Sink for WriteSink<W> {
 
     /// Flushes the writer, where bytes may be pending: at first, and where some were written since the last flush that succeeded.
     /// Where the writer answers an error the count rises by one, up to its last value. A writer that tells its bytes keeps them.
+    /// No clause says that the writer is called, since std's contract of writers tells of no call; a test counts the calls.
     fn flush(&mut self) -> Result<(), Failed>
         ensures flushes { Flushes None None self.old.faults self.new.faults None None result }
         ensures kept { Keeps (W.contents self.old.inner) (W.contents self.new.inner) }

@@ -5,12 +5,12 @@ use Rattle.iri_percent.specs.Units.{octets}
 use Rattle.iri_percent.proofs.DecodingLemmas.{octet-first, stray-first}
 use Rattle.iri_percent.proofs.fragments.split_percent.Goals as goal
 
-pub returns-in-Some : goal.returns-in-Some
-returns-in-Some c =
+pub returns-in-Some-clause-first : goal.returns-in-Some-clause-first
+returns-in-Some-clause-first c =
     let t = c.args.text.now in
     octet-first t c.in-Some.octet (octets (drop 3 t)) c.requires.0 c.requires.1 c.in-Some.ensures
     ∙ ap (λ z. Octet c.in-Some.octet ∷ fragments z) (sym (take_rest t 3))
 
-pub returns-in-None : goal.returns-in-None
-returns-in-None c = let t = c.args.text.now in stray-first t c.requires.0 c.requires.1 c.in-None.ensures
+pub returns-in-None-clause-first : goal.returns-in-None-clause-first
+returns-in-None-clause-first c = let t = c.args.text.now in stray-first t c.requires.0 c.requires.1 c.in-None.ensures
     ∙ ap (λ z. Percent ∷ fragments z) (sym (take_rest t 1))

@@ -32,10 +32,14 @@ fn takes_what_the_reader_gives(rt: HostRuntime) {
     let mut buf = [0; 4];
     assert_eq!(rt; source.take(&mut buf).ok(), Some(2));
     assert_eq!(rt; &buf[..2], b"ab".as_slice());
+    assert_eq!(rt; source.reader.calls, 1);
     assert_eq!(rt; source.take(&mut buf).ok(), None);
     assert_eq!(rt; source.faults, 1);
+    // The error isn't followed by another read.
+    assert_eq!(rt; source.reader.calls, 2);
     assert_eq!(rt; source.take(&mut buf).ok(), Some(1));
     assert_eq!(rt; &buf[..1], b"c".as_slice());
     assert_eq!(rt; source.take(&mut buf).ok(), Some(0));
     assert_eq!(rt; source.faults, 1);
+    assert_eq!(rt; source.reader.calls, 4);
 }

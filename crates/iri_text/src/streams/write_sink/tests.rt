@@ -58,6 +58,7 @@ struct HoldingWriter {
     held: Vec<u8>,
     out: Vec<u8>,
     failing: bool,
+    flushes: u8,
 }
 
 impl Write for HoldingWriter {
@@ -67,6 +68,7 @@ impl Write for HoldingWriter {
     }
 
     fn flush(&mut self) -> io::Result<()> {
+        self.flushes = self.flushes.saturating_add(1);
         if self.failing {
             self.failing = false;
             return Err(io::ErrorKind::Other.into());
@@ -83,17 +85,40 @@ fn flushes_its_writer(rt: HostRuntime) -> Result<(), Fail> {
         held: Vec::with_capacity(rt.alloc(), 3)?,
         out: Vec::with_capacity(rt.alloc(), 3)?,
         failing: true,
+        flushes: 0,
     });
     assert!(rt; sink.put_all(b"abc").is_ok());
+    assert_eq!(rt; sink.writer.flushes, 0);
     assert!(rt; sink.flush().is_err());
     assert_eq!(rt; sink.faults, 1);
+    assert_eq!(rt; sink.writer.flushes, 1);
     assert!(rt; sink.flush().is_ok());
     assert_eq!(rt; sink.faults, 1);
+    assert_eq!(rt; sink.writer.flushes, 2);
     assert_eq!(rt; sink.writer.out.as_slice(), b"abc".as_slice());
-    // Nothing is pending now: the writer isn't asked.
+    // Nothing is pending now: the writer isn't called.
     sink.writer.failing = true;
     assert!(rt; sink.flush().is_ok());
+    assert_eq!(rt; sink.writer.flushes, 2);
     assert!(rt; sink.put_all(b"d").is_ok());
     assert!(rt; sink.flush().is_err());
+    assert_eq!(rt; sink.writer.flushes, 3);
+    Ok(())
+}
+
+// The writer may hold bytes from before.
+#[test]
+fn flushes_a_writer_before_any_put(rt: HostRuntime) -> Result<(), Fail> {
+    let mut held = Vec::with_capacity(rt.alloc(), 1)?;
+    held.push(b'a')?;
+    let mut sink = WriteSink::new(HoldingWriter {
+        held,
+        out: Vec::with_capacity(rt.alloc(), 1)?,
+        failing: false,
+        flushes: 0,
+    });
+    assert!(rt; sink.flush().is_ok());
+    assert_eq!(rt; sink.writer.flushes, 1);
+    assert_eq!(rt; sink.writer.out.as_slice(), b"a".as_slice());
     Ok(())
 }

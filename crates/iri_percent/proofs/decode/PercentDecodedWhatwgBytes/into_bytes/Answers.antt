@@ -1,16 +1,18 @@
-use Rattle.std.proofs.Common.{◌++◌, ap, ◌∙◌}
+use Rattle.std.proofs.Common.{◌++◌, ◌≤◌, length, ap, ◌∙◌, arith}
 use Rattle.std.specs.List.{flat_map}
 use Rattle.iri_percent.specs.Decoding.{fragment_bytes}
 use Rattle.iri_percent.specs.FragmentViews.{fragments_left}
-use Rattle.iri_percent.proofs.DecodingLemmas.{fragments-joined}
+use Rattle.iri_percent.proofs.DecodingLemmas.{fragments-joined, fragments-most}
 use Rattle.iri_percent.proofs.decode.PercentDecodedWhatwgBytes.into_bytes.Goals as goal
 
 pub loop-fragment-init : goal.loop-fragment-init
-loop-fragment-init c = record {
-  can = tt;
-  ends = tt;
-  same =
-      ap (λ z. z ++ flat_map fragment_bytes (fragments_left c.into_iter-fragment-iterator.result)) c.in_ok-bytes.ensures.items
-      ∙ (ap (λ it. flat_map fragment_bytes (fragments_left it)) c.into_iter-fragment-iterator.ensures.into_iter_gives
-      ∙ (ap (flat_map fragment_bytes) c.bytes_fragments-fragment-items.ensures ∙ fragments-joined c.args.self.now.source.now));
-}
+loop-fragment-init c =
+    let left = ap fragments_left c.into_iter-fragment-iterator.ensures.into_iter_gives ∙ c.bytes_fragments-fragment-items.ensures.fragments in
+    record {
+      can = tt;
+      ends = tt;
+      same =
+          ap (λ z. z ++ flat_map fragment_bytes (fragments_left c.into_iter-fragment-iterator.result)) c.in_ok-bytes.ensures.items
+          ∙ (ap (flat_map fragment_bytes) left ∙ fragments-joined c.args.self.now.source.now);
+      some = rw left (fragments-most c.args.self.now.source.now);
+    }

@@ -9,7 +9,7 @@ not_utf8 bytes refused = elim (is_utf8 bytes) as (λ b. is_utf8 bytes ≡ b
 
 pub returns-in-Err-from_utf8 : goal.returns-in-Err-from_utf8
 returns-in-Err-from_utf8 c =
-    let same = c.in-Ok.ensures in (
+    let same = c.in-Ok.ensures.decoded in (
       c.from_vec.ensures ∙ (ap (λ v. v.items) c.into_bytes-in-Err-from_utf8.ensures.value
           ∙ (ap (λ v. v.items) c.in-Err-from_utf8.ensures.err ∙ same)),
       ap is_utf8 (sym same) ∙ not_utf8 c.in-Ok.bytes.items c.in-Err-from_utf8.ensures.succeeds,
