@@ -1,4 +1,4 @@
-use Rattle.std.proofs.Common.{◌++◌, ◌≤◌, length, ap, ◌∙◌, arith}
+use Rattle.std.proofs.Common.{◌++◌, ap, ◌∙◌}
 use Rattle.std.specs.List.{flat_map}
 use Rattle.iri_percent.specs.Decoding.{fragment_bytes}
 use Rattle.iri_percent.specs.FragmentViews.{fragments_left}
