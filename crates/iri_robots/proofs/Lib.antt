@@ -1,4 +1,5 @@
 pub mod Moves
+pub mod Places
 pub mod Parts
 pub mod Anchors
 pub mod Verdicts

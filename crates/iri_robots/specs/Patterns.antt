@@ -1,5 +1,7 @@
 -- Patterns of rules (RFC 9309 sections 2.2.2 and 2.2.3). A text is the list of its bytes.
 use Rattle.std.specs.Prelude.{◌≡◌, ◌≢◌, ℕ, Bool, true, false, cond, ◌==◌, List, [], ◌∷◌, ◌++◌}
+use Rattle.std.specs.Prelude.{◌+◌, ◌||◌, codes}
+use Rattle.std.specs.List.{starts_with}
 use Rattle.iri_grammar.specs.Characters.{asterisk, percent_sign}
 
 abbrev pub dollar_sign : ℕ
@@ -53,3 +55,12 @@ IsFilledBy false q s = HasFilledPrefix q s
 pub record Matches (p s : List ℕ) : Type 0 where
   pub some : p ≢ []
   pub filled : IsFilledBy (is_anchored p) (without_anchor p) s
+
+-- an escape `%2A` or `%24`, or a `$`, which `%24` is filled by too, stands at the start
+abbrev pub begins_escape : List ℕ → Bool
+begins_escape q = starts_with ◌==◌ q (codes "%2A") || starts_with ◌==◌ q (codes "%24") || starts_with ◌==◌ q (codes "$")
+
+-- how many of these a pattern has
+unfoldable pub escapes : List ℕ → ℕ
+escapes [] = 0
+escapes (c ∷ q) = cond (begins_escape (c ∷ q)) 1 0 + escapes q

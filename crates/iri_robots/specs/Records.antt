@@ -1,7 +1,8 @@
 -- Groups of a robots file, and the rules for a product token (RFC 9309 section 2.2.1).
-use Rattle.std.specs.Prelude.{ℕ, Bool, false, cond, ◌||◌, List, [], ◌∷◌, ◌++◌, codes}
+use Rattle.std.specs.Prelude.{ℕ, ◌+◌, Bool, false, cond, ◌||◌, List, [], ◌∷◌, ◌++◌, codes}
 use Rattle.std.specs.Str.{str_eq_ignore_ascii_case}
 use Rattle.iri_robots.specs.Compared.{compared}
+use Rattle.iri_robots.specs.Patterns.{escapes}
 use Rattle.iri_robots.specs.FileLines.{FileLine, AgentLine, RuleLine, OtherLine}
 
 -- a rule: it allows or disallows what its pattern matches
@@ -19,6 +20,12 @@ abbrev pub line_records : FileLine → List FileRecord
 line_records (AgentLine agent) = UserAgent agent ∷ []
 line_records (RuleLine allows pattern) = Judged (record { allows = allows; pattern = compared pattern }) ∷ []
 line_records OtherLine = []
+
+-- how many escapes the patterns of records have
+abbrev pub records_escapes : List FileRecord → ℕ
+records_escapes [] = 0
+records_escapes (UserAgent agent ∷ rs) = records_escapes rs
+records_escapes (Judged rule ∷ rs) = escapes rule.pattern + records_escapes rs
 
 -- a group: an agent run, that is a longest row of user-agent records with no rule between them, and the rules behind it
 pub record Group : Type 0 where

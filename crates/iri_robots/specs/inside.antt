@@ -1,6 +1,7 @@
 -- What private contracts cite.
 pub mod Fits
 pub mod Reaching
+pub mod Plain
 pub mod ReadLines
 pub mod BestRule
 pub mod Fronts

@@ -1,9 +1,13 @@
-// Patterns of rules. The search goes through pattern and text once, and steps back to the last `*`.
-ghost use Rattle.std.specs.Prelude.{◌≡◌, ◌≢◌, ◌↔◌, ◌<◌, ◌≤◌, ◌∷◌, true, MatchOption, length, drop, slice_index};
+// Patterns of rules. What stands between two `*` is found at its leftmost place by a search for its prefix up to the first
+// escape, and for that escape. Where it has no escape, the search goes through pattern and text once.
+ghost use Rattle.std.specs.Prelude.{◌≡◌, ◌≢◌, ◌↔◌, ◌<◌, ◌≤◌, ◌∷◌, true, cond, MatchOption, length, drop, slice_index};
 ghost use Rattle.iri_grammar.specs.Characters.{asterisk};
-ghost use Rattle.iri_robots.specs.Patterns.{Matches};
+ghost use Rattle.iri_robots.specs.Patterns.{Matches, begins_escape, escapes};
 ghost use Rattle.iri_robots.specs.inside.Reaching.{HasReached};
 ghost use Rattle.iri_robots.specs.inside.Fits.{EscapeOf, NoEscape, Fits, FitsNot, Sticks, Takes};
+ghost use Rattle.iri_robots.specs.inside.Plain.{HasPlainPrefix, KeepsFits, Keeps, StandsNot, SticksBefore};
+
+use memchr::{memchr, memmem};
 
 // So much of the pattern is filled by so much of the text.
 #[derive(Clone, Copy)]
@@ -16,13 +20,13 @@ struct Part {
 enum Reached<'a> {
     // To its end.
     End,
-    // Up to a `*`, behind which this pattern and this text are left.
+    // Up to a `*`, after which this pattern and this text are left.
     Star(&'a [u8], &'a [u8]),
     // It doesn't fit.
     Nowhere,
 }
 
-// The mark that an escape at the front of the pattern stands for.
+// The mark that an escape at the start of the pattern stands for.
 fn escaped_mark(pattern: &[u8]) -> Option<u8>
     ensures { MatchOption result (NoEscape pattern.now) (λ m. EscapeOf pattern.now m) }
 {
@@ -101,27 +105,109 @@ fn reach_star<'a>(pattern: &'a [u8], text: &'a [u8], anchored: bool) -> Reached<
     }
 }
 
+// How many bytes of the pattern, from its start on, are no `*` and begin no escape.
+fn plain_len(pattern: &[u8]) -> usize
+    ensures { HasPlainPrefix pattern.now result }
+{
+    let mut len = 0;
+    while len < pattern.len() {
+        if pattern[len] == b'*' || escaped_mark(&pattern[len..]).is_some() {
+            return len;
+        }
+        len += 1;
+    }
+    len
+}
+
+// What an anchored pattern without `*` can fill up to the end of the text: no more bytes than it has itself.
+fn end_of<'a>(pattern: &[u8], text: &'a [u8], anchored: bool) -> &'a [u8]
+    ensures { KeepsFits anchored pattern.now text.now result.now }
+{
+    if !anchored || text.len() <= pattern.len() || memchr(b'*', pattern).is_some() {
+        return text;
+    }
+    &text[text.len() - pattern.len()..]
+}
+
+// The text from the leftmost place on where so many plain bytes stand that the pattern begins with.
+fn from_plain<'a>(pattern: &[u8], plain: usize, text: &'a [u8]) -> Option<&'a [u8]>
+    requires { HasPlainPrefix pattern.now plain }
+    ensures { MatchOption result (StandsNot pattern.now text.now)
+        (λ rest. Keeps pattern.now text.now rest.now × (plain ≤ length rest.now)) }
+{
+    match memmem::find(text, &pattern[..plain]) {
+        Some(place) => Some(&text[place..]),
+        None => None,
+    }
+}
+
+// The leftmost place in the text where the escape is filled that the pattern begins with.
+fn escape_place(pattern: &[u8], text: &[u8], mark: u8) -> Option<usize>
+    requires { EscapeOf pattern.now mark }
+    ensures { MatchOption result (SticksBefore pattern.now text.now (length text.now))
+        (λ i. SticksBefore pattern.now text.now i) }
+{
+    let mut place = 0;
+    while place < text.len() {
+        if take_escape(pattern, &text[place..], mark).is_some() {
+            return Some(place);
+        }
+        place += 1;
+    }
+    None
+}
+
+// The text from the leftmost place on where so many plain bytes and the escape after them stand.
+fn from_escape<'a>(pattern: &[u8], plain: usize, mark: u8, text: &'a [u8]) -> Option<&'a [u8]>
+    requires { HasPlainPrefix pattern.now plain × EscapeOf (drop plain pattern.now) mark }
+    ensures { MatchOption result (StandsNot pattern.now text.now) (λ rest. Keeps pattern.now text.now rest.now) }
+{
+    let mut text = text;
+    while let Some(found) = from_plain(pattern, plain, text) {
+        let Some(place) = escape_place(&pattern[plain..], &found[plain..], mark) else {
+            return None;
+        };
+        if place == 0 {
+            return Some(found);
+        }
+        text = &found[place..];
+    }
+    None
+}
+
+// The text from the leftmost place on where the pattern may stand: its plain prefix, and the escape after it, stand there.
+fn from_prefix<'a>(pattern: &[u8], text: &'a [u8]) -> Option<&'a [u8]>
+    ensures { MatchOption result (StandsNot pattern.now text.now) (λ rest. Keeps pattern.now text.now rest.now) }
+{
+    let plain = plain_len(pattern);
+    match escaped_mark(&pattern[plain..]) {
+        Some(mark) => from_escape(pattern, plain, mark, text),
+        None => from_plain(pattern, plain, text),
+    }
+}
+
 // What follows a `*`: it stands somewhere in the text.
-fn fits_behind_star(pattern: &[u8], text: &[u8], anchored: bool) -> bool
+fn fits_after_star(pattern: &[u8], text: &[u8], anchored: bool) -> bool
     ensures { (result ≡ true) ↔ Fits anchored (asterisk ∷ pattern.now) text.now }
 {
     let mut pattern = pattern;
-    let mut text = text;
-    loop {
-        match reach_star(pattern, text, anchored) {
+    let mut text = end_of(pattern, text, anchored);
+    while let Some(found) = from_prefix(pattern, text) {
+        match reach_star(pattern, found, anchored) {
             Reached::End => return true,
             Reached::Star(rest, place) => {
                 pattern = rest;
-                text = place;
+                text = end_of(rest, place, anchored);
             }
             Reached::Nowhere => {
-                if text.is_empty() {
+                if found.is_empty() {
                     return false;
                 }
-                text = &text[1..];
+                text = &found[1..];
             }
         }
     }
+    false
 }
 
 // The text, or where the pattern isn't anchored a prefix of it, is a filling of the pattern.
@@ -130,7 +216,7 @@ fn fits(pattern: &[u8], text: &[u8], anchored: bool) -> bool
 {
     match reach_star(pattern, text, anchored) {
         Reached::End => true,
-        Reached::Star(rest, place) => fits_behind_star(rest, place, anchored),
+        Reached::Star(rest, place) => fits_after_star(rest, place, anchored),
         Reached::Nowhere => false,
     }
 }
@@ -151,4 +237,32 @@ pub fn matches(pattern: &[u8], text: &[u8]) -> bool
             }
         }
     }
+}
+
+// An escape, or a `$`, stands at the start of the pattern.
+fn begins_escape(pattern: &[u8]) -> bool
+    ensures { result ≡ begins_escape pattern.now }
+{
+    pattern.starts_with(b"%2A") || pattern.starts_with(b"%24") || pattern.starts_with(b"$")
+}
+
+// One, where an escape or a `$` stands at the start of the pattern.
+fn escapes_at(pattern: &[u8]) -> usize
+    ensures { result ≡ cond (begins_escape pattern.now) 1 0 }
+{
+    if begins_escape(pattern) { 1 } else { 0 }
+}
+
+// How many escapes and `$` the pattern has: a search takes no more time than the lengths of pattern and text so many times,
+// and once more.
+pub(crate) fn escapes(pattern: &[u8]) -> usize
+    ensures { result ≡ escapes pattern.now }
+{
+    let mut count = 0;
+    let mut place = 0;
+    while place < pattern.len() {
+        count += escapes_at(&pattern[place..]);
+        place += 1;
+    }
+    count
 }

@@ -1,15 +1,16 @@
 // The records of a robots file, and the rules of its groups.
-ghost use Rattle.std.specs.Prelude.{◌≡◌, ◌↔◌, IfOk, true};
+ghost use Rattle.std.specs.Prelude.{◌≡◌, ◌↔◌, IfOk, true, []};
 ghost use Rattle.std.specs.Str.{IsAscii, str_eq_ignore_ascii_case};
 ghost use Rattle.iri_robots.specs.Compared.{compared};
 ghost use Rattle.iri_robots.specs.FileLines.{line_of};
-ghost use Rattle.iri_robots.specs.Records.{FileRecord, line_records, groups, is_named, rules_of, rules_for};
+ghost use Rattle.iri_robots.specs.Records.{FileRecord, line_records, records_escapes, groups, is_named, rules_of, rules_for};
 ghost use Rattle.iri_robots.specs.Allowed.{IsAllowed};
 ghost use Rattle.iri_robots.specs.inside.BestRule.{IsBestOf};
 ghost use Rattle.iri_robots.specs.Stored.{record_text, record_texts, optional_record};
 
 use crate::compared::compared_form;
 use crate::line::{Said, read_line};
+use crate::pattern::escapes;
 use crate::rule::{Best, Rule, decides, judge};
 use std::alloc::{AllocError, Global};
 
@@ -41,13 +42,24 @@ fn rule_record(alloc: Global, allows: bool, pattern: &[u8]) -> Result<Record, Al
 
 // The record of a line, where it has one.
 pub(crate) fn line_record(alloc: Global, line: &[u8]) -> Result<Option<Record>, AllocError>
-    ensures { IfOk result (λ r. optional_record r ≡ line_records (line_of line.now)) }
+    ensures record { IfOk result (λ r. optional_record r ≡ line_records (line_of line.now)) }
+    ensures none { line_records (line_of line.now) ≡ [] → result ≡ Ok None }
 {
     match read_line(line) {
         Said::UserAgent(agent) => Ok(Some(agent_record(alloc, agent)?)),
         Said::Allow(pattern) => Ok(Some(rule_record(alloc, true, pattern)?)),
         Said::Disallow(pattern) => Ok(Some(rule_record(alloc, false, pattern)?)),
         Said::Nothing => Ok(None),
+    }
+}
+
+// How many escapes the pattern of a record has, where there is one.
+pub(crate) fn escapes_of(record: &Option<Record>) -> usize
+    ensures { result ≡ records_escapes (optional_record record.now) }
+{
+    match record {
+        Some(Record::Judged(rule)) => escapes(rule.pattern.as_bytes()),
+        _ => 0,
     }
 }
 

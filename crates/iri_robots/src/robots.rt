@@ -1,12 +1,12 @@
 // The rules for one crawler.
-ghost use Rattle.std.specs.Prelude.{◌≡◌, ◌↔◌, ◌++◌, ◌∷◌, [], MatchResult, IfErr, true, false, string_bytes};
+ghost use Rattle.std.specs.Prelude.{◌≡◌, ◌↔◌, ◌<◌, ◌≤◌, ◌++◌, ◌∷◌, [], MatchResult, IfErr, true, false, string_bytes};
 ghost use Rattle.iri_robots.specs.FileLines.{is_token, line_of};
-ghost use Rattle.iri_robots.specs.Records.{rules_for, line_records};
+ghost use Rattle.iri_robots.specs.Records.{rules_for, line_records, records_escapes};
 ghost use Rattle.iri_robots.specs.Allowed.{IsAllowed};
-ghost use Rattle.iri_robots.specs.Stored.{record_text, record_texts};
+ghost use Rattle.iri_robots.specs.Stored.{record_texts, optional_record};
 
 use crate::line::token_len;
-use crate::record::{Record, is_allowed, line_record};
+use crate::record::{Record, escapes_of, is_allowed, line_record};
 use std::alloc::{AllocError, Global};
 use thiserror::Error;
 
@@ -16,6 +16,17 @@ pub enum RobotsError {
     /// The product token isn't one or more ASCII letters, `_` and `-`.
     #[error("invalid token")]
     Token,
+    /// Allocation failure.
+    #[error(transparent)]
+    Memory(#[from] AllocError),
+}
+
+/// Why a line isn't stored.
+#[derive(Debug, Drop, Error)]
+pub enum LineError {
+    /// The pattern of its rule has more escapes than the caller takes.
+    #[error("too many escapes")]
+    Escapes,
     /// Allocation failure.
     #[error(transparent)]
     Memory(#[from] AllocError),
@@ -67,29 +78,62 @@ impl Robots {
         }
     }
 
-    // Stores a record; after an allocation failure nothing has changed.
-    fn store(&mut self, added: Record) -> Result<(), AllocError>
+    // Stores a record, where there is one; after an allocation failure nothing has changed.
+    fn store(&mut self, added: Option<Record>) -> Result<(), AllocError>
         ensures token { string_bytes self.new.token ≡ string_bytes self.old.token }
         ensures records { MatchResult result (λ _. record_texts self.new.records.items
-            ≡ record_texts self.old.records.items ++ record_text added ∷ [])
+            ≡ record_texts self.old.records.items ++ optional_record added)
             (λ _. record_texts self.new.records.items ≡ record_texts self.old.records.items) }
+        ensures none { optional_record added ≡ [] → result ≡ Ok tt }
     {
-        self.records.push(added)?;
-        Ok(())
+        match added {
+            Some(record) => {
+                self.records.push(record)?;
+                Ok(())
+            }
+            None => Ok(()),
+        }
     }
 
     /// Stores the record of a line of the robots file, where it has one (RFC 9309 section 2.2). The line is any bytes,
     /// without its line end: one that isn't UTF-8, or that has no key of a record, is ignored. After an allocation
-    /// failure nothing has changed.
+    /// failure nothing has changed; where the line has no record, none comes.
     pub fn feed_line(&mut self, line: &[u8]) -> Result<(), AllocError>
         ensures token { string_bytes self.new.token ≡ string_bytes self.old.token }
         ensures records { MatchResult result (λ _. record_texts self.new.records.items
             ≡ record_texts self.old.records.items ++ line_records (line_of line.now))
             (λ _. record_texts self.new.records.items ≡ record_texts self.old.records.items) }
+        ensures none { line_records (line_of line.now) ≡ [] → result ≡ Ok tt }
     {
-        match line_record(self.alloc, line)? {
-            Some(record) => self.store(record),
-            None => Ok(()),
+        self.store(line_record(self.alloc, line)?)
+    }
+
+    /// [`Robots::feed_line`] for a file that nobody vouches for: a rule whose pattern has more than so many escapes (each
+    /// `%2A`, `%24` and `$` counts) isn't stored.
+    ///
+    /// # Errors
+    ///
+    /// `Escapes` where the rule has more escapes, and `Memory` on allocation failure alone, where the line has a record.
+    /// Nothing has changed then.
+    pub fn feed_line_within(&mut self, line: &[u8], most: usize) -> Result<(), LineError>
+        ensures token { string_bytes self.new.token ≡ string_bytes self.old.token }
+        ensures records { MatchResult result (λ _. record_texts self.new.records.items
+            ≡ record_texts self.old.records.items ++ line_records (line_of line.now))
+            (λ _. record_texts self.new.records.items ≡ record_texts self.old.records.items) }
+        ensures escapes { MatchResult result (λ _. records_escapes (line_records (line_of line.now)) ≤ most)
+            (λ e. e ≡ LineError.Escapes → most < records_escapes (line_records (line_of line.now))) }
+        ensures none { line_records (line_of line.now) ≡ [] → result ≡ Ok tt }
+    {
+        let record = match line_record(self.alloc, line) {
+            Ok(record) => record,
+            Err(e) => return Err(LineError::Memory(e)),
+        };
+        if most < escapes_of(&record) {
+            return Err(LineError::Escapes);
+        }
+        match self.store(record) {
+            Ok(()) => Ok(()),
+            Err(e) => Err(LineError::Memory(e)),
         }
     }
 

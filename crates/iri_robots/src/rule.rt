@@ -21,21 +21,24 @@ pub(crate) struct Best {
     pub(crate) allows: bool,
 }
 
-// What decides with one rule more.
+// What decides with one rule more. A rule that is too short to decide isn't matched.
 pub(crate) fn judge(best: Option<Best>, rule: &Rule, text: &[u8]) -> Option<Best>
     ensures { (rules : List FileRule) → IsBestOf rules text.now best
         → IsBestOf (rules ++ rule_text rule.now ∷ []) text.now result }
 {
     let pattern = rule.pattern.as_bytes();
-    if !matches(pattern, text) {
-        return best;
-    }
     let bytes = pattern.len();
     let allows = rule.allows;
     let Some(old) = best else {
-        return Some(Best { bytes, allows });
+        if matches(pattern, text) {
+            return Some(Best { bytes, allows });
+        }
+        return best;
     };
     if bytes < old.bytes {
+        return best;
+    }
+    if !matches(pattern, text) {
         return best;
     }
     if old.bytes < bytes {

@@ -2,7 +2,7 @@ use crate::laws::{
     empty_patterns_match_nothing, first_rules_are_of_no_group, question_marks_part_forms,
     rules_are_decided, what_is_allowed_always,
 };
-use crate::{Robots, RobotsError, Verdict, is_product_token, matches, subject_of};
+use crate::{LineError, Robots, RobotsError, Verdict, is_product_token, matches, subject_of};
 use iri_grammar::spec::{IriSpec, Spec, UriSpec};
 use iri_types::view::RiStr;
 use std::alloc::{AllocError, Global};
@@ -29,6 +29,11 @@ fn patterns_match(rt: HostRuntime) {
         ("$", ""),
         ("*$", "abc"),
         ("/a*b*ab$", "/aabbabab"),
+        ("*ab%2Acd*e", "/ab%24abxab*cdab%2Acde"),
+        ("*b%24%24$", "/b$b%24$b$$"),
+        ("*a$%24b", "/a$$a%24a$%24b"),
+        ("*2Ab", "/%2Ab"),
+        ("*%2*A$", "%2A"),
     ] {
         assert!(rt;
             matches(pattern.as_bytes(), text.as_bytes()),
@@ -53,6 +58,11 @@ fn patterns_do_not_match(rt: HostRuntime) {
         ("$", "/"),
         ("/a*b*ab$", "/aabbaba"),
         ("/a*", "/b/a"),
+        ("*ab%2Acd", "/ab%24cdab%2Axab*"),
+        ("*b%24$", "/b$b%24x"),
+        ("*a$b", "/a%24b"),
+        ("*%2*A$", "*"),
+        ("*ab*b$", "/ab"),
     ] {
         assert!(rt;
             !matches(pattern.as_bytes(), text.as_bytes()),
@@ -61,7 +71,7 @@ fn patterns_do_not_match(rt: HostRuntime) {
     }
 }
 
-// A thousand stars are searched in no more than the product of the lengths.
+// A thousand stars are searched, each at its leftmost place.
 #[test]
 fn many_stars(rt: HostRuntime) -> Result<(), Fail> {
     let mut pattern = Vec::new(rt.alloc());
@@ -321,8 +331,40 @@ fn tokens(rt: HostRuntime) -> Result<(), Fail> {
     Ok(())
 }
 
+// `%2A`, `%24` and `$` count, in the form in which patterns are compared.
+#[test]
+fn rules_of_many_escapes(rt: HostRuntime) -> Result<(), Fail> {
+    for (rule, most, subject, stored) in [
+        ("disallow: /*%2a%24$", 3, "/x*$", true),
+        ("disallow: /*%2a%24$", 2, "/x*$", false),
+        ("disallow: /$b%252a", 1, "/$b%252a", true),
+        ("disallow: /$b%252a", 0, "/$b%252a", false),
+        ("disallow: /*a*b", 0, "/xaxb", true),
+    ] {
+        let mut robots = fed(rt.alloc(), "a", &["user-agent: a"])?;
+        match robots.feed_line_within(rule.as_bytes(), most) {
+            Ok(()) => assert!(rt; stored, "{rule}"),
+            Err(LineError::Escapes) => assert!(rt; !stored, "{rule}"),
+            Err(error) => Err(error)?,
+        }
+        assert!(rt; allows(&robots, subject) != stored, "{rule}");
+        robots.feed_line_within(b"sitemap: $$$", 0)?;
+    }
+    Ok(())
+}
+
 #[test]
 fn errors_in_words(rt: HostRuntime) -> Result<(), Fail> {
+    let escapes = LineError::Escapes;
+    assert_eq!(rt;
+        format!(in rt.alloc(); "{escapes}")?.as_str(),
+        "too many escapes"
+    );
+    let memory = LineError::Memory(AllocError);
+    assert_eq!(rt;
+        format!(in rt.alloc(); "{memory}")?.as_str(),
+        "memory allocation failed"
+    );
     let token = RobotsError::Token;
     assert_eq!(rt;
         format!(in rt.alloc(); "{token}")?.as_str(),
