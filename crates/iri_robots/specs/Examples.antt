@@ -11,13 +11,18 @@ use Rattle.iri_percent.specs.Units.{first_char}
 use Rattle.iri_robots.specs.Compared.{compared}
 use Rattle.iri_robots.specs.FileLines.{AgentLine, RuleLine, OtherLine, byte_order_mark, line_of}
 use Rattle.iri_robots.specs.Records.{FileRule, UserAgent, Judged, groups, rules_for}
-use Rattle.iri_robots.specs.Patterns.{IsFilling, nothing, star, escaped_star, same, digit_two, capital_a, without_anchor}
+use Rattle.iri_robots.specs.Patterns.{IsFilling, nothing, star, escaped_star, same, digit_two, capital_a, without_anchor, escapes}
 
 anchor : without_anchor (codes "/*.gif$") ≡ codes "/*.gif"
 anchor = refl
 
 no_anchor : without_anchor (codes "/$a") ≡ codes "/$a"
 no_anchor = refl
+
+-- the triplets of a star and of a `$`, and a `$`; a small letter is no escape's
+counted : escapes (codes "/*%2A%24x%2a$") ≡ 3
+unfolding escapes
+counted = refl
 
 abbrev small_a : ℕ
 small_a = 97
