@@ -11,21 +11,23 @@ use Rattle.iri_percent.specs.Encoding.{encoded, encoded_char}
 use Rattle.iri_percent.specs.Mapping.{triplets}
 use Rattle.iri_grammar.specs.Pieces.{pieces}
 use Rattle.iri_text.specs.Shown.{AreSinkLaws}
-use Rattle.iri_template.specs.Portions.{Portion, outside, varspec_portions, portions_from, portions, portions_fault, portions_text}
+use Rattle.iri_template.specs.Portions.{Portion, outside, varspec_portions, portions_from, portions, portions_fault, portions_text, calls_in}
 use Rattle.iri_template.specs.Reading.{varspec_of, pieces_from, pieces_of}
 use Rattle.iri_template.specs.Template.{Piece, literal, triplet, expression, VarSpec, operator_text, piece_text, template_text, names_of}
+use Rattle.iri_template.specs.Fault.{fault}
 use Rattle.iri_template.specs.Tells.{Telling, later, WhereTold, MovesBy}
-use Rattle.iri_template.specs.Writings.{EndsAs}
-use Rattle.iri_template.specs.inside.PartEnds.{PartEnds, calls_of, begin_behind}
+use Rattle.iri_template.specs.Writings.{EndsAs, CallsUpTo}
+use Rattle.iri_template.specs.inside.PartEnds.{PartEnds, PartCalls, calls_of, begin_behind}
 use Rattle.iri_template.specs.inside.Parts.{part_pieces, IsPlaced}
 use Rattle.iri_template.specs.declared.error.Error.{Error}
-use Rattle.iri_template.specs.declared.error.ErrorKind.TheVariants.{WriteFailed}
+use Rattle.iri_template.specs.declared.error.ErrorKind.TheVariants.{WriteFailed, UnexpectedValueType}
 use Rattle.iri_template.specs.declared.operator.Operator.{Operator}
 use Rattle.iri_template.specs.declared.part.Part.{Part}
 use Rattle.iri_template.specs.declared.part.Part.TheVariants as part
 use Rattle.iri_template.proofs.PartWalk.{PartCut}
-use Rattle.iri_template.proofs.PortionWalk.{fault_behind, text_behind, HasEnded, ended_more, ended_exit, ended_end}
-use Rattle.iri_template.proofs.TellWalk.{BothTold, later_none, moved_on}
+use Rattle.iri_template.proofs.PortionWalk.{fault_behind, text_behind, calls_append, HasEnded, ended_more, ended_exit, ended_calls, ended_end}
+use Rattle.iri_template.proofs.TellWalk.{BothTold, later_none, moved_on, moves_none}
+use Rattle.iri_template.proofs.VarSpecPortions.{calls_of_all}
 use Rattle.iri_template.proofs.Walks.{names_append, literals_have_none}
 
 -- ---- literals and triplets
@@ -36,6 +38,10 @@ outside_fault at (x ∷ xs) = refl
 pub outside_text : (at : ℕ) (t : List ℕ) → portions_text (outside at t) ≡ t
 outside_text at [] = refl
 outside_text at (x ∷ xs) = append-nil (x ∷ xs)
+
+outside_calls : (at : ℕ) (t : List ℕ) → calls_in (outside at t) ≡ 0
+outside_calls at [] = refl
+outside_calls at (x ∷ xs) = refl
 
 -- what literals write
 abbrev written : Tests → List ℕ → List ℕ
@@ -82,13 +88,13 @@ literals_are s t = refl
 record Begins (s : Tests) (f : Telling) (at here : ℕ) (front : List ℕ) (ps : List Piece) : Type 0 where
   more : List ℕ
   others : List Portion
-  split : portions_from s f at here front ps ≡ (record { location = at; text = front ++ more; mistyped = false }) ∷ others
+  split : portions_from s f at here front ps ≡ (record { location = at; text = front ++ more; mistyped = false; calls = 0 }) ∷ others
 
 begins : (s : Tests) (f : Telling) (at here x : ℕ) (xs : List ℕ) (ps : List Piece) → Begins s f at here (x ∷ xs) ps
 begins s f at here x xs [] = record {
   more = [];
   others = [];
-  split = ap (λ l. (record { location = at; text = l; mistyped = false }) ∷ []) (sym (append-nil (x ∷ xs)));
+  split = ap (λ l. (record { location = at; text = l; mistyped = false; calls = 0 }) ∷ []) (sym (append-nil (x ∷ xs)));
 }
 begins s f at here x xs (literal c ∷ ps) =
     let one = encoded_char (any_char s) c in
@@ -96,7 +102,7 @@ begins s f at here x xs (literal c ∷ ps) =
     record {
       more = one ++ b.more;
       others = b.others;
-      split = b.split ∙ ap (λ l. (record { location = at; text = l; mistyped = false }) ∷ b.others) (append_assoc (x ∷ xs) one b.more);
+      split = b.split ∙ ap (λ l. (record { location = at; text = l; mistyped = false; calls = 0 }) ∷ b.others) (append_assoc (x ∷ xs) one b.more);
     }
 begins s f at here x xs (triplet a b ∷ ps) =
     let k = begins s f at (here + 3) x (xs ++ percent_sign ∷ a ∷ b ∷ []) ps in
@@ -104,7 +110,7 @@ begins s f at here x xs (triplet a b ∷ ps) =
       more = percent_sign ∷ a ∷ b ∷ k.more;
       others = k.others;
       split = k.split
-          ∙ ap (λ l. (record { location = at; text = l; mistyped = false }) ∷ k.others) (append_assoc (x ∷ xs) (percent_sign ∷ a ∷ b ∷ []) k.more);
+          ∙ ap (λ l. (record { location = at; text = l; mistyped = false; calls = 0 }) ∷ k.others) (append_assoc (x ∷ xs) (percent_sign ∷ a ∷ b ∷ []) k.more);
     }
 begins s f at here x xs (expression operator vs ∷ ps) =
     let there = here + length (piece_text (expression operator vs)) in
@@ -113,11 +119,22 @@ begins s f at here x xs (expression operator vs ∷ ps) =
     record {
       more = [];
       others = behind;
-      split = ap (λ l. (record { location = at; text = l; mistyped = false }) ∷ behind) (sym (append-nil (x ∷ xs)));
+      split = ap (λ l. (record { location = at; text = l; mistyped = false; calls = 0 }) ∷ behind) (sym (append-nil (x ∷ xs)));
     }
 
+-- a text within the portion behind those that are done
+record StandsAt (all done : List Portion) (at : ℕ) (t : List ℕ) : Type 0 where
+  here : Portion
+  rest : List Portion
+  more : List ℕ
+  split : all ≡ done ++ here ∷ rest
+  text : here.text ≡ t ++ more
+  right : here.mistyped ≡ false
+  location : here.location ≡ at
+  none : here.calls ≡ 0
+
 -- ---- what the loop keeps true: the portions in front went in, and the literals and triplets `front` of the one that is being written
-pub record HasReached {W : Type 0} (s : Tests) (puts : W → List ℕ → W → Type 0) (all : List Portion) (old : W) (h : Telling) (begin here : ℕ)
+pub record HasReached {W : Type 0} (s : Tests) (puts : W → List ℕ → W → Type 0) (all : List Portion) (old : W) (f h : Telling) (begin here : ℕ)
     (rest : List ℕ) (new : W) : Type 0 where
   pub done : List Portion
   pub front : List ℕ
@@ -126,23 +143,27 @@ pub record HasReached {W : Type 0} (s : Tests) (puts : W → List ℕ → W → 
   pub fine : portions_fault done ≡ None
   pub put : puts old (portions_text done) mid
   pub into : puts mid front new
+  pub moved : MovesBy (calls_in done) (Some f) (Some h)
 
-module _ {W : Type 0} (s : Tests) (puts halts : W → List ℕ → W → Type 0) (laws : AreSinkLaws puts halts) (all : List Portion) (a : W) where
+module _ {W : Type 0} (s : Tests) (puts halts : W → List ℕ → W → Type 0) (laws : AreSinkLaws puts halts) (all : List Portion) (a : W) (f : Telling) where
   -- the portion that was being written has ended
-  reached_ended : (h : Telling) (begin here : ℕ) (rest : List ℕ) (left : List Portion) (b : W) (p : HasReached s puts all a h begin here rest b)
-      → portions_from s h begin here p.front (pieces_of rest) ≡ outside begin p.front ++ left → HasEnded puts all a left b
+  reached_ended : (h : Telling) (begin here : ℕ) (rest : List ℕ) (left : List Portion) (b : W) (p : HasReached s puts all a f h begin here rest b)
+      → portions_from s h begin here p.front (pieces_of rest) ≡ outside begin p.front ++ left → HasEnded puts all a left b f h
   reached_ended h begin here rest left b p e = record {
     done = p.done ++ outside begin p.front;
     split = p.split ∙ ap (λ l. p.done ++ l) e ∙ sym (append_assoc p.done (outside begin p.front) left);
     fine = fault_behind p.done (outside begin p.front) p.fine ∙ outside_fault begin p.front;
     put = subst (λ l. puts a l b) (sym (text_behind p.done (outside begin p.front) p.fine
         ∙ ap (λ l. portions_text p.done ++ l) (outside_text begin p.front))) (laws.both a p.mid b _ _ p.put p.into);
+    moved = let n : calls_in p.done ≡ calls_in (p.done ++ outside begin p.front) =
+        omega (arith, calls_append p.done (outside begin p.front), outside_calls begin p.front) in
+        subst (λ k. MovesBy k (Some f) (Some h)) n p.moved;
   }
 
-  reached_all : (h : Telling) (begin here : ℕ) (rest : List ℕ) (b : W) (x : Unit {0}) → length rest ≡ 0 → HasReached s puts all a h begin here rest b
+  reached_all : (h : Telling) (begin here : ℕ) (rest : List ℕ) (b : W) (x : Unit {0}) → length rest ≡ 0 → HasReached s puts all a f h begin here rest b
       → EndsAs puts halts all a b (Ok x)
   unfolding pieces_from
-  reached_all h begin here [] b x z p = ended_end puts halts laws all a b x (reached_ended h begin here [] [] b p (sym (append-nil (outside begin p.front))))
+  reached_all h begin here [] b x z p = ended_end puts halts laws all a b x f h (reached_ended h begin here [] [] b p (sym (append-nil (outside begin p.front))))
   reached_all h begin here (y ∷ ys) b x z p = absurd (omega arith)
 
   -- ---- literals and triplets
@@ -150,10 +171,10 @@ module _ {W : Type 0} (s : Tests) (puts halts : W → List ℕ → W → Type 0)
       (stands : (front : List ℕ)
       → portions_from s h begin here front (pieces_are ++ pieces_of r) ≡ portions_from s h begin there (front ++ x) (pieces_of r))
       (b c : W) where
-    longer : (p : HasReached s puts all a h begin here t b) → all ≡ p.done ++ portions_from s h begin there (p.front ++ x) (pieces_of r)
+    longer : (p : HasReached s puts all a f h begin here t b) → all ≡ p.done ++ portions_from s h begin there (p.front ++ x) (pieces_of r)
     longer p = p.split ∙ ap (λ l. p.done ++ l) (ap (portions_from s h begin here p.front) cut ∙ stands p.front)
 
-    literals_more : puts b x c → HasReached s puts all a h begin here t b → HasReached s puts all a h begin there r c
+    literals_more : puts b x c → HasReached s puts all a f h begin here t b → HasReached s puts all a f h begin there r c
     literals_more q p = record {
       done = p.done;
       front = p.front ++ x;
@@ -162,30 +183,60 @@ module _ {W : Type 0} (s : Tests) (puts halts : W → List ℕ → W → Type 0)
       fine = p.fine;
       put = p.put;
       into = laws.both p.mid b c _ _ p.into q;
+      moved = p.moved;
     }
 
-    literals_exit : 0 < length x → (error : Error) → error ≡ record { kind = WriteFailed; location = begin } → halts b x c
-        → HasReached s puts all a h begin here t b → EndsAs puts halts all a c (Err error)
-    literals_exit some error is q p = subst (λ (e : Error). EndsAs puts halts all a c (Err e)) (sym is) (stopped (p.front ++ x) refl)
+    -- they are among the portion behind those that went in
+    literals_stand_at : 0 < length x → (p : HasReached s puts all a f h begin here t b) → StandsAt all p.done begin (p.front ++ x)
+    literals_stand_at some p = found (p.front ++ x) refl
       where
-        stopped : (front : List ℕ) → front ≡ p.front ++ x → EndsAs puts halts all a c (Err (record { kind = WriteFailed; location = begin }))
-        stopped [] e = let z = ap length e in absurd (omega (arith, length-append p.front x))
-        stopped (z ∷ zs) e =
+        found : (front : List ℕ) → front ≡ p.front ++ x → StandsAt all p.done begin (p.front ++ x)
+        found [] e = let z = ap length e in absurd (omega (arith, length-append p.front x))
+        found (z ∷ zs) e =
             let k = begins s h begin there z zs (pieces_of r) in
-            let here_is : Portion = record { location = begin; text = (z ∷ zs) ++ k.more; mistyped = false } in
             record {
-              reached = record {
-                front = p.done;
-                here = here_is;
-                rest = k.others;
-                split = longer p ∙ ap (λ l. p.done ++ portions_from s h begin there l (pieces_of r)) (sym e) ∙ ap (λ l. p.done ++ l) k.split;
-                fine = fault_behind p.done (here_is ∷ []) p.fine;
-                location = refl;
-              };
-              mid = p.mid;
-              put = p.put;
-              halt = laws.within p.mid c (z ∷ zs) k.more (subst (λ l. halts p.mid l c) (sym e) (laws.until p.mid b c p.front x p.into q));
+              here = record { location = begin; text = (z ∷ zs) ++ k.more; mistyped = false; calls = 0 };
+              rest = k.others;
+              more = k.more;
+              split = longer p ∙ ap (λ l. p.done ++ portions_from s h begin there l (pieces_of r)) (sym e) ∙ ap (λ l. p.done ++ l) k.split;
+              text = ap (λ l. l ++ k.more) e;
+              right = refl;
+              location = refl;
+              none = refl;
             }
+
+    literals_exit : 0 < length x → (error : Error) → error ≡ record { kind = WriteFailed; location = begin } → halts b x c
+        → HasReached s puts all a f h begin here t b → EndsAs puts halts all a c (Err error)
+    literals_exit some error is q p =
+        let d = literals_stand_at some p in
+        subst (λ (e : Error). EndsAs puts halts all a c (Err e)) (sym is) (record {
+          reached = record {
+            front = p.done;
+            here = d.here;
+            rest = d.rest;
+            split = d.split;
+            fine = fault_behind p.done (d.here ∷ []) p.fine ∙ ap (λ b. cond b (fault UnexpectedValueType d.here.location) None) d.right;
+            location = d.location;
+          };
+          mid = p.mid;
+          put = p.put;
+          halt = subst (λ l. halts p.mid l c) (sym d.text) (laws.within p.mid c (p.front ++ x) d.more (laws.until p.mid b c p.front x p.into q));
+        })
+
+    literals_calls : 0 < length x → (at : ℕ) (now : Option Telling) → at ≡ begin → now ≡ Some h → HasReached s puts all a f h begin here t b
+        → CallsUpTo all at 0 (Some f) now
+    literals_calls some at now is same p =
+        let d = literals_stand_at some p in
+        let n : calls_in p.done ≡ calls_in p.done + d.here.calls + 0 = omega (arith, d.none) in
+        record {
+          front = p.done;
+          here = d.here;
+          rest = d.rest;
+          split = d.split;
+          fine = p.fine;
+          location = d.location ∙ sym is;
+          moves = subst (λ k. MovesBy k (Some f) now) n (subst (λ u. MovesBy (calls_in p.done) (Some f) u) (sym same) p.moved);
+        }
 
   -- ---- an expression
   module _ (h : Telling) (begin here : ℕ) (t r : List ℕ) (operator : Operator) (vs : List VarSpec) (at : ℕ)
@@ -196,8 +247,8 @@ module _ {W : Type 0} (s : Tests) (puts halts : W → List ℕ → W → Type 0)
     abbrev behind_it : ℕ → List Portion
     behind_it there = portions_from s (later (2 * length vs) h) there there [] (pieces_of r)
 
-    opened : (there : ℕ) → there ≡ here + length (piece_text (expression operator vs)) → HasReached s puts all a h begin here t b
-        → HasEnded puts all a (inner ++ behind_it there) b
+    opened : (there : ℕ) → there ≡ here + length (piece_text (expression operator vs)) → HasReached s puts all a f h begin here t b
+        → HasEnded puts all a (inner ++ behind_it there) b f h
     opened there e p =
         reached_ended h begin here t (inner ++ behind_it there) b p (ap (portions_from s h begin here p.front) cut
         ∙ ap (λ n. outside begin p.front ++ (varspec_portions s operator h n false vs
@@ -205,9 +256,11 @@ module _ {W : Type 0} (s : Tests) (puts halts : W → List ℕ → W → Type 0)
         ∙ ap (λ n. outside begin p.front ++ (inner ++ behind_it n)) (sym e))
 
     expression_more : (there : ℕ) (x : Unit {0}) → there ≡ here + length (piece_text (expression operator vs)) → EndsAs puts halts inner b c (Ok x)
-        → HasReached s puts all a h begin here t b → HasReached s puts all a (later (2 * length vs) h) there there r c
+        → HasReached s puts all a f h begin here t b → HasReached s puts all a f (later (2 * length vs) h) there there r c
     expression_more there x e q p =
-        let k = ended_more puts halts laws all inner (behind_it there) a b c x (opened there e p) q in
+        let two : calls_in inner ≡ 2 * length vs = calls_of_all s operator h at false vs q.0 in
+        let k = ended_more puts halts laws all inner (behind_it there) a b c x f h (later (2 * length vs) h)
+        (subst (λ n. MovesBy n (Some h) (Some (later (2 * length vs) h))) (sym two) (λ k name purpose. refl)) (opened there e p) q in
         record {
           done = k.done;
           front = [];
@@ -216,13 +269,20 @@ module _ {W : Type 0} (s : Tests) (puts halts : W → List ℕ → W → Type 0)
           fine = k.fine;
           put = k.put;
           into = laws.none c;
+          moved = k.moved;
         }
 
-    expression_exit : (error : Error) → EndsAs puts halts inner b c (Err error) → HasReached s puts all a h begin here t b
+    expression_exit : (error : Error) → EndsAs puts halts inner b c (Err error) → HasReached s puts all a f h begin here t b
         → EndsAs puts halts all a c (Err error)
     expression_exit error q p =
         let there = here + length (piece_text (expression operator vs)) in
-        ended_exit puts halts laws all inner (behind_it there) a b c error (opened there refl p) q
+        ended_exit puts halts laws all inner (behind_it there) a b c f h error (opened there refl p) q
+
+    expression_calls : (at_now : ℕ) (now : Option Telling) → CallsUpTo inner at_now 0 (Some h) now → HasReached s puts all a f h begin here t b
+        → CallsUpTo all at_now 0 (Some f) now
+    expression_calls at_now now q p =
+        let there = here + length (piece_text (expression operator vs)) in
+        ended_calls puts halts laws all inner (behind_it there) a b f h at_now now (opened there refl p) q
 
   -- ---- a part
   moved_none : (h k : Telling) → MovesBy 0 (Some h) (Some k) → h ≡ k
@@ -245,27 +305,27 @@ module _ {W : Type 0} (s : Tests) (puts halts : W → List ℕ → W → Type 0)
 
   part_more : (p : Part) (t r x : List ℕ) (begin here there : ℕ) (b c : W) (y : Unit {0}) → PartCut p t r → IsPlaced p here
       → x ≡ template_text (part_pieces p) → there ≡ here + (length t - length r) → (h k : Telling) → MovesBy (calls_of p) (Some h) (Some k)
-      → PartEnds s puts halts begin x b c (Ok y) p h → HasReached s puts all a h begin here t b
-      → HasReached s puts all a k (begin_behind p begin there) there r c
+      → PartEnds s puts halts begin x b c (Ok y) p h → HasReached s puts all a f h begin here t b
+      → HasReached s puts all a f k (begin_behind p begin there) there r c
   part_more (part.Literals l) t r x begin here there b c y cut placed text e h k m q p =
-      subst (λ (n : Telling). HasReached s puts all a n begin there r c) (moved_none h k m)
+      subst (λ (n : Telling). HasReached s puts all a f n begin there r c) (moved_none h k m)
       (literals_more h begin here there t r (encoded (any_char s) l.now) (map literal (chars l.now)) cut.pieces
       (literals_stand h begin here there l.now r (omega (arith, cut.len, e))) b c q p)
   part_more (part.Triplet l) t r x begin here there b c y cut placed text e h k m q p =
       let z = ap length text in
-      subst (λ (n : Telling). HasReached s puts all a n begin there r c) (moved_none h k m)
+      subst (λ (n : Telling). HasReached s puts all a f n begin there r c) (moved_none h k m)
       (literals_more h begin here there t r x (part_pieces (part.Triplet l)) cut.pieces
       (λ front. triplet_stands h begin here there l front x r (omega (arith, z, cut.len, e)) text) b c q p)
   part_more (part.Expression x) t r u begin here there b c y cut placed text e h k m q p =
       let vs = map varspec_of (pieces 44 x.varspecs.now) in
       let z : length (template_text (part_pieces (part.Expression x))) ≡ length (piece_text (expression x.operator vs)) =
       ap length (append-nil (piece_text (expression x.operator vs))) in
-      subst (λ (n : Telling). HasReached s puts all a n there there r c) (sym (moved_on (2 * length vs) h k m))
+      subst (λ (n : Telling). HasReached s puts all a f n there there r c) (sym (moved_on (2 * length vs) h k m))
       (expression_more h begin here t r x.operator vs x.location cut.pieces placed b c there y (omega (arith, z, cut.len)) q p)
 
   part_exit : (p : Part) (t r x : List ℕ) (begin here : ℕ) (b c : W) (error : Error) → PartCut p t r → IsPlaced p here
       → x ≡ template_text (part_pieces p) → length r < length t → (h : Telling)
-      → PartEnds s puts halts begin x b c (Err error) p h → HasReached s puts all a h begin here t b → EndsAs puts halts all a c (Err error)
+      → PartEnds s puts halts begin x b c (Err error) p h → HasReached s puts all a f h begin here t b → EndsAs puts halts all a c (Err error)
   part_exit (part.Literals l) t r x begin here b c error cut placed text shorter h q p =
       let there = here + length (template_text (map literal (chars l.now))) in
       let some : 0 < length (encoded (any_char s) l.now) = subst (λ w. 0 < length w) (literals_are s l.now)
@@ -279,13 +339,29 @@ module _ {W : Type 0} (s : Tests) (puts halts : W → List ℕ → W → Type 0)
   part_exit (part.Expression x) t r u begin here b c error cut placed text shorter h q p =
       expression_exit h begin here t r x.operator (map varspec_of (pieces 44 x.varspecs.now)) x.location cut.pieces placed b c error q p
 
+  part_calls : (p : Part) (t r x : List ℕ) (begin here : ℕ) (b c : W) (at : ℕ) (now : Option Telling) → PartCut p t r → IsPlaced p here
+      → x ≡ template_text (part_pieces p) → length r < length t → (h : Telling)
+      → PartCalls s at begin (Some h) now p h → HasReached s puts all a f h begin here t b → CallsUpTo all at 0 (Some f) now
+  part_calls (part.Literals l) t r x begin here b c at now cut placed text shorter h q p =
+      let there = here + length (template_text (map literal (chars l.now))) in
+      let some : 0 < length (encoded (any_char s) l.now) = subst (λ w. 0 < length w) (literals_are s l.now)
+      (literals_written s (chars l.now) (omega (arith, cut.len, shorter))) in
+      literals_calls h begin here there t r (encoded (any_char s) l.now) (map literal (chars l.now)) cut.pieces
+      (literals_stand h begin here there l.now r refl) b c some at now q.0 q.1 p
+  part_calls (part.Triplet l) t r x begin here b c at now cut placed text shorter h q p =
+      let z = ap length text in
+      literals_calls h begin here (here + length x) t r x (part_pieces (part.Triplet l)) cut.pieces
+      (λ front. triplet_stands h begin here (here + length x) l front x r refl text) b c (omega (arith, z, cut.len)) at now q.0 q.1 p
+  part_calls (part.Expression x) t r u begin here b c at now cut placed text shorter h q p =
+      expression_calls h begin here t r x.operator (map varspec_of (pieces 44 x.varspecs.now)) x.location cut.pieces placed b c at now q p
+
 -- ---- the loop, where the context tells
 module _ {W : Type 0} (s : Tests) (puts halts : W → List ℕ → W → Type 0) (laws : AreSinkLaws puts halts) (whole : List ℕ) (a : W) where
   abbrev all_of : Telling → List Portion
   all_of f = portions s f (pieces_of whole)
 
   abbrev pub ReachedUpTo : ℕ → List ℕ → W → Telling → Telling → Type 0
-  ReachedUpTo begin rest b f h = HasReached s puts (all_of f) a h begin (length whole - length rest) rest b
+  ReachedUpTo begin rest b f h = HasReached s puts (all_of f) a f h begin (length whole - length rest) rest b
 
   pub reached_none : (t : Option Telling) → BothTold t t (ReachedUpTo 0 whole a)
   reached_none None = tt
@@ -299,6 +375,7 @@ module _ {W : Type 0} (s : Tests) (puts halts : W → List ℕ → W → Type 0)
         fine = refl;
         put = laws.none a;
         into = laws.none a;
+        moved = moves_none (Some f);
       }
 
   pub reached_more : (p : Part) (t r x : List ℕ) (begin : ℕ) (b c : W) (y : Unit {0}) → PartCut p t r → IsPlaced p (length whole - length t)
@@ -309,7 +386,7 @@ module _ {W : Type 0} (s : Tests) (puts halts : W → List ℕ → W → Type 0)
   reached_more p t r x begin b c y cut placed text shorter within (Some f) None z i m q = absurd i
   reached_more p t r x begin b c y cut placed text shorter within (Some f) (Some h) None i m q = absurd m
   reached_more p t r x begin b c y cut placed text shorter within (Some f) (Some h) (Some k) i m q =
-      part_more s puts halts laws (all_of f) a p t r x begin (length whole - length t) (length whole - length r) b c y cut placed text (omega arith) h k m q i
+      part_more s puts halts laws (all_of f) a f p t r x begin (length whole - length t) (length whole - length r) b c y cut placed text (omega arith) h k m q i
 
   pub reached_exit : (p : Part) (t r x : List ℕ) (begin : ℕ) (b c : W) (error : Error) → PartCut p t r → IsPlaced p (length whole - length t)
       → x ≡ template_text (part_pieces p) → length r < length t → (u w : Option Telling)
@@ -318,13 +395,21 @@ module _ {W : Type 0} (s : Tests) (puts halts : W → List ℕ → W → Type 0)
   reached_exit p t r x begin b c error cut placed text shorter None w i q = tt
   reached_exit p t r x begin b c error cut placed text shorter (Some f) None i q = absurd i
   reached_exit p t r x begin b c error cut placed text shorter (Some f) (Some h) i q =
-      part_exit s puts halts laws (all_of f) a p t r x begin (length whole - length t) b c error cut placed text shorter h q i
+      part_exit s puts halts laws (all_of f) a f p t r x begin (length whole - length t) b c error cut placed text shorter h q i
+
+  pub reached_calls : (p : Part) (t r x : List ℕ) (begin : ℕ) (b c : W) (at : ℕ) → PartCut p t r → IsPlaced p (length whole - length t)
+      → x ≡ template_text (part_pieces p) → length r < length t → (u w z : Option Telling)
+      → BothTold u w (ReachedUpTo begin t b) → WhereTold w (PartCalls s at begin w z p) → WhereTold u (λ f. CallsUpTo (all_of f) at 0 u z)
+  reached_calls p t r x begin b c at cut placed text shorter None w z i q = tt
+  reached_calls p t r x begin b c at cut placed text shorter (Some f) None z i q = absurd i
+  reached_calls p t r x begin b c at cut placed text shorter (Some f) (Some h) z i q =
+      part_calls s puts halts laws (all_of f) a f p t r x begin (length whole - length t) b c at z cut placed text shorter h q i
 
   pub reached_end : (t : List ℕ) (begin : ℕ) (b : W) (y : Unit {0}) → length t ≡ 0 → (u w : Option Telling) → BothTold u w (ReachedUpTo begin t b)
       → WhereTold u (λ f. EndsAs puts halts (all_of f) a b (Ok y))
   reached_end t begin b y z None w i = tt
   reached_end t begin b y z (Some f) None i = absurd i
-  reached_end t begin b y z (Some f) (Some h) i = reached_all s puts halts laws (all_of f) a h begin (length whole - length t) t b y z i
+  reached_end t begin b y z (Some f) (Some h) i = reached_all s puts halts laws (all_of f) a f h begin (length whole - length t) t b y z i
 
 -- ---- how many varspecs there are
 abbrev pub names_in : List ℕ → ℕ

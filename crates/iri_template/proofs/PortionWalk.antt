@@ -1,14 +1,16 @@
 -- How the writing of portions goes on: lists of portions one after the other, and what is still to be written.
-use Rattle.std.proofs.Common.{◌≡◌, ℕ, true, false, cond, List, [], ◌∷◌, ◌++◌, None, Some, refl, sym, ◌∙◌, ap, subst}
-use Rattle.std.proofs.Common.{append_assoc, append-nil, Ok, Err}
+use Rattle.std.proofs.Common.{◌≡◌, ℕ, ◌+◌, true, false, cond, List, [], ◌∷◌, ◌++◌, Option, None, Some, refl, sym, ◌∙◌, ap, subst, arith}
+use Rattle.std.proofs.Common.{append_assoc, append-nil, Result, Ok, Err, IfErr}
 use Rattle.iri_text.specs.Shown.{AreSinkLaws}
 use Rattle.iri_template.specs.Fault.{fault}
-use Rattle.iri_template.specs.Portions.{Portion, portions_fault, portions_text}
-use Rattle.iri_template.specs.Writings.{StopsAt, IsRefused, EndsAs}
+use Rattle.iri_template.specs.Portions.{Portion, portions_fault, portions_text, calls_in}
+use Rattle.iri_template.specs.Tells.{Telling, later, WhereTold, MovesBy}
+use Rattle.iri_template.specs.Writings.{StopsAt, IsRefused, EndsAs, CallsUpTo}
 use Rattle.iri_template.specs.declared.error.Error.{Error}
 use Rattle.iri_template.specs.declared.error.ErrorKind.{ErrorKind}
 use Rattle.iri_template.specs.declared.error.ErrorKind.TheVariants.{WriteFailed, ExpressionNotClosed, InvalidCharacter, InvalidExpression}
 use Rattle.iri_template.specs.declared.error.ErrorKind.TheVariants.{InvalidPercentEncoding, InvalidUtf8, UnexpectedValueType, UnsupportedOperator, Memory}
+use Rattle.iri_template.proofs.TellWalk.{moves_none, moves_more, moved_on}
 
 -- ---- behind portions that aren't mistyped
 pub fault_behind : (ps qs : List Portion) → portions_fault ps ≡ None → portions_fault (ps ++ qs) ≡ portions_fault qs
@@ -48,43 +50,57 @@ text_in_front (p ∷ ps) qs e h =
       | false ↦ λ k. ap (λ l. p.text ++ l) (text_in_front ps qs e k)
     ] h
 
--- ---- what a loop keeps true: the portions in front of those that are left went in
-pub record HasEnded {W : Type 0} (puts : W → List ℕ → W → Type 0) (all : List Portion) (old : W) (left : List Portion) (new : W) : Type 0 where
+-- ---- the calls that they take
+pub calls_append : (ps qs : List Portion) → calls_in (ps ++ qs) ≡ calls_in ps + calls_in qs
+calls_append [] qs = omega arith
+calls_append (p ∷ ps) qs = let e = calls_append ps qs in omega (arith, e)
+
+-- ---- what a loop keeps true: the portions in front of those that are left went in, with the calls that they take
+pub record HasEnded {W : Type 0} (puts : W → List ℕ → W → Type 0) (all : List Portion) (old : W) (left : List Portion) (new : W) (f h : Telling)
+    : Type 0 where
   pub done : List Portion
   pub split : all ≡ done ++ left
   pub fine : portions_fault done ≡ None
   pub put : puts old (portions_text done) new
+  pub moved : MovesBy (calls_in done) (Some f) (Some h)
 
 module _ {W : Type 0} (puts halts : W → List ℕ → W → Type 0) (laws : AreSinkLaws puts halts) where
-  pub ended_none : (all : List Portion) (a : W) → HasEnded puts all a all a
-  ended_none all a = record { done = []; split = refl; fine = refl; put = laws.none a }
+  pub ended_none : (all : List Portion) (a : W) (f : Telling) → HasEnded puts all a all a f f
+  ended_none all a f = record { done = []; split = refl; fine = refl; put = laws.none a; moved = moves_none (Some f) }
 
-  pub ended_more : (all qs left : List Portion) (a b c : W) (x : Unit {0}) → HasEnded puts all a (qs ++ left) b → EndsAs puts halts qs b c (Ok x)
-      → HasEnded puts all a left c
-  ended_more all qs left a b c x h q = record {
+  pub ended_more : (all qs left : List Portion) (a b c : W) (x : Unit {0}) (f g k : Telling) → MovesBy (calls_in qs) (Some g) (Some k)
+      → HasEnded puts all a (qs ++ left) b f g → EndsAs puts halts qs b c (Ok x) → HasEnded puts all a left c f k
+  ended_more all qs left a b c x f g k m h q = record {
     done = h.done ++ qs;
     split = h.split ∙ sym (append_assoc h.done qs left);
     fine = fault_behind h.done qs h.fine ∙ q.0;
     put = subst (λ l. puts a l c) (sym (text_behind h.done qs h.fine)) (laws.both a b c _ _ h.put q.1);
+    moved = subst (λ n. MovesBy n (Some f) (Some k)) (sym (calls_append h.done qs))
+        (moves_more (calls_in h.done) (calls_in qs) (Some f) (Some g) (Some k) h.moved m);
   }
 
-  pub ended_end : (all : List Portion) (a b : W) (x : Unit {0}) → HasEnded puts all a [] b → EndsAs puts halts all a b (Ok x)
-  ended_end all a b x h =
+  pub ended_end : (all : List Portion) (a b : W) (x : Unit {0}) (f g : Telling) → HasEnded puts all a [] b f g → EndsAs puts halts all a b (Ok x)
+  ended_end all a b x f g h =
       let same : h.done ≡ all = sym (append-nil h.done) ∙ sym h.split in
       (ap portions_fault (sym same) ∙ h.fine, subst (λ ps. puts a (portions_text ps) b) same h.put)
 
+  -- a portion among the next ones
+  behind : (all qs left done front rest : List Portion) (here : Portion) → all ≡ done ++ (qs ++ left) → qs ≡ front ++ here ∷ rest
+      → all ≡ (done ++ front) ++ here ∷ (rest ++ left)
+  behind all qs left done front rest here e r = e ∙ ap (λ l. done ++ (l ++ left)) r
+      ∙ ap (λ l. done ++ l) (append_assoc front (here ∷ rest) left) ∙ sym (append_assoc done front (here ∷ (rest ++ left)))
+
   -- a stop within one of the next portions
-  stopped : (all qs left : List Portion) (a b c : W) (at : ℕ) → HasEnded puts all a (qs ++ left) b → StopsAt puts halts qs at b c
-      → StopsAt puts halts all at a c
-  stopped all qs left a b c at h q =
+  stopped : (all qs left : List Portion) (a b c : W) (f g : Telling) (at : ℕ) → HasEnded puts all a (qs ++ left) b f g
+      → StopsAt puts halts qs at b c → StopsAt puts halts all at a c
+  stopped all qs left a b c f g at h q =
       let r = q.reached in
       record {
         reached = record {
           front = h.done ++ r.front;
           here = r.here;
           rest = r.rest ++ left;
-          split = h.split ∙ ap (λ l. h.done ++ (l ++ left)) r.split ∙ ap (λ l. h.done ++ l) (append_assoc r.front (r.here ∷ r.rest) left)
-              ∙ sym (append_assoc h.done r.front (r.here ∷ (r.rest ++ left)));
+          split = behind all qs left h.done r.front r.rest r.here h.split r.split;
           fine = ap portions_fault (append_assoc h.done r.front (r.here ∷ [])) ∙ fault_behind h.done (r.front ++ r.here ∷ []) h.fine ∙ r.fine;
           location = r.location;
         };
@@ -93,22 +109,60 @@ module _ {W : Type 0} (puts halts : W → List ℕ → W → Type 0) (laws : Are
         halt = q.halt;
       }
 
-  refused : (all qs left : List Portion) (a b c : W) (e : Error) (kind : ErrorKind) → HasEnded puts all a (qs ++ left) b
+  refused : (all qs left : List Portion) (a b c : W) (f g : Telling) (e : Error) (kind : ErrorKind) → HasEnded puts all a (qs ++ left) b f g
       → IsRefused puts halts qs b c e kind → IsRefused puts halts all a c e kind
-  refused all qs left a b c e UnexpectedValueType h q = (
+  refused all qs left a b c f g e UnexpectedValueType h q = (
     ap portions_fault h.split ∙ fault_behind h.done (qs ++ left) h.fine ∙ fault_in_front qs left e q.0,
     subst (λ l. puts a l c) (sym (ap portions_text h.split ∙ text_behind h.done (qs ++ left) h.fine
         ∙ ap (λ l. portions_text h.done ++ l) (text_in_front qs left e q.0))) (laws.both a b c _ _ h.put q.1),
   )
-  refused all qs left a b c e WriteFailed h q = stopped all qs left a b c e.location h q
-  refused all qs left a b c e ExpressionNotClosed h q = absurd q
-  refused all qs left a b c e InvalidCharacter h q = absurd q
-  refused all qs left a b c e InvalidExpression h q = absurd q
-  refused all qs left a b c e InvalidPercentEncoding h q = absurd q
-  refused all qs left a b c e InvalidUtf8 h q = absurd q
-  refused all qs left a b c e UnsupportedOperator h q = absurd q
-  refused all qs left a b c e Memory h q = absurd q
+  refused all qs left a b c f g e WriteFailed h q = stopped all qs left a b c f g e.location h q
+  refused all qs left a b c f g e ExpressionNotClosed h q = absurd q
+  refused all qs left a b c f g e InvalidCharacter h q = absurd q
+  refused all qs left a b c f g e InvalidExpression h q = absurd q
+  refused all qs left a b c f g e InvalidPercentEncoding h q = absurd q
+  refused all qs left a b c f g e InvalidUtf8 h q = absurd q
+  refused all qs left a b c f g e UnsupportedOperator h q = absurd q
+  refused all qs left a b c f g e Memory h q = absurd q
 
-  pub ended_exit : (all qs left : List Portion) (a b c : W) (e : Error) → HasEnded puts all a (qs ++ left) b → EndsAs puts halts qs b c (Err e)
-      → EndsAs puts halts all a c (Err e)
-  ended_exit all qs left a b c e h q = refused all qs left a b c e e.kind h q
+  pub ended_exit : (all qs left : List Portion) (a b c : W) (f g : Telling) (e : Error) → HasEnded puts all a (qs ++ left) b f g
+      → EndsAs puts halts qs b c (Err e) → EndsAs puts halts all a c (Err e)
+  ended_exit all qs left a b c f g e h q = refused all qs left a b c f g e e.kind h q
+
+  -- the calls that were made then
+  pub ended_calls : (all qs left : List Portion) (a b : W) (f g : Telling) (at : ℕ) (now : Option Telling) → HasEnded puts all a (qs ++ left) b f g
+      → CallsUpTo qs at 0 (Some g) now → CallsUpTo all at 0 (Some f) now
+  ended_calls all qs left a b f g at now h q =
+      let e : calls_in h.done + (calls_in q.front + q.here.calls + 0) ≡ calls_in (h.done ++ q.front) + q.here.calls + 0 =
+      omega (arith, calls_append h.done q.front) in
+      record {
+        front = h.done ++ q.front;
+        here = q.here;
+        rest = q.rest ++ left;
+        split = behind all qs left h.done q.front q.rest q.here h.split q.split;
+        fine = fault_behind h.done q.front h.fine ∙ q.fine;
+        location = q.location;
+        moves = subst (λ n. MovesBy n (Some f) now) e
+            (moves_more (calls_in h.done) (calls_in q.front + q.here.calls + 0) (Some f) (Some g) now h.moved q.moves);
+      }
+
+-- ---- between the callbacks at the start and at the end of an expansion
+pub calls_between : (t u w z : Option Telling) (ps : Telling → List Portion) (r : Result (Unit {0}) Error) → MovesBy 1 t u → MovesBy 1 w z
+    → IfErr r (λ e. WhereTold u (λ f. CallsUpTo (ps f) e.location 0 u w))
+    → IfErr r (λ e. WhereTold t (λ f. CallsUpTo (ps (later 1 f)) e.location 2 t z))
+calls_between t u w z ps (Ok x) m n q = tt
+calls_between None u w z ps (Err e) m n q = tt
+calls_between (Some f) None w z ps (Err e) m n q = absurd m
+calls_between (Some f) (Some g) w z ps (Err e) m n q =
+    let k = calls_in q.front + q.here.calls in
+    let sum : 1 + (k + 0) + 1 ≡ k + 2 = omega arith in
+    record {
+      front = q.front;
+      here = q.here;
+      rest = q.rest;
+      split = ap ps (sym (moved_on 1 f g m)) ∙ q.split;
+      fine = q.fine;
+      location = q.location;
+      moves = subst (λ c. MovesBy c (Some f) z) sum
+          (moves_more (1 + (k + 0)) 1 (Some f) w z (moves_more 1 (k + 0) (Some f) (Some g) w m q.moves) n);
+    }

@@ -1,5 +1,5 @@
 -- The faults of varspecs, one by one.
-use Rattle.std.proofs.Common.{◌≡◌, ℕ, ◌+◌, ◌-◌, true, false, cond, Bool, List, ◌∷◌, length, take, map, Option, Some, None, refl, sym, ◌∙◌}
+use Rattle.std.proofs.Common.{◌≡◌, ℕ, ◌+◌, ◌-◌, true, false, cond, Bool, List, ◌∷◌, length, map, Option, Some, None, refl, sym, ◌∙◌}
 use Rattle.std.proofs.Common.{ap, arith, length-append}
 use Rattle.iri_grammar.specs.Cut.{before, behind, marked}
 use Rattle.iri_grammar.proofs.CutLaws.{joined}

@@ -1,5 +1,5 @@
 -- A walk over varspecs without a fault, where values may change: the portions of those that are left.
-use Rattle.std.proofs.Common.{◌≡◌, ℕ, ◌+◌, ◌-◌, Bool, false, ◌||◌, List, [], ◌∷◌, Option, None, Some, length, map, sym, ◌∙◌}
+use Rattle.std.proofs.Common.{◌≡◌, ℕ, ◌+◌, ◌-◌, ◌*◌, Bool, true, false, cond, ◌||◌, List, [], ◌∷◌, Option, None, Some, length, map, refl, sym, ◌∙◌}
 use Rattle.std.proofs.Common.{ap, subst, arith, Ok, Err}
 use denote.Ref.{Bor}
 use Rattle.iri_grammar.specs.Classes.{Tests}
@@ -8,22 +8,24 @@ use Rattle.iri_grammar.specs.Pieces.{pieces}
 use Rattle.iri_grammar.specs.OptionalSlices.{now_of}
 use Rattle.iri_text.specs.Shown.{AreSinkLaws}
 use Rattle.iri_template.specs.Expansion.{row_of, value_texts}
-use Rattle.iri_template.specs.Fault.{moved, varspec_fault}
+use Rattle.iri_template.specs.Fault.{fault, moved, varspec_fault}
 use Rattle.iri_template.specs.Led.{led, has_texts}
 use Rattle.iri_template.specs.Left.{varspecs_left}
-use Rattle.iri_template.specs.Portions.{Portion, varspec_portions}
+use Rattle.iri_template.specs.Portions.{Portion, varspec_portions, portions_fault, calls_in}
 use Rattle.iri_template.specs.Reading.{varspec_of}
+use Rattle.iri_template.specs.Template.{VarSpec as TemplateVarSpec, varspec_text}
 use Rattle.iri_template.specs.Tells.{Telling, later, WhereTold, MovesBy}
 use Rattle.iri_template.specs.TypeFaults.{is_mistyped, is_mistyped_as}
 use Rattle.iri_template.specs.VarSpecs.{IsHeld}
-use Rattle.iri_template.specs.Writings.{EndsAs}
+use Rattle.iri_template.specs.Writings.{EndsAs, CallsUpTo}
 use Rattle.iri_template.specs.inside.Checked.{held_portion}
 use Rattle.iri_template.specs.inside.Written.{told_texts}
 use Rattle.iri_template.specs.declared.error.Error.{Error}
+use Rattle.iri_template.specs.declared.error.ErrorKind.TheVariants.{UnexpectedValueType}
 use Rattle.iri_template.specs.declared.operator.Operator.{Operator}
 use Rattle.iri_template.specs.declared.var_spec.VarSpec.{VarSpec}
 use Rattle.iri_template.specs.declared.visitor.VisitPurpose.TheVariants.{Typecheck, Expand}
-use Rattle.iri_template.proofs.PortionWalk.{HasEnded, ended_none, ended_more, ended_exit, ended_end}
+use Rattle.iri_template.proofs.PortionWalk.{HasEnded, ended_none, ended_more, ended_exit, ended_calls, ended_end}
 use Rattle.iri_template.proofs.TellWalk.{BothTold, moved_on}
 use Rattle.iri_template.proofs.VarSpecWalk.{cut_spec, held_spec, mistyped_spec, spec_len}
 
@@ -33,6 +35,27 @@ specs_in t = length (map varspec_of (pieces 44 t))
 
 pub specs_cut : (t : List ℕ) (o : Option (Bor (List ℕ))) → now_of o ≡ behind 44 t → specs_in t ≡ length (map varspec_of (varspecs_left o)) + 1
 specs_cut t o e = let z = ap (λ ps. length (map varspec_of ps)) (cut_spec t o e) in omega (arith, z)
+
+-- ---- the calls that varspecs take
+-- one that isn't mistyped takes two
+two_calls : (at : ℕ) (m n : Bool) → cond (m || n) (fault UnexpectedValueType at) None ≡ None → cond m 1 2 + 0 ≡ 2
+two_calls at true n h = cc
+two_calls at false n h = refl
+
+one_more : (at : ℕ) (m n : Bool) (others : Option Error) → cond (m || n) (fault UnexpectedValueType at) others ≡ None → (cond m 1 2 + 0 ≡ 2) × (others ≡ None)
+one_more at true n others h = cc
+one_more at false true others h = cc
+one_more at false false others h = (refl, h)
+
+pub calls_of_all : (s : Tests) (operator : Operator) (h : Telling) (at : ℕ) (written : Bool) (vs : List TemplateVarSpec)
+    → portions_fault (varspec_portions s operator h at written vs) ≡ None → calls_in (varspec_portions s operator h at written vs) ≡ 2 * length vs
+calls_of_all s operator h at written [] e = refl
+calls_of_all s operator h at written (v ∷ vs) e =
+    let there = at + length (varspec_text v) + 1 in
+    let now = written || has_texts (value_texts s (row_of operator) v.name v.modifier (h 1 v.name Expand)) in
+    let k = one_more at (is_mistyped v.modifier (h 0 v.name Typecheck)) (is_mistyped v.modifier (h 1 v.name Expand))
+    (portions_fault (varspec_portions s operator (later 2 h) there now vs)) e in
+    omega (arith, k.0, calls_of_all s operator (later 2 h) there now vs k.1)
 
 module _ (s : Tests) (operator : Operator) where
   -- what a varspec as it is held writes for the value of its second visit
@@ -53,7 +76,7 @@ module _ (s : Tests) (operator : Operator) where
   next_portion f at written t v o e h i =
       let w = varspec_of (before 44 t) in
       let shape : List (List ℕ) → Bool → Bool → ℕ → List Portion = λ ts m n len.
-      (record { location = at; text = led (row_of operator) written ts; mistyped = m || n })
+      (record { location = at; text = led (row_of operator) written ts; mistyped = m || n; calls = cond m 1 2 })
       ∷ varspec_portions s operator (later 2 f) (at + len + 1) (written || has_texts ts) (map varspec_of (varspecs_left o)) in
       let ts = value_texts s (row_of operator) w.name w.modifier (f 1 w.name Expand) in
       let m = is_mistyped w.modifier (f 0 w.name Typecheck) in
@@ -72,14 +95,14 @@ module _ (s : Tests) (operator : Operator) where
 
     abbrev pub WrittenUpTo : Bool → List ℕ → W → Telling → Telling → Type 0
     WrittenUpTo written rest b f h = HasEnded puts (whole f) a
-        (varspec_portions s operator h (at + (length all - length rest)) written (map varspec_of (pieces 44 rest))) b
+        (varspec_portions s operator h (at + (length all - length rest)) written (map varspec_of (pieces 44 rest))) b f h
 
     pub up_to_none : (t : Option Telling) → BothTold t t (WrittenUpTo false all a)
     up_to_none None = tt
     up_to_none (Some f) =
         let e : at ≡ at + (length all - length all) = omega arith in
-        subst (λ n. HasEnded puts (whole f) a (varspec_portions s operator f n false (map varspec_of (pieces 44 all))) a) e
-        (ended_none puts halts laws (whole f) a)
+        subst (λ n. HasEnded puts (whole f) a (varspec_portions s operator f n false (map varspec_of (pieces 44 all))) a f f) e
+        (ended_none puts halts laws (whole f) a f)
 
     -- the next varspec, behind which `rest` begins
     module _ (written : Bool) (t : List ℕ) (v : VarSpec) (o : Option (Bor (List ℕ))) (e : now_of o ≡ behind 44 t)
@@ -91,19 +114,21 @@ module _ (s : Tests) (operator : Operator) where
       rest_of h = varspec_portions s operator (later 2 h) (place + length (before 44 t) + 1) (written || has_texts (told_at v h))
           (map varspec_of (varspecs_left o))
 
-      parted : (f h : Telling) → WrittenUpTo written t b f h → HasEnded puts (whole f) a (portion_of place written v h ∷ rest_of h) b
-      parted f h p = subst (λ l. HasEnded puts (whole f) a l b) (next_portion h place written t v o e fine i) p
+      parted : (f h : Telling) → WrittenUpTo written t b f h → HasEnded puts (whole f) a (portion_of place written v h ∷ rest_of h) b f h
+      parted f h p = subst (λ l. HasEnded puts (whole f) a l b f h) (next_portion h place written t v o e fine i) p
 
       -- it was written
       written_one : (f h k : Telling) (now : Bool) (x : Unit {0}) → now ≡ (written || has_texts (told_at v h)) → MovesBy 2 (Some h) (Some k)
           → EndsAs puts halts (portion_of place written v h ∷ []) b c (Ok x) → WrittenUpTo written t b f h
-          → HasEnded puts (whole f) a (varspec_portions s operator k (place + length (before 44 t) + 1) now (map varspec_of (varspecs_left o))) c
+          → HasEnded puts (whole f) a (varspec_portions s operator k (place + length (before 44 t) + 1) now (map varspec_of (varspecs_left o))) c f k
       written_one f h k now x is m q p =
-          subst (λ (n : Bool). HasEnded puts (whole f) a (varspec_portions s operator k (place + length (before 44 t) + 1) n (map varspec_of (varspecs_left o))) c) (sym is)
+          subst (λ (n : Bool). HasEnded puts (whole f) a (varspec_portions s operator k (place + length (before 44 t) + 1) n (map varspec_of (varspecs_left o))) c f k) (sym is)
           (subst (λ (l : Telling). HasEnded puts (whole f) a
-          (varspec_portions s operator l (place + length (before 44 t) + 1) (written || has_texts (told_at v h)) (map varspec_of (varspecs_left o))) c)
+          (varspec_portions s operator l (place + length (before 44 t) + 1) (written || has_texts (told_at v h)) (map varspec_of (varspecs_left o))) c f k)
           (sym (moved_on 2 h k m))
-          (ended_more puts halts laws (whole f) (portion_of place written v h ∷ []) (rest_of h) a b c x (parted f h p) q))
+          (ended_more puts halts laws (whole f) (portion_of place written v h ∷ []) (rest_of h) a b c x f h k
+          (subst (λ n. MovesBy n (Some h) (Some k)) (sym (two_calls place (is_mistyped_as v.modifier (h 0 v.name.text.now Typecheck))
+          (is_mistyped_as v.modifier (h 1 v.name.text.now Expand)) q.0)) m) (parted f h p) q))
 
       pub up_to_more : (r : List ℕ) (now : Bool) (x : Unit {0}) → varspecs_left o ≡ pieces 44 r
           → at + (length all - length r) ≡ place + length (before 44 t) + 1 → (u w z : Option Telling)
@@ -113,8 +138,8 @@ module _ (s : Tests) (operator : Operator) where
       up_to_more r now x left len (Some f) None z p m is q = absurd p
       up_to_more r now x left len (Some f) (Some h) None p m is q = absurd m
       up_to_more r now x left len (Some f) (Some h) (Some k) p m is q =
-          subst (λ n. HasEnded puts (whole f) a (varspec_portions s operator k n now (map varspec_of (pieces 44 r))) c) (sym len)
-          (subst (λ ps. HasEnded puts (whole f) a (varspec_portions s operator k (place + length (before 44 t) + 1) now (map varspec_of ps)) c) left
+          subst (λ n. HasEnded puts (whole f) a (varspec_portions s operator k n now (map varspec_of (pieces 44 r))) c f k) (sym len)
+          (subst (λ ps. HasEnded puts (whole f) a (varspec_portions s operator k (place + length (before 44 t) + 1) now (map varspec_of ps)) c f k) left
           (written_one f h k now x is m q p))
 
       pub up_to_end : (now : Bool) (x y : Unit {0}) → varspecs_left o ≡ [] → (u w z : Option Telling) → BothTold u w (WrittenUpTo written t b)
@@ -125,8 +150,8 @@ module _ (s : Tests) (operator : Operator) where
       up_to_end now x y none (Some f) None z p m is q = absurd p
       up_to_end now x y none (Some f) (Some h) None p m is q = absurd m
       up_to_end now x y none (Some f) (Some h) (Some k) p m is q =
-          ended_end puts halts laws (whole f) a c y
-          (subst (λ ps. HasEnded puts (whole f) a (varspec_portions s operator k (place + length (before 44 t) + 1) now (map varspec_of ps)) c) none
+          ended_end puts halts laws (whole f) a c y f k
+          (subst (λ ps. HasEnded puts (whole f) a (varspec_portions s operator k (place + length (before 44 t) + 1) now (map varspec_of ps)) c f k) none
           (written_one f h k now x is m q p))
 
       pub up_to_exit : (error : Error) → (u w : Option Telling) → BothTold u w (WrittenUpTo written t b)
@@ -135,4 +160,22 @@ module _ (s : Tests) (operator : Operator) where
       up_to_exit error None w p q = tt
       up_to_exit error (Some f) None p q = absurd p
       up_to_exit error (Some f) (Some h) p q =
-          ended_exit puts halts laws (whole f) (portion_of place written v h ∷ []) (rest_of h) a b c error (parted f h p) q
+          ended_exit puts halts laws (whole f) (portion_of place written v h ∷ []) (rest_of h) a b c f h error (parted f h p) q
+
+      -- the calls that were made then
+      pub up_to_calls : (here : ℕ) → here ≡ place → (u w z : Option Telling) → BothTold u w (WrittenUpTo written t b)
+          → WhereTold w (λ h. MovesBy (portion_of place written v h).calls w z) → WhereTold u (λ f. CallsUpTo (whole f) here 0 u z)
+      up_to_calls here is None w z p q = tt
+      up_to_calls here is (Some f) None z p q = absurd p
+      up_to_calls here is (Some f) (Some h) z p q =
+          let one = (portion_of place written v h).calls in
+          let n : one ≡ 0 + one + 0 = omega arith in
+          ended_calls puts halts laws (whole f) (portion_of place written v h ∷ []) (rest_of h) a b f h here z (parted f h p) (record {
+            front = [];
+            here = portion_of place written v h;
+            rest = [];
+            split = refl;
+            fine = refl;
+            location = sym is;
+            moves = subst (λ k. MovesBy k (Some h) z) n q;
+          })

@@ -4,28 +4,32 @@ use Rattle.std.specs.Str.{chars}
 use lib.Utf8.{encode}
 use Rattle.iri_grammar.specs.Classes.{uri_tests, unreserved, is_ascii_unreserved, any_char, is_ascii_any, is_ascii_reg_name, is_sub_delim, is_gen_delim}
 use Rattle.iri_template.specs.Fault.{fault}
-use Rattle.iri_template.specs.Portions.{Portion, portions, portions_fault, portions_text}
+use Rattle.iri_template.specs.Portions.{Portion, portions, portions_fault, portions_text, calls_in}
 use Rattle.iri_template.specs.Reading.{pieces_from, pieces_of}
 use Rattle.iri_template.specs.ShownValues.{undefined, string, list}
 use Rattle.iri_template.specs.Tells.{Telling, always}
 use Rattle.iri_template.specs.declared.error.ErrorKind.TheVariants.{UnexpectedValueType}
 
+abbrev outside : List ℕ → ℕ → Portion
+outside t at = record { location = at; text = t; mistyped = false; calls = 0 }
+
+-- a varspec, whose value is looked at and then written
 abbrev written : List ℕ → ℕ → Portion
-written t at = record { location = at; text = t; mistyped = false }
+written t at = record { location = at; text = t; mistyped = false; calls = 2 }
 
 -- what stands between expressions is one portion, its triplets too; the operator's first text and separators belong to varspecs
-places : portions uri_tests (always (λ _. string (codes "1"))) (pieces_of (codes "a%41b{?x,y}c")) ≡ written (codes "a%41b") 0
-    ∷ written (codes "?x=1") 7 ∷ written (codes "&y=1") 9 ∷ written (codes "c") 11 ∷ []
+places : portions uri_tests (always (λ _. string (codes "1"))) (pieces_of (codes "a%41b{?x,y}c")) ≡ outside (codes "a%41b") 0
+    ∷ written (codes "?x=1") 7 ∷ written (codes "&y=1") 9 ∷ outside (codes "c") 11 ∷ []
 unfolding pieces_from chars encode unreserved is_ascii_unreserved any_char is_ascii_any is_ascii_reg_name is_sub_delim is_gen_delim
 places = refl
 
-around : portions uri_tests (always (λ _. string (codes "zz"))) (pieces_of (codes "ab{v}cd")) ≡ written (codes "ab") 0
-    ∷ written (codes "zz") 3 ∷ written (codes "cd") 5 ∷ []
+around : portions uri_tests (always (λ _. string (codes "zz"))) (pieces_of (codes "ab{v}cd")) ≡ outside (codes "ab") 0
+    ∷ written (codes "zz") 3 ∷ outside (codes "cd") 5 ∷ []
 unfolding pieces_from chars encode unreserved is_ascii_unreserved any_char is_ascii_any is_ascii_reg_name is_sub_delim is_gen_delim
 around = refl
 
 -- a varspec without a value is a portion that writes nothing
-no_value : portions uri_tests (always (λ _. undefined)) (pieces_of (codes "hello/{world}")) ≡ written (codes "hello/") 0 ∷ written [] 7 ∷ []
+no_value : portions uri_tests (always (λ _. undefined)) (pieces_of (codes "hello/{world}")) ≡ outside (codes "hello/") 0 ∷ written [] 7 ∷ []
 unfolding pieces_from chars encode unreserved is_ascii_unreserved any_char is_ascii_any is_ascii_reg_name is_sub_delim is_gen_delim
 no_value = refl
 
@@ -61,6 +65,12 @@ second_values = refl
 mistyped_first : portions_fault (portions uri_tests returning (pieces_of (codes "{/w:2,v}"))) ≡ fault UnexpectedValueType 2
 unfolding returning pieces_from chars encode unreserved is_ascii_unreserved any_char is_ascii_any is_ascii_reg_name is_sub_delim is_gen_delim
 mistyped_first = refl
+
+-- a value that is mistyped where it is looked at isn't asked for again
+calls : (calls_in (portions uri_tests returning (pieces_of (codes "x{w:2}"))) ≡ 1)
+    × (calls_in (portions uri_tests turning (pieces_of (codes "x{w:2}"))) ≡ 2)
+unfolding turning returning pieces_from chars encode unreserved is_ascii_unreserved any_char is_ascii_any is_ascii_reg_name is_sub_delim is_gen_delim
+calls = (refl, refl)
 
 right_types : portions_fault (portions uri_tests returning (pieces_of (codes "{/v,w:2}"))) ≡ None
 unfolding returning pieces_from chars encode unreserved is_ascii_unreserved any_char is_ascii_any is_ascii_reg_name is_sub_delim is_gen_delim

@@ -15,19 +15,21 @@ use Rattle.iri_template.specs.declared.error.ErrorKind.TheVariants.{UnexpectedVa
 use Rattle.iri_template.specs.declared.operator.Operator.{Operator}
 use Rattle.iri_template.specs.declared.visitor.VisitPurpose.TheVariants.{Typecheck, Expand}
 
--- its place in the template, in bytes; what it writes; whether it is a varspec with a length that has no use for its value (section 2.4.1)
+-- its place in the template, in bytes; what it writes; whether it is a varspec with a length that has no use for its value (section 2.4.1); and how many calls of the context it takes
 pub record Portion : Type 0 where
   pub location : ℕ
   pub text : List ℕ
   pub mistyped : Bool
+  pub calls : ℕ
 
 -- ---- varspecs
--- One with a first value, told to look at its type, and a second one, told to be written. What it writes is the second one's texts; `written` says whether its expression has a text before it.
+-- One with a first value, told to look at its type, and a second one, told to be written; no second one is asked for where the first is mistyped. What it writes is the second one's texts; `written` says whether its expression has a text before it.
 abbrev pub varspec_portion : Tests → Operator → ℕ → Bool → VarSpec → ShownValue → ShownValue → Portion
 varspec_portion s operator at written v looked_at told = record {
   location = at;
   text = led (row_of operator) written (value_texts s (row_of operator) v.name v.modifier told);
   mistyped = is_mistyped v.modifier looked_at || is_mistyped v.modifier told;
+  calls = cond (is_mistyped v.modifier looked_at) 1 2;
 }
 
 -- The varspecs of an expression, a comma between each two. Each takes two calls.
@@ -42,7 +44,7 @@ varspec_portions s operator tells at written (v ∷ vs) =
 -- literals and triplets outside expressions; none where there are none
 abbrev pub outside : ℕ → List ℕ → List Portion
 outside at [] = []
-outside at (x ∷ xs) = record { location = at; text = x ∷ xs; mistyped = false } ∷ []
+outside at (x ∷ xs) = record { location = at; text = x ∷ xs; mistyped = false; calls = 0 } ∷ []
 
 -- Of pieces that begin at `here`. Before them stand literals and triplets that begin at `at` and write `front`.
 abbrev pub portions_from : Tests → Telling → ℕ → ℕ → List ℕ → List Piece → List Portion
@@ -70,3 +72,8 @@ portions_fault (p ∷ ps) = cond p.mistyped (fault UnexpectedValueType p.locatio
 abbrev pub portions_text : List Portion → List ℕ
 portions_text [] = []
 portions_text (p ∷ ps) = cond p.mistyped [] (p.text ++ portions_text ps)
+
+-- ---- the calls of the context that they take
+abbrev pub calls_in : List Portion → ℕ
+calls_in [] = 0
+calls_in (p ∷ ps) = p.calls + calls_in ps

@@ -1,10 +1,11 @@
 -- How the writing of a template's portions ends.
-use Rattle.std.specs.Prelude.{◌≡◌, ℕ, List, [], ◌∷◌, ◌++◌, ⊤, None, Some, Result, Ok, Err}
+use Rattle.std.specs.Prelude.{◌≡◌, ℕ, ◌+◌, List, [], ◌∷◌, ◌++◌, ⊤, Option, None, Some, Result, Ok, Err}
 use Rattle.std.specs.String.{string_bytes}
 use Rattle.std.specs.declared.alloc.Global.{Global}
 use Rattle.std.specs.declared.string.String.{String}
 use Rattle.iri_text.specs.Count.{Rose}
-use Rattle.iri_template.specs.Portions.{Portion, portions_fault, portions_text}
+use Rattle.iri_template.specs.Portions.{Portion, portions_fault, portions_text, calls_in}
+use Rattle.iri_template.specs.Tells.{Telling, MovesBy}
 use Rattle.iri_template.specs.declared.error.Error.{Error}
 use Rattle.iri_template.specs.declared.error.ErrorKind.{ErrorKind}
 use Rattle.iri_template.specs.declared.error.ErrorKind.TheVariants.{WriteFailed, UnexpectedValueType, Memory}
@@ -35,6 +36,16 @@ IsRefused puts halts ps old new e kind = ⊥
 abbrev pub EndsAs : {W : Type 0} → (W → List ℕ → W → Type 0) → (W → List ℕ → W → Type 0) → List Portion → W → W → Result (Unit {0}) Error → Type 0
 EndsAs puts halts ps old new (Ok x) = (portions_fault ps ≡ None) × puts old (portions_text ps) new
 EndsAs puts halts ps old new (Err e) = IsRefused puts halts ps old new e e.kind
+
+-- Where it was refused at this place, none of the portions before it being mistyped, the context was called as often as these and the portion there take, and `more` times.
+pub record CallsUpTo (ps : List Portion) (at more : ℕ) (tells_old tells_new : Option Telling) : Type 0 where
+  pub front : List Portion
+  pub here : Portion
+  pub rest : List Portion
+  pub split : ps ≡ front ++ here ∷ rest
+  pub fine : portions_fault front ≡ None
+  pub location : here.location ≡ at
+  pub moves : MovesBy (calls_in front + here.calls + more) tells_old tells_new
 
 -- the cause of a refusal: the count of stops rose, or a value is mistyped
 abbrev pub IsCaused : ℕ → ℕ → ErrorKind → Type 0

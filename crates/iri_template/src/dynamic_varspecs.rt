@@ -1,5 +1,5 @@
 //! Expressions that are written where values may change (RFC 6570 section 3.2.1).
-ghost use Rattle.std.specs.Prelude.{◌≡◌, ◌≤◌, ◌<◌, ◌+◌, ◌*◌, ◌^◌, ◌||◌, [], ◌∷◌, true, false, map, length, OnOk, None};
+ghost use Rattle.std.specs.Prelude.{◌≡◌, ◌≤◌, ◌<◌, ◌+◌, ◌*◌, ◌^◌, ◌||◌, [], ◌∷◌, true, false, map, length, cond, IfErr, OnOk, None};
 ghost use Rattle.iri_grammar.specs.Pieces.{pieces};
 ghost use Rattle.iri_template.specs.Expansion.{row_of};
 ghost use Rattle.iri_template.specs.Fault.{varspecs_fault};
@@ -8,7 +8,7 @@ ghost use Rattle.iri_template.specs.Portions.{varspec_portions};
 ghost use Rattle.iri_template.specs.Reading.{varspec_of};
 ghost use Rattle.iri_template.specs.Tells.{WhereTold, MovesBy, Calls};
 ghost use Rattle.iri_template.specs.TypeFaults.{is_mistyped_as};
-ghost use Rattle.iri_template.specs.Writings.{EndsAs, HasCause};
+ghost use Rattle.iri_template.specs.Writings.{EndsAs, HasCause, CallsUpTo};
 ghost use Rattle.iri_template.specs.inside.Checked.{place_texts, place_portion, held_portion};
 ghost use Rattle.iri_template.specs.inside.Written.{told_texts};
 ghost use Rattle.iri_template.specs.declared.visitor.Phase.TheVariants.{Fresh};
@@ -57,6 +57,7 @@ fn tell_next<C: DynamicContext, S: Spec, W: TextSink>(
         (λ f. visitor.new.place.written ≡ (visitor.old.place.written || has_texts
         (place_texts S.tests visitor.old.place (f 0 visitor.old.place.name.text.now Expand))))) }
     ensures same { visitor.new.to.ghost_name ≡ visitor.old.to.ghost_name }
+    ensures place { IfErr result (λ e. e.location ≡ at) }
     ensures cause { HasCause (W.stops visitor.old.to.now) (W.stops visitor.new.to.now) result }
     ensures later { W.stops visitor.old.to.now ≤ W.stops visitor.new.to.now }
     ensures call { Calls 1 (C.tells context.old) (C.tells context.new) (C.starts context.old) (C.starts context.new)
@@ -90,6 +91,7 @@ fn write_next<C: DynamicContext, S: Spec, W: TextSink>(
     ensures goes_on { OnOk result (WhereTold (C.tells context.old)
         (λ f. written.new ≡ (written.old || has_texts (told_texts S.tests (row_of operator) varspec.entry.name.text.now
         varspec.entry.modifier (f 0 varspec.entry.name.text.now Expand))))) }
+    ensures place { IfErr result (λ e. e.location ≡ at) }
     ensures cause { HasCause (W.stops sink.old) (W.stops sink.new) result }
     ensures later { W.stops sink.old ≤ W.stops sink.new }
     ensures call { Calls 1 (C.tells context.old) (C.tells context.new) (C.starts context.old) (C.starts context.new)
@@ -127,6 +129,10 @@ fn write_varspec<C: DynamicContext, S: Spec, W: TextSink>(
     ensures cause { HasCause (W.stops sink.old) (W.stops sink.new) result }
     ensures later { W.stops sink.old ≤ W.stops sink.new }
     ensures moves { OnOk result (MovesBy 2 (C.tells context.old) (C.tells context.new)) }
+    ensures place { IfErr result (λ e. e.location ≡ at) }
+    ensures calls { WhereTold (C.tells context.old)
+        (λ f. MovesBy (cond (is_mistyped_as varspec.entry.modifier (f 0 varspec.entry.name.text.now Typecheck)) 1 2)
+        (C.tells context.old) (C.tells context.new)) }
     ensures same_starts { C.starts context.new ≡ C.starts context.old }
     ensures same_ends { C.ends context.new ≡ C.ends context.old }
 {
@@ -153,6 +159,9 @@ pub(crate) fn write_varspecs<C: DynamicContext, S: Spec, W: TextSink>(
     ensures later { W.stops sink.old ≤ W.stops sink.new }
     ensures moves { OnOk result (MovesBy (2 * length (map varspec_of (pieces 44 varspecs.now))) (C.tells context.old)
         (C.tells context.new)) }
+    ensures refused { IfErr result (λ e. WhereTold (C.tells context.old)
+        (λ f. CallsUpTo (varspec_portions S.tests operator f at false (map varspec_of (pieces 44 varspecs.now)))
+        e.location 0 (C.tells context.old) (C.tells context.new))) }
     ensures same_starts { C.starts context.new ≡ C.starts context.old }
     ensures same_ends { C.ends context.new ≡ C.ends context.old }
 {

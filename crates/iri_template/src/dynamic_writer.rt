@@ -1,12 +1,12 @@
 //! Templates that are written where values may change (RFC 6570 section 3.1).
-ghost use Rattle.std.specs.Prelude.{◌≡◌, ◌≤◌, ◌<◌, ◌+◌, ◌-◌, ◌*◌, ◌^◌, length, OnOk, None};
+ghost use Rattle.std.specs.Prelude.{◌≡◌, ◌≤◌, ◌<◌, ◌+◌, ◌-◌, ◌*◌, ◌^◌, length, IfErr, OnOk, None};
 ghost use Rattle.iri_template.specs.Fault.{text_fault};
 ghost use Rattle.iri_template.specs.Portions.{portions};
 ghost use Rattle.iri_template.specs.Reading.{pieces_of};
 ghost use Rattle.iri_template.specs.Template.{names_of, template_text};
 ghost use Rattle.iri_template.specs.Tells.{WhereTold, MovesBy};
-ghost use Rattle.iri_template.specs.Writings.{EndsAs, HasCause};
-ghost use Rattle.iri_template.specs.inside.PartEnds.{PartEnds, calls_of, begin_behind, told_of};
+ghost use Rattle.iri_template.specs.Writings.{EndsAs, HasCause, CallsUpTo};
+ghost use Rattle.iri_template.specs.inside.PartEnds.{PartEnds, PartCalls, calls_of, begin_behind, told_of};
 ghost use Rattle.iri_template.specs.inside.Parts.{part_pieces, part_fault, EndsBefore};
 
 use crate::dynamic_context::DynamicContext;
@@ -42,6 +42,8 @@ fn write_part<C: DynamicContext, S: Spec, W: TextSink>(
     ensures cause { HasCause (W.stops sink.old) (W.stops sink.new) result }
     ensures later { W.stops sink.old ≤ W.stops sink.new }
     ensures moves { OnOk result (MovesBy (calls_of part.entry) (C.tells context.old) (C.tells context.new)) }
+    ensures refused { IfErr result (λ e. WhereTold (C.tells context.old)
+        (PartCalls S.tests e.location begin (C.tells context.old) (C.tells context.new) part.entry)) }
     ensures same_starts { C.starts context.new ≡ C.starts context.old }
     ensures same_ends { C.ends context.new ≡ C.ends context.old }
 {
@@ -82,6 +84,9 @@ pub(crate) fn write_template<C: DynamicContext, S: Spec, W: TextSink>(
     ensures later { W.stops sink.old ≤ W.stops sink.new }
     ensures moves { OnOk result (MovesBy (2 * length (names_of (pieces_of template.now))) (C.tells context.old)
         (C.tells context.new)) }
+    ensures refused { IfErr result (λ e. WhereTold (C.tells context.old)
+        (λ f. CallsUpTo (portions S.tests f (pieces_of template.now)) e.location 0 (C.tells context.old)
+        (C.tells context.new))) }
     ensures same_starts { C.starts context.new ≡ C.starts context.old }
     ensures same_ends { C.ends context.new ≡ C.ends context.old }
 {

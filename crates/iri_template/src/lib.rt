@@ -33,7 +33,7 @@
 //! comes at which call, the end is exact: all of the text was written; or the answer is `UnexpectedValueType` at the first
 //! varspec with a length that was told a list or an associative array that isn't empty, at either visit, behind exactly
 //! the text before it; or it is `WriteFailed` at the varspec, or the literals and triplets between expressions, within
-//! whose text the sink stopped, behind all text before it. Of any context: `WriteFailed` comes only where the sink's
+//! whose text the sink stopped, behind all text before it; no later varspec is visited then. Of any context: `WriteFailed` comes only where the sink's
 //! count of stops rose, and no third refusal comes; the callbacks at the start and at the end of an expansion are each
 //! called once, after a refusal too, where the context counts them. `expand_dynamic_to_string` gives that text, and alone
 //! answers `Memory`, with the places of `WriteFailed`. With `Fixed` both ways give the same text, or

@@ -1,5 +1,5 @@
 //! Borrowed templates (RFC 6570 section 2).
-ghost use Rattle.std.specs.Prelude.{◌≡◌, ◌≤◌, ◌==◌, ◌+◌, ◌*◌, ⊤, length, IfOk, OnOk, MatchResult, None, Some};
+ghost use Rattle.std.specs.Prelude.{◌≡◌, ◌≤◌, ◌==◌, ◌+◌, ◌*◌, ⊤, length, IfErr, IfOk, OnOk, MatchResult, None, Some};
 ghost use Rattle.iri_template.specs.Fault.{Answers, text_fault, template_fault};
 ghost use Rattle.iri_template.specs.Portions.{portions};
 ghost use Rattle.iri_template.specs.Reading.{pieces_of};
@@ -7,7 +7,7 @@ ghost use Rattle.iri_template.specs.Tells.{WhereTold, MovesBy, Raises, EndsOnce,
 ghost use Rattle.iri_template.specs.Template.{names_of};
 ghost use Rattle.iri_template.specs.TypeFaults.{type_fault};
 ghost use Rattle.iri_template.specs.Variables.{names_left};
-ghost use Rattle.iri_template.specs.Writings.{EndsAs, HasCause, IsString, IsOfString};
+ghost use Rattle.iri_template.specs.Writings.{EndsAs, HasCause, CallsUpTo, IsString, IsOfString};
 
 use crate::context::Context;
 use crate::dynamic_context::DynamicContext;
@@ -176,6 +176,9 @@ impl<'a> UriTemplateStr<'a> {
         ensures ended { Raises (C.ends context.old) (C.ends context.new) }
         ensures moves { OnOk result (MovesBy (2 * length (names_of (pieces_of (text self.entry))) + 2) (C.tells context.old)
             (C.tells context.new)) }
+        ensures refused { IfErr result (λ e. WhereTold (C.tells context.old)
+            (λ f. CallsUpTo (portions S.tests (later 1 f) (pieces_of (text self.entry))) e.location 2 (C.tells context.old)
+            (C.tells context.new))) }
     {
         context.on_expansion_start();
         let result = write_template::<C, S, W>(writer, context, self.text);
@@ -196,6 +199,9 @@ impl<'a> UriTemplateStr<'a> {
         ensures ended { Raises (C.ends context.old) (C.ends context.new) }
         ensures moves { OnOk result (MovesBy (2 * length (names_of (pieces_of (text self.entry))) + 2) (C.tells context.old)
             (C.tells context.new)) }
+        ensures refused { IfErr result (λ e. WhereTold (C.tells context.old)
+            (λ f. CallsUpTo (portions S.tests (later 1 f) (pieces_of (text self.entry))) e.location 2 (C.tells context.old)
+            (C.tells context.new))) }
     {
         let mut dest = String::new(alloc);
         let mut sink = StringSink::new(&mut dest);

@@ -62,6 +62,7 @@ place_portion s at p mistyped told = record {
   location = at;
   text = led (row_of p.operator) p.written (place_texts s p told);
   mistyped = mistyped || is_mistyped_as p.modifier told;
+  calls = cond mistyped 1 2;
 }
 
 abbrev pub held_portion : Tests → Operator → ℕ → Bool → VarSpec → Bool → ShownValue → Portion

@@ -1,5 +1,5 @@
 -- How the writing of a template's part ends, where values may change.
-use Rattle.std.specs.Prelude.{◌≡◌, ℕ, ◌*◌, false, List, length, map, Result, Ok, Err}
+use Rattle.std.specs.Prelude.{◌≡◌, ℕ, ◌*◌, false, List, length, map, Option, Result, Ok, Err}
 use Rattle.iri_grammar.specs.Classes.{Tests, any_char}
 use Rattle.iri_percent.specs.Encoding.{encoded}
 use Rattle.iri_grammar.specs.Pieces.{pieces}
@@ -7,7 +7,7 @@ use Rattle.iri_text.specs.declared.shown.show.Stop.{Stop}
 use Rattle.iri_template.specs.Portions.{varspec_portions}
 use Rattle.iri_template.specs.Reading.{varspec_of}
 use Rattle.iri_template.specs.Tells.{Telling}
-use Rattle.iri_template.specs.Writings.{EndsAs}
+use Rattle.iri_template.specs.Writings.{EndsAs, CallsUpTo}
 use Rattle.iri_template.specs.declared.error.Error.{Error}
 use Rattle.iri_template.specs.declared.error.ErrorKind.TheVariants.{WriteFailed}
 use Rattle.iri_template.specs.declared.part.Part.{Part}
@@ -31,6 +31,13 @@ PartEnds s puts halts at text old new r (part.Literals l) tells = LiteralsEnd pu
 PartEnds s puts halts at text old new r (part.Triplet l) tells = LiteralsEnd puts halts at text old new r
 PartEnds s puts halts at text old new r (part.Expression e) tells =
     EndsAs puts halts (varspec_portions s e.operator tells e.location false (map varspec_of (pieces 44 e.varspecs.now))) old new r
+
+-- the calls of the context that were made where a part was refused at this place
+abbrev pub PartCalls : Tests → ℕ → ℕ → Option Telling → Option Telling → Part → Telling → Type 0
+PartCalls s at begin tells_old tells_new (part.Literals l) tells = (at ≡ begin) × (tells_new ≡ tells_old)
+PartCalls s at begin tells_old tells_new (part.Triplet l) tells = (at ≡ begin) × (tells_new ≡ tells_old)
+PartCalls s at begin tells_old tells_new (part.Expression e) tells =
+    CallsUpTo (varspec_portions s e.operator tells e.location false (map varspec_of (pieces 44 e.varspecs.now))) at 0 tells_old tells_new
 
 -- how many calls of the context a part takes
 abbrev pub calls_of : Part → ℕ

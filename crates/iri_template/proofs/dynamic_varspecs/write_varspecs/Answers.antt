@@ -1,4 +1,4 @@
-use Rattle.std.proofs.Common.{◌≡◌, ◌+◌, ◌-◌, Some, length, map, ap, sym, ◌∙◌, arith}
+use Rattle.std.proofs.Common.{◌≡◌, ◌+◌, ◌-◌, Some, length, map, ap, refl, sym, ◌∙◌, arith}
 use Rattle.iri_grammar.specs.Cut.{before, behind}
 use Rattle.iri_grammar.specs.Pieces.{pieces}
 use Rattle.iri_grammar.specs.OptionalSlices.{now_of}
@@ -6,11 +6,27 @@ use Rattle.iri_grammar.proofs.Marks.{text_behind}
 use Rattle.iri_template.specs.Fault.{varspecs_fault}
 use Rattle.iri_template.specs.Left.{varspecs_left}
 use Rattle.iri_template.specs.Reading.{varspec_of}
-use Rattle.iri_template.proofs.TellWalk.{moved_more, moved_all}
+use Rattle.iri_template.proofs.TellWalk.{moved_none, moved_more, moved_all}
 use Rattle.iri_template.proofs.VarSpecFaults.{cut_len, bad_varspec}
 use Rattle.iri_template.proofs.VarSpecWalk.{fine_left}
-use Rattle.iri_template.proofs.VarSpecPortions.{specs_in, specs_cut, up_to_more, up_to_end, up_to_exit}
+use Rattle.iri_template.proofs.VarSpecPortions.{specs_in, specs_cut, up_to_none, up_to_more, up_to_end, up_to_exit, up_to_calls}
 use Rattle.iri_template.proofs.dynamic_varspecs.write_varspecs.Goals as goal
+
+pub varspecs-init : goal.varspecs-init
+varspecs-init g c =
+    let w = g.W.TextSink in
+    let tells = g.C.DynamicContext.tells c.args.context.now in
+    record {
+      utf8 = c.utf8.varspecs;
+      len = omega arith;
+      fine = c.requires.fine;
+      far =
+          up_to_none g.S.Spec.tests c.args.operator w.puts w.halts g.met.W.TextSink.rules c.args.at c.args.varspecs.now c.args.sink.now tells;
+      moved = moved_none tells (specs_in c.args.varspecs.now);
+      starts = refl;
+      ends = refl;
+      later = omega arith;
+    }
 
 pub varspecs-smaller : goal.varspecs-smaller
 varspecs-smaller g c =
@@ -78,6 +94,16 @@ returns-in-Err-write_varspec-clause-written g c =
     c.varspecs.written c.varspecs.rest.now c.in-Ok.varspec c.in-Ok.others c.in-Ok.ensures.others c.in-Ok.ensures.fault c.in-Ok.ensures.value
     c.varspecs.sink c.write_varspec.new.sink c.in-Err-write_varspec.error
     (d.tells c.args.context.now) (d.tells c.varspecs.context) c.varspecs.invariant.far c.in-Err-write_varspec.ensures.written
+
+pub returns-in-Err-write_varspec-clause-refused : goal.returns-in-Err-write_varspec-clause-refused
+returns-in-Err-write_varspec-clause-refused g c =
+    let w = g.W.TextSink in
+    let d = g.C.DynamicContext in
+    up_to_calls g.S.Spec.tests c.args.operator w.puts w.halts g.met.W.TextSink.rules c.args.at c.args.varspecs.now c.args.sink.now
+    c.varspecs.written c.varspecs.rest.now c.in-Ok.varspec c.in-Ok.others c.in-Ok.ensures.others c.in-Ok.ensures.fault c.in-Ok.ensures.value
+    c.varspecs.sink c.write_varspec.new.sink c.in-Err-write_varspec.error.location c.in-Err-write_varspec.ensures.place
+    (d.tells c.args.context.now) (d.tells c.varspecs.context) (d.tells c.write_varspec.new.context) c.varspecs.invariant.far
+    c.in-Err-write_varspec.ensures.calls
 
 pub unreachable-requires : goal.unreachable-requires
 unreachable-requires g c =
