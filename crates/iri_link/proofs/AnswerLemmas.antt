@@ -15,7 +15,7 @@ use Rattle.iri_link.specs.inside.Halts.{IsTold}
 use Rattle.iri_link.specs.inside.ReadLinks.{ReadsField}
 use Rattle.iri_link.specs.declared.error.LinkError.{LinkError}
 use Rattle.iri_link.specs.declared.error.LinkError.TheVariants.{Fault, Memory}
-use Rattle.iri_link.specs.declared.error.LinkErrorKind.TheVariants.{NotUtf8}
+use Rattle.iri_link.specs.declared.error.LinkKind.TheVariants.{NotUtf8}
 use Rattle.iri_link.proofs.NoFaultLemmas.{links_without_fault}
 
 -- what has a fault has no link-values

@@ -18,7 +18,7 @@ use Rattle.iri_link.specs.Field.{IsLink, link, IsElement, empty as no_element, l
 use Rattle.iri_link.specs.Fault.{Fault, fault_from, closes_from, target_fault, told_target, earlier, place_in, field_fault}
 use Rattle.iri_link.specs.Links.{HasReference, HasLinks}
 use Rattle.iri_link.specs.Phases.{before_link, in_target, behind_param, behind_semicolon, in_name, behind_name, behind_equals, in_token, in_quoted, in_pair}
-use Rattle.iri_link.specs.declared.error.LinkErrorKind.TheVariants.{NotUtf8, NoTarget, OpenTarget, NoParam, NoValue, OpenString}
+use Rattle.iri_link.specs.declared.error.LinkKind.TheVariants.{NotUtf8, NoTarget, OpenTarget, NoParam, NoValue, OpenString}
 use Rattle.iri_link.proofs.OneListLemmas.{name_stops, semicolon-name as semicolon_read, equals-token as equals_read}
 use Rattle.iri_link.proofs.ParamLemmas.{no_param}
 use Rattle.iri_link.proofs.PhaseLemmas.{semicolon-name, name-run, name-ends, equals-token, token-run, token-ends}

@@ -23,7 +23,7 @@ use Rattle.iri_link.specs.inside.Halts.{HaltsAt}
 use Rattle.iri_link.specs.Links.{HasReference}
 use Rattle.iri_link.specs.Resolved.{resolved}
 use Rattle.iri_link.specs.inside.ReadLinks.{CutsTarget, ReadsLink, SkipsEmpty, AddsLink, ReadsField, ReadsUpTo, fault_behind}
-use Rattle.iri_link.specs.declared.error.LinkErrorKind.TheVariants.{NoTarget, OpenTarget, BadTarget}
+use Rattle.iri_link.specs.declared.error.LinkKind.TheVariants.{NoTarget, OpenTarget, BadTarget}
 use Rattle.iri_link.proofs.PhaseLemmas.{start-blanks}
 use Rattle.iri_link.proofs.TargetLemmas.{before-lacks, some-lacks, none-lacks, target-goes, open_goes}
 

@@ -12,7 +12,7 @@ use Rattle.iri_link.specs.Fault.{fault_from}
 use Rattle.iri_link.specs.inside.Runs.{begins, IsRun}
 use Rattle.iri_link.specs.inside.ReadParams.{ends_link, ReadsValue, ReadsEquals, ReadsParam, AddsParam, ReadsSome, ReadsParams}
 use Rattle.iri_link.specs.inside.Halts.{HaltsAt}
-use Rattle.iri_link.specs.declared.error.LinkErrorKind.TheVariants.{NoParam}
+use Rattle.iri_link.specs.declared.error.LinkKind.TheVariants.{NoParam}
 use Rattle.iri_link.specs.declared.halt.Halt.{Halt}
 use Rattle.iri_link.proofs.PhaseLemmas.{ready-blanks, semicolon-blanks, named-blanks, equals-blanks, name-run, semicolon-name, name-ends, named-ends}
 

@@ -3,10 +3,10 @@ use Rattle.std.specs.Prelude.{ℕ, List, ◌++◌, codes, decimal}
 use Rattle.iri_grammar.specs.ErrorTexts.{description}
 use Rattle.iri_link.specs.declared.error.LinkError.{LinkError}
 use Rattle.iri_link.specs.declared.error.LinkError.TheVariants.{Fault, Memory}
-use Rattle.iri_link.specs.declared.error.LinkErrorKind.{LinkErrorKind}
-use Rattle.iri_link.specs.declared.error.LinkErrorKind.TheVariants.{NotUtf8, NoTarget, OpenTarget, BadTarget, NoParam, NoValue, OpenString}
+use Rattle.iri_link.specs.declared.error.LinkKind.{LinkKind}
+use Rattle.iri_link.specs.declared.error.LinkKind.TheVariants.{NotUtf8, NoTarget, OpenTarget, BadTarget, NoParam, NoValue, OpenString}
 
-abbrev pub words : LinkErrorKind → List ℕ
+abbrev pub words : LinkKind → List ℕ
 words NotUtf8 = codes "invalid utf-8 bytes"
 words NoTarget = codes "expected target"
 words OpenTarget = codes "unclosed target"

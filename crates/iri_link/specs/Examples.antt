@@ -14,7 +14,7 @@ use Rattle.iri_link.specs.Field.{LinkValue, IsField, last, more, empty as no_ele
 use Rattle.iri_link.specs.Field.{param, empty, none, bare, valued, token, quoted}
 use Rattle.iri_link.specs.Fault.{Told, field_fault, fault_from, closes_from}
 use Rattle.iri_link.specs.Written.{written}
-use Rattle.iri_link.specs.declared.error.LinkErrorKind.TheVariants.{NoTarget, OpenTarget, BadTarget, NoParam, NoValue, OpenString}
+use Rattle.iri_link.specs.declared.error.LinkKind.TheVariants.{NoTarget, OpenTarget, BadTarget, NoParam, NoValue, OpenString}
 
 -- a name in capitals, an escaped mark, and a semicolon without a parameter behind it
 abbrev x_up : LinkValue

@@ -11,12 +11,12 @@ use Rattle.iri_link.specs.Characters.{backslash, greater_than_sign, less_than_si
 use Rattle.iri_link.specs.Token.{is_blank, is_token_char, is_plain_char, is_pair_char}
 use Rattle.iri_link.specs.Phases.{Phase, before_link, in_target, behind_param, behind_semicolon, in_name, behind_name, behind_equals}
 use Rattle.iri_link.specs.Phases.{in_token, in_quoted, in_pair, next, may_follow}
-use Rattle.iri_link.specs.declared.error.LinkErrorKind.{LinkErrorKind}
-use Rattle.iri_link.specs.declared.error.LinkErrorKind.TheVariants.{NotUtf8, NoTarget, OpenTarget, BadTarget, NoParam, NoValue, OpenString}
+use Rattle.iri_link.specs.declared.error.LinkKind.{LinkKind}
+use Rattle.iri_link.specs.declared.error.LinkKind.TheVariants.{NotUtf8, NoTarget, OpenTarget, BadTarget, NoParam, NoValue, OpenString}
 
 -- a fault, and what is left of the text from its place on
 pub record Fault : Type 0 where
-  pub kind : LinkErrorKind
+  pub kind : LinkKind
   pub rest : List ℕ
 
 -- the first of two
@@ -25,7 +25,7 @@ earlier None f = f
 earlier (Some e) f = Some e
 
 -- no fault where the test passes
-abbrev pub unless : Bool → LinkErrorKind → List ℕ → Option Fault
+abbrev pub unless : Bool → LinkKind → List ℕ → Option Fault
 unless b k r = cond b None (Some (record { kind = k; rest = r }))
 
 -- the fault of a target text, which stands before this rest
@@ -75,7 +75,7 @@ fault_from s p (c ∷ cs) = earlier (wrong s p c cs) (fault_from s (next p c) cs
 
 -- a kind and a place: how many bytes stand before the fault
 pub record Told : Type 0 where
-  pub kind : LinkErrorKind
+  pub kind : LinkKind
   pub place : ℕ
 
 -- a fault with its place in the text

@@ -7,7 +7,7 @@ use std::fmt;
 
 /// What is wrong with the value of a `Link` field.
 #[derive(Clone, Copy, Debug, PartialEq, Eq)]
-pub enum LinkErrorKind {
+pub enum LinkKind {
     /// Bytes that are no UTF-8. Their place is the length of the longest prefix that is.
     NotUtf8,
     /// A link-value that doesn't begin with `<`, told at its first byte.
@@ -25,29 +25,25 @@ pub enum LinkErrorKind {
     OpenString,
 }
 
-impl Show for LinkErrorKind {
+impl Show for LinkKind {
     ghost use Rattle.iri_link.specs.ErrorTexts.{words};
 
     ghost text = { words };
 
     fn show<W: TextSink>(&self, sink: &mut W) -> Result<(), Stop> {
         match self {
-            LinkErrorKind::NotUtf8 => sink.put("invalid utf-8 bytes"),
-            LinkErrorKind::NoTarget => sink.put("expected target"),
-            LinkErrorKind::OpenTarget => sink.put("unclosed target"),
-            LinkErrorKind::BadTarget(error) => show_two(
-                sink,
-                &"target ",
-                &error.kind().description(),
-            ),
-            LinkErrorKind::NoParam => sink.put("expected parameter"),
-            LinkErrorKind::NoValue => sink.put("parameter value"),
-            LinkErrorKind::OpenString => sink.put("unclosed string"),
+            LinkKind::NotUtf8 => sink.put("invalid utf-8 bytes"),
+            LinkKind::NoTarget => sink.put("expected target"),
+            LinkKind::OpenTarget => sink.put("unclosed target"),
+            LinkKind::BadTarget(error) => show_two(sink, &"target ", &error.kind().description()),
+            LinkKind::NoParam => sink.put("expected parameter"),
+            LinkKind::NoValue => sink.put("parameter value"),
+            LinkKind::OpenString => sink.put("unclosed string"),
         }
     }
 }
 
-impl fmt::Display for LinkErrorKind {
+impl fmt::Display for LinkKind {
     ghost use Rattle.iri_link.specs.ErrorTexts.{words};
 
     ghost output = { λ k. Some (words k) };
@@ -61,7 +57,7 @@ impl fmt::Display for LinkErrorKind {
 #[derive(Clone, Copy, Debug, PartialEq, Eq)]
 pub enum LinkError {
     /// The first fault from the left, and how many bytes stand before it.
-    Fault(LinkErrorKind, usize),
+    Fault(LinkKind, usize),
     /// Allocation failed.
     Memory,
 }

@@ -34,7 +34,7 @@ mod set;
 mod value;
 mod written;
 
-pub use error::{LinkError, LinkErrorKind};
+pub use error::{LinkError, LinkKind};
 pub use set::{LinkSet, read_links};
 
 #[cfg(test)]

@@ -14,7 +14,7 @@ ghost use Rattle.iri_link.specs.inside.Halts.{HaltsAt};
 ghost use Rattle.iri_link.specs.inside.ReadLinks.{CutsTarget, ReadsLink, SkipsEmpty, AddsLink, ReadsField};
 ghost use Rattle.iri_link.specs.inside.Runs.{begins};
 
-use crate::error::LinkErrorKind;
+use crate::error::LinkKind;
 use crate::halt::Halt;
 use crate::param::{Param, read_params};
 use crate::runs::{Run, cut_run, past};
@@ -46,9 +46,9 @@ fn cut_target<'a, S: Spec>(
     match rest {
         Some(rest) => match SplitView::<S, Reference>::new(target) {
             Ok(reference) => Ok((reference, rest)),
-            Err(error) => Err(Halt::Fault(LinkErrorKind::BadTarget(error), s)),
+            Err(error) => Err(Halt::Fault(LinkKind::BadTarget(error), s)),
         },
-        None => Err(Halt::Fault(LinkErrorKind::OpenTarget, whole)),
+        None => Err(Halt::Fault(LinkKind::OpenTarget, whole)),
     }
 }
 
@@ -104,7 +104,7 @@ fn past_empty<'a>(s: &'a str) -> Result<Option<&'a str>, Halt<'a>>
             if s.is_empty() {
                 Ok(None)
             } else {
-                Err(Halt::Fault(LinkErrorKind::NoTarget, s))
+                Err(Halt::Fault(LinkKind::NoTarget, s))
             }
         }
     }

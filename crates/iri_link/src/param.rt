@@ -9,7 +9,7 @@ ghost use Rattle.iri_link.specs.inside.Halts.{HaltsAt};
 ghost use Rattle.iri_link.specs.inside.ReadParams.{ends_link, ReadsEquals, ReadsParam, AddsParam, ReadsParams};
 ghost use Rattle.iri_link.specs.inside.Runs.{begins};
 
-use crate::error::LinkErrorKind;
+use crate::error::LinkKind;
 use crate::halt::Halt;
 use crate::runs::{Run, begins_token, cut_run, past};
 use crate::value::read_value;
@@ -104,7 +104,7 @@ pub(crate) fn read_params<'a>(alloc: Global, s: &'a str) -> Result<(Vec<Param>, 
             if ends_link(next) {
                 return Ok((params, next));
             }
-            return Err(Halt::Fault(LinkErrorKind::NoParam, next));
+            return Err(Halt::Fault(LinkKind::NoParam, next));
         };
         let (_, piece) = cut_run(Run::Blank, behind);
         match push_param(alloc, &mut params, piece) {

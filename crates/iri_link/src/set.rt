@@ -8,7 +8,7 @@ ghost use Rattle.iri_link.specs.Resolved.{IsRead};
 ghost use Rattle.iri_link.specs.inside.Halts.{IsTold};
 ghost use Rattle.iri_link.specs.inside.ReadLinks.{ReadsField};
 
-use crate::error::{LinkError, LinkErrorKind};
+use crate::error::{LinkError, LinkKind};
 use crate::halt::Halt;
 use crate::link::{Link, read_text};
 use crate::param::Param;
@@ -76,7 +76,7 @@ pub fn read_links<S: Spec>(
 {
     match str::from_utf8(field) {
         Ok(text) => read_valid(alloc, base, text),
-        Err(error) => Err(LinkError::Fault(LinkErrorKind::NotUtf8, error.valid_up_to())),
+        Err(error) => Err(LinkError::Fault(LinkKind::NotUtf8, error.valid_up_to())),
     }
 }
 

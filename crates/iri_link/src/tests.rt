@@ -1,7 +1,7 @@
 mod octets;
 mod rfc_examples;
 
-use crate::{LinkError, LinkErrorKind, LinkSet, laws, read_links};
+use crate::{LinkError, LinkKind, LinkSet, laws, read_links};
 use iri_grammar::error::{Error, ErrorKind};
 use iri_grammar::spec::{IriSpec, Spec, UriSpec};
 use iri_text::{ToStringFallible, write_to_slice};
@@ -38,7 +38,7 @@ pub(crate) fn is_written<S: Spec>(
 pub(crate) fn is_refused(
     rt: &HostRuntime,
     field: &[u8],
-    kind: LinkErrorKind,
+    kind: LinkKind,
     place: usize,
 ) -> Result<bool, Fail> {
     match read::<UriSpec>(rt, "http://a/", field)? {
@@ -97,6 +97,8 @@ fn faults_in_words(rt: HostRuntime) -> Result<(), Fail> {
             }
         }
     }
+    laws::field_values_have_one_list::<UriSpec>();
+    laws::no_fault_of_field_values::<UriSpec>();
     let memory = LinkError::Memory;
     assert!(rt; memory.try_to_string(rt.alloc())?.as_str() == "out of memory");
     Ok(())
@@ -105,16 +107,16 @@ fn faults_in_words(rt: HostRuntime) -> Result<(), Fail> {
 #[test]
 fn kinds_in_words(rt: HostRuntime) -> Result<(), Fail> {
     let rows = [
-        (LinkErrorKind::NotUtf8, "invalid utf-8 bytes"),
-        (LinkErrorKind::NoTarget, "expected target"),
-        (LinkErrorKind::OpenTarget, "unclosed target"),
+        (LinkKind::NotUtf8, "invalid utf-8 bytes"),
+        (LinkKind::NoTarget, "expected target"),
+        (LinkKind::OpenTarget, "unclosed target"),
         (
-            LinkErrorKind::BadTarget(Error::new(ErrorKind::InvalidHost)),
+            LinkKind::BadTarget(Error::new(ErrorKind::InvalidHost)),
             "target invalid host",
         ),
-        (LinkErrorKind::NoParam, "expected parameter"),
-        (LinkErrorKind::NoValue, "parameter value"),
-        (LinkErrorKind::OpenString, "unclosed string"),
+        (LinkKind::NoParam, "expected parameter"),
+        (LinkKind::NoValue, "parameter value"),
+        (LinkKind::OpenString, "unclosed string"),
     ];
     for (kind, words) in rows {
         assert!(rt;
@@ -130,44 +132,44 @@ fn kinds_in_words(rt: HostRuntime) -> Result<(), Fail> {
 // Each kind of fault, at its place; the first from the left is told.
 #[test]
 fn places_of_faults(rt: HostRuntime) -> Result<(), Fail> {
-    let path = LinkErrorKind::BadTarget(Error::new(ErrorKind::InvalidPath));
-    let host = LinkErrorKind::BadTarget(Error::new(ErrorKind::InvalidHost));
-    let fragment = LinkErrorKind::BadTarget(Error::new(ErrorKind::InvalidFragment));
+    let path = LinkKind::BadTarget(Error::new(ErrorKind::InvalidPath));
+    let host = LinkKind::BadTarget(Error::new(ErrorKind::InvalidHost));
+    let fragment = LinkKind::BadTarget(Error::new(ErrorKind::InvalidFragment));
     let rows = [
-        ("x", LinkErrorKind::NoTarget, 0),
-        (" \t, ;", LinkErrorKind::NoTarget, 4),
-        ("<a>,>", LinkErrorKind::NoTarget, 4),
-        ("<a>, \"<b>\"", LinkErrorKind::NoTarget, 5),
-        ("<", LinkErrorKind::OpenTarget, 0),
-        ("<a>, <b, x", LinkErrorKind::OpenTarget, 5),
-        ("\t<a;r=\"x", LinkErrorKind::OpenTarget, 1),
+        ("x", LinkKind::NoTarget, 0),
+        (" \t, ;", LinkKind::NoTarget, 4),
+        ("<a>,>", LinkKind::NoTarget, 4),
+        ("<a>, \"<b>\"", LinkKind::NoTarget, 5),
+        ("<", LinkKind::OpenTarget, 0),
+        ("<a>, <b, x", LinkKind::OpenTarget, 5),
+        ("\t<a;r=\"x", LinkKind::OpenTarget, 1),
         ("<a b>", path, 1),
         ("<%4>;", path, 1),
         ("<a>,<//[>", host, 5),
         ("<##>", fragment, 1),
         ("<<a>", path, 1),
         ("<a b><", path, 1),
-        ("<a>x", LinkErrorKind::NoParam, 3),
-        ("<a> <b>", LinkErrorKind::NoParam, 4),
-        ("<a>;=b", LinkErrorKind::NoParam, 4),
-        ("<a>; \"b\"", LinkErrorKind::NoParam, 5),
-        ("<a>;r s", LinkErrorKind::NoParam, 6),
-        ("<a>;r=b c", LinkErrorKind::NoParam, 8),
-        ("<a>;r=b\"c\"", LinkErrorKind::NoParam, 7),
-        ("<a>;r=\"b\"c", LinkErrorKind::NoParam, 9),
-        ("<a>;r=b=c", LinkErrorKind::NoParam, 7),
-        ("<a>;r(", LinkErrorKind::NoParam, 5),
-        ("<a>;r=", LinkErrorKind::NoValue, 6),
-        ("<a>;r= \t", LinkErrorKind::NoValue, 8),
-        ("<a>;r=;s", LinkErrorKind::NoValue, 6),
-        ("<a>;r= , <b>", LinkErrorKind::NoValue, 7),
-        ("<a>;r==b", LinkErrorKind::NoValue, 6),
-        ("<a>;r=\"", LinkErrorKind::OpenString, 6),
-        ("<a>;r = \"x\\\"", LinkErrorKind::OpenString, 8),
-        ("<a>;r=\"x\u{1}\"", LinkErrorKind::OpenString, 6),
-        ("<a>;r=\"x\\\u{7f}\"", LinkErrorKind::OpenString, 6),
-        ("<a>;r=\"x, <b c>", LinkErrorKind::OpenString, 6),
-        ("<a>;r=\"x\";s=\"y, z", LinkErrorKind::OpenString, 12),
+        ("<a>x", LinkKind::NoParam, 3),
+        ("<a> <b>", LinkKind::NoParam, 4),
+        ("<a>;=b", LinkKind::NoParam, 4),
+        ("<a>; \"b\"", LinkKind::NoParam, 5),
+        ("<a>;r s", LinkKind::NoParam, 6),
+        ("<a>;r=b c", LinkKind::NoParam, 8),
+        ("<a>;r=b\"c\"", LinkKind::NoParam, 7),
+        ("<a>;r=\"b\"c", LinkKind::NoParam, 9),
+        ("<a>;r=b=c", LinkKind::NoParam, 7),
+        ("<a>;r(", LinkKind::NoParam, 5),
+        ("<a>;r=", LinkKind::NoValue, 6),
+        ("<a>;r= \t", LinkKind::NoValue, 8),
+        ("<a>;r=;s", LinkKind::NoValue, 6),
+        ("<a>;r= , <b>", LinkKind::NoValue, 7),
+        ("<a>;r==b", LinkKind::NoValue, 6),
+        ("<a>;r=\"", LinkKind::OpenString, 6),
+        ("<a>;r = \"x\\\"", LinkKind::OpenString, 8),
+        ("<a>;r=\"x\u{1}\"", LinkKind::OpenString, 6),
+        ("<a>;r=\"x\\\u{7f}\"", LinkKind::OpenString, 6),
+        ("<a>;r=\"x, <b c>", LinkKind::OpenString, 6),
+        ("<a>;r=\"x\";s=\"y, z", LinkKind::OpenString, 12),
     ];
     for (field, kind, place) in rows {
         assert!(rt; is_refused(&rt, field.as_bytes(), kind, place)?, "{field}");
@@ -187,7 +189,7 @@ fn bytes_that_are_no_text(rt: HostRuntime) -> Result<(), Fail> {
     ];
     for (field, place) in rows {
         assert!(rt;
-            is_refused(&rt, field, LinkErrorKind::NotUtf8, place)?,
+            is_refused(&rt, field, LinkKind::NotUtf8, place)?,
             "{place}"
         );
     }
@@ -256,7 +258,7 @@ fn delimiters_within_texts(rt: HostRuntime) -> Result<(), Fail> {
 
 #[test]
 fn targets_of_each_grammar(rt: HostRuntime) -> Result<(), Fail> {
-    let path = LinkErrorKind::BadTarget(Error::new(ErrorKind::InvalidPath));
+    let path = LinkKind::BadTarget(Error::new(ErrorKind::InvalidPath));
     assert!(rt; is_refused(&rt, "<\u{e9}>".as_bytes(), path, 1)?);
     assert!(rt;
         is_written::<IriSpec>(
@@ -340,6 +342,8 @@ fn written_forms_are_read_back(rt: HostRuntime) -> Result<(), Fail> {
             assert!(rt; same, "{base} {field}");
         }
     }
+    laws::written_links_are_read::<UriSpec>();
+    laws::written_sets_are_read::<UriSpec>();
     Ok(())
 }
 
@@ -372,16 +376,4 @@ fn a_thousand_links(rt: HostRuntime) -> Result<(), Fail> {
     assert!(rt; set.param_value(500, 0) == Some("500"));
     assert!(rt; set.try_to_string(rt.alloc())?.as_str() == written.as_str());
     Ok(())
-}
-
-#[test]
-fn the_laws() {
-    laws::field_values_have_one_list::<UriSpec>();
-    laws::field_values_have_one_list::<IriSpec>();
-    laws::no_fault_of_field_values::<UriSpec>();
-    laws::no_fault_of_field_values::<IriSpec>();
-    laws::written_links_are_read::<UriSpec>();
-    laws::written_links_are_read::<IriSpec>();
-    laws::written_sets_are_read::<UriSpec>();
-    laws::written_sets_are_read::<IriSpec>();
 }

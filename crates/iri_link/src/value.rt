@@ -9,7 +9,7 @@ ghost use Rattle.iri_link.specs.inside.Halts.{HaltsAt};
 ghost use Rattle.iri_link.specs.inside.ReadParams.{ReadsValue};
 ghost use Rattle.iri_link.specs.inside.Runs.{begins};
 
-use crate::error::LinkErrorKind;
+use crate::error::LinkKind;
 use crate::halt::Halt;
 use crate::quoted::{cut_quoted, unquote};
 use crate::runs::{Run, cut_run, past};
@@ -24,7 +24,7 @@ fn read_token<'a>(alloc: Global, s: &'a str) -> Result<(String, &'a str), Halt<'
 {
     let (token, rest) = cut_run(Run::Token, s);
     if token.is_empty() {
-        return Err(Halt::Fault(LinkErrorKind::NoValue, s));
+        return Err(Halt::Fault(LinkKind::NoValue, s));
     }
     match String::from_str(alloc, token) {
         Ok(value) => Ok((value, rest)),
@@ -43,7 +43,7 @@ fn read_quoted<'a>(alloc: Global, s: &'a str, inner: &'a str) -> Result<(String,
             Ok(value) => Ok((value, rest)),
             Err(_) => Err(Halt::Memory),
         },
-        None => Err(Halt::Fault(LinkErrorKind::OpenString, s)),
+        None => Err(Halt::Fault(LinkKind::OpenString, s)),
     }
 }
 

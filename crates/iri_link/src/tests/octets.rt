@@ -1,6 +1,6 @@
 // Each octet at each place where a field value can have it.
 use crate::tests::{is_refused, read};
-use crate::{LinkError, LinkErrorKind};
+use crate::{LinkError, LinkKind};
 use iri_grammar::spec::UriSpec;
 use std::test::Fail;
 
@@ -42,8 +42,8 @@ fn name_is(rt: &HostRuntime, octet: u8) -> Result<bool, Fail> {
             Ok(set) => Ok(set.len() == 1 && set.param_count(0) == 0),
             Err(_) => Ok(false),
         },
-        0..=127 => is_refused(rt, &field, LinkErrorKind::NoParam, 4),
-        _ => is_refused(rt, &field, LinkErrorKind::NotUtf8, 4),
+        0..=127 => is_refused(rt, &field, LinkKind::NoParam, 4),
+        _ => is_refused(rt, &field, LinkKind::NotUtf8, 4),
     }
 }
 
@@ -72,10 +72,10 @@ fn token_value_is(rt: &HostRuntime, octet: u8) -> Result<bool, Fail> {
         return value_is(rt, &field, &[octet]);
     }
     match octet {
-        b' ' | b'\t' => is_refused(rt, &field, LinkErrorKind::NoValue, 7),
-        b'"' => is_refused(rt, &field, LinkErrorKind::OpenString, 6),
-        0..=127 => is_refused(rt, &field, LinkErrorKind::NoValue, 6),
-        _ => is_refused(rt, &field, LinkErrorKind::NotUtf8, 6),
+        b' ' | b'\t' => is_refused(rt, &field, LinkKind::NoValue, 7),
+        b'"' => is_refused(rt, &field, LinkKind::OpenString, 6),
+        0..=127 => is_refused(rt, &field, LinkKind::NoValue, 6),
+        _ => is_refused(rt, &field, LinkKind::NotUtf8, 6),
     }
 }
 
@@ -90,11 +90,11 @@ fn octets_of_tokens(rt: HostRuntime) -> Result<(), Fail> {
 fn quoted_value_is(rt: &HostRuntime, octet: u8) -> Result<bool, Fail> {
     let field = field_with(rt, "<a>;r=\"", octet, "\"")?;
     match octet {
-        b'"' => is_refused(rt, &field, LinkErrorKind::NoParam, 8),
-        b'\\' => is_refused(rt, &field, LinkErrorKind::OpenString, 6),
+        b'"' => is_refused(rt, &field, LinkKind::NoParam, 8),
+        b'\\' => is_refused(rt, &field, LinkKind::OpenString, 6),
         b'\t' | 32..=126 => value_is(rt, &field, &[octet]),
-        0..=127 => is_refused(rt, &field, LinkErrorKind::OpenString, 6),
-        _ => is_refused(rt, &field, LinkErrorKind::NotUtf8, 7),
+        0..=127 => is_refused(rt, &field, LinkKind::OpenString, 6),
+        _ => is_refused(rt, &field, LinkKind::NotUtf8, 7),
     }
 }
 
@@ -110,8 +110,8 @@ fn paired_value_is(rt: &HostRuntime, octet: u8) -> Result<bool, Fail> {
     let field = field_with(rt, "<a>;r=\"\\", octet, "\"")?;
     match octet {
         b'\t' | 32..=126 => value_is(rt, &field, &[octet]),
-        0..=127 => is_refused(rt, &field, LinkErrorKind::OpenString, 6),
-        _ => is_refused(rt, &field, LinkErrorKind::NotUtf8, 8),
+        0..=127 => is_refused(rt, &field, LinkKind::OpenString, 6),
+        _ => is_refused(rt, &field, LinkKind::NotUtf8, 8),
     }
 }
 
@@ -132,10 +132,10 @@ fn octets_behind_a_target(rt: HostRuntime) -> Result<(), Fail> {
             b' ' | b'\t' | b';' | b',' => {
                 matches!(read::<UriSpec>(&rt, "http://a/", &field)?, Ok(set) if set.len() == 1)
             }
-            0..=127 => is_refused(&rt, &field, LinkErrorKind::NoParam, 3)?,
+            0..=127 => is_refused(&rt, &field, LinkKind::NoParam, 3)?,
             _ => matches!(
                 read::<UriSpec>(&rt, "http://a/", &field)?,
-                Err(LinkError::Fault(LinkErrorKind::NotUtf8, 3))
+                Err(LinkError::Fault(LinkKind::NotUtf8, 3))
             ),
         };
         assert!(rt; stands, "{octet}");

@@ -5,7 +5,7 @@ use Rattle.iri_link.specs.Phases.{behind_equals}
 use Rattle.iri_link.specs.Fault.{fault_from, closes_from}
 use Rattle.iri_link.specs.inside.ReadQuoted.{IsCutQuoted, unquoted}
 use Rattle.iri_link.specs.inside.ReadParams.{ReadsValue}
-use Rattle.iri_link.specs.declared.error.LinkErrorKind.TheVariants.{OpenString}
+use Rattle.iri_link.specs.declared.error.LinkKind.TheVariants.{OpenString}
 use Rattle.iri_link.proofs.value.read_quoted.Goals as goal
 
 open_string : (s : Tests) (t inner : List ℕ) → t ≡ 34 ∷ inner → closes_from false inner ≡ false → fault_from s behind_equals t ≡ Some (record { kind = OpenString; rest = t })

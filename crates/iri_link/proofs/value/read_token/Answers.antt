@@ -10,7 +10,7 @@ use Rattle.iri_link.specs.Phases.{behind_equals}
 use Rattle.iri_link.specs.Fault.{fault_from}
 use Rattle.iri_link.specs.inside.Runs.{begins, IsRun}
 use Rattle.iri_link.specs.inside.ReadParams.{ReadsValue}
-use Rattle.iri_link.specs.declared.error.LinkErrorKind.TheVariants.{NoValue}
+use Rattle.iri_link.specs.declared.error.LinkKind.TheVariants.{NoValue}
 use Rattle.iri_link.proofs.PhaseLemmas.{equals-token, token-run, token-ends}
 use Rattle.iri_link.proofs.value.read_token.Goals as goal
 
