@@ -118,3 +118,44 @@ fn lists(rt: HostRuntime) -> Result<(), Fail> {
     assert!(rt; insert(&mut context, rt.alloc(), "p", Value::Assoc(pairs))?.is_none());
     Ok(())
 }
+
+// Where allocation fails what was to be put in is handed back, and nothing changes.
+#[test]
+fn items_handed_back_where_memory_is_refused(rt: HostRuntime) -> Result<(), Fail> {
+    let mut items = TextList::new(rt.alloc());
+    match items.push("a".to_string(rt.alloc())?) {
+        Ok(()) => assert_eq!(rt; items.get(0), Some("a")),
+        Err(item) => {
+            assert_eq!(rt; item.as_str(), "a");
+            assert_eq!(rt; items.len(), 0);
+            return Err(AllocError)?;
+        }
+    }
+    let mut pairs = PairList::new(rt.alloc());
+    match pairs.push("k".to_string(rt.alloc())?, "v".to_string(rt.alloc())?) {
+        Ok(()) => assert_eq!(rt; pairs.get(0), Some(("k", "v"))),
+        Err((key, value)) => {
+            assert_eq!(rt; key.as_str(), "k");
+            assert_eq!(rt; value.as_str(), "v");
+            assert_eq!(rt; pairs.len(), 0);
+            return Err(AllocError)?;
+        }
+    }
+    Ok(())
+}
+
+#[test]
+fn values_handed_back_where_memory_is_refused(rt: HostRuntime) -> Result<(), Fail> {
+    let mut context = SimpleContext::new(rt.alloc());
+    let value = string(rt.alloc(), "6")?;
+    match context.insert("v".to_string(rt.alloc())?, value) {
+        Ok(_) => assert_eq!(rt; at(&context, "v"), Some("6")),
+        Err(error) => {
+            assert_eq!(rt; error.key.as_str(), "v");
+            assert_eq!(rt; text(Some(&error.value)), Some("6"));
+            assert_eq!(rt; at(&context, "v"), None);
+            return Err(AllocError)?;
+        }
+    }
+    Ok(())
+}

@@ -211,17 +211,19 @@ fn told(answer: Result<(), Error>) -> Option<(ErrorKind, usize)> {
 
 #[test]
 fn kind_that_changes(rt: HostRuntime) -> Result<(), Fail> {
-    let mut buf = [0u8; 20];
-    let mut sink = SliceSink::new(&mut buf);
-    let mut context = Turning::new(2);
-    let template = UriTemplateStr::new("x{v:3}{w}")?;
-    let result = template.expand_dynamic::<UriSpec, SliceSink<'_>, Turning>(
-        &mut sink,
-        &mut context,
-    );
-    assert_eq!(rt; told(result), Some((ErrorKind::UnexpectedValueType, 2)));
-    assert_eq!(rt; sink.as_str(), "x");
-    assert_eq!(rt; context.counts(), (2, 1, 1));
+    for text in ["x{v:3}", "x{v:3}{w}"] {
+        let mut buf = [0u8; 20];
+        let mut sink = SliceSink::new(&mut buf);
+        let mut context = Turning::new(2);
+        let template = UriTemplateStr::new(text)?;
+        let result = template.expand_dynamic::<UriSpec, SliceSink<'_>, Turning>(
+            &mut sink,
+            &mut context,
+        );
+        assert_eq!(rt; told(result), Some((ErrorKind::UnexpectedValueType, 2)));
+        assert_eq!(rt; sink.as_str(), "x");
+        assert_eq!(rt; context.counts(), (2, 1, 1));
+    }
     Ok(())
 }
 

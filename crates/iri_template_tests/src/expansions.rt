@@ -17,7 +17,7 @@ use std::collections::{BTreeMap, BTreeSet};
 use std::test::Fail;
 
 // Sections 3.2.1 to 3.2.9, and what section 1.2 has besides.
-static ROWS: [(&str, &str); 118] = [
+static ROWS: [(&str, &str); 119] = [
     ("{count}", "one,two,three"),
     ("{count*}", "one,two,three"),
     ("{/count}", "/one,two,three"),
@@ -35,6 +35,7 @@ static ROWS: [(&str, &str); 118] = [
     ("{x,y}", "1024,768"),
     ("{x,hello,y}", "1024,Hello%20World%21,768"),
     ("?{x,empty}", "?1024,"),
+    ("{?x,empty}", "?x=1024&empty="),
     ("?{x,undef}", "?1024"),
     ("?{undef,y}", "?768"),
     ("{var:3}", "val"),
@@ -376,7 +377,7 @@ fn of_text<S: Spec>(alloc: Global, template: &str, text: &str) -> Result<String,
 }
 
 // A template, a value and the expansion for URIs. U+1F600 in triplets is one unit; without its last octet each triplet is one.
-static LENGTHS: [(&str, &str, &str); 10] = [
+static LENGTHS: [(&str, &str, &str); 12] = [
     ("{v:2}", "%61%62%63", "%256"),
     ("{+v:2}", "%61%62%63", "%61%62"),
     ("{+v:2}", "a%62c", "a%62"),
@@ -387,6 +388,12 @@ static LENGTHS: [(&str, &str, &str); 10] = [
     ("{+v:2}", "%F0%9F%98x", "%F0%9F"),
     ("{+v:3}", "%F0%9F%98%98%80", "%F0%9F%98%98%80"),
     ("{+v:4}", "%%4%41g", "%25%254%41"),
+    (
+        "{+invalid1:4}",
+        "%CE%CE%B1%B1%CE%CE%B2%B2",
+        "%CE%CE%B1%B1%CE",
+    ),
+    ("{+incomplete2:3}", "%ce%b1%c", "%ce%b1%25c"),
 ];
 
 // The same for IRIs.
@@ -528,9 +535,13 @@ fn types(rt: HostRuntime) -> Result<(), Fail> {
         fault_at("{x,x}{empty_keys:2}{list}{undef:4}", &context),
         None
     );
-    match UriTemplateStr::new("{/list:3}")?.expand::<UriSpec, SimpleContext>(&context) {
+    let behind_a_list = UriTemplateStr::new("foo{/list*,list:4}")?;
+    match behind_a_list.expand::<UriSpec, SimpleContext>(&context) {
         Ok(_) => assert!(rt; false),
-        Err(error) => assert_eq!(rt; error.kind(), ErrorKind::UnexpectedValueType),
+        Err(error) => {
+            assert_eq!(rt; error.kind(), ErrorKind::UnexpectedValueType);
+            assert_eq!(rt; error.location(), 11);
+        }
     }
     Ok(())
 }

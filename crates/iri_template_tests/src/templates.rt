@@ -125,3 +125,16 @@ fn prefix_lengths(rt: HostRuntime) {
         assert!(rt; UriTemplateStr::new(text).is_ok() == taken, "{text}");
     }
 }
+
+// Where allocation fails the template is as it was.
+#[test]
+fn kept_where_memory_is_refused(rt: HostRuntime) -> Result<(), Fail> {
+    let mut template = UriTemplateString::try_from_str(rt.alloc(), "x")?;
+    let other = UriTemplateStr::new("{a_name_that_is_long}")?;
+    if template.append(other).is_err() {
+        assert_eq!(rt; template.as_str(), "x");
+        return Err(AllocError)?;
+    }
+    assert_eq!(rt; template.as_str(), "x{a_name_that_is_long}");
+    Ok(())
+}
