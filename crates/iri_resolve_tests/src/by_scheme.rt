@@ -66,6 +66,32 @@ fn default_ports_and_empty_paths(rt: HostRuntime) -> Result<(), Fail> {
     Ok(())
 }
 
+// A port is compared as text, an empty one goes, and a scheme is lowered before its port is looked up.
+#[test]
+fn ports_of_each_scheme(rt: HostRuntime) -> Result<(), Fail> {
+    for (reference, text) in [
+        ("http://h:080", "http://h:080/"),
+        ("https://h:0443", "https://h:0443/"),
+        ("ws://h:080", "ws://h:080/"),
+        ("wss://h:0443", "wss://h:0443/"),
+        ("ftp://h:021", "ftp://h:021/"),
+        ("http://h:", "http://h/"),
+        ("https://h:", "https://h/"),
+        ("ws://h:", "ws://h/"),
+        ("wss://h:", "wss://h/"),
+        ("ftp://h:", "ftp://h/"),
+        ("HTTP://H:80", "http://h/"),
+        ("HTTPS://H:443", "https://h/"),
+        ("WS://H:80", "ws://h/"),
+        ("WSS://H:443", "wss://h/"),
+        ("FTP://H:21", "ftp://h/"),
+    ] {
+        let right = are_by_scheme(rt.alloc(), reference, text)?;
+        assert!(rt; right, "{reference}");
+    }
+    Ok(())
+}
+
 // Whether this is the canonical text of a reference against `HTTP://a:80` by the rules of every scheme, of both calls.
 fn are_by_every_rule(alloc: Global, reference: &str, text: &str) -> Result<bool, Fail> {
     let (base, reference) = ("HTTP://a:80".as_bytes(), reference.as_bytes());

@@ -57,7 +57,10 @@ fn an_absolute_text(rt: HostRuntime) -> Result<(), Fail> {
 fn a_relative_path_preserved(rt: HostRuntime) -> Result<(), Fail> {
     let view = iri::<UriSpec>("scheme:relative/..//foo")?;
     let mut text = view.normalize();
-    assert_eq!(rt; text.try_to_string(rt.alloc())?.as_str(), "scheme:/.//foo");
+    assert_eq!(rt;
+        text.try_to_dedicated_string(rt.alloc())?.as_str(),
+        "scheme:/.//foo"
+    );
     text.enable_normalization_preserving_authorityless_relative_path();
     assert_eq!(rt;
         text.try_to_string(rt.alloc())?.as_str(),
@@ -68,6 +71,13 @@ fn a_relative_path_preserved(rt: HostRuntime) -> Result<(), Fail> {
         kept.try_to_string(rt.alloc())?.as_str(),
         "scheme:relative/..//foo"
     );
+    match view.ensure_rfc3986_normalizable() {
+        Ok(()) => assert!(rt; false),
+        Err(error) => {
+            let words = format!(in rt.alloc(); "{error}")?;
+            assert_eq!(rt; words.as_str(), "unresolvable IRI");
+        }
+    }
     assert!(rt; kept.ensure_rfc3986_normalizable().is_err());
     Ok(())
 }

@@ -364,3 +364,27 @@ fn targets_apart(rt: HostRuntime) -> Result<(), Fail> {
     }
     Ok(())
 }
+
+#[test]
+fn parts_of_a_target_in_normal_form(rt: HostRuntime) -> Result<(), Fail> {
+    let target = target::<UriSpec>(rt.alloc(), "HTTP://H/%7e")?;
+    let steps = steps_to_normal(rt.alloc(), &target)?;
+    let after = replay(rt.alloc(), &target, &steps)?;
+    assert_eq!(rt; after.scheme(), "http");
+    assert_eq!(rt; after.authority(), Some("h"));
+    assert_eq!(rt; after.path(), "/~");
+    assert!(rt; gives::<UriSpec>(rt.alloc(), "HTTP://H/%7e", Step::EmptyPort, None)?);
+    Ok(())
+}
+
+// Where allocation fails the list is as it was.
+#[test]
+fn steps_kept_where_memory_is_refused(rt: HostRuntime) -> Result<(), Fail> {
+    let mut steps = StepList::new(rt.alloc());
+    if steps.push(Step::EmptyPort).is_err() {
+        assert_eq!(rt; steps.len(), 0);
+        return Err(AllocError)?;
+    }
+    assert!(rt; steps.get(0) == Some(Step::EmptyPort));
+    Ok(())
+}

@@ -81,12 +81,17 @@ fn long(
 // Paths as long as a line may be: as many segments as leave one byte at least for what is behind them.
 #[test]
 fn deep_paths(rt: HostRuntime) -> Result<(), Fail> {
-    let count = (LINE - 1) / 5;
-    let up = long(&rt, b"http://a/\n", [(b"a/", count), (b"../", count)], b"g")?;
-    assert!(rt; canon_uri(&rt, &up, 0, b"ok http://a/g\n")?);
-    let count = (LINE - 1) / 2;
-    let input = long(&rt, b"http://a/\n", [(b"a/", count), (b"", 0)], b".")?;
-    let output = long(&rt, b"ok http://a/", [(b"a/", count), (b"", 0)], b"\n")?;
-    assert!(rt; canon_uri(&rt, &input, 0, &output)?);
+    for count in [10_900, (LINE - 1) / 5] {
+        let up = long(&rt, b"http://a/\n", [(b"a/", count), (b"../", count)], b"g")?;
+        assert!(rt;
+            canon_uri(&rt, &up, 0, b"ok http://a/g\n")?,
+            "{count} times"
+        );
+    }
+    for count in [32_767, (LINE - 1) / 2] {
+        let input = long(&rt, b"http://a/\n", [(b"a/", count), (b"", 0)], b".")?;
+        let output = long(&rt, b"ok http://a/", [(b"a/", count), (b"", 0)], b"\n")?;
+        assert!(rt; canon_uri(&rt, &input, 0, &output)?, "{count} times");
+    }
     Ok(())
 }
