@@ -46,8 +46,8 @@ HostReplaced s names_only old new host (Ok (Some start)) =
 HostReplaced s names_only old new host (Err e) = (is_replaced s names_only host (host_of_text old.text) ≡ true) × (new ≡ old)
 
 -- the same, with the new host's slice in place of where it begins
-abbrev pub HostChange : Tests → Bool → OwnedText → OwnedText → List ℕ → Result (Option (Bor (List ℕ))) AllocError → Type 0
-HostChange s names_only old new host (Ok None) = (is_replaced s names_only host (host_of_text old.text) ≡ false) × (new ≡ old)
-HostChange s names_only old new host (Ok (Some slice)) =
-    (is_replaced s names_only host (host_of_text old.text) ≡ true) × (new.text ≡ with_host old.text host) × (slice.now ≡ host)
-HostChange s names_only old new host (Err e) = (is_replaced s names_only host (host_of_text old.text) ≡ true) × (new ≡ old)
+abbrev pub HostChange : {T : Type 0} → Tests → Bool → (T → List ℕ) → T → T → List ℕ → Result (Option (Bor (List ℕ))) AllocError → Type 0
+HostChange s names_only text old new host (Ok None) = (is_replaced s names_only host (host_of_text (text old)) ≡ false) × (new ≡ old)
+HostChange s names_only text old new host (Ok (Some slice)) =
+    (is_replaced s names_only host (host_of_text (text old)) ≡ true) × (text new ≡ with_host (text old) host) × (slice.now ≡ host)
+HostChange s names_only text old new host (Err e) = (is_replaced s names_only host (host_of_text (text old)) ≡ true) × (new ≡ old)

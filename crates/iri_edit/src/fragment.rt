@@ -1,22 +1,30 @@
 //! Fragments of owned texts changed in place (RFC 3986 section 3.5).
-ghost use Rattle.std.specs.Prelude.{◌≡◌, IsSome, None, OnErr, OnOk, Some};
+ghost use Rattle.std.specs.Prelude.{◌≡◌, ℕ, IsSome, None, OnErr, OnOk, Some, option_map};
 ghost use Rattle.iri_edit.specs.Fragment.{with_fragment};
 ghost use Rattle.iri_edit.specs.inside.Places.{IsFragmentAt};
-ghost use Rattle.iri_types.specs.Texts.{text, text_of};
+ghost use Rattle.iri_types.specs.Texts.{text};
 
 use crate::change::{cut_out, put_in_room, reference_of};
 use iri_grammar::cutting::cut_before;
 use iri_grammar::spec::Spec;
 use iri_owned::owned::Owned;
+use iri_text::Show;
 use iri_types::kind::FragmentKind;
 use iri_types::view::{RiFragmentStr, RiReferenceStr};
 use std::alloc::AllocError;
 
 /// Owned texts that may have a fragment.
-pub trait SetFragment<F> {
+pub trait SetFragment<F: Show>: Show {
+    /// How many bytes the text can have before it needs more memory.
+    ghost capacity: { Self → ℕ };
+
     /// Puts a fragment in place of the text's, or behind a text that has none; `None` takes out the fragment and its number sign,
     /// and takes no memory. Memory is taken first: after an allocation failure the text is as it was.
-    fn set_fragment(&mut self, fragment: Option<F>) -> Result<(), AllocError>;
+    fn set_fragment(&mut self, fragment: Option<F>) -> Result<(), AllocError>
+        ensures ok { OnOk result (Self.text self.new ≡ with_fragment (Self.text self.old) (option_map F.text fragment)) }
+        ensures err { OnErr result (self.new ≡ self.old) }
+        ensures some { OnErr result (IsSome fragment) }
+        ensures capacity { fragment ≡ None → capacity self.new ≡ capacity self.old };
 }
 
 // Where the fragment's number sign stands, or the end of the text where none stands; and the end.
@@ -53,11 +61,13 @@ fn put_fragment<S: Spec, K: FragmentKind>(
 }
 
 impl<'f, S: Spec, K: FragmentKind> SetFragment<RiFragmentStr<'f, S>> for Owned<S, K> {
+    ghost capacity = { λ t. t.capacity };
+
     fn set_fragment(&mut self, fragment: Option<RiFragmentStr<'f, S>>) -> Result<(), AllocError>
-        ensures ok { OnOk result (self.new.text ≡ with_fragment self.old.text (text_of fragment.entry)) }
+        ensures ok { OnOk result (self.new.text ≡ with_fragment self.old.text (option_map (λ f. text f) fragment.entry)) }
         ensures err { OnErr result (self.new ≡ self.old) }
-        ensures some { OnErr result (IsSome (text_of fragment.entry)) }
-        ensures capacity { text_of fragment.entry ≡ None → self.new.capacity ≡ self.old.capacity }
+        ensures some { OnErr result (IsSome fragment.entry) }
+        ensures capacity { fragment.entry ≡ None → self.new.capacity ≡ self.old.capacity }
     {
         match fragment {
             Some(fragment) => put_fragment(self, fragment),

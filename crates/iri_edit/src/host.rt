@@ -4,6 +4,7 @@ ghost use Rattle.std.specs.Prelude.{◌≡◌, ◌&&◌, ◌||◌, not, true, fa
 ghost use mathlib.Core.Option.{none};
 ghost use Rattle.iri_edit.specs.Host.{HostChange, HostReplaced};
 ghost use Rattle.iri_owned.specs.contracts.owned.Owned.{the_row};
+ghost use Rattle.iri_grammar.specs.Classes.{Tests};
 ghost use Rattle.iri_grammar.specs.Host.{is_host};
 ghost use Rattle.iri_types.specs.Components.{is_named};
 
@@ -13,17 +14,25 @@ use iri_grammar::host::host_is_reg_name;
 use iri_grammar::spec::Spec;
 use iri_grammar::validate;
 use iri_owned::owned::Owned;
+use iri_text::Show;
 use iri_types::kind::WholeKind;
 use std::alloc::AllocError;
 
 /// Owned whole texts whose host can be replaced.
-pub trait ReplaceHost {
+pub trait ReplaceHost: Show {
+    /// The classes of its characters.
+    ghost tests: { Tests };
+
     /// Puts another host in place of the text's, and answers the new host's slice. `None`, with no change, exactly where no authority
     /// stands or the new host is no host. Memory is taken first: after an allocation failure the text is as it was.
-    fn try_replace_host(&mut self, new_host: &str) -> Result<Option<&str>, AllocError>;
+    fn try_replace_host(&mut self, new_host: &str) -> Result<Option<&str>, AllocError>
+        ensures* host { sem 𝓛 (follows_so Self.row Self.row self.entry.ghost_name none (λ _ _. ⊤)
+            (λ after. HostChange tests false Self.text self.old after new_host.now result)) };
 
     /// The same where the old host is a registered name, and `None` also where it is none: an IP literal or an IPv4 text.
-    fn try_replace_host_reg_name(&mut self, new_host: &str) -> Result<Option<&str>, AllocError>;
+    fn try_replace_host_reg_name(&mut self, new_host: &str) -> Result<Option<&str>, AllocError>
+        ensures* host { sem 𝓛 (follows_so Self.row Self.row self.entry.ghost_name none (λ _ _. ⊤)
+            (λ after. HostChange tests true Self.text self.old after new_host.now result)) };
 }
 
 // Whether the host may be replaced by the new one.
@@ -64,7 +73,7 @@ fn replace_host<'a, S: Spec, K: WholeKind>(
 ) -> Result<Option<&'a str>, AllocError>
     ensures* { sem 𝓛 (follows_so (the_row S.row K.row S.Spec K.Kind)
         (the_row S.row K.row S.Spec K.Kind) owned.entry.ghost_name none (λ _ _. ⊤)
-        (λ after. HostChange S.tests names_only owned.old after new_host.now result)) }
+        (λ after. HostChange S.tests names_only (λ t. t.text) owned.old after new_host.now result)) }
 {
     match put_host(owned, new_host, names_only) {
         Ok(Some(start)) => Ok(Some(&owned.as_str()[start..start + new_host.len()])),
@@ -74,18 +83,20 @@ fn replace_host<'a, S: Spec, K: WholeKind>(
 }
 
 impl<S: Spec, K: WholeKind> ReplaceHost for Owned<S, K> {
+    ghost tests = { S.tests };
+
     fn try_replace_host(&mut self, new_host: &str) -> Result<Option<&str>, AllocError>
-        ensures* { sem 𝓛 (follows_so (the_row S.row K.row S.Spec K.Kind)
+        ensures* host { sem 𝓛 (follows_so (the_row S.row K.row S.Spec K.Kind)
             (the_row S.row K.row S.Spec K.Kind) self.entry.ghost_name none (λ _ _. ⊤)
-            (λ after. HostChange S.tests false self.old after new_host.now result)) }
+            (λ after. HostChange S.tests false (λ t. t.text) self.old after new_host.now result)) }
     {
         replace_host(self, new_host, false)
     }
 
     fn try_replace_host_reg_name(&mut self, new_host: &str) -> Result<Option<&str>, AllocError>
-        ensures* { sem 𝓛 (follows_so (the_row S.row K.row S.Spec K.Kind)
+        ensures* host { sem 𝓛 (follows_so (the_row S.row K.row S.Spec K.Kind)
             (the_row S.row K.row S.Spec K.Kind) self.entry.ghost_name none (λ _ _. ⊤)
-            (λ after. HostChange S.tests true self.old after new_host.now result)) }
+            (λ after. HostChange S.tests true (λ t. t.text) self.old after new_host.now result)) }
     {
         replace_host(self, new_host, true)
     }

@@ -1,6 +1,6 @@
 //! Passwords of whole texts, hidden or replaced where the text is shown (RFC 3986 sections 3.2.1 and 7.5).
 ghost use Rattle.std.specs.Fn.{FnOnceReturnsAt};
-ghost use Rattle.std.specs.Prelude.{◌≡◌, Some};
+ghost use Rattle.std.specs.Prelude.{◌≡◌, ℕ, List, Some};
 ghost use Rattle.iri_edit.specs.Password.{masked, password_of, with_password};
 ghost use Rattle.iri_text.specs.Shown.{Shows};
 ghost use Rattle.iri_types.specs.Texts.{text};
@@ -36,16 +36,29 @@ pub struct PasswordReplaced<'a, V, D> {
 
 /// Whole texts whose password can be hidden.
 pub trait MaskPassword<'a>: Sized {
+    ghost use Rattle.iri_edit.specs.Shown.{masked_view};
+    ghost use Rattle.iri_edit.specs.declared.password.PasswordMasked.{PasswordMasked};
+
+    /// The bytes of the text.
+    ghost bytes: { Self → List ℕ };
+
+    /// What is shown.
+    ghost shown: { PasswordMasked Self → List ℕ };
+
     /// The view, shown without its password.
-    fn mask_password(self) -> PasswordMasked<'a, Self>;
+    fn mask_password(self) -> PasswordMasked<'a, Self>
+        ensures view { masked_view result ≡ self }
+        ensures shown { shown result ≡ masked (bytes self) };
 }
 
 impl<'a, S: Spec, K: WholeKind> MaskPassword<'a> for View<'a, S, K> {
     ghost use Rattle.iri_edit.specs.Shown.{masked_view};
 
-    fn mask_password(self) -> PasswordMasked<'a, Self>
-        ensures { masked_view result ≡ self.entry }
-    {
+    ghost bytes = { λ v. text v };
+
+    ghost shown = { λ m. masked (text (masked_view m)) };
+
+    fn mask_password(self) -> PasswordMasked<'a, Self> {
         PasswordMasked {
             view: self,
             lifetime: PhantomData,

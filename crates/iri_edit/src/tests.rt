@@ -1,7 +1,12 @@
+ghost use Rattle.std.specs.Prelude.{◌≡◌, true, IfOk, OnErr, OnOk, Some};
+ghost use Rattle.iri_edit.specs.Fragment.{with_fragment};
+ghost use Rattle.iri_edit.specs.Host.{with_host};
+ghost use Rattle.iri_edit.specs.Password.{masked, without_password};
+
 use crate::builder::{BuildError, Builder};
 use crate::fragment::SetFragment;
 use crate::host::ReplaceHost;
-use crate::password::MaskPassword;
+use crate::password::{MaskPassword, PasswordMasked};
 use crate::removal::RemovePassword;
 use iri_grammar::error::ErrorKind;
 use iri_grammar::spec::{IriSpec, UriSpec};
@@ -143,6 +148,9 @@ fn hosts_replaced(rt: HostRuntime) -> Result<(), Fail> {
     let mut iri = IriReferenceString::try_from_str(rt.alloc(), "//a/é")?;
     assert_eq!(rt; iri.try_replace_host("é")?, Some("é"));
     assert_eq!(rt; iri.as_str(), "//é/é");
+    let mut uri = UriString::try_from_str(rt.alloc(), "http://a:80/#f")?;
+    assert_eq!(rt; uri.try_replace_host("[::1]")?, Some("[::1]"));
+    assert_eq!(rt; uri.as_str(), "http://[::1]:80/#f");
     Ok(())
 }
 
@@ -192,6 +200,15 @@ fn fragments_set(rt: HostRuntime) -> Result<(), Fail> {
 fn kept_where_memory_is_refused(rt: HostRuntime) -> Result<(), Fail> {
     let mut uri = UriString::try_from_str(rt.alloc(), "http://a/#f")?;
     let refused = match uri.try_replace_host("a.rather.long.name.example") {
+        Ok(_) => false,
+        Err(_) => true,
+    };
+    if refused {
+        assert_eq!(rt; uri.as_str(), "http://a/#f");
+        return Err(AllocError)?;
+    }
+    let mut uri = UriString::try_from_str(rt.alloc(), "http://a/#f")?;
+    let refused = match uri.try_replace_host_reg_name("a.rather.long.name.example") {
         Ok(_) => false,
         Err(_) => true,
     };
@@ -357,6 +374,19 @@ fn faulty<'a>(from: usize, to: usize) -> Builder<'a> {
     builder
 }
 
+// No scheme is set, and nothing else is wrong.
+#[test]
+fn no_scheme(rt: HostRuntime) -> Result<(), Fail> {
+    let builder = Builder::new();
+    let iri = builder.build_iri::<UriSpec>(rt.alloc());
+    let kind = told(iri.map(|t| t.into_reference()))?;
+    assert_eq!(rt; kind, Some(ErrorKind::UnexpectedRelative));
+    let absolute = builder.build_absolute::<UriSpec>(rt.alloc());
+    let kind = told(absolute.map(|t| t.into_reference()))?;
+    assert_eq!(rt; kind, Some(ErrorKind::UnexpectedRelative));
+    Ok(())
+}
+
 #[test]
 fn faults_of_kinds_and_paths(rt: HostRuntime) -> Result<(), Fail> {
     let mut builder = Builder::new();
@@ -396,5 +426,54 @@ fn faults_of_kinds_and_paths(rt: HostRuntime) -> Result<(), Fail> {
     host.path("b");
     let reference = host.build_reference::<UriSpec>(rt.alloc());
     assert_eq!(rt; told(reference)?, Some(ErrorKind::InvalidPath));
+    Ok(())
+}
+
+// What is known of any type with these traits.
+fn hidden<'a, V: MaskPassword<'a>>(view: V) -> PasswordMasked<'a, V>
+    ensures { V.shown result ≡ masked (V.bytes view) }
+{
+    view.mask_password()
+}
+
+fn remove<T: RemovePassword>(text: &mut T)
+    ensures { T.text text.new ≡ without_password (T.text text.old) }
+{
+    text.remove_password_inline();
+}
+
+fn put_host<T: ReplaceHost>(text: &mut T, host: &str) -> Result<bool, AllocError>
+    ensures host { IfOk result (λ b. b ≡ true → T.text text.new ≡ with_host (T.text text.old) host.now) }
+    ensures err { OnErr result (text.new ≡ text.old) }
+{
+    match text.try_replace_host(host) {
+        Ok(Some(_)) => Ok(true),
+        Ok(None) => Ok(false),
+        Err(error) => Err(error),
+    }
+}
+
+fn put_fragment<F: Show + Drop, T: SetFragment<F>>(
+    text: &mut T,
+    fragment: F,
+) -> Result<(), AllocError>
+    ensures ok { OnOk result (T.text text.new ≡ with_fragment (T.text text.old) (Some (F.text fragment))) }
+    ensures err { OnErr result (text.new ≡ text.old) }
+{
+    text.set_fragment(Some(fragment))
+}
+
+#[test]
+fn any_type_with_the_traits(rt: HostRuntime) -> Result<(), Fail> {
+    let mut text = UriString::try_from_str(rt.alloc(), "http://u:p@h/")?;
+    let mask = hidden(text.as_slice());
+    assert_eq!(rt; shown(rt.alloc(), &mask)?.as_str(), "http://u:@h/");
+    remove(&mut text);
+    assert!(rt; put_host(&mut text, "g")?);
+    match UriFragmentStr::new("f") {
+        Ok(fragment) => put_fragment(&mut text, fragment)?,
+        Err(_) => return Err("a valid fragment is refused")?,
+    }
+    assert_eq!(rt; text.as_str(), "http://u@g/#f");
     Ok(())
 }
