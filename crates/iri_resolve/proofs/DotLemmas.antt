@@ -1,7 +1,7 @@
 -- Dot segments, byte by byte.
 use Rattle.std.proofs.Common.{◌≡◌, ℕ, ◌≢◌, Bool, true, false, cond, ◌&&◌, ◌||◌, List, [], ◌∷◌, Option, Some, None, ◌≤◌, ◌<◌, length, drop}
 use Rattle.std.proofs.Common.{refl, sym, ◌∙◌, ap, subst, arith}
-use Rattle.std.specs.Prelude.{◌==◌, slice_index}
+use Rattle.std.specs.Prelude.{◌==◌}
 use Rattle.iri_grammar.specs.Cut.{before, behind}
 use Rattle.iri_grammar.proofs.CutLaws.{by_test}
 use Rattle.iri_grammar.specs.Parts.{is_empty}
@@ -124,18 +124,3 @@ pub two_dots_first : (t r : List ℕ) → Some r ≡ behind_dot t → is_empty (
 unfolding is_dot_segment
 two_dots_first t r h e = ap is_dot_segment_behind (dot_cut t ∙ ap cut_rest (sym h))
     ∙ second_dot (before 47 r) (cut_rest (behind_dot r)) e (dot_cut r)
-
--- ---- the first two places, where neither a slash nor what begins a dot stands in the second one
-plain : (x y : ℕ) (xs : List ℕ) → (y == 46) ≡ false → (y == 47) ≡ false → (y == 37) ≡ false → dots_behind (x ∷ y ∷ xs) ≡ dots_behind xs
-plain x y xs dot slash triplet =
-    one_step x (y ∷ xs) ∙ rw (plain_front y xs dot triplet, slash)
-    (elim (x == 47) as (λ b. (b && false || dots_behind xs) ≡ dots_behind xs) [ true ↦ refl | false ↦ refl ])
-
-pub two_places : (t : List ℕ) → 2 ≤ length t → (37 ≤ slice_index t 1 → slice_index t 1 ≤ 47 → ⊥) → dots_behind t ≡ dots_behind (drop 2 t)
-two_places [] l n = absurd (omega arith)
-two_places (x ∷ []) l n = absurd (omega arith)
-two_places (x ∷ y ∷ xs) l n = plain x y xs (other 46 (omega arith) (omega arith)) (other 47 (omega arith) (omega arith))
-    (other 37 (omega arith) (omega arith))
-  where
-    other : (c : ℕ) → 37 ≤ c → c ≤ 47 → (y == c) ≡ false
-    other c a b = by_test y c (λ b. b ≡ false) (λ e. absurd (n (omega arith) (omega arith))) (λ _. refl)

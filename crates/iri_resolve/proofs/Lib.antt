@@ -1,10 +1,8 @@
 pub mod SlashLemmas
 pub mod NormalLemmas
-pub mod RunLemmas
 pub mod SegmentLemmas
 pub mod KeptLemmas
 pub mod EndedLemmas
-pub mod FirstLemmas
 pub mod WriterLemmas
 pub mod FormLemmas
 pub mod ModeLemmas
@@ -12,8 +10,12 @@ pub mod BeginLemmas
 pub mod Borrowed
 pub mod CanonLemmas
 pub mod DotLemmas
-pub mod LaneLemmas
-pub mod LastDotLemmas
+pub mod WrittenLemmas
+pub mod StaysLemmas
+pub mod NextLemmas
+pub mod OutputLemmas
+pub mod LongLemmas
+pub mod BeginningLemmas
 pub mod Edits
 pub mod Replayed
 pub mod MapPaths

@@ -4,7 +4,9 @@ pub mod Comparison
 pub mod ComponentSteps
 pub mod DotSearch
 pub mod LookBack
-pub mod LastDots
+pub mod Beginning
+pub mod Written
+pub mod NextDots
 pub mod NormalSteps
 pub mod PartTexts
 pub mod Unchanged

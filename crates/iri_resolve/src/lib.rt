@@ -35,6 +35,7 @@
 
 mod after_step;
 mod authority_change;
+mod beginning;
 pub mod canonical;
 mod change;
 mod comparison;

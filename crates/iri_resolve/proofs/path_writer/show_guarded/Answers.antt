@@ -1,19 +1,11 @@
 use Rattle.std.proofs.Common.{◌++◌, ◌∙◌, sym, subst}
 use Rattle.iri_text.proofs.Compose.{shows_exit, shows_then}
 use Rattle.iri_text.specs.Shown.{Shows}
-use Rattle.iri_percent.proofs.WholeLaws.{path-whole}
 use Rattle.iri_resolve.specs.DotRemoval.{dots}
 use Rattle.iri_resolve.specs.PathForm.{in_form}
 use Rattle.iri_resolve.proofs.BeginLemmas.{unguarded-form, guarded-form}
 use Rattle.iri_resolve.proofs.NormalLemmas.{dots_whole}
 use Rattle.iri_resolve.proofs.path_writer.show_guarded.Goals as goal
-
-pub is_guarded-requires-clause-whole : goal.is_guarded-requires-clause-whole
-is_guarded-requires-clause-whole g c = path-whole g.S.Spec.tests (c.args.front.now ++ c.args.path.now) g.met.S.Spec.lawful c.requires.path
-
-pub show_without_dots-requires-clause-whole : goal.show_without_dots-requires-clause-whole
-show_without_dots-requires-clause-whole g c = path-whole g.S.Spec.tests
-    (c.args.front.now ++ c.args.path.now) g.met.S.Spec.lawful c.requires.path
 
 pub returns-then-not-is_guarded : goal.returns-then-not-is_guarded
 returns-then-not-is_guarded g c =
@@ -23,10 +15,6 @@ returns-then-not-is_guarded g c =
     subst (λ x. Shows g.W.TextSink.puts g.W.TextSink.halts g.W.TextSink.stops c.args.sink.now x c.show_without_dots.new.sink c.show_without_dots.result)
     (unguarded-form s c.args.normal c.args.authority_stands (dots p) g.met.S.Spec.lawful w
     (sym c.is_guarded.ensures ∙ c.if-not-is_guarded.true)) c.show_without_dots.ensures
-
-pub show_without_dots-requires-2-clause-whole : goal.show_without_dots-requires-2-clause-whole
-show_without_dots-requires-2-clause-whole g c = path-whole g.S.Spec.tests
-    (c.args.front.now ++ c.args.path.now) g.met.S.Spec.lawful c.requires.path
 
 pub returns-in_err-put : goal.returns-in_err-put
 returns-in_err-put g c =

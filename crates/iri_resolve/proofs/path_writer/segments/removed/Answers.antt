@@ -1,24 +1,34 @@
-use Rattle.std.proofs.Common.{◌++◌, [], ◌∷◌, ◌∙◌, subst, sym, ap, arith}
-use Rattle.std.specs.Str.{IsUtf8}
-use Rattle.iri_resolve.specs.Kept.{ended, removed}
-use Rattle.iri_resolve.specs.inside.LastDots.{removing_at}
-use Rattle.iri_resolve.proofs.EndedLemmas.{utf8-front, removed-last, removing-le, length-last}
-use Rattle.iri_resolve.proofs.LastDotLemmas.{removing-kind}
+use Rattle.std.proofs.Common.{◌≡◌, ◌+◌, ◌-◌, cond, ◌∙◌, sym, ap, arith}
+use Rattle.std.proofs.lemmas.List.Sums.{count_by-le-length}
+use Rattle.std.specs.List.{count_by}
+use Rattle.memchr.specs.Find.{is_byte}
+use Rattle.iri_grammar.specs.Pieces.{pieces}
+use Rattle.iri_resolve.specs.Kept.{taken}
+use Rattle.iri_resolve.proofs.LongLemmas.{all-taken, taken-next}
+use Rattle.iri_resolve.proofs.NextLemmas.{next-shorter}
 use Rattle.iri_resolve.proofs.path_writer.segments.removed.Goals as goal
 
-pub segments-preserved : goal.segments-preserved
-segments-preserved c =
-    let i = c.segments.invariant in
-    let t = c.segments.rest.now in
-    let a = c.last_segment-kind.result.0.now in
-    let s = c.last_segment-kind.result.1.now in
-    let n = c.segments.pending in
-    let e = c.last_segment-kind.ensures in
-    let next = c.removing_at-pending.ensures ∙ (ap (λ k. removing_at k n) e.kind ∙ removing-kind s n) in
+pub dots-smaller : goal.dots-smaller
+dots-smaller c =
+    omega (arith, next-shorter c.dots.rest.now c.in-Some.next.run.now c.in-Some.next.two c.in-Some.next.rest.now c.in-Some.ensures)
+
+pub dots-preserved : goal.dots-preserved
+dots-preserved c =
+    let i = c.dots.invariant in
+    let run = c.in-Some.next.run.now in
+    let two = c.in-Some.next.two in
+    let rest = c.in-Some.next.rest.now in
+    let next = taken-next c.dots.rest.now run two rest c.args.count c.in-Some.ensures in
+    let size = next-shorter c.dots.rest.now run two rest c.in-Some.ensures in
+    let gone = taken (pieces 47 rest) c.args.count in
+    let k = cond two (gone + 1) gone in
+    let counts : c.dots.gone + ((k - count_by (is_byte 47) run) - c.dots.stay) ≡ c.dots.gone + (k - (c.dots.stay + c.count_slashes.result)) =
+    omega (arith, c.count_slashes.ensures) in
     record {
-      utf8 = utf8-front a (s ++ 47 ∷ []) e.ends (subst IsUtf8 e.whole i.utf8);
-      ends = e.ends;
-      same = i.same ∙ (removed-last t a s n e.ends e.last e.whole
-          ∙ ap (removed (ended a)) (sym next));
-      room = omega (arith, i.room, removing-le s n, length-last t a s e.whole, next);
+      room = omega (arith, i.room, size, c.counts_behind.ensures.room, c.count_slashes.ensures, count_by-le-length (is_byte 47) run);
+      same = i.same ∙ (ap (λ n. c.dots.gone + (n - c.dots.stay)) next ∙ (counts ∙ sym (c.counts_behind.ensures.counts gone)));
     }
+
+pub returns-clause-count : goal.returns-clause-count
+returns-clause-count c =
+    omega (arith, c.dots.invariant.same, all-taken c.dots.rest.now c.args.count c.in_default.ensures, c.count_slashes-2.ensures)

@@ -1,18 +1,14 @@
-use Rattle.std.proofs.Common.{◌≡◌, ◌+◌, ◌≤◌, true, length}
-use denote.Text.{Utf8}
-use denote.Shadow.{shadow}
-use Rattle.iri_resolve.specs.Kept.{ended, removed}
-use Rattle.iri_resolve.specs.Target.{ends_at_slash}
+use Rattle.std.proofs.Common.{◌≡◌, ◌≤◌, ◌+◌, ◌-◌, length}
+use Rattle.iri_grammar.specs.Pieces.{pieces}
+use Rattle.iri_resolve.specs.Kept.{taken}
 use Rattle.iri_resolve.proofs.path_writer.segments.removed.Given as goal
 
--- what is left removes, with what is pending, as many as the whole
-abbrev pub invariant-segments : goal.invariant-segments
-invariant-segments l = record {
-  utf8 : shadow (Utf8 l.rest);
-  ends : ends_at_slash l.rest ≡ true;
-  same : removed (ended l.fn.text) l.fn.count ≡ removed (ended l.rest) l.pending;
-  room : l.pending + length l.rest ≤ l.fn.count + length l.fn.text;
+-- so many are taken back in front of what was read, and so many of it stay, before the rest takes some of these back
+abbrev pub invariant-dots : goal.invariant-dots
+invariant-dots l = record {
+  room : l.gone + l.stay + length l.rest ≤ length l.fn.text;
+  same : taken (pieces 47 l.fn.text) l.fn.count ≡ l.gone + (taken (pieces 47 l.rest) l.fn.count - l.stay);
 }
 
-abbrev pub decreases-segments : goal.decreases-segments
-decreases-segments l = length l.rest
+abbrev pub decreases-dots : goal.decreases-dots
+decreases-dots l = length l.rest

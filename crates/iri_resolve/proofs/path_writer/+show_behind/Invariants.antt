@@ -1,5 +1,0 @@
-use Rattle.std.proofs.Common.{length}
-use Rattle.iri_resolve.proofs.path_writer.+show_behind.Given as goal
-
-abbrev pub decreases-show_behind : goal.decreases-show_behind
-decreases-show_behind g l = length l.text.now
