@@ -1,18 +1,14 @@
 -- Texts that end with a slash, cut between their segments.
-use Rattle.std.proofs.Common.{◌≡◌, ℕ, zero, suc, ◌+◌, ◌-◌, ◌<◌, Bool, true, false, cond, ◌||◌, List, [], ◌∷◌, ◌++◌, Some}
-use Rattle.std.proofs.Common.{None, length, take, drop, refl, sym, ◌∙◌, ap, arith, append_assoc, length-append, eq-eqb}
+use Rattle.std.proofs.Common.{◌≡◌, ℕ, zero, suc, ◌+◌, ◌-◌, ◌<◌, Bool, true, false, ◌||◌, List, [], ◌∷◌, ◌++◌, Some}
+use Rattle.std.proofs.Common.{length, take, drop, refl, sym, ◌∙◌, ap, arith, append_assoc, length-append, eq-eqb}
 use Rattle.std.specs.Prelude.{◌==◌, slice_index}
 use Rattle.std.proofs.lemmas.Bool.{eqb-true}
-use Rattle.std.proofs.lemmas.List.{append-nil, drop_at, take_at}
+use Rattle.std.proofs.lemmas.List.{drop_at, take_at}
 use Rattle.memchr.specs.Find.{is_byte, IsLastByte}
 use Rattle.iri_grammar.specs.Cut.{before, behind, lacks, marked}
-use Rattle.iri_grammar.proofs.CutLaws.{by_test, joined}
+use Rattle.iri_grammar.proofs.CutLaws.{joined}
 use Rattle.iri_resolve.specs.Target.{to_last_slash, ends_at_slash}
-use Rattle.iri_resolve.specs.Dots.{is_dot_segment, any_dot_segment, has_dot_segment}
-use Rattle.iri_resolve.specs.Kept.{grown, ended}
 use Rattle.iri_resolve.proofs.SlashLemmas.{last_slash}
-use Rattle.iri_resolve.proofs.PieceLaws.{nothing-is_no_dot}
-use Rattle.iri_resolve.proofs.KeptLemmas.{pieces-ended}
 
 -- ---- where a text ends with a slash
 take-ends-suc : (t : List ℕ) (i : ℕ) → i < length t → slice_index t i ≡ 47 → ends_at_slash (take (suc i) t) ≡ true
@@ -35,6 +31,13 @@ both-end [] b h k = k
 both-end (x ∷ []) [] h k = h
 both-end (x ∷ []) (y ∷ ys) h k = k
 both-end (x ∷ y ∷ ys) b h k = both-end (y ∷ ys) b h k
+
+-- what ends with a slash, or of which nothing is taken away
+pub rest-ok : (a b : List ℕ) (n : ℕ) → (ends_at_slash (a ++ b) || n == 0) ≡ true → (ends_at_slash b || n == 0) ≡ true
+rest-ok [] b n h = h
+rest-ok (x ∷ []) [] n h = refl
+rest-ok (x ∷ []) (y ∷ ys) n h = h
+rest-ok (x ∷ y ∷ ys) b n h = rest-ok (y ∷ ys) b n h
 
 pub slash-ends : (s : List ℕ) → ends_at_slash (s ++ 47 ∷ []) ≡ true
 slash-ends [] = refl
@@ -86,44 +89,7 @@ pub neither : (a b : Bool) → (a || b) ≡ false → (a ≡ false) × (b ≡ fa
 neither true b h = cc
 neither false b h = (refl, h)
 
--- all of them stay
-abbrev pub unended : List (List ℕ) → List ℕ
-unended [] = []
-unended (s ∷ ss) = s ++ 47 ∷ unended ss
-
-pub unended-ended : (t : List ℕ) → ends_at_slash t ≡ true → unended (ended t) ≡ t
-unended-ended [] h = refl
-unended-ended (x ∷ []) h = rw h (ap (λ c. c ∷ []) (sym (eqb-true x 47 h)))
-unended-ended (x ∷ y ∷ ys) h =
-    let r = unended-ended (y ∷ ys) h in
-    by_test x 47 (λ b. unended (cond b ([] ∷ ended (y ∷ ys)) (grown x (ended (y ∷ ys)))) ≡ x ∷ y ∷ ys)
-    (λ e. ap (λ l. 47 ∷ l) r ∙ ap (λ c. c ∷ y ∷ ys) (sym e))
-    (λ _. grows (ended (y ∷ ys)) r)
-  where
-    grows : (ss : List (List ℕ)) → unended ss ≡ y ∷ ys → unended (grown x ss) ≡ x ∷ y ∷ ys
-    grows [] e = cc
-    grows (s ∷ ss) e = ap (λ l. x ∷ l) e
-
--- whether one of the segments is a dot segment
-pub dots-ended : (t : List ℕ) → ends_at_slash t ≡ true → has_dot_segment t ≡ any_dot_segment (ended t)
-dots-ended t h =
-    ap has_dot_segment (sym (append-nil t)) ∙ (ap any_dot_segment (pieces-ended t [] h) ∙ nothing_more (ended t))
-  where
-    or-same : (b : Bool) → (b || false) ≡ b
-    or-same true = refl
-    or-same false = refl
-
-    nothing_more : (ss : List (List ℕ)) → any_dot_segment (ss ++ [] ∷ []) ≡ any_dot_segment ss
-    nothing_more [] = ap (λ b. b || false) nothing-is_no_dot
-    nothing_more (s ∷ ss) = ap (λ b. is_dot_segment s || b) (nothing_more ss)
-
 -- ---- the first segment
-
-pub ended-none : (t : List ℕ) → behind 47 t ≡ None → ended t ≡ []
-ended-none [] e = refl
-ended-none (x ∷ xs) e =
-    elim (x == 47) as (λ b. cond b (Some xs) (behind 47 xs) ≡ None
-    → cond b ([] ∷ ended xs) (grown x (ended xs)) ≡ []) [ true ↦ λ k. cc | false ↦ λ k. ap (grown x) (ended-none xs k) ] e
 
 -- what stands before it, and what follows
 pub first_whole : (t r : List ℕ) → behind 47 t ≡ Some r → t ≡ (before 47 t ++ 47 ∷ []) ++ r

@@ -11,10 +11,10 @@ pub mod Borrowed
 pub mod CanonLemmas
 pub mod DotLemmas
 pub mod WrittenLemmas
-pub mod StaysLemmas
 pub mod NextLemmas
 pub mod OutputLemmas
 pub mod LongLemmas
+pub mod LaneLemmas
 pub mod BeginningLemmas
 pub mod Edits
 pub mod Replayed

@@ -1,41 +1,44 @@
 -- A long path in parts.
-use Rattle.std.proofs.Common.{◌≡◌, ℕ, ◌+◌, ◌-◌, ◌<◌, ◌≤◌, Bool, true, false, cond, not, ◌&&◌, ◌||◌, List, [], ◌∷◌, ◌++◌, Option, Some, None}
-use Rattle.std.proofs.Common.{refl, sym, ◌∙◌, ap, subst, arith, append_assoc, length, length-append, take}
-use Rattle.std.proofs.lemmas.List.{get_or-take, length-take-le}
-use Rattle.std.proofs.Math.Seq.{get_or-append_seam}
+use Rattle.std.proofs.Common.{◌≡◌, ℕ, zero, suc, ◌+◌, ◌-◌, ◌<◌, ◌≤◌, Bool, true, false, cond, not, ◌&&◌, ◌||◌, List, [], ◌∷◌, ◌++◌, Option, Some, None}
+use Rattle.std.proofs.Common.{refl, sym, ◌∙◌, ap, ap₂, subst, arith, append_assoc, length, take, drop}
+use Rattle.std.proofs.lemmas.List.{append-nil, get_or-take, length-drop, length-take-le, take-append-drop}
 use Rattle.std.proofs.lemmas.List.Recursion.{is_count_by}
 use Rattle.std.specs.List.{count_by}
-use Rattle.std.specs.Prelude.{◌==◌, slice_index}
+use Rattle.std.specs.Prelude.{◌==◌, MatchOption, slice_index}
 use Rattle.std.specs.Str.{IsUtf8}
-use Rattle.memchr.specs.Find.{is_byte, IsLastByte}
+use Rattle.memchr.specs.Find.{IsFirstByte, is_byte}
 use Rattle.iri_grammar.specs.Classes.{Tests, path_char}
 use Rattle.iri_grammar.specs.Components.{is_path}
-use Rattle.iri_grammar.specs.Cut.{before, behind}
+use Rattle.iri_grammar.specs.Cut.{before, behind, lacks, marked}
+use Rattle.iri_grammar.proofs.CutLaws.{both, joined}
+use Rattle.iri_grammar.proofs.CutLemmas.{found}
+use Rattle.std.proofs.lemmas.Bool.{eqb-true}
+use Rattle.iri_grammar.specs.Parts.{is_empty}
 use Rattle.iri_grammar.specs.Pieces.{onto, pieces}
 use Rattle.iri_grammar.specs.Over.{text_over}
 use Rattle.iri_grammar.specs.inside.PiecesLaws.{more_pieces}
 use Rattle.iri_grammar.proofs.AuthorityTexts.{text_over-utf8}
 use Rattle.iri_grammar.proofs.PiecesLaws.{pieces_cut}
 use Rattle.iri_grammar.proofs.UnitRuns.{text_over-append}
+use Rattle.iri_percent.specs.Triplets.{pct}
+use Rattle.iri_percent.proofs.MarkLaws.{pct_mark, slash}
 use Rattle.iri_resolve.specs.DotRemoval.{dots, is_two_dots}
 use Rattle.iri_resolve.specs.Dots.{is_dot_segment, any_dot_segment, has_dot_segment}
-use Rattle.iri_resolve.specs.Kept.{ended, grown, removed, removing, taken}
+use Rattle.iri_resolve.specs.Kept.{kept, taken}
 use Rattle.iri_resolve.specs.PathForm.{in_form}
 use Rattle.iri_resolve.specs.Target.{ends_at_slash}
+use Rattle.iri_resolve.specs.inside.CutText.{IsCut}
 use Rattle.iri_resolve.specs.inside.NextDots.{IsNext}
-use Rattle.iri_resolve.specs.inside.Written.{or_nothing, shown, written}
-use Rattle.iri_resolve.proofs.EndedLemmas.{dots-ended, end_slash, first_whole, neither}
-use Rattle.iri_resolve.proofs.KeptLemmas.{pieces-ended}
-use Rattle.iri_resolve.proofs.PieceLaws.{nothing-is_no_dot, pieces-some}
-use Rattle.iri_percent.proofs.MarkLaws.{pct_mark, slash}
+use Rattle.iri_resolve.specs.inside.Written.{or_nothing, popped, popped_times, written, written_segments}
+use Rattle.iri_resolve.proofs.EndedLemmas.{end_slash, first_whole, neither, rest-ends, slash-ends, take-ends}
+use Rattle.iri_resolve.proofs.KeptLemmas.{bottom-times, kept-ends, kept-two, path-stays, taken-two}
 use Rattle.iri_resolve.proofs.NormalLemmas.{pct_nil}
-use Rattle.iri_resolve.proofs.SlashLemmas.{slash_is}
-use Rattle.iri_resolve.proofs.StaysLemmas.{or_true, one-behind, one-first, shown-ends, shown-two, start-some}
+use Rattle.iri_resolve.proofs.PieceLaws.{all_lack, nothing-is_no_dot, pieces-lack, pieces-some}
+use Rattle.iri_resolve.proofs.SegmentLemmas.{or_true}
 use Rattle.iri_resolve.proofs.TargetLaws.{slash_in_path}
 use Rattle.iri_resolve.proofs.TextLaws.{nothing_over, slash_over, text_over-cut}
 use Rattle.iri_resolve.proofs.WriterLemmas.{form-append, form-nil}
-use Rattle.iri_resolve.proofs.WrittenLemmas.{left-nothing, written-dot, written-dots, written-two}
-use Rattle.iri_resolve.proofs.NextLemmas.{before-ended}
+use Rattle.iri_resolve.proofs.WrittenLemmas.{left-nothing, popped-ends, written-dot, written-dots, written-nothing, written-two}
 
 -- ---- parts of a path
 pub path-two : (s : Tests) (a b : List ℕ) → ends_at_slash a ≡ true → is_path s (a ++ b) ≡ true → (is_path s a ≡ true) × (is_path s b ≡ true)
@@ -53,46 +56,21 @@ first-path s t r e w =
     (first_whole t r e ∙ append_assoc (before 47 t) (47 ∷ []) r) w) in
     (sides.left, sides.right)
 
+pub path-parts : (s : Tests) (a b : List ℕ) → (is_empty b || ends_at_slash a) ≡ true → is_path s (a ++ b) ≡ true
+    → (is_path s a ≡ true) × (is_path s b ≡ true)
+path-parts s a [] c w = (ap (is_path s) (sym (append-nil a)) ∙ w, nothing_over (path_char s))
+path-parts s a (x ∷ xs) c w = path-two s a (x ∷ xs) c w
+
+pub before-lacks : (t : List ℕ) → lacks 47 (before 47 t) ≡ true
+before-lacks t = (both (lacks 47 (before 47 t)) (all_lack (more_pieces 47 (behind 47 t))) (ap all_lack (sym (pieces_cut 47 t)) ∙ pieces-lack t)).0
+
 pub path-utf8 : (s : Tests) (t : List ℕ) → is_path s t ≡ true → IsUtf8 t
 path-utf8 s t w = text_over-utf8 (path_char s) t w
 
 -- ---- how many segments are taken back
-length-grown : (x : ℕ) (ss : List (List ℕ)) → length (grown x ss) ≡ length ss
-length-grown x [] = refl
-length-grown x (s ∷ ss) = refl
-
 abbrev slashes : List ℕ → ℕ
 slashes [] = 0
 slashes (x ∷ xs) = cond (x == 47) (1 + slashes xs) (slashes xs)
-
-slashes-ended : (t : List ℕ) → ends_at_slash t ≡ true → slashes t ≡ length (ended t)
-slashes-ended [] h = refl
-slashes-ended (x ∷ []) h = rw h refl
-slashes-ended (x ∷ y ∷ ys) h =
-    let r = slashes-ended (y ∷ ys) h in
-    elim (x == 47) as (λ b. cond b (1 + slashes (y ∷ ys)) (slashes (y ∷ ys))
-    ≡ length (cond b ([] ∷ ended (y ∷ ys)) (grown x (ended (y ∷ ys))))) [
-      | true ↦ omega (arith, r)
-      | false ↦ r ∙ sym (length-grown x (ended (y ∷ ys)))
-    ]
-
-count-ended : (t : List ℕ) → ends_at_slash t ≡ true → count_by (is_byte 47) t ≡ length (ended t)
-count-ended t h = sym (is_count_by slashes (is_byte 47) refl (λ x xs. refl) t) ∙ slashes-ended t h
-
-plain-removed : (ss : List (List ℕ)) (n : ℕ) → any_dot_segment ss ≡ false → removed ss n ≡ n - length ss
-plain-removed [] n h = omega arith
-plain-removed (s ∷ ss) n h =
-    let k = neither (is_dot_segment s) (any_dot_segment ss) h in
-    let r = plain-removed ss n k.1 in
-    rw k.0 (omega (arith, r))
-
-pub run-removed : (a : List ℕ) (n : ℕ) → ends_at_slash a ≡ true → has_dot_segment a ≡ false → removed (ended a) n ≡ n - count_by (is_byte 47) a
-run-removed a n e h = plain-removed (ended a) n (sym (dots-ended a e) ∙ h) ∙ ap (λ k. n - k) (sym (count-ended a e))
-
-taken-append : (ss : List (List ℕ)) (p : List ℕ) (ps : List (List ℕ)) (n : ℕ) → taken (ss ++ p ∷ ps) n ≡ removed ss (taken (p ∷ ps) n)
-taken-append [] p ps n = refl
-taken-append (s ∷ []) p ps n = refl
-taken-append (s ∷ t ∷ ss) p ps n = ap (removing s) (taken-append (t ∷ ss) p ps n)
 
 pieces-count : (t : List ℕ) → length (pieces 47 t) ≡ 1 + slashes t
 pieces-count [] = refl
@@ -131,92 +109,174 @@ pub taken-next : (t a : List ℕ) (two : Bool) (r : List ℕ) (n : ℕ) → IsNe
     → taken (pieces 47 t) n ≡ cond two (taken (pieces 47 r) n + 1) (taken (pieces 47 r) n) - count_by (is_byte 47) a
 taken-next t a two r n h =
     let m = h.more in
-    let ps = pieces-some m in
     ap (λ l. taken (pieces 47 l) n) h.whole
-    ∙ (ap (λ qs. taken qs n) (pieces-ended a m h.ends)
-    ∙ (subst (λ qs. taken (ended a ++ qs) n ≡ removed (ended a) (taken qs n)) (sym ps.whole) (taken-append (ended a) ps.first ps.rest n)
-    ∙ (run-removed a (taken (pieces 47 m) n) h.ends h.plain
+    ∙ (taken-two a m n h.ends
+    ∙ (all-taken a (taken (pieces 47 m) n) h.plain
     ∙ ap (λ k. k - count_by (is_byte 47) a) (taken-dot m n (behind 47 m) refl h.front.dots
     ∙ (ap (λ v. cond v (taken (pieces 47 (or_nothing (behind 47 m))) n + 1) (taken (pieces 47 (or_nothing (behind 47 m))) n)) (sym h.front.kind)
-    ∙ ap (λ l. cond two (taken (pieces 47 l) n + 1) (taken (pieces 47 l) n)) (sym h.front.rest_is))))))
+    ∙ ap (λ l. cond two (taken (pieces 47 l) n + 1) (taken (pieces 47 l) n)) (sym h.front.rest_is)))))
 
 -- ---- where a text is cut
-pub taken-slash : (t : List ℕ) (n i : ℕ) → n ≤ length t → IsLastByte (is_byte 47) (take n t) (Some i) → (i < length t) × (slice_index t i ≡ 47)
-taken-slash t n i l h =
-    let at = slash_is (take n t) i h in
-    let size = length-take-le n t l in
-    let below : i < n = omega (arith, at.0, size) in
-    (omega arith, sym (get_or-take n t i 0 below) ∙ at.1)
+pub slash-before-end : (t : List ℕ) (r : Option ℕ) → 1 ≤ length t → IsFirstByte (is_byte 47) (take (length t - 1) t) r
+    → MatchOption r (lacks 47 (take (length t - 1) t) ≡ true) (λ i. (i + 1 < length t) × (slice_index t i ≡ 47))
+slash-before-end t None l h = (found 47 (take (length t - 1) t) None h).has
+slash-before-end t (Some i) l h =
+    let u = take (length t - 1) t in
+    let size : length u ≡ length t - 1 = length-take-le (length t - 1) t (omega arith) in
+    let below : i < length t - 1 = omega (arith, h.0.high, size) in
+    (omega (arith, below), sym (get_or-take (length t - 1) t i 0 below) ∙ eqb-true (slice_index u i) 47 h.1)
 
-pub first-slash : (t r : List ℕ) → behind 47 t ≡ Some r
-    → (length t ≡ length (before 47 t) + 1 + length r) × (slice_index t (length (before 47 t)) ≡ 47)
-first-slash t r e =
-    let b = before 47 t in
-    let whole = first_whole t r e ∙ append_assoc b (47 ∷ []) r in
-    (omega (arith, ap length whole, length-append b (47 ∷ r)), ap (λ l. slice_index l (length b)) whole ∙ get_or-append_seam b 47 r 0)
-
-pub nothing-behind : (t r : List ℕ) → behind 47 t ≡ Some r → length r ≡ 0 → or_nothing (behind 47 t) ≡ []
-nothing-behind t [] e z = ap or_nothing e
-nothing-behind t (x ∷ xs) e z = absurd (omega arith)
-
--- what ends with a slash, or of which nothing is taken back
-pub rest-ok : (a b : List ℕ) (n : ℕ) → (ends_at_slash (a ++ b) || n == 0) ≡ true → (ends_at_slash b || n == 0) ≡ true
-rest-ok [] b n h = h
-rest-ok (x ∷ []) [] n h = refl
-rest-ok (x ∷ []) (y ∷ ys) n h = h
-rest-ok (x ∷ y ∷ ys) b n h = rest-ok (y ∷ ys) b n h
-
-pub first-plain : (t a b : List ℕ) → t ≡ a ++ b → ends_at_slash a ≡ true → 0 < length a → is_dot_segment (before 47 t) ≡ false
-    → is_dot_segment (before 47 a) ≡ false
-first-plain t [] b e h l p = absurd (omega arith)
-first-plain t (x ∷ xs) b e h l p = ap is_dot_segment (sym (ap (before 47) e ∙ before-ended x xs b h)) ∙ p
+pub cut-there : (t : List ℕ) (i : ℕ) → i + 1 < length t → slice_index t i ≡ 47 → IsCut t (take (i + 1) t) (drop (i + 1) t)
+cut-there t i l e = record {
+  whole = sym (take-append-drop (i + 1) t);
+  ends = take-ends t i (omega arith) e;
+  first_some = omega (arith, length-take-le (i + 1) t (omega arith));
+  rest_some = omega (arith, length-drop (i + 1) t);
+}
 
 -- ---- what is shown
-pub form-shown : (s : Tests) (normal f : Bool) (t a b : List ℕ) (n k : ℕ) → t ≡ a ++ b → ends_at_slash a ≡ true → 0 < length a
-    → (f ≡ true → is_dot_segment (before 47 t) ≡ false) → (ends_at_slash t || n == 0) ≡ true → k ≡ taken (pieces 47 b) n
-    → in_form s normal (shown f a k) ++ in_form s normal (shown false b n) ≡ in_form s normal (shown f t n)
-form-shown s normal f t a b n k e h l p o r =
-    let ok = rest-ok a b n (subst (λ q. (ends_at_slash q || n == 0) ≡ true) e o) in
-    let some = start-some f a h l (λ v. first-plain t a b e h l (p v)) in
-    sym (form-append s normal (shown f a k) (shown false b n) (shown-ends f a k h))
-    ∙ ap (in_form s normal) (ap (λ m. shown f a m ++ shown false b n) r ∙ (sym (shown-two f a b n h some ok) ∙ ap (λ q. shown f q n) (sym e)))
+gone-first : (t : List ℕ) (o : Option (List ℕ)) → behind 47 t ≡ o → is_dot_segment (before 47 t) ≡ true → written [] t ≡ written [] (or_nothing o)
+gone-first t o e h = written-dot [] t h
+    ∙ (ap (λ l. written l (or_nothing (behind 47 t))) (left-nothing (is_two_dots (before 47 t))) ∙ ap (λ o. written [] (or_nothing o)) e)
 
 pub gone-dots : (t r : List ℕ) → behind 47 t ≡ Some r → is_dot_segment (before 47 t) ≡ true → written [] t ≡ written [] r
-gone-dots t r e h = written-dot [] t h ∙ (ap (λ l. written l (or_nothing (behind 47 t))) (left-nothing (is_two_dots (before 47 t))) ∙ ap (λ o. written [] (or_nothing o)) e)
+gone-dots t r e h = gone-first t (Some r) e h
 
 pub gone-all : (t : List ℕ) → behind 47 t ≡ None → is_dot_segment (before 47 t) ≡ true → written [] t ≡ written [] []
-gone-all t e h = written-dot [] t h ∙ (ap (λ l. written l (or_nothing (behind 47 t))) (left-nothing (is_two_dots (before 47 t))) ∙ ap (λ o. written [] (or_nothing o)) e)
+gone-all t e h = gone-first t None e h
 
--- the first piece leaves nothing, or something
-pub front-nothing : (f p q g : List ℕ) → ends_at_slash f ≡ true → length g ≡ 0 → written [] g ≡ written [] f → written [] q ≡ written [] p
-    → shown true q 0 ≡ dots (f ++ p)
-front-nothing f p q (x ∷ xs) e z h k = absurd (omega arith)
-front-nothing f p q [] e z h k =
-    k ∙ (ap (λ w. written w p) (sym (rw nothing-is_no_dot refl) ∙ h) ∙ (sym (written-two [] f p e) ∙ written-dots (f ++ p)))
+-- behind a first segment that isn't a dot segment
+written-first : (t r : List ℕ) → behind 47 t ≡ Some r → is_dot_segment (before 47 t) ≡ false → written [] t ≡ written (before 47 t ++ 47 ∷ []) r
+written-first t r e h =
+    let ps = pieces-some r in
+    ap (written_segments []) (pieces_cut 47 t ∙ ap (λ o. before 47 t ∷ more_pieces 47 o) e)
+    ∙ subst (λ qs. written_segments [] (before 47 t ∷ qs) ≡ written_segments (before 47 t ++ 47 ∷ []) qs) (sym ps.whole) (rw h refl)
 
-pub front-some : (f p g : List ℕ) → ends_at_slash f ≡ true → ends_at_slash g ≡ true → written [] g ≡ written [] f
-    → shown true (g ++ p) 0 ≡ dots (f ++ p)
-front-some f p g e h k = written-two [] g p h ∙ (ap (λ w. written w p) k ∙ (sym (written-two [] f p e) ∙ written-dots (f ++ p)))
+pub no-slash : (t : List ℕ) → behind 47 t ≡ None → (ends_at_slash t && not (is_empty t)) ≡ false
+no-slash [] e = refl
+no-slash (x ∷ []) e = elim (x == 47) as (λ b. cond b (Some []) (behind 47 []) ≡ None → (b && true) ≡ false) [ true ↦ λ k. cc | false ↦ λ _. refl ] e
+no-slash (x ∷ y ∷ ys) e =
+    elim (x == 47) as (λ b. cond b (Some (y ∷ ys)) (behind 47 (y ∷ ys)) ≡ None → (ends_at_slash (y ∷ ys) && true) ≡ false) [
+      | true ↦ λ k. cc
+      | false ↦ λ k. no-slash (y ∷ ys) k
+    ] e
 
-form-root : (s : Tests) (normal : Bool) → in_form s normal (47 ∷ []) ≡ 47 ∷ []
-form-root s true = pct_mark s 47 [] [] slash ∙ rw pct_nil refl
-form-root s false = refl
+or_left : (a b : Bool) → b ≡ false → (a || b) ≡ true → a ≡ true
+or_left true b e h = refl
+or_left false b e h = sym e ∙ h
 
-pub form-one-first : (s : Tests) (normal f : Bool) (t : List ℕ) (n : ℕ) → f ≡ true → 0 < length t → or_nothing (behind 47 t) ≡ []
-    → (n == 0 && not (has_dot_segment t)) ≡ false → (ends_at_slash t || n == 0) ≡ true → (f ≡ true → is_dot_segment (before 47 t) ≡ false)
-    → 47 ∷ [] ≡ in_form s normal (shown f t n)
-form-one-first s normal f t n e l o g h p =
-    sym (form-root s normal) ∙ (ap (in_form s normal) (one-first t n l o g h (p e)) ∙ ap (λ v. in_form s normal (shown v t n)) (sym e))
+empty-is : (t : List ℕ) → is_empty t ≡ true → t ≡ []
+empty-is [] h = refl
+empty-is (x ∷ xs) h = cc
 
-pub form-one-behind : (s : Tests) (normal f : Bool) (t : List ℕ) (n : ℕ) → f ≡ false → 0 < length t → or_nothing (behind 47 t) ≡ []
-    → (n == 0 && not (has_dot_segment t)) ≡ false → (ends_at_slash t || n == 0) ≡ true → [] ≡ in_form s normal (shown f t n)
-form-one-behind s normal f t n e l o g h =
-    sym (form-nil s normal) ∙ (ap (in_form s normal) (one-behind t n l o g h) ∙ ap (λ v. in_form s normal (shown v t n)) (sym e))
+whole-before : (t : List ℕ) → behind 47 t ≡ None → before 47 t ≡ t
+whole-before t e = sym (ap (λ o. before 47 t ++ marked 47 o) e ∙ append-nil (before 47 t)) ∙ joined 47 t
 
-pub form-both-parts : (s : Tests) (normal : Bool) (f p g : List ℕ) (k : ℕ) → ends_at_slash f ≡ true → ends_at_slash g ≡ true → 0 < length g
-    → is_dot_segment (before 47 g) ≡ false → written [] g ≡ written [] f → k ≡ taken (pieces 47 p) 0
-    → in_form s normal (shown true g k) ++ in_form s normal (shown false p 0) ≡ in_form s normal (dots (f ++ p))
-form-both-parts s normal f p g k e h l d w r =
-    sym (form-append s normal (shown true g k) (shown false p 0) (shown-ends true g k h))
-    ∙ ap (in_form s normal) (ap (λ m. shown true g m ++ shown false p 0) r
-    ∙ (sym (shown-two true g p 0 h (start-some true g h l (λ _. d)) (or_true (ends_at_slash p))) ∙ front-some f p g e h w))
+-- one segment, with nothing behind it
+pub one-alone : (t m : List ℕ) → behind 47 t ≡ None → is_dot_segment (before 47 t) ≡ false
+    → (is_empty m || (ends_at_slash t && not (is_empty t))) ≡ true → t ≡ written (written [] t) m
+one-alone t m e h c =
+    let ps : pieces 47 t ≡ before 47 t ∷ [] = pieces_cut 47 t ∙ ap (λ o. before 47 t ∷ more_pieces 47 o) e in
+    let plain : written [] t ≡ before 47 t = ap (written_segments []) ps ∙ rw h (append-nil (before 47 t)) in
+    let none : m ≡ [] = empty-is m (or_left (is_empty m) (ends_at_slash t && not (is_empty t)) (no-slash t e) c) in
+    sym (ap (written (written [] t)) none ∙ (written-nothing (written [] t) ∙ (plain ∙ whole-before t e)))
+
+pub more-ends : (t m r : List ℕ) → behind 47 t ≡ Some r → (is_empty m || (ends_at_slash t && not (is_empty t))) ≡ true
+    → (is_empty m || ends_at_slash r) ≡ true
+more-ends t [] r e c = refl
+more-ends t (x ∷ xs) r e c =
+    rest-ends (before 47 t ++ 47 ∷ []) r (ap ends_at_slash (sym (first_whole t r e)) ∙ (both (ends_at_slash t) (not (is_empty t)) c).0)
+
+none-taken : taken (pieces 47 []) 0 ≡ 0
+none-taken = rw nothing-is_no_dot refl
+
+-- what is taken away of a part before nothing, or before more
+pub count-ends : (m r : List ℕ) (k : ℕ) → k ≡ taken (pieces 47 m) 0 → (is_empty m || ends_at_slash r) ≡ true → (ends_at_slash r || k == 0) ≡ true
+count-ends [] r k e c = ap (λ n. ends_at_slash r || n == 0) (e ∙ none-taken) ∙ or_true (ends_at_slash r)
+count-ends (x ∷ xs) r k e c = ap (λ b. b || k == 0) c
+
+taken-more : (r m : List ℕ) → (is_empty m || ends_at_slash r) ≡ true → taken (pieces 47 (r ++ m)) 0 ≡ taken (pieces 47 r) (taken (pieces 47 m) 0)
+taken-more r [] c = ap (λ l. taken (pieces 47 l) 0) (append-nil r) ∙ ap (taken (pieces 47 r)) (sym none-taken)
+taken-more r (x ∷ xs) c = taken-two r (x ∷ xs) 0 c
+
+kept-more : (r m : List ℕ) → (is_empty m || ends_at_slash r) ≡ true
+    → kept (pieces 47 (r ++ m)) 0 ≡ kept (pieces 47 r) (taken (pieces 47 m) 0) ++ kept (pieces 47 m) 0
+kept-more r [] c = ap (λ l. kept (pieces 47 l) 0) (append-nil r) ∙ rw nothing-is_no_dot (sym (append-nil (kept (pieces 47 r) 0)))
+kept-more r (x ∷ xs) c = kept-two r (x ∷ xs) 0 c
+
+written-more : (b r m : List ℕ) → (is_empty m || ends_at_slash r) ≡ true → written (written b r) m ≡ written b (r ++ m)
+written-more b r [] c = written-nothing (written b r) ∙ ap (written b) (sym (append-nil r))
+written-more b r (x ∷ xs) c = sym (written-two b r (x ∷ xs) c)
+
+times-ends : (n : ℕ) (b : List ℕ) → ends_at_slash b ≡ true → ends_at_slash (popped_times n b) ≡ true
+times-ends zero b h = h
+times-ends (suc n) b h = times-ends n (popped b) (popped-ends b)
+
+-- the first segment, what stays of the others, and of what follows
+pub form-three : (s : Tests) (normal : Bool) (t r m : List ℕ) (i k : ℕ) → behind 47 t ≡ Some r → is_dot_segment (before 47 t) ≡ false
+    → (is_empty m || (ends_at_slash t && not (is_empty t))) ≡ true → k ≡ taken (pieces 47 m) 0 → i ≡ taken (pieces 47 r) k
+    → in_form s normal (popped_times i (before 47 t ++ 47 ∷ [])) ++ (in_form s normal (kept (pieces 47 r) k) ++ in_form s normal (kept (pieces 47 m) 0))
+    ≡ in_form s normal (written (written [] t) m)
+form-three s normal t r m i k e h c p q =
+    let b = before 47 t ++ 47 ∷ [] in
+    let x = kept (pieces 47 r) k in
+    let y = kept (pieces 47 m) 0 in
+    let cut = more-ends t m r e c in
+    let all : written (written [] t) m ≡ popped_times (taken (pieces 47 (r ++ m)) 0) b ++ kept (pieces 47 (r ++ m)) 0 =
+    ap (λ l. written l m) (written-first t r e h) ∙ (written-more b r m cut ∙ path-stays (before 47 t) (r ++ m) 0 (or_true (ends_at_slash (r ++ m)))) in
+    let parts : popped_times (taken (pieces 47 (r ++ m)) 0) b ++ kept (pieces 47 (r ++ m)) 0 ≡ popped_times i b ++ (x ++ y) =
+    ap₂ (λ n l. popped_times n b ++ l) (taken-more r m cut ∙ (ap (taken (pieces 47 r)) (sym p) ∙ sym q))
+    (kept-more r m cut ∙ ap (λ n. kept (pieces 47 r) n ++ y) (sym p)) in
+    sym (ap (in_form s normal) (all ∙ parts)
+    ∙ (form-append s normal (popped_times i b) (x ++ y) (times-ends i b (slash-ends (before 47 t)))
+    ∙ ap (λ l. in_form s normal (popped_times i b) ++ l) (form-kept s normal r m k p cut)))
+  where
+    form-kept : (s : Tests) (normal : Bool) (r m : List ℕ) (k : ℕ) → k ≡ taken (pieces 47 m) 0 → (is_empty m || ends_at_slash r) ≡ true
+        → in_form s normal (kept (pieces 47 r) k ++ kept (pieces 47 m) 0) ≡ in_form s normal (kept (pieces 47 r) k) ++ in_form s normal (kept (pieces 47 m) 0)
+    form-kept s normal r [] k p c =
+        let none : kept (pieces 47 []) 0 ≡ [] = rw nothing-is_no_dot refl in
+        ap (λ l. in_form s normal (kept (pieces 47 r) k ++ l)) none ∙ (ap (in_form s normal) (append-nil (kept (pieces 47 r) k))
+        ∙ (sym (append-nil (in_form s normal (kept (pieces 47 r) k)))
+        ∙ ap (λ l. in_form s normal (kept (pieces 47 r) k) ++ l) (sym (form-nil s normal) ∙ ap (in_form s normal) (sym none))))
+    form-kept s normal r (x ∷ xs) k p c = form-append s normal (kept (pieces 47 r) k) (kept (pieces 47 (x ∷ xs)) 0) (kept-ends r k c)
+
+-- both parts of a part
+pub form-two : (s : Tests) (normal : Bool) (t a b : List ℕ) (n k : ℕ) → IsCut t a b → k ≡ taken (pieces 47 b) n
+    → in_form s normal (kept (pieces 47 a) k) ++ in_form s normal (kept (pieces 47 b) n) ≡ in_form s normal (kept (pieces 47 t) n)
+form-two s normal t a b n k h r =
+    sym (ap (λ l. in_form s normal (kept (pieces 47 l) n)) h.whole
+    ∙ (ap (in_form s normal) (kept-two a b n h.ends ∙ ap (λ m. kept (pieces 47 a) m ++ kept (pieces 47 b) n) (sym r))
+    ∙ form-append s normal (kept (pieces 47 a) k) (kept (pieces 47 b) n) (kept-ends a k h.ends)))
+
+-- the slash of the first segment
+form-slash : (s : Tests) (normal : Bool) (a : List ℕ) → in_form s normal a ++ 47 ∷ [] ≡ in_form s normal (a ++ 47 ∷ [])
+form-slash s true a = sym (pct_mark s 47 a [] slash ∙ ap (λ l. pct s a ++ 47 ∷ l) (pct_nil s))
+form-slash s false a = refl
+
+pub form-gone : (s : Tests) (normal : Bool) (a : List ℕ) (n : ℕ) → lacks 47 a ≡ true → 0 < n
+    → 47 ∷ [] ≡ in_form s normal (popped_times n (a ++ 47 ∷ []))
+form-gone s normal a n l h = (sym (ap (λ l. l ++ 47 ∷ []) (form-nil s normal)) ∙ form-slash s normal []) ∙ ap (in_form s normal) (bottom-times n a l h)
+
+pub form-first : (s : Tests) (normal : Bool) (a : List ℕ) (n : ℕ) → n ≡ 0 → in_form s normal a ++ 47 ∷ [] ≡ in_form s normal (popped_times n (a ++ 47 ∷ []))
+form-first s normal a n z = form-slash s normal a ∙ ap (λ k. in_form s normal (popped_times k (a ++ 47 ∷ []))) (sym z)
+
+-- ---- the two pieces of a path
+pub dots-base : (f p g : List ℕ) → (is_empty p || ends_at_slash f) ≡ true → written [] g ≡ written [] f → written (written [] g) p ≡ dots (f ++ p)
+dots-base f p g c h = ap (λ w. written w p) h ∙ (written-more [] f p c ∙ written-dots (f ++ p))
+
+nothing : (g : List ℕ) → length g ≡ 0 → g ≡ []
+nothing [] z = refl
+nothing (x ∷ xs) z = absurd (omega arith)
+
+pub dots-reference : (f p g q : List ℕ) → (is_empty p || ends_at_slash f) ≡ true → length g ≡ 0 → written [] g ≡ written [] f
+    → written [] q ≡ written [] p → written (written [] q) [] ≡ dots (f ++ p)
+dots-reference f p g q c z h k =
+    written-nothing (written [] q) ∙ (k ∙ (ap (λ w. written w p) (sym (written-nothing []) ∙ (ap (written []) (sym (nothing g z)) ∙ h))
+    ∙ (written-more [] f p c ∙ written-dots (f ++ p))))
+
+-- what follows the base's piece follows a segment of what is left of it
+pub cut-after : (f p g : List ℕ) → (is_empty p || ends_at_slash f) ≡ true → (ends_at_slash f ≡ true → ends_at_slash g ≡ true) → 0 < length g
+    → (is_empty p || (ends_at_slash g && not (is_empty g))) ≡ true
+cut-after f [] g c h l = refl
+cut-after f (x ∷ xs) [] c h l = absurd (omega arith)
+cut-after f (x ∷ xs) (y ∷ ys) c h l = ap (λ b. b && true) (h c)

@@ -1,5 +1,5 @@
 -- Texts written in a mode.
-use Rattle.std.proofs.Common.{◌≡◌, ℕ, Bool, true, false, List, Option, None, refl, sym, ◌∙◌, ap, subst}
+use Rattle.std.proofs.Common.{◌≡◌, ℕ, Bool, false, List, Option, None, refl, sym, ◌∙◌, ap, subst}
 use Rattle.std.proofs.Math.Logic.{∥∥₁_elim}
 use Rattle.std.proofs.Props.{props}
 use Rattle.std.specs.Prelude.{IsSome}
@@ -17,7 +17,7 @@ use Rattle.iri_resolve.proofs.ModeLaws.{normal-form}
 use Rattle.iri_resolve.specs.Normalized.{AreSound, Written, written_text}
 use Rattle.iri_resolve.specs.NormalForm.{canonical, canonical_in, form}
 use Rattle.iri_resolve.specs.Modes.{mode_of}
-use Rattle.iri_resolve.specs.Slices.{slices, is_cut_at_segment}
+use Rattle.iri_resolve.specs.Slices.{slices}
 use Rattle.iri_resolve.specs.Target.{target}
 use Rattle.iri_resolve.specs.declared.mode.Mode.TheVariants.{ByScheme, Normal}
 use Rattle.iri_resolve.specs.declared.target.TargetSlices.{TargetSlices}
@@ -33,25 +33,21 @@ sound-fits s fault t k h =
     let same : split_of x ≡ slices t = ∥∥₁_elim h (hlevel props) (λ a. split_is s x (slices t) k (record { fits = a.fits; text = refl })) in
     subst (Fits s) same (splits_where_no_fault s x none).fits
 
-pub sound-cut : (s : Tests) (fault : Tests → List ℕ → Option ErrorKind) (t : TargetSlices) → ∥ AreSound s fault t ∥₁
-    → is_cut_at_segment t ≡ true
-sound-cut s fault t h = ∥∥₁_elim h (hlevel props) (λ a. a.cut)
-
 pub sound-valid : (s : Tests) (fault : Tests → List ℕ → Option ErrorKind) (t : TargetSlices) → ∥ AreSound s fault t ∥₁
     → fault s (recompose (slices t)) ≡ None
 sound-valid s fault t h = ∥∥₁_elim h (hlevel props) (λ a. a.valid)
 
 -- ---- how they come to be
-pub target-sound : (s : Tests) (t : TargetSlices) → IsSpec s → Fits s (slices t) → IsSome (slices t).scheme → is_cut_at_segment t ≡ true
+pub target-sound : (s : Tests) (t : TargetSlices) → IsSpec s → Fits s (slices t) → IsSome (slices t).scheme
     → ∥ AreSound s iri_fault t ∥₁
-target-sound s t k f i c =
-    ∣ record { fits = f; cut = c; valid = (iri-law s k (recompose (slices t))).1 (slices t, record { fits = f; text = refl }, i) } ∣₁
+target-sound s t k f i =
+    ∣ record { fits = f; valid = (iri-law s k (recompose (slices t))).1 (slices t, record { fits = f; text = refl }, i) } ∣₁
 
 pub view-sound : (s : Tests) (fault : Tests → List ℕ → Option ErrorKind) (t : TargetSlices) (x : List ℕ) → slices t ≡ split_of x
-    → Fits s (slices t) → is_cut_at_segment t ≡ true → fault s x ≡ None → ∥ AreSound s fault t ∥₁
-view-sound s fault t x e f c h =
+    → Fits s (slices t) → fault s x ≡ None → ∥ AreSound s fault t ∥₁
+view-sound s fault t x e f h =
     let whole : recompose (slices t) ≡ x = ap recompose e ∙ recompose_split x in
-    ∣ record { fits = f; cut = c; valid = subst (λ y. fault s y ≡ None) (sym whole) h } ∣₁
+    ∣ record { fits = f; valid = subst (λ y. fault s y ≡ None) (sym whole) h } ∣₁
 
 -- ---- the canonical text
 abbrev pub made-normal : Written → Written

@@ -1,5 +1,5 @@
 -- The first dot segment of a path.
-use Rattle.std.proofs.Common.{◌≡◌, ℕ, suc, ◌+◌, ◌-◌, ◌<◌, ◌≤◌, Bool, true, false, cond, ◌&&◌, ◌||◌, List, [], ◌∷◌, ◌++◌, Option, Some, None}
+use Rattle.std.proofs.Common.{◌≡◌, ℕ, zero, suc, ◌+◌, ◌-◌, ◌<◌, ◌≤◌, Bool, true, false, cond, ◌&&◌, ◌||◌, List, [], ◌∷◌, ◌++◌, Option, Some, None}
 use Rattle.std.proofs.Common.{refl, sym, ◌∙◌, ap, subst, arith, length, take, drop, length-append, drop-cons, below_more}
 use Rattle.std.proofs.lemmas.Bool.{eqb-true}
 use Rattle.std.proofs.lemmas.Bool.Decides.{nat_tests}
@@ -15,10 +15,8 @@ use Rattle.iri_resolve.specs.Target.{ends_at_slash}
 use Rattle.iri_resolve.specs.inside.DotSearch.{dots_in_front, slash_and_dots, dots_behind}
 use Rattle.iri_resolve.proofs.DotLemmas.{cut_rest, dot_cut, empty_behind, first_or_behind, next_place, one_dot_first, plain_front, too_short, two_dots_first}
 use Rattle.iri_resolve.proofs.EndedLemmas.{both-end, take-ends}
-use Rattle.iri_grammar.specs.inside.PiecesLaws.{more_pieces}
-use Rattle.iri_resolve.specs.Kept.{ended}
-use Rattle.iri_resolve.proofs.KeptLemmas.{pieces-ended}
 use Rattle.iri_resolve.proofs.PieceLaws.{nothing-is_no_dot}
+use Rattle.iri_resolve.proofs.SegmentLemmas.{dot_in_two, nothing-plain}
 use Rattle.iri_resolve.specs.inside.NextDots.{IsInFront, IsNext}
 use Rattle.iri_resolve.specs.inside.Written.{left, or_nothing, written}
 use Rattle.iri_resolve.proofs.WrittenLemmas.{left-ends, written-dot, written-run}
@@ -104,9 +102,6 @@ none-behind (x ∷ y ∷ ys) m h n =
     ap (λ l. x == 47 && is_dot_segment l) (sym (before-cut y ys m h)) ∙ n 0 (omega arith) in
     next_place (x ∷ y ∷ ys) (omega arith) ∙ rw first (none-behind (y ∷ ys) m h (λ k l. n (suc k) (omega arith)))
 
-pub nothing-plain : has_dot_segment [] ≡ false
-nothing-plain = first_or_behind [] ∙ rw nothing-is_no_dot refl
-
 none-before : (a m : List ℕ) → (is_empty m || ends_at_slash a) ≡ true → is_dot_segment (before 47 (a ++ m)) ≡ false
     → ((k : ℕ) → k + 1 < length a → slash_and_dots (drop k (a ++ m)) ≡ false) → has_dot_segment a ≡ false
 none-before [] m h f n = nothing-plain
@@ -181,14 +176,21 @@ pass-both t i low l h o n k m =
     more-none t (i + 1) (omega arith) (more-none t i low n h)
     (subst (λ j. slash_and_dots (drop j t) ≡ false) place (place-other t i l o)) k (omega arith)
 
-pub pass-plain : (t : List ℕ) (i : ℕ) → 1 ≤ i → i < length t → (37 ≤ slice_index t i → slice_index t i ≤ 47 → ⊥)
+pub pass-plain : (t : List ℕ) (i : ℕ) → 1 ≤ i → i < length t → 47 < slice_index t i
     → ((k : ℕ) → k + 1 < i → slash_and_dots (drop k t) ≡ false) → (k : ℕ) → k + 1 < i + 2 → slash_and_dots (drop k t) ≡ false
 pass-plain t i low l o n =
-    pass-both t i low l (place-none t i low l (plain-at t i l (other 46 (omega arith) (omega arith)) (other 37 (omega arith) (omega arith))))
-    (other 47 (omega arith) (omega arith)) n
+    pass-both t i low l (place-none t i low l (plain-at t i l (other 46 (omega arith)) (other 37 (omega arith)))) (other 47 (omega arith)) n
   where
-    other : (c : ℕ) → 37 ≤ c → c ≤ 47 → (slice_index t i == c) ≡ false
-    other c a b = other-than (slice_index t i) c (λ e. o (omega arith) (omega arith))
+    other : (c : ℕ) → c ≤ 47 → (slice_index t i == c) ≡ false
+    other c a = other-than (slice_index t i) c (λ e. omega arith)
+
+pub pass-lanes : (t : List ℕ) (i j : ℕ) → 1 ≤ i → ((k : ℕ) → k < j → slash_and_dots (drop (i - 1 + k) t) ≡ false)
+    → ((k : ℕ) → k + 1 < i → slash_and_dots (drop k t) ≡ false) → (k : ℕ) → k + 1 < i + j → slash_and_dots (drop k t) ≡ false
+pass-lanes t i zero low h n k m = n k (omega arith)
+pass-lanes t i (suc j) low h n k m =
+    let place : i - 1 + j ≡ i + j - 1 = omega arith in
+    more-none t (i + j) (omega arith) (pass-lanes t i j low (λ a b. h a (omega arith)) n)
+    (subst (λ q. slash_and_dots (drop q t) ≡ false) place (h j (omega arith))) k (omega arith)
 
 -- ---- what follows from it
 pub next-more : (m : List ℕ) → is_dot_segment (before 47 m) ≡ true → 0 < length m
@@ -230,12 +232,7 @@ written-next b t a two r h =
     ∙ (ap (λ k. written (left k (b ++ a)) (or_nothing (behind 47 h.more))) (sym h.front.kind)
     ∙ ap (written (left two (b ++ a))) (sym h.front.rest_is))))
 
-any-there : (ss ts : List (List ℕ)) (d : List ℕ) → is_dot_segment d ≡ true → any_dot_segment (ss ++ d ∷ ts) ≡ true
-any-there [] ts d h = rw h refl
-any-there (s ∷ ss) ts d h = or_right (is_dot_segment s) (any-there ss ts d h)
-
 pub next-dotted : (t a : List ℕ) (two : Bool) (r : List ℕ) → IsNext t a two r → has_dot_segment t ≡ true
 next-dotted t a two r h =
-    ap has_dot_segment h.whole
-    ∙ (ap any_dot_segment (pieces-ended a h.more h.ends ∙ ap (λ ps. ended a ++ ps) (pieces_cut 47 h.more))
-    ∙ any-there (ended a) (more_pieces 47 (behind 47 h.more)) (before 47 h.more) h.front.dots)
+    let more : has_dot_segment h.more ≡ true = ap any_dot_segment (pieces_cut 47 h.more) ∙ rw h.front.dots refl in
+    ap has_dot_segment h.whole ∙ (dot_in_two a h.more h.ends ∙ or_right (has_dot_segment a) more)

@@ -42,7 +42,7 @@ popped-some t n i l m h k =
     ∙ (last-gone (take (n - 1) t) i k
     ∙ take-take (i + 1) (n - 1) t (omega arith))))
 
-first-slash : (t : List ℕ) → 0 < length t → take 1 (slice_set t 0 47) ≡ 47 ∷ []
+pub first-slash : (t : List ℕ) → 0 < length t → take 1 (slice_set t 0 47) ≡ 47 ∷ []
 first-slash [] l = absurd (omega arith)
 first-slash (x ∷ xs) l = refl
 

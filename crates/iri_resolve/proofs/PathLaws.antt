@@ -67,7 +67,7 @@ each-over : (p : ℕ → Bool) (t : List ℕ) (ss : List (List ℕ)) → text_ov
 each-over p t [] h = let k = rw (append-nil t) at h in rw k refl
 each-over p t (u ∷ us) h = let c = text_over-cut p t (unsplit (u ∷ us)) h in rw c.left (each-over p u us c.right)
 
-pieces-over : (p : ℕ → Bool) (t : List ℕ) → text_over p t ≡ true → list_all (text_over p) (pieces 47 t) ≡ true
+pub pieces-over : (p : ℕ → Bool) (t : List ℕ) → text_over p t ≡ true → list_all (text_over p) (pieces 47 t) ≡ true
 pieces-over p t h =
     let r = pieces-some t in rw r.whole (each-over p r.first r.rest
     (subst (λ ps. text_over p (unsplit ps) ≡ true) r.whole (rw (unsplit-pieces t) h)))

@@ -10,10 +10,9 @@ use Rattle.iri_grammar.proofs.Ipv6Laws.{joined_pieces}
 use Rattle.iri_grammar.proofs.PiecesLaws.{pieces_cut}
 use Rattle.iri_resolve.specs.DotRemoval.{is_two_dots, without_last, dots}
 use Rattle.iri_resolve.specs.Dots.{is_dot_segment, any_dot_segment, has_dot_segment}
-use Rattle.iri_resolve.specs.Kept.{ended}
 use Rattle.iri_resolve.specs.Target.{ends_at_slash}
-use Rattle.iri_resolve.proofs.EndedLemmas.{both-end, neither, slash-ends, unended, unended-ended, dots-ended}
-use Rattle.iri_resolve.proofs.KeptLemmas.{pieces-ended}
+use Rattle.iri_resolve.proofs.EndedLemmas.{both-end, neither, slash-ends}
+use Rattle.iri_resolve.proofs.SegmentLemmas.{alone, ended}
 use Rattle.iri_resolve.proofs.OutputLaws.{text_behind, text_from, dots-text}
 use Rattle.iri_resolve.proofs.PieceLaws.{pieces-some, nothing-is_no_dot}
 use Rattle.iri_resolve.specs.inside.Written.{but_last, popped, left, closing, written_segments, written, or_nothing}
@@ -74,27 +73,9 @@ pub written-dots : (p : List ℕ) → written [] p ≡ dots p
 written-dots p = sym (written-from (pieces 47 p)) ∙ dots-text p
 
 -- ---- segments without dots
-pub closing-more : (ss : List (List ℕ)) (t : List ℕ) (ts : List (List ℕ)) → closing (ss ++ t ∷ ts) ≡ 47 ∷ []
+closing-more : (ss : List (List ℕ)) (t : List ℕ) (ts : List (List ℕ)) → closing (ss ++ t ∷ ts) ≡ 47 ∷ []
 closing-more [] t ts = refl
 closing-more (s ∷ ss) t ts = refl
-
-plain-segments : (b : List ℕ) (ss : List (List ℕ)) (t : List ℕ) (ts : List (List ℕ)) → any_dot_segment ss ≡ false
-    → written_segments b (ss ++ t ∷ ts) ≡ written_segments (b ++ unended ss) (t ∷ ts)
-plain-segments b [] t ts h = ap (λ l. written_segments l (t ∷ ts)) (sym (append-nil b))
-plain-segments b (s ∷ ss) t ts h =
-    let n = neither (is_dot_segment s) (any_dot_segment ss) h in
-    rw (n.0, closing-more ss t ts) (plain-segments (b ++ (s ++ 47 ∷ [])) ss t ts n.1
-    ∙ ap (λ l. written_segments l (t ∷ ts)) (append_assoc b (s ++ 47 ∷ []) (unended ss) ∙ ap (λ l. b ++ l) (append_assoc s (47 ∷ []) (unended ss))))
-
--- a run of them is copied
-pub written-run : (b r m : List ℕ) → ends_at_slash r ≡ true → has_dot_segment r ≡ false → written b (r ++ m) ≡ written (b ++ r) m
-written-run b r m e h =
-    let ps = pieces-some m in
-    let plain = sym (dots-ended r e) ∙ h in
-    ap (written_segments b) (pieces-ended r m e)
-    ∙ subst (λ l. written_segments b (ended r ++ l) ≡ written_segments (b ++ r) l) (sym ps.whole)
-    (plain-segments b (ended r) ps.first ps.rest plain
-    ∙ ap (λ l. written_segments (b ++ l) (ps.first ∷ ps.rest)) (unended-ended r e))
 
 -- a dot segment at the start
 pub written-nothing : (b : List ℕ) → written b [] ≡ b
@@ -134,13 +115,17 @@ two-segments b (s ∷ ss) t ts =
     ])
 
 pub written-two : (b f p : List ℕ) → ends_at_slash f ≡ true → written b (f ++ p) ≡ written (written b f) p
-written-two b f p e =
+written-two b f p h =
+    let e = ended f h in
     let ps = pieces-some p in
-    let whole : pieces 47 f ≡ ended f ++ [] ∷ [] = ap (pieces 47) (sym (append-nil f)) ∙ pieces-ended f [] e in
-    ap (written_segments b) (pieces-ended f p e)
-    ∙ (subst (λ l. written_segments b (ended f ++ l) ≡ written_segments (written_segments b (ended f ++ [] ∷ [])) l) (sym ps.whole)
-    (two-segments b (ended f) ps.first ps.rest)
-    ∙ ap (λ l. written_segments (written_segments b l) (pieces 47 p)) (sym whole))
+    ap (written_segments b) (e.whole p)
+    ∙ (subst (λ l. written_segments b (e.segments ++ l) ≡ written_segments (written_segments b (e.segments ++ [] ∷ [])) l) (sym ps.whole)
+    (two-segments b e.segments ps.first ps.rest)
+    ∙ ap (λ l. written_segments (written_segments b l) (pieces 47 p)) (sym (alone f e)))
+
+-- segments without dots are copied
+pub written-run : (b r m : List ℕ) → ends_at_slash r ≡ true → has_dot_segment r ≡ false → written b (r ++ m) ≡ written (b ++ r) m
+written-run b r m h d = written-two b r m h ∙ ap (λ l. written l m) (written-plain b r d)
 
 pub popped-ends : (b : List ℕ) → ends_at_slash (popped b) ≡ true
 popped-ends [] = refl
@@ -161,9 +146,8 @@ segments-end b (s ∷ ss) h =
     ])
 
 pub written-ends : (b f : List ℕ) → ends_at_slash b ≡ true → ends_at_slash f ≡ true → ends_at_slash (written b f) ≡ true
-written-ends b f h e =
-    let whole : pieces 47 f ≡ ended f ++ [] ∷ [] = ap (pieces 47) (sym (append-nil f)) ∙ pieces-ended f [] e in
-    ap (λ ps. ends_at_slash (written_segments b ps)) whole ∙ segments-end b (ended f) h
+written-ends b f h k =
+    let e = ended f k in ap (λ ps. ends_at_slash (written_segments b ps)) (alone f e) ∙ segments-end b e.segments h
 
 -- a path in two pieces
 pub written-parts : (f p : List ℕ) → (is_empty p || ends_at_slash f) ≡ true → written (written [] f) p ≡ dots (f ++ p)

@@ -1,35 +1,22 @@
--- Dot removal read from the end of a path (RFC 3986 section 5.2.4): which segments stay is told from what follows them.
+-- How segments act on a stack of others, those of the output buffer (RFC 3986 section 5.2.4): they take some of them away, and then push
+-- what stays of themselves.
 use Rattle.std.specs.Prelude.{ℕ, ◌+◌, ◌-◌, cond, ◌==◌, List, [], ◌∷◌, ◌++◌}
 use Rattle.iri_resolve.specs.Dots.{is_dot_segment}
 use Rattle.iri_resolve.specs.DotRemoval.{is_two_dots}
 use Rattle.iri_grammar.specs.Characters.{slash}
 
-abbrev pub grown : ℕ → List (List ℕ) → List (List ℕ)
-grown x [] = []
-grown x (s ∷ ss) = (x ∷ s) ∷ ss
+-- how many a segment with its slash takes away, where what follows takes n away: `..` one more, and another segment that isn't a dot
+-- segment may itself be one of the n
+abbrev pub taken_by : List ℕ → ℕ → ℕ
+taken_by s n = cond (is_dot_segment s) (cond (is_two_dots s) (n + 1) n) (n - 1)
 
--- the segments that end with a slash
-abbrev pub ended : List ℕ → List (List ℕ)
-ended [] = []
-ended (x ∷ xs) = cond (x == slash) ([] ∷ ended xs) (grown x (ended xs))
-
--- how many segments are removed in front of a segment, where n are removed in front of what follows it: `..` removes one more,
--- and another segment that isn't a dot segment may be one of the n
-abbrev pub removing : List ℕ → ℕ → ℕ
-removing s n = cond (is_dot_segment s) (cond (is_two_dots s) (n + 1) n) (n - 1)
-
--- the same in front of segments
-abbrev pub removed : List (List ℕ) → ℕ → ℕ
-removed [] n = n
-removed (s ∷ ss) n = removing s (removed ss n)
-
--- the same of a path, whose last segment has no slash: nothing of it is taken back
+-- how many the segments of a path take away; the last one has no slash, and is none of the n
 abbrev pub taken : List (List ℕ) → ℕ → ℕ
 taken [] n = n
 taken (s ∷ []) n = cond (is_dot_segment s) (cond (is_two_dots s) (n + 1) n) n
-taken (s ∷ t ∷ ss) n = removing s (taken (t ∷ ss) n)
+taken (s ∷ t ∷ ss) n = taken_by s (taken (t ∷ ss) n)
 
--- what stays of a path's segments
+-- what stays of them
 abbrev pub kept : List (List ℕ) → ℕ → List ℕ
 kept [] n = []
 kept (s ∷ []) n = cond (is_dot_segment s) [] s

@@ -1,10 +1,10 @@
 -- Texts that are written in a mode.
-use Rattle.std.specs.Prelude.{◌≡◌, ℕ, Bool, true, List, Option, None}
+use Rattle.std.specs.Prelude.{◌≡◌, ℕ, Bool, List, Option, None}
 use Rattle.iri_grammar.specs.Classes.{Tests}
 use Rattle.iri_grammar.specs.Parts.{Parts, Fits, recompose}
 use Rattle.iri_grammar.specs.declared.error.ErrorKind.{ErrorKind}
 use Rattle.iri_resolve.specs.NormalForm.{form, is_unresolvable}
-use Rattle.iri_resolve.specs.Slices.{slices, is_cut_at_segment}
+use Rattle.iri_resolve.specs.Slices.{slices}
 use Rattle.iri_resolve.specs.declared.mode.Mode.{Mode}
 use Rattle.iri_resolve.specs.declared.target.TargetSlices.{TargetSlices}
 
@@ -28,5 +28,4 @@ has_no_normal_form w = is_unresolvable w.whole w.parts
 -- slices of parts that fit and recompose to a text without a fault
 pub record AreSound (s : Tests) (fault : Tests → List ℕ → Option ErrorKind) (t : TargetSlices) : Type 0 where
   pub fits : Fits s (slices t)
-  pub cut : is_cut_at_segment t ≡ true
   pub valid : fault s (recompose (slices t)) ≡ None

@@ -1,20 +1,19 @@
 -- The parts that the slices of a target hold.
-use Rattle.std.specs.Prelude.{◌++◌, Bool, ◌||◌}
-use Rattle.iri_grammar.specs.Parts.{Parts, is_empty}
+use Rattle.std.specs.Prelude.{ℕ, List, ◌++◌}
+use Rattle.iri_grammar.specs.Parts.{Parts}
 use Rattle.iri_grammar.specs.OptionalSlices.{now_of}
-use Rattle.iri_resolve.specs.Target.{ends_at_slash}
+use Rattle.iri_resolve.specs.declared.merged_path.MergedPath.{MergedPath}
 use Rattle.iri_resolve.specs.declared.target.TargetSlices.{TargetSlices}
 
--- the path is the front, of the base, and what follows it
+-- a path that is merged is the base's piece, and what follows it
+abbrev pub merged : MergedPath → List ℕ
+merged p = p.base.now ++ p.reference.now
+
 abbrev pub slices : TargetSlices → Parts
 slices t = record {
   scheme = now_of t.scheme;
   authority = now_of t.authority;
-  path = t.front.now ++ t.path.now;
+  path = merged t.path;
   query = now_of t.query;
   fragment = now_of t.fragment;
 }
-
--- the front ends where a segment ends, or nothing follows it
-abbrev pub is_cut_at_segment : TargetSlices → Bool
-is_cut_at_segment t = is_empty t.path.now || ends_at_slash t.front.now

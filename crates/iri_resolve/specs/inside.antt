@@ -6,6 +6,7 @@ pub mod DotSearch
 pub mod LookBack
 pub mod Beginning
 pub mod Written
+pub mod CutText
 pub mod NextDots
 pub mod NormalSteps
 pub mod PartTexts

@@ -22,6 +22,7 @@ use crate::authority_change::{
 };
 use crate::change::{Change, changed, small_letter};
 use crate::form::becomes_slash;
+use crate::merged_path::MergedPath;
 use crate::mode::CanonMode;
 use crate::owned_target::Target;
 use crate::path_writer::show_guarded;
@@ -62,8 +63,7 @@ fn with_text<'a>(parts: TargetSlices<'a>, part: Part, text: &'a str) -> TargetSl
             ..parts
         },
         Part::Path => TargetSlices {
-            front: "",
-            path: text,
+            path: MergedPath::of(text),
             ..parts
         },
         Part::Query => TargetSlices {
@@ -144,8 +144,9 @@ fn guarded_path<S: Spec>(
     ensures { IfOk result (λ text. string_bytes text ≡ guard (dots path.now) authority_stands) }
 {
     let mut text = String::with_capacity(alloc, path.len())?;
+    let whole = MergedPath::of(path);
     let mut sink = StringSink::new(&mut text);
-    match show_guarded::<S, StringSink<'_>>(&mut sink, "", path, authority_stands, false) {
+    match show_guarded::<S, StringSink<'_>>(&mut sink, &whole, authority_stands, false) {
         Ok(()) => {}
         Err(_) => return Err(AllocError),
     }

@@ -1,6 +1,6 @@
 // Whether a text begins with two slashes, told from its pieces.
 ghost use Rattle.std.specs.Prelude.{◌≡◌};
-ghost use Rattle.iri_resolve.specs.inside.Beginning.{behind_byte, begun_by, is_slashes};
+ghost use Rattle.iri_resolve.specs.inside.Beginning.{after_byte, begun_by, is_slashes};
 
 use iri_text::{Stop, TextSink};
 
@@ -26,35 +26,22 @@ pub(crate) fn is_slashes(begun: Begun) -> bool
     matches!(begun, Begun::Slashes)
 }
 
-fn behind_byte(begun: Begun, b: u8) -> Begun
-    ensures { result ≡ behind_byte begun b }
+fn after_byte(begun: Begun, b: u8) -> Begun
+    ensures { result ≡ after_byte begun b }
 {
-    match begun {
-        Begun::Nothing => {
-            if b == b'/' {
-                Begun::Slash
-            } else {
-                Begun::Other
-            }
-        }
-        Begun::Slash => {
-            if b == b'/' {
-                Begun::Slashes
-            } else {
-                Begun::Other
-            }
-        }
-        Begun::Slashes => Begun::Slashes,
-        Begun::Other => Begun::Other,
+    match (begun, b) {
+        (Begun::Nothing, b'/') => Begun::Slash,
+        (Begun::Slash, b'/') | (Begun::Slashes, _) => Begun::Slashes,
+        (_, _) => Begun::Other,
     }
 }
 
-fn behind_text(begun: Begun, text: &[u8]) -> Begun
+fn after_text(begun: Begun, text: &[u8]) -> Begun
     ensures { result ≡ begun_by begun text.now }
 {
     let mut now = begun;
     for b in text {
-        now = behind_byte(now, *b);
+        now = after_byte(now, *b);
     }
     now
 }
@@ -71,7 +58,7 @@ impl TextSink for Beginning {
     ghost rules = { record { none = begins_none; both = begins_both; until = λ _ _ _ _ _ _ h. h; within = λ _ _ _ _ h. h } };
 
     fn put(&mut self, piece: &str) -> Result<(), Stop> {
-        self.begun = behind_text(self.begun, piece.as_bytes());
+        self.begun = after_text(self.begun, piece.as_bytes());
         Ok(())
     }
 }

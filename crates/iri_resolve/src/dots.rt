@@ -10,6 +10,8 @@ ghost use Rattle.iri_resolve.specs.inside.DotSearch.{slash_and_dots};
 ghost use Rattle.iri_resolve.specs.inside.NextDots.{IsInFront, IsNext};
 ghost use Rattle.iri_resolve.specs.inside.Written.{or_nothing};
 
+use std::simd::prelude::*;
+
 /// What follows a dot at the start, in any spelling.
 pub(crate) fn behind_dot(s: &[u8]) -> Option<&[u8]>
     ensures { now_of result ≡ behind_dot s.now }
@@ -63,6 +65,7 @@ fn dots_in_front(path: &[u8]) -> Option<FrontDots<'_>>
 }
 
 // The dot segment at a place, where a slash stands before it.
+#[inline(always)]
 fn dots_at(path: &[u8], i: usize) -> Option<FrontDots<'_>>
     requires { (1 ≤ i) × (i < length path.now) }
     ensures { MatchOption result (slash_and_dots (drop (i - 1) path.now) ≡ false)
@@ -83,10 +86,29 @@ pub(crate) struct NextDots<'a> {
     pub(crate) rest: &'a [u8],
 }
 
-/// The first dot segment of a path. A slash and what begins a dot all stand from `%` to `/`; where a byte is none of them, no dot
-/// segment begins there or behind it.
+// Whether eight places have no slash with what begins a dot behind it, where that is asked: the place before `i`, and seven more.
 #[inline(always)]
-pub(crate) fn next_dots(path: &[u8]) -> Option<NextDots<'_>>
+fn are_plain(path: &[u8], i: usize, wide: bool) -> bool
+    requires { (1 ≤ i) × (i < length path.now) }
+    ensures { result ≡ true → (k : ℕ) → k < 8 → slash_and_dots (drop (i - 1 + k) path.now) ≡ false }
+{
+    if !wide {
+        return false;
+    }
+    if path.len() - i < 8 {
+        return false;
+    }
+    let next = u8x8::from_slice(&path[i..]);
+    let slashes = u8x8::from_slice(&path[i - 1..]).simd_eq(u8x8::splat(b'/'));
+    let dots = next.simd_eq(u8x8::splat(b'.')) | next.simd_eq(u8x8::splat(b'%'));
+    !(slashes & dots).any()
+}
+
+/// The first dot segment of a path. A byte above `/` is no slash and begins no dot, so that the next place is passed with it. `wide`
+/// says that there may be none, and places are passed by eight where they can be: by ones and twos alone, triplets cost two
+/// instructions a byte more, and by eight, a path of dot segments up to forty.
+#[inline(always)]
+pub(crate) fn next_dots(path: &[u8], wide: bool) -> Option<NextDots<'_>>
     ensures { MatchOption result (has_dot_segment path.now ≡ false)
         (λ n. IsNext path.now n.run.now n.two n.rest.now) }
 {
@@ -99,8 +121,12 @@ pub(crate) fn next_dots(path: &[u8]) -> Option<NextDots<'_>>
     }
     let mut i = 1;
     'places: while i < path.len() {
+        if are_plain(path, i, wide) {
+            i += 8;
+            continue;
+        }
         let b = path[i];
-        if b < b'%' || b'/' < b {
+        if b > b'/' {
             i += 2;
             continue;
         }
@@ -146,7 +172,7 @@ pub fn is_two_dots(segment: &str) -> bool
 pub fn has_dot_segment(path: &str) -> bool
     ensures { result ≡ has_dot_segment path.now }
 {
-    match next_dots(path.as_bytes()) {
+    match next_dots(path.as_bytes(), true) {
         Some(_) => true,
         None => false,
     }

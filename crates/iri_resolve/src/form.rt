@@ -12,12 +12,13 @@ ghost use Rattle.iri_resolve.specs.Modes.{dropped_in, is_by_scheme, is_normalizi
 ghost use Rattle.iri_resolve.specs.LowerCase.{lowered};
 ghost use Rattle.iri_resolve.specs.NormalForm.{becomes_slash, form, part_in, path_in, slash_or};
 ghost use Rattle.iri_resolve.specs.Prefix.{prefix_in};
-ghost use Rattle.iri_resolve.specs.Slices.{slices, is_cut_at_segment};
+ghost use Rattle.iri_resolve.specs.Slices.{slices};
 ghost use Rattle.iri_text.specs.Shown.{Shows};
 ghost use Rattle.iri_grammar.specs.Characters.{number_sign, question_mark};
 
 use crate::mode::{Mode, dropped_in, is_normalizing};
-use crate::path_writer::{show_part, show_path};
+use crate::path_writer::show_path;
+use crate::remove_dot_segments::show_part;
 use crate::target::TargetSlices;
 use iri_grammar::spec::Spec;
 use iri_percent::{NormalizedAuthority, NormalizedHost};
@@ -147,10 +148,10 @@ fn show_tail<S: Spec, W: TextSink>(
 }
 
 // Whether both texts are empty.
-fn are_empty(front: &str, path: &str) -> bool
-    ensures { result ≡ (is_empty front.now && is_empty path.now) }
+fn are_empty(base: &str, path: &str) -> bool
+    ensures { result ≡ (is_empty base.now && is_empty path.now) }
 {
-    front.is_empty() && path.is_empty()
+    base.is_empty() && path.is_empty()
 }
 
 /// Whether the path is empty beside an authority, and the rules of the mode know a default port of the scheme.
@@ -163,7 +164,7 @@ pub(crate) fn becomes_slash(target: &TargetSlices<'_>, dropped: Option<&str>) ->
     let Some(_) = target.authority else {
         return false;
     };
-    are_empty(target.front, target.path)
+    are_empty(target.path.base, target.path.reference)
 }
 
 // The path, or `/` in the place of an empty one.
@@ -176,7 +177,6 @@ fn show_path_or_slash<S: Spec, W: TextSink>(
     slashed: bool,
 ) -> Result<(), Stop>
     requires path { is_path S.tests (slices target.now).path ≡ true }
-    requires cut { is_cut_at_segment target.now ≡ true }
     ensures { Shows W.puts W.halts W.stops sink.old
         (slash_or slashed (path_in S.tests mode whole (slices target.now).authority (slices target.now).path))
         sink.new result }
@@ -198,7 +198,6 @@ fn show_from_path<S: Spec, W: TextSink>(
     dropped: Option<&str>,
 ) -> Result<(), Stop>
     requires fits { Fits S.tests (slices target.now) }
-    requires cut { is_cut_at_segment target.now ≡ true }
     ensures { Shows W.puts W.halts W.stops sink.old
         (slash_or (becomes_slash (now_of dropped.entry) (slices target.now).authority (slices target.now).path)
         (path_in S.tests mode whole (slices target.now).authority (slices target.now).path)
@@ -220,7 +219,6 @@ fn show_from_authority<S: Spec, W: TextSink>(
     dropped: Option<&str>,
 ) -> Result<(), Stop>
     requires fits { Fits S.tests (slices target.now) }
-    requires cut { is_cut_at_segment target.now ≡ true }
     ensures { Shows W.puts W.halts W.stops sink.old
         (authority_text (part_in (is_normalizing mode) (normal_authority_in S.tests (now_of dropped.entry))
         (slices target.now).authority)
@@ -244,7 +242,6 @@ pub fn show_form<S: Spec, W: TextSink>(
     whole: bool,
 ) -> Result<(), Stop>
     requires fits { Fits S.tests (slices target.now) }
-    requires cut { is_cut_at_segment target.now ≡ true }
     ensures { Shows W.puts W.halts W.stops sink.old
         (recompose (form S.tests mode whole (slices target.now))) sink.new result }
 {
@@ -266,7 +263,6 @@ pub fn show_behind<S: Spec, W: TextSink>(
     requires mode { is_by_scheme mode ≡ false }
     requires prefix { prefix.now ≡ prefix_in S.tests (is_normalizing mode) (slices target.now) }
     requires fits { Fits S.tests (slices target.now) }
-    requires cut { is_cut_at_segment target.now ≡ true }
     ensures { Shows W.puts W.halts W.stops sink.old
         (recompose (form S.tests mode whole (slices target.now))) sink.new result }
 {

@@ -28,7 +28,7 @@
 //!
 //! Not proved: that memory is allocated, so that a call that always answered `Memory` would keep its contract, `replay` among them;
 //! tests show that each succeeds with ample memory. The words of `Display` of `CanonError` and `ReplayError`, which `thiserror`
-//! makes. Any bound on time: a path is written from its end, in O(n log n) looks at its bytes; a resolver tells once whether the
+//! makes. Any bound on time: a path is written by parts, in O(n log n) looks at its bytes; a resolver tells once whether the
 //! scheme and the authority of its base are in normal form, and of each reference whether anything in it changes, so as to write
 //! them as they stand; one that told it of none would write the same texts more slowly. Which of two equal texts a law hands back (`mapping_laws::canonicalize_commutes_with_mapping`).
 #![tactic(auto)]
@@ -47,6 +47,7 @@ pub mod is_normalized;
 pub mod join;
 pub mod laws;
 pub mod mapping_laws;
+mod merged_path;
 pub mod mode;
 pub mod normal_kind;
 pub mod normal_steps;
@@ -54,6 +55,7 @@ pub mod normalized;
 pub mod owned_target;
 mod path_writer;
 mod prefix;
+mod remove_dot_segments;
 pub mod replay;
 pub mod resolver;
 pub mod step;

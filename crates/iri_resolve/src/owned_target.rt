@@ -3,8 +3,9 @@ ghost use Rattle.std.specs.Prelude.{◌≡◌, ◌++◌, IfOk, IsSome, Some, str
 ghost use Rattle.iri_grammar.specs.Parts.{Fits};
 ghost use Rattle.iri_grammar.specs.OptionalSlices.{now_of};
 ghost use Rattle.iri_resolve.specs.Resolver.{bytes_of};
-ghost use Rattle.iri_resolve.specs.Slices.{is_cut_at_segment, slices};
+ghost use Rattle.iri_resolve.specs.Slices.{slices};
 
+use crate::merged_path::MergedPath;
 use crate::target::TargetSlices;
 use iri_grammar::spec::Spec;
 use std::alloc::{AllocError, Global};
@@ -58,10 +59,10 @@ fn copied(alloc: Global, part: Option<&str>) -> Result<Option<String>, AllocErro
 }
 
 // The path in one text.
-fn joined(alloc: Global, front: &str, path: &str) -> Result<String, AllocError>
-    ensures { IfOk result (λ text. string_bytes text ≡ front.now ++ path.now) }
+fn joined(alloc: Global, base: &str, path: &str) -> Result<String, AllocError>
+    ensures { IfOk result (λ text. string_bytes text ≡ base.now ++ path.now) }
 {
-    let mut text = String::from_str(alloc, front)?;
+    let mut text = String::from_str(alloc, base)?;
     text.push_str(path)?;
     Ok(text)
 }
@@ -76,7 +77,7 @@ impl<S: Spec> Target<S> {
     {
         let scheme = String::from_str(alloc, parts.scheme.unwrap())?;
         let authority = copied(alloc, parts.authority)?;
-        let path = joined(alloc, parts.front, parts.path)?;
+        let path = joined(alloc, parts.path.base, parts.path.reference)?;
         let query = copied(alloc, parts.query)?;
         let fragment = copied(alloc, parts.fragment)?;
         Ok(Target {
@@ -94,13 +95,11 @@ impl<S: Spec> Target<S> {
         ensures parts { slices result ≡ self.now }
         ensures fits { Fits S.tests self.now }
         ensures scheme { IsSome self.now.scheme }
-        ensures cut { is_cut_at_segment result ≡ true }
     {
         TargetSlices {
             scheme: Some(self.scheme.as_str()),
             authority: self.authority.as_deref(),
-            front: "",
-            path: self.path.as_str(),
+            path: MergedPath::of(self.path.as_str()),
             query: self.query.as_deref(),
             fragment: self.fragment.as_deref(),
         }

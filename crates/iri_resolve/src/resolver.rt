@@ -9,7 +9,7 @@ ghost use Rattle.iri_types.specs.Texts.{text, text_of};
 ghost use Rattle.iri_resolve.specs.NormalForm.{canonical};
 ghost use Rattle.iri_resolve.specs.Prefix.{IsPrefix};
 ghost use Rattle.iri_resolve.specs.inside.Unchanged.{StandBefore, is_plain_front};
-ghost use Rattle.iri_resolve.specs.Slices.{slices, is_cut_at_segment};
+ghost use Rattle.iri_resolve.specs.Slices.{slices};
 ghost use Rattle.iri_resolve.specs.Target.{ends_at_slash, merge_prefix, target, takes_base_path};
 ghost use Rattle.std.proofs.Props.{props};
 ghost use Rattle.iri_resolve.specs.declared.mode.Mode.TheVariants.{Plain};
@@ -117,7 +117,6 @@ impl<'a, S: Spec> FixedBaseResolver<'a, S> {
     // The target of a reference, as slices of the base and the reference.
     #[inline(always)]
     pub(crate) fn slices(&self, reference: &SplitView<'a, S, Reference>) -> TargetSlices<'a>
-        ensures cut { is_cut_at_segment result ≡ true }
         ensures fits { Fits S.tests (slices result) }
         ensures scheme { IsSome (slices result).scheme }
         ensures parts { slices result ≡ target (split_of (base_text self.now)) (split_of (split_text reference.now)) }

@@ -6,19 +6,19 @@ ghost use Rattle.iri_grammar.specs.Splitters.{parts};
 ghost use Rattle.iri_grammar.specs.OptionalSlices.{now_of};
 ghost use Rattle.iri_resolve.specs.Target.{takes_base_path, target, target_under, to_last_slash, merge_prefix};
 ghost use Rattle.iri_resolve.specs.Target.{ends_at_slash};
-ghost use Rattle.iri_resolve.specs.Slices.{slices, is_cut_at_segment};
+ghost use Rattle.iri_resolve.specs.Slices.{merged, slices};
 ghost use Rattle.iri_grammar.specs.Characters.{slash};
 
+use crate::merged_path::MergedPath;
 use iri_grammar::splitter::Splitter;
 use memchr::memrchr;
 
-/// A target as slices of the base and the reference: its path is `front` followed by `path`.
+/// A target as slices of the base and the reference.
 #[derive(Clone, Copy)]
 pub struct TargetSlices<'a> {
     pub scheme: Option<&'a str>,
     pub authority: Option<&'a str>,
-    pub front: &'a str,
-    pub path: &'a str,
+    pub path: MergedPath<'a>,
     pub query: Option<&'a str>,
     pub fragment: Option<&'a str>,
 }
@@ -60,13 +60,18 @@ pub(crate) fn starts_with_slash(path: &str) -> bool
     matches!(path.as_bytes(), [b'/', ..])
 }
 
-// The prefix of the path of a reference that has one, with neither scheme nor authority.
-fn path_front<'a>(front: &'a str, path: &str) -> &'a str
-    requires { ends_at_slash front.now ≡ true }
-    ensures ends { ends_at_slash result.now ≡ true }
-    ensures path { result.now ++ path.now ≡ cond (starts_with_slash path.now) path.now (front.now ++ path.now) }
+// The path of a reference that has one, with neither scheme nor authority (section 5.2.3).
+fn merge<'a>(base: &'a str, path: &'a str) -> MergedPath<'a>
+    requires { ends_at_slash base.now ≡ true }
+    ensures { merged result ≡ cond (starts_with_slash path.now) path.now (base.now ++ path.now) }
 {
-    if starts_with_slash(path) { "" } else { front }
+    if starts_with_slash(path) {
+        return MergedPath::of(path);
+    }
+    MergedPath {
+        base,
+        reference: path,
+    }
 }
 
 // The target of a reference with neither scheme nor authority.
@@ -78,7 +83,6 @@ fn behind_base<'a>(
 ) -> TargetSlices<'a>
     requires prefix { front.now ≡ merge_prefix (parts base.now) }
     requires ends { ends_at_slash front.now ≡ true }
-    ensures cut { is_cut_at_segment result ≡ true }
     ensures parts { slices result ≡ target_under (parts base.now) (parts reference.now) None None }
 {
     let path = reference.path();
@@ -87,8 +91,10 @@ fn behind_base<'a>(
         TargetSlices {
             scheme: base.scheme(),
             authority: base.authority(),
-            front: base.path(),
-            path,
+            path: MergedPath {
+                base: base.path(),
+                reference: path,
+            },
             query: reference.query().or(base.query()),
             fragment,
         }
@@ -96,8 +102,7 @@ fn behind_base<'a>(
         TargetSlices {
             scheme: base.scheme(),
             authority: base.authority(),
-            front: path_front(front, path),
-            path,
+            path: merge(front, path),
             query: reference.query(),
             fragment,
         }
@@ -106,14 +111,12 @@ fn behind_base<'a>(
 
 // A reference's own parts under a scheme.
 fn under_scheme<'a>(scheme: Option<&'a str>, reference: &Splitter<'a>) -> TargetSlices<'a>
-    ensures cut { is_cut_at_segment result ≡ true }
     ensures parts { slices result ≡ record (parts reference.now) { scheme = now_of scheme.entry } }
 {
     TargetSlices {
         scheme,
         authority: reference.authority(),
-        front: "",
-        path: reference.path(),
+        path: MergedPath::of(reference.path()),
         query: reference.query(),
         fragment: reference.fragment(),
     }
@@ -126,7 +129,6 @@ fn under_scheme<'a>(scheme: Option<&'a str>, reference: &Splitter<'a>) -> Target
 pub fn target<'a>(base: &Splitter<'a>, front: &'a str, reference: &Splitter<'a>) -> TargetSlices<'a>
     requires prefix { front.now ≡ merge_prefix (parts base.now) }
     requires ends { ends_at_slash front.now ≡ true }
-    ensures cut { is_cut_at_segment result ≡ true }
     ensures parts { slices result ≡ target (parts base.now) (parts reference.now) }
 {
     match (reference.scheme(), reference.authority()) {
@@ -146,7 +148,6 @@ pub fn takes_base_path(reference: &Splitter<'_>) -> bool
 impl<'a> TargetSlices<'a> {
     /// The parts of a text.
     pub fn of(text: &Splitter<'a>) -> Self
-        ensures cut { is_cut_at_segment result ≡ true }
         ensures parts { slices result ≡ parts text.now }
     {
         under_scheme(text.scheme(), text)

@@ -6,19 +6,19 @@ use Rattle.iri_resolve.specs.declared.beginning.Begun.{Begun}
 use Rattle.iri_resolve.specs.declared.beginning.Begun.TheVariants.{Nothing, Slash, Slashes, Other}
 use Rattle.iri_resolve.specs.declared.beginning.Beginning.{Beginning}
 
-abbrev pub behind_byte : Begun → ℕ → Begun
-behind_byte Nothing b = cond (b == slash) Slash Other
-behind_byte Slash b = cond (b == slash) Slashes Other
-behind_byte Slashes b = Slashes
-behind_byte Other b = Other
+abbrev pub after_byte : Begun → ℕ → Begun
+after_byte Nothing b = cond (b == slash) Slash Other
+after_byte Slash b = cond (b == slash) Slashes Other
+after_byte Slashes b = Slashes
+after_byte Other b = Other
 
 abbrev pub begun_by : Begun → List ℕ → Begun
 begun_by begun [] = begun
-begun_by begun (b ∷ bs) = begun_by (behind_byte begun b) bs
+begun_by begun (b ∷ bs) = begun_by (after_byte begun b) bs
 
 begun_by-append : (s : Begun) (t u : List ℕ) → begun_by s (t ++ u) ≡ begun_by (begun_by s t) u
 begun_by-append s [] u = refl
-begun_by-append s (b ∷ bs) u = begun_by-append (behind_byte s b) bs u
+begun_by-append s (b ∷ bs) u = begun_by-append (after_byte s b) bs u
 
 -- the text was put
 pub record Begins (a : Beginning) (t : List ℕ) (b : Beginning) : Type 0 where

@@ -1,5 +1,5 @@
 -- Dot removal with a buffer (RFC 3986 section 5.2.4): in it stand the segments that stay so far, each with its slash.
-use Rattle.std.specs.Prelude.{ℕ, zero, suc, Bool, true, false, drop, length, cond, List, [], ◌∷◌, ◌++◌, Option, Some, None}
+use Rattle.std.specs.Prelude.{ℕ, zero, suc, Bool, cond, List, [], ◌∷◌, ◌++◌, Option, Some, None}
 use Rattle.iri_grammar.specs.Characters.{slash}
 use Rattle.iri_grammar.specs.Pieces.{pieces}
 use Rattle.iri_resolve.specs.DotRemoval.{is_two_dots, without_last}
@@ -39,15 +39,6 @@ written_segments buffer (s ∷ ss) =
 -- the same of a path
 abbrev pub written : List ℕ → List ℕ → List ℕ
 written buffer path = written_segments buffer (pieces slash path)
-
--- at its start the buffer is empty; before what follows, in a long path, a slash stands in it that stays
-abbrev pub start : Bool → List ℕ
-start true = []
-start false = slash ∷ []
-
--- what comes behind that, where n segments are taken back at the end
-abbrev pub shown : Bool → List ℕ → ℕ → List ℕ
-shown first path n = drop (length (start first)) (popped_times n (written (start first) path))
 
 abbrev pub or_nothing : Option (List ℕ) → List ℕ
 or_nothing None = []

@@ -1,25 +1,24 @@
-use Rattle.std.proofs.Common.{◌≤◌, refl, arith}
-use Rattle.std.specs.Prelude.{slice_index}
-use Rattle.iri_resolve.proofs.NextLemmas.{found, none-there, nothing-plain, pass-plain, pass-slash}
+use Rattle.std.proofs.Common.{refl, arith}
+use Rattle.iri_resolve.proofs.SegmentLemmas.{nothing-plain}
+use Rattle.iri_resolve.proofs.NextLemmas.{found, none-there, pass-lanes, pass-plain, pass-slash}
 use Rattle.iri_resolve.proofs.dots.next_dots.Goals as goal
-use Rattle.iri_resolve.proofs.dots.next_dots.Goals.{then-b-lt37-via-then-b-lt37, then-b-lt37-via-else-b-lt37+then-b-gt47}
 
 pub returns-in-Some : goal.returns-in-Some
 returns-in-Some c = record { more = c.args.path.now; whole = refl; ends = refl; plain = nothing-plain; front = c.in-Some.ensures }
 
-pub places-preserved-then-b-lt37 : goal.places-preserved-then-b-lt37
-places-preserved-then-b-lt37 c =
-    let t = c.args.path.now in
-    let other : 37 ≤ slice_index t c.places.i → slice_index t c.places.i ≤ 47 → ⊥ =
-    elim c.then-b-lt37.branch [
-      | then-b-lt37-via-then-b-lt37 w ↦ λ a b. omega arith
-      | then-b-lt37-via-else-b-lt37+then-b-gt47 w ↦ λ a b. omega arith
-    ] in
-    record {
-      low = omega arith;
-      front = c.places.invariant.front;
-      none = pass-plain t c.places.i c.places.invariant.low c.places-test.true other c.places.invariant.none;
-    }
+pub places-preserved-then-are_plain : goal.places-preserved-then-are_plain
+places-preserved-then-are_plain c = record {
+  low = omega arith;
+  front = c.places.invariant.front;
+  none = pass-lanes c.args.path.now c.places.i 8 c.places.invariant.low (c.are_plain.ensures c.if-are_plain.true) c.places.invariant.none;
+}
+
+pub places-preserved-then-b-gt47 : goal.places-preserved-then-b-gt47
+places-preserved-then-b-gt47 c = record {
+  low = omega arith;
+  front = c.places.invariant.front;
+  none = pass-plain c.args.path.now c.places.i c.places.invariant.low c.places-test.true c.if-b-gt47.true c.places.invariant.none;
+}
 
 pub places-preserved-then-b-eq47 : goal.places-preserved-then-b-eq47
 places-preserved-then-b-eq47 c = record {

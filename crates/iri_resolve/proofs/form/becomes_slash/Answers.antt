@@ -5,4 +5,4 @@ use Rattle.iri_resolve.proofs.form.becomes_slash.Goals as goal
 
 pub returns : goal.returns
 returns c = c.are_empty.ensures ∙ sym (slash-told (now_of c.args.dropped) (now_of c.args.target.now.authority)
-    c.args.target.now.front.now c.args.target.now.path.now _ _ (ap now_of c.in-Some.is) (ap now_of c.in-Some-authority.is))
+    c.args.target.now.path.base.now c.args.target.now.path.reference.now _ _ (ap now_of c.in-Some.is) (ap now_of c.in-Some-authority.is))

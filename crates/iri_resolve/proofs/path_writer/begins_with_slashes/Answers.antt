@@ -1,9 +1,10 @@
-use Rattle.std.proofs.Common.{◌++◌, ◌∙◌, ap}
+use Rattle.std.proofs.Common.{◌∙◌, ap}
 use Rattle.iri_resolve.specs.DotRemoval.{dots}
 use Rattle.iri_resolve.specs.inside.Beginning.{is_slashes}
+use Rattle.iri_resolve.specs.Slices.{merged}
 use Rattle.iri_resolve.proofs.BeginningLemmas.{begins-slashes}
 use Rattle.iri_resolve.proofs.path_writer.begins_with_slashes.Goals as goal
 
 pub returns-in-Ok : goal.returns-in-Ok
 returns-in-Ok g c =
-    c.is_slashes.ensures ∙ (ap is_slashes c.in-Ok.ensures.appends.begun ∙ begins-slashes (dots (c.args.front.now ++ c.args.path.now)))
+    c.is_slashes.ensures ∙ (ap is_slashes c.in-Ok.ensures.appends.begun ∙ begins-slashes (dots (merged c.args.path.now)))

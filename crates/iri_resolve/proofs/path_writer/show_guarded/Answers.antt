@@ -1,8 +1,9 @@
-use Rattle.std.proofs.Common.{◌++◌, ◌∙◌, sym, subst}
+use Rattle.std.proofs.Common.{◌∙◌, sym, subst}
 use Rattle.iri_text.proofs.Compose.{shows_exit, shows_then}
 use Rattle.iri_text.specs.Shown.{Shows}
 use Rattle.iri_resolve.specs.DotRemoval.{dots}
 use Rattle.iri_resolve.specs.PathForm.{in_form}
+use Rattle.iri_resolve.specs.Slices.{merged}
 use Rattle.iri_resolve.proofs.BeginLemmas.{unguarded-form, guarded-form}
 use Rattle.iri_resolve.proofs.NormalLemmas.{dots_whole}
 use Rattle.iri_resolve.proofs.path_writer.show_guarded.Goals as goal
@@ -10,8 +11,8 @@ use Rattle.iri_resolve.proofs.path_writer.show_guarded.Goals as goal
 pub returns-then-not-is_guarded : goal.returns-then-not-is_guarded
 returns-then-not-is_guarded g c =
     let s = g.S.Spec.tests in
-    let p = c.args.front.now ++ c.args.path.now in
-    let w = dots_whole s g.met.S.Spec.lawful p c.requires.path in
+    let p = merged c.args.path.now in
+    let w = dots_whole s g.met.S.Spec.lawful p c.requires in
     subst (λ x. Shows g.W.TextSink.puts g.W.TextSink.halts g.W.TextSink.stops c.args.sink.now x c.show_without_dots.new.sink c.show_without_dots.result)
     (unguarded-form s c.args.normal c.args.authority_stands (dots p) g.met.S.Spec.lawful w
     (sym c.is_guarded.ensures ∙ c.if-not-is_guarded.true)) c.show_without_dots.ensures
@@ -19,8 +20,8 @@ returns-then-not-is_guarded g c =
 pub returns-in_err-put : goal.returns-in_err-put
 returns-in_err-put g c =
     let s = g.S.Spec.tests in
-    let p = c.args.front.now ++ c.args.path.now in
-    let w = dots_whole s g.met.S.Spec.lawful p c.requires.path in
+    let p = merged c.args.path.now in
+    let w = dots_whole s g.met.S.Spec.lawful p c.requires in
     subst (λ x. Shows g.W.TextSink.puts g.W.TextSink.halts g.W.TextSink.stops c.args.sink.now x c.put.new.self c.from_residual.result)
     (guarded-form s c.args.normal c.args.authority_stands (dots p) g.met.S.Spec.lawful w
     (sym c.is_guarded.ensures ∙ c.if-not-is_guarded.false))
@@ -29,8 +30,8 @@ returns-in_err-put g c =
 pub returns : goal.returns
 returns g c =
     let s = g.S.Spec.tests in
-    let p = c.args.front.now ++ c.args.path.now in
-    let w = dots_whole s g.met.S.Spec.lawful p c.requires.path in
+    let p = merged c.args.path.now in
+    let w = dots_whole s g.met.S.Spec.lawful p c.requires in
     subst (λ x. Shows g.W.TextSink.puts g.W.TextSink.halts g.W.TextSink.stops c.args.sink.now x c.show_without_dots-2.new.sink c.show_without_dots-2.result)
     (guarded-form s c.args.normal c.args.authority_stands (dots p) g.met.S.Spec.lawful w
     (sym c.is_guarded.ensures ∙ c.if-not-is_guarded.false))

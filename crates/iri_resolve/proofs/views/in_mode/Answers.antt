@@ -13,4 +13,4 @@ new-requires g c =
     let none : g.K.Kind.fault s x ≡ None = ∥∥₁_elim c.args.view.valid (hlevel props) (λ e. e) in
     let parts = c.of-target.ensures.parts in
     view-sound s g.K.Kind.fault c.of-target.result x (parts ∙ (c.parts.ensures.split ∙ ap split_of c.of-split.ensures))
-    (subst (Fits s) (sym parts) c.parts.ensures.fits) c.of-target.ensures.cut none
+    (subst (Fits s) (sym parts) c.parts.ensures.fits) none

@@ -3,4 +3,4 @@ use Rattle.iri_resolve.proofs.resolver.FixedBaseResolver.resolve_split.Goals as 
 
 pub behind-requires-clause-sound : goal.behind-requires-clause-sound
 behind-requires-clause-sound g c =
-    target-sound g.S.Spec.tests c.slices.result g.met.S.Spec.lawful c.slices.ensures.fits c.slices.ensures.scheme c.slices.ensures.cut
+    target-sound g.S.Spec.tests c.slices.result g.met.S.Spec.lawful c.slices.ensures.fits c.slices.ensures.scheme
