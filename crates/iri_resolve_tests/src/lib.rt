@@ -1,5 +1,5 @@
 //! Tests of `iri_resolve` over its public calls: rows of RFC 3986 and RFC 3987, every join of five pieces of a path against the
-//! rewriting of RFC 3986 section 5.2.4, and steps. A crate with tests is proved twice, so they stand apart from the library.
+//! rewriting of RFC 3986 section 5.2.4, every short text of dots and slashes against a stack of segments, and steps. A crate with tests is proved twice, so they stand apart from the library.
 #![tactic(auto)]
 
 #[cfg(test)]
@@ -18,5 +18,7 @@ mod replay;
 mod resolver;
 #[cfg(test)]
 mod rewriting;
+#[cfg(test)]
+mod segments;
 #[cfg(test)]
 mod step_text;

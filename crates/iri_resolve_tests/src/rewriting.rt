@@ -61,21 +61,25 @@ fn rewritten(alloc: Global, path: &[u8]) -> Result<Vec<u8>, AllocError> {
     Ok(output)
 }
 
-// The texts that are wanted of a path: as it stands, and rewritten and guarded.
+// The texts that are wanted of a path in three modes.
 #[derive(Clone, Copy)]
-struct Wanted<'a> {
-    plain: &'a [u8],
-    normal: &'a [u8],
-    preserving: &'a [u8],
+pub(crate) struct Wanted<'a> {
+    pub(crate) plain: &'a [u8],
+    pub(crate) normal: &'a [u8],
+    pub(crate) preserving: &'a [u8],
 }
 
 // What is written in front of a path.
-fn head(authority_stands: bool) -> &'static str {
+pub(crate) fn head(authority_stands: bool) -> &'static str {
     if authority_stands { "s://h" } else { "s:" }
 }
 
 // The text with a path as it stands.
-fn as_it_stands(alloc: Global, path: &[u8], authority_stands: bool) -> Result<Vec<u8>, AllocError> {
+pub(crate) fn as_it_stands(
+    alloc: Global,
+    path: &[u8],
+    authority_stands: bool,
+) -> Result<Vec<u8>, AllocError> {
     let mut text = Vec::new(alloc);
     text.extend_from_slice(head(authority_stands).as_bytes())?;
     text.extend_from_slice(path)?;
@@ -140,7 +144,7 @@ fn compared(
 }
 
 // Whether a base can have the path: beside an authority it begins with a slash, and without one not with two.
-fn is_path(path: &[u8], authority_stands: bool) -> bool {
+pub(crate) fn is_path(path: &[u8], authority_stands: bool) -> bool {
     if authority_stands {
         path.starts_with(b"/")
     } else {
@@ -149,7 +153,35 @@ fn is_path(path: &[u8], authority_stands: bool) -> bool {
 }
 
 // A path cut behind each of its slashes, where what follows is a reference of its own, and not cut at all.
-fn compared_cuts(
+pub(crate) fn compared_cuts(
+    alloc: Global,
+    path: &str,
+    authority_stands: bool,
+    wanted: Wanted<'_>,
+    whole: Wanted<'_>,
+) -> Result<Option<usize>, AllocError> {
+    let bytes = path.as_bytes();
+    let Some(mut count) = compared(alloc, path, "", authority_stands, whole)? else {
+        return Ok(None);
+    };
+    for i in 1..bytes.len() {
+        if bytes[i - 1] != b'/' || bytes[i] == b'/' {
+            continue;
+        }
+        let (Ok(front), Ok(rest)) = (str::from_utf8(&bytes[..i]), str::from_utf8(&bytes[i..]))
+        else {
+            return Ok(None);
+        };
+        match compared(alloc, front, rest, authority_stands, wanted)? {
+            Some(more) => count = count.saturating_add(more),
+            None => return Ok(None),
+        }
+    }
+    Ok(Some(count))
+}
+
+// The same against the rewriting.
+fn compared_rewriting(
     alloc: Global,
     path: &str,
     authority_stands: bool,
@@ -171,23 +203,7 @@ fn compared_cuts(
         plain: stands.as_slice(),
         ..wanted
     };
-    let Some(mut count) = compared(alloc, path, "", authority_stands, whole)? else {
-        return Ok(None);
-    };
-    for i in 1..bytes.len() {
-        if bytes[i - 1] != b'/' || bytes[i] == b'/' {
-            continue;
-        }
-        let (Ok(front), Ok(rest)) = (str::from_utf8(&bytes[..i]), str::from_utf8(&bytes[i..]))
-        else {
-            return Ok(None);
-        };
-        match compared(alloc, front, rest, authority_stands, wanted)? {
-            Some(more) => count = count.saturating_add(more),
-            None => return Ok(None),
-        }
-    }
-    Ok(Some(count))
+    compared_cuts(alloc, path, authority_stands, wanted, whole)
 }
 
 static PIECES: [&str; 7] = ["/", "a", ".", "..", "/..", "/../", "a/"];
@@ -208,7 +224,7 @@ fn compared_joins(alloc: Global, authority_stands: bool) -> Result<Option<usize>
     let mut count = 0usize;
     for number in 0..16_807 {
         join(&mut path, number)?;
-        match compared_cuts(alloc, path.as_str(), authority_stands)? {
+        match compared_rewriting(alloc, path.as_str(), authority_stands)? {
             Some(more) => count = count.saturating_add(more),
             None => return Ok(None),
         }
@@ -232,12 +248,16 @@ fn joins_behind_an_authority(rt: HostRuntime) -> Result<(), Fail> {
     Ok(())
 }
 
-// Whether a path of a base, taken whole, is put into normal form as it is rewritten.
-fn is_rewritten(alloc: Global, path: &str) -> Result<bool, AllocError> {
+// Whether a path in two pieces, of a base and of a reference, is put into normal form as it is rewritten.
+fn is_rewritten(alloc: Global, front: &str, rest: &str) -> Result<bool, AllocError> {
+    let mut path = String::from_str(alloc, front)?;
+    path.push_str(rest)?;
     let want = guarded(alloc, path.as_bytes(), true)?;
-    let text = base_text(alloc, path, true)?;
-    let (Ok(base), Ok(reference)) = (UriAbsoluteStr::new(text.as_str()), UriReferenceStr::new(""))
-    else {
+    let text = base_text(alloc, front, true)?;
+    let (Ok(base), Ok(reference)) = (
+        UriAbsoluteStr::new(text.as_str()),
+        UriReferenceStr::new(rest),
+    ) else {
         return Ok(false);
     };
     let normal = FixedBaseResolver::new(base)
@@ -246,14 +266,14 @@ fn is_rewritten(alloc: Global, path: &str) -> Result<bool, AllocError> {
     Ok(normal.try_to_string(alloc)?.as_bytes() == want.as_slice())
 }
 
-// The same of a long path.
+// The same of a long path, taken whole.
 fn is_long_rewritten(alloc: Global, unit: &str) -> Result<bool, AllocError> {
     let mut path = String::from_str(alloc, "/")?;
     for _ in 0..4000 {
         path.push_str(unit)?;
     }
     path.push_str("../x")?;
-    is_rewritten(alloc, path.as_str())
+    is_rewritten(alloc, path.as_str(), "")
 }
 
 #[test]
@@ -264,36 +284,79 @@ fn long_paths(rt: HostRuntime) -> Result<(), Fail> {
     Ok(())
 }
 
-// The same of paths of a unit again and again, of each length around the one up to which a path is gone through once.
-fn are_rewritten_around(alloc: Global, unit: &str) -> Result<bool, AllocError> {
+// The same of a path taken whole, and cut behind a slash before half of it.
+fn are_both_rewritten(alloc: Global, path: &str, cut: usize) -> Result<bool, AllocError> {
+    let (Some(front), Some(rest)) = (path.get(..cut), path.get(cut..)) else {
+        return Ok(false);
+    };
+    if !rest.as_bytes().starts_with(b"/") && !is_rewritten(alloc, front, rest)? {
+        return Ok(false);
+    }
+    is_rewritten(alloc, path, "")
+}
+
+// The same of paths of a unit again and again, of so many lengths from the first one on.
+fn are_rewritten_from(
+    alloc: Global,
+    unit: &str,
+    from: usize,
+    count: usize,
+) -> Result<bool, AllocError> {
     let mut path = String::from_str(alloc, "/")?;
-    for _ in 0..600 {
+    for _ in 0..from.saturating_add(count) {
         path.push_str(unit)?;
     }
-    for len in 500..530 {
-        let Some(front) = path.as_str().get(..len) else {
+    let half = path.as_str().get(..from / 2).unwrap_or("/");
+    let cut = half.rfind('/').unwrap_or(0).saturating_add(1);
+    for more in 0..count {
+        let Some(path) = path.as_str().get(..from.saturating_add(more)) else {
             return Ok(false);
         };
-        if !is_rewritten(alloc, front)? {
+        if !are_both_rewritten(alloc, path, cut)? {
             return Ok(false);
         }
     }
     Ok(true)
 }
 
+static REPEATED: [&str; 8] = [
+    "a/",
+    "a/./",
+    "a/../",
+    "a/b/../",
+    "a/b/c/.././",
+    "../",
+    "/",
+    "/../b/",
+];
+
+// Around the length up to which a path goes into the buffer.
 #[test]
 fn paths_around_the_short_length(rt: HostRuntime) -> Result<(), Fail> {
-    for unit in [
-        "a/",
-        "a/./",
-        "a/../",
-        "a/b/../",
-        "a/b/c/.././",
-        "../",
-        "/",
-        "/../b/",
-    ] {
-        assert!(rt; are_rewritten_around(rt.alloc(), unit)?, "at {unit}");
+    for unit in REPEATED {
+        assert!(rt; are_rewritten_from(rt.alloc(), unit, 500, 30)?, "at {unit}");
+    }
+    Ok(())
+}
+
+#[test]
+fn paths_around_two_short_lengths(rt: HostRuntime) -> Result<(), Fail> {
+    for unit in REPEATED {
+        assert!(rt;
+            are_rewritten_from(rt.alloc(), unit, 1_012, 30)?,
+            "at {unit}"
+        );
+    }
+    Ok(())
+}
+
+#[test]
+fn paths_around_64_kib(rt: HostRuntime) -> Result<(), Fail> {
+    for unit in REPEATED {
+        assert!(rt;
+            are_rewritten_from(rt.alloc(), unit, 65_534, 5)?,
+            "at {unit}"
+        );
     }
     Ok(())
 }
