@@ -49,7 +49,7 @@ times-left false n b = refl
 some : (n : ℕ) → (suc n == 0) ≡ false
 some n = grind (arith, nat_tests)
 
--- a segment that is put behind others may be the first to be taken away
+-- a segment that is put after others may be the first to be taken away
 times-pushed : (n : ℕ) (o s : List ℕ) → lacks 47 s ≡ true
     → popped_times n ((o ++ 47 ∷ s) ++ 47 ∷ []) ≡ popped_times (n - 1) (o ++ 47 ∷ []) ++ cond (n == 0) (s ++ 47 ∷ []) []
 times-pushed zero o s h = two_ends o s (47 ∷ [])
@@ -123,13 +123,13 @@ path-stays o t n h =
     (pieces-stay o r.first r.rest n (subst (λ ps. all_lack ps ≡ true) r.whole (pieces-lack t))
     (subst (λ ps. last_ok ps n ≡ true) r.whole (last-path t n h)))
 
--- behind a slash, which stays
+-- after a slash, which stays
 pub after-slash : (t : List ℕ) (n : ℕ) → (ends_at_slash t || n == 0) ≡ true
     → popped_times n (written (47 ∷ []) t) ≡ 47 ∷ kept (pieces 47 t) n
 after-slash t n h = path-stays [] t n h
     ∙ ap (λ l. l ++ kept (pieces 47 t) n) (times-small (taken (pieces 47 t) n) (47 ∷ []) refl (omega arith))
 
--- behind the first segment, which stays or leaves its slash
+-- after the first segment, which stays or leaves its slash
 pub bottom-times : (n : ℕ) (s : List ℕ) → lacks 47 s ≡ true → 0 < n → 47 ∷ [] ≡ popped_times n (s ++ 47 ∷ [])
 bottom-times zero s h l = absurd (omega arith)
 bottom-times (suc n) s h l =

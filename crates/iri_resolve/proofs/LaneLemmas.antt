@@ -1,4 +1,4 @@
--- What begins a dot behind a slash, looked for in eight places at a time.
+-- What begins a dot after a slash, looked for in eight places at a time.
 use Rattle.std.proofs.Common.{◌≡◌, ℕ, zero, suc, ◌+◌, ◌-◌, ◌*◌, ◌%◌, ◌^◌, ◌<◌, ◌≤◌, Bool, true, false, cond, not, eqb, ◌&&◌, ◌||◌, List, [], ◌∷◌, map, length, take, drop, get_or, replicate}
 use Rattle.std.proofs.Common.{refl, sym, ◌∙◌, ap, ap₂, arith, drop-cons}
 use Rattle.std.specs.Prelude.{◌==◌, slice_index}
@@ -14,7 +14,7 @@ use Rattle.iri_resolve.specs.inside.DotSearch.{begins_plain, dots_in_front, slas
 abbrev pub hit : ℕ → ℕ → ℕ
 hit a b = cond (eqb a b) 255 0
 
--- of a byte, and of the one behind it
+-- of a byte, and of the one after it
 abbrev pub slash_lane : ℕ → ℕ
 slash_lane x = hit x 47
 
@@ -25,7 +25,7 @@ either : (ys : List ℕ) → zip2 bit_or (map (λ y. hit y 46) ys) (map (λ y. h
 either [] = refl
 either (y ∷ ys) = ap (λ r. dot_lane y ∷ r) (either ys)
 
--- the lanes of eight bytes and of those behind them
+-- the lanes of eight bytes and of those after them
 abbrev pub lanes : List ℕ → List ℕ → List ℕ
 lanes xs ys = zip2 bit_and (zip2 hit xs (replicate 8 47)) (zip2 bit_or (zip2 hit ys (replicate 8 46)) (zip2 hit ys (replicate 8 37)))
 

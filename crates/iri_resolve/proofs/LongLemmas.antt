@@ -145,7 +145,7 @@ gone-dots t r e h = gone-first t (Some r) e h
 pub gone-all : (t : List ℕ) → behind 47 t ≡ None → is_dot_segment (before 47 t) ≡ true → written [] t ≡ written [] []
 gone-all t e h = gone-first t None e h
 
--- behind a first segment that isn't a dot segment
+-- after a first segment that isn't a dot segment
 written-first : (t r : List ℕ) → behind 47 t ≡ Some r → is_dot_segment (before 47 t) ≡ false → written [] t ≡ written (before 47 t ++ 47 ∷ []) r
 written-first t r e h =
     let ps = pieces-some r in
@@ -172,7 +172,7 @@ empty-is (x ∷ xs) h = cc
 whole-before : (t : List ℕ) → behind 47 t ≡ None → before 47 t ≡ t
 whole-before t e = sym (ap (λ o. before 47 t ++ marked 47 o) e ∙ append-nil (before 47 t)) ∙ joined 47 t
 
--- one segment, with nothing behind it
+-- one segment, with nothing after it
 pub one-alone : (t m : List ℕ) → behind 47 t ≡ None → is_dot_segment (before 47 t) ≡ false
     → (is_empty m || (ends_at_slash t && not (is_empty t))) ≡ true → t ≡ written (written [] t) m
 one-alone t m e h c =

@@ -8,7 +8,7 @@ use Rattle.iri_resolve.specs.Dots.{is_dot_segment, any_dot_segment, has_dot_segm
 use Rattle.iri_resolve.proofs.EndedLemmas.{end_slash}
 use Rattle.iri_resolve.proofs.PieceLaws.{nothing-is_no_dot, pieces-append}
 
--- the segments of a text that ends with a slash, or is empty: those of what follows come behind them
+-- the segments of a text that ends with a slash, or is empty: those of what follows come after them
 pub record Ended (t : List ℕ) : Type 0 where
   pub segments : List (List ℕ)
   pub whole : (m : List ℕ) → pieces 47 (t ++ m) ≡ segments ++ pieces 47 m

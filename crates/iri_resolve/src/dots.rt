@@ -86,7 +86,7 @@ pub(crate) struct NextDots<'a> {
     pub(crate) rest: &'a [u8],
 }
 
-// Whether eight places have no slash with what begins a dot behind it, where that is asked: the place before `i`, and seven more.
+// Whether eight places have no slash with what begins a dot after it, where that is asked: the place before `i`, and seven more.
 #[inline(always)]
 fn are_plain(path: &[u8], i: usize, wide: bool) -> bool
     requires { (1 ≤ i) × (i < length path.now) }

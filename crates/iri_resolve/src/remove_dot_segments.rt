@@ -2,7 +2,7 @@
 //
 // The output buffer of the definition holds segments, each with its slash. A path of up to 512 bytes goes into such a buffer on the
 // stack, run by run (`written`): in the end it holds the path without its dot segments (`dots`), by the law `written-dots`. A longer
-// one is shown in parts. Behind a slash, segments take some of those before them away and then push what stays of themselves (`taken`,
+// one is shown in parts. After a slash, segments take some of those before them away and then push what stays of themselves (`taken`,
 // `kept`), and the law `path-stays` says that this is what the buffer does: so a part is shown as soon as it was counted, forward, how
 // many of its segments the parts after it take away. Each part is cut in two until it is short or stays as it stands; the second part
 // is an eighth of it, so that all counts together go through a text of 64 KiB less than twice.
@@ -88,7 +88,7 @@ fn show_short<S: Spec, W: TextSink>(
     show_part::<S, W>(sink, text_of(&buf, 0, len), normal)
 }
 
-// What stays of a short part behind a slash, where `count` segments are taken away behind it.
+// What stays of a short part after a slash, where `count` segments are taken away after it.
 fn show_few<S: Spec, W: TextSink>(
     sink: &mut W,
     text: &str,
@@ -112,7 +112,7 @@ fn stays(text: &str, count: usize) -> bool
     count == 0 && !has_dot_segment(text)
 }
 
-// What stays of a part behind a slash, where `count` segments are taken away behind it.
+// What stays of a part after a slash, where `count` segments are taken away after it.
 fn show_kept<S: Spec, W: TextSink>(
     sink: &mut W,
     text: &str,

@@ -13,7 +13,7 @@ pub record IsInFront (path : List ℕ) (two : Bool) (rest : List ℕ) : Type 0 w
   pub kind : two ≡ is_two_dots (before slash path)
   pub rest_is : rest ≡ or_nothing (behind slash path)
 
--- the first dot segment stands behind these segments
+-- the first dot segment stands after these segments
 pub record IsNext (path run : List ℕ) (two : Bool) (rest : List ℕ) : Type 0 where
   pub more : List ℕ
   pub whole : path ≡ run ++ more

@@ -25,12 +25,12 @@ popped_times (suc n) buffer = popped_times n (popped buffer)
 abbrev pub left : Bool → List ℕ → List ℕ
 left two buffer = cond two (popped buffer) buffer
 
--- what stands behind a segment, before these
+-- what stands after a segment, before these
 abbrev pub closing : List (List ℕ) → List ℕ
 closing [] = []
 closing (s ∷ ss) = slash ∷ []
 
--- what the buffer comes to, where these segments follow: a slash stands behind each but the last
+-- what the buffer comes to, where these segments follow: a slash stands after each but the last
 abbrev pub written_segments : List ℕ → List (List ℕ) → List ℕ
 written_segments buffer [] = buffer
 written_segments buffer (s ∷ ss) =

@@ -67,7 +67,7 @@ fn leave(buf: &mut [u8; SHORT], len: usize, two: bool) -> usize
     if two { pop(buf, len) } else { len }
 }
 
-// Puts a path behind what stands in the buffer, without its dot segments.
+// Puts a path after what stands in the buffer, without its dot segments.
 #[inline(always)]
 fn put(buf: &mut [u8; SHORT], len: usize, path: &[u8]) -> usize
     requires room { len + length path.now ≤ 512 }
@@ -101,7 +101,7 @@ fn pop_times(buf: &mut [u8; SHORT], len: usize, count: usize) -> usize
     end
 }
 
-/// Puts a short path in two pieces, cut where a segment ends or with nothing behind the cut, without its dot segments.
+/// Puts a short path in two pieces, cut where a segment ends or with nothing after the cut, without its dot segments.
 pub(crate) fn put_path(buf: &mut [u8; SHORT], base: &[u8], reference: &[u8]) -> usize
     requires cut { (is_empty reference.now || ends_at_slash base.now) ≡ true }
     requires short { length base.now + length reference.now ≤ 512 }
@@ -112,7 +112,7 @@ pub(crate) fn put_path(buf: &mut [u8; SHORT], base: &[u8], reference: &[u8]) -> 
     put(buf, first, reference)
 }
 
-/// Puts what stays of a part of a longer path, where `count` segments are taken away behind it. A slash stands before it, which no dot
+/// Puts what stays of a part of a longer path, where `count` segments are taken away after it. A slash stands before it, which no dot
 /// segment takes away.
 pub(crate) fn put_kept(buf: &mut [u8; SHORT], text: &[u8], count: usize) -> usize
     requires ends { (ends_at_slash text.now || count == 0) ≡ true }

@@ -23,7 +23,7 @@ fn count_slashes(text: &[u8]) -> usize
     text.iter().filter(|b| **b == b'/').count()
 }
 
-// How many segments are taken away before segments, and how many of these stay, behind a dot segment more.
+// How many segments are taken away before segments, and how many of these stay, after a dot segment more.
 fn counts_after(gone: usize, stay: usize, two: bool) -> (usize, usize)
     requires { gone + stay + 1 < 2 ^ 64 }
     ensures counts { (n : ℕ) → result.0 + (n - result.1) ≡ gone + (cond two (n + 1) n - stay) }
@@ -38,7 +38,7 @@ fn counts_after(gone: usize, stay: usize, two: bool) -> (usize, usize)
     }
 }
 
-/// How many segments a path takes away before it, where `count` are taken away behind it.
+/// How many segments a path takes away before it, where `count` are taken away after it.
 pub(crate) fn taken(text: &str, count: usize) -> usize
     requires room { count + length text.now < 2 ^ 64 }
     ensures count { result ≡ taken (pieces slash text.now) count }
@@ -87,7 +87,7 @@ fn slash_to_cut(text: &[u8]) -> Option<usize>
     }
 }
 
-/// A path cut behind a segment, about an eighth of it behind the cut where that can be. `None` where it is one segment.
+/// A path cut after a segment, about an eighth of it after the cut where that can be. `None` where it is one segment.
 pub(crate) fn cut_eighth(text: &str) -> Option<(&str, &str)>
     requires { 8 ≤ length text.now }
     ensures { MatchOption result (lacks slash (take (length text.now - 1) text.now) ≡ true)
