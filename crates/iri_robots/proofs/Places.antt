@@ -1,5 +1,5 @@
 -- Where the prefix of a pattern stands in a text, and what that leaves of the text.
-use Rattle.std.proofs.Common.{◌≡◌, ◌≢◌, ◌↔◌, ℕ, zero, suc, ◌+◌, ◌-◌, ◌<◌, ◌≤◌, Bool, true, List, [], ◌∷◌, ◌++◌, Option, Some, None, Bor, length, take, drop, slice_index}
+use Rattle.std.proofs.Common.{◌≡◌, ◌≢◌, ◌↔◌, ℕ, zero, suc, ◌+◌, ◌-◌, ◌<◌, ◌≤◌, Bool, true, List, [], ◌∷◌, ◌++◌, Option, Some, None, length, take, drop, slice_index}
 use Rattle.std.proofs.Common.{refl, sym, ◌∙◌, ap, subst, arith, length-drop, eqb-true, ⊎_elim}
 use Rattle.std.specs.Prelude.{MatchOption, is_some, false, ◌==◌}
 use Rattle.std.proofs.lemmas.List.{length-take-le, drop_all, get_or-take, get_or-append-add, length-append}

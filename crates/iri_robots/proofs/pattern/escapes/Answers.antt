@@ -1,4 +1,4 @@
-use Rattle.std.proofs.Common.{◌≡◌, ◌+◌, ◌<◌, ◌≤◌, ℕ, zero, suc, true, false, Bool, List, [], ◌∷◌, length, drop, cond, refl, sym, ap, ◌∙◌, arith}
+use Rattle.std.proofs.Common.{◌≡◌, ◌+◌, ◌<◌, ◌≤◌, ℕ, zero, suc, true, false, Bool, List, [], ◌∷◌, length, drop, cond, refl, ap, ◌∙◌, arith}
 use Rattle.std.proofs.Common.{add-one}
 use Rattle.std.proofs.lemmas.List.{take_rest, drop_all}
 use Rattle.iri_robots.specs.Patterns.{begins_escape, escapes}
