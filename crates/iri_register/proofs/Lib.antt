@@ -1,4 +1,7 @@
 pub mod CommandLemmas
 pub mod GroupLemmas
+pub mod KeyLemmas
 pub mod MapLemmas
 pub mod ShareLemmas
+pub mod SlotLemmas
+pub mod TreeLemmas

@@ -1,73 +1,265 @@
 //! The entries, kept in a map in first-seen order.
-ghost use Rattle.std.specs.Prelude.{◌≡◌, ◌<◌, if◌then◌else◌, length, map as mapped, option_map};
-ghost use Rattle.std.specs.Prelude.{None, IfOk, is_ok};
+ghost use Rattle.std.specs.Prelude.{◌≡◌, ◌<◌, ◌+◌, ◌^◌, if◌then◌else◌, [], length, map as mapped, option_map};
+ghost use Rattle.std.specs.Prelude.{List, ℕ, is_some, false, None, filter, slice_get, OnOk, IfOk, IfSome, IfNone, is_ok};
 ghost use Rattle.std.specs.List.{IsDistinct};
-ghost use Rattle.std.specs.Str.{bytes_eq};
 ghost use Rattle.indexmap.specs.IndexMap.{index_map_len};
+ghost use Rattle.std.specs.Map.{lookup};
+ghost use Rattle.std.specs.Str.{bytes_eq};
 ghost use Rattle.iri_register.specs.Entries.{added, removed, place, line_count, entry_at, IsAdded};
-ghost use Rattle.iri_register.specs.Listed.{listed};
-ghost use Rattle.iri_register.specs.inside.Places.{IsAt};
+ghost use Rattle.iri_register.specs.Listed.{entry_of, has_lines, is_live, listed};
+ghost use Rattle.iri_register.specs.inside.Counted.{IsTree, total};
+ghost use Rattle.iri_register.specs.inside.Places.{IsAt, is_text};
+ghost use Rattle.iri_register.specs.inside.Slots.{flag_at, IsKept};
 
 use crate::added::Added;
+use crate::counts::{self, Counts};
+use crate::hasher::{Keyed, with_key};
 use indexmap::IndexMap;
 use std::alloc::{AllocError, Global};
+use std::marker::Model;
 
-pub(crate) type Map = IndexMap<String, Vec<u64>>;
+type Map = IndexMap<String, Vec<u64>, Keyed>;
 
-// The number of entries.
-pub(crate) fn len(map: &Map) -> usize
-    ensures len { result ≡ length (listed map.now) }
-    ensures once { IsDistinct bytes_eq (mapped (λ e. e.target) (listed map.now)) }
-{
-    map.len()
+// The entries. One that was taken out stays in the map without lines, in its slot, until the slots run out: the index of an entry
+// in the map is its slot, and the counts tell which slots have lines.
+#[derive(Drop)]
+pub(crate) struct Entries {
+    map: Map,
+    live: usize,
+    counts: Counts,
 }
 
-// The place of the entry that has this target.
-pub(crate) fn find(map: &Map, target: &str) -> Option<usize>
-    ensures { result ≡ place (listed map.now) target.now }
+impl Model for Entries {
+    ghost use Rattle.std.specs.Prelude.{List};
+    ghost use Rattle.iri_register.specs.Entries.{Entry};
+    ghost use Rattle.iri_register.specs.Listed.{listed};
+    ghost use Rattle.iri_register.specs.inside.Slots.{IsKept};
+
+    ghost Value = { List Entry };
+
+    ghost view = { λ r. listed r.map };
+
+    ghost invariant = { λ r. IsKept r.map.entries r.counts.nodes.items r.counts.room r.counts.height r.live };
+}
+
+// No entries, in a map whose hashes have this key.
+pub(crate) fn none(alloc: Global, key: u128) -> Entries
+    ensures { result ≡ [] }
 {
-    // `len` is called for its clause that places fit.
+    Entries {
+        map: IndexMap::with_hasher(alloc, with_key(key)),
+        live: 0,
+        counts: Counts {
+            nodes: Vec::new(alloc),
+            room: 0,
+            height: 0,
+        },
+    }
+}
+
+// The number of entries.
+pub(crate) fn len(entries: &Entries) -> usize
+    ensures len { result ≡ length entries.now }
+    ensures once { IsDistinct bytes_eq (mapped (λ e. e.target) entries.now) }
+{
+    // `len` of the map is called for its clause that keys are distinct.
+    let _len = entries.map.len();
+    entries.live
+}
+
+// The slot of the entry that has this target.
+fn slot_of(map: &Map, target: &str) -> Option<usize>
+    ensures here { IfSome result (λ i. IsAt target.now map.now.entries i) }
+    ensures live { IfSome result (λ i. flag_at map.now.entries i ≡ 1) }
+    ensures small { index_map_len map.now < 2 ^ 63 }
+    ensures none { IfNone result (place (listed map.now) target.now ≡ None) }
+{
+    // `len` is called for its clause that keys are distinct.
     let _len = map.len();
-    match map.get_index_of(target) {
-        Some(index) => Some(index + 1),
+    match map.get_full(target) {
+        Some((slot, _, lines)) => if lines.is_empty() { None } else { Some(slot) },
         None => None,
     }
 }
 
-// Puts a line at the end of those of a target that stands at an index.
-fn add_line(map: &mut Map, target: &str, index: usize, line: u64) -> Result<(), AllocError>
-    requires within { index < index_map_len map.old }
-    requires there { IsAt target.now map.old.entries index }
-    ensures { listed map.new
-        ≡ (if is_ok result then added (listed map.old) target.now line else listed map.old) }
+// The place of the entry in a slot.
+fn place_of(counts: &Counts, slot: usize) -> usize
+    requires tree { IsTree counts.now.nodes.items counts.now.room counts.now.height }
+    requires within { slot < counts.now.room }
+    requires small { total counts.now.nodes.items counts.now.room slot < 2 ^ 63 }
+    ensures { result ≡ total counts.now.nodes.items counts.now.room slot + 1 }
 {
-    let lines = &mut map[index];
+    counts::before(counts.nodes.as_slice(), counts.room, counts.height, slot) + 1
+}
+
+// The place of the entry that has this target.
+pub(crate) fn find(entries: &Entries, target: &str) -> Option<usize>
+    ensures { result ≡ place entries.now target.now }
+{
+    match slot_of(&entries.map, target) {
+        Some(slot) => Some(place_of(&entries.counts, slot)),
+        None => None,
+    }
+}
+
+// Puts a line at the end of those of the entry in a slot, which has this target.
+fn add_line(map: &mut Map, target: &str, slot: usize, line: u64) -> Result<(), AllocError>
+    requires there { IsAt target.now map.old.entries slot }
+    requires live { flag_at map.old.entries slot ≡ 1 }
+    requires within { slot < index_map_len map.old }
+    ensures lines { listed map.new
+        ≡ (if is_ok result then added (listed map.old) target.now line else listed map.old) }
+    ensures kept { (ns : List ℕ) → (room height live : ℕ) → IsKept map.old.entries ns room height live
+        → IsKept map.new.entries ns room height live }
+{
+    let lines = &mut map[slot];
     match lines.push(line) {
         Ok(()) => Ok(()),
         Err(_) => Err(AllocError),
     }
 }
 
-// Puts an entry of a new target last.
-fn add_entry(alloc: Global, map: &mut Map, target: &str, line: u64) -> Result<(), AllocError>
-    requires { place (listed map.old) target.now ≡ None }
-    ensures { listed map.new
-        ≡ (if is_ok result then added (listed map.old) target.now line else listed map.old) }
+// The entry with these lines was not taken out.
+fn stays(lines: &Vec<u64>) -> bool
+    ensures { result ≡ has_lines lines.now.items }
 {
-    let target = String::from_str(alloc, target)?;
-    let mut lines = Vec::new(alloc);
-    lines.push(line)?;
-    map.insert(target, lines)?;
+    !lines.is_empty()
+}
+
+// Frees the slots of the entries that were taken out, and makes room for as many entries again.
+fn pack(alloc: Global, map: &mut Map, live: usize, counts: &mut Counts) -> Result<(), AllocError>
+    requires kept { IsKept map.old.entries counts.old.nodes.items counts.old.room counts.old.height live }
+    ensures kept { IsKept map.new.entries counts.new.nodes.items counts.new.room counts.new.height live }
+    ensures same { listed map.new ≡ listed map.old }
+    ensures packed { OnOk result (map.new.entries ≡ filter is_live map.old.entries) }
+    ensures room { OnOk result (index_map_len map.new < counts.new.room) }
+{
+    // `len` is called for its clause that the number of entries fits.
+    let _len = map.len();
+    let packed = counts::of_first(alloc, live, counts.room)?;
+    map.retain(
+        |_key: &String, lines: &mut Vec<u64>| -> bool
+            ensures { (result ≡ has_lines lines.old.items) × (lines.new ≡ lines.old) }
+        { stays(lines) },
+    );
+    *counts = packed;
     Ok(())
 }
 
-// Takes the entry that has this target out, and tells how many lines it had.
-pub(crate) fn remove(map: &mut Map, target: &str) -> Option<usize>
-    ensures count { result ≡ line_count (listed map.old) target.now }
-    ensures entries { listed map.new ≡ removed (listed map.old) target.now }
+// Takes the key of an entry that was taken out from the map: its slot gets another key, the slot's number, which is no target.
+fn free_key(
+    alloc: Global,
+    map: &mut Map,
+    counts: &mut Counts,
+    live: usize,
+    target: &str,
+) -> Result<(), AllocError>
+    requires kept { IsKept map.old.entries counts.old.nodes.items counts.old.room counts.old.height live }
+    requires room { index_map_len map.old < counts.old.room }
+    requires gone { place (listed map.old) target.now ≡ None }
+    ensures kept { IsKept map.new.entries counts.new.nodes.items counts.new.room counts.new.height live }
+    ensures same { listed map.new ≡ listed map.old }
+    ensures room { OnOk result (index_map_len map.new < counts.new.room) }
+    ensures absent { OnOk result (is_some (lookup (is_text target.now) map.new.entries) ≡ false) }
 {
-    match map.shift_remove(target) {
-        Some(lines) => Some(lines.len()),
+    // No entry was taken out: the target is no key.
+    if map.len() == live {
+        return Ok(());
+    }
+    match map.get_index_of(target) {
+        Some(slot) => {
+            let key = slot.to_string(alloc)?;
+            if map.contains_key(key.as_str()) {
+                return pack(alloc, map, live, counts);
+            }
+            map.insert(key, Vec::new(alloc))?;
+            map.swap_remove(target);
+            Ok(())
+        }
+        None => Ok(()),
+    }
+}
+
+// Puts an entry of a target that is no key in the next slot.
+fn put_last(
+    alloc: Global,
+    map: &mut Map,
+    counts: &mut Counts,
+    live: usize,
+    target: &str,
+    line: u64,
+) -> Result<usize, AllocError>
+    requires kept { IsKept map.old.entries counts.old.nodes.items counts.old.room counts.old.height live }
+    requires room { index_map_len map.old < counts.old.room }
+    requires absent { is_some (lookup (is_text target.now) map.old.entries) ≡ false }
+    ensures kept { IsKept map.new.entries counts.new.nodes.items counts.new.room counts.new.height
+        (if is_ok result then live + 1 else live) }
+    ensures entries { listed map.new ≡ (if is_ok result then added (listed map.old) target.now line else listed map.old) }
+    ensures live { IfOk result (λ n. n ≡ live + 1) }
+{
+    let slot = map.len();
+    let key = String::from_str(alloc, target)?;
+    let mut lines = Vec::new(alloc);
+    lines.push(line)?;
+    map.insert(key, lines)?;
+    counts::raise(
+        counts.nodes.as_mut_slice(),
+        counts.room,
+        counts.height,
+        slot,
+    );
+    Ok(live + 1)
+}
+
+// Puts an entry of a target that has none last.
+fn add_entry(
+    alloc: Global,
+    entries: &mut Entries,
+    target: &str,
+    line: u64,
+) -> Result<(), AllocError>
+    requires { place entries.old target.now ≡ None }
+    ensures { entries.new ≡ (if is_ok result then added entries.old target.now line else entries.old) }
+{
+    if entries.map.len() >= entries.counts.room {
+        pack(alloc, &mut entries.map, entries.live, &mut entries.counts)?;
+    }
+    free_key(
+        alloc,
+        &mut entries.map,
+        &mut entries.counts,
+        entries.live,
+        target,
+    )?;
+    entries.live = put_last(
+        alloc,
+        &mut entries.map,
+        &mut entries.counts,
+        entries.live,
+        target,
+        line,
+    )?;
+    Ok(())
+}
+
+// Takes the entry that has this target out, and tells how many lines it had. It takes no memory.
+pub(crate) fn remove(alloc: Global, entries: &mut Entries, target: &str) -> Option<usize>
+    ensures count { result ≡ line_count entries.old target.now }
+    ensures entries { entries.new ≡ removed entries.old target.now }
+{
+    match slot_of(&entries.map, target) {
+        Some(slot) => {
+            let count = entries.map[slot].len();
+            entries.map[slot] = Vec::new(alloc);
+            counts::lower(
+                entries.counts.nodes.as_mut_slice(),
+                entries.counts.room,
+                entries.counts.height,
+                slot,
+            );
+            entries.live -= 1;
+            Some(count)
+        }
         None => None,
     }
 }
@@ -75,49 +267,67 @@ pub(crate) fn remove(map: &mut Map, target: &str) -> Option<usize>
 // Puts a line of a target: into the entry that has it, or into a new one.
 pub(crate) fn add(
     alloc: Global,
-    map: &mut Map,
+    entries: &mut Entries,
     target: &str,
     line: u64,
 ) -> Result<Added, AllocError>
-    ensures answer { IfOk result (IsAdded (listed map.old) target.now) }
-    ensures entries { listed map.new
-        ≡ (if is_ok result then added (listed map.old) target.now line else listed map.old) }
+    ensures answer { IfOk result (IsAdded entries.old target.now) }
+    ensures entries { entries.new ≡ (if is_ok result then added entries.old target.now line else entries.old) }
 {
-    let len = map.len();
-    match map.get_index_of(target) {
-        Some(index) => {
-            add_line(map, target, index, line)?;
-            Ok(Added::Old(index + 1))
+    match slot_of(&entries.map, target) {
+        Some(slot) => {
+            add_line(&mut entries.map, target, slot, line)?;
+            Ok(Added::Old(place_of(&entries.counts, slot)))
         }
         None => {
-            add_entry(alloc, map, target, line)?;
-            Ok(Added::New(len + 1))
+            add_entry(alloc, entries, target, line)?;
+            Ok(Added::New(entries.live))
         }
     }
 }
 
-// The target of the entry at a place from 1.
-pub(crate) fn target_at(map: &Map, place: usize) -> Option<&str>
-    ensures { option_map (λ t. t.now) result ≡ option_map (λ e. e.target) (entry_at (listed map.now) place) }
+// The slot of the entry at a place from 1.
+fn slot_at(map: &Map, counts: &Counts, live: usize, place: usize) -> Option<usize>
+    requires { IsKept map.now.entries counts.now.nodes.items counts.now.room counts.now.height live }
+    ensures some { IfSome result (λ s. entry_at (listed map.now) place ≡ option_map entry_of (slice_get map.now.entries s)) }
+    ensures none { IfNone result (entry_at (listed map.now) place ≡ None) }
 {
     if place == 0 {
         return None;
     }
-    match map.get_index(place - 1) {
-        Some((target, _)) => Some(target.as_str()),
+    if place > live {
+        return None;
+    }
+    Some(counts::slot_after(
+        counts.nodes.as_slice(),
+        counts.room,
+        counts.height,
+        place - 1,
+    ))
+}
+
+// The target of the entry at a place from 1.
+pub(crate) fn target_at(entries: &Entries, place: usize) -> Option<&str>
+    ensures { option_map (λ t. t.now) result ≡ option_map (λ e. e.target) (entry_at entries.now place) }
+{
+    match slot_at(&entries.map, &entries.counts, entries.live, place) {
+        Some(slot) => match entries.map.get_index(slot) {
+            Some((target, _)) => Some(target.as_str()),
+            None => None,
+        },
         None => None,
     }
 }
 
 // The numbers of the lines of the entry at a place from 1.
-pub(crate) fn lines_at(map: &Map, place: usize) -> Option<&[u64]>
-    ensures { option_map (λ l. l.now) result ≡ option_map (λ e. e.lines) (entry_at (listed map.now) place) }
+pub(crate) fn lines_at(entries: &Entries, place: usize) -> Option<&[u64]>
+    ensures { option_map (λ l. l.now) result ≡ option_map (λ e. e.lines) (entry_at entries.now place) }
 {
-    if place == 0 {
-        return None;
-    }
-    match map.get_index(place - 1) {
-        Some((_, lines)) => Some(lines.as_slice()),
+    match slot_at(&entries.map, &entries.counts, entries.live, place) {
+        Some(slot) => match entries.map.get_index(slot) {
+            Some((_, lines)) => Some(lines.as_slice()),
+            None => None,
+        },
         None => None,
     }
 }

@@ -1,5 +1,5 @@
 //! A base, and entries by canonical target (RFC 3986 sections 5.2 and 6.2.2).
-ghost use Rattle.std.specs.Prelude.{◌≡◌, [], length, map, option_map, string_bytes};
+ghost use Rattle.std.specs.Prelude.{◌≡◌, ◌≢◌, [], length, map, option_map, string_bytes};
 ghost use Rattle.std.specs.Prelude.{IfOk, MatchResult, None, OnErr, OnOk};
 ghost use Rattle.std.specs.List.{IsDistinct};
 ghost use Rattle.std.specs.Str.{bytes_eq};
@@ -11,9 +11,8 @@ ghost use Rattle.iri_register.specs.Entries.{added, removed, place, line_count, 
 ghost use Rattle.iri_register.specs.Refusals.{CausedBy};
 
 use crate::added::Added;
-use crate::entries;
+use crate::entries::{self, Entries};
 use crate::error::RegisterError;
-use indexmap::IndexMap;
 use iri_grammar::spec::Spec;
 use iri_owned::owned::RiAbsoluteString;
 use iri_resolve::resolver::FixedBaseResolver;
@@ -33,16 +32,15 @@ pub struct Register<S: Spec> {
     base: RiAbsoluteString<S>,
     // The target of the last line, for the look-up.
     target: String,
-    map: IndexMap<String, Vec<u64>>,
+    entries: Entries,
 }
 
 impl<S: Spec> Model for Register<S> {
     ghost use Rattle.iri_register.specs.Kept.{Kept};
-    ghost use Rattle.iri_register.specs.Listed.{listed};
 
     ghost Value = { Kept };
 
-    ghost view = { λ r. record { base = r.base.text; entries = listed r.map } };
+    ghost view = { λ r. record { base = r.base.text; entries = r.entries } };
 }
 
 // Writes the canonical target of a reference in place of what the buffer holds.
@@ -69,9 +67,32 @@ fn write_target<S: Spec>(
     }
 }
 
+// The answer where there are no entries: none has the reference's target, and only a fault is told. It takes no memory.
+fn none_there<S: Spec>(reference: &[u8]) -> Result<Option<usize>, RegisterError>
+    ensures causes { MatchResult result (λ _. bytes_fault (reference_fault S.tests) reference.now ≡ None)
+        (λ e. CausedBy e (bytes_fault (reference_fault S.tests) reference.now)) }
+    ensures answer { IfOk result (λ k. k ≡ None) }
+    ensures memory { result ≢ Err RegisterError.Memory }
+{
+    match SplitView::<S, _>::try_from_bytes(reference) {
+        Ok(_) => Ok(None),
+        Err(error) => Err(RegisterError::Bad(error)),
+    }
+}
+
 impl<S: Spec> Register<S> {
-    /// The register of a base, with no entries.
+    /// The register of a base, with no entries. Targets are hashed with the key 0: who picks the references can make
+    /// look-ups slow.
     pub fn new(alloc: Global, base: RiAbsoluteString<S>) -> Self
+        ensures base { result.base ≡ base.text }
+        ensures entries { result.entries ≡ [] }
+    {
+        Register::with_key(alloc, base, 0)
+    }
+
+    /// The register of a base, with no entries. Targets are hashed with this key: who picks the references and doesn't
+    /// know it can't make look-ups slow. Answers are the same with every key.
+    pub fn with_key(alloc: Global, base: RiAbsoluteString<S>, key: u128) -> Self
         ensures base { result.base ≡ base.text }
         ensures entries { result.entries ≡ [] }
     {
@@ -79,7 +100,7 @@ impl<S: Spec> Register<S> {
             alloc,
             base,
             target: String::new(alloc),
-            map: IndexMap::new(alloc),
+            entries: entries::none(alloc, key),
         }
     }
 
@@ -88,20 +109,25 @@ impl<S: Spec> Register<S> {
         ensures len { result ≡ length self.now.entries }
         ensures once { IsDistinct bytes_eq (map (λ e. e.target) self.now.entries) }
     {
-        entries::len(&self.map)
+        entries::len(&self.entries)
     }
 
     /// The place, from 1, of the entry that has the reference's canonical target; none exactly where no entry has it.
     ///
-    /// Fails with the first fault of a reference that isn't valid, or where allocation failed.
+    /// Fails with the first fault of a reference that isn't valid, or where allocation failed; without entries it takes no
+    /// memory.
     pub fn find(&self, reference: &[u8]) -> Result<Option<usize>, RegisterError>
         ensures causes { MatchResult result (λ _. bytes_fault (reference_fault S.tests) reference.now ≡ None)
             (λ e. CausedBy e (bytes_fault (reference_fault S.tests) reference.now)) }
         ensures answer { IfOk result (λ k. k ≡ place self.now.entries (canonical S.tests self.now.base reference.now)) }
+        ensures memory { self.now.entries ≡ [] → result ≢ Err RegisterError.Memory }
     {
+        if entries::len(&self.entries) == 0 {
+            return none_there::<S>(reference);
+        }
         let mut target = String::new(self.alloc);
         match write_target(&mut target, self.base.as_slice(), reference) {
-            Ok(()) => Ok(entries::find(&self.map, target.as_str())),
+            Ok(()) => Ok(entries::find(&self.entries, target.as_str())),
             Err(error) => Err(error),
         }
     }
@@ -122,7 +148,12 @@ impl<S: Spec> Register<S> {
         ensures unchanged { OnErr result (self.new ≡ self.old) }
     {
         match write_target(&mut self.target, self.base.as_slice(), reference) {
-            Ok(()) => match entries::add(self.alloc, &mut self.map, self.target.as_str(), line) {
+            Ok(()) => match entries::add(
+                self.alloc,
+                &mut self.entries,
+                self.target.as_str(),
+                line,
+            ) {
                 Ok(answer) => Ok(answer),
                 Err(_) => Err(RegisterError::Memory),
             },
@@ -131,11 +162,11 @@ impl<S: Spec> Register<S> {
     }
 
     /// Takes out the entry that has the reference's canonical target, and tells how many lines it had; none exactly
-    /// where no entry has it. Later entries move up by one: a removal takes time in the number of entries behind the
-    /// one that goes.
+    /// where no entry has it. Later entries move up by one. The removal takes no memory but for the target's text; the text
+    /// of the one that goes stays until the map is packed, where an `add` finds no free slot.
     ///
     /// Fails with the first fault of a reference that isn't valid, or where allocation failed; the register is then
-    /// unchanged.
+    /// unchanged. Without entries it takes no memory.
     pub fn remove(&mut self, reference: &[u8]) -> Result<Option<usize>, RegisterError>
         ensures causes { MatchResult result (λ _. bytes_fault (reference_fault S.tests) reference.now ≡ None)
             (λ e. CausedBy e (bytes_fault (reference_fault S.tests) reference.now)) }
@@ -145,9 +176,13 @@ impl<S: Spec> Register<S> {
             ≡ removed self.old.entries (canonical S.tests self.old.base reference.now)) }
         ensures base { self.new.base ≡ self.old.base }
         ensures unchanged { OnErr result (self.new ≡ self.old) }
+        ensures memory { self.old.entries ≡ [] → result ≢ Err RegisterError.Memory }
     {
+        if entries::len(&self.entries) == 0 {
+            return none_there::<S>(reference);
+        }
         match write_target(&mut self.target, self.base.as_slice(), reference) {
-            Ok(()) => Ok(entries::remove(&mut self.map, self.target.as_str())),
+            Ok(()) => Ok(entries::remove(self.alloc, &mut self.entries, self.target.as_str())),
             Err(error) => Err(error),
         }
     }
@@ -157,7 +192,7 @@ impl<S: Spec> Register<S> {
     pub fn target_at(&self, place: usize) -> Option<&str>
         ensures { option_map (λ t. t.now) result ≡ option_map (λ e. e.target) (entry_at self.now.entries place) }
     {
-        entries::target_at(&self.map, place)
+        entries::target_at(&self.entries, place)
     }
 
     /// The numbers of the lines of the entry at a place from 1, in order; none exactly where the place is 0 or more
@@ -165,6 +200,6 @@ impl<S: Spec> Register<S> {
     pub fn lines_at(&self, place: usize) -> Option<&[u64]>
         ensures { option_map (λ l. l.now) result ≡ option_map (λ e. e.lines) (entry_at self.now.entries place) }
     {
-        entries::lines_at(&self.map, place)
+        entries::lines_at(&self.entries, place)
     }
 }

@@ -281,3 +281,69 @@ fn refusals_in_words(rt: HostRuntime) -> Result<(), Fail> {
     assert_eq!(rt; told.as_str(), "out of memory");
     Ok(())
 }
+
+// The place, from 1, of a letter in a list.
+fn place_in(kept: &[u8], letter: u8) -> Option<usize> {
+    for (index, own) in kept.iter().enumerate() {
+        if *own == letter {
+            return Some(index.saturating_add(1));
+        }
+    }
+    None
+}
+
+// Whether the register has the links of these letters, in this order, and no other.
+fn has_links(register: &Register<UriSpec>, kept: &[u8]) -> bool {
+    for (index, letter) in kept.iter().enumerate() {
+        match register.target_at(index.saturating_add(1)) {
+            Some(target) => {
+                if !target.as_bytes().ends_with(&[b'/', *letter]) {
+                    return false;
+                }
+            }
+            None => return false,
+        }
+    }
+    register.len() == kept.len()
+}
+
+// Links that go and come back, beside a plain list of those that are there.
+#[test]
+fn links_come_and_go(rt: HostRuntime) -> Result<(), Fail> {
+    let mut register = register::<UriSpec>(rt.alloc(), "http://a/")?;
+    let mut kept: Vec<u8> = Vec::new(rt.alloc());
+    let mut seed = 1u32;
+    for line in 0..1000u64 {
+        seed = seed.wrapping_mul(75).wrapping_add(74) % 65537;
+        let letter = b'a' + (seed % 11) as u8;
+        let place = place_in(kept.as_slice(), letter);
+        assert!(rt; register.find(&[letter])? == place, "line {line}");
+        match place {
+            Some(_) => {
+                assert!(rt; register.remove(&[letter])? == Some(1), "line {line}");
+                kept.retain(|own: &u8| *own != letter);
+            }
+            None => {
+                kept.push(letter)?;
+                let added = register.add(&[letter], line)?;
+                assert!(rt; added == Added::New(kept.len()), "line {line}");
+            }
+        }
+        assert!(rt; has_links(&register, kept.as_slice()), "line {line}");
+    }
+    Ok(())
+}
+
+// A key changes no answer.
+#[test]
+fn keyed(rt: HostRuntime) -> Result<(), Fail> {
+    let base = RiAbsoluteString::<UriSpec>::try_from_str(rt.alloc(), "http://a/")?;
+    let key = 0x0123_4567_89ab_cdef_0123_4567_89ab_cdef;
+    let mut register = Register::with_key(rt.alloc(), base, key);
+    assert!(rt; register.find(b"b")?.is_none());
+    assert!(rt; register.add(b"b", 2)? == Added::New(1));
+    assert!(rt; register.add(b"/b", 3)? == Added::Old(1));
+    assert!(rt; register.find(b"c")?.is_none());
+    assert!(rt; register.remove(b"b")? == Some(2));
+    Ok(())
+}

@@ -1,24 +1,44 @@
-use Rattle.std.proofs.Common.{ap, sym, ◌∙◌, is_some, ◌+◌}
-use Rattle.iri_register.proofs.MapLemmas.{at_position, place_at, place_none, length_entries}
+use Rattle.std.proofs.Common.{◌≡◌, ◌<◌, ◌+◌, None, Some, ap, sym, subst, ◌∙◌, length, arith, rules}
+use Rattle.iri_register.specs.Entries.{place, added}
+use Rattle.iri_register.proofs.SlotLemmas.{at_within, counted_small, total_is, place_live, length_listed, added_longer}
 use Rattle.iri_register.proofs.entries.add.Goals as goal
 
-pub add_line-requires-clause-there : goal.add_line-requires-clause-there
-add_line-requires-clause-there c =
-    at_position c.args.target.now c.args.map.now.entries c.in-Some.index (sym c.get_index_of.ensures.index ∙ c.in-Some.is)
+pub add_line-requires-clause-within : goal.add_line-requires-clause-within
+add_line-requires-clause-within c = at_within c.args.target.now c.entries.inside.map.entries c.in-Some.slot c.in-Some.ensures.here
 
-pub add_entry-requires : goal.add_entry-requires
-add_entry-requires c =
-    place_none c.args.target.now c.args.map.now.entries (sym c.get_index_of.ensures.found ∙ ap is_some c.in-None.is)
+pub invariant_of-entries : goal.invariant_of-entries
+invariant_of-entries c = c.add_line.ensures.kept _ _ _ _ c.entries.invariant
+
+pub invariant_of-entries-in-Some : goal.invariant_of-entries-in-Some
+invariant_of-entries-in-Some c = c.add_line.ensures.kept _ _ _ _ c.entries.invariant
+
+pub place_of-requires-clause-within : goal.place_of-requires-clause-within
+place_of-requires-clause-within c =
+    let w = at_within c.args.target.now c.entries.inside.map.entries c.in-Some.slot c.in-Some.ensures.here in
+    omega (arith, w, c.entries.invariant.within)
+
+pub place_of-requires-clause-small : goal.place_of-requires-clause-small
+place_of-requires-clause-small c =
+    let es = c.entries.inside.map.entries in
+    let w = at_within c.args.target.now es c.in-Some.slot c.in-Some.ensures.here in
+    let t = total_is c.entries.invariant c.in-Some.slot (omega (arith, w, c.entries.invariant.within)) in
+    let s = counted_small es c.in-Some.slot in
+    omega (arith, t, s, c.slot_of.ensures.small)
 
 pub returns-in_ok-add_line-in-Some-clause-answer : goal.returns-in_ok-add_line-in-Some-clause-answer
 returns-in_ok-add_line-in-Some-clause-answer c =
-    let es = c.args.map.now.entries in
-    place_at c.args.target.now es c.in-Some.index
-    (at_position c.args.target.now es c.in-Some.index (sym c.get_index_of.ensures.index ∙ c.in-Some.is))
+    let es = c.entries.inside.map.entries in
+    let w = at_within c.args.target.now es c.in-Some.slot c.in-Some.ensures.here in
+    let t = total_is c.entries.invariant c.in-Some.slot (omega (arith, w, c.entries.invariant.within)) in
+    let p = place_live c.args.target.now es c.in-Some.slot c.in-Some.ensures.here c.in-Some.ensures.live in
+    ap (λ es. place es c.args.target.now) (sym c.entries.view_is) ∙ p ∙ ap Some (omega (arith, c.place_of.ensures, t))
 
 pub returns-in_ok-add_entry-in-None-clause-answer : goal.returns-in_ok-add_entry-in-None-clause-answer
 returns-in_ok-add_entry-in-None-clause-answer c =
-    let es = c.args.map.now.entries in (
-      place_none c.args.target.now es (sym c.get_index_of.ensures.found ∙ ap is_some c.in-None.is),
-      ap (λ n. n + 1) (c.len-len.ensures.len ∙ sym (length_entries es)),
-    )
+    let none : place c.args.entries.now c.args.target.now ≡ None =
+    ap (λ es. place es c.args.target.now) (sym c.entries.view_is) ∙ c.in-None.ensures.none in
+    let es = c.entries-in-None.inside.map.entries in
+    let l = length_listed es in
+    let v = ap length (c.entries-in-None.view_is ∙ c.in_ok-add_entry-in-None.ensures) in
+    let m = added_longer c.args.entries.now c.args.target.now c.args.line none in
+    (none, omega (arith, l, v, m, c.entries-in-None.invariant.living))

@@ -1,12 +1,25 @@
-use Rattle.std.proofs.Common.{ap, sym, ◌∙◌, is_some}
-use Rattle.iri_register.proofs.MapLemmas.{at_position, place_at, place_none}
+use Rattle.std.proofs.Common.{◌≡◌, ◌<◌, ◌+◌, sym, ap, ◌∙◌, Some, length, arith, rules}
+use Rattle.iri_register.specs.Entries.{place}
+use Rattle.iri_register.proofs.SlotLemmas.{at_within, counted_small, total_is, place_live}
 use Rattle.iri_register.proofs.entries.find.Goals as goal
+
+pub place_of-requires-clause-within : goal.place_of-requires-clause-within
+place_of-requires-clause-within c =
+    let w = at_within c.args.target.now c.entries.inside.map.entries c.in-Some.slot c.in-Some.ensures.here in
+    omega (arith, w, c.entries.invariant.within)
+
+pub place_of-requires-clause-small : goal.place_of-requires-clause-small
+place_of-requires-clause-small c =
+    let es = c.entries.inside.map.entries in
+    let w = at_within c.args.target.now es c.in-Some.slot c.in-Some.ensures.here in
+    let t = total_is c.entries.invariant c.in-Some.slot (omega (arith, w, c.entries.invariant.within)) in
+    let s = counted_small es c.in-Some.slot in
+    omega (arith, t, s, c.slot_of.ensures.small)
 
 pub returns-in-Some : goal.returns-in-Some
 returns-in-Some c =
-    let es = c.args.map.now.entries in
-    sym (place_at c.args.target.now es c.in-Some.index
-    (at_position c.args.target.now es c.in-Some.index (sym c.get_index_of.ensures.index ∙ c.in-Some.is)))
-
-pub returns-in-None : goal.returns-in-None
-returns-in-None c = sym (place_none c.args.target.now c.args.map.now.entries (sym c.get_index_of.ensures.found ∙ ap is_some c.in-None.is))
+    let es = c.entries.inside.map.entries in
+    let w = at_within c.args.target.now es c.in-Some.slot c.in-Some.ensures.here in
+    let t = total_is c.entries.invariant c.in-Some.slot (omega (arith, w, c.entries.invariant.within)) in
+    let p = place_live c.args.target.now es c.in-Some.slot c.in-Some.ensures.here c.in-Some.ensures.live in
+    ap Some (omega (arith, c.place_of.ensures, t)) ∙ sym p ∙ ap (λ es. place es c.args.target.now) c.entries.view_is

@@ -1,9 +1,11 @@
-use Rattle.std.proofs.Common.{sym, ◌∙◌}
-use Rattle.iri_register.proofs.MapLemmas.{length_entries, once_each}
+use Rattle.std.proofs.Common.{map, subst}
+use Rattle.std.specs.List.{IsDistinct}
+use Rattle.std.specs.Str.{bytes_eq}
+use Rattle.iri_register.specs.Entries.{Entry}
+use Rattle.iri_register.proofs.KeyLemmas.{once_live}
 use Rattle.iri_register.proofs.entries.len.Goals as goal
 
-pub returns-clause-len : goal.returns-clause-len
-returns-clause-len c = c.len.ensures.len ∙ sym (length_entries c.args.map.now.entries)
-
 pub returns-clause-once : goal.returns-clause-once
-returns-clause-once c = once_each c.args.map.now.entries c.len.ensures.unique
+returns-clause-once c =
+    subst (λ es. IsDistinct bytes_eq (map (λ (e : Entry). e.target) es)) c.entries.view_is (once_live c.entries.inside.map.entries
+    c.len-len.ensures.unique)

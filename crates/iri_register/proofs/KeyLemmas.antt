@@ -1,0 +1,191 @@
+-- The key of an entry that was taken out goes, and another one comes into its slot.
+use Rattle.std.proofs.Common.{bytes_eq, ◌≡◌, ◌≢◌, ℕ, zero, suc, ◌+◌, ◌-◌, ◌<◌, ◌≤◌, List, [], ◌∷◌, ◌++◌, length, map, filter, true, not, take}
+use Rattle.std.proofs.Common.{Bool, false, cond, true≢false, Option, Some, None, is_some, option_map, position, String, string_bytes, string_eq, nat_lt}
+use Rattle.std.proofs.Common.{Global, refl, sym, ◌∙◌, ap, subst, arith, slice_set, ⊎_elim, lt-ltb}
+use Rattle.std.specs.Global.{Vec}
+use Rattle.std.specs.Prelude.{slice_index_or, OnOk, Result, Ok, Err}
+use Rattle.std.proofs.lemmas.Bool.{cases_lt}
+use Rattle.std.specs.Map.{keys_of, lookup}
+use Rattle.std.specs.List.{IsDistinct, AllByRecursion, position_or_len, swap_remove}
+use Rattle.indexmap.specs.IndexMap.{insert_entry, swap_remove_entry}
+use Rattle.iri_register.specs.Entries.{Entry, place}
+use Rattle.iri_register.specs.Listed.{entry_of, entries_of, is_live}
+use Rattle.iri_register.specs.inside.Places.{is_text, IsAt}
+use Rattle.iri_register.specs.inside.Slots.{flag, flag_at, IsKept}
+use Rattle.iri_register.proofs.MapLemmas.{none_is_some}
+use Rattle.iri_register.proofs.SlotLemmas.{at_within, apart_text, flag_false, flag_small, place_live, live_within, length_listed, insert_last}
+
+-- a target that has no entry stands in a slot that was given up
+pub dead_at : (t : List ℕ) (es : List (String Global × Vec ℕ)) (i : ℕ) → IsAt t es i → place (entries_of es) t ≡ None → flag_at es i ≡ 0
+dead_at t es i h n =
+    let small = flag_small es i in
+    ⊎_elim (λ y. omega arith) (λ y. let one : flag_at es i ≡ 1 = omega arith in absurd (none_is_some (sym n ∙ place_live t es i h one)))
+    (cases_lt (flag_at es i) 1)
+
+none_among : (t : List ℕ) (es : List (String Global × Vec ℕ)) → AllByRecursion (λ y. is_text t y ≡ false) (keys_of es)
+    → is_some (lookup (is_text t) (filter is_live es)) ≡ false
+none_among t [] h = refl
+none_among t (e ∷ es) h =
+    let rest = none_among t es h.1 in
+    elim (is_live e) as (λ b. is_some (lookup (is_text t) (cond b (e ∷ filter is_live es) (filter is_live es))) ≡ false) [
+      | true ↦ rw h.0 rest
+      | false ↦ rest
+    ]
+
+-- and is no key of the entries that stay
+pub lookup_gone : (t : List ℕ) (es : List (String Global × Vec ℕ)) (i : ℕ) → IsDistinct string_eq (keys_of es) → IsAt t es i
+    → flag_at es i ≡ 0 → is_some (lookup (is_text t) (filter is_live es)) ≡ false
+unfolding IsDistinct
+lookup_gone t [] i d h f = absurd h
+lookup_gone t (e ∷ es) zero d h f = rw (flag_false e f) (none_among t es (apart_text t e.0 h es d.0))
+lookup_gone t (e ∷ es) (suc i) d h f =
+    let rest = lookup_gone t es i d.1 h.1 f in
+    elim (is_live e) as (λ b. is_some (lookup (is_text t) (cond b (e ∷ filter is_live es) (filter is_live es))) ≡ false) [
+      | true ↦ rw h.0 rest
+      | false ↦ rest
+    ]
+
+-- where no entry was taken out, a target that has none is no key
+pub absent_live : (t : List ℕ) (es : List (String Global × Vec ℕ)) → length es ≡ length (filter is_live es) → place (entries_of es) t ≡ None
+    → is_some (lookup (is_text t) es) ≡ false
+absent_live t [] h n = refl
+absent_live t (e ∷ es) h n = by (λ l m. absent_live t es l m) (is_live e) h n
+  where
+    less : (o : Option ℕ) → option_map (λ k. k + 1) o ≡ None → o ≡ None
+    less None h = refl
+    less (Some k) h = absurd (none_is_some (sym h))
+
+    others : (length es ≡ length (filter is_live es) → place (entries_of es) t ≡ None → is_some (lookup (is_text t) es) ≡ false) → (b : Bool)
+        → length es ≡ length (filter is_live es) → cond b (Some 1) (option_map (λ k. k + 1) (place (entries_of es) t)) ≡ None
+        → is_some (cond b (Some e.1) (lookup (is_text t) es)) ≡ false
+    others r true l m = absurd (none_is_some (sym m))
+    others r false l m = r l (less (place (entries_of es) t) m)
+
+    by : (length es ≡ length (filter is_live es) → place (entries_of es) t ≡ None → is_some (lookup (is_text t) es) ≡ false) → (b : Bool)
+        → suc (length es) ≡ length (cond b (e ∷ filter is_live es) (filter is_live es))
+        → place (map entry_of (cond b (e ∷ filter is_live es) (filter is_live es))) t ≡ None → is_some (lookup (is_text t) (e ∷ es)) ≡ false
+    by r true l m = others r (is_text t e.0) (omega arith) m
+    by r false l m = let w = live_within es in absurd (omega arith)
+
+-- ---- the last entry comes into the slot
+
+at_more : (t : List ℕ) (es : List (String Global × Vec ℕ)) (i : ℕ) (x : String Global × Vec ℕ) → IsAt t es i → IsAt t (es ++ x ∷ []) i
+at_more t [] i x h = absurd h
+at_more t (e ∷ es) zero x h = h
+at_more t (e ∷ es) (suc i) x h = (h.0, at_more t es i x h.1)
+
+or_len_at : (t : List ℕ) (es : List (String Global × Vec ℕ)) (i : ℕ) → IsAt t es i → position_or_len (is_text t) (keys_of es) ≡ i
+or_len_at t [] i h = absurd h
+or_len_at t (e ∷ es) zero h = ap (λ b. cond (not b) (1 + position_or_len (is_text t) (keys_of es)) 0) h
+or_len_at t (e ∷ es) (suc i) h =
+    ap (λ b. cond (not b) (1 + position_or_len (is_text t) (keys_of es)) 0) h.0 ∙ (ap (λ n. 1 + n) (or_len_at t es i h.1) ∙ omega arith)
+
+length_keys : (es : List (String Global × Vec ℕ)) → length (keys_of es) ≡ length es
+length_keys [] = refl
+length_keys (e ∷ es) = ap suc (length_keys es)
+
+pub position_at : (t : List ℕ) (es : List (String Global × Vec ℕ)) (i : ℕ) → IsAt t es i → position (is_text t) (keys_of es) ≡ Some i
+position_at t es i h =
+    let o = or_len_at t es i h in
+    let w = at_within t es i h in
+    let l = length_keys es in
+    ap (λ k. cond (nat_lt k (length (keys_of es))) (Some k) None) o ∙ ap (λ b. cond b (Some i) None) (lt-ltb i (length (keys_of es)) (omega arith))
+
+length_more : {X : Type 0} (xs : List X) (x : X) → length (xs ++ x ∷ []) - 1 ≡ length xs
+length_more [] x = refl
+length_more (y ∷ xs) x = let l = length_more xs x in omega (arith, l, longer xs x)
+  where
+    longer : {X : Type 0} (xs : List X) (x : X) → length (xs ++ x ∷ []) ≡ length xs + 1
+    longer [] x = refl
+    longer (y ∷ xs) x = let l = longer xs x in omega arith
+
+last_one : {X : Type 0} (xs : List X) (x d : X) → slice_index_or (xs ++ x ∷ []) (length xs) d ≡ x
+last_one [] x d = refl
+last_one (y ∷ xs) x d = last_one xs x d
+
+taken_in : {X : Type 0} (xs : List X) (i : ℕ) (x y : X) → i < length xs → take (length xs) (slice_set (xs ++ x ∷ []) i y) ≡ slice_set xs i y
+taken_in [] i x y h = absurd (omega arith)
+taken_in (z ∷ xs) zero x y h = ap (λ l. y ∷ l) (taken_all xs x)
+  where
+    taken_all : {X : Type 0} (xs : List X) (x : X) → take (length xs) (xs ++ x ∷ []) ≡ xs
+    taken_all [] x = refl
+    taken_all (y ∷ xs) x = ap (λ l. y ∷ l) (taken_all xs x)
+taken_in (z ∷ xs) (suc i) x y h = ap (λ l. z ∷ l) (taken_in xs i x y (omega arith))
+
+swap_last : {X : Type 0} (xs : List X) (i : ℕ) (x d : X) → i < length xs → swap_remove (xs ++ x ∷ []) i d ≡ slice_set xs i x
+swap_last xs i x d h =
+    ap (λ n. take n (slice_set (xs ++ x ∷ []) i (slice_index_or (xs ++ x ∷ []) n d))) (length_more xs x)
+    ∙ (ap (λ y. take (length xs) (slice_set (xs ++ x ∷ []) i y)) (last_one xs x d) ∙ taken_in xs i x x h)
+
+pub swapped_in : (t : List ℕ) (es : List (String Global × Vec ℕ)) (i : ℕ) (x : String Global × Vec ℕ) → IsAt t es i
+    → swap_remove_entry (is_text t) (es ++ x ∷ []) ≡ slice_set es i x
+swapped_in t [] i x h = absurd h
+swapped_in t (e ∷ es) i x h = rw (position_at t ((e ∷ es) ++ x ∷ []) i (at_more t (e ∷ es) i x h)) (swap_last (e ∷ es) i x e (at_within t (e ∷ es) i h))
+
+-- a new key goes last, and then into the slot of the one that goes
+pub slot_given : (t : List ℕ) (key : String Global) (w : Vec ℕ) (es more less : List (String Global × Vec ℕ)) (i : ℕ) → IsAt t es i
+    → is_some (lookup (is_text (string_bytes key)) es) ≡ false → more ≡ insert_entry string_eq es key w
+    → less ≡ swap_remove_entry (is_text t) more → less ≡ slice_set es i (key, w)
+slot_given t key w es more less i at absent m l =
+    l ∙ (ap (swap_remove_entry (is_text t)) (m ∙ insert_last key w es absent) ∙ swapped_in t es i (key, w) at)
+
+-- ---- an entry without lines in a slot that was given up changes nothing
+
+pub length_slot : (es : List (String Global × Vec ℕ)) (i : ℕ) (x : String Global × Vec ℕ) → length (slice_set es i x) ≡ length es
+length_slot [] i x = refl
+length_slot (e ∷ es) zero x = refl
+length_slot (e ∷ es) (suc i) x = ap suc (length_slot es i x)
+
+pub entries_dead : (es : List (String Global × Vec ℕ)) (i : ℕ) (x : String Global × Vec ℕ) → flag_at es i ≡ 0 → is_live x ≡ false
+    → entries_of (slice_set es i x) ≡ entries_of es
+entries_dead [] i x f n = refl
+entries_dead (e ∷ es) zero x f n = rw (n, flag_false e f) refl
+entries_dead (e ∷ es) (suc i) x f n =
+    let rest = entries_dead es i x f n in
+    elim (is_live e) as (λ b. map entry_of (cond b (e ∷ filter is_live (slice_set es i x)) (filter is_live (slice_set es i x)))
+    ≡ map entry_of (cond b (e ∷ filter is_live es) (filter is_live es))) [
+      | true ↦ ap (λ l. entry_of e ∷ l) rest
+      | false ↦ rest
+    ]
+
+flag_dead : (es : List (String Global × Vec ℕ)) (i k : ℕ) (x : String Global × Vec ℕ) → flag_at es i ≡ 0 → is_live x ≡ false
+    → flag_at (slice_set es i x) k ≡ flag_at es k
+flag_dead [] i k x f n = refl
+flag_dead (e ∷ es) zero zero x f n = ap (λ b. cond b 1 0) n ∙ sym f
+flag_dead (e ∷ es) zero (suc k) x f n = refl
+flag_dead (e ∷ es) (suc i) zero x f n = refl
+flag_dead (e ∷ es) (suc i) (suc k) x f n = flag_dead es i k x f n
+
+pub kept_dead : {es : List (String Global × Vec ℕ)} {ns : List ℕ} {room height live : ℕ} → IsKept es ns room height live → (i : ℕ)
+    (x : String Global × Vec ℕ) → flag_at es i ≡ 0 → is_live x ≡ false → IsKept (slice_set es i x) ns room height live
+kept_dead {es} {ns} {room} {height} {live} kept i x f n = record {
+  tree = kept.tree;
+  within = let l = length_slot es i x in omega (arith, l, kept.within);
+  flags = λ k b. kept.flags k b ∙ sym (flag_dead es i k x f n);
+  living = kept.living ∙ (sym (length_listed es) ∙ (ap length (sym (entries_dead es i x f n)) ∙ length_listed (slice_set es i x)));
+}
+
+pub on_ok : {A E : Type 0} {P Q : Type 0} (r : Result A E) → OnOk r P → (P → Q) → OnOk r Q
+on_ok (Ok a) h f = f h
+on_ok (Err e) h f = h
+
+-- ---- each target once
+
+apart_live : (t : List ℕ) (es : List (String Global × Vec ℕ)) → AllByRecursion (λ y. is_text t y ≡ false) (keys_of es)
+    → AllByRecursion (λ u. bytes_eq t u ≡ false) (map (λ (e : Entry). e.target) (entries_of es))
+apart_live t [] h = tt
+apart_live t (e ∷ es) h =
+    let rest = apart_live t es h.1 in
+    elim (is_live e) as (λ b. AllByRecursion (λ u. bytes_eq t u ≡ false) (map (λ (e : Entry). e.target) (map entry_of (cond b (e ∷ filter is_live es) (filter
+    is_live es))))) [ true ↦ (h.0, rest) | false ↦ rest ]
+
+pub once_live : (es : List (String Global × Vec ℕ)) → IsDistinct string_eq (keys_of es)
+    → IsDistinct bytes_eq (map (λ (e : Entry). e.target) (entries_of es))
+unfolding IsDistinct
+once_live [] h = tt
+once_live (e ∷ es) h =
+    let rest = once_live es h.1 in
+    elim (is_live e) as (λ b. IsDistinct bytes_eq (map (λ (e : Entry). e.target) (map entry_of (cond b (e ∷ filter is_live es) (filter is_live es))))) [
+      | true ↦ (apart_live (string_bytes e.0) es h.0, rest)
+      | false ↦ rest
+    ]

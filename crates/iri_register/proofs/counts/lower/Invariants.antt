@@ -1,0 +1,9 @@
+use Rattle.std.proofs.Common.{◌≡◌, ◌≤◌, ◌<◌, ◌+◌}
+use Rattle.iri_register.proofs.TreeLemmas.{IsLowered}
+use Rattle.iri_register.proofs.counts.lower.Given as goal
+
+abbrev pub invariant-loop-node : goal.invariant-loop-node
+invariant-loop-node l = IsLowered l.initial.nodes l.nodes l.room l.leaf l.node × (l.node ≤ l.leaf)
+
+abbrev pub decreases-loop-node : goal.decreases-loop-node
+decreases-loop-node l = l.node

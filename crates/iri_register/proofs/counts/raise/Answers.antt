@@ -1,0 +1,20 @@
+use Rattle.std.proofs.Common.{◌≡◌, ◌≤◌, ◌<◌, ◌+◌, ◌*◌, ◌/◌, get_or, arith, rules}
+use Rattle.iri_register.proofs.TreeLemmas.{top, raised_next}
+use Rattle.iri_register.proofs.counts.raise.Goals as goal
+
+pub overflow_add-nodes : goal.overflow_add-nodes
+overflow_add-nodes c =
+    let t = c.requires.tree in
+    let v = c.loop-node.invariant in
+    let small = top c.args.nodes.now c.args.room c.loop-node.node t.summed (omega arith) (omega (arith, v.1)) in
+    let same = v.0.below c.loop-node.node (omega arith) in
+    omega (arith, small, same, c.requires.fits)
+
+pub loop-node-preserved : goal.loop-node-preserved
+loop-node-preserved c =
+    let t = c.requires.tree in
+    let v = c.loop-node.invariant in (
+      raised_next c.args.nodes.now c.loop-node.nodes c.args.room (c.args.room + c.args.slot) c.loop-node.node v.0 (omega arith) v.1 (omega arith)
+          (omega arith) t.size,
+      omega (arith, v.1),
+    )
