@@ -6,9 +6,9 @@ use Rattle.iri_grammar.specs.Fault.{bytes_fault}
 use Rattle.iri_grammar.specs.WholeFault.{reference_fault, iri_fault, absolute_fault, relative_fault}
 use Rattle.iri_grammar.specs.declared.error.ErrorKind.{ErrorKind}
 use Rattle.iri_percent.specs.Mapping.{mapped}
-use Rattle.iri_resolve.specs.IsNormalized.{IsInMode}
-use Rattle.iri_resolve.specs.NormalForm.{canonical}
-use Rattle.iri_resolve.specs.declared.mode.Mode.TheVariants.{Normal}
+use Rattle.iri_normal.specs.IsNormalized.{IsInMode}
+use Rattle.iri_normal.specs.NormalForm.{canonical}
+use Rattle.iri_normal.specs.declared.mode.Mode.TheVariants.{Normal}
 use Rattle.iri_c.specs.Numbers.{ok, not_normal, bad_text, bad_base, bad_reference, unknown, grammar_of, kinds}
 use Rattle.iri_c.specs.Outcome.{Outcome, Told}
 use Rattle.iri_c.specs.Outcome.Outcome.{text, fault, plain}

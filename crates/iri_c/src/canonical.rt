@@ -7,8 +7,8 @@ use crate::fault::{answer, answer_fault};
 use crate::grammar::{IRI, NORMAL, URI};
 use crate::status::{BAD_BASE, BAD_REFERENCE, UNKNOWN};
 use iri_grammar::spec::{IriSpec, Spec, UriSpec};
-use iri_resolve::canonical::show_canonical;
-use iri_resolve::resolver::FixedBaseResolver;
+use iri_normal::canonical::show_canonical;
+use iri_normal::resolver::FixedBaseResolver;
 use iri_text::{Show, Stop, TextSink};
 use iri_types::kind::Reference;
 use iri_types::split::SplitView;
@@ -22,8 +22,8 @@ struct Canonical<'a, S: Spec> {
 }
 
 impl<S: Spec> Show for Canonical<'_, S> {
-    ghost use Rattle.iri_resolve.specs.NormalForm.{canonical};
-    ghost use Rattle.iri_resolve.specs.Resolver.{base_text};
+    ghost use Rattle.iri_normal.specs.NormalForm.{canonical};
+    ghost use Rattle.iri_normal.specs.Resolver.{base_text};
     ghost use Rattle.iri_types.specs.SplitText.{split_text};
 
     ghost text = { λ c. canonical S.tests (base_text c.resolver) (split_text c.reference) };

@@ -5,7 +5,7 @@ use crate::fault::{answer, answer_fault};
 use crate::grammar::{IRI, NORMAL, URI};
 use crate::status::{BAD_TEXT, NOT_NORMAL, OK, UNKNOWN};
 use iri_grammar::spec::{IriSpec, Spec, UriSpec};
-use iri_resolve::is_normalized::IsNormalized;
+use iri_normal::is_normalized::IsNormalized;
 use iri_types::view::RiStr;
 
 // The same in one grammar.

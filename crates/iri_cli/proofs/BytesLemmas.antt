@@ -5,8 +5,8 @@ use Rattle.iri_grammar.specs.Fault.{bytes_fault}
 use Rattle.iri_grammar.proofs.FaultLaws.{absolute-law, reference-law}
 use Rattle.iri_grammar.specs.Parts.{IsAbsolute, IsReference}
 use Rattle.iri_percent.specs.declared.canon_mode.CanonMode.{CanonMode}
-use Rattle.iri_resolve.proofs.CanonLaws.{canonical_in-iri, canonical_in-split, canonical_in-own}
-use Rattle.iri_resolve.specs.NormalForm.{canonical_in}
+use Rattle.iri_normal.proofs.CanonLaws.{canonical_in-iri, canonical_in-split, canonical_in-own}
+use Rattle.iri_normal.specs.NormalForm.{canonical_in}
 use Rattle.iri_grammar.specs.WholeFault.{absolute_fault, reference_fault}
 use Rattle.iri_grammar.specs.declared.error.ErrorKind.{ErrorKind}
 use Rattle.iri_grammar.specs.inside.Laws.{uri_is_spec, iri_is_spec}
@@ -14,7 +14,7 @@ use Rattle.iri_cli.specs.Words.{tests_of}
 use Rattle.iri_cli.specs.declared.command.Grammar.{Grammar}
 use Rattle.iri_cli.specs.declared.command.Grammar.TheVariants.{Uri, Iri}
 use Rattle.iri_cli.specs.Answer.{refusal, words_of_fault, answer_in, AnswersAreCanonicalIn}
-use Rattle.iri_resolve.proofs.CanonLemmas.{fault_none}
+use Rattle.iri_normal.proofs.CanonLemmas.{fault_none}
 
 pub refused_none : (k : Option ErrorKind) → words_of_fault k ≡ None → k ≡ None
 refused_none None h = refl

@@ -8,8 +8,8 @@ use Rattle.iri_text.specs.Sink.{PutsAll, KeepsRoom}
 use Rattle.iri_text.proofs.Puts.{room-so}
 use Rattle.iri_text.specs.declared.Failed.{Failed}
 use Rattle.iri_percent.specs.declared.canon_mode.CanonMode.{CanonMode}
-use Rattle.iri_resolve.proofs.LengthLaws.{length-canonical_in}
-use Rattle.iri_resolve.specs.NormalForm.{canonical_in}
+use Rattle.iri_normal.proofs.LengthLaws.{length-canonical_in}
+use Rattle.iri_normal.specs.NormalForm.{canonical_in}
 use Rattle.iri_cli.specs.Limits.{longest_line, answer_room}
 use Rattle.iri_cli.specs.Answer.{refusal, answer_in}
 use Rattle.iri_cli.specs.Answering.{IsReady, Answering, AnswersLine, PutsAnswer}
@@ -26,7 +26,7 @@ use Rattle.iri_cli.specs.Prepared.{prepared}
 use Rattle.iri_cli.proofs.PreparedLaws.{same_answer, prepared_taken}
 use Rattle.std.specs.Prelude.{OnOk}
 use Rattle.iri_cli.proofs.BytesLemmas.{base_absolute, line_reference, refused_none}
-use Rattle.iri_resolve.proofs.CanonLemmas.{fault_none}
+use Rattle.iri_normal.proofs.CanonLemmas.{fault_none}
 
 -- pieces that were put, and what is said of them
 pub puts_line : {wo wn : Option (List ℕ)} {fo fn : ℕ} {ro rn : Option ℕ} (good : Bool) (r : Result (Unit {0}) Failed) (text : List ℕ)

@@ -7,7 +7,7 @@ use Rattle.iri_grammar.specs.Classes.{Tests}
 use Rattle.iri_grammar.specs.Fault.{bytes_fault}
 use Rattle.iri_grammar.specs.WholeFault.{reference_fault}
 use Rattle.iri_grammar.specs.declared.error.ErrorKind.{ErrorKind}
-use Rattle.iri_resolve.specs.NormalForm.{canonical}
+use Rattle.iri_normal.specs.NormalForm.{canonical}
 use Rattle.iri_text.specs.Line.{LineState}
 use Rattle.iri_text.specs.Sink.{KeepsRoom, PutsAll}
 use Rattle.iri_text.specs.declared.Failed.{Failed}

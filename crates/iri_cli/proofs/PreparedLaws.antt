@@ -7,11 +7,11 @@ use Rattle.std.specs.Prelude.{IsNone}
 use Rattle.iri_text.specs.Shown.{Shows}
 use Rattle.iri_text.specs.SliceText.{SliceText, SlicePuts, SliceHalts}
 use Rattle.iri_text.specs.declared.shown.show.Stop.{Stop}
-use Rattle.iri_resolve.specs.Dots.{is_dot_segment}
-use Rattle.iri_resolve.specs.DotRemoval.{dots}
-use Rattle.iri_resolve.proofs.NormalLemmas.{pct_nil, pct_two, dots_whole}
-use Rattle.iri_resolve.proofs.TripletPaths.{pieces-pct}
-use Rattle.iri_resolve.proofs.StableLaws.{unsplit, unsplit-pieces}
+use Rattle.iri_normal.specs.Dots.{is_dot_segment}
+use Rattle.iri_normal.specs.DotRemoval.{dots}
+use Rattle.iri_normal.proofs.NormalLemmas.{pct_nil, pct_two, dots_whole}
+use Rattle.iri_normal.proofs.TripletPaths.{pieces-pct}
+use Rattle.iri_normal.proofs.StableLaws.{unsplit, unsplit-pieces}
 use Rattle.iri_cli.proofs.GenReferences.{lone_slash, slash_is_path}
 use Rattle.std.specs.Prelude.{is_some, IsSome}
 use Rattle.iri_grammar.specs.Classes.{Tests, IsSpec}
@@ -23,24 +23,24 @@ use Rattle.iri_grammar.specs.Components.{if_there, is_letter}
 use Rattle.iri_grammar.specs.Pieces.{pieces}
 use Rattle.iri_grammar.specs.Split.{split_of}
 use Rattle.iri_grammar.proofs.SplitUnique.{split_is}
-use Rattle.iri_resolve.specs.LowerCase.{where_there}
-use Rattle.iri_resolve.specs.Target.{target, target_under, target_path, to_last_slash}
+use Rattle.iri_normal.specs.LowerCase.{where_there}
+use Rattle.iri_normal.specs.Target.{target, target_under, target_path, to_last_slash}
 use Rattle.iri_percent.specs.NormalHost.{normal_authority, normal_authority_in}
 use Rattle.iri_percent.specs.SchemeRules.{dropped_port}
 use Rattle.iri_percent.specs.declared.canon_mode.CanonMode.{CanonMode}
 use Rattle.iri_percent.specs.declared.canon_mode.CanonMode.TheVariants.{Default, Scheme}
-use Rattle.iri_resolve.specs.NormalForm.{becomes_slash, normal_path, normal_form, normal_form_in, form, canonical, canonical_in}
-use Rattle.iri_resolve.specs.declared.mode.Mode.TheVariants.{ByScheme}
-use Rattle.iri_resolve.proofs.CanonLaws.{canonical_in-text}
-use Rattle.iri_resolve.proofs.AuthorityForm.{authority-fits, authority-stable}
-use Rattle.iri_resolve.proofs.SchemeForm.{dropped-lowered, without, without-normal}
-use Rattle.iri_resolve.proofs.FormLaws.{form-fits, scheme-stable, authorities-stable}
-use Rattle.iri_resolve.specs.Prefix.{prefix_in}
-use Rattle.iri_resolve.proofs.LengthLaws.{length-canonical, length-parts, length-scheme, length-authorities}
+use Rattle.iri_normal.specs.NormalForm.{becomes_slash, normal_path, normal_form, normal_form_in, form, canonical, canonical_in}
+use Rattle.iri_normal.specs.declared.mode.Mode.TheVariants.{ByScheme}
+use Rattle.iri_normal.proofs.CanonLaws.{canonical_in-text}
+use Rattle.iri_normal.proofs.AuthorityForm.{authority-fits, authority-stable}
+use Rattle.iri_normal.proofs.SchemeForm.{dropped-lowered, without, without-normal}
+use Rattle.iri_normal.proofs.FormLaws.{form-fits, scheme-stable, authorities-stable}
+use Rattle.iri_normal.specs.Prefix.{prefix_in}
+use Rattle.iri_normal.proofs.LengthLaws.{length-canonical, length-parts, length-scheme, length-authorities}
 use Rattle.iri_grammar.specs.Fault.{bytes_fault}
 use Rattle.iri_grammar.specs.WholeFault.{absolute_fault, reference_fault}
 use Rattle.iri_grammar.proofs.FaultLaws.{absolute-law, reference-law, of_bytes, reference-utf8}
-use Rattle.iri_resolve.proofs.NormalStepLemmas.{stands-still as same_there}
+use Rattle.iri_normal.proofs.PathLaws.{stands-still as same_there}
 use Rattle.iri_cli.specs.Answer.{refusal, words_of_fault, answer_in, answer_by}
 use Rattle.iri_cli.specs.Prepared.{prepared_parts, prepared}
 use Rattle.iri_cli.proofs.BytesLemmas.{base_absolute}

@@ -7,7 +7,7 @@ use Rattle.iri_grammar.specs.Classes.{IsSpec, Tests}
 use Rattle.iri_grammar.specs.Fault.{bytes_fault}
 use Rattle.iri_grammar.specs.WholeFault.{reference_fault}
 use Rattle.iri_grammar.specs.declared.error.ErrorKind.{ErrorKind}
-use Rattle.iri_resolve.specs.NormalForm.{canonical}
+use Rattle.iri_normal.specs.NormalForm.{canonical}
 use Rattle.iri_register.specs.Commands.{Command, Add, Remove, Line, live, stays}
 use Rattle.iri_register.specs.Shared as shared
 use Rattle.iri_register.proofs.GroupLemmas.{is_same}

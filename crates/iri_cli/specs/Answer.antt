@@ -9,7 +9,7 @@ use Rattle.iri_grammar.specs.WholeFault.{absolute_fault, reference_fault}
 use Rattle.iri_grammar.specs.declared.error.ErrorKind.{ErrorKind}
 use Rattle.iri_percent.specs.declared.canon_mode.CanonMode.{CanonMode}
 use Rattle.iri_percent.specs.declared.canon_mode.CanonMode.TheVariants.{Default}
-use Rattle.iri_resolve.specs.NormalForm.{canonical_in, canonical_parts_in}
+use Rattle.iri_normal.specs.NormalForm.{canonical_in, canonical_parts_in}
 use Rattle.iri_text.specs.LineEnds.{line_feed}
 
 abbrev pub words_of_fault : Option ErrorKind → Option (List ℕ)

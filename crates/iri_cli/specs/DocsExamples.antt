@@ -19,10 +19,10 @@ use Rattle.iri_percent.specs.Units.{units_from, first_char}
 use Rattle.iri_template.specs.Fault.{fault_from, varspec_fault, is_reserved_operator}
 use Rattle.iri_template.specs.Names.{is_varname, is_name_char}
 use Rattle.iri_template.specs.Reading.{pieces_from}
-use Rattle.iri_resolve.specs.Target.{target}
-use Rattle.iri_resolve.specs.Dots.{is_dot_segment}
-use Rattle.iri_resolve.specs.DotRemoval.{dots}
-use Rattle.iri_resolve.specs.NormalForm.{normal_path, normal_form, form, canonical}
+use Rattle.iri_normal.specs.Target.{target}
+use Rattle.iri_normal.specs.Dots.{is_dot_segment}
+use Rattle.iri_normal.specs.DotRemoval.{dots}
+use Rattle.iri_normal.specs.NormalForm.{normal_path, normal_form, form, canonical}
 use Rattle.iri_cli.specs.DocsAnswers.{docs_answer}
 use Rattle.iri_cli.specs.Ending.{answers}
 use Rattle.iri_cli.specs.Words.{docs_rules}

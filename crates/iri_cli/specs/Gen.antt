@@ -1,7 +1,7 @@
 -- The command `gen`: references that are made by a counter, and what is told of their canonical texts.
 use Rattle.std.specs.Prelude.{ℕ, zero, suc, ◌+◌, ◌*◌, ◌/◌, ◌%◌, ◌^◌, codes, decimal, sum, List, [], ◌∷◌, ◌++◌, length, get_or}
 use Rattle.iri_grammar.specs.Classes.{Tests}
-use Rattle.iri_resolve.specs.NormalForm.{canonical}
+use Rattle.iri_normal.specs.NormalForm.{canonical}
 use Rattle.iri_grammar.specs.Characters.{slash}
 
 -- the segments of which references are made, by number

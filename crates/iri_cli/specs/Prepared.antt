@@ -3,7 +3,7 @@ use Rattle.std.specs.Prelude.{ℕ, List}
 use Rattle.iri_grammar.specs.Classes.{Tests}
 use Rattle.iri_grammar.specs.Parts.{Parts, recompose}
 use Rattle.iri_grammar.specs.Split.{split_of}
-use Rattle.iri_resolve.specs.NormalForm.{normal_form}
+use Rattle.iri_normal.specs.NormalForm.{normal_form}
 
 -- scheme and authority in normal form (RFC 3986 section 6.2.2); path, query and fragment as they stand
 abbrev pub prepared_parts : Tests → Parts → Parts

@@ -5,7 +5,7 @@ use Rattle.iri_grammar.specs.Characters.{comma}
 use Rattle.iri_grammar.specs.Classes.{Tests}
 use Rattle.iri_grammar.specs.Fault.{bytes_fault}
 use Rattle.iri_grammar.specs.WholeFault.{reference_fault}
-use Rattle.iri_resolve.specs.NormalForm.{canonical}
+use Rattle.iri_normal.specs.NormalForm.{canonical}
 use Rattle.iri_register.specs.Entries.{Entry, place, line_count}
 use Rattle.iri_text.specs.LineEnds.{line_feed}
 use Rattle.iri_cli.specs.Refused.{bad_line, unless_bad}

@@ -4,7 +4,7 @@ use Rattle.std.specs.List.{All}
 use Rattle.iri_grammar.specs.Classes.{Tests}
 use Rattle.iri_grammar.specs.Fault.{bytes_fault}
 use Rattle.iri_grammar.specs.WholeFault.{reference_fault}
-use Rattle.iri_resolve.specs.NormalForm.{canonical}
+use Rattle.iri_normal.specs.NormalForm.{canonical}
 use Rattle.iri_register.specs.Entries.{place}
 use Rattle.iri_cli.specs.RegisterLines.{RegisterLine, adds, removes, finds, bad, line_of, entries_behind}
 

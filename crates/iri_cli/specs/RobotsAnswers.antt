@@ -6,7 +6,7 @@ use Rattle.iri_grammar.specs.Fault.{bytes_fault}
 use Rattle.iri_grammar.specs.Parts.{Parts, recompose}
 use Rattle.iri_grammar.specs.Split.{split_of}
 use Rattle.iri_grammar.specs.WholeFault.{reference_fault}
-use Rattle.iri_resolve.specs.NormalForm.{canonical, normal_form}
+use Rattle.iri_normal.specs.NormalForm.{canonical, normal_form}
 use Rattle.iri_robots.specs.Compared.{subject}
 use Rattle.iri_robots.specs.Decided.{is_allowed}
 use Rattle.iri_robots.specs.Records.{FileRecord, rules_for}

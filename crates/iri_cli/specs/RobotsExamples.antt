@@ -14,10 +14,10 @@ use Rattle.iri_percent.specs.CharUnits.{char_units_from}
 use Rattle.iri_percent.specs.NormalHost.{normal_host, is_ascii_host, normal_authority}
 use Rattle.iri_percent.specs.Triplets.{normal}
 use Rattle.iri_percent.specs.Units.{first_char}
-use Rattle.iri_resolve.specs.DotRemoval.{dots}
-use Rattle.iri_resolve.specs.Dots.{is_dot_segment}
-use Rattle.iri_resolve.specs.NormalForm.{normal_path, normal_form, form, canonical}
-use Rattle.iri_resolve.specs.Target.{target}
+use Rattle.iri_normal.specs.DotRemoval.{dots}
+use Rattle.iri_normal.specs.Dots.{is_dot_segment}
+use Rattle.iri_normal.specs.NormalForm.{normal_path, normal_form, form, canonical}
+use Rattle.iri_normal.specs.Target.{target}
 use Rattle.iri_robots.specs.Compared.{compared}
 use Rattle.iri_robots.specs.Decided.{mark_of, piece_of, pieces, some_suffix, begins, fills, is_match, matching, most_bytes, longest_allow}
 use Rattle.iri_robots.specs.Decided.{is_allowed}

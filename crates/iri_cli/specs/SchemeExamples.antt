@@ -16,10 +16,10 @@ use Rattle.iri_percent.specs.SchemeRules.{default_port}
 use Rattle.iri_percent.specs.Triplets.{normal}
 use Rattle.iri_percent.specs.Units.{first_char}
 use Rattle.iri_percent.specs.declared.canon_mode.CanonMode.TheVariants.{Default, Scheme}
-use Rattle.iri_resolve.specs.DotRemoval.{dots}
-use Rattle.iri_resolve.specs.Dots.{is_dot_segment}
-use Rattle.iri_resolve.specs.NormalForm.{normal_path, normal_form, form, canonical}
-use Rattle.iri_resolve.specs.Target.{target}
+use Rattle.iri_normal.specs.DotRemoval.{dots}
+use Rattle.iri_normal.specs.Dots.{is_dot_segment}
+use Rattle.iri_normal.specs.NormalForm.{normal_path, normal_form, form, canonical}
+use Rattle.iri_normal.specs.Target.{target}
 use Rattle.iri_cli.specs.Answer.{answer_in}
 use Rattle.iri_cli.specs.Ending.{answers}
 use Rattle.iri_cli.specs.Words.{IsCommand, rules_of}

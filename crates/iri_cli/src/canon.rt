@@ -4,8 +4,8 @@ ghost use Rattle.std.specs.Vec.{vec_capacity};
 ghost use Rattle.iri_text.specs.Sink.{PutsAll, KeepsRoom};
 ghost use Rattle.iri_types.specs.SplitText.{split_text};
 ghost use Rattle.iri_types.specs.Texts.{text};
-ghost use Rattle.iri_resolve.specs.NormalForm.{canonical_in};
-ghost use Rattle.iri_resolve.specs.Resolver.{base_text};
+ghost use Rattle.iri_normal.specs.NormalForm.{canonical_in};
+ghost use Rattle.iri_normal.specs.Resolver.{base_text};
 ghost use Rattle.iri_cli.specs.Answer.{refusal, answer_in};
 ghost use Rattle.iri_cli.specs.CanonAnswers.{PutsLine};
 ghost use Rattle.iri_cli.specs.declared.answers.AnswerError.TheVariants.{SinkFailed};
@@ -15,9 +15,9 @@ use crate::answers::{AnswerError, Answers};
 use crate::buffers::room_for;
 use crate::puts::{put_bad, told};
 use iri_grammar::spec::Spec;
-use iri_resolve::canonical::show_canonical_in;
-use iri_resolve::mode::CanonMode;
-use iri_resolve::resolver::FixedBaseResolver;
+use iri_normal::canonical::show_canonical_in;
+use iri_normal::mode::CanonMode;
+use iri_normal::resolver::FixedBaseResolver;
 use iri_text::{Failed, Sink, SliceSink, TextSink};
 use iri_types::kind::Reference;
 use iri_types::split::SplitView;
@@ -120,7 +120,7 @@ pub struct Canon<'a, S: Spec> {
 
 impl<'a, S: Spec> Answers for Canon<'a, S> {
     ghost use Rattle.std.specs.Vec.{vec_capacity};
-    ghost use Rattle.iri_resolve.specs.Resolver.{base_text};
+    ghost use Rattle.iri_normal.specs.Resolver.{base_text};
     ghost use Rattle.iri_cli.specs.CanonAnswers.{IsCanonAt};
 
     ghost stands_at = { λ c at. IsCanonAt S.tests c.mode (base_text c.resolver) (vec_capacity c.output) at };

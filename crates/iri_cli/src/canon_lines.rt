@@ -13,7 +13,7 @@ use crate::canon::{Canon, resolver_of};
 use crate::end::{End, finish};
 use crate::prepared::prepare_base;
 use iri_grammar::spec::Spec;
-use iri_resolve::mode::CanonMode;
+use iri_normal::mode::CanonMode;
 use iri_text::{LineReader, Sink, Source};
 
 // Reads the base line into a buffer, prepares it there, and answers the lines behind it.

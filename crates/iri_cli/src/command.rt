@@ -6,7 +6,7 @@ ghost use Rattle.iri_cli.specs.declared.command.Grammar.{Grammar};
 ghost use Rattle.iri_cli.specs.declared.command.LineCommand.{LineCommand};
 
 use crate::notice::{Notice, notice_of};
-use iri_resolve::mode::CanonMode;
+use iri_normal::mode::CanonMode;
 use iri_robots::is_product_token;
 use iri_text::write_to_slice;
 

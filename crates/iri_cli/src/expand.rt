@@ -4,7 +4,7 @@ ghost use Rattle.std.specs.Vec.{vec_capacity};
 ghost use Rattle.iri_template.specs.Contexts.{value_in};
 ghost use Rattle.iri_template.specs.ExpandedTexts.{expanded_text};
 ghost use Rattle.iri_text.specs.Sink.{KeepsRoom, PutsAll};
-ghost use Rattle.iri_resolve.specs.Resolver.{base_text};
+ghost use Rattle.iri_normal.specs.Resolver.{base_text};
 ghost use Rattle.iri_cli.specs.Limits.{longest_line, answer_room};
 ghost use Rattle.iri_cli.specs.Answer.{refusal};
 ghost use Rattle.iri_cli.specs.CanonAnswers.{PutsLine};
@@ -18,8 +18,8 @@ use crate::expand_line::{Said, line_of};
 use crate::puts::{put_bad_line, put_number, told};
 use crate::variables::apply;
 use iri_grammar::spec::Spec;
-use iri_resolve::mode::CanonMode;
-use iri_resolve::resolver::FixedBaseResolver;
+use iri_normal::mode::CanonMode;
+use iri_normal::resolver::FixedBaseResolver;
 use iri_template::error::Error;
 use iri_template::expanded::Expanded;
 use iri_template::simple_context::SimpleContext;
@@ -112,7 +112,7 @@ pub struct Expand<'a, S: Spec> {
 impl<'a, S: Spec> Answers for Expand<'a, S> {
     ghost use Rattle.std.specs.Vec.{vec_capacity};
     ghost use Rattle.iri_template.specs.Contexts.{value_in};
-    ghost use Rattle.iri_resolve.specs.Resolver.{base_text};
+    ghost use Rattle.iri_normal.specs.Resolver.{base_text};
     ghost use Rattle.iri_cli.specs.inside.ExpandAt.{IsExpandAt};
 
     ghost stands_at = { λ e at. IsExpandAt S.tests (base_text e.resolver) e.expansion.items (vec_capacity e.output)

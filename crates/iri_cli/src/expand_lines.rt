@@ -9,7 +9,7 @@ use crate::expand::Expand;
 use crate::opening::open_lines;
 use iri_docs::expand::EXPANSION_LIMIT;
 use iri_grammar::spec::Spec;
-use iri_resolve::resolver::FixedBaseResolver;
+use iri_normal::resolver::FixedBaseResolver;
 use iri_template::simple_context::SimpleContext;
 use iri_text::{Sink, Source};
 use std::alloc::Global;

@@ -2,13 +2,13 @@
 ghost use Rattle.std.specs.Prelude.{◌≡◌, ◌≤◌, ◌<◌, ◌+◌, ◌*◌, ◌%◌, ◌^◌, ◌++◌, None, OnOk, IfOk, length, sum};
 ghost use Rattle.std.specs.Prelude.{string_bytes};
 ghost use Rattle.iri_grammar.specs.WholeFault.{reference_fault};
-ghost use Rattle.iri_resolve.specs.NormalForm.{canonical};
-ghost use Rattle.iri_resolve.specs.Resolver.{base_text};
+ghost use Rattle.iri_normal.specs.NormalForm.{canonical};
+ghost use Rattle.iri_normal.specs.Resolver.{base_text};
 ghost use Rattle.iri_cli.specs.Gen.{gen_segment, more_segments, gen_reference, gen_base, gen_bytes, gen_sum, gen_text};
 
 use crate::canon::resolver_of;
 use iri_grammar::spec::Spec;
-use iri_resolve::resolver::FixedBaseResolver;
+use iri_normal::resolver::FixedBaseResolver;
 use iri_text::try_append_to_string;
 use iri_types::kind::Reference;
 use iri_types::split::SplitView;

@@ -7,7 +7,7 @@ ghost use Rattle.iri_link.specs.Links.{HasLinks};
 ghost use Rattle.iri_link.specs.Resolved.{resolved};
 ghost use Rattle.iri_link.specs.Written.{written};
 ghost use Rattle.iri_register.specs.Shared.{TargetsJoin};
-ghost use Rattle.iri_resolve.specs.NormalForm.{canonical, canonical_in};
+ghost use Rattle.iri_normal.specs.NormalForm.{canonical, canonical_in};
 ghost use Rattle.iri_cli.specs.Answer.{refusal, answer_in};
 ghost use Rattle.iri_cli.specs.LinksAnswers.{field_refusal, links_answer, links_line};
 ghost use Rattle.iri_cli.specs.Prepared.{prepared};
@@ -17,7 +17,7 @@ ghost use Rattle.iri_cli.specs.Ending.{Rules, ending};
 ghost use Rattle.iri_cli.specs.Run.{outside, Runs};
 
 use iri_grammar::spec::Spec;
-use iri_resolve::mode::CanonMode;
+use iri_normal::mode::CanonMode;
 
 /// Over plain bytes, and a sink over memory that is told no failing calls and has room for the output of their ending, a
 /// run has that ending's status and writes its output, or allocation failed at a line.

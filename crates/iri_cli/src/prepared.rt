@@ -3,7 +3,7 @@ ghost use Rattle.std.specs.Prelude.{◌≡◌, ◌≤◌, ◌+◌, [], ◌∷◌
 ghost use Rattle.std.specs.Vec.{vec_capacity};
 ghost use Rattle.iri_grammar.specs.Characters.{slash};
 ghost use Rattle.iri_types.specs.Texts.{text};
-ghost use Rattle.iri_resolve.specs.NormalForm.{canonical};
+ghost use Rattle.iri_normal.specs.NormalForm.{canonical};
 ghost use Rattle.iri_cli.specs.Limits.{longest_line, answer_room};
 ghost use Rattle.iri_cli.specs.Answer.{refusal};
 ghost use Rattle.iri_cli.specs.Prepared.{prepared};
@@ -12,8 +12,8 @@ use crate::base::copy_line;
 use crate::buffers::room_for;
 use crate::canon::base_of;
 use iri_grammar::spec::Spec;
-use iri_resolve::canonical::show_canonical;
-use iri_resolve::resolver::FixedBaseResolver;
+use iri_normal::canonical::show_canonical;
+use iri_normal::resolver::FixedBaseResolver;
 use iri_text::{
     CapacityOverflowError, Show, SliceSink, Stop, TextSink, show_four, show_two, write_to_slice,
 };

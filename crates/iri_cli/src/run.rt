@@ -24,7 +24,7 @@ use crate::register_lines::register_lines;
 use crate::robots_lines::robots_lines;
 use crate::stateless_lines::stateless_lines;
 use iri_grammar::spec::{IriSpec, Spec, UriSpec};
-use iri_resolve::mode::CanonMode;
+use iri_normal::mode::CanonMode;
 use iri_text::{Sink, Source};
 use std::alloc::{AllocError, Global};
 

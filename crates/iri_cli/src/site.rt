@@ -6,8 +6,8 @@ ghost use Rattle.iri_types.specs.Texts.{text};
 ghost use Rattle.iri_cli.specs.RobotsAnswers.{normal_base, same_part, same_site};
 
 use iri_grammar::spec::Spec;
+use iri_normal::views::Normalize;
 use iri_owned::owned::RiAbsoluteString;
-use iri_resolve::views::Normalize;
 use iri_text::ToDedicatedString;
 use iri_types::view::{RiAbsoluteStr, RiStr};
 use std::alloc::{AllocError, Global};

@@ -20,10 +20,10 @@ use Rattle.iri_template.specs.Names.{is_varname, is_name_char}
 use Rattle.iri_template.specs.Reading.{pieces_from}
 use Rattle.iri_template.specs.ShownValues.{ShownValue, string, list}
 use Rattle.iri_template.specs.declared.error.ErrorKind.TheVariants.{ExpressionNotClosed, UnexpectedValueType}
-use Rattle.iri_resolve.specs.Target.{target}
-use Rattle.iri_resolve.specs.Dots.{is_dot_segment}
-use Rattle.iri_resolve.specs.DotRemoval.{dots}
-use Rattle.iri_resolve.specs.NormalForm.{normal_path, normal_form, form, canonical}
+use Rattle.iri_normal.specs.Target.{target}
+use Rattle.iri_normal.specs.Dots.{is_dot_segment}
+use Rattle.iri_normal.specs.DotRemoval.{dots}
+use Rattle.iri_normal.specs.NormalForm.{normal_path, normal_form, form, canonical}
 use Rattle.iri_docs.specs.Documents.{value_by_name}
 use Rattle.iri_docs.specs.Expanded.{expanded}
 use Rattle.iri_docs.specs.declared.expand_error.DocExpandError.TheVariants.{Template, Invalid}

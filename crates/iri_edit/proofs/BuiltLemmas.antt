@@ -18,14 +18,14 @@ use Rattle.iri_grammar.specs.WholeFault.{iri_fault}
 use Rattle.iri_grammar.specs.declared.error.ErrorKind.{ErrorKind}
 use Rattle.iri_grammar.specs.declared.error.ErrorKind.TheVariants.{InvalidScheme, InvalidUserInfo, InvalidHost, InvalidPort, InvalidPath}
 use Rattle.iri_grammar.specs.declared.error.ErrorKind.TheVariants.{InvalidQuery, InvalidFragment}
-use Rattle.iri_resolve.proofs.FormLaws.{form-fits}
+use Rattle.iri_normal.proofs.FormLaws.{form-fits}
 use Rattle.iri_percent.specs.Triplets.{pct}
-use Rattle.iri_resolve.specs.LowerCase.{lowered}
-use Rattle.iri_resolve.specs.NormalForm.{form, normal_form}
+use Rattle.iri_normal.specs.LowerCase.{lowered}
+use Rattle.iri_normal.specs.NormalForm.{form, normal_form}
 use Rattle.iri_edit.specs.Built.{Given, built_fault, built_text, components_fault, given_authority, given_parts, or_empty}
 use Rattle.iri_edit.proofs.KindLemmas.{IsWhole}
 use Rattle.iri_grammar.proofs.FaultLaws.{neither}
-use Rattle.iri_resolve.proofs.NormalStepLemmas.{stands-still as same-some}
+use Rattle.iri_normal.proofs.PathLaws.{stands-still as same-some}
 use Rattle.iri_grammar.proofs.FaultLaws.{part-passed as there}
 
 empty_host : (s : Tests) → is_host s [] ≡ true

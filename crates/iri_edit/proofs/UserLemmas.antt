@@ -14,7 +14,7 @@ use Rattle.iri_grammar.specs.Cut.{before, behind, lacks, marked}
 use Rattle.iri_grammar.proofs.CutLaws.{before-marked, both, by_test, joined}
 use Rattle.iri_grammar.specs.Over.{over_from, text_over}
 use Rattle.iri_grammar.proofs.UnitRuns.{text_over-append}
-use Rattle.iri_resolve.proofs.TextLaws.{is_utf8-of, over-of, utf8-front}
+use Rattle.iri_normal.proofs.TextLaws.{is_utf8-of, over-of, utf8-front}
 use Rattle.iri_grammar.specs.declared.error.ErrorKind.{ErrorKind}
 use Rattle.iri_edit.specs.Password.{masked, user_with, user_alone, where_userinfo, with_userinfo, without_password}
 use Rattle.iri_edit.proofs.KindLemmas.{IsWhole, edited-valid}

@@ -7,7 +7,7 @@ use Rattle.iri_grammar.specs.Fault.{query_fault, fragment_fault}
 use Rattle.iri_grammar.specs.Parts.{Parts, path_rules, recompose}
 use Rattle.iri_grammar.specs.declared.error.ErrorKind.{ErrorKind}
 use Rattle.iri_grammar.specs.declared.error.ErrorKind.TheVariants.{InvalidPath, InvalidScheme, UnexpectedFragment, UnexpectedRelative}
-use Rattle.iri_resolve.specs.NormalForm.{normal_form}
+use Rattle.iri_normal.specs.NormalForm.{normal_form}
 
 -- the parts that a builder was given, and whether the normal form is asked for
 pub record Given : Type 0 where

@@ -8,11 +8,11 @@ ghost use Rattle.iri_grammar.specs.Parts.{recompose, starts_with_slash, starts_w
 ghost use Rattle.iri_grammar.specs.Split.{split_of};
 ghost use Rattle.iri_grammar.specs.OptionalSlices.{now_of};
 ghost use Rattle.iri_grammar.specs.WholeFault.{iri_fault};
-ghost use Rattle.iri_resolve.specs.NormalForm.{normal_form};
+ghost use Rattle.iri_normal.specs.NormalForm.{normal_form};
 
 use iri_grammar::cutting::{cut_before, lacks};
 use iri_grammar::spec::Spec;
-use iri_resolve::views::Normalize;
+use iri_normal::views::Normalize;
 use iri_text::ToStringFallible;
 use iri_types::view::RiStr;
 use std::alloc::{AllocError, Global};

@@ -12,7 +12,7 @@ use Rattle.iri_grammar.specs.Cut.{before, behind, marked}
 use Rattle.iri_grammar.proofs.CutLaws.{joined}
 use Rattle.iri_grammar.specs.WholeFault.{reference_fault}
 use Rattle.iri_grammar.specs.declared.error.Error.{Error}
-use Rattle.iri_resolve.specs.NormalForm.{canonical}
+use Rattle.iri_normal.specs.NormalForm.{canonical}
 use Rattle.iri_link.specs.Token.{is_blank}
 use Rattle.iri_link.specs.Field.{LinkParam, LinkValue, link, IsElement, empty, link as element, IsField, last, more}
 use Rattle.iri_link.specs.Phases.{before_link, in_target, behind_param, next}

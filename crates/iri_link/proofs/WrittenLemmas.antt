@@ -11,8 +11,8 @@ use Rattle.iri_grammar.specs.Cut.{lacks}
 use Rattle.iri_grammar.specs.Parts.{IsAbsolute}
 use Rattle.iri_grammar.proofs.AuthorityTexts.{marked-utf8, one_byte-utf8}
 use Rattle.iri_grammar.proofs.FaultLaws.{reference-law, reference-utf8}
-use Rattle.iri_resolve.specs.NormalForm.{canonical}
-use Rattle.iri_resolve.proofs.CanonLaws.{canonical-iri, canonical-own}
+use Rattle.iri_normal.specs.NormalForm.{canonical}
+use Rattle.iri_normal.proofs.CanonLaws.{canonical-iri, canonical-own}
 use Rattle.iri_link.specs.Links.{HasReference, HasLinks}
 use Rattle.iri_link.specs.Resolved.{resolved, IsRead}
 use Rattle.iri_link.proofs.OneListLemmas.{one_list}

@@ -1,7 +1,7 @@
 -- What is kept of a field value: its link-values with canonical targets (RFC 8288 section 3.1, RFC 3986 sections 5 and 6.2.2).
 use Rattle.std.specs.Prelude.{◌≡◌, ℕ, List, map}
 use Rattle.iri_grammar.specs.Classes.{Tests}
-use Rattle.iri_resolve.specs.NormalForm.{canonical}
+use Rattle.iri_normal.specs.NormalForm.{canonical}
 use Rattle.iri_link.specs.Field.{LinkValue}
 use Rattle.iri_link.specs.Links.{HasLinks}
 

@@ -14,7 +14,7 @@ use crate::link::{Link, read_text};
 use crate::param::Param;
 use crate::written::show_links;
 use iri_grammar::spec::Spec;
-use iri_resolve::resolver::FixedBaseResolver;
+use iri_normal::resolver::FixedBaseResolver;
 use iri_text::{FormatSink, Show, Stop, TextSink};
 use iri_types::view::RiAbsoluteStr;
 use std::alloc::Global;

@@ -6,10 +6,10 @@ use Rattle.iri_grammar.specs.Classes.{Tests, IsSpec}
 use Rattle.iri_grammar.specs.Parts.{Fits, IsReference, IsAbsolute}
 use Rattle.iri_grammar.specs.Split.{split_of}
 use Rattle.iri_grammar.proofs.SplitUnique.{split_is}
-use Rattle.iri_resolve.specs.NormalForm.{canonical}
-use Rattle.iri_resolve.specs.Target.{target}
+use Rattle.iri_normal.specs.NormalForm.{canonical}
+use Rattle.iri_normal.specs.Target.{target}
 use Rattle.iri_resolve.proofs.SchemeSteps.{joined-exactly, texts-exactly}
-use Rattle.iri_resolve.proofs.TargetLaws.{target-fits}
+use Rattle.iri_normal.proofs.TargetLaws.{target-fits}
 use Rattle.iri_register.specs.Entries.{Entry, place}
 use Rattle.iri_register.specs.Commands.{Command, Line, live, numbers, entries_of_commands}
 use Rattle.iri_register.specs.Shared.{Share, IsLive, line_of, TargetsJoin}

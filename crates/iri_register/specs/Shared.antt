@@ -2,9 +2,9 @@
 use Rattle.std.specs.Prelude.{◌≡◌, ℕ, List, Some, slice_get}
 use Rattle.iri_grammar.specs.Classes.{Tests}
 use Rattle.iri_grammar.specs.Split.{split_of}
-use Rattle.iri_resolve.specs.NormalForm.{canonical}
+use Rattle.iri_normal.specs.NormalForm.{canonical}
 use Rattle.iri_resolve.specs.Steps.{Joined}
-use Rattle.iri_resolve.specs.Target.{target}
+use Rattle.iri_normal.specs.Target.{target}
 use Rattle.iri_register.specs.Entries.{Entry, place}
 use Rattle.iri_register.specs.Commands.{Command, Line, live}
 

@@ -6,7 +6,7 @@ ghost use Rattle.std.specs.Str.{bytes_eq};
 ghost use Rattle.iri_grammar.specs.Fault.{bytes_fault};
 ghost use Rattle.iri_grammar.specs.WholeFault.{reference_fault};
 ghost use Rattle.iri_types.specs.Texts.{text};
-ghost use Rattle.iri_resolve.specs.NormalForm.{canonical};
+ghost use Rattle.iri_normal.specs.NormalForm.{canonical};
 ghost use Rattle.iri_register.specs.Entries.{added, removed, place, line_count, entry_at, IsAdded};
 ghost use Rattle.iri_register.specs.Refusals.{CausedBy};
 
@@ -14,8 +14,8 @@ use crate::added::Added;
 use crate::entries::{self, Entries};
 use crate::error::RegisterError;
 use iri_grammar::spec::Spec;
+use iri_normal::resolver::FixedBaseResolver;
 use iri_owned::owned::RiAbsoluteString;
-use iri_resolve::resolver::FixedBaseResolver;
 use iri_text::try_append_to_string;
 use iri_types::split::SplitView;
 use iri_types::view::RiAbsoluteStr;

@@ -19,9 +19,9 @@ use Rattle.iri_percent.proofs.Stability.{lower-case}
 use Rattle.iri_percent.proofs.UnitLaws.{octets_other}
 use Rattle.iri_percent.proofs.WholeLaws.{literal-lacks, userinfo-whole, host-whole, userinfo_percent, reg_name_percent}
 use Rattle.iri_percent.proofs.MapKinds.{authority-reads as reads}
-use Rattle.iri_resolve.proofs.HostLaws.{ascii-read}
-use Rattle.iri_resolve.proofs.LiteralLaws.{literal-lower}
-use Rattle.iri_resolve.specs.LowerCase.{lowered}
+use Rattle.iri_normal.proofs.HostLaws.{ascii-read}
+use Rattle.iri_normal.proofs.LiteralLaws.{literal-lower}
+use Rattle.iri_normal.specs.LowerCase.{lowered}
 use Rattle.iri_resolve.specs.Changes.{with_small_host_letter}
 use Rattle.iri_resolve.specs.Steps.{placed, in_part, host_start, in_host, in_userinfo_or_host, without_empty_port}
 use Rattle.iri_resolve.specs.Steps.{with_small_letter_in_host}

@@ -10,7 +10,7 @@ use Rattle.std.proofs.lemmas.Bool.Decides.{nat_tests}
 use Rattle.iri_grammar.proofs.AuthorityTexts.{text_over-utf8, marked-utf8, one_byte-utf8}
 use Rattle.iri_grammar.proofs.CutLaws.{both}
 use Rattle.iri_grammar.specs.Over.{over_from, over, text_over}
-use Rattle.iri_resolve.proofs.TextLaws.{utf8-front, utf8-from, utf8-behind, is_utf8-of, over-of}
+use Rattle.iri_normal.proofs.TextLaws.{utf8-front, utf8-from, utf8-behind, is_utf8-of, over-of}
 use Rattle.iri_resolve.specs.Changes.{is_in_triplet, is_small_digit, with_small_letter, with_small_host_letter, with_capital_digit}
 
 -- ---- one byte

@@ -14,7 +14,7 @@ use Rattle.iri_percent.specs.Units.{whole_triplets}
 use Rattle.iri_percent.specs.Triplets.{normal}
 use Rattle.iri_percent.proofs.UnitLaws.{encode_bytes}
 use Rattle.iri_percent.proofs.WholeLaws.{lacks-whole}
-use Rattle.iri_resolve.proofs.TripletPaths.{slash-delimits}
+use Rattle.iri_normal.proofs.TripletPaths.{slash-delimits}
 use Rattle.iri_resolve.specs.Changes.{is_small_digit, with_capital_digit, with_decoded}
 use Rattle.iri_resolve.proofs.ByteLaws.{capital_digit}
 use Rattle.iri_resolve.proofs.ChangeLaws.{digit-normal, digit-over, decoding, decoded-normal, decoded-over, some_triplets}

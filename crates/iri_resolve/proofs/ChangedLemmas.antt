@@ -26,8 +26,8 @@ use Rattle.iri_resolve.proofs.ByteLaws.{ByteChange, small_letter, small_host_let
 use Rattle.iri_resolve.proofs.ChangeLaws.{decoding, some_triplets, spelled-leads}
 use Rattle.iri_resolve.specs.Changes.{is_small_digit, with_small_letter, with_small_host_letter, with_capital_digit, with_decoded}
 use Rattle.iri_resolve.specs.DecodedPlace.{IsCharacterAt}
-use Rattle.iri_resolve.specs.DotRemoval.{dots}
-use Rattle.iri_resolve.specs.Guard.{guard}
+use Rattle.iri_normal.specs.DotRemoval.{dots}
+use Rattle.iri_normal.specs.Guard.{guard}
 use Rattle.iri_resolve.proofs.Places.{decode-inside}
 use Rattle.iri_resolve.specs.Steps.{placed, in_part, host_start, in_host, in_userinfo_or_host, without_dropped_port, without_empty_port}
 use Rattle.iri_resolve.specs.Steps.{with_small_letter_in_host, with_dots_removed, with_slash, at_place, step_in}

@@ -17,21 +17,21 @@ use Rattle.iri_percent.proofs.Reading.{Reading, done, plain, char, lone, read}
 use Rattle.iri_percent.proofs.UnitLaws.{Spells, none, more, encode_bytes}
 use Rattle.iri_percent.proofs.WholeLaws.{path-whole}
 use Rattle.iri_percent.proofs.MapKinds.{authority-reads as reads}
-use Rattle.iri_resolve.specs.DotRemoval.{dots}
-use Rattle.iri_resolve.specs.Guard.{guard}
-use Rattle.iri_resolve.specs.LowerCase.{lowered, where_there}
-use Rattle.iri_resolve.specs.NormalForm.{normal_path, normal_form, form}
-use Rattle.iri_resolve.proofs.PathLaws.{dots-over}
-use Rattle.iri_resolve.proofs.TargetLaws.{slash_in_path}
-use Rattle.iri_resolve.proofs.TripletDots.{map_same}
-use Rattle.iri_resolve.proofs.TripletPaths.{slash-delimits}
+use Rattle.iri_normal.specs.DotRemoval.{dots}
+use Rattle.iri_normal.specs.Guard.{guard}
+use Rattle.iri_normal.specs.LowerCase.{lowered, where_there}
+use Rattle.iri_normal.specs.NormalForm.{normal_path, normal_form, form}
+use Rattle.iri_normal.proofs.PathLaws.{dots-over}
+use Rattle.iri_normal.proofs.TargetLaws.{slash_in_path}
+use Rattle.iri_normal.proofs.TripletDots.{map_same}
+use Rattle.iri_normal.proofs.TripletPaths.{slash-delimits}
 use Rattle.iri_resolve.proofs.ChangeKeeps.{encode-slash}
-use Rattle.iri_resolve.proofs.StepsKept.{point_in_path}
-use Rattle.iri_resolve.proofs.PathLaws.{guard-over}
+use Rattle.iri_normal.proofs.PathLaws.{point_in_path}
+use Rattle.iri_normal.proofs.PathLaws.{guard-over}
 use Rattle.iri_resolve.proofs.Leads.{Leads, leads-nothing, leads-on}
 use Rattle.iri_resolve.proofs.Places.{scheme-leads, dots-leads, path-leads, query-leads, fragment-leads, with_authority, userinfo-there}
 use Rattle.iri_resolve.proofs.Places.{host-leads, port-there}
-use Rattle.iri_resolve.proofs.TripletHeads.{read-head as slash-pct}
+use Rattle.iri_normal.proofs.TripletHeads.{read-head as slash-pct}
 
 -- ---- the guard and the triplet normal form
 slash-char : (s : Tests) (c : ℕ) (sp os xs : List ℕ) → IsSpec s → Spells sp os → os ≡ encode_utf8 c
@@ -102,13 +102,13 @@ authority-there s t (Some a) k h =
     let u : AuthorityParts = record p { userinfo = normal_userinfo s p.userinfo } in
     let v : AuthorityParts = record u { host = normal_host s p.host } in
     let fu : FitsAuthority s u = record {
-      userinfo = Rattle.iri_resolve.proofs.AuthorityForm.userinfo-fits s p.userinfo k f.userinfo;
+      userinfo = Rattle.iri_normal.proofs.AuthorityForm.userinfo-fits s p.userinfo k f.userinfo;
       host = f.host;
       port = f.port;
     } in
     let fv : FitsAuthority s v = record {
       userinfo = fu.userinfo;
-      host = Rattle.iri_resolve.proofs.AuthorityForm.host-fits s p.host k f.host;
+      host = Rattle.iri_normal.proofs.AuthorityForm.host-fits s p.host k f.host;
       port = f.port;
     } in
     subst (λ z. Leads s (record t { authority = Some z }) (with_authority t (normal_authority_parts s p))) (authority_recomposed a)

@@ -16,15 +16,15 @@ use Rattle.iri_percent.proofs.NormalLaws.{normal_decoded, normal_nil, normal_pla
 use Rattle.iri_percent.specs.Triplets.{as_it_is, pct}
 use Rattle.iri_percent.proofs.UnitLaws.{Spells, none, more}
 use Rattle.iri_percent.specs.Units.{whole_triplets}
-use Rattle.iri_resolve.specs.DotRemoval.{is_all, is_one_dot, is_two_dots, dots}
-use Rattle.iri_resolve.specs.Dots.{any_dot_segment, has_dot_segment, is_dot_segment}
-use Rattle.iri_resolve.specs.Guard.{guard}
+use Rattle.iri_normal.specs.DotRemoval.{is_all, is_one_dot, is_two_dots, dots}
+use Rattle.iri_normal.specs.Dots.{any_dot_segment, has_dot_segment, is_dot_segment}
+use Rattle.iri_normal.specs.Guard.{guard}
 use Rattle.iri_resolve.specs.inside.NormalSteps.{is_behind_slash, is_guard_alone, loses_dots}
-use Rattle.iri_resolve.proofs.PieceLaws.{pieces-some, pieces-slash, dot-is_one, dot_segment-lacks, nothing-is_no_dot}
-use Rattle.iri_resolve.proofs.StableLaws.{dot_in_front, no_dots_left, no_dots-same, slashed, unsplit, unsplit-pieces}
-use Rattle.iri_resolve.proofs.TripletDots.{dot_segment-pct, empty-pct, encode_point, point_scalar, point_unreserved, two_dots-pct}
-use Rattle.iri_resolve.proofs.TripletHeads.{pct-heads}
-use Rattle.iri_resolve.proofs.TripletPaths.{all_whole, pieces-pct, whole-pieces}
+use Rattle.iri_normal.proofs.PieceLaws.{pieces-some, pieces-slash, dot-is_one, dot_segment-lacks, nothing-is_no_dot}
+use Rattle.iri_normal.proofs.StableLaws.{dot_in_front, no_dots_left, no_dots-same, slashed, unsplit, unsplit-pieces}
+use Rattle.iri_normal.proofs.TripletDots.{dot_segment-pct, empty-pct, encode_point, point_scalar, point_unreserved, two_dots-pct}
+use Rattle.iri_normal.proofs.TripletHeads.{pct-heads}
+use Rattle.iri_normal.proofs.TripletPaths.{all_whole, pieces-pct, whole-pieces}
 
 of-not : (b : Bool) → not b ≡ true → b ≡ false
 of-not true h = cc

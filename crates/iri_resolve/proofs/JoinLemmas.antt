@@ -6,8 +6,8 @@ use Rattle.iri_grammar.specs.Classes.{Tests, IsSpec}
 use Rattle.iri_grammar.specs.Parts.{Parts, recompose}
 use Rattle.iri_percent.specs.declared.canon_mode.CanonMode.{CanonMode}
 use Rattle.iri_resolve.proofs.SchemeSteps.{form-in, joined_in-exactly, texts_in-exactly}
-use Rattle.iri_resolve.specs.NormalForm.{form, normal_form_in}
-use Rattle.iri_resolve.specs.Modes.{mode_of}
+use Rattle.iri_normal.specs.NormalForm.{form, normal_form_in}
+use Rattle.iri_normal.specs.Modes.{mode_of}
 use Rattle.iri_resolve.specs.Steps.{replayed_in, AreApartIn, LeadToOneIn}
 use Rattle.iri_resolve.proofs.StepsKept.{Valid}
 use Rattle.iri_resolve.specs.declared.step.Step.{Step}

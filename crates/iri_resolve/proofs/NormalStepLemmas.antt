@@ -18,18 +18,19 @@ use Rattle.iri_percent.specs.NormalHost.{is_ascii_host, normal_authority, normal
 use Rattle.iri_percent.specs.Triplets.{normal, pct}
 use Rattle.iri_percent.proofs.WholeLaws.{host-whole, path-whole, userinfo_percent, path_percent, query_percent, fragment_percent}
 use Rattle.iri_resolve.proofs.GuardLemmas.{dots-lost}
-use Rattle.iri_resolve.proofs.AuthorityForm.{userinfo-fits, host-fits}
+use Rattle.iri_normal.proofs.AuthorityForm.{userinfo-fits, host-fits}
 use Rattle.iri_percent.proofs.MapKinds.{authority-reads as reads}
 use Rattle.iri_resolve.proofs.AuthoritySteps.{host-kept, letter-kept}
 use Rattle.iri_percent.proofs.ClassLaws.{in_userinfo}
 use Rattle.iri_resolve.proofs.ChangeKeeps.{capital-keeps, decoding-keeps}
 use Rattle.iri_resolve.specs.Changes.{with_capital_digit, with_decoded}
+use Rattle.iri_normal.proofs.PathLaws.{stands-still}
 use Rattle.iri_resolve.specs.inside.ComponentSteps.{IsComponent, IsLed}
-use Rattle.iri_resolve.specs.DotRemoval.{dots}
-use Rattle.iri_resolve.specs.Guard.{guard}
+use Rattle.iri_normal.specs.DotRemoval.{dots}
+use Rattle.iri_normal.specs.Guard.{guard}
 use Rattle.iri_resolve.proofs.Leads.{replayed-append, capital-at}
-use Rattle.iri_resolve.specs.LowerCase.{lowered, where_there}
-use Rattle.iri_resolve.specs.NormalForm.{normal_path, normal_form, form}
+use Rattle.iri_normal.specs.LowerCase.{lowered, where_there}
+use Rattle.iri_normal.specs.NormalForm.{normal_path, normal_form, form}
 use Rattle.iri_resolve.specs.inside.NormalSteps.{Onward, with_parts, scheme_steps, dots_steps, loses_dots, SchemeLed, UserinfoLed, HostLed}
 use Rattle.iri_resolve.specs.inside.NormalSteps.{PortLed, AuthorityLed, PathLed, PartLed}
 use Rattle.iri_resolve.proofs.Places.{letter-at, in-userinfo, digit-inside, decode-inside, in-host, letter-in-host, ascii-kept}
@@ -39,7 +40,7 @@ use Rattle.iri_resolve.specs.Steps.{placed, host_start, without_empty_port, step
 use Rattle.iri_percent.proofs.ClassLaws.{in_path}
 use Rattle.iri_percent.proofs.ClassLaws.{in_query}
 use Rattle.iri_percent.proofs.ClassLaws.{in_fragment}
-use Rattle.iri_resolve.proofs.TripletPaths.{dots-pct}
+use Rattle.iri_normal.proofs.TripletPaths.{dots-pct}
 use Rattle.iri_resolve.specs.declared.component.Component.{Component}
 use Rattle.iri_resolve.specs.declared.step.Part.{Part}
 use Rattle.iri_resolve.specs.declared.step.Part.TheVariants.{Authority, Path, Query, Fragment}
@@ -313,9 +314,6 @@ authority-led s a p start l m n o k h e x y z u t r =
     z u w fw t two ∙ ap (λ q. Some (with_parts u (normal_authority_parts s q))) e
 
 -- ---- all of it
-pub stands-still : (f : List ℕ → List ℕ) (o : Option (List ℕ)) → is_some (where_there f o) ≡ is_some o
-stands-still f None = refl
-stands-still f (Some x) = refl
 
 pub all-led : (s : Tests) (t : Parts) (x : List ℕ) (stands : Bool) (l m n o q : List Step) → IsSpec s → Fits s t → Some x ≡ t.scheme
     → stands ≡ is_some t.authority → SchemeLed s x [] l → AuthorityLed s t.authority l m → PathLed s stands t.path m n

@@ -20,9 +20,9 @@ use Rattle.iri_percent.specs.NormalHost.{is_ascii_host, normal_host, normal_user
 use Rattle.iri_percent.proofs.Stability.{as_it_is-case, lower-case}
 use Rattle.iri_percent.proofs.WholeLaws.{userinfo-whole, host-whole, path-whole, query-whole, fragment-whole, userinfo_percent}
 use Rattle.iri_percent.proofs.WholeLaws.{path_percent, query_percent, fragment_percent}
-use Rattle.iri_resolve.specs.DotRemoval.{dots}
-use Rattle.iri_resolve.specs.Guard.{guard}
-use Rattle.iri_resolve.specs.LowerCase.{lowered, where_there}
+use Rattle.iri_normal.specs.DotRemoval.{dots}
+use Rattle.iri_normal.specs.Guard.{guard}
+use Rattle.iri_normal.specs.LowerCase.{lowered, where_there}
 use Rattle.iri_resolve.specs.Changes.{with_small_letter, with_small_host_letter, with_capital_digit, with_decoded}
 use Rattle.iri_resolve.specs.Steps.{placed, host_start, without_empty_port, at_place, step, step_in}
 use Rattle.iri_resolve.proofs.ByteLaws.{capital_digit}

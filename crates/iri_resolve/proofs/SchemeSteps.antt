@@ -16,21 +16,21 @@ use Rattle.iri_percent.specs.declared.canon_mode.CanonMode.{CanonMode}
 use Rattle.iri_percent.specs.declared.canon_mode.CanonMode.TheVariants.{Default, Scheme}
 use Rattle.iri_percent.proofs.Authorities.{authority_in}
 use Rattle.iri_percent.proofs.MapKinds.{authority-reads as reads}
-use Rattle.iri_resolve.specs.LowerCase.{lowered, where_there}
-use Rattle.iri_resolve.specs.Modes.{mode_of}
-use Rattle.iri_resolve.specs.NormalForm.{becomes_slash, form, normal_form, normal_form_in, normal_path, slash_or}
+use Rattle.iri_normal.specs.LowerCase.{lowered, where_there}
+use Rattle.iri_normal.specs.Modes.{mode_of}
+use Rattle.iri_normal.specs.NormalForm.{becomes_slash, form, normal_form, normal_form_in, normal_path, slash_or}
 use Rattle.iri_resolve.specs.Steps.{in_part, onward, placed, replayed, replayed_in, step, step_in, with_slash, without_dropped_port, Joined, JoinedIn}
 use Rattle.iri_resolve.specs.inside.NormalSteps.{has_port, is_port_dropped, port_steps, slash_steps}
 use Rattle.iri_resolve.specs.declared.step.Step.{Step}
 use Rattle.iri_resolve.specs.declared.step.Step.TheVariants.{SchemeLetter, HostLetter, HexDigit, Decode, EmptyPort, Dots, DefaultPort, SlashPath}
-use Rattle.iri_resolve.proofs.AuthorityForm.{normal-parts}
+use Rattle.iri_normal.proofs.AuthorityForm.{normal-parts}
 use Rattle.iri_resolve.proofs.AuthoritySteps.{placed-is, in_part-is}
 use Rattle.iri_resolve.proofs.Confluence.{normal-leads}
 use Rattle.iri_resolve.proofs.Leads.{replayed_in-append}
-use Rattle.iri_resolve.proofs.SchemeForm.{by_scheme, dropped-lowered, form-by_scheme, kept_port, normal-slash, normal_in-fits, one-form, slash-normal, without}
+use Rattle.iri_normal.proofs.SchemeForm.{by_scheme, dropped-lowered, form-by_scheme, kept_port, normal-slash, normal_in-fits, one-form, slash-normal, without}
 use Rattle.iri_resolve.proofs.StepsKept.{Kept, Valid, authority-rules, no_default_port, step-kept}
-use Rattle.iri_resolve.proofs.TargetLaws.{slash_in_path}
-use Rattle.iri_resolve.proofs.TextLaws.{slash_over}
+use Rattle.iri_normal.proofs.TargetLaws.{slash_in_path}
+use Rattle.iri_normal.proofs.TextLaws.{slash_over}
 
 -- u is valid, has a scheme, and has the normal form of t in the mode
 pub record KeptIn (s : Tests) (m : CanonMode) (t u : Parts) : Type 0 where

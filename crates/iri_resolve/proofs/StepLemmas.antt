@@ -9,8 +9,8 @@ use Rattle.iri_grammar.specs.Parts.{Parts, Fits}
 use Rattle.iri_percent.proofs.WholeLaws.{path-whole, query-whole, fragment-whole}
 use Rattle.iri_resolve.specs.inside.ChangeOf.{change_of}
 use Rattle.iri_resolve.proofs.ChangeOf.{change-keeps}
-use Rattle.iri_resolve.specs.DotRemoval.{dots}
-use Rattle.iri_resolve.specs.Guard.{guard}
+use Rattle.iri_normal.specs.DotRemoval.{dots}
+use Rattle.iri_normal.specs.Guard.{guard}
 use Rattle.iri_resolve.specs.inside.PartTexts.{part_text, with_part, is_part_whole, changed_in_part}
 use Rattle.iri_resolve.proofs.PartTexts.{at_place-part}
 use Rattle.iri_resolve.specs.Steps.{placed, in_part, at_place, step, step_in, with_small_letter_in_host, without_empty_port}

@@ -12,13 +12,13 @@ use Rattle.iri_grammar.proofs.CutLaws.{both}
 use Rattle.iri_grammar.specs.Parts.{Parts, Fits, path_rules, is_empty, starts_with_slash}
 use Rattle.iri_percent.specs.Triplets.{as_it_is, pct}
 use Rattle.iri_percent.proofs.WholeLaws.{path-whole, query-whole, fragment-whole, path_percent, query_percent, fragment_percent}
-use Rattle.iri_resolve.specs.DotRemoval.{dots}
-use Rattle.iri_resolve.specs.Guard.{guard}
-use Rattle.iri_resolve.specs.NormalForm.{normal_path, normal_form, form}
-use Rattle.iri_resolve.proofs.PathLaws.{dots-over, dots-slash, dots-nothing}
-use Rattle.iri_resolve.proofs.StableLaws.{guarded-stable}
-use Rattle.iri_resolve.proofs.TargetLaws.{slash_in_path}
-use Rattle.iri_resolve.proofs.TripletPaths.{dots-pct}
+use Rattle.iri_normal.specs.DotRemoval.{dots}
+use Rattle.iri_normal.specs.Guard.{guard}
+use Rattle.iri_normal.specs.NormalForm.{normal_path, normal_form, form}
+use Rattle.iri_normal.proofs.PathLaws.{dots-over, dots-slash, dots-nothing}
+use Rattle.iri_normal.proofs.StableLaws.{guarded-stable}
+use Rattle.iri_normal.proofs.TargetLaws.{slash_in_path}
+use Rattle.iri_normal.proofs.TripletPaths.{dots-pct}
 use Rattle.iri_resolve.specs.Changes.{with_small_letter, with_capital_digit, with_decoded}
 use Rattle.iri_resolve.specs.Steps.{in_part, in_userinfo_or_host, without_dropped_port, without_empty_port, with_small_letter_in_host, with_dots_removed}
 use Rattle.iri_resolve.specs.Steps.{at_place, step, step_in, onward, replayed, replayed_in}
@@ -33,10 +33,10 @@ use Rattle.iri_resolve.specs.declared.step.Step.TheVariants.{SchemeLetter, HostL
 use Rattle.iri_percent.proofs.ClassLaws.{in_fragment}
 use Rattle.iri_percent.proofs.ClassLaws.{in_path}
 use Rattle.iri_percent.proofs.ClassLaws.{in_query}
-use Rattle.iri_resolve.proofs.FormLaws.{lower-letter}
-use Rattle.iri_resolve.proofs.FormLaws.{lower-scheme_char}
-use Rattle.iri_resolve.proofs.PathLaws.{guard-over}
-use Rattle.iri_resolve.proofs.PathLaws.{guarded}
+use Rattle.iri_normal.proofs.FormLaws.{lower-letter}
+use Rattle.iri_normal.proofs.FormLaws.{lower-scheme_char}
+use Rattle.iri_normal.proofs.PathLaws.{guard-over}
+use Rattle.iri_normal.proofs.PathLaws.{guarded, point_in_path}
 
 -- u is valid, has a scheme, and has the normal form of t
 pub record Kept (s : Tests) (t u : Parts) : Type 0 where
@@ -136,10 +136,6 @@ path-triplets s change t i u k c v h =
       scheme = v.scheme;
       form = rw same refl;
     }
-
-pub point_in_path : (s : Tests) → path_char s 46 ≡ true
-unfolding path_char is_ascii_path is_ascii_pchar is_ascii_reg_name is_ascii_unreserved is_sub_delim
-point_in_path s = refl
 
 rooted : (p : List ℕ) → (is_empty p || starts_with_slash p) ≡ true → (is_empty (dots p) || starts_with_slash (dots p)) ≡ true
 rooted [] h = rw dots-nothing refl

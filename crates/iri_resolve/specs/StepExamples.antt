@@ -9,8 +9,8 @@ use Rattle.iri_percent.specs.Units.{whole_triplets, first_char}
 use Rattle.iri_percent.specs.NormalHost.{is_ascii_host}
 use Rattle.iri_percent.specs.SchemeRules.{default_port}
 use Rattle.iri_percent.specs.declared.canon_mode.CanonMode.TheVariants.{Scheme}
-use Rattle.iri_resolve.specs.Dots.{is_dot_segment}
-use Rattle.iri_resolve.specs.DotRemoval.{dots}
+use Rattle.iri_normal.specs.Dots.{is_dot_segment}
+use Rattle.iri_normal.specs.DotRemoval.{dots}
 use Rattle.iri_resolve.specs.Changes.{with_small_letter, with_small_host_letter, with_capital_digit, with_decoded}
 use Rattle.iri_resolve.specs.Steps.{step, step_in, replayed, replayed_in}
 use Rattle.iri_resolve.specs.declared.step.Part.TheVariants.{Authority, Path, Query}

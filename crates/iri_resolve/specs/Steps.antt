@@ -9,9 +9,9 @@ use Rattle.iri_percent.specs.SchemeRules.{dropped_port}
 use Rattle.iri_percent.specs.declared.canon_mode.CanonMode.{CanonMode}
 use Rattle.iri_percent.specs.declared.canon_mode.CanonMode.TheVariants.{Default}
 use Rattle.iri_grammar.specs.Characters.{slash}
-use Rattle.iri_resolve.specs.DotRemoval.{dots}
-use Rattle.iri_resolve.specs.Guard.{guard}
-use Rattle.iri_resolve.specs.NormalForm.{becomes_slash}
+use Rattle.iri_normal.specs.DotRemoval.{dots}
+use Rattle.iri_normal.specs.Guard.{guard}
+use Rattle.iri_normal.specs.NormalForm.{becomes_slash}
 use Rattle.iri_resolve.specs.Changes.{with_small_letter, with_small_host_letter, with_capital_digit, with_decoded}
 use Rattle.iri_resolve.specs.declared.step.Part.{Part}
 use Rattle.iri_resolve.specs.declared.step.Part.TheVariants.{Authority, Path, Query, Fragment}

@@ -7,11 +7,11 @@ ghost use Rattle.iri_grammar.specs.OptionalSlices.{now_of};
 ghost use Rattle.iri_percent.specs.SchemeRules.{dropped_port};
 ghost use Rattle.iri_percent.specs.Units.{whole_triplets};
 ghost use Rattle.iri_resolve.specs.inside.ChangeOf.{change_of};
-ghost use Rattle.iri_resolve.specs.DotRemoval.{dots};
-ghost use Rattle.iri_resolve.specs.Guard.{guard};
+ghost use Rattle.iri_normal.specs.DotRemoval.{dots};
+ghost use Rattle.iri_normal.specs.Guard.{guard};
 ghost use Rattle.iri_resolve.specs.inside.PartTexts.{changed_in_part, is_part_whole, part_text, with_part};
-ghost use Rattle.iri_resolve.specs.Resolver.{bytes_of};
-ghost use Rattle.iri_resolve.specs.Slices.{slices};
+ghost use Rattle.iri_normal.specs.Resolver.{bytes_of};
+ghost use Rattle.iri_normal.specs.Slices.{slices};
 ghost use Rattle.iri_resolve.specs.Steps.{placed, in_part, at_place, step, step_in, with_slash, without_dropped_port, without_empty_port};
 ghost use Rattle.iri_resolve.specs.Steps.{with_dots_removed, with_small_letter_in_host};
 ghost use Rattle.iri_resolve.specs.declared.step.Part.TheVariants.{Authority, Path};
@@ -21,14 +21,11 @@ use crate::authority_change::{
     changed_in_authority, small_letter_in_host, without_dropped_port, without_empty_port,
 };
 use crate::change::{Change, changed, small_letter};
-use crate::form::becomes_slash;
-use crate::merged_path::MergedPath;
-use crate::mode::CanonMode;
-use crate::owned_target::Target;
-use crate::path_writer::show_guarded;
 use crate::step::{Part, Step};
-use crate::target::TargetSlices;
 use iri_grammar::spec::Spec;
+use iri_normal::mode::CanonMode;
+use iri_normal::owned_target::Target;
+use iri_normal::{MergedPath, TargetSlices, becomes_slash, show_guarded};
 use iri_text::StringSink;
 use std::alloc::{AllocError, Global};
 

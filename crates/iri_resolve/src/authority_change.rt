@@ -9,7 +9,7 @@ ghost use Rattle.iri_percent.specs.NormalHost.{is_ascii_host};
 ghost use Rattle.iri_percent.specs.Units.{whole_triplets};
 ghost use Rattle.iri_resolve.specs.inside.ChangeOf.{change_of};
 ghost use Rattle.iri_resolve.specs.Changes.{with_small_host_letter};
-ghost use Rattle.iri_resolve.specs.Resolver.{bytes_of};
+ghost use Rattle.iri_normal.specs.Resolver.{bytes_of};
 ghost use Rattle.iri_resolve.specs.Steps.{host_start, in_host, in_part, in_userinfo_or_host, placed};
 ghost use Rattle.iri_resolve.specs.Steps.{with_small_letter_in_host, without_dropped_port, without_empty_port};
 ghost use Rattle.iri_grammar.specs.Characters.{colon};

@@ -3,7 +3,7 @@ ghost use Rattle.std.specs.Prelude.{◌≡◌, ◌<◌, ◌≤◌, ◌+◌, ◌-
 ghost use Rattle.std.specs.Prelude.{true};
 ghost use Rattle.std.specs.Char.{encode_utf8, is_ascii_uppercase};
 ghost use Rattle.iri_percent.specs.Units.{whole_triplets};
-ghost use Rattle.iri_resolve.specs.Resolver.{bytes_of};
+ghost use Rattle.iri_normal.specs.Resolver.{bytes_of};
 ghost use Rattle.iri_resolve.specs.Changes.{is_in_triplet, is_small_digit, with_capital_digit, with_decoded};
 ghost use Rattle.iri_resolve.specs.Changes.{with_small_host_letter, with_small_letter};
 ghost use Rattle.iri_resolve.specs.inside.ChangeOf.{change_of};

@@ -1,17 +1,17 @@
 //! Steps that lead two targets to one.
 ghost use Rattle.std.specs.Prelude.{◌≡◌, false, IfOk, MatchOption, string_bytes};
 ghost use Rattle.iri_grammar.specs.Parts.{recompose};
-ghost use Rattle.iri_resolve.specs.NormalForm.{form};
+ghost use Rattle.iri_normal.specs.NormalForm.{form};
 ghost use Rattle.std.specs.Str.{bytes_eq};
-ghost use Rattle.iri_resolve.specs.Modes.{mode_of};
+ghost use Rattle.iri_normal.specs.Modes.{mode_of};
 ghost use Rattle.iri_resolve.specs.Steps.{AreApart, AreApartIn, LeadToOne, LeadToOneIn};
 
-use crate::form::show_form;
-use crate::mode::{CanonMode, mode_of};
 use crate::normal_steps::steps_to_normal_in;
-use crate::owned_target::Target;
 use crate::step_list::StepList;
 use iri_grammar::spec::Spec;
+use iri_normal::mode::{CanonMode, mode_of};
+use iri_normal::owned_target::Target;
+use iri_normal::show_form;
 use iri_text::StringSink;
 use std::alloc::{AllocError, Global};
 

@@ -1,67 +1,33 @@
-//! References resolved against a base, their normal form, and canonical texts (RFC 3986 sections 5.2.2, 5.2.3, 5.2.4, 6.2.2 and
-//! 6.2.3).
+//! Steps that lead a target to its normal form (RFC 3986 sections 6.2.2 and 6.2.3), beside the resolver and the normal forms of
+//! `iri_normal`, which have the same names here.
 //!
-//! [`FixedBaseResolver`](resolver::FixedBaseResolver) has a base. It gives each reference resolved against it as a
-//! [`Normalized`](normalized::Normalized), which shows its text to any sink without memory, in one of four modes: resolved alone,
-//! in normal form, in the normal form that preserves relative paths, or in normal form by scheme rules, where default ports go and
-//! empty paths become `/`. It also gives the reference's [`Target`](owned_target::Target), owned, with its dots kept. `views` has the
-//! same for views: `normalize` and `resolve_against`.
-//! [`canonicalize`](canonical::canonicalize) answers the canonical text of two texts of bytes, and
-//! [`show_canonical`](canonical::show_canonical) shows that of a reference against a resolver's base.
-//! [`IsNormalized`](is_normalized::IsNormalized) tells whether a text is in normal form. [`Step`](step::Step)s lead a target to its
-//! normal form: [`steps_to_normal`](normal_steps::steps_to_normal) gives them, [`replay`](replay::replay) does them, and
+//! [`Step`](step::Step)s lead a [`Target`](owned_target::Target) to its normal form:
+//! [`steps_to_normal`](normal_steps::steps_to_normal) gives them, [`replay`](replay::replay) does them, and
 //! [`join_steps`](join::join_steps) gives those that lead two targets to one. The calls that end with `_in` take a
 //! [`CanonMode`](mode::CanonMode): the normal form by the rules of every scheme, or by scheme rules too. `laws` has what holds of all
-//! targets, forms, canonical texts and steps.
+//! steps.
 //!
-//! Proved: a target is that of section 5.2.2, with its dots kept. What is shown is exactly the recomposition of the target's form in
-//! the mode, whatever the sink and however many segments the path has; a sink that stops, stops within that text. Only a path that
-//! would be read as an authority is told as not normalizable by RFC 3986 alone. A canonical text is the recomposition of the target's
-//! normal form; it is a URI of the grammar, splits into exactly the normal parts, and is its own canonical text against every base.
-//! `canonicalize` refuses exactly a base or a reference outside its grammar, with its first fault, the base first; memory is
-//! wanted only where both are valid. Dot removal is the rewriting of section 5.2.4, and is stable; each form fits the grammar again,
-//! and the normal ones and the preserving one are stable; a canonical text has at most three bytes more than base and reference
-//! together. A text is told to be in normal form exactly where it is, without memory. Steps keep parts valid, keep their normal form,
-//! and change something; those to the normal form replay to it; two targets are joined exactly where their canonical texts are equal.
-//! What is said of shown texts, canonical texts and steps holds of the mode by scheme rules too; the tests of being in normal form have
-//! no such mode.
+//! Proved: steps keep parts valid, keep their normal form, and change something; those to the normal form replay to it; two targets
+//! are joined exactly where their canonical texts are equal. It holds of the mode by scheme rules too.
 //!
-//! Not proved: that memory is allocated, so that a call that always answered `Memory` would keep its contract, `replay` among them;
-//! tests show that each succeeds with ample memory. The words of `Display` of `CanonError` and `ReplayError`, which `thiserror`
-//! makes. Any bound on time: a path is written by parts, in O(n log n) looks at its bytes; a resolver tells once whether the
-//! scheme and the authority of its base are in normal form, and of each reference whether anything in it changes, so as to write
-//! them as they stand; one that told it of none would write the same texts more slowly. Which of two equal texts a law hands back (`mapping_laws::canonicalize_commutes_with_mapping`).
+//! Not proved: that memory is allocated, so that a `replay` that always answered `Memory` would keep its contract; tests show that
+//! each call succeeds with ample memory. The words of `Display` of `ReplayError`, which `thiserror` makes. Any bound on time.
 #![tactic(auto)]
 
 mod after_step;
 mod authority_change;
-mod beginning;
-pub mod canonical;
 mod change;
-mod comparison;
 mod component;
 mod component_steps;
-mod dots;
-mod form;
-pub mod is_normalized;
 pub mod join;
 pub mod laws;
-pub mod mapping_laws;
-mod merged_path;
-pub mod mode;
-pub mod normal_kind;
 pub mod normal_steps;
-pub mod normalized;
-pub mod owned_target;
-mod path_writer;
-mod prefix;
-mod remove_dot_segments;
 pub mod replay;
-pub mod resolver;
 pub mod step;
 pub mod step_list;
 mod step_text;
-mod target;
-mod unchanged;
-pub mod unresolvable;
-pub mod views;
+
+pub use iri_normal::{
+    canonical, is_normalized, mapping_laws, mode, normal_kind, normalized, owned_target, resolver,
+    unresolvable, views,
+};

@@ -4,11 +4,11 @@ ghost use Rattle.iri_resolve.specs.Replays.{EndsBy, EndsByIn, StopsAt};
 ghost use Rattle.iri_resolve.specs.Steps.{replayed, replayed_in, step_in};
 
 use crate::after_step::{after_step, copied};
-use crate::mode::CanonMode;
-use crate::owned_target::Target;
 use crate::step::Step;
 use crate::step_list::StepList;
 use iri_grammar::spec::Spec;
+use iri_normal::mode::CanonMode;
+use iri_normal::owned_target::Target;
 use std::alloc::Global;
 use thiserror::Error;
 

@@ -4,7 +4,7 @@ use super::{answers, right_rows};
 use crate::buffers::CanonBuffers;
 use crate::canon_lines::canon_lines_in;
 use iri_grammar::spec::IriSpec;
-use iri_resolve::mode::CanonMode;
+use iri_normal::mode::CanonMode;
 use iri_text::{MemorySink, PlainSource};
 use std::test::Fail;
 

@@ -8,10 +8,10 @@ use Rattle.iri_grammar.specs.Pieces.{pieces}
 use Rattle.iri_percent.specs.NormalHost.{is_dropped, normal_authority, normal_host, normal_port, normal_userinfo}
 use Rattle.iri_percent.specs.Triplets.{pct}
 use Rattle.iri_resolve.specs.inside.ComponentSteps.{IsComponent}
-use Rattle.iri_resolve.specs.DotRemoval.{dots, is_two_dots}
-use Rattle.iri_resolve.specs.Dots.{any_dot_segment, has_dot_segment, is_dot_segment}
-use Rattle.iri_resolve.specs.Guard.{guard}
-use Rattle.iri_resolve.specs.LowerCase.{lowered, where_there}
+use Rattle.iri_normal.specs.DotRemoval.{dots, is_two_dots}
+use Rattle.iri_normal.specs.Dots.{any_dot_segment, has_dot_segment, is_dot_segment}
+use Rattle.iri_normal.specs.Guard.{guard}
+use Rattle.iri_normal.specs.LowerCase.{lowered, where_there}
 use Rattle.iri_resolve.specs.Steps.{host_start, replayed}
 use Rattle.iri_resolve.specs.declared.step.Part.{Part}
 use Rattle.iri_resolve.specs.declared.step.Step.{Step}

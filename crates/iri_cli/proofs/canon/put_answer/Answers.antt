@@ -3,8 +3,8 @@ use Rattle.std.specs.Prelude.{codes}
 use Rattle.iri_text.specs.Sink.{PutsAll, KeepsRoom}
 use Rattle.iri_cli.specs.declared.answers.AnswerError.TheVariants.{SinkFailed}
 use Rattle.iri_types.specs.SplitText.{split_text}
-use Rattle.iri_resolve.specs.NormalForm.{canonical_in}
-use Rattle.iri_resolve.specs.Resolver.{base_text}
+use Rattle.iri_normal.specs.NormalForm.{canonical_in}
+use Rattle.iri_normal.specs.Resolver.{base_text}
 use Rattle.iri_cli.specs.Answer.{answer_in, good_answer, bad_answer}
 use Rattle.iri_cli.specs.CanonAnswers.{PutsLine, told_of}
 use Rattle.iri_cli.proofs.AnswerLemmas.{answer_of_reference, answer_of_fault}

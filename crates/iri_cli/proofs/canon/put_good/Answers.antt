@@ -2,8 +2,8 @@ use Rattle.std.proofs.Common.{[], ◌∷◌, ◌++◌, ◌∙◌, subst}
 use Rattle.iri_text.specs.Sink.{PutsAll}
 use Rattle.iri_text.proofs.Puts.{puts-then, puts-exit}
 use Rattle.iri_types.specs.SplitText.{split_text}
-use Rattle.iri_resolve.specs.NormalForm.{canonical_in}
-use Rattle.iri_resolve.specs.Resolver.{base_text}
+use Rattle.iri_normal.specs.NormalForm.{canonical_in}
+use Rattle.iri_normal.specs.Resolver.{base_text}
 use Rattle.iri_cli.proofs.canon.put_good.Goals as goal
 
 pub returns-in_err-put_all : goal.returns-in_err-put_all

@@ -1,6 +1,6 @@
 use Rattle.std.proofs.Common.{◌≤◌, ◌∙◌, [], refl, sym, ap, arith, subst, length}
 use Rattle.std.specs.Vec.{vec_capacity}
-use Rattle.iri_resolve.specs.Resolver.{base_text}
+use Rattle.iri_normal.specs.Resolver.{base_text}
 use Rattle.iri_cli.specs.Limits.{longest_line, answer_room}
 use Rattle.iri_cli.specs.Run.{outside, Ran}
 use Rattle.iri_cli.specs.Words.{canon_rules_in}

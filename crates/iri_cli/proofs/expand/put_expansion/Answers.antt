@@ -1,6 +1,6 @@
 use Rattle.std.proofs.Common.{◌≡◌, ◌≢◌, ◌<◌, ◌≤◌, ◌∙◌, ℕ, Err, true, false, refl, arith, subst, ap, length}
 use Rattle.iri_text.specs.Sink.{KeepsRoom}
-use Rattle.iri_resolve.specs.Resolver.{base_text}
+use Rattle.iri_normal.specs.Resolver.{base_text}
 use Rattle.iri_template.specs.Contexts.{value_in}
 use Rattle.iri_template.specs.ExpandedTexts.{expanded_text}
 use Rattle.iri_docs.specs.Expanded.{expansion_limit}

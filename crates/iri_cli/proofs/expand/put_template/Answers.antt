@@ -1,7 +1,7 @@
 use Rattle.std.proofs.Common.{◌≡◌, ◌≢◌, ◌∙◌, ℕ, List, Err, None, Some, false, refl, sym, subst, ap}
 use Rattle.iri_grammar.specs.Classes.{Tests}
 use Rattle.iri_text.specs.Sink.{KeepsRoom}
-use Rattle.iri_resolve.specs.Resolver.{base_text}
+use Rattle.iri_normal.specs.Resolver.{base_text}
 use Rattle.iri_template.specs.Contexts.{value_in}
 use Rattle.iri_template.specs.Expansion.{expansion}
 use Rattle.iri_template.specs.Fault.{first, template_fault}

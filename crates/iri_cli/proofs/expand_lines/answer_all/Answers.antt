@@ -1,6 +1,6 @@
 use Rattle.std.proofs.Common.{◌∙◌, [], sym}
 use Rattle.std.specs.Vec.{vec_capacity}
-use Rattle.iri_resolve.specs.Resolver.{base_text}
+use Rattle.iri_normal.specs.Resolver.{base_text}
 use Rattle.iri_cli.specs.Answering.{Answering}
 use Rattle.iri_cli.specs.Words.{expand_rules}
 use Rattle.iri_cli.proofs.ExpandLemmas.{expand_begins, expand_ready}

@@ -1,7 +1,7 @@
 use Rattle.std.proofs.Common.{◌∙◌, true, refl, sym, ap, arith, length}
 use Rattle.iri_grammar.specs.Split.{split_of}
 use Rattle.iri_types.specs.Texts.{text}
-use Rattle.iri_resolve.specs.Prefix.{prefix_in}
+use Rattle.iri_normal.specs.Prefix.{prefix_in}
 use Rattle.iri_cli.proofs.BytesLemmas.{base_absolute}
 use Rattle.iri_cli.proofs.PreparedLaws.{root_text, prefixed, prepared_short}
 use Rattle.iri_cli.proofs.prepared.write_prepared.Goals as goal

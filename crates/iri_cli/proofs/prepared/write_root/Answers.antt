@@ -1,8 +1,8 @@
 use Rattle.std.proofs.Common.{◌≡◌, [], ◌∷◌, ◌∙◌, ap, arith, length}
 use Rattle.iri_types.specs.SplitText.{split_text}
 use Rattle.iri_types.specs.Texts.{text}
-use Rattle.iri_resolve.specs.NormalForm.{canonical}
-use Rattle.iri_resolve.specs.Resolver.{base_text}
+use Rattle.iri_normal.specs.NormalForm.{canonical}
+use Rattle.iri_normal.specs.Resolver.{base_text}
 use Rattle.iri_cli.proofs.PreparedLaws.{root_reference, root_short, shown_whole}
 use Rattle.iri_cli.proofs.prepared.write_root.Goals as goal
 

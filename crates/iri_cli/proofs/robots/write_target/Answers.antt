@@ -8,13 +8,13 @@ use Rattle.iri_grammar.specs.Classes.{Tests, IsSpec}
 use Rattle.iri_grammar.specs.Split.{split_of}
 use Rattle.iri_grammar.specs.WholeFault.{absolute_fault, iri_fault, reference_fault}
 use Rattle.iri_types.specs.SplitText.{split_text}
-use Rattle.iri_resolve.specs.NormalForm.{canonical}
-use Rattle.iri_resolve.specs.Normalized.{written_text}
-use Rattle.iri_resolve.specs.NormalizedText.{written}
-use Rattle.iri_resolve.specs.Resolver.{base_text}
-use Rattle.iri_resolve.specs.Target.{takes_base_path}
-use Rattle.iri_resolve.proofs.CanonLaws.{canonical-iri}
-use Rattle.iri_resolve.proofs.ModeLemmas.{made-normal, written-canonical}
+use Rattle.iri_normal.specs.NormalForm.{canonical}
+use Rattle.iri_normal.specs.Normalized.{written_text}
+use Rattle.iri_normal.specs.NormalizedText.{written}
+use Rattle.iri_normal.specs.Resolver.{base_text}
+use Rattle.iri_normal.specs.Target.{takes_base_path}
+use Rattle.iri_normal.proofs.CanonLaws.{canonical-iri}
+use Rattle.iri_normal.proofs.ModeLemmas.{made-normal, written-canonical}
 use Rattle.iri_cli.proofs.robots.write_target.Goals as goal
 
 pub returns-clause-text : goal.returns-clause-text

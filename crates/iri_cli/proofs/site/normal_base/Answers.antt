@@ -1,6 +1,6 @@
 use Rattle.std.proofs.Common.{◌∙◌, ap, Result, Ok, Err, IfOk}
-use Rattle.iri_resolve.specs.NormalForm.{normal_form}
-use Rattle.iri_resolve.specs.Normalized.{written_text}
+use Rattle.iri_normal.specs.NormalForm.{normal_form}
+use Rattle.iri_normal.specs.Normalized.{written_text}
 use Rattle.iri_cli.proofs.site.normal_base.Goals as goal
 
 if_ok : {T E : Type 0} {P Q : T → Type 0} (r : Result T E) → ((x : T) → P x → Q x) → IfOk r P → IfOk r Q

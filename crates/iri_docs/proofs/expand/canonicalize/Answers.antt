@@ -2,11 +2,11 @@ use Rattle.std.proofs.Common.{◌≡◌, ◌∙◌, Ok, sym, ap}
 use Rattle.iri_grammar.specs.Split.{split_of}
 use Rattle.iri_types.specs.SplitText.{split_text}
 use Rattle.iri_types.specs.Texts.{text as text_of}
-use Rattle.iri_resolve.specs.NormalForm.{canonical}
-use Rattle.iri_resolve.specs.NormalizedText.{written}
-use Rattle.iri_resolve.specs.Resolver.{base_text}
-use Rattle.iri_resolve.specs.Target.{takes_base_path}
-use Rattle.iri_resolve.proofs.ModeLemmas.{made-normal, written-canonical}
+use Rattle.iri_normal.specs.NormalForm.{canonical}
+use Rattle.iri_normal.specs.NormalizedText.{written}
+use Rattle.iri_normal.specs.Resolver.{base_text}
+use Rattle.iri_normal.specs.Target.{takes_base_path}
+use Rattle.iri_normal.proofs.ModeLemmas.{made-normal, written-canonical}
 use Rattle.iri_docs.proofs.expand.canonicalize.Goals as goal
 
 pub returns-in-Ok-try_to_dedicated_string : goal.returns-in-Ok-try_to_dedicated_string

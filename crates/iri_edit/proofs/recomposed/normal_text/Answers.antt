@@ -2,9 +2,9 @@ use Rattle.std.proofs.Common.{◌≡◌, ◌∙◌, ap, subst, false, List, ℕ}
 use Rattle.std.specs.Prelude.{IfOk, string_bytes}
 use Rattle.iri_grammar.specs.Parts.{recompose}
 use Rattle.iri_grammar.specs.Split.{split_of}
-use Rattle.iri_resolve.specs.Normalized.{Written, written_text}
-use Rattle.iri_resolve.specs.declared.mode.Mode.TheVariants.{Normal}
-use Rattle.iri_resolve.proofs.ModeLaws.{normal-form}
+use Rattle.iri_normal.specs.Normalized.{Written, written_text}
+use Rattle.iri_normal.specs.declared.mode.Mode.TheVariants.{Normal}
+use Rattle.iri_normal.proofs.ModeLaws.{normal-form}
 use Rattle.iri_edit.proofs.recomposed.normal_text.Goals as goal
 
 abbrev in_normal_form : List ℕ → Written

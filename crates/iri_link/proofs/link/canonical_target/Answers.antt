@@ -2,10 +2,10 @@ use Rattle.std.proofs.Common.{◌≡◌, ◌∙◌, ap, subst}
 use Rattle.std.specs.Prelude.{IfOk, string_bytes}
 use Rattle.iri_grammar.specs.Split.{split_of}
 use Rattle.iri_types.specs.SplitText.{split_text}
-use Rattle.iri_resolve.specs.NormalizedText.{written}
-use Rattle.iri_resolve.specs.Resolver.{base_text}
-use Rattle.iri_resolve.specs.Target.{takes_base_path}
-use Rattle.iri_resolve.proofs.ModeLemmas.{made-normal, written-canonical}
+use Rattle.iri_normal.specs.NormalizedText.{written}
+use Rattle.iri_normal.specs.Resolver.{base_text}
+use Rattle.iri_normal.specs.Target.{takes_base_path}
+use Rattle.iri_normal.proofs.ModeLemmas.{made-normal, written-canonical}
 use Rattle.iri_link.proofs.link.canonical_target.Goals as goal
 
 pub returns : goal.returns

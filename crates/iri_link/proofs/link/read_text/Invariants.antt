@@ -1,7 +1,7 @@
 use Rattle.std.proofs.Common.{length, map}
 use denote.Text.{Utf8}
 use denote.Shadow.{shadow}
-use Rattle.iri_resolve.specs.Resolver.{base_text}
+use Rattle.iri_normal.specs.Resolver.{base_text}
 use Rattle.iri_link.specs.Stored.{link_of}
 use Rattle.iri_link.specs.inside.ReadLinks.{ReadsUpTo}
 use Rattle.iri_link.proofs.link.read_text.Given as goal

@@ -2,12 +2,12 @@ use Rattle.std.proofs.Common.{◌≡◌, ◌∙◌, ◌++◌, ap, string_bytes}
 use Rattle.iri_grammar.specs.Split.{split_of}
 use Rattle.iri_types.specs.SplitText.{split_text}
 use Rattle.iri_types.specs.Texts.{text}
-use Rattle.iri_resolve.specs.NormalForm.{canonical}
-use Rattle.iri_resolve.specs.Normalized.{written_text}
-use Rattle.iri_resolve.specs.NormalizedText.{written}
-use Rattle.iri_resolve.specs.Resolver.{base_text}
-use Rattle.iri_resolve.specs.Target.{takes_base_path}
-use Rattle.iri_resolve.proofs.ModeLemmas.{made-normal, written-canonical}
+use Rattle.iri_normal.specs.NormalForm.{canonical}
+use Rattle.iri_normal.specs.Normalized.{written_text}
+use Rattle.iri_normal.specs.NormalizedText.{written}
+use Rattle.iri_normal.specs.Resolver.{base_text}
+use Rattle.iri_normal.specs.Target.{takes_base_path}
+use Rattle.iri_normal.proofs.ModeLemmas.{made-normal, written-canonical}
 use Rattle.iri_register.proofs.register.write_target.Goals as goal
 
 pub returns-in-Ok-try_append_to_string-clause-text : goal.returns-in-Ok-try_append_to_string-clause-text

@@ -2,7 +2,7 @@ use Rattle.std.proofs.Common.{◌≡◌, string_bytes, sym, ◌∙◌, ap}
 use Rattle.std.specs.Prelude.{is_some}
 use Rattle.std.specs.Str.{bytes_eq}
 use Rattle.iri_grammar.specs.Components.{is_path}
-use Rattle.iri_resolve.proofs.NormalLemmas.{is_some-now_of}
+use Rattle.iri_normal.proofs.NormalLemmas.{is_some-now_of}
 use Rattle.iri_resolve.proofs.StepLemmas.{dots-same, dots-other}
 use Rattle.iri_resolve.proofs.after_step.dots_removed.Goals as goal
 

@@ -2,7 +2,7 @@ use Rattle.std.proofs.Common.{◌≡◌, sym, subst, ◌∙◌, ap}
 use Rattle.std.specs.Prelude.{IfOk}
 use Rattle.iri_grammar.specs.OptionalSlices.{now_of}
 use Rattle.iri_resolve.specs.inside.PartTexts.{with_part}
-use Rattle.iri_resolve.specs.Resolver.{bytes_of}
+use Rattle.iri_normal.specs.Resolver.{bytes_of}
 use Rattle.iri_resolve.specs.Steps.{placed}
 use Rattle.iri_resolve.specs.declared.step.Part.TheVariants.{Authority}
 use Rattle.iri_resolve.specs.declared.step.Step.TheVariants.{HostLetter}

@@ -1,6 +1,6 @@
 use Rattle.std.proofs.Common.{Some, sym, ap, subst, ◌∙◌}
 use Rattle.iri_grammar.specs.Parts.{Fits}
-use Rattle.iri_resolve.specs.Resolver.{bytes_of}
+use Rattle.iri_normal.specs.Resolver.{bytes_of}
 use Rattle.iri_resolve.proofs.after_step.with_scheme.Goals as goal
 
 pub of-requires-clause-fits : goal.of-requires-clause-fits

@@ -2,7 +2,7 @@ use Rattle.std.proofs.Common.{◌≡◌, sym, ◌∙◌, ap, subst}
 use Rattle.std.specs.Prelude.{IfOk, slice_index}
 use Rattle.std.specs.Char.{is_ascii_uppercase}
 use Rattle.iri_resolve.specs.Changes.{is_in_triplet}
-use Rattle.iri_resolve.specs.Resolver.{bytes_of}
+use Rattle.iri_normal.specs.Resolver.{bytes_of}
 use Rattle.iri_resolve.proofs.Edits.{no_host_letter, letter_inside, letter_outside}
 use Rattle.iri_resolve.proofs.change.small_host_letter.Goals as goal
 

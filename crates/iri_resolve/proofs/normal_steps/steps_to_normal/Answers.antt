@@ -7,7 +7,7 @@ use Rattle.iri_percent.proofs.WholeLaws.{query-whole, fragment-whole}
 use Rattle.iri_resolve.specs.inside.NormalSteps.{SchemeLed, AuthorityLed, PathLed, PartLed}
 use Rattle.iri_resolve.specs.declared.step.Part.TheVariants.{Query, Fragment}
 use Rattle.iri_percent.proofs.Authorities.{part_whole}
-use Rattle.iri_resolve.proofs.NormalLemmas.{is_some-now_of}
+use Rattle.iri_normal.proofs.NormalLemmas.{is_some-now_of}
 use Rattle.iri_resolve.proofs.NormalStepLemmas.{all-led, rules-unguarded}
 use Rattle.iri_resolve.proofs.normal_steps.steps_to_normal.Goals as goal
 

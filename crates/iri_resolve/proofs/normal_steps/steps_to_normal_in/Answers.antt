@@ -2,7 +2,7 @@ use Rattle.std.proofs.Common.{◌≡◌, ◌++◌, ◌∙◌, ap, append_assoc}
 use Rattle.iri_grammar.specs.OptionalSlices.{now_of}
 use Rattle.iri_grammar.specs.Parts.{Parts}
 use Rattle.iri_percent.specs.SchemeRules.{dropped_port}
-use Rattle.iri_resolve.specs.NormalForm.{becomes_slash}
+use Rattle.iri_normal.specs.NormalForm.{becomes_slash}
 use Rattle.iri_resolve.specs.Steps.{replayed_in}
 use Rattle.iri_resolve.specs.inside.NormalSteps.{has_port, port_steps, slash_steps}
 use Rattle.iri_resolve.proofs.SchemeSteps.{led-on}

@@ -1,5 +1,5 @@
 use Rattle.std.specs.Vec.{vec_capacity}
-use Rattle.iri_resolve.specs.Resolver.{base_text}
+use Rattle.iri_normal.specs.Resolver.{base_text}
 use Rattle.iri_cli.proofs.CanonLemmas.{answers_line}
 use Rattle.iri_cli.proofs.canon.CanonAnswers.answer.Goals as goal
 

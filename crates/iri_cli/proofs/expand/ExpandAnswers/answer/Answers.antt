@@ -1,6 +1,6 @@
 use Rattle.std.proofs.Common.{◌∙◌, arith, false, refl, sym}
 use Rattle.std.specs.Vec.{vec_capacity, with_items}
-use Rattle.iri_resolve.specs.Resolver.{base_text}
+use Rattle.iri_normal.specs.Resolver.{base_text}
 use Rattle.iri_template.specs.Contexts.{value_in}
 use Rattle.iri_cli.specs.Refused.{bad_line}
 use Rattle.iri_cli.specs.ExpandLines.{bad, changes, expands}

@@ -1,0 +1,92 @@
+-- The canonical text in either normal form: it is valid, splits into the normal parts, and is its own canonical form.
+use Rattle.std.proofs.Common.{◌≡◌, ℕ, Bool, List, Option, Some, None, refl, sym, ◌∙◌, ap}
+use Rattle.std.specs.Prelude.{IsSome}
+use Rattle.iri_grammar.specs.Classes.{Tests, IsSpec}
+use Rattle.iri_grammar.specs.Parts.{Parts, Fits, Splits, IsReference, IsIri, IsAbsolute, recompose}
+use Rattle.iri_grammar.specs.Split.{split_of}
+use Rattle.iri_grammar.proofs.SplitUnique.{split_is}
+use Rattle.iri_percent.specs.declared.canon_mode.CanonMode.{CanonMode}
+use Rattle.iri_percent.specs.declared.canon_mode.CanonMode.TheVariants.{Default, Scheme}
+use Rattle.iri_normal.specs.Target.{target, target_under}
+use Rattle.iri_normal.specs.Modes.{mode_of}
+use Rattle.iri_normal.specs.Normalized.{written_text}
+use Rattle.iri_normal.specs.NormalForm.{form, normal_form, normal_form_in, canonical_parts_in, canonical, canonical_in}
+use Rattle.iri_normal.proofs.SchemeForm.{normal_in-fits, normal_in-stable}
+use Rattle.iri_normal.proofs.TargetLaws.{target-fits}
+
+-- ---- the canonical text
+pub canonical_in-text : (s : Tests) (m : CanonMode) (base reference : List ℕ)
+    → recompose (canonical_parts_in s m base reference) ≡ canonical_in s m base reference
+unfolding canonical
+canonical_in-text s Default base reference = refl
+canonical_in-text s Scheme base reference = refl
+
+-- a normal form doesn't look at whether the path is the base's, taken whole
+pub written-canonical : (s : Tests) (m : CanonMode) (whole : Bool) (base reference : List ℕ)
+    → written_text s (record { parts = target (split_of base) (split_of reference); whole = whole; mode = mode_of m })
+    ≡ canonical_in s m base reference
+unfolding canonical normal_form form
+written-canonical s Default whole base reference = refl
+written-canonical s Scheme whole base reference = refl
+
+parts-fit : (s : Tests) (m : CanonMode) (base reference : List ℕ) → IsSpec s → IsAbsolute s base → IsReference s reference
+    → Fits s (canonical_parts_in s m base reference) × IsSome (canonical_parts_in s m base reference).scheme
+parts-fit s m base reference k b r =
+    let eb = split_is s base b.0 k b.1 in
+    let er = split_is s reference r.0 k r.1 in
+    let t = target-fits s b.0 r.0 b.1.fits b.2 r.1.fits in
+    rw (eb, er) (normal_in-fits s m (target b.0 r.0) k t.0 t.1)
+
+pub canonical_in-splits : (s : Tests) (m : CanonMode) (base reference : List ℕ) → IsSpec s → IsAbsolute s base → IsReference s reference
+    → Splits s (canonical_in s m base reference) (canonical_parts_in s m base reference)
+canonical_in-splits s m base reference k b r = record { fits = (parts-fit s m base reference k b r).0; text = canonical_in-text s m base reference }
+
+pub canonical_in-iri : (s : Tests) (m : CanonMode) (base reference : List ℕ) → IsSpec s → IsAbsolute s base → IsReference s reference
+    → IsIri s (canonical_in s m base reference)
+canonical_in-iri s m base reference k b r = (
+  canonical_parts_in s m base reference,
+  canonical_in-splits s m base reference k b r,
+  (parts-fit s m base reference k b r).1,
+)
+
+pub canonical_in-split : (s : Tests) (m : CanonMode) (base reference : List ℕ) → IsSpec s → IsAbsolute s base → IsReference s reference
+    → split_of (canonical_in s m base reference) ≡ canonical_parts_in s m base reference
+canonical_in-split s m base reference k b r = split_is s (canonical_in s m base reference) (canonical_parts_in s m base reference) k
+    (canonical_in-splits s m base reference k b r)
+
+-- a reference with a scheme is its own target
+pub own-target : (base r : Parts) → IsSome r.scheme → target base r ≡ r
+unfolding target
+own-target base r i = at r.scheme i
+  where
+    at : (o : Option (List ℕ)) → IsSome o → target_under base r o r.authority ≡ r
+    at None j = cc
+    at (Some x) j = refl
+
+parts-stable : (s : Tests) (m : CanonMode) (base reference : List ℕ) → IsSpec s → IsAbsolute s base → IsReference s reference
+    → normal_form_in s m (canonical_parts_in s m base reference) ≡ canonical_parts_in s m base reference
+parts-stable s m base reference k b r =
+    let eb = split_is s base b.0 k b.1 in
+    let er = split_is s reference r.0 k r.1 in
+    let t = target-fits s b.0 r.0 b.1.fits b.2 r.1.fits in
+    rw (eb, er) (normal_in-stable s m (target b.0 r.0) k t.0)
+
+pub canonical_in-own : (s : Tests) (m : CanonMode) (base reference other : List ℕ) → IsSpec s → IsAbsolute s base → IsReference s reference
+    → canonical_in s m other (canonical_in s m base reference) ≡ canonical_in s m base reference
+canonical_in-own s m base reference other k b r =
+    let parts = canonical_parts_in s m base reference in
+    let text = canonical_in s m base reference in
+    let t : target (split_of other) parts ≡ parts = own-target (split_of other) parts (parts-fit s m base reference k b r).1 in
+    sym (canonical_in-text s m other text)
+    ∙ (ap (λ p. recompose (normal_form_in s m (target (split_of other) p))) (canonical_in-split s m base reference k b r)
+    ∙ (ap (λ p. recompose (normal_form_in s m p)) t
+    ∙ (ap recompose (parts-stable s m base reference k b r) ∙ canonical_in-text s m base reference)))
+
+-- ---- by the rules of every scheme
+pub canonical-iri : (s : Tests) (base reference : List ℕ) → IsSpec s → IsAbsolute s base → IsReference s reference
+    → IsIri s (canonical s base reference)
+canonical-iri s base reference k b r = canonical_in-iri s Default base reference k b r
+
+pub canonical-own : (s : Tests) (base reference other : List ℕ) → IsSpec s → IsAbsolute s base → IsReference s reference
+    → canonical s other (canonical s base reference) ≡ canonical s base reference
+canonical-own s base reference other k b r = canonical_in-own s Default base reference other k b r

@@ -1,0 +1,96 @@
+-- Texts that end with a slash, cut between their segments.
+use Rattle.std.proofs.Common.{◌≡◌, ℕ, zero, suc, ◌+◌, ◌-◌, ◌<◌, Bool, true, false, ◌||◌, List, [], ◌∷◌, ◌++◌, Some}
+use Rattle.std.proofs.Common.{length, take, drop, refl, sym, ◌∙◌, ap, arith, append_assoc, length-append, eq-eqb}
+use Rattle.std.specs.Prelude.{◌==◌, slice_index}
+use Rattle.std.proofs.lemmas.Bool.{eqb-true}
+use Rattle.std.proofs.lemmas.List.{drop_at, take_at}
+use Rattle.memchr.specs.Find.{is_byte, IsLastByte}
+use Rattle.iri_grammar.specs.Cut.{before, behind, lacks, marked}
+use Rattle.iri_grammar.proofs.CutLaws.{joined}
+use Rattle.iri_normal.specs.Target.{to_last_slash, ends_at_slash}
+use Rattle.iri_normal.proofs.SlashLemmas.{last_slash}
+
+-- ---- where a text ends with a slash
+take-ends-suc : (t : List ℕ) (i : ℕ) → i < length t → slice_index t i ≡ 47 → ends_at_slash (take (suc i) t) ≡ true
+take-ends-suc [] i l e = absurd (omega arith)
+take-ends-suc (x ∷ xs) zero l e = eq-eqb x 47 e
+take-ends-suc (x ∷ []) (suc i) l e = absurd (omega arith)
+take-ends-suc (x ∷ y ∷ ys) (suc i) l e = take-ends-suc (y ∷ ys) i (omega arith) e
+
+pub take-ends : (t : List ℕ) (i : ℕ) → i < length t → slice_index t i ≡ 47 → ends_at_slash (take (i + 1) t) ≡ true
+take-ends t i l e = let n : i + 1 ≡ suc i = omega arith in rw n (take-ends-suc t i l e)
+
+pub rest-ends : (a b : List ℕ) → ends_at_slash (a ++ b) ≡ true → ends_at_slash b ≡ true
+rest-ends [] b h = h
+rest-ends (x ∷ []) [] h = refl
+rest-ends (x ∷ []) (y ∷ ys) h = h
+rest-ends (x ∷ y ∷ ys) b h = rest-ends (y ∷ ys) b h
+
+pub both-end : (a b : List ℕ) → ends_at_slash a ≡ true → ends_at_slash b ≡ true → ends_at_slash (a ++ b) ≡ true
+both-end [] b h k = k
+both-end (x ∷ []) [] h k = h
+both-end (x ∷ []) (y ∷ ys) h k = k
+both-end (x ∷ y ∷ ys) b h k = both-end (y ∷ ys) b h k
+
+-- what ends with a slash, or of which nothing is taken away
+pub rest-ok : (a b : List ℕ) (n : ℕ) → (ends_at_slash (a ++ b) || n == 0) ≡ true → (ends_at_slash b || n == 0) ≡ true
+rest-ok [] b n h = h
+rest-ok (x ∷ []) [] n h = refl
+rest-ok (x ∷ []) (y ∷ ys) n h = h
+rest-ok (x ∷ y ∷ ys) b n h = rest-ok (y ∷ ys) b n h
+
+pub slash-ends : (s : List ℕ) → ends_at_slash (s ++ 47 ∷ []) ≡ true
+slash-ends [] = refl
+slash-ends (x ∷ []) = refl
+slash-ends (x ∷ y ∷ ys) = slash-ends (y ∷ ys)
+
+-- such a text is what stands before its last slash, and the slash
+pub record EndSlash (t : List ℕ) : Type 0 where
+  pub front : List ℕ
+  pub whole : t ≡ front ++ 47 ∷ []
+
+pub end_slash : (t : List ℕ) → ends_at_slash t ≡ true → 0 < length t → EndSlash t
+end_slash [] h l = absurd (omega arith)
+end_slash (x ∷ []) h l = record { front = []; whole = ap (λ c. c ∷ []) (eqb-true x 47 h) }
+end_slash (x ∷ y ∷ ys) h l = let r = end_slash (y ∷ ys) h (omega arith) in record { front = x ∷ r.front; whole = ap (λ l. x ∷ l) r.whole }
+
+pub without_end : (t : List ℕ) → ends_at_slash t ≡ true → 0 < length t → t ≡ take (length t - 1) t ++ 47 ∷ []
+without_end t h l =
+    let r = end_slash t h l in
+    let n : length r.front ≡ length t - 1 = omega (arith, ap length r.whole, length-append r.front (47 ∷ [])) in
+    let front : take (length t - 1) t ≡ r.front = ap (take (length t - 1)) r.whole ∙ take_at r.front (47 ∷ []) (length t - 1) n in
+    r.whole ∙ ap (λ f. f ++ 47 ∷ []) (sym front)
+
+-- ---- the last slash
+record LastCut (t : List ℕ) : Type 0 where
+  rest : List ℕ
+  whole : t ≡ to_last_slash t ++ rest
+  last : lacks 47 rest ≡ true
+
+last_cut : (t : List ℕ) → LastCut t
+last_cut [] = record { rest = []; whole = refl; last = refl }
+last_cut (x ∷ xs) =
+    let r = last_cut xs in
+    elim (lacks 47 (x ∷ xs)) as (λ b. lacks 47 (x ∷ xs) ≡ b → LastCut (x ∷ xs)) [
+      | true ↦ λ e. record { rest = x ∷ xs; whole = rw e refl; last = e }
+      | false ↦ λ e. record { rest = r.rest; whole = rw e (ap (λ l. x ∷ l) r.whole); last = r.last }
+    ] refl
+
+pub behind_last : (t a b : List ℕ) (k : ℕ) → IsLastByte (is_byte 47) t (Some k) → t ≡ a ++ b → length a ≡ k + 1 → lacks 47 b ≡ true
+behind_last t a b k h e n =
+    let r = last_cut t in
+    let front : a ≡ to_last_slash t = sym (ap (take (k + 1)) e ∙ take_at a b (k + 1) n) ∙ last_slash t k h in
+    let same : b ≡ r.rest = sym (ap (drop (k + 1)) e ∙ drop_at a b (k + 1) n)
+    ∙ (ap (drop (k + 1)) r.whole ∙ drop_at (to_last_slash t) r.rest (k + 1) (sym (ap length front) ∙ n)) in
+    ap (lacks 47) same ∙ r.last
+
+-- ---- segments without dots
+pub neither : (a b : Bool) → (a || b) ≡ false → (a ≡ false) × (b ≡ false)
+neither true b h = cc
+neither false b h = (refl, h)
+
+-- ---- the first segment
+
+-- what stands before it, and what follows
+pub first_whole : (t r : List ℕ) → behind 47 t ≡ Some r → t ≡ (before 47 t ++ 47 ∷ []) ++ r
+first_whole t r e = sym (joined 47 t) ∙ (ap (λ o. before 47 t ++ marked 47 o) e ∙ sym (append_assoc (before 47 t) (47 ∷ []) r))

@@ -1,0 +1,73 @@
+-- Texts written in a mode.
+use Rattle.std.proofs.Common.{◌≡◌, ℕ, Bool, false, List, Option, None, refl, sym, ◌∙◌, ap, subst}
+use Rattle.std.proofs.Math.Logic.{∥∥₁_elim}
+use Rattle.std.proofs.Props.{props}
+use Rattle.std.specs.Prelude.{IsSome}
+use Rattle.iri_grammar.specs.Classes.{Tests, IsSpec}
+use Rattle.iri_grammar.proofs.FaultLaws.{iri-law, no_fault_where_splits, splits_where_no_fault}
+use Rattle.iri_grammar.specs.Parts.{Parts, Fits, recompose}
+use Rattle.iri_grammar.specs.Split.{split_of}
+use Rattle.iri_grammar.proofs.SplitLaws.{recompose_split}
+use Rattle.iri_grammar.proofs.SplitUnique.{split_is}
+use Rattle.iri_grammar.specs.WholeFault.{reference_fault, iri_fault}
+use Rattle.iri_grammar.specs.declared.error.ErrorKind.{ErrorKind}
+use Rattle.iri_percent.specs.declared.canon_mode.CanonMode.{CanonMode}
+use Rattle.iri_percent.specs.declared.canon_mode.CanonMode.TheVariants.{Default, Scheme}
+use Rattle.iri_normal.proofs.ModeLaws.{normal-form}
+use Rattle.iri_normal.specs.Normalized.{AreSound, Written, written_text}
+use Rattle.iri_normal.specs.NormalForm.{canonical, canonical_in, form}
+use Rattle.iri_normal.specs.Modes.{mode_of}
+use Rattle.iri_normal.specs.Slices.{slices}
+use Rattle.iri_normal.specs.Target.{target}
+use Rattle.iri_normal.specs.declared.mode.Mode.TheVariants.{ByScheme, Normal}
+use Rattle.iri_normal.specs.declared.target.TargetSlices.{TargetSlices}
+use Rattle.iri_normal.proofs.CanonLemmas.{canonical_is}
+
+-- ---- what sound slices are
+pub sound-fits : (s : Tests) (fault : Tests → List ℕ → Option ErrorKind) (t : TargetSlices) → IsSpec s → ∥ AreSound s fault t ∥₁
+    → Fits s (slices t)
+sound-fits s fault t k h =
+    let x = recompose (slices t) in
+    let none : reference_fault s x ≡ None = ∥∥₁_elim h (hlevel props)
+    (λ a. no_fault_where_splits s k x (slices t) (record { fits = a.fits; text = refl })) in
+    let same : split_of x ≡ slices t = ∥∥₁_elim h (hlevel props) (λ a. split_is s x (slices t) k (record { fits = a.fits; text = refl })) in
+    subst (Fits s) same (splits_where_no_fault s x none).fits
+
+pub sound-valid : (s : Tests) (fault : Tests → List ℕ → Option ErrorKind) (t : TargetSlices) → ∥ AreSound s fault t ∥₁
+    → fault s (recompose (slices t)) ≡ None
+sound-valid s fault t h = ∥∥₁_elim h (hlevel props) (λ a. a.valid)
+
+-- ---- how they come to be
+pub target-sound : (s : Tests) (t : TargetSlices) → IsSpec s → Fits s (slices t) → IsSome (slices t).scheme
+    → ∥ AreSound s iri_fault t ∥₁
+target-sound s t k f i =
+    ∣ record { fits = f; valid = (iri-law s k (recompose (slices t))).1 (slices t, record { fits = f; text = refl }, i) } ∣₁
+
+pub view-sound : (s : Tests) (fault : Tests → List ℕ → Option ErrorKind) (t : TargetSlices) (x : List ℕ) → slices t ≡ split_of x
+    → Fits s (slices t) → fault s x ≡ None → ∥ AreSound s fault t ∥₁
+view-sound s fault t x e f h =
+    let whole : recompose (slices t) ≡ x = ap recompose e ∙ recompose_split x in
+    ∣ record { fits = f; valid = subst (λ y. fault s y ≡ None) (sym whole) h } ∣₁
+
+-- ---- the canonical text
+abbrev pub made-normal : Written → Written
+made-normal w = record w { mode = Normal }
+
+pub written-canonical : (s : Tests) (b r : List ℕ) (whole : Bool) (w : Written)
+    → w ≡ record { parts = target (split_of b) (split_of r); whole = whole; mode = Normal } → written_text s w ≡ canonical s b r
+written-canonical s b r whole w e =
+    let t = target (split_of b) (split_of r) in
+    ap (written_text s) e ∙ (ap recompose (normal-form s whole t) ∙ canonical_is s b r t refl)
+
+-- ---- in either normal form
+abbrev pub made-normal_in : CanonMode → Written → Written
+made-normal_in m w = record w { mode = mode_of m }
+
+by_scheme-whole : (s : Tests) (whole : Bool) (t : Parts) → form s ByScheme whole t ≡ form s ByScheme false t
+unfolding form
+by_scheme-whole s whole t = refl
+
+pub written-canonical_in : (s : Tests) (m : CanonMode) (b r : List ℕ) (whole : Bool) (w : Written)
+    → w ≡ record { parts = target (split_of b) (split_of r); whole = whole; mode = mode_of m } → written_text s w ≡ canonical_in s m b r
+written-canonical_in s Default b r whole w e = written-canonical s b r whole w e
+written-canonical_in s Scheme b r whole w e = ap (written_text s) e ∙ ap recompose (by_scheme-whole s whole (target (split_of b) (split_of r)))

@@ -1,0 +1,238 @@
+-- The first dot segment of a path.
+use Rattle.std.proofs.Common.{◌≡◌, ℕ, zero, suc, ◌+◌, ◌-◌, ◌<◌, ◌≤◌, Bool, true, false, cond, ◌&&◌, ◌||◌, List, [], ◌∷◌, ◌++◌, Option, Some, None}
+use Rattle.std.proofs.Common.{refl, sym, ◌∙◌, ap, subst, arith, length, take, drop, length-append, drop-cons, below_more}
+use Rattle.std.proofs.lemmas.Bool.{eqb-true}
+use Rattle.std.proofs.lemmas.Bool.Decides.{nat_tests}
+use Rattle.std.proofs.lemmas.List.{append-nil, length-take-le, take-append-drop}
+use Rattle.std.specs.Prelude.{◌==◌, slice_index}
+use Rattle.iri_grammar.specs.Cut.{before, behind}
+use Rattle.iri_grammar.proofs.CutLaws.{both, by_test}
+use Rattle.iri_grammar.proofs.PiecesLaws.{behind_shorter, pieces_cut}
+use Rattle.iri_grammar.specs.Parts.{is_empty}
+use Rattle.iri_normal.specs.DotRemoval.{is_all, is_one_dot_behind, is_two_dots}
+use Rattle.iri_normal.specs.Dots.{any_dot_segment, behind_dot, is_dot_segment, has_dot_segment}
+use Rattle.iri_normal.specs.Target.{ends_at_slash}
+use Rattle.iri_normal.specs.inside.DotSearch.{dots_in_front, slash_and_dots, dots_behind}
+use Rattle.iri_normal.proofs.DotLemmas.{cut_rest, dot_cut, empty_behind, first_or_behind, next_place, one_dot_first, plain_front, too_short, two_dots_first}
+use Rattle.iri_normal.proofs.EndedLemmas.{both-end, take-ends}
+use Rattle.iri_normal.proofs.PieceLaws.{nothing-is_no_dot}
+use Rattle.iri_normal.proofs.SegmentLemmas.{dot_in_two, nothing-plain}
+use Rattle.iri_normal.specs.inside.NextDots.{IsInFront, IsNext}
+use Rattle.iri_normal.specs.inside.Written.{left, or_nothing, written}
+use Rattle.iri_normal.proofs.WrittenLemmas.{left-ends, written-dot, written-run}
+
+-- ---- a dot segment at the start
+-- a dot has no slash in it
+pub behind-dot : (d r : List ℕ) → behind_dot d ≡ Some r → behind 47 d ≡ behind 47 r
+behind-dot [] r h = cc
+behind-dot (x ∷ []) r h =
+    by_test x 46 (λ b. cond b (Some []) None ≡ Some r → behind 47 (x ∷ []) ≡ behind 47 r) (λ e k. let n : [] ≡ r = cc in rw (e, ← n) refl)
+    (λ _ k. cc) h
+behind-dot (x ∷ y ∷ []) r h =
+    by_test x 46 (λ b. cond b (Some (y ∷ [])) None ≡ Some r → behind 47 (x ∷ y ∷ []) ≡ behind 47 r)
+    (λ e k. let n : y ∷ [] ≡ r = cc in rw (e, ← n) refl) (λ _ k. cc) h
+behind-dot (x ∷ y ∷ z ∷ xs) r h =
+    by_test x 46 (λ b. cond b (Some (y ∷ z ∷ xs)) (cond (x == 37 && y == 50 && (z == 69 || z == 101)) (Some xs) None) ≡ Some r
+    → behind 47 (x ∷ y ∷ z ∷ xs) ≡ behind 47 r)
+    (λ e k. let n : y ∷ z ∷ xs ≡ r = cc in rw (e, ← n) refl)
+    (λ _ k. elim (x == 37 && y == 50 && (z == 69 || z == 101)) as (λ b. (x == 37 && y == 50 && (z == 69 || z == 101)) ≡ b
+    → cond b (Some xs) None ≡ Some r → behind 47 (x ∷ y ∷ z ∷ xs) ≡ behind 47 r) [
+      | true ↦ λ t l. let n : xs ≡ r = cc in let m = slashless x y z t in rw (m.0, m.1, m.2, ← n) refl
+      | false ↦ λ _ l. cc
+    ] refl k)
+    h
+  where
+    slashless : (x y z : ℕ) → (x == 37 && y == 50 && (z == 69 || z == 101)) ≡ true
+        → ((x == 47) ≡ false) × ((y == 47) ≡ false) × ((z == 47) ≡ false)
+    slashless x y z t = (grind (arith, nat_tests), grind (arith, nat_tests), grind (arith, nat_tests))
+
+two-kind : (t r : List ℕ) → Some r ≡ behind_dot t → is_two_dots (before 47 t) ≡ is_all (cut_rest (behind_dot r))
+two-kind t r h = ap is_one_dot_behind (dot_cut t ∙ ap cut_rest (sym h)) ∙ ap is_all (dot_cut r)
+
+nothing-before : (xs : List ℕ) → is_empty xs ≡ true → [] ≡ xs
+nothing-before [] h = refl
+nothing-before (x ∷ xs) h = cc
+
+pub in_front-one : (t r q : List ℕ) → Some r ≡ behind_dot t → is_empty (before 47 r) ≡ true → q ≡ or_nothing (behind 47 r)
+    → IsInFront t false q
+in_front-one t r q h e w = record {
+  dots = one_dot_first t r h e;
+  kind = sym (ap is_one_dot_behind (dot_cut t ∙ ap cut_rest (sym h))
+      ∙ ap (λ l. is_all (behind_dot l)) (sym (nothing-before (before 47 r) e)));
+  rest_is = w ∙ ap or_nothing (sym (behind-dot t r (sym h)));
+}
+
+pub in_front-two : (t r s q : List ℕ) → Some r ≡ behind_dot t → is_empty (before 47 r) ≡ false → Some s ≡ behind_dot r
+    → is_empty (before 47 s) ≡ true → q ≡ or_nothing (behind 47 s) → IsInFront t true q
+in_front-two t r s q h e k f w =
+    let n = nothing-before (before 47 s) f in
+    record {
+      dots = two_dots_first t r h e ∙ (ap (λ o. empty_behind (cut_rest o)) (sym k) ∙ f);
+      kind = sym (two-kind t r h ∙ (ap (λ o. is_all (cut_rest o)) (sym k) ∙ ap (λ l. is_all (Some l)) (sym n)));
+      rest_is = w ∙ ap or_nothing (sym (behind-dot t r (sym h) ∙ behind-dot r s (sym k)));
+    }
+
+pub none-second : (t r : List ℕ) → Some r ≡ behind_dot t → is_empty (before 47 r) ≡ false → None ≡ behind_dot r
+    → is_dot_segment (before 47 t) ≡ false
+none-second t r h e k = two_dots_first t r h e ∙ ap (λ o. empty_behind (cut_rest o)) (sym k)
+
+pub none-end : (t r s : List ℕ) → Some r ≡ behind_dot t → is_empty (before 47 r) ≡ false → Some s ≡ behind_dot r
+    → is_empty (before 47 s) ≡ false → is_dot_segment (before 47 t) ≡ false
+none-end t r s h e k f = two_dots_first t r h e ∙ (ap (λ o. empty_behind (cut_rest o)) (sym k) ∙ f)
+
+-- ---- places without one
+or_right : (a : Bool) {b : Bool} → b ≡ true → (a || b) ≡ true
+or_right true h = refl
+or_right false h = h
+
+pub before-ended : (x : ℕ) (xs m : List ℕ) → ends_at_slash (x ∷ xs) ≡ true → before 47 ((x ∷ xs) ++ m) ≡ before 47 (x ∷ xs)
+before-ended x [] m h = rw h refl
+before-ended x (y ∷ ys) m h = ap (λ l. cond (x == 47) [] (x ∷ l)) (before-ended y ys m h)
+
+before-cut : (x : ℕ) (xs m : List ℕ) → (is_empty m || ends_at_slash (x ∷ xs)) ≡ true → before 47 ((x ∷ xs) ++ m) ≡ before 47 (x ∷ xs)
+before-cut x xs [] h = ap (before 47) (append-nil (x ∷ xs))
+before-cut x xs (y ∷ ys) h = before-ended x xs (y ∷ ys) h
+
+pub none-behind : (a m : List ℕ) → (is_empty m || ends_at_slash a) ≡ true
+    → ((k : ℕ) → k + 1 < length a → slash_and_dots (drop k (a ++ m)) ≡ false) → dots_behind a ≡ false
+none-behind [] m h n = refl
+none-behind (x ∷ []) m h n = too_short (x ∷ []) (omega arith)
+none-behind (x ∷ y ∷ ys) m h n =
+    let first : slash_and_dots (x ∷ y ∷ ys) ≡ false =
+    ap (λ l. x == 47 && is_dot_segment l) (sym (before-cut y ys m h)) ∙ n 0 (omega arith) in
+    next_place (x ∷ y ∷ ys) (omega arith) ∙ rw first (none-behind (y ∷ ys) m h (λ k l. n (suc k) (omega arith)))
+
+none-before : (a m : List ℕ) → (is_empty m || ends_at_slash a) ≡ true → is_dot_segment (before 47 (a ++ m)) ≡ false
+    → ((k : ℕ) → k + 1 < length a → slash_and_dots (drop k (a ++ m)) ≡ false) → has_dot_segment a ≡ false
+none-before [] m h f n = nothing-plain
+none-before (x ∷ xs) m h f n =
+    let first : dots_in_front (x ∷ xs) ≡ false = ap is_dot_segment (sym (before-cut x xs m h)) ∙ f in
+    first_or_behind (x ∷ xs) ∙ rw first (none-behind (x ∷ xs) m h n)
+
+pub none-there : (t : List ℕ) (i : ℕ) → length t ≤ i → is_dot_segment (before 47 t) ≡ false
+    → ((k : ℕ) → k + 1 < i → slash_and_dots (drop k t) ≡ false) → has_dot_segment t ≡ false
+none-there t i l f n =
+    let whole = append-nil t in
+    none-before t [] refl (ap (λ u. is_dot_segment (before 47 u)) whole ∙ f)
+    (λ k m. ap (λ u. slash_and_dots (drop k u)) whole ∙ n k (omega arith))
+
+-- the first one
+pub found : (t : List ℕ) (i : ℕ) (two : Bool) (r : List ℕ) → 1 ≤ i → i < length t → is_dot_segment (before 47 t) ≡ false
+    → ((k : ℕ) → k + 1 < i → slash_and_dots (drop k t) ≡ false) → slash_and_dots (drop (i - 1) t) ≡ true
+    → IsInFront (drop i t) two r → IsNext t (take i t) two r
+found t i two r low l f n s h =
+    let whole = take-append-drop i t in
+    let at : drop (i - 1) t ≡ slice_index t (i - 1) ∷ drop (suc (i - 1)) t = drop-cons t (i - 1) 0 (omega arith) in
+    let byte : slice_index t (i - 1) ≡ 47 = eqb-true (slice_index t (i - 1)) 47
+    (both (slice_index t (i - 1) == 47) (dots_in_front (drop (suc (i - 1)) t)) (ap slash_and_dots (sym at) ∙ s)).0 in
+    let place : i - 1 + 1 ≡ i = omega arith in
+    let ends : ends_at_slash (take i t) ≡ true = subst (λ k. ends_at_slash (take k t) ≡ true) place (take-ends t (i - 1) (omega arith) byte) in
+    let size : length (take i t) ≡ i = length-take-le i t (omega arith) in
+    record {
+      more = drop i t;
+      whole = sym whole;
+      ends = ends;
+      plain = none-before (take i t) (drop i t) (or_right (is_empty (drop i t)) ends) (ap (λ u. is_dot_segment (before 47 u)) whole ∙ f)
+          (λ k m. ap (λ u. slash_and_dots (drop k u)) whole ∙ n k (omega arith));
+      front = h;
+    }
+
+-- ---- places that are passed
+and_false : (b : Bool) → (b && false) ≡ false
+and_false true = refl
+and_false false = refl
+
+place-none : (t : List ℕ) (i : ℕ) → 1 ≤ i → i < length t → is_dot_segment (before 47 (drop i t)) ≡ false
+    → slash_and_dots (drop (i - 1) t) ≡ false
+place-none t i low l h =
+    let place : suc (i - 1) ≡ i = omega arith in
+    let at : drop (i - 1) t ≡ slice_index t (i - 1) ∷ drop (suc (i - 1)) t = drop-cons t (i - 1) 0 (omega arith) in
+    let rest : is_dot_segment (before 47 (drop (suc (i - 1)) t)) ≡ false = ap (λ k. is_dot_segment (before 47 (drop k t))) place ∙ h in
+    ap slash_and_dots at ∙ rw rest (and_false (slice_index t (i - 1) == 47))
+
+place-other : (t : List ℕ) (i : ℕ) → i < length t → (slice_index t i == 47) ≡ false → slash_and_dots (drop i t) ≡ false
+place-other t i l h = ap slash_and_dots (drop-cons t i 0 l) ∙ rw h refl
+
+plain-at : (t : List ℕ) (i : ℕ) → i < length t → (slice_index t i == 46) ≡ false → (slice_index t i == 37) ≡ false
+    → is_dot_segment (before 47 (drop i t)) ≡ false
+plain-at t i l h k = ap (λ u. is_dot_segment (before 47 u)) (drop-cons t i 0 l) ∙ plain_front (slice_index t i) (drop (suc i) t) h k
+
+other-than : (x c : ℕ) → (x ≡ c → ⊥) → (x == c) ≡ false
+other-than x c n = by_test x c (λ b. b ≡ false) (λ e. absurd (n e)) (λ _. refl)
+
+more-none : (t : List ℕ) (i : ℕ) → 1 ≤ i → ((k : ℕ) → k + 1 < i → slash_and_dots (drop k t) ≡ false)
+    → slash_and_dots (drop (i - 1) t) ≡ false → (k : ℕ) → k + 1 < i + 1 → slash_and_dots (drop k t) ≡ false
+more-none t i low n h k l = below_more (λ j. slash_and_dots (drop j t) ≡ false) (i - 1) (λ j m. n j (omega arith)) h k (omega arith)
+
+pub pass-slash : (t : List ℕ) (i : ℕ) → 1 ≤ i → i < length t → slice_index t i ≡ 47
+    → ((k : ℕ) → k + 1 < i → slash_and_dots (drop k t) ≡ false) → (k : ℕ) → k + 1 < i + 1 → slash_and_dots (drop k t) ≡ false
+pass-slash t i low l e n =
+    more-none t i low n (place-none t i low l (plain-at t i l (ap (λ x. x == 46) e) (ap (λ x. x == 37) e)))
+
+pass-both : (t : List ℕ) (i : ℕ) → 1 ≤ i → i < length t → slash_and_dots (drop (i - 1) t) ≡ false → (slice_index t i == 47) ≡ false
+    → ((k : ℕ) → k + 1 < i → slash_and_dots (drop k t) ≡ false) → (k : ℕ) → k + 1 < i + 2 → slash_and_dots (drop k t) ≡ false
+pass-both t i low l h o n k m =
+    let place : i ≡ i + 1 - 1 = omega arith in
+    more-none t (i + 1) (omega arith) (more-none t i low n h)
+    (subst (λ j. slash_and_dots (drop j t) ≡ false) place (place-other t i l o)) k (omega arith)
+
+pub pass-plain : (t : List ℕ) (i : ℕ) → 1 ≤ i → i < length t → 47 < slice_index t i
+    → ((k : ℕ) → k + 1 < i → slash_and_dots (drop k t) ≡ false) → (k : ℕ) → k + 1 < i + 2 → slash_and_dots (drop k t) ≡ false
+pass-plain t i low l o n =
+    pass-both t i low l (place-none t i low l (plain-at t i l (other 46 (omega arith)) (other 37 (omega arith)))) (other 47 (omega arith)) n
+  where
+    other : (c : ℕ) → c ≤ 47 → (slice_index t i == c) ≡ false
+    other c a = other-than (slice_index t i) c (λ e. omega arith)
+
+pub pass-lanes : (t : List ℕ) (i j : ℕ) → 1 ≤ i → ((k : ℕ) → k < j → slash_and_dots (drop (i - 1 + k) t) ≡ false)
+    → ((k : ℕ) → k + 1 < i → slash_and_dots (drop k t) ≡ false) → (k : ℕ) → k + 1 < i + j → slash_and_dots (drop k t) ≡ false
+pass-lanes t i zero low h n k m = n k (omega arith)
+pass-lanes t i (suc j) low h n k m =
+    let place : i - 1 + j ≡ i + j - 1 = omega arith in
+    more-none t (i + j) (omega arith) (pass-lanes t i j low (λ a b. h a (omega arith)) n)
+    (subst (λ q. slash_and_dots (drop q t) ≡ false) place (h j (omega arith))) k (omega arith)
+
+-- ---- what follows from it
+pub next-more : (m : List ℕ) → is_dot_segment (before 47 m) ≡ true → 0 < length m
+next-more [] h = let n : false ≡ true = sym nothing-is_no_dot ∙ h in cc
+next-more (x ∷ xs) h = omega arith
+
+rest-shorter : (m : List ℕ) (o : Option (List ℕ)) → 0 < length m → behind 47 m ≡ o → length (or_nothing o) < length m
+rest-shorter m None l e = l
+rest-shorter m (Some r) l e = omega (arith, behind_shorter 47 m r e)
+
+pub next-shorter : (t a : List ℕ) (two : Bool) (r : List ℕ) → IsNext t a two r → length a + length r < length t
+next-shorter t a two r h =
+    let l = next-more h.more h.front.dots in
+    let s = rest-shorter h.more (behind 47 h.more) l refl in
+    omega (arith, ap length h.whole, length-append a h.more, ap length h.front.rest_is, s)
+
+not-empty : (t : List ℕ) → 0 < length t → is_empty t ≡ false
+not-empty [] l = absurd (omega arith)
+not-empty (x ∷ xs) l = refl
+
+or_second : (a b : Bool) → a ≡ false → (a || b) ≡ true → b ≡ true
+or_second true b e h = cc
+or_second false b e h = h
+
+pub next-ends : (b t a : List ℕ) (two : Bool) (r : List ℕ) → IsNext t a two r → (is_empty t || ends_at_slash b) ≡ true
+    → ends_at_slash (b ++ a) ≡ true
+next-ends b t a two r h e =
+    let s = next-shorter t a two r h in
+    both-end b a (or_second (is_empty t) (ends_at_slash b) (not-empty t (omega arith)) e) h.ends
+
+pub left-next : (two : Bool) (b r : List ℕ) → ends_at_slash b ≡ true → (is_empty r || ends_at_slash (left two b)) ≡ true
+left-next two b r h = or_right (is_empty r) (left-ends two b h)
+
+pub written-next : (b t a : List ℕ) (two : Bool) (r : List ℕ) → IsNext t a two r → written b t ≡ written (left two (b ++ a)) r
+written-next b t a two r h =
+    ap (written b) h.whole
+    ∙ (written-run b a h.more h.ends h.plain
+    ∙ (written-dot (b ++ a) h.more h.front.dots
+    ∙ (ap (λ k. written (left k (b ++ a)) (or_nothing (behind 47 h.more))) (sym h.front.kind)
+    ∙ ap (written (left two (b ++ a))) (sym h.front.rest_is))))
+
+pub next-dotted : (t a : List ℕ) (two : Bool) (r : List ℕ) → IsNext t a two r → has_dot_segment t ≡ true
+next-dotted t a two r h =
+    let more : has_dot_segment h.more ≡ true = ap any_dot_segment (pieces_cut 47 h.more) ∙ rw h.front.dots refl in
+    ap has_dot_segment h.whole ∙ (dot_in_two a h.more h.ends ∙ or_right (has_dot_segment a) more)

@@ -1,0 +1,112 @@
+-- Dot removal over segments and over the output's text.
+use Rattle.std.proofs.Common.{◌≡◌, ℕ, Bool, true, false, cond, not, ◌&&◌, List, [], ◌∷◌, ◌++◌, refl, sym, ◌∙◌, ap}
+use Rattle.std.specs.Prelude.{◌==◌}
+use Rattle.iri_grammar.specs.Cut.{lacks}
+use Rattle.iri_grammar.proofs.CutLaws.{both}
+use Rattle.iri_grammar.specs.Pieces.{pieces}
+use Rattle.iri_normal.specs.Dots.{is_dot_segment}
+use Rattle.iri_normal.specs.DotRemoval.{is_two_dots, without_last, without_top, closed, remove_behind, remove_dots, path_text, dots}
+use Rattle.iri_normal.proofs.PieceLaws.{all_lack, pieces-lack}
+
+-- the segments that follow a slash, behind the text that was put out
+abbrev pub closed_text : List (List ℕ) → List ℕ → List ℕ
+closed_text [] output = output ++ 47 ∷ []
+closed_text (s ∷ ss) output = output
+
+abbrev pub text_behind : List ℕ → List (List ℕ) → List ℕ
+text_behind output [] = output
+text_behind output (s ∷ ss) = cond (is_dot_segment s) (text_behind (closed_text ss (cond (is_two_dots s) (without_last output) output)) ss)
+    (text_behind (output ++ 47 ∷ s) ss)
+
+abbrev pub text_from : List ℕ → List (List ℕ) → List ℕ
+text_from output [] = output
+text_from output (s ∷ ss) = cond (is_dot_segment s) (text_from output ss) (text_behind (output ++ s) ss)
+
+-- at least one segment, and none has a slash
+abbrev pub is_output : List (List ℕ) → Bool
+is_output [] = false
+is_output (s ∷ ss) = all_lack (s ∷ ss)
+
+pub output-lack : (st : List (List ℕ)) → is_output st ≡ true → all_lack st ≡ true
+output-lack [] h = cc
+output-lack (s ∷ ss) h = h
+
+pub output-without_top : (st : List (List ℕ)) → is_output st ≡ true → is_output (without_top st) ≡ true
+output-without_top [] h = refl
+output-without_top (s ∷ []) h = refl
+output-without_top (s ∷ t ∷ ss) h = (both (lacks 47 s) (all_lack (t ∷ ss)) h).1
+
+pub output-push : (s : List ℕ) (st : List (List ℕ)) → lacks 47 s ≡ true → is_output st ≡ true → is_output (s ∷ st) ≡ true
+output-push s st h k = rw h (output-lack st k)
+
+pub output-closed : (ss st : List (List ℕ)) → is_output st ≡ true → is_output (closed ss st) ≡ true
+output-closed [] st h = output-push [] st refl h
+output-closed (s ∷ ss) st h = h
+
+pub text-push : (s : List ℕ) (st : List (List ℕ)) → is_output st ≡ true → path_text (s ∷ st) ≡ path_text st ++ 47 ∷ s
+text-push s [] h = cc
+text-push s (t ∷ ts) h = refl
+
+-- the output's last segment
+lacks_slash : (xs ys : List ℕ) → lacks 47 (xs ++ 47 ∷ ys) ≡ false
+lacks_slash [] ys = refl
+lacks_slash (x ∷ xs) ys = elim (x == 47) as (λ b. (not b && lacks 47 (xs ++ 47 ∷ ys)) ≡ false) [ true ↦ refl | false ↦ lacks_slash xs ys ]
+
+pub without_last-slash : (xs ys : List ℕ) → lacks 47 ys ≡ true → without_last (xs ++ 47 ∷ ys) ≡ xs
+without_last-slash [] ys h = rw h refl
+without_last-slash (x ∷ xs) ys h = rw (lacks_slash xs ys) (ap (λ zs. x ∷ zs) (without_last-slash xs ys h))
+
+pub without_last-all : (xs : List ℕ) → lacks 47 xs ≡ true → without_last xs ≡ []
+without_last-all [] h = refl
+without_last-all (x ∷ xs) h = rw ((both (not (x == 47)) (lacks 47 xs) h).1) refl
+
+pub text-without_top : (st : List (List ℕ)) → is_output st ≡ true → without_last (path_text st) ≡ path_text (without_top st)
+text-without_top [] h = refl
+text-without_top (s ∷ []) h = without_last-all s (both (lacks 47 s) true h).0
+text-without_top (s ∷ t ∷ ss) h = without_last-slash (path_text (t ∷ ss)) s (both (lacks 47 s) (all_lack (t ∷ ss)) h).0
+
+pub text-closed : (ss st : List (List ℕ)) → is_output st ≡ true → closed_text ss (path_text st) ≡ path_text (closed ss st)
+text-closed [] st h = sym (text-push [] st h)
+text-closed (s ∷ ss) st h = refl
+
+-- what a dot segment leaves
+abbrev pub left : Bool → List (List ℕ) → List (List ℕ)
+left two st = cond two (without_top st) st
+
+pub output-left : (two : Bool) (st : List (List ℕ)) → is_output st ≡ true → is_output (left two st) ≡ true
+output-left true st h = output-without_top st h
+output-left false st h = h
+
+pub text-left : (two : Bool) (st : List (List ℕ)) → is_output st ≡ true
+    → cond two (without_last (path_text st)) (path_text st) ≡ path_text (left two st)
+text-left true st h = text-without_top st h
+text-left false st h = refl
+
+pub text-behind : (st ss : List (List ℕ)) → is_output st ≡ true → all_lack ss ≡ true
+    → text_behind (path_text st) ss ≡ path_text (remove_behind st ss)
+text-behind st [] h k = refl
+text-behind st (s ∷ ss) h k =
+    let parts = both (lacks 47 s) (all_lack ss) k in
+    let l = output-left (is_two_dots s) st h in
+    elim (is_dot_segment s) as (λ b. cond b (text_behind
+    (closed_text ss (cond (is_two_dots s) (without_last (path_text st)) (path_text st))) ss) (text_behind (path_text st ++ 47 ∷ s) ss)
+    ≡ path_text (cond b (remove_behind (closed ss (left (is_two_dots s) st)) ss) (remove_behind (s ∷ st) ss))) [
+      | true ↦ ap (λ o. text_behind (closed_text ss o) ss) (text-left (is_two_dots s) st h)
+          ∙ (ap (λ o. text_behind o ss) (text-closed ss (left (is_two_dots s) st) l)
+          ∙ text-behind (closed ss (left (is_two_dots s) st)) ss (output-closed ss (left (is_two_dots s) st) l) parts.1)
+      | false ↦ ap (λ o. text_behind o ss) (sym (text-push s st h)) ∙ text-behind (s ∷ st) ss (output-push s st parts.0 h) parts.1
+    ]
+
+text-from : (ss : List (List ℕ)) → all_lack ss ≡ true → text_from [] ss ≡ path_text (remove_dots ss)
+text-from [] h = refl
+text-from (s ∷ ss) h =
+    let parts = both (lacks 47 s) (all_lack ss) h in
+    elim (is_dot_segment s) as (λ b. cond b (text_from [] ss) (text_behind s ss)
+    ≡ path_text (cond b (remove_dots ss) (remove_behind (s ∷ []) ss))) [
+      | true ↦ text-from ss parts.1
+      | false ↦ text-behind (s ∷ []) ss (rw parts.0 refl) parts.1
+    ]
+
+pub dots-text : (p : List ℕ) → text_from [] (pieces 47 p) ≡ dots p
+unfolding dots
+dots-text p = text-from (pieces 47 p) (pieces-lack p)

@@ -1,0 +1,148 @@
+-- The segments of a path.
+use Rattle.std.proofs.Common.{◌≡◌, ℕ, Bool, true, false, cond, not, ◌&&◌, ◌||◌, List, [], ◌∷◌, ◌++◌, Option, Some, None, refl, sym, ◌∙◌}
+use Rattle.std.proofs.Common.{ap, subst, arith}
+use Rattle.std.specs.Prelude.{◌==◌}
+use Rattle.std.proofs.lemmas.Bool.Decides.{nat_tests}
+use Rattle.iri_grammar.specs.Cut.{lacks}
+use Rattle.iri_grammar.proofs.CutLaws.{by_test, both}
+use Rattle.iri_grammar.specs.Pieces.{pieces, onto}
+use Rattle.iri_normal.specs.Dots.{behind_dot, is_dot_segment, is_dot_segment_behind, is_dot_or_nothing}
+use Rattle.iri_normal.specs.DotRemoval.{is_all, is_one_dot, is_one_dot_behind, is_two_dots}
+
+-- each of the texts lacks the slash
+abbrev pub all_lack : List (List ℕ) → Bool
+all_lack [] = true
+all_lack (s ∷ ss) = lacks 47 s && all_lack ss
+
+-- a text has at least one piece
+pub record Pieces (xs : List ℕ) : Type 0 where
+  pub first : List ℕ
+  pub rest : List (List ℕ)
+  pub whole : pieces 47 xs ≡ first ∷ rest
+
+pub pieces-some : (xs : List ℕ) → Pieces xs
+pieces-some [] = record { first = []; rest = []; whole = refl }
+pieces-some (x ∷ xs) =
+    let r = pieces-some xs in
+    elim (x == 47) as (λ b. (x == 47) ≡ b → Pieces (x ∷ xs)) [
+      | true ↦ λ e. record { first = []; rest = pieces 47 xs; whole = rw e refl }
+      | false ↦ λ e. record { first = x ∷ r.first; rest = r.rest; whole = rw e (ap (onto x) r.whole) }
+    ] refl
+
+pub pieces-append : (xs ys : List ℕ) → pieces 47 (xs ++ 47 ∷ ys) ≡ pieces 47 xs ++ pieces 47 ys
+pieces-append [] ys = refl
+pieces-append (x ∷ xs) ys =
+    let r = pieces-some xs in
+    elim (x == 47) as (λ b. cond b ([] ∷ pieces 47 (xs ++ 47 ∷ ys)) (onto x (pieces 47 (xs ++ 47 ∷ ys)))
+    ≡ cond b ([] ∷ pieces 47 xs) (onto x (pieces 47 xs)) ++ pieces 47 ys) [
+      | true ↦ ap (λ ps. [] ∷ ps) (pieces-append xs ys)
+      | false ↦ ap (onto x) (pieces-append xs ys) ∙ (rw r.whole refl)
+    ]
+
+pub pieces-whole : (xs : List ℕ) → lacks 47 xs ≡ true → pieces 47 xs ≡ xs ∷ []
+pieces-whole [] h = refl
+pieces-whole (x ∷ xs) h =
+    elim (x == 47) as (λ b. (not b && lacks 47 xs) ≡ true
+    → cond b ([] ∷ pieces 47 xs) (onto x (pieces 47 xs)) ≡ (x ∷ xs) ∷ []) [
+      | true ↦ λ k. cc
+      | false ↦ λ k. ap (onto x) (pieces-whole xs k)
+    ] h
+
+pub pieces-slash : (xs ys : List ℕ) → lacks 47 xs ≡ true → pieces 47 (xs ++ 47 ∷ ys) ≡ xs ∷ pieces 47 ys
+pieces-slash xs ys h = pieces-append xs ys ∙ ap (λ ps. ps ++ pieces 47 ys) (pieces-whole xs h)
+
+pub pieces-lack : (xs : List ℕ) → all_lack (pieces 47 xs) ≡ true
+pieces-lack [] = refl
+pieces-lack (x ∷ xs) =
+    let r = pieces-some xs in
+    let k = both (lacks 47 r.first) (all_lack r.rest) (subst (λ ps. all_lack ps ≡ true) r.whole (pieces-lack xs)) in
+    elim (x == 47) as (λ b. (x == 47) ≡ b → all_lack (cond b ([] ∷ pieces 47 xs) (onto x (pieces 47 xs))) ≡ true) [
+      | true ↦ λ _. pieces-lack xs
+      | false ↦ λ e. rw (r.whole, e, k.0) k.1
+    ] refl
+
+-- ---- dot segments
+-- a dot has no slash in it
+pub behind_dot-lacks : (d r : List ℕ) → behind_dot d ≡ Some r → lacks 47 d ≡ lacks 47 r
+behind_dot-lacks [] r h = cc
+behind_dot-lacks (x ∷ []) r h =
+    by_test x 46 (λ b. cond b (Some []) None ≡ Some r → lacks 47 (x ∷ []) ≡ lacks 47 r) (λ e k. let n : [] ≡ r = cc in rw (e, ← n) refl)
+    (λ _ k. cc) h
+behind_dot-lacks (x ∷ y ∷ []) r h =
+    by_test x 46 (λ b. cond b (Some (y ∷ [])) None ≡ Some r → lacks 47 (x ∷ y ∷ []) ≡ lacks 47 r)
+    (λ e k. let n : y ∷ [] ≡ r = cc in rw (e, ← n) refl) (λ _ k. cc) h
+behind_dot-lacks (x ∷ y ∷ z ∷ xs) r h =
+    by_test x 46 (λ b. cond b (Some (y ∷ z ∷ xs)) (cond (x == 37 && y == 50 && (z == 69 || z == 101)) (Some xs) None) ≡ Some r
+    → lacks 47 (x ∷ y ∷ z ∷ xs) ≡ lacks 47 r)
+    (λ e k. let n : y ∷ z ∷ xs ≡ r = cc in rw (e, ← n) refl)
+    (λ _ k. elim (x == 37 && y == 50 && (z == 69 || z == 101)) as (λ b. (x == 37 && y == 50 && (z == 69 || z == 101)) ≡ b
+    → cond b (Some xs) None ≡ Some r → lacks 47 (x ∷ y ∷ z ∷ xs) ≡ lacks 47 r) [
+      | true ↦ λ t l. let n : xs ≡ r = cc in let m = slashless x y z t in rw (m.0, m.1, m.2, ← n) refl
+      | false ↦ λ _ l. cc
+    ] refl k)
+    h
+  where
+    slashless : (x y z : ℕ) → (x == 37 && y == 50 && (z == 69 || z == 101)) ≡ true
+        → ((x == 47) ≡ false) × ((y == 47) ≡ false) × ((z == 47) ≡ false)
+    slashless x y z t = (grind (arith, nat_tests), grind (arith, nat_tests), grind (arith, nat_tests))
+
+nothing_or_dot-lacks : (r : List ℕ) → is_dot_or_nothing r ≡ true → lacks 47 r ≡ true
+nothing_or_dot-lacks [] h = refl
+nothing_or_dot-lacks (x ∷ xs) h = by_rest (behind_dot (x ∷ xs)) refl
+  where
+    by_rest : (o : Option (List ℕ)) → behind_dot (x ∷ xs) ≡ o → lacks 47 (x ∷ xs) ≡ true
+    by_rest None e = let n : false ≡ true = rw e at h in cc
+    by_rest (Some []) e = behind_dot-lacks (x ∷ xs) [] e
+    by_rest (Some (y ∷ ys)) e = let n : false ≡ true = rw e at h in cc
+
+pub dot_segment-lacks : (d : List ℕ) → is_dot_segment d ≡ true → lacks 47 d ≡ true
+unfolding is_dot_segment
+dot_segment-lacks d h = by_rest (behind_dot d) refl h
+  where
+    by_rest : (o : Option (List ℕ)) → behind_dot d ≡ o → is_dot_segment_behind o ≡ true → lacks 47 d ≡ true
+    by_rest None e k = cc
+    by_rest (Some r) e k = behind_dot-lacks d r e ∙ nothing_or_dot-lacks r k
+
+-- a dot segment is one dot or two
+pub dot_kinds : (d : List ℕ) → is_dot_segment d ≡ (is_one_dot d || is_two_dots d)
+unfolding is_dot_segment
+dot_kinds d = by_rest (behind_dot d)
+  where
+    second : (x : ℕ) (xs : List ℕ) (o : Option (List ℕ)) → behind_dot (x ∷ xs) ≡ o → is_dot_or_nothing (x ∷ xs) ≡ is_one_dot (x ∷ xs)
+    second x xs None e = rw e refl
+    second x xs (Some []) e = rw e refl
+    second x xs (Some (y ∷ ys)) e = rw e refl
+
+    by_rest : (o : Option (List ℕ)) → is_dot_segment_behind o ≡ (is_all o || is_one_dot_behind o)
+    by_rest None = refl
+    by_rest (Some []) = refl
+    by_rest (Some (x ∷ xs)) = second x xs (behind_dot (x ∷ xs)) refl
+
+pub one_dot-is_not_two : (d : List ℕ) → is_one_dot d ≡ true → is_two_dots d ≡ false
+one_dot-is_not_two d h = by_rest (behind_dot d) h
+  where
+    by_rest : (o : Option (List ℕ)) → is_all o ≡ true → is_one_dot_behind o ≡ false
+    by_rest None k = cc
+    by_rest (Some []) k = refl
+    by_rest (Some (x ∷ xs)) k = cc
+
+or_true : (b : Bool) → (b || true) ≡ true
+or_true true = refl
+or_true false = refl
+
+pub one_dot-is_dot : (d : List ℕ) → is_one_dot d ≡ true → is_dot_segment d ≡ true
+one_dot-is_dot d h = dot_kinds d ∙ rw h refl
+
+pub two_dots-is_dot : (d : List ℕ) → is_two_dots d ≡ true → is_dot_segment d ≡ true
+two_dots-is_dot d h = dot_kinds d ∙ rw h (or_true (is_one_dot d))
+
+or_false : (b : Bool) → (b || false) ≡ b
+or_false true = refl
+or_false false = refl
+
+pub dot-is_one : (d : List ℕ) → is_dot_segment d ≡ true → is_two_dots d ≡ false → is_one_dot d ≡ true
+dot-is_one d h k = sym (or_false (is_one_dot d)) ∙ (ap (λ b. is_one_dot d || b) (sym k) ∙ (sym (dot_kinds d) ∙ h))
+
+pub nothing-is_no_dot : is_dot_segment [] ≡ false
+unfolding is_dot_segment
+nothing-is_no_dot = refl

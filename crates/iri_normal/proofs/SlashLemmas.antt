@@ -1,0 +1,68 @@
+-- The last slash of a path.
+use Rattle.std.proofs.Common.{◌≡◌, ℕ, zero, suc, ◌+◌, ◌<◌, true, false, cond, not, ◌&&◌, List, [], ◌∷◌, Some, None}
+use Rattle.std.proofs.Common.{length, take, refl, ◌∙◌, ap, arith, add-one}
+use Rattle.std.specs.Prelude.{◌==◌, slice_index}
+use Rattle.std.proofs.lemmas.Bool.{eqb-true}
+use Rattle.memchr.specs.Find.{is_byte, IsLastByte}
+use Rattle.iri_grammar.specs.Cut.{lacks}
+use Rattle.iri_grammar.specs.Parts.{is_empty}
+use Rattle.iri_normal.specs.Target.{to_last_slash, ends_at_slash}
+use Rattle.iri_grammar.proofs.CutLemmas.{false-where}
+
+-- none, or the last at k
+pub slash_is : (bs : List ℕ) (k : ℕ) → IsLastByte (is_byte 47) bs (Some k) → (k < length bs) × (slice_index bs k ≡ 47)
+slash_is bs k h = (h.0.high, eqb-true (slice_index bs k) 47 h.1)
+
+pub no_slash : (bs : List ℕ) → IsLastByte (is_byte 47) bs None → (lacks 47 bs ≡ true) × ([] ≡ to_last_slash bs)
+no_slash [] h = (refl, refl)
+no_slash (x ∷ xs) h =
+    let miss : (x == 47) ≡ false = false-where (x == 47) (h 0 (omega arith) (omega arith)) in
+    let r = no_slash xs (λ j a b. h (suc j) (omega arith) (omega arith)) in
+    (rw miss r.0, rw (miss, r.0) refl)
+
+last_at : (bs : List ℕ) (k : ℕ) → k < length bs → ((j : ℕ) → k < j → j < length bs → (slice_index bs j == 47) ≡ true → ⊥)
+    → (slice_index bs k == 47) ≡ true → (take (k + 1) bs ≡ to_last_slash bs) × (lacks 47 bs ≡ false)
+last_at [] k l n p = absurd (omega arith)
+last_at (x ∷ xs) zero l n p =
+    let rest = no_slash xs (λ j a b. n (suc j) (omega arith) (omega arith)) in
+    (rw p (ap (λ ys. x ∷ ys) rest.1), rw p refl)
+last_at (x ∷ xs) (suc k) l n p =
+    let h = last_at xs k (omega arith) (λ j a b. n (suc j) (omega arith) (omega arith)) p in
+    let both : lacks 47 (x ∷ xs) ≡ false = elim (x == 47) as (λ b. (not b && lacks 47 xs) ≡ false) [ true ↦ refl | false ↦ h.1 ] in
+    let e : take (suc k + 1) (x ∷ xs) ≡ x ∷ take (k + 1) xs = simp add-one in
+    (e ∙ (rw both (ap (λ ys. x ∷ ys) h.0)), both)
+
+pub last_slash : (bs : List ℕ) (k : ℕ) → IsLastByte (is_byte 47) bs (Some k) → take (k + 1) bs ≡ to_last_slash bs
+last_slash bs k h = (last_at bs k h.0.high (λ j a b. h.0.after j (omega arith) b) h.1).0
+
+-- what is cut at the last slash ends with it
+has_front : (xs : List ℕ) → lacks 47 xs ≡ false → is_empty (to_last_slash xs) ≡ false
+has_front [] h = cc
+has_front (x ∷ xs) h = rw h refl
+
+none_front : (xs : List ℕ) → lacks 47 xs ≡ true → to_last_slash xs ≡ []
+none_front [] h = refl
+none_front (x ∷ xs) h = rw h refl
+
+pub ends : (xs : List ℕ) → ends_at_slash (to_last_slash xs) ≡ true
+ends [] = refl
+ends (x ∷ xs) =
+    elim (lacks 47 xs) as (λ b. lacks 47 xs ≡ b → ends_at_slash (cond (not (x == 47) && b) [] (x ∷ to_last_slash xs)) ≡ true) [
+      | true ↦ λ e. at_last e
+      | false ↦ λ e. at_more (ends xs) e
+    ] refl
+  where
+    at_last : lacks 47 xs ≡ true → ends_at_slash (cond (not (x == 47) && true) [] (x ∷ to_last_slash xs)) ≡ true
+    at_last e =
+        elim (x == 47) as (λ v. (x == 47) ≡ v → ends_at_slash (cond (not v && true) [] (x ∷ to_last_slash xs)) ≡ true) [
+          | true ↦ λ k. rw (none_front xs e) k
+          | false ↦ λ _. refl
+        ] refl
+
+    at_more : ends_at_slash (to_last_slash xs) ≡ true → lacks 47 xs ≡ false
+        → ends_at_slash (cond (not (x == 47) && false) [] (x ∷ to_last_slash xs)) ≡ true
+    at_more r e =
+        elim (x == 47) as (λ v. ends_at_slash (cond (not v && false) [] (x ∷ to_last_slash xs)) ≡ true) [
+          | true ↦ rw (has_front xs e) r
+          | false ↦ rw (has_front xs e) r
+        ]

@@ -1,0 +1,143 @@
+-- Dot removal leaves no dot segment, and a path without one as it is.
+use Rattle.std.proofs.Common.{◌≡◌, ℕ, Bool, true, false, cond, not, ◌&&◌, List, [], ◌∷◌, ◌++◌, refl, sym, ◌∙◌, ap, append_assoc}
+use Rattle.iri_grammar.specs.Cut.{lacks}
+use Rattle.iri_grammar.proofs.CutLaws.{by_test, both}
+use Rattle.iri_grammar.specs.Parts.{starts_with_slash}
+use Rattle.iri_grammar.specs.Pieces.{pieces, onto}
+use Rattle.iri_normal.specs.Dots.{is_dot_segment, any_dot_segment, has_dot_segment}
+use Rattle.iri_normal.specs.DotRemoval.{is_two_dots, closed, remove_behind, remove_dots, path_text, dots}
+use Rattle.iri_normal.specs.Guard.{guard}
+use Rattle.iri_normal.proofs.PieceLaws.{all_lack, pieces-some, pieces-append, pieces-whole, pieces-lack, nothing-is_no_dot}
+use Rattle.iri_normal.proofs.OutputLaws.{is_output, left, output-push, output-left, output-closed}
+use Rattle.iri_normal.proofs.EndedLemmas.{neither}
+
+-- ---- none is left
+plain-left : (two : Bool) (st : List (List ℕ)) → any_dot_segment st ≡ false → any_dot_segment (left two st) ≡ false
+plain-left true [] h = rw nothing-is_no_dot refl
+plain-left true (s ∷ []) h = rw nothing-is_no_dot refl
+plain-left true (s ∷ t ∷ ss) h = (neither (is_dot_segment s) (any_dot_segment (t ∷ ss)) h).1
+plain-left false st h = h
+
+plain-closed : (ss st : List (List ℕ)) → any_dot_segment st ≡ false → any_dot_segment (closed ss st) ≡ false
+plain-closed [] st h = rw nothing-is_no_dot h
+plain-closed (s ∷ ss) st h = h
+
+plain-behind : (st ss : List (List ℕ)) → any_dot_segment st ≡ false → any_dot_segment (remove_behind st ss) ≡ false
+plain-behind st [] h = h
+plain-behind st (s ∷ ss) h =
+    elim (is_dot_segment s) as (λ b. is_dot_segment s ≡ b
+    → any_dot_segment (cond b (remove_behind (closed ss (left (is_two_dots s) st)) ss) (remove_behind (s ∷ st) ss)) ≡ false) [
+      | true ↦ λ _. plain-behind (closed ss (left (is_two_dots s) st)) ss
+          (plain-closed ss (left (is_two_dots s) st) (plain-left (is_two_dots s) st h))
+      | false ↦ λ e. plain-behind (s ∷ st) ss (rw e h)
+    ] refl
+
+plain-removed : (ss : List (List ℕ)) → any_dot_segment (remove_dots ss) ≡ false
+plain-removed [] = rw nothing-is_no_dot refl
+plain-removed (s ∷ ss) =
+    elim (is_dot_segment s) as (λ b. is_dot_segment s ≡ b → any_dot_segment (cond b (remove_dots ss) (remove_behind (s ∷ []) ss)) ≡ false) [
+      | true ↦ λ _. plain-removed ss
+      | false ↦ λ e. plain-behind (s ∷ []) ss (rw e refl)
+    ] refl
+
+pub output-behind : (st ss : List (List ℕ)) → is_output st ≡ true → all_lack ss ≡ true → is_output (remove_behind st ss) ≡ true
+output-behind st [] h k = h
+output-behind st (s ∷ ss) h k =
+    let parts = both (lacks 47 s) (all_lack ss) k in
+    elim (is_dot_segment s) as (λ b. is_output (cond b (remove_behind (closed ss (left (is_two_dots s) st)) ss)
+    (remove_behind (s ∷ st) ss)) ≡ true) [
+      | true ↦ output-behind (closed ss (left (is_two_dots s) st)) ss
+          (output-closed ss (left (is_two_dots s) st) (output-left (is_two_dots s) st h)) parts.1
+      | false ↦ output-behind (s ∷ st) ss (output-push s st parts.0 h) parts.1
+    ]
+
+pub output-removed : (ss : List (List ℕ)) → all_lack ss ≡ true → is_output (remove_dots ss) ≡ true
+output-removed [] h = refl
+output-removed (s ∷ ss) h =
+    let parts = both (lacks 47 s) (all_lack ss) h in
+    elim (is_dot_segment s) as (λ b. is_output (cond b (remove_dots ss) (remove_behind (s ∷ []) ss)) ≡ true) [
+      | true ↦ output-removed ss parts.1
+      | false ↦ output-behind (s ∷ []) ss (rw parts.0 refl) parts.1
+    ]
+
+any-append : (xs ys : List (List ℕ)) → any_dot_segment xs ≡ false → any_dot_segment ys ≡ false → any_dot_segment (xs ++ ys) ≡ false
+any-append [] ys h k = k
+any-append (x ∷ xs) ys h k = let n = neither (is_dot_segment x) (any_dot_segment xs) h in rw n.0 (any-append xs ys n.1 k)
+
+plain-text : (st : List (List ℕ)) → is_output st ≡ true → any_dot_segment st ≡ false → has_dot_segment (path_text st) ≡ false
+plain-text [] h k = rw nothing-is_no_dot refl
+plain-text (s ∷ []) h k = rw (pieces-whole s (both (lacks 47 s) true h).0) k
+plain-text (s ∷ t ∷ ss) h k =
+    let parts = both (lacks 47 s) (all_lack (t ∷ ss)) h in
+    let n = neither (is_dot_segment s) (any_dot_segment (t ∷ ss)) k in
+    ap any_dot_segment (pieces-append (path_text (t ∷ ss)) s)
+    ∙ any-append (pieces 47 (path_text (t ∷ ss))) (pieces 47 s) (plain-text (t ∷ ss) parts.1 n.1) (rw (pieces-whole s parts.0, n.0) refl)
+
+pub no_dots_left : (p : List ℕ) → has_dot_segment (dots p) ≡ false
+unfolding dots
+no_dots_left p = plain-text (remove_dots (pieces 47 p)) (output-removed (pieces 47 p) (pieces-lack p)) (plain-removed (pieces 47 p))
+
+-- ---- a path without dot segments stays
+-- segments, each with a slash before it
+abbrev pub slashed : List (List ℕ) → List ℕ
+slashed [] = []
+slashed (s ∷ ss) = 47 ∷ (s ++ slashed ss)
+
+abbrev pub unsplit : List (List ℕ) → List ℕ
+unsplit [] = []
+unsplit (s ∷ ss) = s ++ slashed ss
+
+unsplit-onto : (x : ℕ) (ss : List (List ℕ)) → unsplit (onto x ss) ≡ x ∷ unsplit ss
+unsplit-onto x [] = refl
+unsplit-onto x (s ∷ ss) = refl
+
+slashed-some : (xs : List ℕ) → slashed (pieces 47 xs) ≡ 47 ∷ unsplit (pieces 47 xs)
+slashed-some xs = let r = pieces-some xs in rw r.whole refl
+
+pub unsplit-pieces : (xs : List ℕ) → unsplit (pieces 47 xs) ≡ xs
+unsplit-pieces [] = refl
+unsplit-pieces (x ∷ xs) =
+    by_test x 47 (λ b. unsplit (cond b ([] ∷ pieces 47 xs) (onto x (pieces 47 xs))) ≡ x ∷ xs)
+    (λ e. slashed-some xs ∙ (ap (λ ys. 47 ∷ ys) (unsplit-pieces xs) ∙ ap (λ y. y ∷ xs) (sym e)))
+    (λ _. unsplit-onto x (pieces 47 xs) ∙ ap (λ ys. x ∷ ys) (unsplit-pieces xs))
+
+same-behind : (t : List ℕ) (st ss : List (List ℕ)) → any_dot_segment ss ≡ false
+    → path_text (remove_behind (t ∷ st) ss) ≡ path_text (t ∷ st) ++ slashed ss
+same-behind t st [] h = sym (append-nothing (path_text (t ∷ st)))
+  where
+    append-nothing : (xs : List ℕ) → xs ++ [] ≡ xs
+    append-nothing [] = refl
+    append-nothing (x ∷ xs) = ap (λ ys. x ∷ ys) (append-nothing xs)
+same-behind t st (s ∷ ss) h =
+    let n = neither (is_dot_segment s) (any_dot_segment ss) h in
+    rw n.0 (same-behind s (t ∷ st) ss n.1 ∙ append_assoc (path_text (t ∷ st)) (47 ∷ s) (slashed ss))
+
+same-removed : (ss : List (List ℕ)) → any_dot_segment ss ≡ false → path_text (remove_dots ss) ≡ unsplit ss
+same-removed [] h = refl
+same-removed (s ∷ ss) h =
+    let n = neither (is_dot_segment s) (any_dot_segment ss) h in rw n.0 (same-behind s [] ss n.1)
+
+pub no_dots-same : (p : List ℕ) → has_dot_segment p ≡ false → dots p ≡ p
+unfolding dots
+no_dots-same p h = same-removed (pieces 47 p) h ∙ unsplit-pieces p
+
+pub dots-stable : (p : List ℕ) → dots (dots p) ≡ dots p
+dots-stable p = no_dots-same (dots p) (no_dots_left p)
+
+-- ---- the guard
+pub dot_in_front : (q : List ℕ) → dots (47 ∷ 46 ∷ 47 ∷ q) ≡ dots (47 ∷ q)
+unfolding dots is_dot_segment
+dot_in_front q = let r = pieces-some q in rw r.whole refl
+
+pub guard-dots : (q : List ℕ) (stands : Bool) → dots (guard q stands) ≡ dots q
+guard-dots [] true = refl
+guard-dots [] false = refl
+guard-dots (x ∷ xs) true = refl
+guard-dots (x ∷ xs) false =
+    by_test x 47 (λ b. dots (cond (not (b && starts_with_slash xs)) (x ∷ xs) (47 ∷ 46 ∷ x ∷ xs)) ≡ dots (x ∷ xs))
+    (λ e. elim (starts_with_slash xs) as (λ b. dots (cond (not b) (x ∷ xs) (47 ∷ 46 ∷ x ∷ xs))
+    ≡ dots (x ∷ xs)) [ true ↦ rw e (dot_in_front xs) | false ↦ refl ])
+    (λ _. refl)
+
+pub guarded-stable : (p : List ℕ) (stands : Bool) → dots (guard (dots p) stands) ≡ dots p
+guarded-stable p stands = guard-dots (dots p) stands ∙ dots-stable p

@@ -1,0 +1,159 @@
+-- Dot removal with a buffer.
+use Rattle.std.proofs.Common.{◌≡◌, ℕ, Bool, true, false, cond, ◌||◌, List, [], ◌∷◌, ◌++◌, Option, Some, None, refl, sym, ◌∙◌, ap, subst}
+use Rattle.std.proofs.Common.{append_assoc}
+use Rattle.std.proofs.lemmas.List.{append-nil}
+use Rattle.iri_grammar.specs.Cut.{before, behind}
+use Rattle.iri_grammar.specs.Parts.{is_empty}
+use Rattle.iri_grammar.specs.Pieces.{pieces, joined}
+use Rattle.iri_grammar.specs.inside.PiecesLaws.{more_pieces}
+use Rattle.iri_grammar.proofs.Ipv6Laws.{joined_pieces}
+use Rattle.iri_grammar.proofs.PiecesLaws.{pieces_cut}
+use Rattle.iri_normal.specs.DotRemoval.{is_two_dots, without_last, dots}
+use Rattle.iri_normal.specs.Dots.{is_dot_segment, any_dot_segment, has_dot_segment}
+use Rattle.iri_normal.specs.Target.{ends_at_slash}
+use Rattle.iri_normal.proofs.EndedLemmas.{both-end, neither, slash-ends}
+use Rattle.iri_normal.proofs.SegmentLemmas.{alone, ended}
+use Rattle.iri_normal.proofs.OutputLaws.{text_behind, text_from, dots-text}
+use Rattle.iri_normal.proofs.PieceLaws.{pieces-some, nothing-is_no_dot}
+use Rattle.iri_normal.specs.inside.Written.{but_last, popped, left, closing, written_segments, written, or_nothing}
+
+-- ---- the definition's output is the buffer without its last slash
+pub but_last-slash : (o : List ℕ) (c : ℕ) → but_last (o ++ c ∷ []) ≡ o
+but_last-slash [] c = refl
+but_last-slash (x ∷ []) c = refl
+but_last-slash (x ∷ y ∷ ys) c = ap (λ l. x ∷ l) (but_last-slash (y ∷ ys) c)
+
+pub popped-output : (o : List ℕ) → popped (o ++ 47 ∷ []) ≡ without_last o ++ 47 ∷ []
+popped-output [] = refl
+popped-output (x ∷ xs) = ap (λ l. without_last l ++ 47 ∷ []) (but_last-slash (x ∷ xs) 47)
+
+pub left-output : (two : Bool) (o : List ℕ) → left two (o ++ 47 ∷ []) ≡ cond two (without_last o) o ++ 47 ∷ []
+left-output true o = popped-output o
+left-output false o = refl
+
+pub left-nothing : (two : Bool) → left two [] ≡ []
+left-nothing true = refl
+left-nothing false = refl
+
+pub two_ends : (o s r : List ℕ) → (o ++ 47 ∷ s) ++ r ≡ (o ++ 47 ∷ []) ++ (s ++ r)
+two_ends o s r = append_assoc o (47 ∷ s) r ∙ sym (append_assoc o (47 ∷ []) (s ++ r))
+
+written-output : (o s : List ℕ) (ss : List (List ℕ)) → text_behind o (s ∷ ss) ≡ written_segments (o ++ 47 ∷ []) (s ∷ ss)
+written-output o s [] =
+    elim (is_dot_segment s) as (λ b. cond b (cond (is_two_dots s) (without_last o) o ++ 47 ∷ []) (o ++ 47 ∷ s)
+    ≡ cond b (left (is_two_dots s) (o ++ 47 ∷ [])) ((o ++ 47 ∷ []) ++ (s ++ []))) [
+      | true ↦ sym (left-output (is_two_dots s) o)
+      | false ↦ sym (append-nil (o ++ 47 ∷ s)) ∙ two_ends o s []
+    ]
+written-output o s (t ∷ ts) =
+    elim (is_dot_segment s) as (λ b. cond b (text_behind (cond (is_two_dots s) (without_last o) o) (t ∷ ts)) (text_behind (o ++ 47 ∷ s) (t ∷ ts))
+    ≡ cond b (written_segments (left (is_two_dots s) (o ++ 47 ∷ [])) (t ∷ ts))
+    (written_segments ((o ++ 47 ∷ []) ++ (s ++ 47 ∷ [])) (t ∷ ts))) [
+      | true ↦ written-output (cond (is_two_dots s) (without_last o) o) t ts
+          ∙ ap (λ l. written_segments l (t ∷ ts)) (sym (left-output (is_two_dots s) o))
+      | false ↦ written-output (o ++ 47 ∷ s) t ts ∙ ap (λ l. written_segments l (t ∷ ts)) (two_ends o s (47 ∷ []))
+    ]
+
+written-from : (ss : List (List ℕ)) → text_from [] ss ≡ written_segments [] ss
+written-from [] = refl
+written-from (s ∷ []) =
+    elim (is_dot_segment s) as (λ b. cond b [] s ≡ cond b (left (is_two_dots s) []) (s ++ [])) [
+      | true ↦ sym (left-nothing (is_two_dots s))
+      | false ↦ sym (append-nil s)
+    ]
+written-from (s ∷ t ∷ ts) =
+    elim (is_dot_segment s) as (λ b. cond b (text_from [] (t ∷ ts)) (text_behind s (t ∷ ts))
+    ≡ cond b (written_segments (left (is_two_dots s) []) (t ∷ ts)) (written_segments (s ++ 47 ∷ []) (t ∷ ts))) [
+      | true ↦ written-from (t ∷ ts) ∙ ap (λ l. written_segments l (t ∷ ts)) (sym (left-nothing (is_two_dots s)))
+      | false ↦ written-output s t ts
+    ]
+
+-- from an empty buffer on it is dot removal
+pub written-dots : (p : List ℕ) → written [] p ≡ dots p
+written-dots p = sym (written-from (pieces 47 p)) ∙ dots-text p
+
+-- ---- segments without dots
+closing-more : (ss : List (List ℕ)) (t : List ℕ) (ts : List (List ℕ)) → closing (ss ++ t ∷ ts) ≡ 47 ∷ []
+closing-more [] t ts = refl
+closing-more (s ∷ ss) t ts = refl
+
+-- a dot segment at the start
+pub written-nothing : (b : List ℕ) → written b [] ≡ b
+written-nothing b = rw nothing-is_no_dot (append-nil b)
+
+pub written-dot : (b m : List ℕ) → is_dot_segment (before 47 m) ≡ true
+    → written b m ≡ written (left (is_two_dots (before 47 m)) b) (or_nothing (behind 47 m))
+written-dot b m h = ap (written_segments b) (pieces_cut 47 m) ∙ rw h (by_rest (left (is_two_dots (before 47 m)) b) (behind 47 m))
+  where
+    by_rest : (l : List ℕ) (o : Option (List ℕ)) → written_segments l (more_pieces 47 o) ≡ written l (or_nothing o)
+    by_rest l None = sym (written-nothing l)
+    by_rest l (Some r) = refl
+
+plain-joined : (b : List ℕ) (ss : List (List ℕ)) → any_dot_segment ss ≡ false → written_segments b ss ≡ b ++ joined 47 ss
+plain-joined b [] h = sym (append-nil b)
+plain-joined b (s ∷ []) h =
+    let n = neither (is_dot_segment s) false h in rw n.0 (ap (λ l. b ++ l) (append-nil s))
+plain-joined b (s ∷ t ∷ ts) h =
+    let n = neither (is_dot_segment s) (any_dot_segment (t ∷ ts)) h in
+    rw n.0 (plain-joined (b ++ (s ++ 47 ∷ [])) (t ∷ ts) n.1
+    ∙ (append_assoc b (s ++ 47 ∷ []) (joined 47 (t ∷ ts)) ∙ ap (λ l. b ++ l) (append_assoc s (47 ∷ []) (joined 47 (t ∷ ts)))))
+
+-- where no dot segment is left
+pub written-plain : (b t : List ℕ) → has_dot_segment t ≡ false → written b t ≡ b ++ t
+written-plain b t h = plain-joined b (pieces 47 t) h ∙ ap (λ l. b ++ l) (joined_pieces 47 t)
+
+-- ---- a path in two parts
+pub two-segments : (b : List ℕ) (ss : List (List ℕ)) (t : List ℕ) (ts : List (List ℕ))
+    → written_segments b (ss ++ t ∷ ts) ≡ written_segments (written_segments b (ss ++ [] ∷ [])) (t ∷ ts)
+two-segments b [] t ts = ap (λ l. written_segments l (t ∷ ts)) (sym (written-nothing b))
+two-segments b (s ∷ ss) t ts =
+    rw (closing-more ss t ts, closing-more ss [] [])
+    (elim (is_dot_segment s) as (λ v. cond v (written_segments (left (is_two_dots s) b) (ss ++ t ∷ ts)) (written_segments (b ++ (s ++ 47 ∷ [])) (ss ++ t ∷ ts))
+    ≡ written_segments (cond v (written_segments (left (is_two_dots s) b) (ss ++ [] ∷ [])) (written_segments (b ++ (s ++ 47 ∷ [])) (ss ++ [] ∷ []))) (t ∷ ts)) [
+      | true ↦ two-segments (left (is_two_dots s) b) ss t ts
+      | false ↦ two-segments (b ++ (s ++ 47 ∷ [])) ss t ts
+    ])
+
+pub written-two : (b f p : List ℕ) → ends_at_slash f ≡ true → written b (f ++ p) ≡ written (written b f) p
+written-two b f p h =
+    let e = ended f h in
+    let ps = pieces-some p in
+    ap (written_segments b) (e.whole p)
+    ∙ (subst (λ l. written_segments b (e.segments ++ l) ≡ written_segments (written_segments b (e.segments ++ [] ∷ [])) l) (sym ps.whole)
+    (two-segments b e.segments ps.first ps.rest)
+    ∙ ap (λ l. written_segments (written_segments b l) (pieces 47 p)) (sym (alone f e)))
+
+-- segments without dots are copied
+pub written-run : (b r m : List ℕ) → ends_at_slash r ≡ true → has_dot_segment r ≡ false → written b (r ++ m) ≡ written (b ++ r) m
+written-run b r m h d = written-two b r m h ∙ ap (λ l. written l m) (written-plain b r d)
+
+pub popped-ends : (b : List ℕ) → ends_at_slash (popped b) ≡ true
+popped-ends [] = refl
+popped-ends (x ∷ xs) = slash-ends (without_last (but_last (x ∷ xs)))
+
+pub left-ends : (two : Bool) (b : List ℕ) → ends_at_slash b ≡ true → ends_at_slash (left two b) ≡ true
+left-ends true b h = popped-ends b
+left-ends false b h = h
+
+segments-end : (b : List ℕ) (ss : List (List ℕ)) → ends_at_slash b ≡ true → ends_at_slash (written_segments b (ss ++ [] ∷ [])) ≡ true
+segments-end b [] h = ap ends_at_slash (written-nothing b) ∙ h
+segments-end b (s ∷ ss) h =
+    rw (closing-more ss [] [])
+    (elim (is_dot_segment s) as (λ v. ends_at_slash (cond v (written_segments (left (is_two_dots s) b) (ss ++ [] ∷ []))
+    (written_segments (b ++ (s ++ 47 ∷ [])) (ss ++ [] ∷ []))) ≡ true) [
+      | true ↦ segments-end (left (is_two_dots s) b) ss (left-ends (is_two_dots s) b h)
+      | false ↦ segments-end (b ++ (s ++ 47 ∷ [])) ss (both-end b (s ++ 47 ∷ []) h (slash-ends s))
+    ])
+
+pub written-ends : (b f : List ℕ) → ends_at_slash b ≡ true → ends_at_slash f ≡ true → ends_at_slash (written b f) ≡ true
+written-ends b f h k =
+    let e = ended f k in ap (λ ps. ends_at_slash (written_segments b ps)) (alone f e) ∙ segments-end b e.segments h
+
+-- a path in two pieces
+pub written-parts : (f p : List ℕ) → (is_empty p || ends_at_slash f) ≡ true → written (written [] f) p ≡ dots (f ++ p)
+written-parts f [] h = written-nothing (written [] f) ∙ (written-dots f ∙ ap dots (sym (append-nil f)))
+written-parts f (x ∷ xs) h = sym (written-two [] f (x ∷ xs) h) ∙ written-dots (f ++ x ∷ xs)
+
+pub parts-end : (f p : List ℕ) → (is_empty p || ends_at_slash f) ≡ true → (is_empty p || ends_at_slash (written [] f)) ≡ true
+parts-end f [] h = refl
+parts-end f (x ∷ xs) h = written-ends [] f refl h

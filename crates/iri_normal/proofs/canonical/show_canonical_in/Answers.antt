@@ -1,0 +1,17 @@
+use Rattle.std.proofs.Common.{◌∙◌, subst, ap}
+use Rattle.iri_grammar.specs.Split.{split_of}
+use Rattle.iri_text.specs.Shown.{Shows}
+use Rattle.iri_types.specs.SplitText.{split_text}
+use Rattle.iri_normal.specs.NormalizedText.{written}
+use Rattle.iri_normal.specs.Resolver.{base_text}
+use Rattle.iri_normal.specs.Target.{takes_base_path}
+use Rattle.iri_normal.proofs.ModeLemmas.{made-normal_in, written-canonical_in}
+use Rattle.iri_normal.proofs.canonical.show_canonical_in.Goals as goal
+
+pub returns : goal.returns
+returns g c =
+    let b = base_text c.args.resolver.now in
+    let r = split_text c.args.reference.now in
+    subst (λ x. Shows g.W.TextSink.puts g.W.TextSink.halts g.W.TextSink.stops c.args.sink.now x c.show.new.sink c.show.result)
+    (written-canonical_in g.S.Spec.tests c.args.mode b r (takes_base_path (split_of r)) (written c.and_normalize_in.result)
+    (c.and_normalize_in.ensures ∙ ap (made-normal_in c.args.mode) c.resolve_split.ensures)) c.show.ensures

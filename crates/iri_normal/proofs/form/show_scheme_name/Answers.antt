@@ -1,0 +1,16 @@
+use Rattle.std.proofs.Common.{◌∙◌, cond, sym, subst, ap}
+use Rattle.iri_text.specs.Shown.{Shows}
+use Rattle.iri_percent.specs.NormalHost.{normal_host}
+use Rattle.iri_normal.specs.LowerCase.{lowered}
+use Rattle.iri_normal.proofs.FormLemmas.{scheme-host, scheme-lowered}
+use Rattle.iri_normal.proofs.form.show_scheme_name.Goals as goal
+
+pub new-requires : goal.new-requires
+new-requires g c = scheme-host g.S.Spec.tests c.args.scheme.now g.met.S.Spec.lawful c.requires
+
+pub returns-then-normal : goal.returns-then-normal
+returns-then-normal g c =
+    let x = c.args.scheme.now in
+    subst (λ t. Shows g.W.TextSink.puts g.W.TextSink.halts g.W.TextSink.stops c.args.sink.now t c.show.new.sink c.show.result)
+    (ap (normal_host g.S.Spec.tests) c.new.ensures
+    ∙ (scheme-lowered g.S.Spec.tests x c.requires ∙ sym (ap (λ b. cond b (lowered x) x) c.if-normal.true))) c.show.ensures

@@ -1,0 +1,13 @@
+use Rattle.iri_grammar.specs.Components.{is_query, is_fragment}
+use Rattle.iri_grammar.specs.OptionalSlices.{now_of}
+use Rattle.iri_percent.proofs.WholeLaws.{query-whole, fragment-whole}
+use Rattle.iri_percent.proofs.Authorities.{part_whole}
+use Rattle.iri_normal.proofs.form.show_tail.Goals as goal
+
+pub show_marked-requires-clause-part : goal.show_marked-requires-clause-part
+show_marked-requires-clause-part g c = part_whole (is_query g.S.Spec.tests) (now_of c.args.target.now.query)
+    (λ x h. query-whole g.S.Spec.tests x g.met.S.Spec.lawful h) c.requires.query
+
+pub show_marked-requires-2-clause-part : goal.show_marked-requires-2-clause-part
+show_marked-requires-2-clause-part g c = part_whole (is_fragment g.S.Spec.tests) (now_of c.args.target.now.fragment)
+    (λ x h. fragment-whole g.S.Spec.tests x g.met.S.Spec.lawful h) c.requires.fragment

@@ -1,0 +1,15 @@
+use Rattle.std.proofs.Common.{sym, ◌∙◌}
+use Rattle.iri_grammar.proofs.FaultLaws.{absolute-law, reference-law}
+use Rattle.iri_percent.specs.declared.canon_mode.CanonMode.TheVariants.{Default}
+use Rattle.iri_normal.proofs.MapForms.{mapped-canonical}
+use Rattle.iri_normal.proofs.mapping_laws.canonicalize_commutes_with_mapping.Goals as goal
+
+pub returns : goal.returns
+returns g c =
+    let s = g.S.Spec.tests in
+    let k = g.met.S.Spec.lawful in
+    let b = c.args.base.text.now in
+    let r = c.args.reference.text.now in
+    let same = mapped-canonical s Default b r k ((absolute-law s k b).0 c.in_ok-last.ensures.base)
+    ((reference-law s k r).0 c.in_ok-last.ensures.reference) in
+    (c.in_ok-last.ensures.text, c.in_ok-first.ensures ∙ (sym same ∙ sym c.in_ok-last.ensures.text))

@@ -1,0 +1,10 @@
+use Rattle.std.proofs.Common.{◌∙◌, ap}
+use Rattle.iri_normal.specs.DotRemoval.{dots}
+use Rattle.iri_normal.specs.inside.Beginning.{is_slashes}
+use Rattle.iri_normal.specs.Slices.{merged}
+use Rattle.iri_normal.proofs.BeginningLemmas.{begins-slashes}
+use Rattle.iri_normal.proofs.path_writer.begins_with_slashes.Goals as goal
+
+pub returns-in-Ok : goal.returns-in-Ok
+returns-in-Ok g c =
+    c.is_slashes.ensures ∙ (ap is_slashes c.in-Ok.ensures.appends.begun ∙ begins-slashes (dots (merged c.args.path.now)))

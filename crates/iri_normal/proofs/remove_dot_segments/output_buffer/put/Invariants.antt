@@ -1,0 +1,17 @@
+use Rattle.std.proofs.Common.{◌≡◌, ◌≤◌, ◌+◌, ◌||◌, true, take, length}
+use Rattle.iri_grammar.specs.Parts.{is_empty}
+use Rattle.iri_normal.specs.Target.{ends_at_slash}
+use Rattle.iri_normal.specs.inside.Written.{written}
+use Rattle.iri_normal.proofs.remove_dot_segments.output_buffer.put.Given as goal
+
+-- the rest behind the buffer gives what the path gives
+abbrev pub invariant-dots : goal.invariant-dots
+invariant-dots l = record {
+  long : length l.buf ≡ 512;
+  room : l.end + length l.rest ≤ l.fn.len + length l.fn.path;
+  ends : (is_empty l.rest || ends_at_slash (take l.end l.buf)) ≡ true;
+  text : written (take l.end l.buf) l.rest ≡ written (take l.fn.len l.fn.buf) l.fn.path;
+}
+
+abbrev pub decreases-dots : goal.decreases-dots
+decreases-dots l = length l.rest

@@ -1,0 +1,27 @@
+use Rattle.std.proofs.Common.{◌≡◌, true, sym, subst, arith}
+use Rattle.std.proofs.lemmas.Grind.{common_steps}
+use Rattle.std.proofs.lemmas.Str.{lead_after_ascii}
+use Rattle.iri_normal.specs.Target.{to_last_slash, ends_at_slash}
+use Rattle.iri_normal.proofs.SlashLemmas.{ends, last_slash, no_slash, slash_is}
+use Rattle.iri_normal.proofs.target.to_last_slash.Goals as goal
+
+pub range-requires-clause-end_boundary : goal.range-requires-clause-end_boundary
+range-requires-clause-end_boundary c =
+    let at = slash_is c.args.path.now c.in-Some.i c.in-Some.ensures in
+    (omega (arith, at.0), λ l h. lead_after_ascii c.args.path.now c.in-Some.i c.utf8.path (omega (arith, at.1)) l h)
+
+pub returns-in-Some-clause-ends : goal.returns-in-Some-clause-ends
+returns-in-Some-clause-ends c =
+    let front = last_slash c.args.path.now c.in-Some.i c.in-Some.ensures in
+    let value = c.range.ensures.value in
+    let same : c.range.result.now ≡ to_last_slash c.args.path.now = grind (arith, common_steps) in
+    subst (λ t. ends_at_slash t ≡ true) (sym same) (ends c.args.path.now)
+
+pub returns-in-Some-clause-front : goal.returns-in-Some-clause-front
+returns-in-Some-clause-front c =
+    let front = last_slash c.args.path.now c.in-Some.i c.in-Some.ensures in
+    let value = c.range.ensures.value in
+    grind (arith, common_steps)
+
+pub returns-in-None-clause-front : goal.returns-in-None-clause-front
+returns-in-None-clause-front c = (no_slash c.args.path.now c.in-None.ensures).1

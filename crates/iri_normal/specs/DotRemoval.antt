@@ -1,0 +1,97 @@
+-- Removal of dot segments (RFC 3986 section 5.2.4). `%2E` and `%2e` count as a dot.
+use Rattle.std.specs.Prelude.{◌≡◌, ℕ, Bool, true, false, cond, ◌==◌, List, [], ◌∷◌, ◌++◌, Option, Some, None}
+use Rattle.iri_grammar.specs.Cut.{before, from, lacks}
+use Rattle.iri_grammar.specs.Pieces.{pieces}
+use Rattle.iri_normal.specs.Dots.{behind_dot, is_dot_segment}
+use Rattle.iri_grammar.specs.Characters.{slash}
+
+abbrev pub is_all : Option (List ℕ) → Bool
+is_all None = false
+is_all (Some []) = true
+is_all (Some (x ∷ xs)) = false
+
+-- `.`, in any spelling
+abbrev pub is_one_dot : List ℕ → Bool
+is_one_dot segment = is_all (behind_dot segment)
+
+abbrev pub is_one_dot_behind : Option (List ℕ) → Bool
+is_one_dot_behind None = false
+is_one_dot_behind (Some rest) = is_one_dot rest
+
+-- `..`, in any spelling
+abbrev pub is_two_dots : List ℕ → Bool
+is_two_dots segment = is_one_dot_behind (behind_dot segment)
+
+-- the output without its last segment and the `/` before it: what stands before the last `/`, or nothing where there is none
+abbrev pub without_last : List ℕ → List ℕ
+without_last [] = []
+without_last (x ∷ xs) = cond (lacks slash xs) [] (x ∷ without_last xs)
+
+-- the first segment of the input, without a `/` before it
+abbrev pub first_segment : ℕ → List ℕ → List ℕ
+first_segment x xs = cond (x == slash) (before slash xs) (x ∷ before slash xs)
+
+-- one step, from an input and an output buffer to the next ones. The cases exclude one another
+pub data Step (input output next_input next_output : List ℕ) : Type 0 where
+  -- A: a prefix `../` or `./` is removed from the input
+  remove_prefix : (d : List ℕ) → is_dot_segment d ≡ true → input ≡ d ++ slash ∷ next_input → next_output ≡ output
+      → Step input output next_input next_output
+  -- B: a prefix `/./`, or `/.` as the whole input, is replaced by `/`
+  replace_dot : (d rest : List ℕ) → is_one_dot d ≡ true → input ≡ slash ∷ (d ++ slash ∷ rest) → next_input ≡ slash ∷ rest
+      → next_output ≡ output → Step input output next_input next_output
+  replace_last_dot : (d : List ℕ) → is_one_dot d ≡ true → input ≡ slash ∷ d → next_input ≡ slash ∷ [] → next_output ≡ output
+      → Step input output next_input next_output
+  -- C: a prefix `/../`, or `/..` as the whole input, is replaced by `/`, and the output loses its last segment and the `/` before it
+  replace_dots : (d rest : List ℕ) → is_two_dots d ≡ true → input ≡ slash ∷ (d ++ slash ∷ rest) → next_input ≡ slash ∷ rest
+      → next_output ≡ without_last output → Step input output next_input next_output
+  replace_last_dots : (d : List ℕ) → is_two_dots d ≡ true → input ≡ slash ∷ d → next_input ≡ slash ∷ [] → next_output ≡ without_last output
+      → Step input output next_input next_output
+  -- D: `.` or `..` as the whole input is removed
+  remove_all : is_dot_segment input ≡ true → next_input ≡ [] → next_output ≡ output → Step input output next_input next_output
+  -- E: otherwise the first segment, with a `/` before it and up to the next `/`, moves to the end of the output
+  move_segment : (x : ℕ) (xs : List ℕ) → is_dot_segment (first_segment x xs) ≡ false → input ≡ x ∷ xs → next_input ≡ from slash xs
+      → next_output ≡ output ++ x ∷ before slash xs → Step input output next_input next_output
+
+-- steps lead from the two buffers to an empty input and the result as output
+pub data LeadsTo (result : List ℕ) : List ℕ → List ℕ → Type 0 where
+  ended : (input output : List ℕ) → input ≡ [] → output ≡ result → LeadsTo result input output
+  onward : (input output next_input next_output : List ℕ) → Step input output next_input next_output → LeadsTo result next_input next_output
+      → LeadsTo result input output
+
+-- the result is what dot removal makes of the path: the steps begin with the path as input and an empty output
+abbrev pub IsWithoutDots : List ℕ → List ℕ → Type 0
+IsWithoutDots path result = LeadsTo result path []
+
+-- ---- the same as a function, over the segments between the slashes. That it gives the one result of the steps is a law
+
+-- the segments of the output stand with the last one first; it has at least one, which may be empty
+abbrev pub without_top : List (List ℕ) → List (List ℕ)
+without_top [] = [] ∷ []
+without_top (s ∷ []) = [] ∷ []
+without_top (s ∷ t ∷ ss) = t ∷ ss
+
+-- behind a dot segment at the end of the path a `/` stays
+abbrev pub closed : List (List ℕ) → List (List ℕ) → List (List ℕ)
+closed [] output = [] ∷ output
+closed (s ∷ ss) output = output
+
+-- the segments that follow a `/`
+abbrev pub remove_behind : List (List ℕ) → List (List ℕ) → List (List ℕ)
+remove_behind output [] = output
+remove_behind output (s ∷ ss) = cond (is_dot_segment s) (remove_behind (closed ss (cond (is_two_dots s) (without_top output) output)) ss)
+    (remove_behind (s ∷ output) ss)
+
+-- dot segments at the start go
+abbrev pub remove_dots : List (List ℕ) → List (List ℕ)
+remove_dots [] = [] ∷ []
+remove_dots (s ∷ ss) = cond (is_dot_segment s) (remove_dots ss) (remove_behind (s ∷ []) ss)
+
+-- the text of segments, the last one first, with a `/` between each two
+abbrev pub path_text : List (List ℕ) → List ℕ
+path_text [] = []
+path_text (s ∷ []) = s
+path_text (s ∷ t ∷ ss) = path_text (t ∷ ss) ++ slash ∷ s
+
+-- the path with its dot segments removed
+unfoldable pub dots : List ℕ → List ℕ
+dots path = path_text (remove_dots (pieces slash path))

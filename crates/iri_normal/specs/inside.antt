@@ -1,0 +1,8 @@
+-- What private contracts cite, and laws that an `impl` cites.
+pub mod Comparison
+pub mod DotSearch
+pub mod Beginning
+pub mod Written
+pub mod CutText
+pub mod NextDots
+pub mod Unchanged

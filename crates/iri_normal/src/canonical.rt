@@ -1,0 +1,132 @@
+//! Canonical texts (RFC 3986 sections 5.2, 6.2.2 and 6.2.3, RFC 3987 section 5.3.2).
+ghost use Rattle.std.specs.Prelude.{◌≡◌, None, IfOk, MatchResult};
+ghost use Rattle.iri_grammar.specs.Fault.{bytes_fault};
+ghost use Rattle.iri_grammar.specs.WholeFault.{absolute_fault, reference_fault};
+ghost use Rattle.iri_text.specs.Shown.{Shows};
+ghost use Rattle.iri_types.specs.SplitText.{split_text};
+ghost use Rattle.iri_types.specs.Texts.{text};
+ghost use Rattle.iri_normal.specs.Canonicalized.{CausedBy, IsCanonicalText, IsCanonicalTextIn};
+ghost use Rattle.iri_normal.specs.NormalForm.{canonical, canonical_in};
+ghost use Rattle.iri_normal.specs.Resolver.{base_text};
+
+use crate::mode::CanonMode;
+use crate::resolver::FixedBaseResolver;
+use crate::unchanged::show_behind;
+use iri_grammar::error::Error as GrammarError;
+use iri_grammar::spec::Spec;
+use iri_owned::owned::RiString;
+use iri_text::{Show, Stop, TextSink, ToDedicatedString};
+use iri_types::kind::Reference;
+use iri_types::split::SplitView;
+use iri_types::view::RiAbsoluteStr;
+use std::alloc::Global;
+use thiserror::Error;
+
+/// Why there is no canonical text.
+#[derive(Debug, Drop, Error)]
+pub enum CanonError {
+    /// The base isn't UTF-8 or no absolute URI: its first fault.
+    #[error("bad base: {0}")]
+    BadBase(GrammarError),
+    /// The base is valid; the reference isn't UTF-8 or no reference: its first fault.
+    #[error("bad reference: {0}")]
+    BadReference(GrammarError),
+    /// Allocation failed. Both were found valid.
+    #[error("out of memory")]
+    Memory,
+}
+
+/// Shows the canonical text of a reference against a resolver's base to a sink. It takes no memory, and where the sink stops, it
+/// stops within the text.
+pub fn show_canonical<'a, S: Spec, W: TextSink>(
+    sink: &mut W,
+    resolver: &FixedBaseResolver<'a, S>,
+    reference: &SplitView<'a, S, Reference>,
+) -> Result<(), Stop>
+    ensures { Shows W.puts W.halts W.stops sink.old
+        (canonical S.tests (base_text resolver.now) (split_text reference.now)) sink.new result }
+{
+    show_canonical_in(sink, CanonMode::Default, resolver, reference)
+}
+
+/// The same by the rules of a mode.
+pub fn show_canonical_in<'a, S: Spec, W: TextSink>(
+    sink: &mut W,
+    mode: CanonMode,
+    resolver: &FixedBaseResolver<'a, S>,
+    reference: &SplitView<'a, S, Reference>,
+) -> Result<(), Stop>
+    ensures { Shows W.puts W.halts W.stops sink.old
+        (canonical_in S.tests mode (base_text resolver.now) (split_text reference.now)) sink.new result }
+{
+    if let CanonMode::Default = mode {
+        if let Some(before) = resolver.before_unchanged(reference) {
+            let text = reference.view().as_str();
+            return show_behind(sink, before.prefix, before.front, text);
+        }
+    }
+    resolver
+        .resolve_split(reference)
+        .and_normalize_in(mode)
+        .show(sink)
+}
+
+// The canonical text of bytes against a base.
+fn canonicalize_against<S: Spec>(
+    alloc: Global,
+    mode: CanonMode,
+    base: RiAbsoluteStr<'_, S>,
+    reference: &[u8],
+) -> Result<RiString<S>, CanonError>
+    ensures { MatchResult result (λ t. (bytes_fault (reference_fault S.tests) reference.now ≡ None)
+        × (t.text ≡ canonical_in S.tests mode (text base.entry) reference.now))
+        (λ e. CausedBy e None (bytes_fault (reference_fault S.tests) reference.now)) }
+{
+    match SplitView::<S, Reference>::try_from_bytes(reference) {
+        Ok(reference) => {
+            let target = FixedBaseResolver::new(base).resolve_split(&reference);
+            match target.and_normalize_in(mode).try_to_dedicated_string(alloc) {
+                Ok(text) => Ok(text),
+                Err(_) => Err(CanonError::Memory),
+            }
+        }
+        Err(error) => Err(CanonError::BadReference(error)),
+    }
+}
+
+/// The canonical text of a reference against a base, both as bytes: the reference resolved (RFC 3986 section 5.2) and put into normal
+/// form (section 6.2.2). The base is validated first: `BadBase` where it is no absolute text of the spec, `BadReference` where the
+/// reference is none, each with the first fault, and `Memory` on allocation failure alone.
+pub fn canonicalize<S: Spec>(
+    alloc: Global,
+    base: &[u8],
+    reference: &[u8],
+) -> Result<RiString<S>, CanonError>
+    ensures causes { MatchResult result (λ _. (bytes_fault (absolute_fault S.tests) base.now ≡ None)
+        × (bytes_fault (reference_fault S.tests) reference.now ≡ None))
+        (λ e. CausedBy e (bytes_fault (absolute_fault S.tests) base.now)
+        (bytes_fault (reference_fault S.tests) reference.now)) }
+    ensures text { IfOk result (λ t. IsCanonicalText S.tests base.now reference.now t.text) }
+{
+    canonicalize_in::<S>(alloc, CanonMode::Default, base, reference)
+}
+
+/// The canonical text of a reference against a base, both as bytes, by the rules of a mode. The base is validated first; the refusals
+/// are those of [`canonicalize`].
+pub fn canonicalize_in<S: Spec>(
+    alloc: Global,
+    mode: CanonMode,
+    base: &[u8],
+    reference: &[u8],
+) -> Result<RiString<S>, CanonError>
+    ensures causes { MatchResult result (λ _. (bytes_fault (absolute_fault S.tests) base.now ≡ None)
+        × (bytes_fault (reference_fault S.tests) reference.now ≡ None))
+        (λ e. CausedBy e (bytes_fault (absolute_fault S.tests) base.now)
+        (bytes_fault (reference_fault S.tests) reference.now)) }
+    ensures text { IfOk result (λ t. IsCanonicalTextIn S.tests mode base.now reference.now t.text) }
+{
+    match RiAbsoluteStr::<S>::try_from_bytes(base) {
+        Ok(base) => canonicalize_against(alloc, mode, base, reference),
+        Err(error) => Err(CanonError::BadBase(error)),
+    }
+}

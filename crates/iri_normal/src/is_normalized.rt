@@ -1,0 +1,72 @@
+//! Tests of being in normal form (RFC 3986 section 6.2.2).
+ghost use Rattle.std.specs.Prelude.{◌≡◌, ◌↔◌, ℕ, List, false, true};
+ghost use Rattle.iri_grammar.specs.Classes.{Tests};
+ghost use Rattle.iri_grammar.specs.Split.{split_of};
+ghost use Rattle.iri_types.specs.Texts.{text};
+ghost use Rattle.iri_normal.specs.IsNormalized.{IsInMode};
+ghost use Rattle.iri_normal.specs.NormalForm.{is_unresolvable};
+ghost use Rattle.iri_normal.specs.Normalized.{written_text};
+ghost use Rattle.iri_normal.specs.NormalizedText.{written};
+ghost use Rattle.iri_normal.specs.declared.mode.Mode.TheVariants.{Normal, Preserving};
+
+use crate::comparison::is_text;
+use crate::normal_kind::NormalKind;
+use crate::normalized::NormalizedText;
+use crate::views::Normalize;
+use iri_grammar::spec::Spec;
+use iri_types::view::View;
+
+/// Texts that may be in normal form. Nothing here takes memory.
+pub trait IsNormalized: Sized {
+    /// The bytes of the text.
+    ghost bytes: { Self → List ℕ };
+
+    /// The classes of its characters.
+    ghost tests: { Tests };
+
+    /// Whether the text is its own normal form (RFC 3986 section 6.2.2).
+    fn is_normalized(self) -> bool
+        ensures { (result ≡ true) ↔ IsInMode tests Normal (bytes self) };
+
+    /// Whether it is, and RFC 3986 alone has a normal form of it: without an authority, its path doesn't begin with `//` once its dot
+    /// segments are removed.
+    fn is_normalized_rfc3986(self) -> bool
+        ensures { (result ≡ true) ↔ (IsInMode tests Normal (bytes self)
+            × (is_unresolvable false (split_of (bytes self)) ≡ false)) };
+
+    /// Whether the text is its own normal form where a path without authority that doesn't begin with a slash keeps its dot
+    /// segments.
+    fn is_normalized_but_authorityless_relative_path_preserved(self) -> bool
+        ensures { (result ≡ true) ↔ IsInMode tests Preserving (bytes self) };
+}
+
+// Whether what is shown of a view is its text.
+fn is_same<S: Spec, K: NormalKind>(view: View<'_, S, K>, shown: NormalizedText<'_, S, K>) -> bool
+    ensures { (result ≡ true) ↔ (written_text S.tests (written shown.entry) ≡ text view.entry) }
+{
+    is_text(&shown, view.as_str())
+}
+
+impl<'a, S: Spec, K: NormalKind> IsNormalized for View<'a, S, K> {
+    ghost bytes = { λ v. text v };
+
+    ghost tests = { S.tests };
+
+    fn is_normalized(self) -> bool {
+        is_same(self, self.normalize())
+    }
+
+    fn is_normalized_rfc3986(self) -> bool {
+        match self.ensure_rfc3986_normalizable() {
+            Ok(()) => is_same(self, self.normalize()),
+            Err(_) => false,
+        }
+    }
+
+    fn is_normalized_but_authorityless_relative_path_preserved(self) -> bool {
+        is_same(
+            self,
+            self.normalize_but_preserve_authorityless_relative_path(),
+        )
+    }
+}

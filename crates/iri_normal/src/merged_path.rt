@@ -1,0 +1,24 @@
+// A path in two pieces, as it is merged (RFC 3986 section 5.2.3).
+ghost use Rattle.std.specs.Prelude.{◌≡◌, ◌||◌, ◌++◌, true};
+ghost use Rattle.iri_grammar.specs.Parts.{is_empty};
+ghost use Rattle.iri_normal.specs.Target.{ends_at_slash};
+
+/// What the base gives of a path, and the reference's path after it. The first piece ends where a segment ends, or nothing follows it.
+#[derive(Clone, Copy)]
+pub struct MergedPath<'a> {
+    pub base: &'a str,
+    pub reference: &'a str,
+    pub ghost cut: { (is_empty reference.now || ends_at_slash base.now) ≡ true },
+}
+
+impl<'a> MergedPath<'a> {
+    /// A path of its own.
+    pub fn of(path: &'a str) -> Self
+        ensures { result.base.now ++ result.reference.now ≡ path.now }
+    {
+        MergedPath {
+            base: "",
+            reference: path,
+        }
+    }
+}

@@ -1,0 +1,195 @@
+//! Texts that show themselves resolved (RFC 3986 section 5.2) or in normal form (section 6.2.2). They take no memory.
+ghost use Rattle.std.specs.Prelude.{◌≡◌, ◌↔◌, true, None, Some, IsErr};
+ghost use Rattle.std.proofs.Props.{props};
+ghost use Rattle.iri_grammar.specs.OptionalSlices.{now_of};
+ghost use Rattle.iri_normal.specs.Normalized.{AreSound, Written, written_text, has_no_normal_form};
+ghost use Rattle.iri_normal.specs.Modes.{is_by_scheme, mode_of};
+ghost use Rattle.iri_normal.specs.Prefix.{IsPrefix};
+ghost use Rattle.iri_normal.specs.Slices.{slices};
+ghost use Rattle.iri_normal.specs.declared.mode.Mode.TheVariants.{ByScheme, Normal, Preserving};
+
+use crate::form::{show_behind, show_form};
+use crate::mode::{CanonMode, Mode, is_by_scheme, mode_of};
+use crate::normal_kind::NormalKind;
+use crate::path_writer::is_unresolvable;
+use crate::target::TargetSlices;
+use crate::unresolvable::Unresolvable;
+use iri_grammar::spec::Spec;
+use iri_owned::owned::Owned;
+use iri_text::{FormatSink, Show, Stop, TextSink, ToDedicatedString, ToStringFallible};
+use iri_types::kind::{Absolute, Iri};
+use std::alloc::{AllocError, Global};
+use std::fmt;
+use std::marker::PhantomData;
+
+/// Parts, borrowed, that show themselves as one text of the kind `K` in a mode: without dot segments alone, or in a normal form.
+pub struct NormalizedText<'a, S: Spec, K: NormalKind> {
+    prefix: Option<&'a str>,
+    target: TargetSlices<'a>,
+    whole: bool,
+    mode: Mode,
+    spec: PhantomData<S>,
+    kind: PhantomData<K>,
+    pub ghost sound: { ∥ AreSound S.tests K.fault target ∥₁ },
+    pub ghost prefixed: { IsPrefix S.tests (slices target) (now_of prefix) } by { Prim.hlevel props },
+}
+
+/// The same, as a `URI` of `S`.
+pub type Normalized<'a, S> = NormalizedText<'a, S, Iri>;
+
+/// The same, as an `absolute-URI` of `S`.
+pub type NormalizedAbsolute<'a, S> = NormalizedText<'a, S, Absolute>;
+
+impl<S: Spec, K: NormalKind> Clone for NormalizedText<'_, S, K> {
+    ghost is_clone = { λ a b. b ≡ a };
+
+    ghost is_infallible = { λ _. Unit {0} };
+
+    fn clone(&self) -> Result<Self, AllocError> {
+        Ok(*self)
+    }
+}
+
+impl<S: Spec, K: NormalKind> Copy for NormalizedText<'_, S, K> {}
+
+impl<'a, S: Spec, K: NormalKind> NormalizedText<'a, S, K> {
+    ghost use Rattle.iri_normal.specs.NormalizedText.{written};
+
+    // Slices in a mode.
+    pub(crate) fn new(target: TargetSlices<'a>, whole: bool, mode: Mode) -> Self
+        requires { ∥ AreSound S.tests K.fault target ∥₁ }
+        ensures { written result ≡ record { parts = slices target.entry; whole = whole; mode = mode } }
+    {
+        NormalizedText::behind(None, target, whole, mode)
+    }
+
+    // The same, with their prefix, where that is in normal form as it stands.
+    pub(crate) fn behind(
+        prefix: Option<&'a str>,
+        target: TargetSlices<'a>,
+        whole: bool,
+        mode: Mode,
+    ) -> Self
+        requires sound { ∥ AreSound S.tests K.fault target ∥₁ }
+        requires prefix { IsPrefix S.tests (slices target) (now_of prefix) }
+        ensures { written result ≡ record { parts = slices target.entry; whole = whole; mode = mode } }
+    {
+        NormalizedText {
+            prefix,
+            target,
+            whole,
+            mode,
+            spec: PhantomData,
+            kind: PhantomData,
+        }
+    }
+
+    /// From now on the text is in normal form (RFC 3986 section 6.2.2).
+    pub fn enable_normalization(&mut self)
+        ensures { written self.new ≡ record (written self.old) { mode = Normal } }
+    {
+        self.mode = Mode::Normal;
+    }
+
+    /// From now on the text is in normal form, but a path without authority that doesn't begin with a slash keeps its dot segments.
+    pub fn enable_normalization_preserving_authorityless_relative_path(&mut self)
+        ensures { written self.new ≡ record (written self.old) { mode = Preserving } }
+    {
+        self.mode = Mode::Preserving;
+    }
+
+    /// From now on the text is in normal form by scheme rules too (RFC 3986 section 6.2.3): the scheme's default port goes, and an
+    /// empty path beside an authority becomes `/`, for `http`, `https`, `ws`, `wss` and `ftp`.
+    pub fn enable_scheme_normalization(&mut self)
+        ensures { written self.new ≡ record (written self.old) { mode = ByScheme } }
+    {
+        self.mode = Mode::ByScheme;
+    }
+
+    /// The same parts in normal form (RFC 3986 section 6.2.2).
+    pub fn and_normalize(self) -> Self
+        ensures { written result ≡ record (written self.entry) { mode = Normal } }
+    {
+        NormalizedText::behind(self.prefix, self.target, self.whole, Mode::Normal)
+    }
+
+    /// The same parts in normal form, but a path without authority that doesn't begin with a slash keeps its dot segments.
+    pub fn and_normalize_but_preserve_authorityless_relative_path(self) -> Self
+        ensures { written result ≡ record (written self.entry) { mode = Preserving } }
+    {
+        NormalizedText::behind(self.prefix, self.target, self.whole, Mode::Preserving)
+    }
+
+    /// The same parts in normal form by scheme rules too (RFC 3986 section 6.2.3).
+    pub fn and_normalize_by_scheme(self) -> Self
+        ensures { written result ≡ record (written self.entry) { mode = ByScheme } }
+    {
+        NormalizedText::behind(self.prefix, self.target, self.whole, Mode::ByScheme)
+    }
+
+    // The same parts in either normal form.
+    pub(crate) fn and_normalize_in(self, mode: CanonMode) -> Self
+        ensures { written result ≡ record (written self.entry) { mode = mode_of mode } }
+    {
+        NormalizedText::behind(self.prefix, self.target, self.whole, mode_of(mode))
+    }
+
+    // The prefix, where it can be used in the mode.
+    fn usable_prefix(&self) -> Option<&'a str>
+        ensures { (IsPrefix S.tests (slices self.now.target) (now_of result)) × ((is_by_scheme self.now.mode ≡ true) → (result ≡ None)) }
+    {
+        if is_by_scheme(self.mode) {
+            None
+        } else {
+            self.prefix
+        }
+    }
+
+    /// Whether RFC 3986 alone has a normal form of the parts, without the `/.` before a path that would be read as an authority: Err
+    /// where no authority stands, the path isn't the base's, taken whole, and without its dot segments it begins with two slashes.
+    /// It takes no memory.
+    pub fn ensure_rfc3986_normalizable(&self) -> Result<(), Unresolvable>
+        ensures { IsErr result ↔ (has_no_normal_form (written self.now) ≡ true) }
+    {
+        if is_unresolvable::<S>(&self.target, self.whole) {
+            Err(Unresolvable)
+        } else {
+            Ok(())
+        }
+    }
+}
+
+impl<S: Spec, K: NormalKind> Show for NormalizedText<'_, S, K> {
+    ghost use Rattle.iri_normal.specs.NormalizedText.{written};
+
+    ghost text = { λ n. written_text S.tests (written n) };
+
+    fn show<W: TextSink>(&self, sink: &mut W) -> Result<(), Stop> {
+        match self.usable_prefix() {
+            Some(prefix) => {
+                show_behind::<S, W>(sink, prefix, &self.target, self.mode, self.whole)
+            }
+            None => show_form::<S, W>(sink, &self.target, self.mode, self.whole),
+        }
+    }
+}
+
+impl<S: Spec, K: NormalKind> fmt::Display for NormalizedText<'_, S, K> {
+    ghost use Rattle.iri_normal.specs.NormalizedText.{written};
+
+    ghost output = { λ n. Some (written_text S.tests (written n)) };
+
+    fn fmt<W: fmt::Write>(&self, f: &mut fmt::Formatter<W>) -> fmt::Result {
+        FormatSink::new(f).display(self)
+    }
+}
+
+impl<S: Spec, K: NormalKind> ToDedicatedString for NormalizedText<'_, S, K> {
+    type Target = Owned<S, K>;
+
+    fn try_to_dedicated_string(&self, alloc: Global) -> Result<Owned<S, K>, AllocError> {
+        let text = self.try_to_string(alloc)?;
+        K::forms_are_valid();
+        Ok(Owned::from_valid(text))
+    }
+}

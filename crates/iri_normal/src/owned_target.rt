@@ -1,0 +1,143 @@
+//! The target of a reference, owned.
+ghost use Rattle.std.specs.Prelude.{◌≡◌, ◌++◌, IfOk, IsSome, Some, string_bytes, true};
+ghost use Rattle.iri_grammar.specs.Parts.{Fits};
+ghost use Rattle.iri_grammar.specs.OptionalSlices.{now_of};
+ghost use Rattle.iri_normal.specs.Resolver.{bytes_of};
+ghost use Rattle.iri_normal.specs.Slices.{slices};
+
+use crate::merged_path::MergedPath;
+use crate::target::TargetSlices;
+use iri_grammar::spec::Spec;
+use std::alloc::{AllocError, Global};
+use std::marker::{Model, PhantomData};
+
+/// Five parts with a scheme that fit the grammar of `S`: they recompose to a URI of `S`, and are its split. It is seen as
+/// these parts.
+#[derive(Drop)]
+pub struct Target<S: Spec> {
+    scheme: String,
+    authority: Option<String>,
+    path: String,
+    query: Option<String>,
+    fragment: Option<String>,
+    spec: PhantomData<S>,
+}
+
+impl<S: Spec> Model for Target<S> {
+    ghost use Rattle.std.specs.Prelude.{Some, string_bytes};
+    ghost use Rattle.iri_grammar.specs.Parts.{Parts, Fits};
+    ghost use Rattle.iri_normal.specs.Resolver.{bytes_of};
+
+    ghost Value = { Parts };
+
+    ghost view = { λ t. record {
+      scheme = Some (string_bytes t.scheme);
+      authority = bytes_of t.authority;
+      path = string_bytes t.path;
+      query = bytes_of t.query;
+      fragment = bytes_of t.fragment;
+    } };
+
+    ghost invariant = { λ t. Fits S.tests (record {
+      scheme = Some (string_bytes t.scheme);
+      authority = bytes_of t.authority;
+      path = string_bytes t.path;
+      query = bytes_of t.query;
+      fragment =
+          bytes_of t.fragment;
+    }) };
+}
+
+// A copy of a part that may stand.
+fn copied(alloc: Global, part: Option<&str>) -> Result<Option<String>, AllocError>
+    ensures { IfOk result (λ copy. bytes_of copy ≡ now_of part.entry) }
+{
+    match part {
+        Some(part) => Ok(Some(String::from_str(alloc, part)?)),
+        None => Ok(None),
+    }
+}
+
+// The path in one text.
+fn joined(alloc: Global, base: &str, path: &str) -> Result<String, AllocError>
+    ensures { IfOk result (λ text. string_bytes text ≡ base.now ++ path.now) }
+{
+    let mut text = String::from_str(alloc, base)?;
+    text.push_str(path)?;
+    Ok(text)
+}
+
+#[tactic(auto, using(crate::proofs::Borrowed::borrowed))]
+impl<S: Spec> Target<S> {
+    /// Copies of slices that fit and have a scheme.
+    pub fn of(alloc: Global, parts: &TargetSlices<'_>) -> Result<Self, AllocError>
+        requires fits { Fits S.tests (slices parts.now) }
+        requires scheme { IsSome (slices parts.now).scheme }
+        ensures { IfOk result (λ t. t ≡ slices parts.now) }
+    {
+        let scheme = String::from_str(alloc, parts.scheme.unwrap())?;
+        let authority = copied(alloc, parts.authority)?;
+        let path = joined(alloc, parts.path.base, parts.path.reference)?;
+        let query = copied(alloc, parts.query)?;
+        let fragment = copied(alloc, parts.fragment)?;
+        Ok(Target {
+            scheme,
+            authority,
+            path,
+            query,
+            fragment,
+            spec: PhantomData,
+        })
+    }
+
+    /// The parts, borrowed.
+    pub fn slices(&self) -> TargetSlices<'_>
+        ensures parts { slices result ≡ self.now }
+        ensures fits { Fits S.tests self.now }
+        ensures scheme { IsSome self.now.scheme }
+    {
+        TargetSlices {
+            scheme: Some(self.scheme.as_str()),
+            authority: self.authority.as_deref(),
+            path: MergedPath::of(self.path.as_str()),
+            query: self.query.as_deref(),
+            fragment: self.fragment.as_deref(),
+        }
+    }
+
+    /// The scheme, without its colon. The parts fit the grammar of `S`.
+    pub fn scheme(&self) -> &str
+        ensures scheme { Some result.now ≡ self.now.scheme }
+        ensures fits { Fits S.tests self.now }
+    {
+        self.scheme.as_str()
+    }
+
+    /// The authority, without the slashes before it; none exactly where no authority stands.
+    pub fn authority(&self) -> Option<&str>
+        ensures { now_of result ≡ self.now.authority }
+    {
+        self.authority.as_deref()
+    }
+
+    /// The path, which may be empty.
+    pub fn path(&self) -> &str
+        ensures { result.now ≡ self.now.path }
+    {
+        self.path.as_str()
+    }
+
+    /// The query, without its question mark; none exactly where no question mark begins one.
+    pub fn query(&self) -> Option<&str>
+        ensures { now_of result ≡ self.now.query }
+    {
+        self.query.as_deref()
+    }
+
+    /// The fragment, without its number sign; none exactly where no number sign stands.
+    pub fn fragment(&self) -> Option<&str>
+        ensures { now_of result ≡ self.now.fragment }
+    {
+        self.fragment.as_deref()
+    }
+}

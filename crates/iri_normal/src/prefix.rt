@@ -1,0 +1,77 @@
+// The prefix of a base: its scheme with the colon, and `//` with its authority.
+ghost use Rattle.std.specs.Prelude.{◌≡◌, ◌<◌, ◌^◌, ◌++◌, false, true, length};
+ghost use Rattle.iri_grammar.specs.Parts.{scheme_text, authority_text};
+ghost use Rattle.iri_grammar.specs.Split.{split_of};
+ghost use Rattle.iri_grammar.specs.OptionalSlices.{now_of};
+ghost use Rattle.iri_types.specs.SplitText.{split_text};
+ghost use Rattle.iri_normal.specs.Prefix.{IsPrefix, prefix_in};
+
+use crate::comparison::is_text;
+use crate::form::show_prefix;
+use iri_grammar::spec::Spec;
+use iri_text::{Show, Stop, TextSink};
+use iri_types::kind::Absolute;
+use iri_types::split::SplitView;
+
+// The prefix of a base in normal form.
+#[derive(Drop)]
+struct NormalPrefix<'a, S: Spec> {
+    base: SplitView<'a, S, Absolute>,
+}
+
+impl<S: Spec> Show for NormalPrefix<'_, S> {
+    ghost text = { λ p. prefix_in S.tests true (split_of (split_text p.base)) };
+
+    fn show<W: TextSink>(&self, sink: &mut W) -> Result<(), Stop> {
+        let parts = self.base.parts();
+        show_prefix::<S, W>(sink, parts.scheme(), parts.authority(), true)
+    }
+}
+
+fn scheme_len(scheme: Option<&str>) -> usize
+    ensures { result ≡ length (scheme_text (now_of scheme.entry)) }
+{
+    match scheme {
+        Some(scheme) => scheme.len() + 1,
+        None => 0,
+    }
+}
+
+fn authority_len(authority: Option<&str>) -> usize
+    ensures { result ≡ length (authority_text (now_of authority.entry)) }
+{
+    match authority {
+        Some(authority) => authority.len() + 2,
+        None => 0,
+    }
+}
+
+// How many bytes a prefix has.
+fn prefix_len(scheme: Option<&str>, authority: Option<&str>) -> usize
+    requires { length (scheme_text (now_of scheme) ++ authority_text (now_of authority)) < 2 ^ 64 }
+    ensures { result ≡ length (scheme_text (now_of scheme.entry) ++ authority_text (now_of authority.entry)) }
+{
+    scheme_len(scheme) + authority_len(authority)
+}
+
+// The prefix of a base as it stands.
+fn prefix<'a, S: Spec>(base: &SplitView<'a, S, Absolute>) -> &'a str
+    ensures { result.now ≡ prefix_in S.tests false (split_of (split_text base.now)) }
+{
+    let text = base.view().as_str();
+    let parts = base.parts();
+    let len = prefix_len(parts.scheme(), parts.authority());
+    &text[..len]
+}
+
+/// The prefix of a base, where it is in normal form.
+pub fn normal_prefix<'a, S: Spec>(base: &SplitView<'a, S, Absolute>) -> Option<&'a str>
+    ensures { IsPrefix S.tests (split_of (split_text base.now)) (now_of result) }
+{
+    let text = prefix(base);
+    if is_text(&NormalPrefix { base: *base }, text) {
+        Some(text)
+    } else {
+        None
+    }
+}

@@ -1,0 +1,223 @@
+// Removal of dot segments (RFC 3986 section 5.2.4), into a sink, with no memory.
+//
+// The output buffer of the definition holds segments, each with its slash. A path of up to 512 bytes goes into such a buffer on the
+// stack, run by run (`written`): in the end it holds the path without its dot segments (`dots`), by the law `written-dots`. A longer
+// one is shown in parts. After a slash, segments take some of those before them away and then push what stays of themselves (`taken`,
+// `kept`), and the law `path-stays` says that this is what the buffer does: so a part is shown as soon as it was counted, forward, how
+// many of its segments the parts after it take away. Each part is cut in two until it is short or stays as it stands; the second part
+// is an eighth of it, so that all counts together go through a text of 64 KiB less than twice.
+ghost use Rattle.std.specs.Prelude.{◌≡◌, ◌<◌, ◌≤◌, ◌+◌, ◌^◌, ◌==◌, ◌++◌, ◌&&◌, ◌||◌, ◌∷◌, [], false, not, true, drop, length, take};
+ghost use Rattle.std.specs.Str.{IsUtf8};
+ghost use Rattle.iri_grammar.specs.Characters.{slash};
+ghost use Rattle.iri_grammar.specs.Components.{is_path};
+ghost use Rattle.iri_grammar.specs.Cut.{before, lacks};
+ghost use Rattle.iri_grammar.specs.Parts.{is_empty};
+ghost use Rattle.iri_grammar.specs.Pieces.{pieces};
+ghost use Rattle.iri_percent.specs.Units.{whole_triplets};
+ghost use Rattle.iri_normal.specs.DotRemoval.{dots};
+ghost use Rattle.iri_normal.specs.Dots.{has_dot_segment, is_dot_segment};
+ghost use Rattle.iri_normal.specs.Kept.{kept};
+ghost use Rattle.iri_normal.specs.PathForm.{in_form};
+ghost use Rattle.iri_normal.specs.Slices.{merged};
+ghost use Rattle.iri_normal.specs.Target.{ends_at_slash};
+ghost use Rattle.iri_normal.specs.inside.Written.{popped_times, written};
+ghost use Rattle.iri_text.specs.Shown.{Shows};
+
+use self::output_buffer::{SHORT, put_kept, put_path};
+use self::segments::{cut_eighth, taken, without_first_dots};
+use crate::dots::has_dot_segment;
+use crate::merged_path::MergedPath;
+use iri_grammar::cutting::cut;
+use iri_grammar::spec::Spec;
+use iri_percent::PctCaseNormalized;
+use iri_text::{Show, Stop, TextSink};
+
+mod output_buffer;
+mod segments;
+
+/// A part, its triplets in normal form where that is asked for.
+pub fn show_part<S: Spec, W: TextSink>(sink: &mut W, part: &str, normal: bool) -> Result<(), Stop>
+    requires { whole_triplets part.now ≡ true }
+    ensures { Shows W.puts W.halts W.stops sink.old (in_form S.tests normal part.now) sink.new result }
+{
+    if part.is_empty() {
+        return Ok(());
+    }
+    if normal {
+        PctCaseNormalized::<S>::new(part).show(sink)
+    } else {
+        sink.put(part)
+    }
+}
+
+/// A path as it stands.
+#[inline(always)]
+pub fn show_as_it_stands<S: Spec, W: TextSink>(
+    sink: &mut W,
+    path: &MergedPath<'_>,
+    normal: bool,
+) -> Result<(), Stop>
+    requires { whole_triplets (merged path.now) ≡ true }
+    ensures { Shows W.puts W.halts W.stops sink.old (in_form S.tests normal (merged path.now)) sink.new result }
+{
+    show_part::<S, W>(sink, path.base, normal)?;
+    show_part::<S, W>(sink, path.reference, normal)
+}
+
+// The text that stands in the buffer between two places.
+fn text_of(buf: &[u8; SHORT], start: usize, len: usize) -> &str
+    requires within { (start ≤ len) × (len ≤ 512) }
+    requires utf8 { IsUtf8 (drop start (take len buf.now)) }
+    ensures { result.now ≡ drop start (take len buf.now) }
+{
+    unsafe { str::from_utf8_unchecked(&buf[start..len]) }
+}
+
+// A short path.
+fn show_short<S: Spec, W: TextSink>(
+    sink: &mut W,
+    path: &MergedPath<'_>,
+    normal: bool,
+) -> Result<(), Stop>
+    requires path { is_path S.tests (merged path.now) ≡ true }
+    requires short { length path.now.base.now + length path.now.reference.now ≤ 512 }
+    ensures { Shows W.puts W.halts W.stops sink.old (in_form S.tests normal (dots (merged path.now))) sink.new result }
+{
+    let mut buf = [0u8; SHORT];
+    let len = put_path(&mut buf, path.base.as_bytes(), path.reference.as_bytes());
+    show_part::<S, W>(sink, text_of(&buf, 0, len), normal)
+}
+
+// What stays of a short part after a slash, where `count` segments are taken away after it.
+fn show_few<S: Spec, W: TextSink>(
+    sink: &mut W,
+    text: &str,
+    count: usize,
+    normal: bool,
+) -> Result<(), Stop>
+    requires ends { (ends_at_slash text.now || count == 0) ≡ true }
+    requires path { is_path S.tests text.now ≡ true }
+    requires short { length text.now < 512 }
+    ensures { Shows W.puts W.halts W.stops sink.old (in_form S.tests normal (kept (pieces slash text.now) count)) sink.new result }
+{
+    let mut buf = [0u8; SHORT];
+    let len = put_kept(&mut buf, text.as_bytes(), count);
+    show_part::<S, W>(sink, text_of(&buf, 1, len), normal)
+}
+
+// Whether all segments stay as they are.
+fn stays(text: &str, count: usize) -> bool
+    ensures { result ≡ (count == 0 && not (has_dot_segment text.now)) }
+{
+    count == 0 && !has_dot_segment(text)
+}
+
+// What stays of a part after a slash, where `count` segments are taken away after it.
+fn show_kept<S: Spec, W: TextSink>(
+    sink: &mut W,
+    text: &str,
+    count: usize,
+    normal: bool,
+) -> Result<(), Stop>
+    requires ends { (ends_at_slash text.now || count == 0) ≡ true }
+    requires path { is_path S.tests text.now ≡ true }
+    requires room { count + length text.now < 2 ^ 64 }
+    ensures { Shows W.puts W.halts W.stops sink.old (in_form S.tests normal (kept (pieces slash text.now) count)) sink.new result }
+{
+    if text.len() < SHORT {
+        return show_few::<S, W>(sink, text, count, normal);
+    }
+    if stays(text, count) {
+        return show_part::<S, W>(sink, text, normal);
+    }
+    let Some((first, rest)) = cut_eighth(text) else {
+        return Ok(());
+    };
+    show_kept::<S, W>(sink, first, taken(rest, count), normal)?;
+    show_kept::<S, W>(sink, rest, count, normal)
+}
+
+// The first segment with its slash, or its slash alone where `count` segments are taken away.
+fn show_first<S: Spec, W: TextSink>(
+    sink: &mut W,
+    segment: &str,
+    count: usize,
+    normal: bool,
+) -> Result<(), Stop>
+    requires path { is_path S.tests segment.now ≡ true }
+    requires one { lacks slash segment.now ≡ true }
+    ensures { Shows W.puts W.halts W.stops sink.old
+        (in_form S.tests normal (popped_times count (segment.now ++ slash ∷ []))) sink.new result }
+{
+    if count > 0 {
+        return sink.put("/");
+    }
+    show_part::<S, W>(sink, segment, normal)?;
+    sink.put("/")
+}
+
+// A text that begins with no dot segment, and more, which follows where a segment of it ends.
+fn show_from_first<S: Spec, W: TextSink>(
+    sink: &mut W,
+    text: &str,
+    more: &str,
+    normal: bool,
+) -> Result<(), Stop>
+    requires cut { (is_empty more.now || ends_at_slash text.now && not (is_empty text.now)) ≡ true }
+    requires plain { is_dot_segment (before slash text.now) ≡ false }
+    requires paths { (is_path S.tests text.now ≡ true) × (is_path S.tests more.now ≡ true) }
+    ensures { Shows W.puts W.halts W.stops sink.old
+        (in_form S.tests normal (written (written [] text.now) more.now)) sink.new result }
+{
+    let (segment, after) = cut(text, b'/');
+    let Some(rest) = after else {
+        return show_part::<S, W>(sink, text, normal);
+    };
+    let count = taken(more, 0);
+    show_first::<S, W>(sink, segment, taken(rest, count), normal)?;
+    show_kept::<S, W>(sink, rest, count, normal)?;
+    show_kept::<S, W>(sink, more, 0, normal)
+}
+
+// A long path.
+fn show_long<S: Spec, W: TextSink>(
+    sink: &mut W,
+    path: &MergedPath<'_>,
+    normal: bool,
+) -> Result<(), Stop>
+    requires { is_path S.tests (merged path.now) ≡ true }
+    ensures { Shows W.puts W.halts W.stops sink.old (in_form S.tests normal (dots (merged path.now))) sink.new result }
+{
+    let base = without_first_dots::<S>(path.base);
+    if base.is_empty() {
+        let reference = without_first_dots::<S>(path.reference);
+        return show_from_first::<S, W>(sink, reference, "", normal);
+    }
+    show_from_first::<S, W>(sink, base, path.reference, normal)
+}
+
+// Whether a dot segment stands in a path.
+fn has_dots(path: &MergedPath<'_>) -> bool
+    ensures { result ≡ has_dot_segment (merged path.now) }
+{
+    has_dot_segment(path.reference) || has_dot_segment(path.base)
+}
+
+/// A path without its dot segments.
+#[inline(always)]
+pub fn show_without_dots<S: Spec, W: TextSink>(
+    sink: &mut W,
+    path: &MergedPath<'_>,
+    normal: bool,
+) -> Result<(), Stop>
+    requires { is_path S.tests (merged path.now) ≡ true }
+    ensures { Shows W.puts W.halts W.stops sink.old (in_form S.tests normal (dots (merged path.now))) sink.new result }
+{
+    if !has_dots(path) {
+        return show_as_it_stands::<S, W>(sink, path, normal);
+    }
+    if path.base.len() <= SHORT && path.reference.len() <= SHORT - path.base.len() {
+        return show_short::<S, W>(sink, path, normal);
+    }
+    show_long::<S, W>(sink, path, normal)
+}

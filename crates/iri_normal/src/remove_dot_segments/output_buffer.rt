@@ -1,0 +1,126 @@
+// The output buffer of dot removal: the segments that stay so far, each with its slash.
+ghost use Rattle.std.specs.Prelude.{◌≡◌, ◌<◌, ◌≤◌, ◌+◌, ◌++◌, ◌∷◌, ◌||◌, ◌==◌, length, take, false, true};
+ghost use Rattle.memchr.specs.Find.{IsLastByte, is_byte};
+ghost use Rattle.iri_grammar.specs.Characters.{slash};
+ghost use Rattle.iri_grammar.specs.Parts.{is_empty};
+ghost use Rattle.iri_grammar.specs.Pieces.{pieces};
+ghost use Rattle.iri_normal.specs.DotRemoval.{dots};
+ghost use Rattle.iri_normal.specs.Kept.{kept};
+ghost use Rattle.iri_normal.specs.Target.{ends_at_slash};
+ghost use Rattle.iri_normal.specs.inside.Written.{left, popped, popped_times, written};
+
+use crate::dots::next_dots;
+
+/// How many bytes a path has at most that is gathered.
+pub(crate) const SHORT: usize = 512;
+
+fn append(buf: &mut [u8; SHORT], len: usize, piece: &[u8]) -> usize
+    requires room { len + length piece.now ≤ 512 }
+    ensures len { result ≡ len + length piece.now }
+    ensures text { take result buf.new ≡ take len buf.old ++ piece.now }
+{
+    let end = len + piece.len();
+    buf[len..end].copy_from_slice(piece);
+    end
+}
+
+// Where the last slash stands. Segments are short where there are many, so it is looked for byte by byte.
+fn rfind_near(bytes: &[u8]) -> Option<usize>
+    ensures { IsLastByte (is_byte 47) bytes.now result }
+{
+    let mut rest = bytes;
+    'bytes: while let [front @ .., last] = rest {
+        if *last == b'/' {
+            return Some(front.len());
+        }
+        rest = front;
+    }
+    None
+}
+
+// The last segment goes; where it is the first one, its slash stays.
+fn pop(buf: &mut [u8; SHORT], len: usize) -> usize
+    requires within { len ≤ 512 }
+    requires ends { ends_at_slash (take len buf.old) ≡ true }
+    ensures within { result ≤ len }
+    ensures text { take result buf.new ≡ popped (take len buf.old) }
+{
+    if len == 0 {
+        return 0;
+    }
+    match rfind_near(&buf[..len - 1]) {
+        Some(i) => i + 1,
+        None => {
+            buf[0] = b'/';
+            1
+        }
+    }
+}
+
+// What a dot segment leaves.
+fn leave(buf: &mut [u8; SHORT], len: usize, two: bool) -> usize
+    requires within { len ≤ 512 }
+    requires ends { ends_at_slash (take len buf.old) ≡ true }
+    ensures within { result ≤ len }
+    ensures text { take result buf.new ≡ left two (take len buf.old) }
+{
+    if two { pop(buf, len) } else { len }
+}
+
+// Puts a path after what stands in the buffer, without its dot segments.
+#[inline(always)]
+fn put(buf: &mut [u8; SHORT], len: usize, path: &[u8]) -> usize
+    requires room { len + length path.now ≤ 512 }
+    requires ends { (is_empty path.now || ends_at_slash (take len buf.old)) ≡ true }
+    ensures within { result ≤ len + length path.now }
+    ensures text { take result buf.new ≡ written (take len buf.old) path.now }
+{
+    let mut rest = path;
+    let mut end = len;
+    'dots: while let Some(next) = next_dots(rest, false) {
+        end = append(buf, end, next.run);
+        end = leave(buf, end, next.two);
+        rest = next.rest;
+    }
+    append(buf, end, rest)
+}
+
+// So many times the last segment goes. Of the first one the slash stays.
+fn pop_times(buf: &mut [u8; SHORT], len: usize, count: usize) -> usize
+    requires within { len ≤ 512 }
+    requires ends { (ends_at_slash (take len buf.old) || count == 0) ≡ true }
+    ensures within { result ≤ len }
+    ensures text { take result buf.new ≡ popped_times count (take len buf.old) }
+{
+    let mut end = len;
+    let mut left = count;
+    'pops: while left > 0 && end > 1 {
+        end = pop(buf, end);
+        left -= 1;
+    }
+    end
+}
+
+/// Puts a short path in two pieces, cut where a segment ends or with nothing after the cut, without its dot segments.
+pub(crate) fn put_path(buf: &mut [u8; SHORT], base: &[u8], reference: &[u8]) -> usize
+    requires cut { (is_empty reference.now || ends_at_slash base.now) ≡ true }
+    requires short { length base.now + length reference.now ≤ 512 }
+    ensures within { result ≤ 512 }
+    ensures text { take result buf.new ≡ dots (base.now ++ reference.now) }
+{
+    let first = put(buf, 0, base);
+    put(buf, first, reference)
+}
+
+/// Puts what stays of a part of a longer path, where `count` segments are taken away after it. A slash stands before it, which no dot
+/// segment takes away.
+pub(crate) fn put_kept(buf: &mut [u8; SHORT], text: &[u8], count: usize) -> usize
+    requires ends { (ends_at_slash text.now || count == 0) ≡ true }
+    requires short { length text.now < 512 }
+    ensures within { (1 ≤ result) × (result ≤ 512) }
+    ensures text { take result buf.new ≡ slash ∷ kept (pieces slash text.now) count }
+{
+    buf[0] = b'/';
+    let all = put(buf, 1, text);
+    pop_times(buf, all, count)
+}

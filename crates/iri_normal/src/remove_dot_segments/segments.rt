@@ -1,0 +1,100 @@
+// A long path cut between its segments, and how many of them later ones take away.
+ghost use Rattle.std.specs.Prelude.{◌≡◌, ◌<◌, ◌≤◌, ◌+◌, ◌-◌, ◌^◌, ◌++◌, ℕ, [], MatchOption, cond, false, true, length, slice_index, count_by, take};
+ghost use Rattle.memchr.specs.Find.{is_byte};
+ghost use Rattle.iri_grammar.specs.Characters.{slash};
+ghost use Rattle.iri_grammar.specs.Components.{is_path};
+ghost use Rattle.iri_grammar.specs.Cut.{before, lacks};
+ghost use Rattle.iri_grammar.specs.Pieces.{pieces};
+ghost use Rattle.iri_normal.specs.Dots.{is_dot_segment};
+ghost use Rattle.iri_normal.specs.Kept.{taken};
+ghost use Rattle.iri_normal.specs.Target.{ends_at_slash};
+ghost use Rattle.iri_normal.specs.inside.CutText.{IsCut};
+ghost use Rattle.iri_normal.specs.inside.Written.{written};
+
+use crate::dots::{is_dot_segment, next_dots};
+use iri_grammar::cutting::cut;
+use iri_grammar::spec::Spec;
+use memchr::{memchr, memrchr};
+
+// How many slashes stand in a text.
+fn count_slashes(text: &[u8]) -> usize
+    ensures { result ≡ count_by (is_byte 47) text.now }
+{
+    text.iter().filter(|b| **b == b'/').count()
+}
+
+// How many segments are taken away before segments, and how many of these stay, after a dot segment more.
+fn counts_after(gone: usize, stay: usize, two: bool) -> (usize, usize)
+    requires { gone + stay + 1 < 2 ^ 64 }
+    ensures counts { (n : ℕ) → result.0 + (n - result.1) ≡ gone + (cond two (n + 1) n - stay) }
+    ensures room { result.0 + result.1 ≤ gone + stay + 1 }
+{
+    if !two {
+        (gone, stay)
+    } else if stay == 0 {
+        (gone + 1, 0)
+    } else {
+        (gone, stay - 1)
+    }
+}
+
+/// How many segments a path takes away before it, where `count` are taken away after it.
+pub(crate) fn taken(text: &str, count: usize) -> usize
+    requires room { count + length text.now < 2 ^ 64 }
+    ensures count { result ≡ taken (pieces slash text.now) count }
+    ensures room { result ≤ count + length text.now }
+{
+    let mut rest = text.as_bytes();
+    let mut gone = 0;
+    let mut stay = 0;
+    'dots: while let Some(next) = next_dots(rest, false) {
+        (gone, stay) = counts_after(gone, stay + count_slashes(next.run), next.two);
+        rest = next.rest;
+    }
+    gone + count.saturating_sub(stay + count_slashes(rest))
+}
+
+/// A path without the dot segments at its start.
+pub(crate) fn without_first_dots<S: Spec>(text: &str) -> &str
+    requires path { is_path S.tests text.now ≡ true }
+    ensures ends { ends_at_slash text.now ≡ true → ends_at_slash result.now ≡ true }
+    ensures path { is_path S.tests result.now ≡ true }
+    ensures plain { is_dot_segment (before slash result.now) ≡ false }
+    ensures same { written [] result.now ≡ written [] text.now }
+{
+    let mut rest = text;
+    'dots: loop {
+        let (segment, more) = cut(rest, b'/');
+        if !is_dot_segment(segment) {
+            return rest;
+        }
+        match more {
+            Some(next) => rest = next,
+            None => return "",
+        }
+    }
+}
+
+// Where the last slash of the first seven eighths stands, or the first one before the end.
+fn slash_to_cut(text: &[u8]) -> Option<usize>
+    requires { 8 ≤ length text.now }
+    ensures { MatchOption result (lacks slash (take (length text.now - 1) text.now) ≡ true)
+        (λ i. (i + 1 < length text.now) × (slice_index text.now i ≡ 47)) }
+{
+    match memrchr(b'/', &text[..text.len() / 8 * 7]) {
+        Some(i) => Some(i),
+        None => memchr(b'/', &text[..text.len() - 1]),
+    }
+}
+
+/// A path cut after a segment, about an eighth of it after the cut where that can be. `None` where it is one segment.
+pub(crate) fn cut_eighth(text: &str) -> Option<(&str, &str)>
+    requires { 8 ≤ length text.now }
+    ensures { MatchOption result (lacks slash (take (length text.now - 1) text.now) ≡ true)
+        (λ parts. IsCut text.now parts.0.now parts.1.now) }
+{
+    match slash_to_cut(text.as_bytes()) {
+        Some(i) => Some((&text[..i + 1], &text[i + 1..])),
+        None => None,
+    }
+}

@@ -1,0 +1,234 @@
+//! References against one base (RFC 3986 section 5.2).
+ghost use Rattle.std.specs.Prelude.{◌≡◌, ◌++◌, IfOk, IsSome, MatchOption, None, Some, true};
+ghost use Rattle.iri_grammar.specs.Parts.{Fits, Parts};
+ghost use Rattle.iri_grammar.specs.Split.{split_of};
+ghost use Rattle.iri_grammar.specs.Splitters.{parts};
+ghost use Rattle.iri_grammar.specs.OptionalSlices.{now_of};
+ghost use Rattle.iri_types.specs.SplitText.{split_text};
+ghost use Rattle.iri_types.specs.Texts.{text, text_of};
+ghost use Rattle.iri_normal.specs.NormalForm.{canonical};
+ghost use Rattle.iri_normal.specs.Prefix.{IsPrefix};
+ghost use Rattle.iri_normal.specs.inside.Unchanged.{StandBefore, is_plain_front};
+ghost use Rattle.iri_normal.specs.Slices.{slices};
+ghost use Rattle.iri_normal.specs.Target.{ends_at_slash, merge_prefix, target, takes_base_path};
+ghost use Rattle.std.proofs.Props.{props};
+ghost use Rattle.iri_normal.specs.declared.mode.Mode.TheVariants.{Plain};
+
+use crate::mode::Mode;
+use crate::normalized::{Normalized, NormalizedText};
+use crate::owned_target::Target;
+use crate::prefix::normal_prefix;
+use crate::target::{TargetSlices, merge_prefix, starts_with_slash, takes_base_path, target};
+use crate::unchanged::{Before, is_plain_reference, keeps_prefix, lacks_triplets_and_dots};
+use iri_grammar::spec::Spec;
+use iri_grammar::splitter::Splitter;
+use iri_types::kind::{Absolute, Reference};
+use iri_types::split::SplitView;
+use iri_types::view::{RiAbsoluteStr, RiQueryStr, RiReferenceStr};
+use std::alloc::{AllocError, Global};
+
+/// A base, against which references are resolved. It is cut into its parts once; whether its scheme and authority are in normal form
+/// is told once, and the prefix that relative paths are put behind is found once.
+pub struct FixedBaseResolver<'a, S: Spec> {
+    base: SplitView<'a, S, Absolute>,
+    front: &'a str,
+    // Nothing in the prefix of relative paths changes.
+    plain: bool,
+    prefix: Option<&'a str>,
+    pub ghost prepared: { (front.now ≡ merge_prefix (split_of (split_text base))) × (ends_at_slash front.now ≡ true)
+        × IsPrefix S.tests (split_of (split_text base)) (now_of prefix)
+        × (plain ≡ is_plain_front (split_of (split_text base)) front.now) } by { Prim.hlevel props },
+}
+
+impl<S: Spec> Clone for FixedBaseResolver<'_, S> {
+    ghost is_clone = { λ a b. b ≡ a };
+
+    ghost is_infallible = { λ _. Unit {0} };
+
+    fn clone(&self) -> Result<Self, AllocError> {
+        Ok(*self)
+    }
+}
+
+impl<S: Spec> Copy for FixedBaseResolver<'_, S> {}
+
+impl<'a, S: Spec> FixedBaseResolver<'a, S> {
+    ghost use Rattle.iri_normal.specs.Resolver.{base_text};
+    ghost use Rattle.iri_normal.specs.NormalizedText.{written};
+
+    /// The resolver of a base.
+    pub fn new(base: RiAbsoluteStr<'a, S>) -> Self
+        ensures { base_text result ≡ text base.entry }
+    {
+        let base = SplitView::of(base);
+        let front = merge_prefix(base.parts());
+        let plain = base.parts().authority().is_some() && lacks_triplets_and_dots(front, front);
+        let prefix = normal_prefix(&base);
+        FixedBaseResolver {
+            base,
+            front,
+            plain,
+            prefix,
+        }
+    }
+
+    /// The base.
+    pub fn base(&self) -> RiAbsoluteStr<'a, S>
+        ensures { text result ≡ base_text self.now }
+    {
+        self.base.view()
+    }
+
+    /// The scheme of the base, without its colon.
+    pub fn scheme_str(&self) -> &'a str
+        ensures { Some result.now ≡ (split_of (base_text self.now)).scheme }
+    {
+        self.base.view().scheme_str()
+    }
+
+    /// The authority of the base, without the slashes before it; none exactly where no authority stands.
+    pub fn authority_str(&self) -> Option<&'a str>
+        ensures { now_of result ≡ (split_of (base_text self.now)).authority }
+    {
+        self.base.parts().authority()
+    }
+
+    /// The path of the base, which may be empty.
+    pub fn path_str(&self) -> &'a str
+        ensures { result.now ≡ (split_of (base_text self.now)).path }
+    {
+        self.base.parts().path()
+    }
+
+    /// The query of the base, without its question mark; none exactly where no question mark begins one.
+    pub fn query_str(&self) -> Option<&'a str>
+        ensures { now_of result ≡ (split_of (base_text self.now)).query }
+    {
+        self.base.parts().query()
+    }
+
+    /// The query of the base as a view; none exactly where no question mark begins one.
+    pub fn query(&self) -> Option<RiQueryStr<'a, S>>
+        ensures { text_of result ≡ (split_of (base_text self.now)).query }
+    {
+        self.base.view().query()
+    }
+
+    // The target of a reference, as slices of the base and the reference.
+    #[inline(always)]
+    pub(crate) fn slices(&self, reference: &SplitView<'a, S, Reference>) -> TargetSlices<'a>
+        ensures fits { Fits S.tests (slices result) }
+        ensures scheme { IsSome (slices result).scheme }
+        ensures parts { slices result ≡ target (split_of (base_text self.now)) (split_of (split_text reference.now)) }
+    {
+        target(self.base.parts(), self.front, reference.parts())
+    }
+
+    // The prefix of a reference's target, where it is the base's and in normal form.
+    #[inline(always)]
+    fn prefix(&self, reference: &SplitView<'a, S, Reference>) -> Option<&'a str>
+        ensures { IsPrefix S.tests (target (split_of (base_text self.now)) (split_of (split_text reference.now)))
+            (now_of result) }
+    {
+        let parts = reference.parts();
+        match (parts.scheme(), parts.authority()) {
+            (None, None) => self.prefix,
+            _ => None,
+        }
+    }
+
+    // What the base puts before the path of a plain reference that has neither scheme nor authority. An empty path is the base's.
+    fn base_before(&self, path: &str) -> Option<Before<'a>>
+        ensures { MatchOption result (Unit {0}) (λ b. (r : Parts) → r.path ≡ path.now → r.scheme ≡ None → r.authority ≡ None
+            → Fits S.tests r → StandBefore S.tests (split_of (base_text self.now)) r b.prefix.now b.front.now) }
+    {
+        let prefix = self.prefix?;
+        if path.is_empty() {
+            return None;
+        }
+        if starts_with_slash(path) {
+            return Some(Before { prefix, front: "" });
+        }
+        if self.plain {
+            let front = self.front;
+            Some(Before { prefix, front })
+        } else {
+            None
+        }
+    }
+
+    // The same for the parts of any plain reference.
+    fn before(&self, reference: &Splitter<'_>) -> Option<Before<'a>>
+        requires { Fits S.tests (parts reference.now) }
+        ensures { MatchOption result (Unit {0}) (λ b. StandBefore S.tests (split_of (base_text self.now)) (parts reference.now)
+            b.prefix.now b.front.now) }
+    {
+        match (reference.scheme(), reference.authority()) {
+            (Some(_), _) if keeps_prefix::<S>(reference) => Some(Before {
+                prefix: "",
+                front: "",
+            }),
+            (None, None) => self.base_before(reference.path()),
+            _ => None,
+        }
+    }
+
+    /// What stands before a reference in its canonical text, where nothing in the reference changes: behind these two its own text
+    /// follows. `None` says nothing.
+    pub(crate) fn before_unchanged(
+        &self,
+        reference: &SplitView<'a, S, Reference>,
+    ) -> Option<Before<'a>>
+        ensures { MatchOption result (Unit {0}) (λ b. canonical S.tests (base_text self.now) (split_text reference.now)
+            ≡ b.prefix.now ++ (b.front.now ++ split_text reference.now)) }
+    {
+        let parts = reference.parts();
+        if is_plain_reference(parts) {
+            self.before(parts)
+        } else {
+            None
+        }
+    }
+
+    /// The text of a reference resolved against the base (RFC 3986 section 5.2): its dot segments are removed, but the base's path
+    /// stays as it is where the reference's is empty. Where the path would be read as an authority, `/.` stands before it. It takes no
+    /// memory.
+    pub fn resolve(&self, reference: RiReferenceStr<'a, S>) -> Normalized<'a, S>
+        ensures { written result ≡ record {
+          parts = target (split_of (base_text self.now))
+              (split_of (text reference.entry));
+          whole =
+              takes_base_path (split_of (text reference.entry));
+          mode = Plain;
+        } }
+    {
+        self.resolve_split(&SplitView::of(reference))
+    }
+
+    /// The same of a reference that was cut into its parts before.
+    #[inline(always)]
+    pub fn resolve_split(&self, reference: &SplitView<'a, S, Reference>) -> Normalized<'a, S>
+        ensures { written result ≡ record {
+          parts = target (split_of (base_text self.now))
+              (split_of (split_text reference.now));
+          whole =
+              takes_base_path (split_of (split_text reference.now));
+          mode = Plain;
+        } }
+    {
+        let whole = takes_base_path(reference.parts());
+        let prefix = self.prefix(reference);
+        NormalizedText::behind(prefix, self.slices(reference), whole, Mode::Plain)
+    }
+
+    /// The target of a reference (RFC 3986 section 5.2.2), with its dots kept. Allocation failure is the only error.
+    pub fn target(
+        &self,
+        alloc: Global,
+        reference: RiReferenceStr<'a, S>,
+    ) -> Result<Target<S>, AllocError>
+        ensures { IfOk result (λ t. t ≡ target (split_of (base_text self.now)) (split_of (text reference.entry))) }
+    {
+        Target::of(alloc, &self.slices(&SplitView::of(reference)))
+    }
+}

@@ -1,0 +1,155 @@
+//! The target of a reference against a base.
+ghost use Rattle.std.specs.Prelude.{◌≡◌, ◌++◌, ◌||◌, cond, is_some, None, true};
+ghost use Rattle.memchr.specs.Find.{IsLastByte, is_byte};
+ghost use Rattle.iri_grammar.specs.Parts.{starts_with_slash};
+ghost use Rattle.iri_grammar.specs.Splitters.{parts};
+ghost use Rattle.iri_grammar.specs.OptionalSlices.{now_of};
+ghost use Rattle.iri_normal.specs.Target.{takes_base_path, target, target_under, to_last_slash, merge_prefix};
+ghost use Rattle.iri_normal.specs.Target.{ends_at_slash};
+ghost use Rattle.iri_normal.specs.Slices.{merged, slices};
+ghost use Rattle.iri_grammar.specs.Characters.{slash};
+
+use crate::merged_path::MergedPath;
+use iri_grammar::splitter::Splitter;
+use memchr::memrchr;
+
+/// A target as slices of the base and the reference.
+#[derive(Clone, Copy)]
+pub struct TargetSlices<'a> {
+    pub scheme: Option<&'a str>,
+    pub authority: Option<&'a str>,
+    pub path: MergedPath<'a>,
+    pub query: Option<&'a str>,
+    pub fragment: Option<&'a str>,
+}
+
+// Where the last slash stands.
+pub(crate) fn last_slash(path: &str) -> Option<usize>
+    ensures { IsLastByte (is_byte slash) path.now result }
+{
+    memrchr(b'/', path.as_bytes())
+}
+
+// The path up to and with its last slash, or nothing where it has none.
+fn to_last_slash(path: &str) -> &str
+    ensures ends { ends_at_slash result.now ≡ true }
+    ensures front { result.now ≡ to_last_slash path.now }
+{
+    match last_slash(path) {
+        Some(i) => &path[..i + 1],
+        None => "",
+    }
+}
+
+/// The prefix that a relative path is put behind.
+pub fn merge_prefix<'a>(base: &Splitter<'a>) -> &'a str
+    ensures ends { ends_at_slash result.now ≡ true }
+    ensures prefix { result.now ≡ merge_prefix (parts base.now) }
+{
+    if base.authority().is_some() && base.path().is_empty() {
+        "/"
+    } else {
+        to_last_slash(base.path())
+    }
+}
+
+/// Whether a path begins with a slash.
+pub(crate) fn starts_with_slash(path: &str) -> bool
+    ensures { result ≡ starts_with_slash path.now }
+{
+    matches!(path.as_bytes(), [b'/', ..])
+}
+
+// The path of a reference that has one, with neither scheme nor authority (section 5.2.3).
+fn merge<'a>(base: &'a str, path: &'a str) -> MergedPath<'a>
+    requires { ends_at_slash base.now ≡ true }
+    ensures { merged result ≡ cond (starts_with_slash path.now) path.now (base.now ++ path.now) }
+{
+    if starts_with_slash(path) {
+        return MergedPath::of(path);
+    }
+    MergedPath {
+        base,
+        reference: path,
+    }
+}
+
+// The target of a reference with neither scheme nor authority.
+#[tactic(auto, unfolding(crate::specs::Target::target))]
+fn behind_base<'a>(
+    base: &Splitter<'a>,
+    front: &'a str,
+    reference: &Splitter<'a>,
+) -> TargetSlices<'a>
+    requires prefix { front.now ≡ merge_prefix (parts base.now) }
+    requires ends { ends_at_slash front.now ≡ true }
+    ensures parts { slices result ≡ target_under (parts base.now) (parts reference.now) None None }
+{
+    let path = reference.path();
+    let fragment = reference.fragment();
+    if path.is_empty() {
+        TargetSlices {
+            scheme: base.scheme(),
+            authority: base.authority(),
+            path: MergedPath {
+                base: base.path(),
+                reference: path,
+            },
+            query: reference.query().or(base.query()),
+            fragment,
+        }
+    } else {
+        TargetSlices {
+            scheme: base.scheme(),
+            authority: base.authority(),
+            path: merge(front, path),
+            query: reference.query(),
+            fragment,
+        }
+    }
+}
+
+// A reference's own parts under a scheme.
+fn under_scheme<'a>(scheme: Option<&'a str>, reference: &Splitter<'a>) -> TargetSlices<'a>
+    ensures parts { slices result ≡ record (parts reference.now) { scheme = now_of scheme.entry } }
+{
+    TargetSlices {
+        scheme,
+        authority: reference.authority(),
+        path: MergedPath::of(reference.path()),
+        query: reference.query(),
+        fragment: reference.fragment(),
+    }
+}
+
+/// The target of a reference against a base (RFC 3986 sections 5.2.2 and 5.2.3), with its dots kept. `front` is the base's, by
+/// `merge_prefix`.
+#[tactic(auto, unfolding(crate::specs::Target::target))]
+#[inline(always)]
+pub fn target<'a>(base: &Splitter<'a>, front: &'a str, reference: &Splitter<'a>) -> TargetSlices<'a>
+    requires prefix { front.now ≡ merge_prefix (parts base.now) }
+    requires ends { ends_at_slash front.now ≡ true }
+    ensures parts { slices result ≡ target (parts base.now) (parts reference.now) }
+{
+    match (reference.scheme(), reference.authority()) {
+        (Some(scheme), _) => under_scheme(Some(scheme), reference),
+        (None, Some(_)) => under_scheme(base.scheme(), reference),
+        (None, None) => behind_base(base, front, reference),
+    }
+}
+
+/// Whether a reference takes the base's path whole.
+pub fn takes_base_path(reference: &Splitter<'_>) -> bool
+    ensures { result ≡ takes_base_path (parts reference.now) }
+{
+    reference.scheme().is_none() && reference.authority().is_none() && reference.path().is_empty()
+}
+
+impl<'a> TargetSlices<'a> {
+    /// The parts of a text.
+    pub fn of(text: &Splitter<'a>) -> Self
+        ensures parts { slices result ≡ parts text.now }
+    {
+        under_scheme(text.scheme(), text)
+    }
+}

@@ -1,0 +1,135 @@
+//! Views in normal form, and references resolved against a base.
+ghost use Rattle.std.specs.Prelude.{◌≡◌, ℕ, List, false, true, IsErr, ◌↔◌};
+ghost use Rattle.iri_grammar.specs.Split.{split_of};
+ghost use Rattle.iri_types.specs.Texts.{text};
+ghost use Rattle.iri_normal.specs.NormalForm.{is_unresolvable};
+ghost use Rattle.iri_normal.specs.Normalized.{Written};
+ghost use Rattle.iri_normal.specs.NormalizedText.{written};
+ghost use Rattle.iri_normal.specs.Slices.{slices};
+ghost use Rattle.iri_normal.specs.Target.{target, takes_base_path};
+ghost use Rattle.iri_normal.specs.declared.mode.Mode.TheVariants.{Normal, Plain, Preserving};
+
+use crate::mode::Mode;
+use crate::normal_kind::NormalKind;
+use crate::normalized::{Normalized, NormalizedText};
+use crate::resolver::FixedBaseResolver;
+use crate::target::TargetSlices;
+use crate::unresolvable::Unresolvable;
+use iri_grammar::spec::Spec;
+use iri_text::Show;
+use iri_types::kind::{Reference, Relative};
+use iri_types::split::SplitView;
+use iri_types::view::{RiAbsoluteStr, View};
+
+/// Texts with a scheme, which have a normal form (RFC 3986 section 6.2.2). Nothing here takes memory.
+pub trait Normalize: Sized {
+    /// What shows the text in a mode.
+    type Text: Show;
+
+    /// The bytes of the text.
+    ghost bytes: { Self → List ℕ };
+
+    /// What is shown.
+    ghost shown: { Self.Text → Written };
+
+    /// The text in normal form.
+    fn normalize(self) -> Self::Text
+        ensures { shown result ≡ record { parts = split_of (bytes self); whole = false; mode = Normal } };
+
+    /// The text in normal form, but a path without authority that doesn't begin with a slash keeps its dot segments.
+    fn normalize_but_preserve_authorityless_relative_path(self) -> Self::Text
+        ensures { shown result ≡ record { parts = split_of (bytes self); whole = false; mode = Preserving } };
+
+    /// Whether RFC 3986 alone has a normal form of the text, without the `/.` before a path that would be read as an authority: Err
+    /// where no authority stands and the path without its dot segments begins with two slashes.
+    fn ensure_rfc3986_normalizable(self) -> Result<(), Unresolvable>
+        ensures { IsErr result ↔ (is_unresolvable false (split_of (bytes self)) ≡ true) };
+}
+
+/// References, which are resolved against a base (section 5.2). Nothing here takes memory.
+pub trait ResolveAgainst: Sized {
+    /// A base.
+    type Base;
+
+    /// What shows a text resolved.
+    type Text: Show;
+
+    /// The bytes of the text.
+    ghost bytes: { Self → List ℕ };
+
+    /// The bytes of a base.
+    ghost base_bytes: { Self.Base → List ℕ };
+
+    /// What is shown.
+    ghost shown: { Self.Text → Written };
+
+    /// The text resolved against the base: its dot segments are removed, but the base's path stays as it is where its own is empty.
+    /// Where the path would be read as an authority, `/.` stands before it.
+    fn resolve_against(self, base: Self::Base) -> Self::Text
+        ensures { shown result ≡ record {
+          parts = target (split_of (base_bytes base)) (split_of (bytes self));
+          whole = takes_base_path (split_of (bytes self));
+          mode = Plain;
+        } };
+}
+
+// The slices of a view's parts, in a mode.
+fn in_mode<'a, S: Spec, K: NormalKind>(view: View<'a, S, K>, mode: Mode) -> NormalizedText<'a, S, K>
+    ensures { written result ≡ record { parts = split_of (text view.entry); whole = false; mode = mode } }
+{
+    let split = SplitView::of(view);
+    let target = TargetSlices::of(split.parts());
+    NormalizedText::new(target, false, mode)
+}
+
+impl<'a, S: Spec, K: NormalKind> Normalize for View<'a, S, K> {
+    type Text = NormalizedText<'a, S, K>;
+
+    ghost bytes = { λ v. text v };
+
+    ghost shown = { λ n. written n };
+
+    fn normalize(self) -> NormalizedText<'a, S, K> {
+        in_mode(self, Mode::Normal)
+    }
+
+    fn normalize_but_preserve_authorityless_relative_path(self) -> NormalizedText<'a, S, K> {
+        in_mode(self, Mode::Preserving)
+    }
+
+    fn ensure_rfc3986_normalizable(self) -> Result<(), Unresolvable> {
+        in_mode(self, Mode::Normal).ensure_rfc3986_normalizable()
+    }
+}
+
+impl<'a, S: Spec> ResolveAgainst for View<'a, S, Reference> {
+    type Base = RiAbsoluteStr<'a, S>;
+
+    type Text = Normalized<'a, S>;
+
+    ghost bytes = { λ v. text v };
+
+    ghost base_bytes = { λ v. text v };
+
+    ghost shown = { λ n. written n };
+
+    fn resolve_against(self, base: RiAbsoluteStr<'a, S>) -> Normalized<'a, S> {
+        FixedBaseResolver::new(base).resolve(self)
+    }
+}
+
+impl<'a, S: Spec> ResolveAgainst for View<'a, S, Relative> {
+    type Base = RiAbsoluteStr<'a, S>;
+
+    type Text = Normalized<'a, S>;
+
+    ghost bytes = { λ v. text v };
+
+    ghost base_bytes = { λ v. text v };
+
+    ghost shown = { λ n. written n };
+
+    fn resolve_against(self, base: RiAbsoluteStr<'a, S>) -> Normalized<'a, S> {
+        FixedBaseResolver::new(base).resolve(self.as_reference())
+    }
+}

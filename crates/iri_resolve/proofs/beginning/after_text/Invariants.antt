@@ -1,6 +1,0 @@
-use Rattle.std.proofs.Common.{◌≡◌, drop}
-use Rattle.iri_resolve.specs.inside.Beginning.{begun_by}
-use Rattle.iri_resolve.proofs.beginning.after_text.Given as goal
-
-abbrev pub invariant-loop-b : goal.invariant-loop-b
-invariant-loop-b l = begun_by l.now (drop l.b-index l.text) ≡ begun_by l.fn.begun l.text

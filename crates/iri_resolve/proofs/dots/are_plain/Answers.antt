@@ -1,6 +1,0 @@
-use Rattle.std.proofs.Common.{arith}
-use Rattle.iri_resolve.proofs.LaneLemmas.{none-near}
-use Rattle.iri_resolve.proofs.dots.are_plain.Goals as goal
-
-pub returns : goal.returns
-returns c h = none-near c.args.path.now c.args.i c.requires.0 (omega arith) h

@@ -1,5 +1,0 @@
-use Rattle.iri_resolve.proofs.ModeLaws.{mode-fits}
-use Rattle.iri_resolve.proofs.laws.every_form_fits.Goals as goal
-
-pub returns : goal.returns
-returns g c = λ mode whole parts f i. mode-fits g.S.Spec.tests mode whole parts g.met.S.Spec.lawful f i

@@ -1,5 +1,0 @@
-use Rattle.iri_resolve.proofs.MapForms.{mapped-normal_in}
-use Rattle.iri_resolve.proofs.laws.mapping_commutes_with_normal_form.Goals as goal
-
-pub returns : goal.returns
-returns g c = λ m t f. mapped-normal_in g.S.Spec.tests m t g.met.S.Spec.lawful f

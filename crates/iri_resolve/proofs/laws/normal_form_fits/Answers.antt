@@ -1,5 +1,0 @@
-use Rattle.iri_resolve.proofs.SchemeForm.{normal_in-fits}
-use Rattle.iri_resolve.proofs.laws.normal_form_fits.Goals as goal
-
-pub returns : goal.returns
-returns g c = λ m parts f i. normal_in-fits g.S.Spec.tests m parts g.met.S.Spec.lawful f i

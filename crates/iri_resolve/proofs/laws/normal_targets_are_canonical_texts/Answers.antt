@@ -1,5 +1,0 @@
-use Rattle.iri_resolve.proofs.CanonLaws.{written-canonical}
-use Rattle.iri_resolve.proofs.laws.normal_targets_are_canonical_texts.Goals as goal
-
-pub returns : goal.returns
-returns g c = λ m whole base reference. written-canonical g.S.Spec.tests m whole base reference

@@ -1,5 +1,0 @@
-use Rattle.iri_resolve.proofs.ModeLaws.{preserving-stable}
-use Rattle.iri_resolve.proofs.laws.preserving_form_is_stable.Goals as goal
-
-pub returns : goal.returns
-returns g c = λ whole again parts f. preserving-stable g.S.Spec.tests whole again parts g.met.S.Spec.lawful f

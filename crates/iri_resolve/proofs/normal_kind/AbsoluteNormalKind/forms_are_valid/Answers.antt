@@ -1,5 +1,0 @@
-use Rattle.iri_resolve.proofs.ModeLaws.{absolute-stays}
-use Rattle.iri_resolve.proofs.normal_kind.AbsoluteNormalKind.forms_are_valid.Goals as goal
-
-pub returns : goal.returns
-returns c = absolute-stays

@@ -1,6 +1,0 @@
-use Rattle.std.proofs.Common.{arith}
-use Rattle.iri_resolve.proofs.LongLemmas.{slash-before-end}
-use Rattle.iri_resolve.proofs.remove_dot_segments.segments.slash_to_cut.Goals as goal
-
-pub returns-in-None : goal.returns-in-None
-returns-in-None c = slash-before-end c.args.text.now c.memchr.result (omega (arith, c.requires)) c.memchr.ensures

@@ -1,6 +1,0 @@
-use Rattle.iri_resolve.proofs.ModeLemmas.{target-sound}
-use Rattle.iri_resolve.proofs.resolver.FixedBaseResolver.resolve_split.Goals as goal
-
-pub behind-requires-clause-sound : goal.behind-requires-clause-sound
-behind-requires-clause-sound g c =
-    target-sound g.S.Spec.tests c.slices.result g.met.S.Spec.lawful c.slices.ensures.fits c.slices.ensures.scheme

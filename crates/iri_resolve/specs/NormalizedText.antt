@@ -1,7 +1,0 @@
--- What a text that is written in a mode holds.
-use Rattle.iri_resolve.specs.Normalized.{Written}
-use Rattle.iri_resolve.specs.Slices.{slices}
-use Rattle.iri_resolve.specs.declared.normalized.NormalizedText.{NormalizedText}
-
-abbrev pub written : {S K : Type 0} {g : _} {h : _} {i : _} → NormalizedText S K g h i → Written
-written n = record { parts = slices n.target; whole = n.whole; mode = n.mode }
