@@ -7,8 +7,8 @@ use Rattle.std.proofs.lemmas.List.{drop_at, take_at}
 use Rattle.memchr.specs.Find.{is_byte, IsLastByte}
 use Rattle.iri_grammar.specs.Cut.{before, behind, lacks, marked}
 use Rattle.iri_grammar.proofs.CutLaws.{joined}
-use Rattle.iri_normal.specs.Target.{to_last_slash, ends_at_slash}
-use Rattle.iri_normal.proofs.SlashLemmas.{last_slash}
+use Rattle.iri_normal.specs.Target.{ends_at_slash, last_segment}
+use Rattle.iri_normal.proofs.SlashLemmas.{at_last_slash, behind_slash}
 
 -- ---- where a text ends with a slash
 take-ends-suc : (t : List ℕ) (i : ℕ) → i < length t → slice_index t i ≡ 47 → ends_at_slash (take (suc i) t) ≡ true
@@ -62,27 +62,10 @@ without_end t h l =
     r.whole ∙ ap (λ f. f ++ 47 ∷ []) (sym front)
 
 -- ---- the last slash
-record LastCut (t : List ℕ) : Type 0 where
-  rest : List ℕ
-  whole : t ≡ to_last_slash t ++ rest
-  last : lacks 47 rest ≡ true
-
-last_cut : (t : List ℕ) → LastCut t
-last_cut [] = record { rest = []; whole = refl; last = refl }
-last_cut (x ∷ xs) =
-    let r = last_cut xs in
-    elim (lacks 47 (x ∷ xs)) as (λ b. lacks 47 (x ∷ xs) ≡ b → LastCut (x ∷ xs)) [
-      | true ↦ λ e. record { rest = x ∷ xs; whole = rw e refl; last = e }
-      | false ↦ λ e. record { rest = r.rest; whole = rw e (ap (λ l. x ∷ l) r.whole); last = r.last }
-    ] refl
-
 pub behind_last : (t a b : List ℕ) (k : ℕ) → IsLastByte (is_byte 47) t (Some k) → t ≡ a ++ b → length a ≡ k + 1 → lacks 47 b ≡ true
 behind_last t a b k h e n =
-    let r = last_cut t in
-    let front : a ≡ to_last_slash t = sym (ap (take (k + 1)) e ∙ take_at a b (k + 1) n) ∙ last_slash t k h in
-    let same : b ≡ r.rest = sym (ap (drop (k + 1)) e ∙ drop_at a b (k + 1) n)
-    ∙ (ap (drop (k + 1)) r.whole ∙ drop_at (to_last_slash t) r.rest (k + 1) (sym (ap length front) ∙ n)) in
-    ap (lacks 47) same ∙ r.last
+    let same : b ≡ last_segment t = sym (ap (drop (k + 1)) e ∙ drop_at a b (k + 1) n) ∙ behind_slash t k h in
+    ap (lacks 47) same ∙ (at_last_slash t).1
 
 -- ---- segments without dots
 pub neither : (a b : Bool) → (a || b) ≡ false → (a ≡ false) × (b ≡ false)

@@ -27,7 +27,7 @@ use Rattle.iri_normal.specs.LowerCase.{lowered, where_there}
 use Rattle.iri_normal.specs.Dots.{is_dot_segment}
 use Rattle.iri_normal.specs.DotRemoval.{is_two_dots, without_last, dots}
 use Rattle.iri_normal.specs.Target.{target, target_under, target_path, target_query, merged, merge_prefix, to_last_slash, or_base}
-use Rattle.iri_normal.specs.NormalForm.{becomes_slash, canonical, canonical_in, canonical_parts_in, form, normal_form, normal_form_in, normal_path, slash_or}
+use Rattle.iri_normal.specs.NormalForm.{becomes_slash, canonical_in, canonical_parts_in, form, normal_form, normal_form_in, normal_path, slash_or}
 use Rattle.iri_normal.specs.declared.mode.Mode.TheVariants.{ByScheme}
 use Rattle.iri_normal.proofs.CanonLaws.{canonical_in-text}
 use Rattle.iri_normal.proofs.OutputLaws.{closed_text, text_behind, text_from, dots-text}
@@ -100,7 +100,7 @@ length-authority s d t k h = subst (λ z. length z ≤ length t) (authority_in s
     (authority_recomposed t) (length-authority_parts s d (authority_parts t) k (reads s t k h)))
 
 -- ---- a path
-length-last : (xs : List ℕ) → length (without_last xs) ≤ length xs
+pub length-last : (xs : List ℕ) → length (without_last xs) ≤ length xs
 length-last [] = omega arith
 length-last (x ∷ xs) = let l = length-last xs in elim
     (lacks 47 xs) as (λ b. length (cond b [] (x ∷ without_last xs)) ≤ length (x ∷ xs)) [ true ↦ omega arith | false ↦ omega arith ]
@@ -294,7 +294,3 @@ length-canonical_in s m base reference k b r =
     let parts : length (recompose (canonical_parts_in s m base reference)) ≤ length base + length reference + 3 =
     rw (eb, er) (omega arith) in
     subst (λ z. length z ≤ length base + length reference + 3) (canonical_in-text s m base reference) parts
-
-pub length-canonical : (s : Tests) (base reference : List ℕ) → IsSpec s → IsAbsolute s base → IsReference s reference
-    → length (canonical s base reference) ≤ length base + length reference + 3
-length-canonical s base reference k b r = length-canonical_in s Default base reference k b r

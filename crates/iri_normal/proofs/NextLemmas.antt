@@ -116,6 +116,22 @@ none-there t i l f n =
     none-before t [] refl (ap (λ u. is_dot_segment (before 47 u)) whole ∙ f)
     (λ k m. ap (λ u. slash_and_dots (drop k u)) whole ∙ n k (omega arith))
 
+-- a dot segment after a slash is one of the path
+behind-there : (t : List ℕ) (k : ℕ) → k + 1 < length t → slash_and_dots (drop k t) ≡ true → dots_behind t ≡ true
+behind-there t zero l h = next_place t (omega arith) ∙ rw h refl
+behind-there [] (suc k) l h = absurd (omega arith)
+behind-there (x ∷ xs) (suc k) l h =
+    next_place (x ∷ xs) (omega arith) ∙ or_right (slash_and_dots (x ∷ xs)) (behind-there xs k (omega arith) h)
+
+pub some-there : (t : List ℕ) (k : ℕ) → k + 1 < length t → slash_and_dots (drop k t) ≡ true → has_dot_segment t ≡ true
+some-there t k l h = first_or_behind t ∙ or_right (dots_in_front t) (behind-there t k l h)
+
+-- an answer about what stands after slashes is one about the path
+pub told : (t : List ℕ) (b : Bool) → is_dot_segment (before 47 t) ≡ false
+    → (b ≡ false → (k : ℕ) → k + 1 < length t → slash_and_dots (drop k t) ≡ false) → (b ≡ true → has_dot_segment t ≡ true) → b ≡ has_dot_segment t
+told t true f n s = sym (s refl)
+told t false f n s = sym (none-there t (length t) (omega arith) f (n refl))
+
 -- the first one
 pub found : (t : List ℕ) (i : ℕ) (two : Bool) (r : List ℕ) → 1 ≤ i → i < length t → is_dot_segment (before 47 t) ≡ false
     → ((k : ℕ) → k + 1 < i → slash_and_dots (drop k t) ≡ false) → slash_and_dots (drop (i - 1) t) ≡ true
@@ -183,14 +199,6 @@ pass-plain t i low l o n =
   where
     other : (c : ℕ) → c ≤ 47 → (slice_index t i == c) ≡ false
     other c a = other-than (slice_index t i) c (λ e. omega arith)
-
-pub pass-lanes : (t : List ℕ) (i j : ℕ) → 1 ≤ i → ((k : ℕ) → k < j → slash_and_dots (drop (i - 1 + k) t) ≡ false)
-    → ((k : ℕ) → k + 1 < i → slash_and_dots (drop k t) ≡ false) → (k : ℕ) → k + 1 < i + j → slash_and_dots (drop k t) ≡ false
-pass-lanes t i zero low h n k m = n k (omega arith)
-pass-lanes t i (suc j) low h n k m =
-    let place : i - 1 + j ≡ i + j - 1 = omega arith in
-    more-none t (i + j) (omega arith) (pass-lanes t i j low (λ a b. h a (omega arith)) n)
-    (subst (λ q. slash_and_dots (drop q t) ≡ false) place (h j (omega arith))) k (omega arith)
 
 -- ---- what follows from it
 pub next-more : (m : List ℕ) → is_dot_segment (before 47 m) ≡ true → 0 < length m

@@ -67,7 +67,7 @@ pub normal-slash : (s : Tests) (z : List ℕ) → normal_path s (Some z) (47 ∷
 unfolding normal_path
 normal-slash s z = ap (pct s) dots-of_slash ∙ (normal_plain s as_it_is 47 [] refl ∙ ap (λ l. 47 ∷ l) (normal_nil s as_it_is))
 
-begun : (q : List ℕ) → starts_with_slash q ≡ true → is_empty q ≡ false
+pub begun : (q : List ℕ) → starts_with_slash q ≡ true → is_empty q ≡ false
 begun [] h = cc
 begun (x ∷ xs) h = refl
 

@@ -1,12 +1,13 @@
 -- The last slash of a path.
 use Rattle.std.proofs.Common.{◌≡◌, ℕ, zero, suc, ◌+◌, ◌<◌, true, false, cond, not, ◌&&◌, List, [], ◌∷◌, Some, None}
-use Rattle.std.proofs.Common.{length, take, refl, ◌∙◌, ap, arith, add-one}
+use Rattle.std.proofs.Common.{length, take, drop, ◌++◌, refl, sym, ◌∙◌, ap, arith, add-one}
 use Rattle.std.specs.Prelude.{◌==◌, slice_index}
 use Rattle.std.proofs.lemmas.Bool.{eqb-true}
+use Rattle.std.proofs.lemmas.List.{drop_at, length-take-le}
 use Rattle.memchr.specs.Find.{is_byte, IsLastByte}
 use Rattle.iri_grammar.specs.Cut.{lacks}
 use Rattle.iri_grammar.specs.Parts.{is_empty}
-use Rattle.iri_normal.specs.Target.{to_last_slash, ends_at_slash}
+use Rattle.iri_normal.specs.Target.{to_last_slash, last_segment, ends_at_slash}
 use Rattle.iri_grammar.proofs.CutLemmas.{false-where}
 
 -- none, or the last at k
@@ -34,6 +35,27 @@ last_at (x ∷ xs) (suc k) l n p =
 
 pub last_slash : (bs : List ℕ) (k : ℕ) → IsLastByte (is_byte 47) bs (Some k) → take (k + 1) bs ≡ to_last_slash bs
 last_slash bs k h = (last_at bs k h.0.high (λ j a b. h.0.after j (omega arith) b) h.1).0
+
+-- ---- the last segment
+pub none_behind : (xs : List ℕ) → lacks 47 xs ≡ true → last_segment xs ≡ xs
+none_behind [] h = refl
+none_behind (x ∷ xs) h = rw h refl
+
+pub at_last_slash : (xs : List ℕ) → (to_last_slash xs ++ last_segment xs ≡ xs) × (lacks 47 (last_segment xs) ≡ true)
+at_last_slash [] = (refl, refl)
+at_last_slash (x ∷ xs) =
+    let r = at_last_slash xs in
+    elim (lacks 47 (x ∷ xs)) as (λ b. lacks 47 (x ∷ xs) ≡ b
+    → (cond b [] (x ∷ to_last_slash xs) ++ cond b (x ∷ xs) (last_segment xs) ≡ x ∷ xs) × (lacks 47 (cond b (x ∷ xs) (last_segment xs)) ≡ true)) [
+      | true ↦ λ e. (refl, e)
+      | false ↦ λ e. (ap (λ ys. x ∷ ys) r.0, r.1)
+    ] refl
+
+pub behind_slash : (bs : List ℕ) (k : ℕ) → IsLastByte (is_byte 47) bs (Some k) → drop (k + 1) bs ≡ last_segment bs
+behind_slash bs k h =
+    let front = last_slash bs k h in
+    let size : length (to_last_slash bs) ≡ k + 1 = sym (ap length front) ∙ length-take-le (k + 1) bs (omega (arith, h.0.high)) in
+    ap (drop (k + 1)) (sym (at_last_slash bs).0) ∙ drop_at (to_last_slash bs) (last_segment bs) (k + 1) size
 
 -- what is cut at the last slash ends with it
 has_front : (xs : List ℕ) → lacks 47 xs ≡ false → is_empty (to_last_slash xs) ≡ false

@@ -1,63 +1,34 @@
 -- The target of a reference against parts with a scheme fits and has a scheme.
 use Rattle.std.proofs.Common.{◌≡◌, ℕ, Bool, true, false, cond, not, ◌&&◌, ◌||◌, List, [], ◌∷◌, ◌++◌, Option, Some, None, refl, sym, ap}
-use Rattle.std.proofs.Common.{subst}
+use Rattle.std.proofs.Common.{◌∙◌, arith, append_assoc, subst}
 use Rattle.std.specs.Prelude.{◌==◌, is_some, IsSome}
 use Rattle.iri_grammar.specs.Classes.{Tests, path_char, is_ascii_path, is_ascii_pchar, is_ascii_reg_name, is_ascii_unreserved, is_sub_delim}
 use Rattle.iri_grammar.specs.Over.{text_over}
 use Rattle.iri_grammar.specs.Components.{if_there, is_path, is_query}
 use Rattle.iri_grammar.specs.Cut.{lacks, before}
-use Rattle.iri_grammar.proofs.CutLaws.{both, by_test}
+use Rattle.iri_grammar.proofs.CutLaws.{both}
 use Rattle.iri_grammar.specs.Parts.{Parts, Fits, path_rules, is_empty, starts_with_slash, starts_with_slashes}
-use Rattle.iri_normal.specs.Target.{target, target_under, target_path, merged, merge_prefix, to_last_slash, or_base}
+use Rattle.iri_normal.specs.Target.{target, target_under, target_path, merged, merge_prefix, or_base}
+use Rattle.iri_normal.specs.Target.{to_last_slash, last_segment, ends_at_slash}
 use Rattle.iri_grammar.proofs.UnitRuns.{text_over-append}
+use Rattle.iri_normal.proofs.EndedLemmas.{end_slash}
+use Rattle.iri_normal.proofs.SlashLemmas.{at_last_slash, ends}
 use Rattle.iri_normal.proofs.TextLaws.{text_over-cut, nothing_over, slash_over}
 
--- ---- a path up to its last slash
--- it is nothing, or a text with a slash behind it
-record LastCut (path : List ℕ) : Type 0 where
-  front : List ℕ
-  back : List ℕ
-  whole : front ++ 47 ∷ back ≡ path
-  cut : to_last_slash path ≡ front ++ 47 ∷ []
+-- ---- a path cut at its last slash
+parts_over : (p : ℕ → Bool) (f l : List ℕ) → ends_at_slash f ≡ true → text_over p (f ++ l) ≡ true
+    → (text_over p f ≡ true) × (text_over p l ≡ true)
+parts_over p [] l h k = (nothing_over p, k)
+parts_over p (x ∷ xs) l h k =
+    let e = end_slash (x ∷ xs) h (omega arith) in
+    let whole : x ∷ (xs ++ l) ≡ e.front ++ 47 ∷ l = ap (λ f. f ++ l) e.whole ∙ append_assoc e.front (47 ∷ []) l in
+    let c = text_over-cut p e.front l (subst (λ z. text_over p z ≡ true) whole k) in
+    (subst (λ z. text_over p z ≡ true) (sym e.whole) (text_over-append p e.front (47 ∷ []) c.left c.slash), c.right)
 
-nothing_front : (ys : List ℕ) → lacks 47 ys ≡ true → to_last_slash ys ≡ []
-nothing_front [] k = refl
-nothing_front (y ∷ ys) k = rw k refl
-
-last_cut : (path : List ℕ) → lacks 47 path ≡ false → LastCut path
-last_cut [] h = cc
-last_cut (x ∷ xs) h =
-    elim (lacks 47 xs) as (λ b. lacks 47 xs ≡ b → LastCut (x ∷ xs)) [
-      | true ↦ λ e. at_last e
-      | false ↦ λ e. let r = last_cut xs e in record {
-        front = x ∷ r.front;
-        back = r.back;
-        whole = ap (λ ys. x ∷ ys) r.whole;
-        cut = rw h (ap (λ ys. x ∷ ys) r.cut);
-      }
-    ] refl
-  where
-    at_last : lacks 47 xs ≡ true → LastCut (x ∷ xs)
-    at_last e =
-        by_test x 47 (λ b. (not b && lacks 47 xs) ≡ false → LastCut (x ∷ xs))
-        (λ same _. record {
-          front = [];
-          back = xs;
-          whole = ap (λ y. y ∷ xs) (sym same);
-          cut = rw h (rw (nothing_front xs e) (ap (λ y. y ∷ []) same));
-        })
-        (λ _ k. let n : true ≡ false = rw e at k in cc)
-        h
-
-to_last_slash-over : (p : ℕ → Bool) (path : List ℕ) → text_over p path ≡ true → text_over p (to_last_slash path) ≡ true
-to_last_slash-over p path h =
-    elim (lacks 47 path) as (λ b. lacks 47 path ≡ b → text_over p (to_last_slash path) ≡ true) [
-      | true ↦ λ e. rw (nothing_front path e) (nothing_over p)
-      | false ↦ λ e.
-          let r = last_cut path e in
-          let c = text_over-cut p r.front r.back (subst (λ z. text_over p z ≡ true) (sym r.whole) h) in
-          rw r.cut (text_over-append p r.front (47 ∷ []) c.left c.slash)
-    ] refl
+pub cut_over : (p : ℕ → Bool) (path : List ℕ) → text_over p path ≡ true
+    → (text_over p (to_last_slash path) ≡ true) × (text_over p (last_segment path) ≡ true)
+cut_over p path h = parts_over p (to_last_slash path) (last_segment path) (ends path)
+    (subst (λ z. text_over p z ≡ true) (sym (at_last_slash path).0) h)
 
 merged-over : (p : ℕ → Bool) (base : Parts) (path : List ℕ) → p 47 ≡ true → text_over p base.path ≡ true → text_over p path ≡ true
     → text_over p (merged base path) ≡ true
@@ -66,7 +37,7 @@ merged-over p base path s h k =
       | true ↦ k
       | false ↦ text_over-append p (merge_prefix base) path
           (elim (is_some base.authority && is_empty base.path) as (λ b. text_over p (cond b (47 ∷ []) (to_last_slash base.path))
-          ≡ true) [ true ↦ slash_over p s | false ↦ to_last_slash-over p base.path h ]) k
+          ≡ true) [ true ↦ slash_over p s | false ↦ (cut_over p base.path h).0 ]) k
     ]
 
 -- ---- the rules of a merged path

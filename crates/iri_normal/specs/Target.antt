@@ -10,6 +10,11 @@ abbrev pub to_last_slash : List ℕ → List ℕ
 to_last_slash [] = []
 to_last_slash (x ∷ xs) = cond (lacks slash (x ∷ xs)) [] (x ∷ to_last_slash xs)
 
+-- what stands behind it, or the whole path where it has none
+abbrev pub last_segment : List ℕ → List ℕ
+last_segment [] = []
+last_segment (x ∷ xs) = cond (lacks slash (x ∷ xs)) (x ∷ xs) (last_segment xs)
+
 -- nothing, or a text that ends with a `/`
 abbrev pub ends_at_slash : List ℕ → Bool
 ends_at_slash [] = true

@@ -13,6 +13,7 @@ ghost use Rattle.iri_normal.specs.inside.Written.{or_nothing};
 use std::simd::prelude::*;
 
 /// What follows a dot at the start, in any spelling.
+#[inline(always)]
 pub(crate) fn behind_dot(s: &[u8]) -> Option<&[u8]>
     ensures { now_of result ≡ behind_dot s.now }
 {
@@ -24,6 +25,7 @@ pub(crate) fn behind_dot(s: &[u8]) -> Option<&[u8]>
 }
 
 // What follows the slash at the start, or nothing where the segment is the last one; `None` where no segment ends there.
+#[inline(always)]
 fn behind_end(s: &[u8]) -> Option<&[u8]>
     ensures { MatchOption result (is_empty (before slash s.now) ≡ false)
         (λ r. (is_empty (before slash s.now) ≡ true) × (r.now ≡ or_nothing (behind slash s.now))) }
@@ -42,6 +44,7 @@ struct FrontDots<'a> {
     rest: &'a [u8],
 }
 
+#[inline(always)]
 fn dots_in_front(path: &[u8]) -> Option<FrontDots<'_>>
     ensures { MatchOption result (is_dot_segment (before slash path.now) ≡ false)
         (λ d. IsInFront path.now d.two d.rest.now) }
@@ -86,29 +89,65 @@ pub(crate) struct NextDots<'a> {
     pub(crate) rest: &'a [u8],
 }
 
-// Whether eight places have no slash with what begins a dot after it, where that is asked: the place before `i`, and seven more.
+// Whether eight places have no slash with what begins a dot after it: the place before `i`, and seven more.
 #[inline(always)]
-fn are_plain(path: &[u8], i: usize, wide: bool) -> bool
-    requires { (1 ≤ i) × (i < length path.now) }
+fn are_plain(path: &[u8], i: usize) -> bool
+    requires { (1 ≤ i) × (i + 8 ≤ length path.now) }
     ensures { result ≡ true → (k : ℕ) → k < 8 → slash_and_dots (drop (i - 1 + k) path.now) ≡ false }
 {
-    if !wide {
-        return false;
-    }
-    if path.len() - i < 8 {
-        return false;
-    }
     let next = u8x8::from_slice(&path[i..]);
     let slashes = u8x8::from_slice(&path[i - 1..]).simd_eq(u8x8::splat(b'/'));
     let dots = next.simd_eq(u8x8::splat(b'.')) | next.simd_eq(u8x8::splat(b'%'));
     !(slashes & dots).any()
 }
 
-/// The first dot segment of a path. A byte above `/` is no slash and begins no dot, so that the next place is passed with it. `wide`
-/// says that there may be none, and places are passed by eight where they can be: by ones and twos alone, triplets cost two
-/// instructions a byte more, and by eight, a path of dot segments up to forty.
+// Whether a dot segment begins at one of eight places.
+fn has_dots_near(path: &[u8], i: usize) -> bool
+    requires { (1 ≤ i) × (i + 8 ≤ length path.now) }
+    ensures none { result ≡ false → (k : ℕ) → k < 8 → slash_and_dots (drop (i - 1 + k) path.now) ≡ false }
+    ensures some { result ≡ true → has_dot_segment path.now ≡ true }
+{
+    let mut k = 0;
+    'places: while k < 8 {
+        if let Some(_) = dots_at(path, i + k) {
+            return true;
+        }
+        k += 1;
+    }
+    false
+}
+
+// The same, and mostly eight places are passed at once.
 #[inline(always)]
-pub(crate) fn next_dots(path: &[u8], wide: bool) -> Option<NextDots<'_>>
+fn has_dots_in(path: &[u8], i: usize) -> bool
+    requires { (1 ≤ i) × (i + 8 ≤ length path.now) }
+    ensures none { result ≡ false → (k : ℕ) → k < 8 → slash_and_dots (drop (i - 1 + k) path.now) ≡ false }
+    ensures some { result ≡ true → has_dot_segment path.now ≡ true }
+{
+    !are_plain(path, i) && has_dots_near(path, i)
+}
+
+// Whether a dot segment stands after a slash. Places are looked at by eight, and the last ones perhaps twice: by twos, triplets cost
+// two instructions a byte more.
+fn has_dots_after_slash(path: &[u8]) -> bool
+    requires { 9 ≤ length path.now }
+    ensures none { result ≡ false → (k : ℕ) → k + 1 < length path.now → slash_and_dots (drop k path.now) ≡ false }
+    ensures some { result ≡ true → has_dot_segment path.now ≡ true }
+{
+    let last = path.len() - 8;
+    let mut i = 1;
+    'places: while i < last {
+        if has_dots_in(path, i) {
+            return true;
+        }
+        i += 8;
+    }
+    has_dots_in(path, last)
+}
+
+/// The first dot segment of a path. A byte above `/` is no slash and begins no dot, so that the next place is passed with it.
+#[inline(always)]
+pub(crate) fn next_dots(path: &[u8]) -> Option<NextDots<'_>>
     ensures { MatchOption result (has_dot_segment path.now ≡ false)
         (λ n. IsNext path.now n.run.now n.two n.rest.now) }
 {
@@ -121,10 +160,6 @@ pub(crate) fn next_dots(path: &[u8], wide: bool) -> Option<NextDots<'_>>
     }
     let mut i = 1;
     'places: while i < path.len() {
-        if are_plain(path, i, wide) {
-            i += 8;
-            continue;
-        }
         let b = path[i];
         if b > b'/' {
             i += 2;
@@ -168,12 +203,26 @@ pub fn is_two_dots(segment: &str) -> bool
     }
 }
 
+// Whether a dot segment stands in a short path.
+fn has_dots_in_short(path: &[u8]) -> bool
+    ensures { result ≡ has_dot_segment path.now }
+{
+    match next_dots(path) {
+        Some(_) => true,
+        None => false,
+    }
+}
+
 /// Whether a dot segment stands in the path.
 pub fn has_dot_segment(path: &str) -> bool
     ensures { result ≡ has_dot_segment path.now }
 {
-    match next_dots(path.as_bytes(), true) {
+    let bytes = path.as_bytes();
+    if bytes.len() < 9 {
+        return has_dots_in_short(bytes);
+    }
+    match dots_in_front(bytes) {
         Some(_) => true,
-        None => false,
+        None => has_dots_after_slash(bytes),
     }
 }

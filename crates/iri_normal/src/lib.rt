@@ -56,4 +56,5 @@ pub use dots::{has_dot_segment, is_dot_segment, is_two_dots};
 pub use form::{becomes_slash, show_form};
 pub use merged_path::MergedPath;
 pub use path_writer::show_guarded;
-pub use target::TargetSlices;
+pub use prefix::NormalPrefix;
+pub use target::{TargetSlices, cut_last_segment};

@@ -13,10 +13,10 @@ use iri_text::{Show, Stop, TextSink};
 use iri_types::kind::Absolute;
 use iri_types::split::SplitView;
 
-// The prefix of a base in normal form.
+/// The prefix of a base in normal form: its scheme in lower case with the colon, and `//` with its authority.
 #[derive(Drop)]
-struct NormalPrefix<'a, S: Spec> {
-    base: SplitView<'a, S, Absolute>,
+pub struct NormalPrefix<'a, S: Spec> {
+    pub base: SplitView<'a, S, Absolute>,
 }
 
 impl<S: Spec> Show for NormalPrefix<'_, S> {

@@ -5,7 +5,7 @@ ghost use Rattle.iri_grammar.specs.Parts.{starts_with_slash};
 ghost use Rattle.iri_grammar.specs.Splitters.{parts};
 ghost use Rattle.iri_grammar.specs.OptionalSlices.{now_of};
 ghost use Rattle.iri_normal.specs.Target.{takes_base_path, target, target_under, to_last_slash, merge_prefix};
-ghost use Rattle.iri_normal.specs.Target.{ends_at_slash};
+ghost use Rattle.iri_normal.specs.Target.{ends_at_slash, last_segment};
 ghost use Rattle.iri_normal.specs.Slices.{merged, slices};
 ghost use Rattle.iri_grammar.specs.Characters.{slash};
 
@@ -30,14 +30,15 @@ pub(crate) fn last_slash(path: &str) -> Option<usize>
     memrchr(b'/', path.as_bytes())
 }
 
-// The path up to and with its last slash, or nothing where it has none.
-fn to_last_slash(path: &str) -> &str
-    ensures ends { ends_at_slash result.now ≡ true }
-    ensures front { result.now ≡ to_last_slash path.now }
+/// A path up to and with its last slash, or nothing where it has none, and its last segment.
+pub fn cut_last_segment(path: &str) -> (&str, &str)
+    ensures ends { ends_at_slash result.0.now ≡ true }
+    ensures front { result.0.now ≡ to_last_slash path.now }
+    ensures last { result.1.now ≡ last_segment path.now }
 {
     match last_slash(path) {
-        Some(i) => &path[..i + 1],
-        None => "",
+        Some(i) => (&path[..i + 1], &path[i + 1..]),
+        None => ("", path),
     }
 }
 
@@ -49,7 +50,7 @@ pub fn merge_prefix<'a>(base: &Splitter<'a>) -> &'a str
     if base.authority().is_some() && base.path().is_empty() {
         "/"
     } else {
-        to_last_slash(base.path())
+        cut_last_segment(base.path()).0
     }
 }
 

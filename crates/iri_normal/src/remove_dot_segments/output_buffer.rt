@@ -77,7 +77,7 @@ fn put(buf: &mut [u8; SHORT], len: usize, path: &[u8]) -> usize
 {
     let mut rest = path;
     let mut end = len;
-    'dots: while let Some(next) = next_dots(rest, false) {
+    'dots: while let Some(next) = next_dots(rest) {
         end = append(buf, end, next.run);
         end = leave(buf, end, next.two);
         rest = next.rest;

@@ -47,7 +47,7 @@ pub(crate) fn taken(text: &str, count: usize) -> usize
     let mut rest = text.as_bytes();
     let mut gone = 0;
     let mut stay = 0;
-    'dots: while let Some(next) = next_dots(rest, false) {
+    'dots: while let Some(next) = next_dots(rest) {
         (gone, stay) = counts_after(gone, stay + count_slashes(next.run), next.two);
         rest = next.rest;
     }

@@ -1,17 +1,10 @@
 use Rattle.std.proofs.Common.{refl, arith}
 use Rattle.iri_normal.proofs.SegmentLemmas.{nothing-plain}
-use Rattle.iri_normal.proofs.NextLemmas.{found, none-there, pass-lanes, pass-plain, pass-slash}
+use Rattle.iri_normal.proofs.NextLemmas.{found, none-there, pass-plain, pass-slash}
 use Rattle.iri_normal.proofs.dots.next_dots.Goals as goal
 
 pub returns-in-Some : goal.returns-in-Some
 returns-in-Some c = record { more = c.args.path.now; whole = refl; ends = refl; plain = nothing-plain; front = c.in-Some.ensures }
-
-pub places-preserved-then-are_plain : goal.places-preserved-then-are_plain
-places-preserved-then-are_plain c = record {
-  low = omega arith;
-  front = c.places.invariant.front;
-  none = pass-lanes c.args.path.now c.places.i 8 c.places.invariant.low (c.are_plain.ensures c.if-are_plain.true) c.places.invariant.none;
-}
 
 pub places-preserved-then-b-gt47 : goal.places-preserved-then-b-gt47
 places-preserved-then-b-gt47 c = record {

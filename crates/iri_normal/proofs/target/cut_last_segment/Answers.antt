@@ -1,12 +1,17 @@
-use Rattle.std.proofs.Common.{◌≡◌, true, sym, subst, arith}
+use Rattle.std.proofs.Common.{◌≡◌, ◌+◌, ◌∙◌, true, drop, take, sym, subst, arith}
 use Rattle.std.proofs.lemmas.Grind.{common_steps}
 use Rattle.std.proofs.lemmas.Str.{lead_after_ascii}
 use Rattle.iri_normal.specs.Target.{to_last_slash, ends_at_slash}
-use Rattle.iri_normal.proofs.SlashLemmas.{ends, last_slash, no_slash, slash_is}
-use Rattle.iri_normal.proofs.target.to_last_slash.Goals as goal
+use Rattle.iri_normal.proofs.SlashLemmas.{behind_slash, ends, last_slash, no_slash, none_behind, slash_is}
+use Rattle.iri_normal.proofs.target.cut_last_segment.Goals as goal
 
 pub range-requires-clause-end_boundary : goal.range-requires-clause-end_boundary
 range-requires-clause-end_boundary c =
+    let at = slash_is c.args.path.now c.in-Some.i c.in-Some.ensures in
+    (omega (arith, at.0), λ l h. lead_after_ascii c.args.path.now c.in-Some.i c.utf8.path (omega (arith, at.1)) l h)
+
+pub range_from-requires : goal.range_from-requires
+range_from-requires c _ =
     let at = slash_is c.args.path.now c.in-Some.i c.in-Some.ensures in
     (omega (arith, at.0), λ l h. lead_after_ascii c.args.path.now c.in-Some.i c.utf8.path (omega (arith, at.1)) l h)
 
@@ -23,5 +28,16 @@ returns-in-Some-clause-front c =
     let value = c.range.ensures.value in
     grind (arith, common_steps)
 
+pub returns-in-Some-clause-last : goal.returns-in-Some-clause-last
+returns-in-Some-clause-last c =
+    let t = c.args.path.now in
+    let i = c.in-Some.i in
+    let value = c.range_from.ensures.value in
+    let same : c.range_from.result.now ≡ drop (i + 1) t = grind (arith, common_steps) in
+    same ∙ behind_slash t i c.in-Some.ensures
+
 pub returns-in-None-clause-front : goal.returns-in-None-clause-front
 returns-in-None-clause-front c = (no_slash c.args.path.now c.in-None.ensures).1
+
+pub returns-in-None-clause-last : goal.returns-in-None-clause-last
+returns-in-None-clause-last c = sym (none_behind c.args.path.now (no_slash c.args.path.now c.in-None.ensures).0)
