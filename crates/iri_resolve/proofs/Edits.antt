@@ -1,11 +1,10 @@
--- A text with one byte in another case.
+-- A text with one byte changed, or triplets that are decoded.
 use Rattle.std.proofs.Common.{◌≡◌, ℕ, zero, suc, ◌+◌, ◌*◌, ◌<◌, Bool, true, false, cond, ◌&&◌, List, [], ◌∷◌, ◌++◌, Option, Some, None}
 use Rattle.std.proofs.Common.{length, refl, sym, ◌-◌, ◌≤◌, ◌∙◌, ap, subst, arith, drop_of_length-le, take-append-drop, length-take-le}
 use Rattle.std.proofs.Common.{length-append, get_or-append-add}
 use Rattle.std.specs.Prelude.{nat_lt, take, drop, slice_index, slice_set}
 use Rattle.std.specs.Char.{is_ascii_uppercase, to_ascii_lowercase, to_ascii_uppercase, encode_utf8, len_utf8}
 use Rattle.std.specs.Str.{chars}
-use Rattle.std.proofs.lemmas.Str.{encode_ascii}
 use Rattle.std.proofs.lemmas.Bool.Decides.{nat_tests}
 use Rattle.iri_grammar.specs.Classes.{Tests}
 use Rattle.iri_percent.specs.Units.{octets, first_char}
@@ -13,37 +12,60 @@ use Rattle.iri_percent.specs.NormalLaws.{decoded}
 use Rattle.iri_percent.proofs.UnitLaws.{Spells, none, more, spelled, length-spelled}
 use Rattle.iri_percent.proofs.CaseLaws.{is_decoded}
 use Rattle.std.specs.Str.{IsUtf8}
-use Rattle.std.proofs.lemmas.Str.{length-encode, lead_after_ascii}
+use Rattle.std.proofs.lemmas.Str.{length-encode, lead_after_ascii, IsUtf8-append}
 use Rattle.iri_resolve.proofs.ChangeLaws.{some_triplets}
 use Rattle.iri_resolve.specs.Changes.{is_in_triplet, is_small_digit, with_small_letter, with_small_host_letter, with_capital_digit}
 use Rattle.iri_resolve.specs.Changes.{with_character, with_decoded}
-use Rattle.iri_resolve.proofs.ByteLaws.{cut}
 use Rattle.iri_grammar.proofs.Units.{hex_is_ascii as digit_below}
-use Rattle.iri_resolve.proofs.ByteLaws.{capital_some}
-use Rattle.iri_resolve.proofs.ByteLaws.{digit_some}
+use Rattle.iri_normal.proofs.TextLaws.{utf8-behind, utf8-front}
+use Rattle.iri_grammar.proofs.AuthorityTexts.{marked-utf8}
 
-lower_below : (x : ℕ) → is_ascii_uppercase x ≡ true → to_ascii_lowercase x < 128
-lower_below x h = grind (arith, nat_tests)
+pub in_text : (i : ℕ) (t : List ℕ) → nat_lt 0 (slice_index t i) ≡ true → i < length t
+in_text zero [] h = cc
+in_text (suc i) [] h = cc
+in_text zero (x ∷ xs) h = omega arith
+in_text (suc i) (x ∷ xs) h = let l = in_text i xs h in omega arith
 
-upper_below : (x : ℕ) → is_small_digit x ≡ true → to_ascii_uppercase x < 128
-upper_below x h = grind (arith, nat_tests)
+cut_at : (i : ℕ) (t : List ℕ) (y : ℕ) → i < length t
+    → (t ≡ take i t ++ slice_index t i ∷ drop (suc i) t) × (slice_set t i y ≡ take i t ++ y ∷ drop (suc i) t)
+cut_at i [] y h = absurd (omega arith)
+cut_at zero (x ∷ xs) y h = (refl, refl)
+cut_at (suc i) (x ∷ xs) y h = let r = cut_at i xs y (omega arith) in (ap (λ z. x ∷ z) r.0, ap (λ z. x ∷ z) r.1)
 
-edited : (i : ℕ) (t : List ℕ) (y : ℕ) → nat_lt 0 (slice_index t i) ≡ true → y < 128
-    → take i t ++ (encode_utf8 y ++ drop (i + 1) t) ≡ slice_set t i y
-edited i t y h l =
-    let one : i + 1 ≡ suc i = omega arith in
-    ap (λ z. take i t ++ (z ++ drop (i + 1) t)) (encode_ascii y l) ∙ ap (λ n. take i t ++ y ∷ drop n t) one ∙ sym (cut i t y h).1
+-- an ASCII byte in the place of another
+pub put-utf8 : (i : ℕ) (t : List ℕ) (y : ℕ) → i < length t → slice_index t i < 128 → y < 128 → IsUtf8 t → IsUtf8 (slice_set t i y)
+put-utf8 i t y h l m u =
+    let c = cut_at i t y h in
+    let v = subst (λ z. IsUtf8 z) c.0 u in
+    subst (λ z. IsUtf8 z) (sym c.1) (IsUtf8-append (take i t) (y ∷ drop (suc i) t) (utf8-front (slice_index t i) (take i t) (drop (suc i) t) l v)
+    (marked-utf8 y (drop (suc i) t) m (utf8-behind (slice_index t i) (take i t) (drop (suc i) t) l v)))
+
+pub capital_low : (x : ℕ) → is_ascii_uppercase x ≡ true → (x < 128) × (to_ascii_lowercase x < 128)
+capital_low x h = (low x h, still x h)
+  where
+    low : (x : ℕ) → is_ascii_uppercase x ≡ true → x < 128
+    low x h = grind (arith, nat_tests)
+
+    still : (x : ℕ) → is_ascii_uppercase x ≡ true → to_ascii_lowercase x < 128
+    still x h = grind (arith, nat_tests)
+
+pub digit_low : (x : ℕ) → is_small_digit x ≡ true → (x < 128) × (to_ascii_uppercase x < 128)
+digit_low x h = (low x h, still x h)
+  where
+    low : (x : ℕ) → is_small_digit x ≡ true → x < 128
+    low x h = grind (arith, nat_tests)
+
+    still : (x : ℕ) → is_small_digit x ≡ true → to_ascii_uppercase x < 128
+    still x h = grind (arith, nat_tests)
 
 pub no_letter : (i : ℕ) (t : List ℕ) → is_ascii_uppercase (slice_index t i) ≡ false → with_small_letter i t ≡ None
 unfolding with_small_letter
 no_letter i t h = rw h refl
 
-pub letter : (i : ℕ) (t u : List ℕ) → is_ascii_uppercase (slice_index t i) ≡ true
-    → u ≡ take i t ++ (encode_utf8 (to_ascii_lowercase (slice_index t i)) ++ drop (i + 1) t) → with_small_letter i t ≡ Some u
+pub letter : (i : ℕ) (t u : List ℕ) → is_ascii_uppercase (slice_index t i) ≡ true → u ≡ slice_set t i (to_ascii_lowercase (slice_index t i))
+    → with_small_letter i t ≡ Some u
 unfolding with_small_letter
-letter i t u h e =
-    let x = slice_index t i in
-    rw h (ap Some (sym (e ∙ edited i t (to_ascii_lowercase x) (capital_some x h) (lower_below x h))))
+letter i t u h e = ap (λ b. cond b (Some (slice_set t i (to_ascii_lowercase (slice_index t i)))) None) h ∙ ap Some (sym e)
 
 pub no_digit : (i : ℕ) (t : List ℕ) → is_small_digit (slice_index t i) ≡ false → with_capital_digit i t ≡ None
 unfolding with_capital_digit
@@ -56,13 +78,12 @@ digit_outside i t h = ap (λ b. cond (b && is_small_digit (slice_index t i))
     (Some (slice_set t i (to_ascii_uppercase (slice_index t i)))) None) h
 
 pub digit : (i : ℕ) (t u : List ℕ) → is_small_digit (slice_index t i) ≡ true → is_in_triplet i t ≡ true
-    → u ≡ take i t ++ (encode_utf8 (to_ascii_uppercase (slice_index t i)) ++ drop (i + 1) t) → with_capital_digit i t ≡ Some u
+    → u ≡ slice_set t i (to_ascii_uppercase (slice_index t i)) → with_capital_digit i t ≡ Some u
 unfolding with_capital_digit
 digit i t u h k e =
-    let x = slice_index t i in
     ap (λ b. cond (b && is_small_digit (slice_index t i)) (Some (slice_set t i (to_ascii_uppercase (slice_index t i)))) None) k
-    ∙ ap (λ b. cond b (Some (slice_set t i (to_ascii_uppercase x))) None) h
-    ∙ ap Some (sym (e ∙ edited i t (to_ascii_uppercase x) (digit_some x h) (upper_below x h)))
+    ∙ ap (λ b. cond b (Some (slice_set t i (to_ascii_uppercase (slice_index t i)))) None) h
+    ∙ ap Some (sym e)
 
 -- ---- decoding
 pub not_decoded : (s : Tests) (i : ℕ) (t : List ℕ) → decoded s (octets (drop i t)) ≡ None → with_decoded s i t ≡ None
@@ -78,8 +99,8 @@ no_octets : (s : Tests) → decoded s (octets []) ≡ None
 unfolding first_char chars
 no_octets s = refl
 
-pub behind_end : (s : Tests) (i : ℕ) (t : List ℕ) → length t < i → with_decoded s i t ≡ None
-behind_end s i t h = not_decoded s i t (ap (λ z. decoded s (octets z)) (drop_of_length-le t (omega arith)) ∙ no_octets s)
+pub behind_end : (s : Tests) (i : ℕ) (t : List ℕ) → length t < i → decoded s (octets (drop i t)) ≡ None
+behind_end s i t h = ap (λ z. decoded s (octets z)) (drop_of_length-le t (omega arith)) ∙ no_octets s
 
 -- where the triplets begin and end
 at_front : (i : ℕ) (t : List ℕ) (y : ℕ) (r : List ℕ) → drop i t ≡ y ∷ r → (i < length t) × (slice_index t i ≡ y)
@@ -146,14 +167,6 @@ behind_place i n t u p l h =
 pub rest_all : (l : List ℕ) (i : ℕ) → take (length l - i) (drop i l) ≡ drop i l
 rest_all l i = Rattle.std.proofs.lemmas.List.take_all (length l - i) (drop i l)
     (omega (arith, Rattle.std.proofs.lemmas.List.length-drop i l))
-
-pub from_start : (i : ℕ) (t : List ℕ) → take (i - 0) (drop 0 t) ≡ take i t
-from_start i t = let e : i - 0 ≡ i = omega arith in ap (λ n. take n t) e
-
-pub put_together : (i n : ℕ) (t u v w r b e : List ℕ) → u ≡ v ++ b → v ≡ w ++ e → w ≡ r → r ≡ take i t → b ≡ drop n t
-    → u ≡ take i t ++ (e ++ drop n t)
-put_together i n t u v w r b e p q o k l = p ∙ ap (λ z. z ++ b) (q ∙ ap (λ z. z ++ e) (o ∙ k))
-    ∙ Rattle.std.proofs.Common.append_assoc (take i t) e b ∙ ap (λ z. take i t ++ (e ++ z)) l
 
 -- ---- letters of a host
 pub letter_inside : (i : ℕ) (t : List ℕ) → is_in_triplet i t ≡ true → with_small_host_letter i t ≡ None

@@ -1,6 +1,6 @@
 pub mod Edits
 pub mod Replayed
-pub mod StepLemmas
+pub mod ReachedLemmas
 pub mod ComponentLemmas
 pub mod GuardLemmas
 pub mod NormalStepLemmas
@@ -15,6 +15,5 @@ pub mod Confluence
 pub mod SchemeSteps
 pub mod Leads
 pub mod LookBack
-pub mod PartTexts
 pub mod Places
 pub mod StepsKept

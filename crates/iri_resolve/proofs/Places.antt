@@ -168,10 +168,10 @@ decode-inside s i t u h =
     let g = some_triplets d.c d.sp (encode_utf8 d.c) d.spells refl in
     inside i t 37 (g.rest ++ d.back) (d.old ∙ ap (λ z. take i t ++ (z ++ d.back)) g.text)
 
-below : (i n : ℕ) → i < n → nat_lt i n ≡ true
+pub below : (i n : ℕ) → i < n → nat_lt i n ≡ true
 below i n h = grind (arith, nat_tests)
 
-not-below : (i n : ℕ) → n ≤ i → nat_lt i n ≡ false
+pub not-below : (i n : ℕ) → n ≤ i → nat_lt i n ≡ false
 not-below i n h = grind (arith, nat_tests)
 
 pub in-userinfo : (s : Tests) (change : ℕ → List ℕ → Option (List ℕ)) (t : Parts) (p : AuthorityParts) (i : ℕ) (u v : List ℕ) → IsSpec s

@@ -267,21 +267,3 @@ step-kept s t u Dots k v h =
     subst (λ z. Kept s t z) (ap (λ p. record t { path = p }) (dots-removed t r.0 r.1) ∙ r.2) (dots-step s t k v)
 step-kept s t u DefaultPort k v h = absurd (no_default_port s t u h)
 step-kept s t u SlashPath k v h = cc
-
--- ---- lists of steps
-pub valid-kept : (s : Tests) (t u : Parts) → Kept s t u → Valid s u
-valid-kept s t u k = record { fits = k.fits; scheme = k.scheme }
-
-pub replayed-kept : (s : Tests) (t u : Parts) (l : List Step) → IsSpec s → Valid s t → replayed s t l ≡ Some u → Kept s t u
-unfolding replayed_in
-replayed-kept s t u [] k v h = let same : t ≡ u = cc in
-    subst (λ z. Kept s t z) same (record { fits = v.fits; scheme = v.scheme; form = refl })
-replayed-kept s t u (x ∷ xs) k v h = at (step s t x) refl h (λ w o j. replayed-kept s w u xs k o j)
-  where
-    at : (o : Option Parts) → step s t x ≡ o → onward o (λ w. replayed s w xs) ≡ Some u
-        → ((w : Parts) → Valid s w → replayed s w xs ≡ Some u → Kept s w u) → Kept s t u
-    at None e j go = cc
-    at (Some w) e j go =
-        let one = step-kept s t w x k v e in
-        let rest = go w (valid-kept s t w one) j in
-        record { fits = rest.fits; scheme = rest.scheme; form = rest.form ∙ one.form }

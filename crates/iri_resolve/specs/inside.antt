@@ -3,4 +3,4 @@ pub mod ChangeOf
 pub mod ComponentSteps
 pub mod LookBack
 pub mod NormalSteps
-pub mod PartTexts
+pub mod Reached

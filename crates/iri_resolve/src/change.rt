@@ -1,17 +1,21 @@
-// Changes of a text at one place.
-ghost use Rattle.std.specs.Prelude.{◌≡◌, ◌<◌, ◌≤◌, ◌+◌, ◌-◌, ◌++◌, IfOk, take, drop, length, slice_index, string_bytes};
-ghost use Rattle.std.specs.Prelude.{true};
-ghost use Rattle.std.specs.Char.{encode_utf8, is_ascii_uppercase};
-ghost use Rattle.iri_percent.specs.Units.{whole_triplets};
+// Changes of a text at one place, in place: each looks at the bytes there alone, and answers whether it is one.
+ghost use Rattle.std.specs.Prelude.{◌≡◌, ◌<◌, ◌≤◌, ◌+◌, ◌-◌, ◌++◌, IfOk, drop, length, slice_index, slice_set};
+ghost use Rattle.std.specs.Prelude.{string_bytes, true};
+ghost use Rattle.std.specs.Char.{is_ascii_uppercase};
+ghost use Rattle.iri_grammar.specs.Components.{if_there};
+ghost use Rattle.iri_percent.specs.NormalLaws.{decoded};
+ghost use Rattle.iri_percent.specs.Units.{octets, whole_triplets};
 ghost use Rattle.iri_normal.specs.Resolver.{bytes_of};
 ghost use Rattle.iri_resolve.specs.Changes.{is_in_triplet, is_small_digit, with_capital_digit, with_decoded};
 ghost use Rattle.iri_resolve.specs.Changes.{with_small_host_letter, with_small_letter};
 ghost use Rattle.iri_resolve.specs.inside.ChangeOf.{change_of};
 ghost use Rattle.iri_resolve.specs.inside.LookBack.{percent_before};
+ghost use Rattle.iri_resolve.specs.inside.Reached.{PartWent, went};
 
 use iri_grammar::spec::Spec;
 use iri_percent::character::decoded_char;
-use std::alloc::{AllocError, Global};
+use std::alloc::AllocError;
+use std::mem;
 
 // A change of triplets.
 #[derive(Clone, Copy)]
@@ -20,15 +24,17 @@ pub(crate) enum Change {
     Decoded,
 }
 
-// The text with the character in the place of an ASCII byte.
-fn replaced(alloc: Global, text: &str, at: usize, c: char) -> Result<String, AllocError>
-    requires { (at < length text.now) × (slice_index text.now at < 128) }
-    ensures { IfOk result (λ t. string_bytes t ≡ take at text.now ++ (encode_utf8 c ++ drop (at + 1) text.now)) }
+// An ASCII byte comes in the place of another.
+fn put(text: &mut String, at: usize, b: u8)
+    requires inside { at < length (string_bytes text.old) }
+    requires ascii { slice_index (string_bytes text.old) at < 128 }
+    requires byte { b < 128 }
+    ensures { string_bytes text.new ≡ slice_set (string_bytes text.old) at b }
 {
-    let mut changed = String::from_str(alloc, &text[..at])?;
-    changed.push(c)?;
-    changed.push_str(&text[at + 1..])?;
-    Ok(changed)
+    let empty = String::new(*text.allocator());
+    let mut bytes = mem::replace(text, empty).into_bytes();
+    bytes[at] = b;
+    *text = unsafe { String::from_utf8_unchecked(bytes) };
 }
 
 // Whether a `%` stands n bytes before i.
@@ -78,84 +84,98 @@ fn is_small_digit_at(text: &[u8], i: usize) -> bool
 }
 
 // The capital at i becomes small.
-pub(crate) fn small_letter(
-    alloc: Global,
-    text: &str,
-    i: usize,
-) -> Result<Option<String>, AllocError>
-    ensures { IfOk result (λ o. bytes_of o ≡ with_small_letter i text.now) }
+pub(crate) fn small_letter(text: &mut String, i: usize) -> bool
+    ensures { went result (string_bytes text.new) ≡ with_small_letter i (string_bytes text.old) }
 {
     if !is_capital_at(text.as_bytes(), i) {
-        return Ok(None);
+        return false;
     }
     let letter = text.as_bytes()[i].to_ascii_lowercase();
-    Ok(Some(replaced(alloc, text, i, char::from(letter))?))
+    put(text, i, letter);
+    true
 }
 
 // The capital at i, outside triplets, becomes small.
-pub(crate) fn small_host_letter(
-    alloc: Global,
-    text: &str,
-    i: usize,
-) -> Result<Option<String>, AllocError>
-    requires { whole_triplets text.now ≡ true }
-    ensures { IfOk result (λ o. bytes_of o ≡ with_small_host_letter i text.now) }
+pub(crate) fn small_host_letter(text: &mut String, i: usize) -> bool
+    requires { whole_triplets (string_bytes text.old) ≡ true }
+    ensures { went result (string_bytes text.new) ≡ with_small_host_letter i (string_bytes text.old) }
 {
     if !is_capital_at(text.as_bytes(), i) {
-        return Ok(None);
+        return false;
     }
     if is_in_triplet(text.as_bytes(), i) {
-        return Ok(None);
+        return false;
     }
-    small_letter(alloc, text, i)
+    small_letter(text, i)
 }
 
 // The small hex digit at i, inside a triplet, becomes a capital.
-fn capital_digit(alloc: Global, text: &str, i: usize) -> Result<Option<String>, AllocError>
-    requires { whole_triplets text.now ≡ true }
-    ensures { IfOk result (λ o. bytes_of o ≡ with_capital_digit i text.now) }
+fn capital_digit(text: &mut String, i: usize) -> bool
+    requires { whole_triplets (string_bytes text.old) ≡ true }
+    ensures { went result (string_bytes text.new) ≡ with_capital_digit i (string_bytes text.old) }
 {
     if !is_small_digit_at(text.as_bytes(), i) {
-        return Ok(None);
+        return false;
     }
     if !is_in_triplet(text.as_bytes(), i) {
-        return Ok(None);
+        return false;
     }
     let digit = text.as_bytes()[i].to_ascii_uppercase();
-    Ok(Some(replaced(alloc, text, i, char::from(digit))?))
+    put(text, i, digit);
+    true
+}
+
+// The unreserved character that the triplets from i on spell.
+fn spelled_at<S: Spec>(text: &[u8], i: usize) -> Option<char>
+    ensures { result ≡ decoded S.tests (octets (drop i text.now)) }
+{
+    if text.len() < i {
+        return None;
+    }
+    decoded_char::<S>(&text[i..])
 }
 
 // The triplets from i on that spell an unreserved character become that character.
-fn decoded<S: Spec>(alloc: Global, text: &str, i: usize) -> Result<Option<String>, AllocError>
-    requires { whole_triplets text.now ≡ true }
-    ensures { IfOk result (λ o. bytes_of o ≡ with_decoded S.tests i text.now) }
+fn decoded<S: Spec>(text: &mut String, i: usize) -> Result<bool, AllocError>
+    ensures { IfOk result (λ b. went b (string_bytes text.new) ≡ with_decoded S.tests i (string_bytes text.old)) }
 {
-    if text.len() < i {
-        return Ok(None);
-    }
-    match decoded_char::<S>(&text.as_bytes()[i..]) {
+    match spelled_at::<S>(text.as_bytes(), i) {
         Some(c) => {
-            let mut changed = String::from_str(alloc, &text[..i])?;
-            changed.push(c)?;
-            changed.push_str(&text[i + 3 * c.len_utf8()..])?;
-            Ok(Some(changed))
+            let mut bytes = [0; 4];
+            text.replace_range(i..i + 3 * c.len_utf8(), c.encode_utf8(&mut bytes))?;
+            Ok(true)
         }
-        None => Ok(None),
+        None => Ok(false),
     }
 }
 
 // A change of triplets at i.
 pub(crate) fn changed<S: Spec>(
-    alloc: Global,
+    text: &mut String,
     change: Change,
-    text: &str,
     i: usize,
-) -> Result<Option<String>, AllocError>
-    requires { whole_triplets text.now ≡ true }
-    ensures { IfOk result (λ o. bytes_of o ≡ change_of S.tests change i text.now) }
+) -> Result<bool, AllocError>
+    requires { whole_triplets (string_bytes text.old) ≡ true }
+    ensures { IfOk result (λ b. went b (string_bytes text.new) ≡ change_of S.tests change i (string_bytes text.old)) }
 {
     match change {
-        Change::CapitalDigit => capital_digit(alloc, text, i),
-        Change::Decoded => decoded::<S>(alloc, text, i),
+        Change::CapitalDigit => Ok(capital_digit(text, i)),
+        Change::Decoded => decoded::<S>(text, i),
     }
+}
+
+// The same in a text that may stand.
+pub(crate) fn changed_there<S: Spec>(
+    text: &mut Option<String>,
+    change: Change,
+    i: usize,
+) -> Result<bool, AllocError>
+    requires { if_there whole_triplets (bytes_of text.old) ≡ true }
+    ensures { IfOk result (λ b. PartWent (change_of S.tests change i) b (bytes_of text.old) (bytes_of text.new)) }
+{
+    let Some(text) = text else {
+        return Ok(false);
+    };
+    let went = changed::<S>(text, change, i)?;
+    Ok(went)
 }

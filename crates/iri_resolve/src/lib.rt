@@ -14,18 +14,19 @@
 //! each call succeeds with ample memory. The words of `Display` of `ReplayError`, which `thiserror` makes. Any bound on time.
 #![tactic(auto)]
 
-mod after_step;
-mod authority_change;
 mod change;
 mod component;
 mod component_steps;
 pub mod join;
 pub mod laws;
 pub mod normal_steps;
+mod reached;
+mod reached_authority;
 pub mod replay;
 pub mod step;
 pub mod step_list;
 mod step_text;
+mod take_step;
 
 pub use iri_normal::{
     canonical, is_normalized, mapping_laws, mode, normal_kind, normalized, owned_target, resolver,

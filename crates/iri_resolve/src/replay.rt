@@ -1,15 +1,20 @@
 //! Steps, done one after the other.
-ghost use Rattle.std.specs.Prelude.{◌≡◌, MatchResult, Some};
+ghost use Rattle.std.specs.Prelude.{◌≡◌, IfOk, MatchResult, OnOk, Some, string_bytes};
+ghost use Rattle.iri_normal.specs.Resolver.{bytes_of};
+ghost use Rattle.iri_resolve.specs.inside.Reached.{Holds, parts_of};
 ghost use Rattle.iri_resolve.specs.Replays.{EndsBy, EndsByIn, StopsAt};
 ghost use Rattle.iri_resolve.specs.Steps.{replayed, replayed_in, step_in};
 
-use crate::after_step::{after_step, copied};
+use crate::reached::Reached;
+use crate::reached_authority::{borrowed, copied, read_there, recomposed_there};
 use crate::step::Step;
 use crate::step_list::StepList;
+use crate::take_step::take_step;
 use iri_grammar::spec::Spec;
 use iri_normal::mode::CanonMode;
 use iri_normal::owned_target::Target;
-use std::alloc::Global;
+use iri_normal::{MergedPath, TargetSlices};
+use std::alloc::{AllocError, Global};
 use thiserror::Error;
 
 /// Why steps can't be replayed.
@@ -23,26 +28,67 @@ pub enum ReplayError {
     Memory,
 }
 
-// The parts after the step of number k.
-fn after_numbered<S: Spec>(
+// A target's parts, each on its own.
+fn read<S: Spec>(alloc: Global, target: &Target<S>) -> Result<Reached, AllocError>
+    ensures parts { IfOk result (λ r. parts_of r ≡ target.now) }
+    ensures holds { IfOk result (λ r. Holds S.tests r) }
+{
+    let _valid = target.slices();
+    let scheme = String::from_str(alloc, target.scheme())?;
+    let authority = read_there::<S>(alloc, target.authority())?;
+    let path = String::from_str(alloc, target.path())?;
+    let query = copied(alloc, target.query())?;
+    let fragment = copied(alloc, target.fragment())?;
+    Ok(Reached {
+        scheme,
+        authority,
+        path,
+        query,
+        fragment,
+    })
+}
+
+// The parts in a target.
+fn written<S: Spec>(alloc: Global, reached: &Reached) -> Result<Target<S>, AllocError>
+    requires { Holds S.tests reached.now }
+    ensures { IfOk result (λ t. t ≡ parts_of reached.now) }
+{
+    let authority = recomposed_there(alloc, &reached.authority)?;
+    let slices = TargetSlices {
+        scheme: Some(reached.scheme.as_str()),
+        authority: borrowed(&authority),
+        path: MergedPath::of(reached.path.as_str()),
+        query: borrowed(&reached.query),
+        fragment: borrowed(&reached.fragment),
+    };
+    Target::of(alloc, &slices)
+}
+
+// Takes the step of number k.
+fn take_numbered<S: Spec>(
     alloc: Global,
     mode: CanonMode,
-    reached: &Target<S>,
+    reached: &mut Reached,
     next: Step,
     k: usize,
-) -> Result<Target<S>, ReplayError>
-    ensures { MatchResult result (λ t. step_in S.tests mode reached.now next ≡ Some t)
-        (StopsAt S.tests mode reached.now next k) }
+) -> Result<(), ReplayError>
+    requires { Holds S.tests reached.old }
+    ensures step { MatchResult result (λ _. step_in S.tests mode (parts_of reached.old) next ≡ Some (parts_of reached.new))
+        (StopsAt S.tests mode (parts_of reached.old) next k) }
+    ensures holds { OnOk result (Holds S.tests reached.new) }
 {
-    match after_step(alloc, mode, reached, next) {
-        Ok(Some(after)) => Ok(after),
-        Ok(None) => Err(ReplayError::Illegal(k)),
-        Err(_) => Err(ReplayError::Memory),
+    let Ok(went) = take_step::<S>(alloc, mode, reached, next) else {
+        return Err(ReplayError::Memory);
+    };
+    if !went {
+        return Err(ReplayError::Illegal(k));
     }
+    Ok(())
 }
 
 /// The parts after all of these steps, one after the other. `Illegal(k)` comes exactly where step k, from 0, is the first that is no
-/// step from the parts reached (RFC 3986 section 6.2.2); the other error is allocation failure.
+/// step from the parts reached (RFC 3986 section 6.2.2); the other error is allocation failure. A step that keeps the length looks
+/// only at its place; one that changes it moves what follows there, and one that removes dot segments reads the path.
 pub fn replay<S: Spec>(
     alloc: Global,
     target: &Target<S>,
@@ -64,12 +110,15 @@ pub fn replay_in<S: Spec>(
     ensures { MatchResult result (λ t. replayed_in S.tests mode target.now steps.now ≡ Some t)
         (EndsByIn S.tests mode target.now steps.now) }
 {
-    let mut reached = match copied(alloc, target) {
+    let mut reached = match read::<S>(alloc, target) {
         Ok(reached) => reached,
         Err(_) => return Err(ReplayError::Memory),
     };
     for k in 0..steps.len() {
-        reached = after_numbered(alloc, mode, &reached, steps.at(k), k)?;
+        take_numbered::<S>(alloc, mode, &mut reached, steps.at(k), k)?;
     }
-    Ok(reached)
+    match written::<S>(alloc, &reached) {
+        Ok(after) => Ok(after),
+        Err(_) => Err(ReplayError::Memory),
+    }
 }

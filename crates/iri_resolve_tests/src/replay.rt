@@ -309,6 +309,61 @@ fn the_first_illegal_step_is_named(rt: HostRuntime) -> Result<(), Fail> {
     Ok(())
 }
 
+// The text that these steps lead to.
+fn after_all(alloc: Global, reference: &str, steps: &[Step]) -> Result<String, Fail> {
+    let target = target::<UriSpec>(alloc, reference)?;
+    let mut list = StepList::new(alloc);
+    for step in steps {
+        list.push(*step)?;
+    }
+    let after = replay(alloc, &target, &list)?;
+    Ok(text_of(alloc, &after)?)
+}
+
+// A step of one part behind a step of another, which may have changed its length.
+#[test]
+fn steps_of_all_parts_by_turns(rt: HostRuntime) -> Result<(), Fail> {
+    let steps = [
+        Step::Decode(Part::Fragment, 0),
+        Step::HostLetter(9),
+        Step::Decode(Part::Authority, 1),
+        Step::HostLetter(3),
+        Step::SchemeLetter(3),
+        Step::Decode(Part::Authority, 4),
+        Step::HostLetter(4),
+        Step::Decode(Part::Query, 0),
+        Step::EmptyPort,
+        Step::HexDigit(Part::Fragment, 3),
+        Step::Decode(Part::Path, 1),
+        Step::HexDigit(Part::Query, 3),
+    ];
+    let got = after_all(rt.alloc(), "HTTP://U%41@H%42C:/%43?%44%3a#%45%3b", &steps)?;
+    assert_eq!(rt; got.as_str(), "HTTp://UA@hbc/C?D%3A#E%3B");
+    Ok(())
+}
+
+// The front, and the unit so many times.
+fn repeated(alloc: Global, front: &str, unit: &str, n: usize) -> Result<String, AllocError> {
+    let mut text = String::from_str(alloc, front)?;
+    for _ in 0..n {
+        text.push_str(unit)?;
+    }
+    Ok(text)
+}
+
+#[test]
+fn many_steps_in_long_parts(rt: HostRuntime) -> Result<(), Fail> {
+    let host = repeated(rt.alloc(), "//", "AB", 1000)?;
+    let small = repeated(rt.alloc(), "http://", "ab", 1000)?;
+    let got = normal::<UriSpec>(rt.alloc(), host.as_str())?;
+    assert_eq!(rt; got.as_str(), small.as_str());
+    let path = repeated(rt.alloc(), "/", "%41%c3", 500)?;
+    let decoded = repeated(rt.alloc(), "http://a/", "A%C3", 500)?;
+    let got = normal::<UriSpec>(rt.alloc(), path.as_str())?;
+    assert_eq!(rt; got.as_str(), decoded.as_str());
+    Ok(())
+}
+
 // Whether steps lead a target to the parts of a text.
 fn lead_to(
     alloc: Global,

@@ -64,8 +64,8 @@ fn text_of(alloc: Global, stack: &[&str], authority_stands: bool) -> Result<Vec<
     Ok(text)
 }
 
-// Of a path and the same path with its triplets decoded, how many forms of it, however it is cut, were those of its segments; none
-// where one was another.
+// Of a path and the same path with its triplets decoded, how many forms of it, however it is cut, were those of its
+// segments; none where one was another.
 fn compared(
     alloc: Global,
     path: &str,

@@ -1,50 +1,58 @@
-use Rattle.std.proofs.Common.{◌≡◌, ◌≤◌, ◌+◌, ◌-◌, ◌*◌, take, drop, length, sym, ap, subst, ◌∙◌, arith}
-use Rattle.std.specs.Prelude.{slice_index}
+use Rattle.std.proofs.Common.{◌≡◌, ◌≤◌, ◌+◌, ◌*◌, ◌++◌, take, drop, length, sym, ap, subst, ◌∙◌, arith, append_assoc}
+use Rattle.std.specs.Prelude.{slice_index, string_bytes}
 use Rattle.std.specs.Char.{encode_utf8, len_utf8}
+use Rattle.std.proofs.lemmas.Str.{IsUtf8-string_bytes}
 use Rattle.iri_percent.specs.Units.{octets}
 use Rattle.iri_percent.specs.NormalLaws.{decoded}
-use Rattle.iri_resolve.proofs.Edits.{behind_end, not_decoded, is_decoded_to, place, behind_place, rest_all, from_start, put_together}
+use Rattle.iri_resolve.proofs.Edits.{not_decoded, is_decoded_to, place, behind_place}
 use Rattle.iri_resolve.proofs.change.decoded.Goals as goal
-
-pub returns-then-text-i : goal.returns-then-text-i
-returns-then-text-i g c = sym (behind_end g.S.Spec.tests c.args.i c.args.text.now c.if-text-i.true)
-
-pub range-requires-clause-end_boundary : goal.range-requires-clause-end_boundary
-range-requires-clause-end_boundary g c =
-    let here : drop c.args.i c.args.text.now ≡ take (length c.as_bytes.result.now - c.args.i) (drop c.args.i c.as_bytes.result.now) =
-    ap (drop c.args.i) (sym c.as_bytes.ensures.value) ∙ sym (rest_all c.as_bytes.result.now c.args.i) in
-    let p = place g.S.Spec.tests c.args.i c.args.text.now c.in-Some.c
-    (ap (λ t. decoded g.S.Spec.tests (octets t)) here ∙ sym c.decoded_char.ensures ∙ c.in-Some.is) in
-    let l = p.inside in
-    (omega arith, λ _ h. absurd (omega (arith, h, p.first)))
-
-pub range_from-requires : goal.range_from-requires
-range_from-requires g c =
-    let here : drop c.args.i c.args.text.now ≡ take (length c.as_bytes.result.now - c.args.i) (drop c.args.i c.as_bytes.result.now) =
-    ap (drop c.args.i) (sym c.as_bytes.ensures.value) ∙ sym (rest_all c.as_bytes.result.now c.args.i) in
-    let p = place g.S.Spec.tests c.args.i c.args.text.now c.in-Some.c
-    (ap (λ t. decoded g.S.Spec.tests (octets t)) here ∙ sym c.decoded_char.ensures ∙ c.in-Some.is) in
-    let e : c.len_utf8.result ≡ len_utf8 c.in-Some.c = c.len_utf8.ensures.value in
-    let w = p.within in
-    λ _. (
-      omega (arith, e, w),
-      λ l h. subst (λ n. 192 ≤ slice_index c.args.text.now (c.args.i + 3 * n)) (sym e)
-          (behind_place c.args.i (3 * len_utf8 c.in-Some.c) c.args.text.now c.utf8.text p (omega (arith, e, l))
-          (subst (λ n. 128 ≤ slice_index c.args.text.now (c.args.i + 3 * n)) e h)),
-    )
 
 pub returns-in-None : goal.returns-in-None
 returns-in-None g c =
-    let here : drop c.args.i c.args.text.now ≡ take (length c.as_bytes.result.now - c.args.i) (drop c.args.i c.as_bytes.result.now) =
-    ap (drop c.args.i) (sym c.as_bytes.ensures.value) ∙ sym (rest_all c.as_bytes.result.now c.args.i) in
-    sym (not_decoded g.S.Spec.tests c.args.i c.args.text.now
-    (ap (λ t. decoded g.S.Spec.tests (octets t)) here ∙ sym c.decoded_char.ensures ∙ c.in-None.is))
+    sym (not_decoded g.S.Spec.tests c.args.i (string_bytes c.args.text.now)
+    (ap (λ t. decoded g.S.Spec.tests (octets (drop c.args.i t))) (sym c.as_bytes.ensures.value) ∙ sym c.spelled_at.ensures ∙ c.in-None.is))
 
-pub returns-in_ok-push_str-in-Some : goal.returns-in_ok-push_str-in-Some
-returns-in_ok-push_str-in-Some g c =
-    let here : drop c.args.i c.args.text.now ≡ take (length c.as_bytes.result.now - c.args.i) (drop c.args.i c.as_bytes.result.now) =
-    ap (drop c.args.i) (sym c.as_bytes.ensures.value) ∙ sym (rest_all c.as_bytes.result.now c.args.i) in
-    sym (is_decoded_to g.S.Spec.tests c.args.i c.args.text.now _ c.in-Some.c
-    (ap (λ t. decoded g.S.Spec.tests (octets t)) here ∙ sym c.decoded_char.ensures ∙ c.in-Some.is)
-    (put_together c.args.i (c.args.i + 3 * len_utf8 c.in-Some.c) c.args.text.now _ _ _ _ _
-    (encode_utf8 c.in-Some.c) c.in_ok-push_str-in-Some.ensures.bytes c.in_ok-push-in-Some.ensures.bytes c.in_ok-changed-in-Some.ensures.ok (c.range.ensures.value ∙ from_start c.args.i c.args.text.now) (c.range_from.ensures.value ∙ ap (λ n. drop (c.args.i + 3 * n) c.args.text.now) c.len_utf8.ensures.value)))
+pub overflow_add-i : goal.overflow_add-i
+overflow_add-i g c =
+    let p = place g.S.Spec.tests c.args.i (string_bytes c.args.text.now) c.in-Some.c
+    (ap (λ t. decoded g.S.Spec.tests (octets (drop c.args.i t))) (sym c.as_bytes.ensures.value) ∙ sym c.spelled_at.ensures ∙ c.in-Some.is) in
+    let w = p.within in
+    omega (arith, w, c.len_utf8.ensures.value, ap length c.as_bytes.ensures.value)
+
+pub replace_range-requires-clause-in_bounds : goal.replace_range-requires-clause-in_bounds
+replace_range-requires-clause-in_bounds g c =
+    let p = place g.S.Spec.tests c.args.i (string_bytes c.args.text.now) c.in-Some.c
+    (ap (λ t. decoded g.S.Spec.tests (octets (drop c.args.i t))) (sym c.as_bytes.ensures.value) ∙ sym c.spelled_at.ensures ∙ c.in-Some.is) in
+    let w = p.within in
+    omega (arith, w, c.len_utf8.ensures.value, c.as_bytes.ensures.len, ap length c.as_bytes.ensures.value)
+
+pub replace_range-requires-clause-start_boundary : goal.replace_range-requires-clause-start_boundary
+replace_range-requires-clause-start_boundary g c =
+    let p = place g.S.Spec.tests c.args.i (string_bytes c.args.text.now) c.in-Some.c
+    (ap (λ t. decoded g.S.Spec.tests (octets (drop c.args.i t))) (sym c.as_bytes.ensures.value) ∙ sym c.spelled_at.ensures ∙ c.in-Some.is) in
+    let l = p.inside in
+    (omega arith, λ _ _ h. absurd (omega (arith, h, p.first)))
+
+pub replace_range-requires-clause-end_boundary : goal.replace_range-requires-clause-end_boundary
+replace_range-requires-clause-end_boundary g c =
+    let t = string_bytes c.args.text.now in
+    let p = place g.S.Spec.tests c.args.i (string_bytes c.args.text.now) c.in-Some.c
+    (ap (λ t. decoded g.S.Spec.tests (octets (drop c.args.i t))) (sym c.as_bytes.ensures.value) ∙ sym c.spelled_at.ensures ∙ c.in-Some.is) in
+    let e : c.len_utf8.result ≡ len_utf8 c.in-Some.c = c.len_utf8.ensures.value in
+    let w = p.within in (
+      omega (arith, e, w),
+      λ _ l h. subst (λ n. 192 ≤ slice_index t (c.args.i + 3 * n)) (sym e)
+          (behind_place c.args.i (3 * len_utf8 c.in-Some.c) t (IsUtf8-string_bytes c.args.text.now) p (omega (arith, e, l))
+          (subst (λ n. 128 ≤ slice_index t (c.args.i + 3 * n)) e h)),
+    )
+
+pub returns-in_ok-replace_range-in-Some : goal.returns-in_ok-replace_range-in-Some
+returns-in_ok-replace_range-in-Some g c =
+    let i = c.args.i in
+    let t = string_bytes c.args.text.now in
+    sym (is_decoded_to g.S.Spec.tests i t (string_bytes c.replace_range.new.self) c.in-Some.c
+    (ap (λ t. decoded g.S.Spec.tests (octets (drop i t))) (sym c.as_bytes.ensures.value) ∙ sym c.spelled_at.ensures ∙ c.in-Some.is)
+    (c.in_ok-replace_range-in-Some.ensures.bytes
+    ∙ append_assoc (take i t) c.encode_utf8.result.now (drop (i + 3 * c.len_utf8.result) t)
+    ∙ ap (λ z. take i t ++ (z ++ drop (i + 3 * c.len_utf8.result) t)) c.encode_utf8.ensures.value
+    ∙ ap (λ n. take i t ++ (encode_utf8 c.in-Some.c ++ drop (i + 3 * n) t)) c.len_utf8.ensures.value))
