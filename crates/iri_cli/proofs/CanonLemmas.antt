@@ -39,10 +39,10 @@ pub line_room : {wo wn : Option (List ℕ)} {fo fn : ℕ} {ro rn : Option ℕ} (
 line_room good (Ok x) text p = room-so (λ _ h. cc h) p.room
 line_room good (Err f) text p = room-so (λ h. absurd (cc h)) p.room
 
--- the buffer has room for the text of an answer and its LF
+-- the buffer has room for an answer
 pub has_room : (s : Tests) (m : CanonMode) (base line text output : List ℕ) → IsSpec s → refusal s base ≡ None → bytes_fault (reference_fault s) line ≡ None
-    → text ≡ line → length base + length line + 4 ≤ length output
-    → length (canonical_in s m base text) + 1 ≤ length output
+    → text ≡ line → length base + length line + 7 ≤ length output
+    → length (canonical_in s m base text) + 4 ≤ length output
 has_room s m base line text output l taken none is room =
     let h = length-canonical_in s m base line l (base_absolute s l base taken) (line_reference s l line none) in
     let e : length (canonical_in s m base text) ≡ length (canonical_in s m base line) = ap (λ (t : List ℕ). length (canonical_in s m base t)) is in

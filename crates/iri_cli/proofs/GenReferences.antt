@@ -7,7 +7,6 @@ use Rattle.std.specs.Str.{IsAscii, chars, is_utf8}
 use lib.Utf8.{encode}
 use Rattle.std.proofs.lemmas.Str.{IsAscii-append, IsUtf8-from_ascii, is_utf8-from_IsUtf8, chars-IsAscii}
 use Rattle.std.proofs.lemmas.Bool.Decides.{nat_tests}
-use Rattle.iri_grammar.specs.Components.{is_path}
 use Rattle.iri_grammar.specs.Classes.{Tests, IsSpec, uri_tests, is_ascii_unreserved, is_sub_delim, is_ascii_reg_name, is_ascii_pchar}
 use Rattle.iri_grammar.specs.Classes.{is_ascii_path, is_ascii_query, reg_name_char, path_char, query_char}
 use Rattle.iri_grammar.proofs.ClassLaws.{class_has_no_percent}
@@ -135,9 +134,6 @@ module _ (s : Tests) (k : IsSpec s) where
   is_path_of : (t : List ℕ) → IsPathText t → text_over (path_char s) t ≡ true
   is_path_of t h = text_is (path_char s) t (class_has_no_percent s k Path) h.ascii h.over
 
-  pub slash_is_path : is_path s (47 ∷ []) ≡ true
-  slash_is_path = is_path_of (47 ∷ []) slash_text
-
   -- ---- a path alone, and one behind an authority
   alone : (t : List ℕ) → IsPathText t → (not (starts_with_slashes t) && lacks 58 (before 47 t)) ≡ true → reference_fault s t ≡ None
   unfolding recompose
@@ -146,7 +142,7 @@ module _ (s : Tests) (k : IsSpec s) where
       (made-reference s k (record { scheme = None; authority = None; path = t; query = None; fragment = None })
       (record { scheme = refl; authority = refl; path = is_path_of t h; query = refl; fragment = refl; rules = rules }))
 
-  pub lone_slash : reference_fault s (47 ∷ []) ≡ None
+  lone_slash : reference_fault s (47 ∷ []) ≡ None
   lone_slash = alone (47 ∷ []) slash_text refl
 
   authority_is : (x : List ℕ) → IsSegment x → is_authority s x ≡ true

@@ -1,4 +1,5 @@
 pub mod AnswerLemmas
+pub mod PreparedPaths
 pub mod PreparedLaws
 pub mod BytesLemmas
 pub mod LineSteps

@@ -1,56 +1,46 @@
 -- A prepared base is an absolute URI again, is no longer than the base, and has the same canonical texts.
-use Rattle.std.proofs.Common.{◌≡◌, ℕ, ◌+◌, ◌≤◌, Bool, true, false, cond, ◌&&◌, List, [], ◌∷◌, ◌++◌, Option, Some, None, length}
+use Rattle.std.proofs.Common.{◌≡◌, ℕ, ◌+◌, ◌≤◌, true, false, cond, ◌&&◌, List, [], ◌∷◌, ◌++◌, Option, Some, None, length}
 use Rattle.std.proofs.Common.{refl, ap, sym, ◌∙◌, arith, append_assoc, append-nil}
-use Rattle.std.proofs.Common.{Result, Ok, Err, ◌||◌, not}
-use Rattle.std.proofs.lemmas.List.{append_cancel_right}
-use Rattle.std.specs.Prelude.{IsNone}
-use Rattle.iri_text.specs.Shown.{Shows}
-use Rattle.iri_text.specs.SliceText.{SliceText, SlicePuts, SliceHalts}
-use Rattle.iri_text.specs.declared.shown.show.Stop.{Stop}
-use Rattle.iri_normal.specs.Dots.{is_dot_segment}
-use Rattle.iri_normal.specs.DotRemoval.{dots}
-use Rattle.iri_normal.proofs.NormalLemmas.{pct_nil, pct_two, dots_whole}
-use Rattle.iri_normal.proofs.TripletPaths.{pieces-pct}
-use Rattle.iri_normal.proofs.StableLaws.{unsplit, unsplit-pieces}
-use Rattle.iri_cli.proofs.GenReferences.{lone_slash, slash_is_path}
-use Rattle.std.specs.Prelude.{is_some, IsSome}
+use Rattle.std.specs.Prelude.{is_some, IsNone, IsSome}
 use Rattle.iri_grammar.specs.Classes.{Tests, IsSpec}
 use Rattle.iri_grammar.specs.Parts.{Parts, Fits, Splits, IsAbsolute, path_rules, recompose, is_empty, starts_with_slash, scheme_text}
-use Rattle.iri_grammar.specs.Parts.{authority_text, starts_with_slashes}
+use Rattle.iri_grammar.specs.Parts.{authority_text}
 use Rattle.iri_grammar.specs.Cut.{marked}
 use Rattle.iri_grammar.specs.Authority.{is_authority}
-use Rattle.iri_grammar.specs.Components.{if_there, is_letter}
-use Rattle.iri_grammar.specs.Pieces.{pieces}
+use Rattle.iri_grammar.specs.Components.{if_there}
 use Rattle.iri_grammar.specs.Split.{split_of}
 use Rattle.iri_grammar.proofs.SplitUnique.{split_is}
 use Rattle.iri_normal.specs.LowerCase.{where_there}
-use Rattle.iri_normal.specs.Target.{target, target_under, target_path, to_last_slash}
+use Rattle.iri_normal.specs.DotRemoval.{dots}
+use Rattle.iri_normal.specs.Target.{target, target_under, target_path, merge_prefix, to_last_slash}
 use Rattle.iri_percent.specs.NormalHost.{normal_authority, normal_authority_in}
 use Rattle.iri_percent.specs.SchemeRules.{dropped_port}
 use Rattle.iri_percent.specs.declared.canon_mode.CanonMode.{CanonMode}
 use Rattle.iri_percent.specs.declared.canon_mode.CanonMode.TheVariants.{Default, Scheme}
-use Rattle.iri_normal.specs.NormalForm.{becomes_slash, normal_path, normal_form, normal_form_in, form, canonical, canonical_in}
+use Rattle.iri_normal.specs.NormalForm.{becomes_slash, normal_path, normal_form, normal_form_in, form, canonical_in}
 use Rattle.iri_normal.specs.declared.mode.Mode.TheVariants.{ByScheme}
 use Rattle.iri_normal.proofs.CanonLaws.{canonical_in-text}
 use Rattle.iri_normal.proofs.AuthorityForm.{authority-fits, authority-stable}
 use Rattle.iri_normal.proofs.SchemeForm.{dropped-lowered, without, without-normal}
 use Rattle.iri_normal.proofs.FormLaws.{form-fits, scheme-stable, authorities-stable}
 use Rattle.iri_normal.specs.Prefix.{prefix_in}
-use Rattle.iri_normal.proofs.LengthLaws.{length-canonical, length-parts, length-scheme, length-authorities}
+use Rattle.iri_normal.proofs.LengthLaws.{length-parts, length-scheme, length-authorities}
 use Rattle.iri_grammar.specs.Fault.{bytes_fault}
 use Rattle.iri_grammar.specs.WholeFault.{absolute_fault, reference_fault}
-use Rattle.iri_grammar.proofs.FaultLaws.{absolute-law, reference-law, of_bytes, reference-utf8}
+use Rattle.iri_grammar.proofs.FaultLaws.{absolute-law, of_bytes, reference-utf8}
 use Rattle.iri_normal.proofs.PathLaws.{stands-still as same_there}
 use Rattle.iri_cli.specs.Answer.{refusal, words_of_fault, answer_in, answer_by}
-use Rattle.iri_cli.specs.Prepared.{prepared_parts, prepared}
+use Rattle.iri_cli.specs.Prepared.{prepared_path, prepared_parts, prepared}
+use Rattle.iri_cli.proofs.PreparedPaths.{IsRooted, rooted_beside, whole_dots, same_empty, merged_dots, path_over, rules_kept, path_short}
 use Rattle.iri_cli.proofs.BytesLemmas.{base_absolute}
 
 -- ---- the prepared base is valid
 rules-fit : (f g : List ℕ → List ℕ) (scheme authority : Option (List ℕ)) (path : List ℕ) → IsSome scheme
-    → path_rules scheme authority path ≡ true → path_rules (where_there f scheme) (where_there g authority) path ≡ true
+    → path_rules scheme authority path ≡ true
+    → path_rules (where_there f scheme) (where_there g authority) (prepared_path (is_some authority) path) ≡ true
 rules-fit f g None authority path i h = cc
-rules-fit f g (Some x) None path i h = h
-rules-fit f g (Some x) (Some a) path i h = h
+rules-fit f g (Some x) None path i h = rules_kept x None path h
+rules-fit f g (Some x) (Some a) path i h = rules_kept x (Some a) path h
 
 pub prepared_fits : (s : Tests) (t : Parts) → IsSpec s → Fits s t → IsSome t.scheme → Fits s (prepared_parts s t)
 unfolding normal_form form
@@ -58,7 +48,7 @@ prepared_fits s t k f i =
     let n = (form-fits s t k f i).0 in record {
       scheme = n.scheme;
       authority = n.authority;
-      path = f.path;
+      path = path_over s t.authority t.path f.path;
       query = f.query;
       fragment = f.fragment;
       rules = rules-fit _ _ t.scheme t.authority t.path i f.rules;
@@ -85,23 +75,32 @@ normal_there : (s : Tests) (t : Parts) → is_some (normal_form s t).authority �
 unfolding normal_form form
 normal_there s t = same_there _ t.authority
 
-same_path : (s : Tests) (t : Parts) (path : List ℕ) → target_path (prepared_parts s t) path ≡ target_path t path
-same_path s t [] = refl
-same_path s t (x ∷ xs) = ap (λ b. cond (starts_with_slash (x ∷ xs)) (x ∷ xs)
-    (cond (b && is_empty t.path) (47 ∷ []) (to_last_slash t.path) ++ x ∷ xs)) (normal_there s t)
+same_dots : (s : Tests) (t : Parts) (path : List ℕ) → IsRooted t.authority t.path
+    → dots (target_path (prepared_parts s t) path) ≡ dots (target_path t path)
+same_dots s t [] h = whole_dots (is_some t.authority) t.path
+same_dots s t (x ∷ xs) h =
+    let base = prepared_path (is_some t.authority) t.path in
+    elim (starts_with_slash (x ∷ xs)) as (λ b. dots (cond b (x ∷ xs) (merge_prefix (prepared_parts s t) ++ x ∷ xs))
+    ≡ dots (cond b (x ∷ xs) (merge_prefix t ++ x ∷ xs))) [
+      | true ↦ refl
+      | false ↦ ap (λ b. dots (cond (b && is_empty base) (47 ∷ []) (to_last_slash base) ++ x ∷ xs)) (normal_there s t)
+          ∙ merged_dots t.authority t.path (x ∷ xs) h
+    ]
 
-normal_same : (s : Tests) (t : Parts) (path : List ℕ)
+normal_same : (s : Tests) (t : Parts) (path : List ℕ) → IsRooted t.authority t.path
     → normal_path s (normal_form s t).authority (target_path (prepared_parts s t) path)
     ≡ normal_path s t.authority (target_path t path)
 unfolding normal_path
-normal_same s t path = rw (same_path s t path, normal_there s t) refl
+normal_same s t path h = rw (same_dots s t path h, normal_there s t) refl
 
 form_under : (s : Tests) (t r : Parts) (scheme authority : Option (List ℕ)) → IsSpec s → Fits s t
     → normal_form s (target_under (prepared_parts s t) r scheme authority) ≡ normal_form s (target_under t r scheme authority)
 unfolding normal_form form
 form_under s t r (Some x) authority k f = refl
 form_under s t r None (Some a) k f = rw (scheme-stable t.scheme) refl
-form_under s t r None None k f = rw (scheme-stable t.scheme, authorities-stable s t.authority k f.authority, normal_same s t r.path) refl
+form_under s t r None None k f =
+    let rooted = rooted_beside t.scheme t.authority t.path f.rules in
+    rw (scheme-stable t.scheme, authorities-stable s t.authority k f.authority, normal_same s t r.path rooted) refl
 
 -- an authority loses its port where its normal form does
 authority_again : (s : Tests) (d : Option (List ℕ)) (x : List ℕ) → IsSpec s → is_authority s x ≡ true
@@ -115,10 +114,23 @@ authority_same : (s : Tests) (d o : Option (List ℕ)) → IsSpec s → if_there
 authority_same s d None k h = refl
 authority_same s d (Some x) k h = ap Some (authority_again s d x k h)
 
-slash_same : (s : Tests) (d : Option (List ℕ)) (t : Parts) (path : List ℕ)
+some_merged : (t : Parts) (x : ℕ) (xs : List ℕ) → is_empty (target_path t (x ∷ xs)) ≡ false
+some_merged t x xs = elim (starts_with_slash (x ∷ xs)) as (λ b. is_empty (cond b (x ∷ xs) (merge_prefix t ++ x ∷ xs))
+    ≡ false) [ true ↦ refl | false ↦ some_behind (merge_prefix t) ]
+  where
+    some_behind : (f : List ℕ) → is_empty (f ++ x ∷ xs) ≡ false
+    some_behind [] = refl
+    some_behind (y ∷ ys) = refl
+
+empty_same : (s : Tests) (t : Parts) (path : List ℕ) → IsRooted t.authority t.path
+    → (is_some t.authority && is_empty (target_path (prepared_parts s t) path)) ≡ (is_some t.authority && is_empty (target_path t path))
+empty_same s t [] h = same_empty t.authority t.path h
+empty_same s t (x ∷ xs) h = ap (λ b. is_some t.authority && b) (some_merged (prepared_parts s t) x xs ∙ sym (some_merged t x xs))
+
+slash_same : (s : Tests) (d : Option (List ℕ)) (t : Parts) (path : List ℕ) → IsRooted t.authority t.path
     → becomes_slash d (normal_form s t).authority (target_path (prepared_parts s t) path) ≡ becomes_slash d t.authority (target_path t path)
-slash_same s None t path = refl
-slash_same s (Some d) t path = rw (same_path s t path, normal_there s t) refl
+slash_same s None t path h = refl
+slash_same s (Some d) t path h = ap (λ b. b && is_empty (target_path (prepared_parts s t) path)) (normal_there s t) ∙ empty_same s t path h
 
 scheme_under : (s : Tests) (t r : Parts) (scheme authority : Option (List ℕ)) → IsSpec s → Fits s t
     → form s ByScheme false (target_under (prepared_parts s t) r scheme authority)
@@ -128,12 +140,13 @@ scheme_under s t r (Some x) authority k f = refl
 scheme_under s t r None (Some a) k f = rw (dropped-lowered t.scheme, scheme-stable t.scheme) refl
 scheme_under s t r None None k f =
     let d = dropped_port Scheme t.scheme in
+    let rooted = rooted_beside t.scheme t.authority t.path f.rules in
     rw (
       dropped-lowered t.scheme,
       scheme-stable t.scheme,
       authority_same s d t.authority k f.authority,
-      slash_same s d t r.path,
-      normal_same s t r.path,
+      slash_same s d t r.path rooted,
+      normal_same s t r.path rooted,
     )
     refl
 
@@ -171,89 +184,38 @@ prepared_taken s base k taken =
     (absolute-law s k text)).1 valid)
 
 -- ---- it is no longer than the base
-shorter : (s : Tests) (t : Parts) → IsSpec s → Fits s t → length (recompose (prepared_parts s t)) ≤ length (recompose t)
+shorter : (s : Tests) (t : Parts) → IsSpec s → Fits s t → IsSome t.scheme → length (recompose (prepared_parts s t)) ≤ length (recompose t)
 unfolding normal_form form
-shorter s t k f =
+shorter s t k f i =
     let scheme = length-scheme t.scheme in
     let authority = length-authorities s t.authority k f.authority in
+    let path = path_short t.scheme t.authority t.path i f.rules in
     omega (arith, length-parts (prepared_parts s t), length-parts t)
 
 pub prepared_short : (s : Tests) (base : List ℕ) → IsSpec s → IsAbsolute s base → length (prepared s base) ≤ length base
 unfolding prepared
 prepared_short s base k b =
     let e = split_is s base b.0 k b.1 in
-    let short = shorter s b.0 k b.1.fits in
+    let short = shorter s b.0 k b.1.fits b.2 in
     rw e (omega (arith, ap length b.1.text))
 
 -- ---- what is written
--- `/` is a reference, and has no fault
-pub root_reference : (s : Tests) → IsSpec s → reference_fault s (47 ∷ []) ≡ None
-root_reference s k = lone_slash s k
+abbrev pub shown_text : Tests → List ℕ → List ℕ
+shown_text s base = prefix_in s true (split_of base)
+    ++ (prepared_path (is_some (split_of base).authority) (split_of base).path ++ marked 63 (split_of base).query)
 
-pub root_short : (s : Tests) (base : List ℕ) → IsSpec s → refusal s base ≡ None → length (canonical s base (47 ∷ [])) ≤ length base + 4
-root_short s base k taken =
-    let h = length-canonical s base (47 ∷ []) k (base_absolute s k base taken) ((reference-law s k (47 ∷ [])).0 (root_reference s k)) in
-    omega (arith, h)
-
--- the canonical text of `/`
-lone : (x e : List ℕ) → pieces 47 x ≡ e ∷ e ∷ [] → e ≡ [] → x ≡ 47 ∷ []
-lone x e h n = sym (unsplit-pieces x) ∙ (ap unsplit h ∙ ap (λ y. y ++ 47 ∷ (y ++ [])) n)
-
-unguarded : (x : List ℕ) (b : Bool) → x ≡ 47 ∷ [] → cond (b || not (starts_with_slashes x)) x (47 ∷ 46 ∷ x) ≡ 47 ∷ []
-unguarded x true e = e
-unguarded x false e = rw e refl
-
--- the text on the left of an equation
-abbrev left_of : {x y : List ℕ} → x ≡ y → List ℕ
-left_of {x} e = x
-
-slash_normal : (s : Tests) (authority : Option (List ℕ)) → IsSpec s → normal_path s authority (47 ∷ []) ≡ 47 ∷ []
-unfolding normal_path dots is_dot_segment
-slash_normal s authority k =
-    let w = dots_whole s k (47 ∷ []) (slash_is_path s k) in
-    let x = left_of (pct_two s (47 ∷ []) [] refl) in
-    unguarded x (is_some authority) (lone x (left_of (pct_nil s)) (pieces-pct s (47 ∷ []) k w) (pct_nil s))
-
-abbrev root : Parts
-root = record { scheme = None; authority = None; path = 47 ∷ []; query = None; fragment = None }
-
-root_split : split_of (47 ∷ []) ≡ root
-unfolding split_of is_letter
-root_split = refl
-
-root_under : (s : Tests) (t : Parts) → IsSpec s → recompose (normal_form s (target t root)) ≡ prefix_in s true t ++ 47 ∷ []
-unfolding recompose target normal_form form
-root_under s t k =
+pub prepared_text : (s : Tests) (base : List ℕ) → IsSpec s → IsAbsolute s base → shown_text s base ≡ prepared s base
+unfolding prepared recompose normal_form form
+prepared_text s base k b =
+    let t = split_of base in
+    let none : t.fragment ≡ None = rw (split_is s base b.0 k b.1) (no_fragment b.0.fragment b.3) in
     let scheme = scheme_text (normal_form s t).scheme in
     let authority = authority_text (normal_form s t).authority in
-    ap (λ p. scheme ++ (authority ++ (p ++ []))) (slash_normal s t.authority k) ∙ sym (append_assoc scheme authority (47 ∷ []))
-
-pub root_text : (s : Tests) (base : List ℕ) → IsSpec s → canonical s base (47 ∷ []) ≡ prefix_in s true (split_of base) ++ 47 ∷ []
-unfolding canonical
-root_text s base k = ap (λ r. recompose (normal_form s (target (split_of base) r))) root_split ∙ root_under s (split_of base) k
-
--- before the base's path and query
-pub prefixed : (s : Tests) (base prefix : List ℕ) → IsSpec s → IsAbsolute s base
-    → prefix_in s true (split_of base) ++ 47 ∷ [] ≡ prefix ++ 47 ∷ []
-    → prefix ++ ((split_of base).path ++ marked 63 (split_of base).query) ≡ prepared s base
-unfolding prepared recompose normal_form form
-prefixed s base prefix k b e =
-    let same = append_cancel_right (prefix_in s true (split_of base)) prefix (47 ∷ []) e in
-    let eb = split_is s base b.0 k b.1 in
-    let t = split_of base in
-    let none : t.fragment ≡ None = rw eb (no_fragment b.0.fragment b.3) in
-    let tail = t.path ++ marked 63 t.query in
-    ap (λ p. p ++ tail) (sym same)
-    ∙ (append_assoc (scheme_text (normal_form s t).scheme) (authority_text (normal_form s t).authority) tail
-    ∙ ap (λ q. scheme_text (normal_form s t).scheme ++ (authority_text (normal_form s t).authority ++ (t.path ++ q)))
-    (sym (ap (λ f. marked 63 t.query ++ marked 35 f) none ∙ append-nil (marked 63 t.query))))
+    let path = prepared_path (is_some t.authority) t.path in
+    append_assoc scheme authority (path ++ marked 63 t.query)
+    ∙ ap (λ q. scheme ++ (authority ++ (path ++ q)))
+    (sym (ap (λ f. marked 63 t.query ++ marked 35 f) none ∙ append-nil (marked 63 t.query)))
   where
     no_fragment : (o : Option (List ℕ)) → IsNone o → o ≡ None
     no_fragment None i = refl
     no_fragment (Some x) i = cc
-
--- a text that a slice has room for is shown whole
-pub shown_whole : (stops : SliceText → ℕ) (a b : SliceText) (t : List ℕ) (r : Result (Unit {0}) Stop)
-    → Shows SlicePuts SliceHalts stops a t b r → a.taken ≡ [] → length t ≤ a.room → b.taken ≡ t
-shown_whole stops a b t (Ok x) h e l = h.appends.taken ∙ ap (λ z. z ++ t) e
-shown_whole stops a b t (Err x) h e l = absurd (omega (arith, h.stops_within.long, l, ap length e))

@@ -9,6 +9,6 @@ longest_line = 1048576
 abbrev pub longest_input : ℕ
 longest_input = 1073741824
 
--- the room for an answer's text and its LF: the text has at most three bytes more than a base and a reference
+-- the room for an answer: `ok `, a text with at most three bytes more than a base and a reference, and its LF
 abbrev pub answer_room : ℕ
-answer_room = 2097156
+answer_room = 2097159

@@ -1,20 +1,28 @@
 -- A base that is prepared once for all of its references.
-use Rattle.std.specs.Prelude.{ℕ, List}
+use Rattle.std.specs.Prelude.{ℕ, Bool, List, ◌++◌, is_some}
 use Rattle.iri_grammar.specs.Classes.{Tests}
 use Rattle.iri_grammar.specs.Parts.{Parts, recompose}
 use Rattle.iri_grammar.specs.Split.{split_of}
+use Rattle.iri_normal.specs.DotRemoval.{dots}
+use Rattle.iri_normal.specs.Guard.{guard}
 use Rattle.iri_normal.specs.NormalForm.{normal_form}
+use Rattle.iri_normal.specs.Target.{to_last_slash, last_segment}
 
--- scheme and authority in normal form (RFC 3986 section 6.2.2); path, query and fragment as they stand
+-- the dot segments before the last segment are removed (RFC 3986 section 5.2.4); the last segment stays, since a relative path takes
+-- its place
+abbrev pub prepared_path : Bool → List ℕ → List ℕ
+prepared_path authority_stands path = guard (dots (to_last_slash path)) authority_stands ++ last_segment path
+
+-- scheme and authority in normal form (RFC 3986 section 6.2.2), the path without those dot segments; query and fragment as they stand
 abbrev pub prepared_parts : Tests → Parts → Parts
 prepared_parts s t = record {
   scheme = (normal_form s t).scheme;
   authority = (normal_form s t).authority;
-  path = t.path;
+  path = prepared_path (is_some t.authority) t.path;
   query = t.query;
   fragment = t.fragment;
 }
 
--- the base with its scheme and its authority in normal form
+-- the base with these parts
 unfoldable pub prepared : Tests → List ℕ → List ℕ
 prepared s base = recompose (prepared_parts s (split_of base))

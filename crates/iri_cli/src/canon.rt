@@ -46,7 +46,7 @@ pub fn resolver_of<S: Spec>(line: &[u8]) -> FixedBaseResolver<'_, S>
     }
 }
 
-// The canonical text of a reference by the rules of a mode and an LF, in a buffer with room for both.
+// The answer to an accepted reference by the rules of a mode, in a buffer with room for it.
 fn fill<'a, S: Spec>(
     line: &mut SliceSink<'_>,
     mode: CanonMode,
@@ -54,17 +54,18 @@ fn fill<'a, S: Spec>(
     reference: &SplitView<'a, S, Reference>,
 )
     requires empty { line.old.taken ≡ [] }
-    requires room { length (canonical_in S.tests mode (base_text resolver.now) (split_text reference.now)) + 1
+    requires room { length (canonical_in S.tests mode (base_text resolver.now) (split_text reference.now)) + 4
         ≤ line.old.room }
-    ensures { line.new.taken
-        ≡ canonical_in S.tests mode (base_text resolver.now) (split_text reference.now) ++ line_feed ∷ [] }
+    ensures { line.new.taken ≡ codes "ok "
+        ++ (canonical_in S.tests mode (base_text resolver.now) (split_text reference.now) ++ line_feed ∷ []) }
 {
+    let _ = line.put("ok ");
     if let Ok(()) = show_canonical_in(line, mode, resolver, reference) {
         let _ = line.put("\n");
     }
 }
 
-// The prefix of an accepted reference; its canonical text and the LF are one piece.
+// The answer to an accepted reference, in one piece: a put costs more than the copy of it.
 fn put_good<'a, S: Spec, O: Sink>(
     sink: &mut O,
     output: &mut [u8],
@@ -72,7 +73,7 @@ fn put_good<'a, S: Spec, O: Sink>(
     resolver: &FixedBaseResolver<'a, S>,
     reference: &SplitView<'a, S, Reference>,
 ) -> Result<(), Failed>
-    requires { length (canonical_in S.tests mode (base_text resolver.now) (split_text reference.now)) + 1
+    requires { length (canonical_in S.tests mode (base_text resolver.now) (split_text reference.now)) + 4
         ≤ length output.old }
     ensures { PutsAll (O.written sink.old) (O.written sink.new) (O.faults sink.old) (O.faults sink.new)
         (O.room_left sink.old) (O.room_left sink.new) result
@@ -81,7 +82,6 @@ fn put_good<'a, S: Spec, O: Sink>(
 {
     let mut line = SliceSink::new(output);
     fill(&mut line, mode, resolver, reference);
-    sink.put_all(b"ok ")?;
     sink.put_all(line.as_str().as_bytes())
 }
 
@@ -94,7 +94,7 @@ pub(crate) fn put_answer<S: Spec, O: Sink>(
     line: &[u8],
 ) -> Result<bool, AnswerError>
     requires base { refusal S.tests (base_text resolver.now) ≡ None }
-    requires room { length (base_text resolver.now) + length line.now + 4 ≤ vec_capacity output.old }
+    requires room { length (base_text resolver.now) + length line.now + 7 ≤ vec_capacity output.old }
     ensures puts { PutsLine (O.written sink.old) (O.written sink.new) (O.faults sink.old) (O.faults sink.new)
         (answer_in S.tests mode (base_text resolver.now) line.now) result }
     ensures room { KeepsRoom (O.room_left sink.old) (O.room_left sink.new)
@@ -103,7 +103,7 @@ pub(crate) fn put_answer<S: Spec, O: Sink>(
 {
     match SplitView::<S, Reference>::try_from_bytes(line) {
         Ok(reference) => {
-            room_for(output, resolver.base().len() + line.len() + 4);
+            room_for(output, resolver.base().len() + line.len() + 7);
             told(true, put_good(sink, output, mode, resolver, &reference))
         }
         Err(error) => told(false, put_bad(sink, error.kind().description())),

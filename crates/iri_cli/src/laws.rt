@@ -30,8 +30,9 @@ pub fn run_over_memory()
         ⊎ ((status ≡ 6) × (rules.takes_memory ≡ true)) }
 {}
 
-/// A base whose scheme and authority are put into normal form is an absolute URI again, is no longer than before, and has the same
-/// canonical texts in every mode. So each line has the same answer against it.
+/// A base whose scheme and authority are put into normal form, and whose path loses the dot segments before its last
+/// segment, is an absolute URI again, is no longer than before, and has the same canonical texts in every mode. So each
+/// line has the same answer against it.
 pub fn prepared_base_has_the_same_answers<S: Spec>()
     ensures valid { (base : List ℕ) → IsAbsolute S.tests base → IsAbsolute S.tests (prepared S.tests base) }
     ensures len { (base : List ℕ) → IsAbsolute S.tests base → length (prepared S.tests base) ≤ length base }

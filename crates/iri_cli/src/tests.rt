@@ -140,7 +140,7 @@ fn failing_devices(rt: HostRuntime) -> Result<(), Fail> {
         )?
     );
     let mut source = PlainSource::new(input);
-    assert!(rt; answers(&rt, &["canon", "uri"], &mut source, &[2], 5, b"ok ")?);
+    assert!(rt; answers(&rt, &["canon", "uri"], &mut source, &[2], 5, b"ok http://a/b\n")?);
     Ok(())
 }
 
@@ -499,15 +499,31 @@ fn bases_that_are_prepared(rt: HostRuntime) -> Result<(), Fail> {
     Ok(())
 }
 
-// A base is prepared in its buffer: the path stays as it stands. Of the output buffer only what the base needs is used.
+// The dot segments before the base's last segment go first, and answers are those of RFC 3986 sections 5.2.3 and 5.2.4.
+#[test]
+fn bases_of_dots(rt: HostRuntime) -> Result<(), Fail> {
+    let input = b"http://h/a/../b/./c/..\n\nd\n../d\n../../../d\n?q\n";
+    let output =
+        b"ok http://h/b/\nok http://h/b/c/d\nok http://h/b/d\nok http://h/d\nok http://h/b/?q\n";
+    assert!(rt; canon_uri(&rt, input, 0, output)?);
+    let input = b"X:/.//a/../b\n\nc\n..\n";
+    assert!(rt; canon_uri(&rt, input, 0, b"ok x:/.//b\nok x:/.//c\nok x:/\n")?);
+    let input = b"s:a/../../b/c\n\nd\n";
+    assert!(rt; canon_uri(&rt, input, 0, b"ok s:/b/c\nok s:/b/d\n")?);
+    assert!(rt; canon_uri(&rt, b"s:../b/c\nd\n", 0, b"ok s:b/d\n")?);
+    Ok(())
+}
+
+// A base is prepared in its buffer: its path loses the dot segments before its last segment. Of the output buffer only
+// what the base needs is used.
 #[test]
 fn base_in_its_buffer(rt: HostRuntime) -> Result<(), Fail> {
     let mut buffer = Vec::with_capacity(rt.alloc(), 32)?;
     buffer.extend_from_slice(b"HTTP://EX%41mple.COM:/a/b/../c?q")?;
     let mut output = Vec::with_capacity(rt.alloc(), OUTPUT)?;
     assert!(rt; prepare_base::<UriSpec>(&mut buffer, &mut output) == Ok(()));
-    assert!(rt; buffer.as_slice() == b"http://example.com/a/b/../c?q".as_slice());
-    assert_eq!(rt; output.len(), 68);
+    assert!(rt; buffer.as_slice() == b"http://example.com/a/c?q".as_slice());
+    assert_eq!(rt; output.len(), 32);
     Ok(())
 }
 

@@ -42,15 +42,10 @@ fn failing_sources(rt: HostRuntime) -> Result<(), Fail> {
     Ok(())
 }
 
-// Each put fails once: what was put before is written.
+// Each answer is one put, which fails once: the answers before it are written.
 #[test]
 fn failing_sinks(rt: HostRuntime) -> Result<(), Fail> {
-    let rows: [(u64, &[u8]); 4] = [
-        (1, b""),
-        (2, b"ok "),
-        (3, b"ok http://a/b\n"),
-        (4, b"ok http://a/b\nok "),
-    ];
+    let rows: [(u64, &[u8]); 2] = [(1, b""), (2, b"ok http://a/b\n")];
     for (put, written) in rows {
         let fails = [put];
         let mut source = PlainSource::new(LINES);

@@ -103,7 +103,8 @@ fn ends_of_a_run(rt: HostRuntime) -> Result<(), Fail> {
         )?
     );
     let input = b"http://h\n\nx\n";
-    assert!(rt; answers(&rt, &words, &mut PlainSource::new(input), &[2], 5, b"ok ")?);
+    let mut source = PlainSource::new(input);
+    assert!(rt; answers(&rt, &words, &mut source, &[2], 5, b"ok http://h/\n")?);
     Ok(())
 }
 
