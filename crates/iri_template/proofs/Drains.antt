@@ -15,8 +15,8 @@ use Rattle.iri_grammar.specs.Classes.{Tests, any_char}
 use Rattle.iri_percent.specs.Units.{TextUnit, Plain, first_unit, units}
 use Rattle.iri_template.specs.Expansion.{kept_unit}
 use Rattle.iri_template.specs.inside.UnitSteps.{is_part, behind_unit, told_units, left_over, fewer, step_units, step_held, written_units}
-use Rattle.iri_template.specs.inside.UnitSteps.{unit_step_text}
-use Rattle.iri_template.specs.inside.UnitViews.{unit_at, unit_as, TellsNone, IsUnit, is_used_up}
+use Rattle.iri_template.specs.inside.UnitSteps.{is_used_up, unit_step_text}
+use Rattle.iri_template.specs.inside.UnitViews.{unit_at, unit_as, TellsNone, IsUnit}
 use Rattle.iri_template.proofs.UnitLaws.{behind_shorter, all_told, left_short, written-append}
 
 take_nil : {U : Type 0} (n : ℕ) → take {A = U} n [] ≡ []

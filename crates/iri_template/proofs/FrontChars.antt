@@ -1,5 +1,5 @@
 -- What a sink that passes the first characters on has written.
-use Rattle.std.proofs.Common.{◌≡◌, ℕ, zero, suc, ◌-◌, cond, false, List, [], ◌∷◌, ◌++◌, take, refl, sym, ◌∙◌, ap, subst, arith, append-nil}
+use Rattle.std.proofs.Common.{◌≡◌, ◌≢◌, ℕ, zero, suc, ◌-◌, cond, false, List, [], ◌∷◌, ◌++◌, take, refl, sym, ◌∙◌, ap, subst, arith, append-nil}
 use Rattle.std.proofs.Common.{Result, Ok, Err}
 use Rattle.std.specs.Prelude.{◌==◌}
 use Rattle.std.specs.List.{flat_map}
@@ -12,7 +12,7 @@ use Rattle.iri_text.proofs.CharSteps.{first_char}
 use Rattle.iri_text.proofs.ThroughLaws.{through_laws}
 use Rattle.iri_text.proofs.ByCharsLaws.{chars_halt}
 use Rattle.iri_text.specs.Shown.{AreSinkLaws, Shows}
-use Rattle.iri_text.specs.inside.Through.{texts}
+use Rattle.iri_text.specs.inside.Through.{after, texts}
 use Rattle.iri_text.specs.declared.shown.show.Stop.{Stop}
 use Rattle.iri_percent.specs.Encoding.{keeps, encoded_char, encoded}
 use Rattle.iri_percent.specs.declared.context.Context.TheVariants.{Unreserved}
@@ -27,11 +27,25 @@ encoded_one s c t u e =
     let f = first_char t [] c u (e ∙ sym (append-nil (encode_utf8 c))) in
     ap (flat_map (encoded_char (unreserved s))) (f.first ∙ ap (λ l. c ∷ l) chars-nil) ∙ append-nil (encoded_char (unreserved s) c)
 
-none_left : (s : Tests) (cs : List ℕ) (n : ℕ) → n ≡ 0 → texts front_step (char_text s) n cs ≡ []
+pub none_left : (s : Tests) (cs : List ℕ) (n : ℕ) → n ≡ 0 → texts front_step (char_text s) n cs ≡ []
 none_left s [] n h = refl
 none_left s (c ∷ cs) n h =
     let stays : n - 1 ≡ 0 = omega arith in
     ap (λ m. cond (m == 0) [] (encoded_char (unreserved s) c) ++ texts front_step (char_text s) (n - 1) cs) h ∙ none_left s cs (n - 1) stays
+
+pub none_after : (s : Tests) (cs : List ℕ) (n : ℕ) → n ≡ 0 → after front_step (char_text s) n cs ≡ n
+none_after s [] n h = refl
+none_after s (c ∷ cs) n h =
+    let stays : n - 1 ≡ 0 = omega arith in
+    let same : n - 1 ≡ n = omega arith in
+    none_after s cs (n - 1) stays ∙ same
+
+-- one more is written
+pub some_left : {W : Type 0} (s : Tests) {puts halts : W → List ℕ → W → Type 0} {stops : W → ℕ} {a b : W} {r : Result (Unit {0}) Stop} (c n : ℕ)
+    → n ≢ 0 → Shows puts halts stops a (encoded_char (unreserved s) c) b r → Shows puts halts stops a (char_text s n c) b r
+some_left s {puts} {halts} {stops} {a} {b} {r} c n h put =
+    let more : (n == 0) ≡ false = grind (arith, nat_tests) in
+    subst (λ t. Shows puts halts stops a t b r) (sym (ap (λ v. cond v [] (encoded_char (unreserved s) c)) more)) put
 
 front_all : (s : Tests) (n : ℕ) (cs : List ℕ) → texts front_step (char_text s) n cs ≡ flat_map (encoded_char (unreserved s)) (take n cs)
 front_all s zero cs = none_left s cs 0 refl

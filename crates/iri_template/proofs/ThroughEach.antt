@@ -55,8 +55,13 @@ module _ {X S W : Type 0} (step : S → X → S) (text : S → X → List ℕ) {
   up_to_exit {b = b} {c = c} {s = s} {rest = rest} {left = left} {e = e} {r = r} x is err p q =
       up_to_stop {rest = rest} {e = e} {r = r} (x ∷ []) left is err p (subst (λ l. Shows puts halts stops b l c (Err e)) (sym (texts-one step text s x)) q)
 
+  -- nothing is written for the rest
+  pub up_to_last : {a b : W} {s : S} {rest : List X} → texts step text s rest ≡ [] → HasPutUpTo step text puts stops first all a s rest b
+      → Shows puts halts stops a (texts step text first all) b (Ok tt)
+  up_to_last {a = a} {b = b} none p =
+      subst (λ l. Shows puts halts stops a l b (Ok tt))
+      (sym (append-nil p.before) ∙ ap (λ l. p.before ++ l) (sym none) ∙ sym p.split) (shows_all p.put)
+
   pub up_to_end : {a b : W} {s : S} {rest : List X} → rest ≡ [] → HasPutUpTo step text puts stops first all a s rest b
       → Shows puts halts stops a (texts step text first all) b (Ok tt)
-  up_to_end {a = a} {b = b} {s = s} is p =
-      subst (λ l. Shows puts halts stops a l b (Ok tt))
-      (sym (append-nil p.before) ∙ ap (λ l. p.before ++ texts step text s l) (sym is) ∙ sym p.split) (shows_all p.put)
+  up_to_end {s = s} {rest = rest} is p = up_to_last {s = s} {rest = rest} (ap (λ l. texts step text s l) is) p

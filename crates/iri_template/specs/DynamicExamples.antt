@@ -69,7 +69,8 @@ mistyped_first = refl
 -- a value that is mistyped where it is looked at isn't asked for again
 calls : (calls_in (portions uri_tests returning (pieces_of (codes "x{w:2}"))) ≡ 1)
     × (calls_in (portions uri_tests turning (pieces_of (codes "x{w:2}"))) ≡ 2)
-unfolding turning returning pieces_from chars encode unreserved is_ascii_unreserved any_char is_ascii_any is_ascii_reg_name is_sub_delim is_gen_delim
+unfolding turning returning pieces_from chars encode unreserved is_ascii_unreserved any_char is_ascii_any is_ascii_reg_name
+    is_sub_delim is_gen_delim
 calls = (refl, refl)
 
 right_types : portions_fault (portions uri_tests returning (pieces_of (codes "{/v,w:2}"))) ≡ None

@@ -15,7 +15,8 @@ use Rattle.iri_template.specs.declared.error.ErrorKind.TheVariants.{UnexpectedVa
 use Rattle.iri_template.specs.declared.operator.Operator.{Operator}
 use Rattle.iri_template.specs.declared.visitor.VisitPurpose.TheVariants.{Typecheck, Expand}
 
--- its place in the template, in bytes; what it writes; whether it is a varspec with a length that has no use for its value (section 2.4.1); and how many calls of the context it takes
+-- its place in the template, in bytes; what it writes; whether it is a varspec with a length that has no use for its value (section 2.4.1);
+-- and how many calls of the context it takes
 pub record Portion : Type 0 where
   pub location : ℕ
   pub text : List ℕ
@@ -23,7 +24,8 @@ pub record Portion : Type 0 where
   pub calls : ℕ
 
 -- ---- varspecs
--- One with a first value, told to look at its type, and a second one, told to be written; no second one is asked for where the first is mistyped. What it writes is the second one's texts; `written` says whether its expression has a text before it.
+-- One with a first value, told to look at its type, and a second one, told to be written; no second one is asked for where the first is
+-- mistyped. What it writes is the second one's texts; `written` says whether its expression has a text before it.
 abbrev pub varspec_portion : Tests → Operator → ℕ → Bool → VarSpec → ShownValue → ShownValue → Portion
 varspec_portion s operator at written v looked_at told = record {
   location = at;

@@ -37,7 +37,8 @@ abbrev pub EndsAs : {W : Type 0} → (W → List ℕ → W → Type 0) → (W �
 EndsAs puts halts ps old new (Ok x) = (portions_fault ps ≡ None) × puts old (portions_text ps) new
 EndsAs puts halts ps old new (Err e) = IsRefused puts halts ps old new e e.kind
 
--- Where it was refused at this place, none of the portions before it being mistyped, the context was called as often as these and the portion there take, and `more` times.
+-- Where it was refused at this place, none of the portions before it being mistyped, the context was called as often as these and the
+-- portion there take, and `more` times.
 pub record CallsUpTo (ps : List Portion) (at more : ℕ) (tells_old tells_new : Option Telling) : Type 0 where
   pub front : List Portion
   pub here : Portion

@@ -26,25 +26,18 @@ fn put_char<S: Spec, W: TextSink>(sink: &mut W, c: char) -> Result<(), Stop>
     put_encoded::<S, W>(sink, c.encode_utf8(&mut buf))
 }
 
-/// Writes a character if one more may be written.
-fn put_if_left<S: Spec, W: TextSink>(sink: &mut W, left: u16, c: char) -> Result<(), Stop>
-    ensures { Shows W.puts W.halts W.stops sink.old (char_text S.tests left c) sink.new result }
-{
-    if left == 0 {
-        sink.put("")
-    } else {
-        put_char::<S, W>(sink, c)
-    }
-}
-
+/// Writes so many characters. What is behind them isn't looked at.
 fn put_front<S: Spec, W: TextSink>(sink: &mut W, left: &mut u16, text: &str) -> Result<(), Stop>
     ensures shows { Shows W.puts W.halts W.stops sink.old
         (texts front_step (char_text S.tests) left.old (chars text.now)) sink.new result }
     ensures left { OnOk result (left.new ≡ after front_step (char_text S.tests) left.old (chars text.now)) }
 {
     for c in text.chars() {
-        put_if_left::<S, W>(sink, *left, c)?;
-        *left = left.saturating_sub(1);
+        if *left == 0 {
+            return Ok(());
+        }
+        put_char::<S, W>(sink, c)?;
+        *left -= 1;
     }
     Ok(())
 }

@@ -1,5 +1,6 @@
 //! Expressions that are written where values may change (RFC 6570 section 3.2.1).
-ghost use Rattle.std.specs.Prelude.{◌≡◌, ◌≤◌, ◌<◌, ◌+◌, ◌*◌, ◌^◌, ◌||◌, [], ◌∷◌, true, false, map, length, cond, IfErr, OnOk, None};
+ghost use Rattle.std.specs.Prelude.{◌≡◌, ◌≤◌, ◌<◌, ◌+◌, ◌*◌, ◌^◌, ◌||◌, [], ◌∷◌, true, false, cond, None};
+ghost use Rattle.std.specs.Prelude.{map, length, IfErr, OnOk};
 ghost use Rattle.iri_grammar.specs.Pieces.{pieces};
 ghost use Rattle.iri_template.specs.Expansion.{row_of};
 ghost use Rattle.iri_template.specs.Fault.{varspecs_fault};

@@ -29,16 +29,16 @@
 //! in whatever pieces a value puts its text; it takes no memory, and where the sink stops, it stops within that text.
 //! The conversions refuse exactly what is outside their production, and `try_into_text_within` what is longer.
 //!
-//! `expand_dynamic` visits each varspec twice: its value is looked at, and then written. Of a context that tells which value
-//! comes at which call, the end is exact: all of the text was written; or the answer is `UnexpectedValueType` at the first
-//! varspec with a length that was told a list or an associative array that isn't empty, at either visit, behind exactly
-//! the text before it; or it is `WriteFailed` at the varspec, or the literals and triplets between expressions, within
-//! whose text the sink stopped, behind all text before it; no later varspec is visited then. Of any context: `WriteFailed` comes only where the sink's
-//! count of stops rose, and no third refusal comes; the callbacks at the start and at the end of an expansion are each
-//! called once, after a refusal too, where the context counts them. `expand_dynamic_to_string` gives that text, and alone
-//! answers `Memory`, with the places of `WriteFailed`. With `Fixed` both ways give the same text, or
-//! `UnexpectedValueType` at the same place (`laws::fixed_values`, `laws::expanded_as_fixed`). Two values of each varspec
-//! alone decide what is written (`laws::numbered_calls`).
+//! `expand_dynamic` visits each varspec twice: its value is looked at, and then written. Of a context that tells which
+//! value comes at which call, the end is exact: all of the text was written; or the answer is `UnexpectedValueType` at
+//! the first varspec with a length that was told a list or an associative array that isn't empty, at either visit,
+//! behind exactly the text before it; or it is `WriteFailed` at the varspec, or the literals and triplets between
+//! expressions, within whose text the sink stopped, behind all text before it; no later varspec is visited then. Of any
+//! context: `WriteFailed` comes only where the sink's count of stops rose, and no third refusal comes; the callbacks at
+//! the start and at the end of an expansion are each called once, after a refusal too, where the context counts them.
+//! `expand_dynamic_to_string` gives that text, and alone answers `Memory`, with the places of `WriteFailed`. With
+//! `Fixed` both ways give the same text, or `UnexpectedValueType` at the same place (`laws::fixed_values`,
+//! `laws::expanded_as_fixed`). Two values of each varspec alone decide what is written (`laws::numbered_calls`).
 //!
 //! Literals past ASCII are those of IRIs, `ucschar` and `iprivate`, whichever grammar an expansion is made for: where that is
 //! the grammar of URIs, they become triplets. Names, operators and lengths are ASCII.

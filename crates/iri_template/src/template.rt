@@ -177,8 +177,8 @@ impl<'a> UriTemplateStr<'a> {
         ensures moves { OnOk result (MovesBy (2 * length (names_of (pieces_of (text self.entry))) + 2) (C.tells context.old)
             (C.tells context.new)) }
         ensures refused { IfErr result (λ e. WhereTold (C.tells context.old)
-            (λ f. CallsUpTo (portions S.tests (later 1 f) (pieces_of (text self.entry))) e.location 2 (C.tells context.old)
-            (C.tells context.new))) }
+            (λ f. CallsUpTo (portions S.tests (later 1 f) (pieces_of (text self.entry))) e.location 2
+            (C.tells context.old) (C.tells context.new))) }
     {
         context.on_expansion_start();
         let result = write_template::<C, S, W>(writer, context, self.text);
@@ -200,8 +200,8 @@ impl<'a> UriTemplateStr<'a> {
         ensures moves { OnOk result (MovesBy (2 * length (names_of (pieces_of (text self.entry))) + 2) (C.tells context.old)
             (C.tells context.new)) }
         ensures refused { IfErr result (λ e. WhereTold (C.tells context.old)
-            (λ f. CallsUpTo (portions S.tests (later 1 f) (pieces_of (text self.entry))) e.location 2 (C.tells context.old)
-            (C.tells context.new))) }
+            (λ f. CallsUpTo (portions S.tests (later 1 f) (pieces_of (text self.entry))) e.location 2
+            (C.tells context.old) (C.tells context.new))) }
     {
         let mut dest = String::new(alloc);
         let mut sink = StringSink::new(&mut dest);

@@ -9,8 +9,8 @@ ghost use Rattle.iri_percent.specs.Units.{Plain, units};
 ghost use Rattle.iri_template.specs.Expansion.{text_units};
 ghost use Rattle.iri_template.specs.inside.Pieces.{IsCut};
 ghost use Rattle.iri_template.specs.inside.UnitSteps.{is_part, told_units, left_over, fewer, step_units, step_held};
-ghost use Rattle.iri_template.specs.inside.UnitSteps.{unit_step, unit_step_text, written_units};
-ghost use Rattle.iri_template.specs.inside.UnitViews.{unit_as, is_used_up};
+ghost use Rattle.iri_template.specs.inside.UnitSteps.{is_used_up, unit_step, unit_step_text, written_units};
+ghost use Rattle.iri_template.specs.inside.UnitViews.{unit_as};
 
 use crate::front_unit::front_unit;
 use crate::held::Held;
@@ -167,6 +167,9 @@ fn put_chars<S: Spec, W: TextSink>(
     ensures short { length held.new ≤ 11 }
 {
     for c in text.chars() {
+        if is_used_up(*left) {
+            return Ok(());
+        }
         put_char::<S, W>(sink, held, left, c)?;
     }
     Ok(())
@@ -227,7 +230,8 @@ fn put_piece<S: Spec, W: TextSink>(
     }
 }
 
-/// Writes what a text settles: runs without `%` as one, as long as nothing is held and all units are written.
+/// Writes what a text settles: runs without `%` as one, as long as nothing is held and all units are written. Behind the last unit
+/// that may be written, the text isn't looked at.
 fn put_text<S: Spec, W: TextSink>(
     sink: &mut W,
     held: &mut Held,
@@ -242,6 +246,9 @@ fn put_text<S: Spec, W: TextSink>(
         ≡ after unit_step (unit_step_text S.tests) (record { held = held.old; left = left.old }) (chars text.now)) }
     ensures short { length held.new ≤ 11 }
 {
+    if left.is_some() {
+        return put_chars::<S, W>(sink, held, left, text);
+    }
     let mut rest = text;
     'pieces: while let Some((piece, behind)) = next_piece(rest, is_plain(held, *left)) {
         put_piece::<S, W>(sink, held, left, piece)?;

@@ -58,8 +58,17 @@ step_units h c = cond (is_part c) (told_units false 12 (h ++ c ∷ [])) (units h
 abbrev pub step_held : List ℕ → ℕ → List ℕ
 step_held h c = cond (is_part c) (left_over false 12 (h ++ c ∷ [])) []
 
+-- none may be written any more
+abbrev pub is_used_up : Option ℕ → Bool
+is_used_up (Some zero) = true
+is_used_up left = false
+
+abbrev pub next_state : UnitState → ℕ → UnitState
+next_state u c = record { held = step_held u.held c; left = fewer u.left (length (step_units u.held c)) }
+
+-- behind the last unit that may be written nothing is held back any more
 abbrev pub unit_step : UnitState → ℕ → UnitState
-unit_step u c = record { held = step_held u.held c; left = fewer u.left (length (step_units u.held c)) }
+unit_step u c = cond (is_used_up u.left) u (next_state u c)
 
 abbrev pub written_units : Tests → Option ℕ → List TextUnit → List ℕ
 written_units s left us = flat_map (kept_unit s) (limited left us)

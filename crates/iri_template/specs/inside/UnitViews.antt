@@ -1,5 +1,5 @@
 -- The unit at the start of what is held back.
-use Rattle.std.specs.Prelude.{◌≡◌, ◌<◌, ◌≤◌, ℕ, zero, Bool, true, false, cond, ◌||◌, List, [], ◌∷◌, Option, Some, length, take}
+use Rattle.std.specs.Prelude.{◌≡◌, ◌<◌, ◌≤◌, ℕ, Bool, true, cond, ◌||◌, List, [], ◌∷◌, length, take}
 use Rattle.iri_grammar.specs.Classes.{Tests}
 use Rattle.iri_percent.specs.Units.{TextUnit, Stray, first_unit, unit_text}
 use Rattle.iri_percent.specs.Encoding.{keeps, encoded}
@@ -26,8 +26,3 @@ pub record IsUnit (s : Tests) (end : Bool) (t : List ℕ) (len : ℕ) (stands : 
   pub told : end || is_settled t ≡ true
   pub all : length (unit_text (unit_at t)) ≡ len
   pub text : kept_unit s (unit_at t) ≡ unit_as s stands (take len t)
-
--- none may be written any more
-abbrev pub is_used_up : Option ℕ → Bool
-is_used_up (Some zero) = true
-is_used_up left = false

@@ -1,10 +1,11 @@
-use Rattle.std.proofs.Common.{◌≡◌, ℕ, List, Option, ◌∙◌, sym, subst, ap, length}
+use Rattle.std.proofs.Common.{◌≡◌, ℕ, false, cond, List, Option, ◌∙◌, sym, subst, ap, length}
 use Rattle.std.specs.Str.{IsUtf8, chars}
 use Rattle.std.specs.Str.Iter.{chars_rest}
 use Rattle.iri_text.proofs.CharSteps.{first_char, no_chars}
-use Rattle.iri_template.proofs.ThroughEach.{HasPutUpTo, up_to_none, up_to_more, up_to_exit, up_to_end}
+use Rattle.iri_template.proofs.ThroughEach.{HasPutUpTo, up_to_none, up_to_more, up_to_exit, up_to_last, up_to_end}
 use Rattle.iri_text.specs.inside.Through.{after}
-use Rattle.iri_template.specs.inside.UnitSteps.{UnitState, fewer, step_units, step_held, unit_step, unit_step_text}
+use Rattle.iri_template.specs.inside.UnitSteps.{UnitState, fewer, step_units, step_held, is_used_up, next_state, unit_step, unit_step_text}
+use Rattle.iri_template.proofs.UnitLaws.{used_up}
 use Rattle.iri_template.proofs.units.put_chars.Goals as goal
 
 abbrev state : List ℕ → Option ℕ → UnitState
@@ -35,8 +36,10 @@ loop-c-preserved g c =
     let first : UnitState = record { held = c.args.held.now; left = c.args.left.now } in
     let now : UnitState = record { held = c.loop-c.held; left = c.loop-c.left } in
     let next : UnitState = record { held = c.put_char.new.held; left = c.put_char.new.left } in
+    let still : is_used_up c.loop-c.left ≡ false = sym c.is_used_up.ensures ∙ c.if-is_used_up.false in
     let goes : next ≡ unit_step now c.in-Some.c = same_state c.put_char.new.held (step_held c.loop-c.held c.in-Some.c) c.put_char.new.left
-    (fewer c.loop-c.left (length (step_units c.loop-c.held c.in-Some.c))) c.in_ok-put_char.ensures.held c.in_ok-put_char.ensures.left in
+    (fewer c.loop-c.left (length (step_units c.loop-c.held c.in-Some.c))) c.in_ok-put_char.ensures.held c.in_ok-put_char.ensures.left
+    ∙ sym (ap (λ b. cond b now (next_state now c.in-Some.c)) still) in
     record {
       can = tt;
       ends = tt;
@@ -45,6 +48,19 @@ loop-c-preserved g c =
       far = up_to_more unit_step (unit_step_text g.S.Spec.tests) g.met.W.TextSink.rules first
           (chars c.args.text.now) c.in-Some.c f.first goes i.far c.in_ok-put_char.ensures.shows;
     }
+
+pub returns-then-is_used_up-clause-shows : goal.returns-then-is_used_up-clause-shows
+returns-then-is_used_up-clause-shows g c =
+    let first : UnitState = record { held = c.args.held.now; left = c.args.left.now } in
+    let none = used_up g.S.Spec.tests c.loop-c.held c.loop-c.left (chars (chars_rest c.loop-c.c-iterator))
+    (sym c.is_used_up.ensures ∙ c.if-is_used_up.true) in
+    up_to_last unit_step (unit_step_text g.S.Spec.tests) g.met.W.TextSink.rules first (chars c.args.text.now) none.0 c.loop-c.invariant.far
+
+pub returns-then-is_used_up-clause-state : goal.returns-then-is_used_up-clause-state
+returns-then-is_used_up-clause-state g c =
+    let none = used_up g.S.Spec.tests c.loop-c.held c.loop-c.left (chars (chars_rest c.loop-c.c-iterator))
+    (sym c.is_used_up.ensures ∙ c.if-is_used_up.true) in
+    sym (c.loop-c.invariant.far.goes_on ∙ none.1)
 
 pub returns-in_err-put_char-clause-shows : goal.returns-in_err-put_char-clause-shows
 returns-in_err-put_char-clause-shows g c =
