@@ -2,8 +2,9 @@
 //!
 //! [`Robots::new`] takes the product token of a crawler, and [`is_product_token`] tells such a token.
 //! [`Robots::feed_line`] takes the lines of a robots file, one after the other, without their line ends, and
-//! [`Robots::feed_line_within`] with a bound. [`subject_of`] gives what of a target the rules speak of, and [`Robots::verdict`] says what the lines so far say of it.
-//! [`matches`] is the test of one pattern. `laws` has what holds of the definitions.
+//! [`Robots::feed_line_within`] with a bound. [`subject_of`] gives what of a target the rules speak of, and
+//! [`Robots::verdict`] says what the lines so far say of it. [`matches`] is the test of one pattern. `laws` has what
+//! holds of the definitions.
 //!
 //! A line that isn't UTF-8, or has no key of a record, is ignored and ends nothing. U+FEFF that begins a line goes, and
 //! what follows its first `#`. Keys and agents are compared without case. The agent is `*`, or the longest prefix of
@@ -13,18 +14,18 @@
 //!
 //! Proved: each call means its definition. `new` refuses exactly what is no product token. `feed_line` adds exactly the
 //! record of its line, and nothing after an allocation failure, which comes only where the line has a record.
-//! `feed_line_within` adds the same, but no rule with more escapes than the caller takes. A pattern matches exactly where the text, or without a
-//! `$` at its end a prefix of it, is a filling of the pattern. The verdict is allow exactly where the text is
-//! `/robots.txt`, where no rule for the token matches, or where an allow rule is among the longest that match; it takes
-//! no memory.
+//! `feed_line_within` adds the same, but no rule with more escapes than the caller takes. A pattern matches exactly
+//! where the text, or without a `$` at its end a prefix of it, is a filling of the pattern. The verdict is allow
+//! exactly where the text is `/robots.txt`, where no rule for the token matches, or where an allow rule is among the
+//! longest that match; it takes no memory.
 //!
 //! Not proved: that memory is allocated, so that a `feed_line` of a record or a `subject_of` that always answered
-//! `AllocError`, and a `new` that answered `Memory` to each product token, would keep their contracts; tests show that each
-//! succeeds with ample memory. How long a search takes: what stands between two `*` is searched for its prefix up to its
-//! first `%2A` or `%24`, and for that escape, so a match takes time in the lengths of pattern and text, times one more
-//! than the pattern's escapes (each `%2A`, `%24` and `$`) at worst. `feed_line_within` bounds these for a file that nobody
-//! vouches for. The words of the errors' `Display`, which `thiserror` makes and a test reads, and the text of their
-//! `Debug`. The file is neither fetched nor kept, and lines are not cut out of it here.
+//! `AllocError`, and a `new` that answered `Memory` to each product token, would keep their contracts; tests show that
+//! each succeeds with ample memory. How long a search takes: what stands between two `*` is searched for its prefix up
+//! to its first `%2A` or `%24`, and for that escape, so a match takes time in the lengths of pattern and text, times
+//! one more than the pattern's escapes (each `%2A`, `%24` and `$`) at worst. `feed_line_within` bounds these for a file
+//! that nobody vouches for. The words of the errors' `Display`, which `thiserror` makes and a test reads, and the text
+//! of their `Debug`. The file is neither fetched nor kept, and lines are not cut out of it here.
 #![tactic(auto)]
 
 mod compared;

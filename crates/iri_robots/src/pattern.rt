@@ -1,5 +1,5 @@
-// Patterns of rules. What stands between two `*` is found at its leftmost place by a search for its prefix up to the first
-// escape, and for that escape. Where it has no escape, the search goes through pattern and text once.
+// Patterns of rules. What stands between two `*` is found at its leftmost place by a search for its prefix up to the
+// first escape, and for that escape. Where it has no escape, the search goes through pattern and text once.
 ghost use Rattle.std.specs.Prelude.{◌≡◌, ◌≢◌, ◌↔◌, ◌<◌, ◌≤◌, ◌∷◌, true, cond, MatchOption, length, drop, slice_index};
 ghost use Rattle.iri_grammar.specs.Characters.{asterisk};
 ghost use Rattle.iri_robots.specs.Patterns.{Matches, begins_escape, escapes};
@@ -105,12 +105,12 @@ fn reach_star<'a>(pattern: &'a [u8], text: &'a [u8], anchored: bool) -> Reached<
     }
 }
 
-// How many bytes of the pattern, from its start on, are no `*` and begin no escape.
-fn plain_len(pattern: &[u8]) -> usize
+// How many bytes of the pattern, from its start on, are no `*` and begin no escape, but for those past so many.
+fn plain_len(pattern: &[u8], most: usize) -> usize
     ensures { HasPlainPrefix pattern.now result }
 {
     let mut len = 0;
-    while len < pattern.len() {
+    while len < most && len < pattern.len() {
         if pattern[len] == b'*' || escaped_mark(&pattern[len..]).is_some() {
             return len;
         }
@@ -175,11 +175,13 @@ fn from_escape<'a>(pattern: &[u8], plain: usize, mark: u8, text: &'a [u8]) -> Op
     None
 }
 
-// The text from the leftmost place on where the pattern may stand: its plain prefix, and the escape after it, stand there.
+// The text from the leftmost place on where the pattern may stand: its plain prefix, and the escape after it, stand
+// there.
 fn from_prefix<'a>(pattern: &[u8], text: &'a [u8]) -> Option<&'a [u8]>
     ensures { MatchOption result (StandsNot pattern.now text.now) (λ rest. Keeps pattern.now text.now rest.now) }
 {
-    let plain = plain_len(pattern);
+    // More than the text has can't stand in it: a short link doesn't pay for a long pattern.
+    let plain = plain_len(pattern, text.len());
     match escaped_mark(&pattern[plain..]) {
         Some(mark) => from_escape(pattern, plain, mark, text),
         None => from_plain(pattern, plain, text),
@@ -253,8 +255,8 @@ fn escapes_at(pattern: &[u8]) -> usize
     if begins_escape(pattern) { 1 } else { 0 }
 }
 
-// How many escapes and `$` the pattern has: a search takes no more time than the lengths of pattern and text so many times,
-// and once more.
+// How many escapes and `$` the pattern has: a search takes no more time than the lengths of pattern and text so many
+// times, and once more.
 pub(crate) fn escapes(pattern: &[u8]) -> usize
     ensures { result ≡ escapes pattern.now }
 {

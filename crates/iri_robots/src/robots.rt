@@ -108,13 +108,13 @@ impl Robots {
         self.store(line_record(self.alloc, line)?)
     }
 
-    /// [`Robots::feed_line`] for a file that nobody vouches for: a rule whose pattern has more than so many escapes (each
-    /// `%2A`, `%24` and `$` counts) isn't stored.
+    /// [`Robots::feed_line`] for a file that nobody vouches for: a rule whose pattern has more than so many escapes
+    /// (each `%2A`, `%24` and `$` counts) isn't stored.
     ///
     /// # Errors
     ///
-    /// `Escapes` where the rule has more escapes, and `Memory` on allocation failure alone, where the line has a record.
-    /// Nothing has changed then.
+    /// `Escapes` where the rule has more escapes, and `Memory` on allocation failure alone, where the line has a
+    /// record. Nothing has changed then.
     pub fn feed_line_within(&mut self, line: &[u8], most: usize) -> Result<(), LineError>
         ensures token { string_bytes self.new.token ≡ string_bytes self.old.token }
         ensures records { MatchResult result (λ _. record_texts self.new.records.items
