@@ -27,15 +27,15 @@ text_fault s y u =
     ap (λ b. cond b (place_in y (fault_from s before_link y)) (Some (record { kind = NotUtf8; place = utf8_valid_len y }))) (is_utf8-from_IsUtf8 y u)
 
 answered : (s : Tests) (base y : List ℕ) → IsUtf8 y → (r : Result (List LinkValue) LinkError)
-    → MatchResult r (λ l. ReadsField s base y l) (λ e. IsTold e (place_in y (fault_from s before_link y))) → MatchResult r (IsRead s base y) (RefusedBy s y)
+    → MatchResult r (λ l. ReadsField s base y l) (IsTold s y) → MatchResult r (IsRead s base y) (RefusedBy s y)
 answered s base y u (Ok l) h = record { links = h.sources; has = record { utf8 = u; field = h.field; valid = h.valid }; resolves = h.kept }
 answered s base y u (Err (Fault k p)) h = let e = text_fault s y u ∙ h in (e, faulty s y (record { kind = k; place = p }) e)
-answered s base y u (Err Memory) h = tt
+answered s base y u (Err Memory) h = (u, h)
 
 pub of_text : (s : Tests) (base x y : List ℕ) → x ≡ y → IsUtf8 y → (r : Result (List LinkValue) LinkError)
-    → MatchResult r (λ l. ReadsField s base x l) (λ e. IsTold e (place_in x (fault_from s before_link x))) → MatchResult r (IsRead s base y) (RefusedBy s y)
+    → MatchResult r (λ l. ReadsField s base x l) (IsTold s x) → MatchResult r (IsRead s base y) (RefusedBy s y)
 of_text s base x y e u r h =
-    answered s base y u r (subst (λ z. MatchResult r (λ l. ReadsField s base z l) (λ d. IsTold d (place_in z (fault_from s before_link z)))) e h)
+    answered s base y u r (subst (λ z. MatchResult r (λ l. ReadsField s base z l) (IsTold s z)) e h)
 
 no_text : (y : List ℕ) → (IsUtf8 y → ⊥) → is_utf8 y ≡ false
 no_text y n = elim (is_utf8 y) as (λ b. is_utf8 y ≡ b → b ≡ false) [ true ↦ λ e. absurd (n (IsUtf8-from_is_utf8 y e)) | false ↦ λ e. refl ] refl

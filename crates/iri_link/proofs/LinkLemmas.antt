@@ -1,30 +1,33 @@
 -- Link-values, read one after the other.
 use Rattle.std.proofs.Common.{◌≡◌, ℕ, suc, true, false, List, [], ◌∷◌, ◌++◌, Option, Some, None, length, map, refl, sym, ap, ◌∙◌, subst, arith, append_assoc}
-use Rattle.std.specs.Prelude.{◌==◌, MatchOption, MatchResult, Result, Ok, Err}
+use Rattle.std.specs.Prelude.{◌==◌, ◌||◌, MatchOption, MatchResult, Result, Ok, Err}
+use Rattle.std.specs.List.{list_all}
 use denote.Bor.{Bor}
 use Rattle.std.proofs.lemmas.Bool.{eqb-true}
 use Rattle.iri_grammar.specs.OptionalSlices.{now_of}
 use Rattle.iri_link.specs.declared.halt.Halt.{Halt}
+use Rattle.iri_link.specs.declared.halt.Halt.TheVariants.{Fault as Halted, Memory}
 use Rattle.std.proofs.lemmas.List.{append-nil, map-append}
 use Rattle.std.proofs.lemmas.List.Elements.{All-append, All-nil, All-cons}
 use Rattle.iri_grammar.specs.Classes.{Tests}
 use Rattle.iri_grammar.specs.Cut.{before, behind, marked}
-use Rattle.iri_grammar.proofs.CutLaws.{joined}
+use Rattle.iri_grammar.proofs.CutLaws.{both, joined}
 use Rattle.iri_grammar.specs.WholeFault.{reference_fault}
 use Rattle.iri_grammar.specs.declared.error.Error.{Error}
 use Rattle.iri_normal.specs.NormalForm.{canonical}
-use Rattle.iri_link.specs.Token.{is_blank}
-use Rattle.iri_link.specs.Field.{LinkParam, LinkValue, link, IsElement, empty, link as element, IsField, last, more}
+use Rattle.iri_link.specs.Token.{is_blank, is_blanks}
+use Rattle.iri_link.specs.Field.{LinkParam, LinkValue, IsLink, link, IsElement, empty, link as element, IsField, last, more}
 use Rattle.iri_link.specs.Phases.{before_link, in_target, behind_param, next}
 use Rattle.iri_link.specs.Fault.{fault_from, target_fault, earlier}
 use Rattle.iri_link.specs.inside.Runs.{begins, IsRun}
 use Rattle.iri_link.specs.inside.ReadParams.{ends_link, ReadsParams}
-use Rattle.iri_link.specs.inside.Halts.{HaltsAt}
+use Rattle.iri_link.specs.inside.Halts.{HaltsAt, HaltsIn}
 use Rattle.iri_link.specs.Links.{HasReference}
+use Rattle.iri_link.specs.Refusals.{KeepsTarget}
 use Rattle.iri_link.specs.Resolved.{resolved}
-use Rattle.iri_link.specs.inside.ReadLinks.{CutsTarget, ReadsLink, SkipsEmpty, AddsLink, ReadsField, ReadsUpTo, fault_behind}
+use Rattle.iri_link.specs.inside.ReadLinks.{CutsTarget, ReadsLink, SkipsEmpty, AddsLink, ReadsField, ReadsUpTo, fault_behind, KeepsBehind}
 use Rattle.iri_link.specs.declared.error.LinkKind.TheVariants.{NoTarget, OpenTarget, BadTarget}
-use Rattle.iri_link.proofs.PhaseLemmas.{start-blanks}
+use Rattle.iri_link.proofs.PhaseLemmas.{by_blank, start-blanks}
 use Rattle.iri_link.proofs.TargetLemmas.{before-lacks, some-lacks, none-lacks, target-goes, open_goes}
 
 -- ---- a target
@@ -68,6 +71,72 @@ link_read s base w t mid rest tt kept_target ps begun cut is p = record {
   goes = ap (fault_from s before_link) begun ∙ (cut.goes ∙ p.goes s);
 }
 
+-- ---- a target that is kept
+pub target_kept : (s : Tests) (w t rest target_text : List ℕ) → w ≡ 60 ∷ t → CutsTarget s t rest target_text → KeepsTarget s w
+target_kept s w t rest target_text begun cut = record {
+  front = [];
+  target = target_text;
+  rest = rest;
+  whole = begun ∙ ap (λ l. 60 ∷ l) cut.whole;
+  skipped = refl;
+  closed = cut.closed;
+  valid = cut.valid;
+}
+
+pub params_halt : (e : Halt) (s : Tests) (w t rest target_text : List ℕ) → w ≡ 60 ∷ t → CutsTarget s t rest target_text
+    → HaltsAt e (fault_from s behind_param rest) → HaltsIn s w e
+params_halt (Halted k r) s w t rest target_text begun cut h = ap (fault_from s before_link) begun ∙ (cut.goes ∙ h)
+params_halt Memory s w t rest target_text begun cut h = target_kept s w t rest target_text begun cut
+
+kept-front : (s : Tests) (t x z : List ℕ) (l : LinkValue) → t ≡ x ++ z → IsLink x l → HasReference s l → KeepsTarget s t
+kept-front s t x z l e (link u p ps closed h) valid = record {
+  front = [];
+  target = u;
+  rest = p ++ z;
+  whole = e ∙ ap (λ y. 60 ∷ y) (append_assoc u (62 ∷ p) z);
+  skipped = refl;
+  closed = closed;
+  valid = valid;
+}
+
+pub link_kept : (s : Tests) (base t rest : List ℕ) (l : LinkValue) → ReadsLink s base t rest l → KeepsTarget s t
+link_kept s base t rest l r = kept-front s t r.front (r.blanks ++ rest) r.source r.whole r.link r.valid
+
+skipped-blanks : (a y : List ℕ) → is_blanks a ≡ true → list_all (λ c. is_blank c || c == 44) y ≡ true
+    → list_all (λ c. is_blank c || c == 44) (a ++ y) ≡ true
+skipped-blanks [] y h k = k
+skipped-blanks (c ∷ cs) y h k =
+    let b = both (is_blank c) (list_all is_blank cs) h in
+    let rest = skipped-blanks cs y b.1 k in
+    by_blank c (λ d. list_all (λ c. is_blank c || c == 44) (d ∷ (cs ++ y)) ≡ true) rest rest b.0
+
+kept-blanks : (s : Tests) (a y : List ℕ) → is_blanks a ≡ true → KeepsTarget s y → KeepsTarget s (a ++ y)
+kept-blanks s a y h k = record {
+  front = a ++ k.front;
+  target = k.target;
+  rest = k.rest;
+  whole = ap (λ l. a ++ l) k.whole ∙ sym (append_assoc a k.front (60 ∷ (k.target ++ 62 ∷ k.rest)));
+  skipped = skipped-blanks a k.front h k.skipped;
+  closed = k.closed;
+  valid = k.valid;
+}
+
+-- over blanks
+kept-run : (s : Tests) (rest a next : List ℕ) → IsRun is_blank rest a next → KeepsTarget s next → KeepsTarget s rest
+kept-run s rest a next h k = subst (λ z. KeepsTarget s z) (sym h.whole) (kept-blanks s a next h.all k)
+
+kept-comma : (s : Tests) (t : List ℕ) (o : Option (List ℕ)) → t ≡ marked 44 o → KeepsBehind s o → KeepsTarget s t
+kept-comma s t None e k = absurd k
+kept-comma s t (Some r) e k = rw e (record {
+  front = 44 ∷ k.front;
+  target = k.target;
+  rest = k.rest;
+  whole = ap (λ l. 44 ∷ l) k.whole;
+  skipped = k.skipped;
+  closed = k.closed;
+  valid = k.valid;
+})
+
 -- ---- an element
 pub comma_or_end : (t : List ℕ) (o : Option (Bor (List ℕ))) → MatchOption o (begins (λ c. c == 44) t ≡ false) (λ r. t ≡ 44 ∷ r.now) → ends_link t ≡ true
     → (t ≡ marked 44 (now_of o)) × ((s : Tests) → fault_from s behind_param t ≡ fault_behind s (now_of o))
@@ -86,6 +155,7 @@ link_added s base t rest l o old new r e goes k = record {
   valid = All-cons (HasReference s) r.source [] r.valid (All-nil (HasReference s));
   kept = k ∙ ap (λ z. old ++ (z ∷ [])) r.kept;
   goes = r.goes ∙ goes s;
+  keeps = λ _. link_kept s base t rest l r;
 }
 
 pub empty_added : (s : Tests) (base t : List ℕ) (o : Option (List ℕ)) (old : List LinkValue) → SkipsEmpty t o → AddsLink s base t o old old
@@ -97,11 +167,12 @@ empty_added s base t o old e = record {
   valid = All-nil (HasReference s);
   kept = sym (append-nil old);
   goes = e.goes s;
+  keeps = kept-comma s t o e.whole;
 }
 
 pub empty_matched : (s : Tests) (base t : List ℕ) (old : List LinkValue) (r : Result (Option (Bor (List ℕ))) Halt)
-    → MatchResult r (λ o. SkipsEmpty t (now_of o)) (λ e. (k : Tests) → HaltsAt e (fault_from k before_link t))
-    → MatchResult r (λ o. AddsLink s base t (now_of o) old old) (λ e. HaltsAt e (fault_from s before_link t))
+    → MatchResult r (λ o. SkipsEmpty t (now_of o)) (λ e. (k : Tests) → HaltsIn k t e)
+    → MatchResult r (λ o. AddsLink s base t (now_of o) old old) (HaltsIn s t)
 empty_matched s base t old (Ok o) h = empty_added s base t (now_of o) old h
 empty_matched s base t old (Err e) h = h s
 
@@ -122,6 +193,9 @@ no_target s [] a b d h = cc
 no_target s (c ∷ cs) a b d h = rw (a, d, b) refl
 
 -- ---- the elements
+pub up_none : (s : Tests) (base x : List ℕ) (ls : List LinkValue) → ls ≡ [] → ReadsUpTo s base x x ls
+up_none s base x ls e = record { sources = []; read = λ ms f. f; valid = All-nil (HasReference s); kept = e; goes = refl; keeps = λ k. k }
+
 module _ (s : Tests) (base x rest a next : List ℕ) (o : Option (List ℕ)) (old new : List LinkValue) (u : ReadsUpTo s base x rest old) (h : IsRun is_blank rest a next) (k : AddsLink s base next o old new) where
   parts : rest ≡ (a ++ k.front) ++ marked 44 o
   parts = h.whole ∙ (ap (λ l. a ++ l) k.whole ∙ sym (append_assoc a k.front (marked 44 o)))
@@ -141,6 +215,7 @@ module _ (s : Tests) (base x rest a next : List ℕ) (o : Option (List ℕ)) (ol
     valid = All-append (HasReference s) u.sources k.sources u.valid k.valid;
     kept = grown;
     goes = gone ∙ ap (fault_behind s) e;
+    keeps = λ t. u.keeps (kept-run s rest a next h (k.keeps (subst (KeepsBehind s) (sym e) t)));
   }
 
   pub up_end : o ≡ None → ReadsField s base x new
@@ -153,5 +228,8 @@ module _ (s : Tests) (base x rest a next : List ℕ) (o : Option (List ℕ)) (ol
         kept = grown;
       }
 
-pub halts_then : (e : Halt) (s : Tests) (base x rest a next : List ℕ) (ls : List LinkValue) → ReadsUpTo s base x rest ls → IsRun is_blank rest a next → HaltsAt e (fault_from s before_link next) → HaltsAt e (fault_from s before_link x)
-halts_then e s base x rest a next ls u h k = subst (λ f. HaltsAt e f) (sym (u.goes ∙ (ap (fault_from s before_link) h.whole ∙ start-blanks s a next h.all))) k
+pub halts_then : (e : Halt) (s : Tests) (base x rest a next : List ℕ) (ls : List LinkValue) → ReadsUpTo s base x rest ls
+    → IsRun is_blank rest a next → HaltsIn s next e → HaltsIn s x e
+halts_then (Halted k r) s base x rest a next ls u h f =
+    u.goes ∙ (ap (fault_from s before_link) h.whole ∙ (start-blanks s a next h.all ∙ f))
+halts_then Memory s base x rest a next ls u h k = u.keeps (kept-run s rest a next h k)

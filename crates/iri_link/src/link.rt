@@ -6,11 +6,9 @@ ghost use Rattle.iri_types.specs.SplitText.{split_text};
 ghost use Rattle.iri_normal.specs.NormalForm.{canonical};
 ghost use Rattle.iri_normal.specs.Resolver.{base_text};
 ghost use Rattle.iri_link.specs.Characters.{less_than_sign};
-ghost use Rattle.iri_link.specs.Fault.{fault_from};
-ghost use Rattle.iri_link.specs.Phases.{before_link};
 ghost use Rattle.iri_link.specs.Stored.{link_of};
 ghost use Rattle.iri_link.specs.Token.{is_blank};
-ghost use Rattle.iri_link.specs.inside.Halts.{HaltsAt};
+ghost use Rattle.iri_link.specs.inside.Halts.{HaltsIn};
 ghost use Rattle.iri_link.specs.inside.ReadLinks.{CutsTarget, ReadsLink, SkipsEmpty, AddsLink, ReadsField};
 ghost use Rattle.iri_link.specs.inside.Runs.{begins};
 
@@ -40,7 +38,7 @@ fn cut_target<'a, S: Spec>(
 ) -> Result<(SplitView<'a, S, Reference>, &'a str), Halt<'a>>
     requires { whole.now ≡ less_than_sign ∷ s.now }
     ensures { MatchResult result (λ r. CutsTarget S.tests s.now r.1.now (split_text r.0))
-        (λ e. HaltsAt e (fault_from S.tests before_link whole.now)) }
+        (HaltsIn S.tests whole.now) }
 {
     let (target, rest) = cut(s, b'>');
     match rest {
@@ -76,7 +74,7 @@ fn read_link<'a, S: Spec>(
 ) -> Result<(Link, &'a str), Halt<'a>>
     requires { whole.now ≡ less_than_sign ∷ s.now }
     ensures { MatchResult result (λ r. ReadsLink S.tests (base_text resolver.now) whole.now r.1.now (link_of r.0))
-        (λ e. HaltsAt e (fault_from S.tests before_link whole.now)) }
+        (HaltsIn S.tests whole.now) }
 {
     let (reference, rest) = match cut_target::<S>(whole, s) {
         Ok(cut) => cut,
@@ -96,7 +94,7 @@ fn past_empty<'a>(s: &'a str) -> Result<Option<&'a str>, Halt<'a>>
     requires blank { begins is_blank s.now ≡ false }
     requires mark { begins (λ c. c == less_than_sign) s.now ≡ false }
     ensures { MatchResult result (λ r. SkipsEmpty s.now (now_of r))
-        (λ e. (t : Tests) → HaltsAt e (fault_from t before_link s.now)) }
+        (λ e. (t : Tests) → HaltsIn t s.now e) }
 {
     match past(s, b',') {
         Some(behind) => Ok(Some(behind)),
@@ -121,7 +119,7 @@ fn push_link<'a, S: Spec>(
     ensures { MatchResult result
         (λ r. AddsLink S.tests (base_text resolver.now) s.now (now_of r) (map link_of links.old.items)
         (map link_of links.new.items))
-        (λ e. HaltsAt e (fault_from S.tests before_link s.now)) }
+        (HaltsIn S.tests s.now) }
 {
     match past(s, b'<') {
         Some(inner) => match read_link(alloc, resolver, s, inner) {
@@ -143,7 +141,7 @@ pub(crate) fn read_text<'a, S: Spec>(
 ) -> Result<Vec<Link>, Halt<'a>>
     ensures { MatchResult result
         (λ v. ReadsField S.tests (base_text resolver.now) text.now (map link_of v.items))
-        (λ e. HaltsAt e (fault_from S.tests before_link text.now)) }
+        (HaltsIn S.tests text.now) }
 {
     let mut links = Vec::new(alloc);
     let mut rest = text;

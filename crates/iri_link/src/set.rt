@@ -1,8 +1,6 @@
 // The link-values of a field value.
 ghost use Rattle.std.specs.Prelude.{◌≡◌, MatchResult};
 ghost use Rattle.iri_types.specs.Texts.{text};
-ghost use Rattle.iri_link.specs.Fault.{fault_from, place_in};
-ghost use Rattle.iri_link.specs.Phases.{before_link};
 ghost use Rattle.iri_link.specs.Refusals.{RefusedBy};
 ghost use Rattle.iri_link.specs.Resolved.{IsRead};
 ghost use Rattle.iri_link.specs.inside.Halts.{IsTold};
@@ -46,7 +44,7 @@ fn read_valid<S: Spec>(
     field: &str,
 ) -> Result<LinkSet<S>, LinkError>
     ensures { MatchResult result (λ l. ReadsField S.tests (text base.entry) field.now l)
-        (λ e. IsTold e (place_in field.now (fault_from S.tests before_link field.now))) }
+        (IsTold S.tests field.now) }
 {
     let resolver = FixedBaseResolver::new(base);
     match read_text(alloc, &resolver, field) {
@@ -66,7 +64,8 @@ fn read_valid<S: Spec>(
 /// base (RFC 3986 sections 5.2 and 6.2.2).
 ///
 /// It answers Ok exactly where the bytes are UTF-8 and have link-values whose targets are URI-references of `S`, and
-/// otherwise the first fault from the left, with its place in bytes; or allocation failed.
+/// otherwise the first fault from the left, with its place in bytes; or allocation failed. Allocation can fail only
+/// where the bytes are UTF-8 and the first element that isn't empty begins with a target that is a URI-reference.
 pub fn read_links<S: Spec>(
     alloc: Global,
     base: RiAbsoluteStr<'_, S>,

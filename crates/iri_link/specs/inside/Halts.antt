@@ -1,17 +1,25 @@
 -- Where a reading halts.
-use Rattle.std.specs.Prelude.{◌≡◌, ⊤, Option, Some}
-use Rattle.iri_link.specs.Fault.{Fault, Told}
+use Rattle.std.specs.Prelude.{◌≡◌, ℕ, List, ⊤, Option, Some}
+use Rattle.iri_grammar.specs.Classes.{Tests}
+use Rattle.iri_link.specs.Fault.{Fault, fault_from, place_in}
+use Rattle.iri_link.specs.Phases.{before_link}
+use Rattle.iri_link.specs.Refusals.{KeepsTarget}
 use Rattle.iri_link.specs.declared.error.LinkError.{LinkError}
 use Rattle.iri_link.specs.declared.error.LinkError.TheVariants.{Fault as ToldFault, Memory as ToldMemory}
 use Rattle.iri_link.specs.declared.halt.Halt.{Halt}
 use Rattle.iri_link.specs.declared.halt.Halt.TheVariants.{Fault as Halted, Memory}
 
--- the cause of a halt, where this is the first fault
+-- the cause of a halt behind a target, where this is the first fault
 abbrev pub HaltsAt : Halt → Option Fault → Type 0
 HaltsAt (Halted k r) f = f ≡ Some (record { kind = k; rest = r.now })
 HaltsAt Memory f = ⊤
 
--- the kind and the place that are told, where this is the first fault
-abbrev pub IsTold : LinkError → Option Told → Type 0
-IsTold (ToldFault k p) f = f ≡ Some (record { kind = k; place = p })
-IsTold ToldMemory f = ⊤
+-- the cause of a halt in elements: their first fault, or memory for a target
+abbrev pub HaltsIn : Tests → List ℕ → Halt → Type 0
+HaltsIn s x (Halted k r) = fault_from s before_link x ≡ Some (record { kind = k; rest = r.now })
+HaltsIn s x Memory = KeepsTarget s x
+
+-- the same as it is told, by the place of the fault
+abbrev pub IsTold : Tests → List ℕ → LinkError → Type 0
+IsTold s x (ToldFault k p) = place_in x (fault_from s before_link x) ≡ Some (record { kind = k; place = p })
+IsTold s x ToldMemory = KeepsTarget s x

@@ -9,6 +9,7 @@ use Rattle.iri_link.specs.Characters.{greater_than_sign, less_than_sign}
 use Rattle.iri_link.specs.Fault.{Fault, fault_from}
 use Rattle.iri_link.specs.Field.{LinkValue, IsLink, IsElement, IsField}
 use Rattle.iri_link.specs.Links.{HasReference}
+use Rattle.iri_link.specs.Refusals.{KeepsTarget}
 use Rattle.iri_link.specs.Resolved.{resolved}
 use Rattle.iri_link.specs.Phases.{before_link, behind_param}
 use Rattle.iri_link.specs.Token.{is_blanks}
@@ -39,6 +40,11 @@ abbrev pub fault_behind : Tests → Option (List ℕ) → Option Fault
 fault_behind s None = None
 fault_behind s (Some r) = fault_from s before_link r
 
+-- whether a target is kept behind a comma
+abbrev pub KeepsBehind : Tests → Option (List ℕ) → Type 0
+KeepsBehind s None = ⊥
+KeepsBehind s (Some r) = KeepsTarget s r
+
 -- t is no more than a comma and a rest, or nothing
 pub record SkipsEmpty (t : List ℕ) (rest : Option (List ℕ)) : Type 0 where
   pub whole : t ≡ marked comma rest
@@ -53,6 +59,7 @@ pub record AddsLink (s : Tests) (base t : List ℕ) (rest : Option (List ℕ)) (
   pub valid : All (HasReference s) sources
   pub kept : new ≡ old ++ map (resolved s base) sources
   pub goes : fault_from s before_link t ≡ fault_behind s rest
+  pub keeps : KeepsBehind s rest → KeepsTarget s t
 
 -- x is a field value whose targets are references; what is kept are its link-values with canonical targets
 pub record ReadsField (s : Tests) (base x : List ℕ) (ls : List LinkValue) : Type 0 where
@@ -68,3 +75,4 @@ pub record ReadsUpTo (s : Tests) (base x rest : List ℕ) (ls : List LinkValue) 
   pub valid : All (HasReference s) sources
   pub kept : ls ≡ map (resolved s base) sources
   pub goes : fault_from s before_link x ≡ fault_from s before_link rest
+  pub keeps : KeepsTarget s rest → KeepsTarget s x

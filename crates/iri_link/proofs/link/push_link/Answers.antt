@@ -1,7 +1,7 @@
 use Rattle.std.proofs.Common.{ap, ◌∙◌, map, [], ◌∷◌}
 use Rattle.std.proofs.lemmas.List.{map-append}
 use Rattle.iri_link.specs.Stored.{link_of}
-use Rattle.iri_link.proofs.LinkLemmas.{comma_or_end, link_added, empty_matched}
+use Rattle.iri_link.proofs.LinkLemmas.{comma_or_end, link_added, link_kept, empty_matched}
 use Rattle.iri_link.proofs.link.push_link.Goals as goal
 use Rattle.iri_link.proofs.link.push_link.Goals.{in-Ok-push, in-Err-push}
 
@@ -12,7 +12,7 @@ returns-after-push g c =
           let k = comma_or_end c.in-Ok.rest.now w.past-in-Ok-push.result w.past-in-Ok-push.ensures c.in-Ok.ensures.ends in
           rw w.result-is (link_added g.S.Spec.tests _ c.args.s.now c.in-Ok.rest.now (link_of c.in-Ok.link) _ (map link_of c.args.links.now.items) _ c.in-Ok.ensures k.0 k.1
           (ap (map link_of) w.in-Ok-push.ensures.items ∙ map-append link_of c.args.links.now.items (c.in-Ok.link ∷ [])))
-      | in-Err-push w ↦ rw w.result-is tt
+      | in-Err-push w ↦ rw w.result-is (link_kept g.S.Spec.tests _ c.args.s.now c.in-Ok.rest.now (link_of c.in-Ok.link) c.in-Ok.ensures)
     ]
 
 pub returns-in-None : goal.returns-in-None

@@ -2,8 +2,14 @@ use Rattle.std.proofs.Common.{ap, map, rules}
 use Rattle.iri_grammar.specs.OptionalSlices.{now_of}
 use Rattle.iri_normal.specs.Resolver.{base_text}
 use Rattle.iri_link.specs.Stored.{link_of}
-use Rattle.iri_link.proofs.LinkLemmas.{up_more, up_end, halts_then}
+use Rattle.iri_link.proofs.LinkLemmas.{up_none, up_more, up_end, halts_then}
 use Rattle.iri_link.proofs.link.read_text.Goals as goal
+
+pub links-init : goal.links-init
+links-init g c = record {
+  utf8 = search rules;
+  read = up_none g.S.Spec.tests (base_text c.args.resolver.now) c.args.text.now _ (ap (map link_of) c.new-links.ensures.items);
+}
 
 pub links-preserved : goal.links-preserved
 links-preserved g c = record {
