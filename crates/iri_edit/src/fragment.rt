@@ -21,7 +21,8 @@ pub trait SetFragment<F: Show>: Show {
     /// Puts a fragment in place of the text's, or behind a text that has none; `None` takes out the fragment and its number sign,
     /// and takes no memory. Memory is taken first: after an allocation failure the text is as it was.
     fn set_fragment(&mut self, fragment: Option<F>) -> Result<(), AllocError>
-        ensures ok { OnOk result (Self.text self.new ≡ with_fragment (Self.text self.old) (option_map F.text fragment)) }
+        ensures ok { OnOk result (Self.text self.new
+            ≡ with_fragment (Self.text self.old) (option_map F.text fragment)) }
         ensures err { OnErr result (self.new ≡ self.old) }
         ensures some { OnErr result (IsSome fragment) }
         ensures capacity { fragment ≡ None → capacity self.new ≡ capacity self.old };
@@ -64,7 +65,8 @@ impl<'f, S: Spec, K: FragmentKind> SetFragment<RiFragmentStr<'f, S>> for Owned<S
     ghost capacity = { λ t. t.capacity };
 
     fn set_fragment(&mut self, fragment: Option<RiFragmentStr<'f, S>>) -> Result<(), AllocError>
-        ensures ok { OnOk result (self.new.text ≡ with_fragment self.old.text (option_map (λ f. text f) fragment.entry)) }
+        ensures ok { OnOk result (self.new.text
+            ≡ with_fragment self.old.text (option_map (λ f. text f) fragment.entry)) }
         ensures err { OnErr result (self.new ≡ self.old) }
         ensures some { OnErr result (IsSome fragment.entry) }
         ensures capacity { fragment.entry ≡ None → self.new.capacity ≡ self.old.capacity }

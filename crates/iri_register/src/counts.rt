@@ -1,7 +1,8 @@
-//! A tree of counts over slots: its leaves tell which slots are taken, and each node above has the sum of the two below it.
+//! A tree of counts over slots: its leaves tell which slots are taken, and each node above has the sum of the two below
+//! it.
 //!
-//! The nodes stand in one list: the root at 1, and the two below a node `n` at `2 * n` and `2 * n + 1`, so the leaf of a slot
-//! stands at the number of leaves and the slot.
+//! The nodes stand in one list: the root at 1, and the two below a node `n` at `2 * n` and `2 * n + 1`, so the leaf of
+//! a slot stands at the number of leaves and the slot.
 ghost use Rattle.std.specs.Prelude.{◌^◌, ◌≡◌, ◌≢◌, ◌*◌, ℕ, IfOk, ◌+◌, ◌≤◌, ◌<◌, length, get_or};
 ghost use Rattle.iri_register.specs.inside.Counted.{IsTree, total};
 

@@ -1,6 +1,7 @@
 //! The entries, kept in a map in first-seen order.
 ghost use Rattle.std.specs.Prelude.{◌≡◌, ◌<◌, ◌+◌, ◌^◌, if◌then◌else◌, [], length, map as mapped, option_map};
-ghost use Rattle.std.specs.Prelude.{List, ℕ, is_some, false, None, filter, slice_get, OnOk, IfOk, IfSome, IfNone, is_ok};
+ghost use Rattle.std.specs.Prelude.{List, ℕ, is_some, false, None, filter, slice_get, is_ok};
+ghost use Rattle.std.specs.Prelude.{OnOk, IfOk, IfSome, IfNone};
 ghost use Rattle.std.specs.List.{IsDistinct};
 ghost use Rattle.indexmap.specs.IndexMap.{index_map_len};
 ghost use Rattle.std.specs.Map.{lookup};
@@ -20,8 +21,8 @@ use std::marker::Model;
 
 type Map = IndexMap<String, Vec<u64>, Keyed>;
 
-// The entries. One that was taken out stays in the map without lines, in its slot, until the slots run out: the index of an entry
-// in the map is its slot, and the counts tell which slots have lines.
+// The entries. One that was taken out stays in the map without lines, in its slot, until the slots run out: the index
+// of an entry in the map is its slot, and the counts tell which slots have lines.
 #[derive(Drop)]
 pub(crate) struct Entries {
     map: Map,
@@ -146,7 +147,8 @@ fn pack(alloc: Global, map: &mut Map, live: usize, counts: &mut Counts) -> Resul
     Ok(())
 }
 
-// Takes the key of an entry that was taken out from the map: its slot gets another key, the slot's number, which is no target.
+// Takes the key of an entry that was taken out from the map: its slot gets another key, the slot's number, which is no
+// target.
 fn free_key(
     alloc: Global,
     map: &mut Map,
@@ -194,7 +196,8 @@ fn put_last(
     requires absent { is_some (lookup (is_text target.now) map.old.entries) ≡ false }
     ensures kept { IsKept map.new.entries counts.new.nodes.items counts.new.room counts.new.height
         (if is_ok result then live + 1 else live) }
-    ensures entries { listed map.new ≡ (if is_ok result then added (listed map.old) target.now line else listed map.old) }
+    ensures entries { listed map.new
+        ≡ (if is_ok result then added (listed map.old) target.now line else listed map.old) }
     ensures live { IfOk result (λ n. n ≡ live + 1) }
 {
     let slot = map.len();
@@ -289,7 +292,8 @@ pub(crate) fn add(
 // The slot of the entry at a place from 1.
 fn slot_at(map: &Map, counts: &Counts, live: usize, place: usize) -> Option<usize>
     requires { IsKept map.now.entries counts.now.nodes.items counts.now.room counts.now.height live }
-    ensures some { IfSome result (λ s. entry_at (listed map.now) place ≡ option_map entry_of (slice_get map.now.entries s)) }
+    ensures some { IfSome result (λ s. entry_at (listed map.now) place
+        ≡ option_map entry_of (slice_get map.now.entries s)) }
     ensures none { IfNone result (entry_at (listed map.now) place ≡ None) }
 {
     if place == 0 {

@@ -114,8 +114,8 @@ impl<S: Spec> Register<S> {
 
     /// The place, from 1, of the entry that has the reference's canonical target; none exactly where no entry has it.
     ///
-    /// Fails with the first fault of a reference that isn't valid, or where allocation failed; without entries it takes no
-    /// memory.
+    /// Fails with the first fault of a reference that isn't valid, or where allocation failed; without entries it takes
+    /// no memory.
     pub fn find(&self, reference: &[u8]) -> Result<Option<usize>, RegisterError>
         ensures causes { MatchResult result (λ _. bytes_fault (reference_fault S.tests) reference.now ≡ None)
             (λ e. CausedBy e (bytes_fault (reference_fault S.tests) reference.now)) }
@@ -162,8 +162,8 @@ impl<S: Spec> Register<S> {
     }
 
     /// Takes out the entry that has the reference's canonical target, and tells how many lines it had; none exactly
-    /// where no entry has it. Later entries move up by one. The removal takes no memory but for the target's text; the text
-    /// of the one that goes stays until the map is packed, where an `add` finds no free slot.
+    /// where no entry has it. Later entries move up by one. The removal takes no memory but for the target's text; the
+    /// text of the one that goes stays until the map is packed, where an `add` finds no free slot.
     ///
     /// Fails with the first fault of a reference that isn't valid, or where allocation failed; the register is then
     /// unchanged. Without entries it takes no memory.
