@@ -1,0 +1,77 @@
+"""count.py SCHEDULER uri|iri BYTES OUT FILE..: counts the links of many pages by canonical text, on a Dask cluster.
+
+A line of the files is a pair: the address of a page, a tab, and a link that stands on it. A part is about BYTES long. OUT is made, with
+  answers/NUMBER  a line for each line of a part, in order: `ok ` and the link's canonical text against its page, `bad ` and the
+                  words for its first fault, `base ` and those for the page's, or `bad line` where there is no tab
+  counts          a line for each canonical text, in the order of their bytes: the text, a tab, and how many pairs have it
+Workers need the files and OUT at the same paths, and the library that ./install builds, where IRIKIT_LIBRARY says.
+"""
+import heapq
+import os
+import pathlib
+import sys
+import uuid
+import zlib
+from collections import Counter
+from functools import lru_cache
+
+from dask import delayed
+from distributed import Client
+from fsspec.utils import read_block
+
+SHARES = 16  # of the texts, each counted by itself
+
+
+def put(path, lines):
+    """Puts a file in place whole: a task that is run again puts the same one there again."""
+    new = path.with_name(f".{uuid.uuid4().hex}")
+    new.write_bytes(b"".join(line + b"\n" for line in lines))
+    new.replace(path)
+
+
+def answer_part(file, start, size, grammar, path):
+    """Writes the answers to the lines of a part, and gives its counts of texts, share by share."""
+    import canon
+    import irikit
+    links_of = lru_cache(lambda page: irikit.Links(page, {"uri": irikit.URI, "iri": irikit.IRI}[grammar]))
+
+    def answer(page, tab, link):
+        try:
+            return b"ok " + links_of(page).canonical_bytes(link) if tab else b"bad line"
+        except irikit.Refused as error:
+            return (b"base " if error.status == irikit.BAD_BASE else b"bad ") + str(error).encode()
+
+    with open(file, "rb") as opened:
+        answers = [answer(*line.partition(b"\t")) for line in canon.lines_of(read_block(opened, start, size, b"\n"))]
+    put(path, answers)
+    counts = [{} for _ in range(SHARES)]
+    for text, count in Counter(answer[3:] for answer in answers if answer.startswith(b"ok ")).items():
+        counts[zlib.crc32(text) % SHARES][text] = count
+    return counts
+
+
+def merge_share(counts, path):
+    sums = Counter()
+    for of_part in counts:
+        sums.update(of_part)
+    put(path, (b"%s\t%d" % each for each in sorted(sums.items())))
+
+
+def main(scheduler, grammar, size, out, *files):
+    out, size = pathlib.Path(out).resolve(), int(size)
+    (out / "answers").mkdir(parents=True)
+    places = [(path, start) for path in map(os.path.abspath, files) for start in range(0, os.path.getsize(path), size)]
+    parts = [delayed(answer_part)(*place, size, grammar, out / f"answers/{number:06}") for number, place in enumerate(places)]
+    merged = [out / f"share{share}" for share in range(SHARES)]
+    with Client(scheduler) as client:
+        for name in ("irikit.py", "canon.py"):
+            client.upload_file(str(pathlib.Path(__file__).resolve().parents[1] / "python" / name))
+        client.compute([delayed(merge_share)([part[share] for part in parts], path) for share, path in enumerate(merged)], sync=True)
+    with open(out / "counts", "wb") as counts:
+        counts.writelines(heapq.merge(*[open(path, "rb") for path in merged]))
+    for left in [*merged, *out.glob("**/.*")]:  # those with a dot by workers that were lost
+        left.unlink()
+
+
+if __name__ == "__main__":
+    main(*sys.argv[1:]) if len(sys.argv) > 5 and sys.argv[2] in ("uri", "iri") else sys.exit(__doc__)
