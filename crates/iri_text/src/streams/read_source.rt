@@ -2,7 +2,7 @@
 ghost use Rattle.std.specs.Prelude.{◌≡◌, None};
 
 use crate::{Failed, Source};
-use std::io::Read;
+use std::io::{ErrorKind, Read};
 use std::marker::Model;
 
 /// Takes bytes from a reader.
@@ -40,22 +40,25 @@ impl<R: Read> Source for ReadSource<R> {
 
     ghost faults = { λ s. s.faults };
 
-    /// Reads once. Each error of the reader raises the count by one, up to its last value. Where the reader tells its bytes,
-    /// these are the ones that it gives. No clause says that an error isn't followed by another read, since std's contract of
-    /// readers tells of no call; a test counts the calls.
+    /// Reads once; a read that a signal ended before it gave a byte (`Interrupted`) is begun again, as std's own loops do. Each
+    /// other error of the reader raises the count by one, up to its last value. Where the reader tells its bytes, these are the
+    /// ones that it gives. No clause says which errors are followed by another read, since std's contract of readers tells of
+    /// no call; a test counts the calls.
     fn take(&mut self, buf: &mut [u8]) -> Result<usize, Failed>
         ensures takes { Takes None None self.old.faults self.new.faults result buf.new }
         ensures through { ReadConsumes (R.remaining self.old.inner) (R.remaining self.new.inner) result buf.new }
         ensures same { OnOk result (self.new.faults ≡ self.old.faults) }
         ensures raised { OnErr result (self.new.faults ≡ min (self.old.faults + 1) (2 ^ 64 - 1)) }
     {
-        match self.reader.read(buf) {
-            Ok(n) => Ok(n),
-            Err(_) => {
-                self.faults = self.faults.saturating_add(1);
-                Err(Failed)
+        'reads: for _ in 0..u64::MAX {
+            match self.reader.read(buf) {
+                Ok(n) => return Ok(n),
+                Err(error) if error.kind() == ErrorKind::Interrupted => {}
+                Err(_) => break,
             }
         }
+        self.faults = self.faults.saturating_add(1);
+        Err(Failed)
     }
 }
 

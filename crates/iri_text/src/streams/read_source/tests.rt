@@ -43,3 +43,31 @@ fn takes_what_the_reader_gives(rt: HostRuntime) {
     assert_eq!(rt; source.faults, 1);
     assert_eq!(rt; source.reader.calls, 4);
 }
+
+// Each call that is odd is ended by a signal; the others give the last byte.
+#[derive(Drop)]
+struct SignalledReader {
+    calls: u8,
+}
+
+impl Read for SignalledReader {
+    fn read(&mut self, buf: &mut [u8]) -> io::Result<usize> {
+        self.calls = self.calls.saturating_add(1);
+        if self.calls % 2 == 1 {
+            return Err(io::ErrorKind::Interrupted.into());
+        }
+        buf.fill(b'a');
+        Ok(buf.len())
+    }
+}
+
+#[test]
+fn reads_again_after_a_signal(rt: HostRuntime) {
+    let mut source = ReadSource::new(SignalledReader { calls: 0 });
+    let mut buf = [0; 1];
+    for calls in [2, 4] {
+        assert_eq!(rt; source.take(&mut buf).ok(), Some(1));
+        assert_eq!(rt; source.reader.calls, calls);
+        assert_eq!(rt; source.faults, 0);
+    }
+}
