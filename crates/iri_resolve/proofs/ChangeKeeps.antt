@@ -1,5 +1,5 @@
 -- What a change of triplets keeps.
-use Rattle.std.proofs.Common.{◌≡◌, ℕ, Bool, true, false, not, ◌&&◌, ◌||◌, List, [], ◌∷◌, ◌++◌, Option, Some, None, refl, sym, ◌∙◌, ap}
+use Rattle.std.proofs.Common.{◌≡◌, ℕ, zero, suc, ◌<◌, length, Bool, true, false, not, ◌&&◌, ◌||◌, List, [], ◌∷◌, ◌++◌, Option, Some, None, refl, sym, ◌∙◌, ap}
 use Rattle.std.proofs.Common.{arith, append-nil}
 use Rattle.std.specs.Prelude.{◌==◌, take}
 use Rattle.std.specs.Char.{encode_utf8}
@@ -39,6 +39,7 @@ pub record TripletChange (s : Tests) (change : ℕ → List ℕ → Option (List
       → normal s f u ≡ normal s f t
   pub percent : (i : ℕ) (t u : List ℕ) → change i t ≡ Some u → lacks 37 t ≡ false
   pub slashes : (i : ℕ) (t u : List ℕ) → change i t ≡ Some u → Differ t u
+  pub inside : (i : ℕ) (t u : List ℕ) → change i t ≡ Some u → i < length t
 
 -- ---- a text with a `%`
 some-percent : (a r : List ℕ) → lacks 37 (a ++ 37 ∷ r) ≡ false
@@ -54,6 +55,19 @@ front-lacks : (a r : List ℕ) → lacks 37 a ≡ false → lacks 37 (a ++ r) �
 front-lacks [] r h = cc
 front-lacks (x ∷ a) r h = elim (x == 37) as (λ b. (not b && lacks 37 a) ≡ false
     → (not b && lacks 37 (a ++ r)) ≡ false) [ true ↦ λ _. refl | false ↦ λ k. front-lacks a r k ] h
+
+-- ---- the place lies in the text
+lies-inside : (i : ℕ) (t : List ℕ) (y : ℕ) (r : List ℕ) → t ≡ take i t ++ y ∷ r → i < length t
+lies-inside zero [] y r e = cc
+lies-inside zero (x ∷ xs) y r e = omega arith
+lies-inside (suc i) [] y r e = cc
+lies-inside (suc i) (x ∷ xs) y r e = let tail : xs ≡ take i xs ++ y ∷ r = cc in let l = lies-inside i xs y r tail in omega arith
+
+pub decode-inside : (s : Tests) (i : ℕ) (t u : List ℕ) → with_decoded s i t ≡ Some u → i < length t
+decode-inside s i t u h =
+    let d = decoding s i t u h in
+    let g = some_triplets d.c d.sp (encode_utf8 d.c) d.spells refl in
+    lies-inside i t 37 (g.rest ++ d.back) (d.old ∙ ap (λ z. take i t ++ (z ++ d.back)) g.text)
 
 -- ---- the two changes
 digit_slash : (x : ℕ) → is_small_digit x ≡ true → (x == 47) ≡ false
@@ -82,6 +96,7 @@ capital-keeps s = record {
         no_new_slash =
             capital_slash c.change.byte c.change.passes;
       };
+  inside = λ i t u h. let c = capital_digit i t u h in lies-inside i t c.change.byte c.change.back c.change.old;
 }
 
 not-true : (b : Bool) → not b ≡ true → b ≡ false
@@ -117,6 +132,7 @@ decoding-keeps s k = record {
         no_slash = refl;
         no_new_slash = encode-slash d.c b.lead b.tail (test_apart (unreserved s) 47 d.c (slash-delimits s k).reserved d.free) b.split;
       };
+  inside = λ i t u h. decode-inside s i t u h;
 }
 
 -- ---- the rules of a path

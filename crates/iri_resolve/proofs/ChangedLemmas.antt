@@ -28,7 +28,7 @@ use Rattle.iri_resolve.specs.Changes.{is_small_digit, with_small_letter, with_sm
 use Rattle.iri_resolve.specs.DecodedPlace.{IsCharacterAt}
 use Rattle.iri_normal.specs.DotRemoval.{dots}
 use Rattle.iri_normal.specs.Guard.{guard}
-use Rattle.iri_resolve.proofs.Places.{decode-inside}
+use Rattle.iri_resolve.proofs.ChangeKeeps.{decode-inside}
 use Rattle.iri_resolve.specs.Steps.{placed, in_part, host_start, in_host, in_userinfo_or_host, without_dropped_port, without_empty_port}
 use Rattle.iri_resolve.specs.Steps.{with_small_letter_in_host, with_dots_removed, with_slash, at_place, step_in}
 use Rattle.iri_resolve.specs.declared.step.Part.{Part}

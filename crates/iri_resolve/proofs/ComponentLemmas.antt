@@ -1,159 +1,57 @@
--- Steps from a component to its normal form.
-use Rattle.std.proofs.Common.{◌≡◌, ℕ, ◌+◌, ◌*◌, ◌<◌, Bool, true, false, cond, ◌&&◌, List, [], ◌∷◌, ◌++◌, Some, None, length}
-use Rattle.std.proofs.Common.{refl, sym, ◌∙◌, ap, subst, arith, append_assoc, append-nil, length-append, ◌≢◌}
+-- The steps of a text lead to its normal form, wherever it stands.
+use Rattle.std.proofs.Common.{◌≡◌, ℕ, zero, suc, ◌+◌, ◌-◌, ◌*◌, ◌<◌, ◌≤◌, Bool, true, false, ◌&&◌, List, [], ◌∷◌, ◌++◌, Option, Some, None}
+use Rattle.std.proofs.Common.{length, refl, sym, ◌∙◌, ap, subst, arith, cond, append_assoc, length-append, length-drop}
 use Rattle.std.specs.Prelude.{◌==◌, drop, slice_index}
 use Rattle.std.specs.Char.{is_ascii_hexdigit, is_ascii_uppercase, to_ascii_lowercase, to_ascii_uppercase, encode_utf8, len_utf8}
+use Rattle.std.proofs.Math.Seq.{get_or-append_seam, set-append_seam, take-append_seam}
 use Rattle.std.proofs.lemmas.Bool.Decides.{nat_tests}
 use Rattle.std.proofs.lemmas.Str.{encode_ascii, length-encode}
+use Rattle.std.proofs.lemmas.List.{length-map}
 use Rattle.iri_grammar.specs.Classes.{Tests, IsSpec}
 use Rattle.iri_grammar.specs.Parts.{Parts}
+use Rattle.iri_grammar.proofs.CutLaws.{by_test}
 use Rattle.iri_percent.specs.NormalLaws.{decoded}
 use Rattle.iri_percent.proofs.NormalLaws.{normal_nil, normal_plain, normal_kept}
 use Rattle.iri_percent.specs.inside.Pieces.{case_of}
+use Rattle.iri_percent.proofs.CaseLaws.{encode_case, is_decoded}
+use Rattle.iri_percent.proofs.Changes.{case_is, decodes}
+use Rattle.iri_percent.proofs.ClassLaws.{other_same}
 use Rattle.iri_percent.proofs.Reading.{whole_plain, whole_triplet, percent_follows}
 use Rattle.iri_percent.proofs.Stability.{upper_hex, encode_percent, unreserved_percent}
+use Rattle.iri_percent.proofs.WholeLaws.{lacks-whole}
 use Rattle.iri_percent.specs.Triplets.{normal}
 use Rattle.iri_percent.specs.Units.{octets, whole_triplets}
-use Rattle.iri_percent.proofs.Changes.{case_is, decodes}
-use Rattle.std.proofs.lemmas.List.{length-map}
-use Rattle.iri_percent.proofs.CaseLaws.{encode_case}
-use Rattle.iri_percent.proofs.WholeLaws.{lacks-whole}
-use Rattle.iri_resolve.specs.Changes.{is_small_digit}
-use Rattle.iri_resolve.specs.inside.ComponentSteps.{letter_steps, digit_steps, OneStep, Reach, GoesOn, Moves, Walked, IsLed}
-use Rattle.iri_resolve.proofs.Leads.{replayed-append, not-whole, whole-append, whole_nil, whole_percent, decoded-after, capital_same}
-use Rattle.iri_resolve.specs.Steps.{onward, replayed_in}
-use Rattle.iri_resolve.specs.declared.component.Component.{Component}
+use Rattle.iri_resolve.specs.Changes.{is_small_digit, with_capital_digit, with_decoded, with_small_host_letter, with_small_letter}
+use Rattle.iri_resolve.specs.NormalSteps.{Prefix, byte_prefix, component_steps, digit_steps, letter_steps, prefix_of, triplet_prefix}
+use Rattle.iri_resolve.specs.Steps.{step_in}
+use Rattle.iri_resolve.proofs.ChangeKeeps.{capital-keeps, decoding-keeps}
+use Rattle.iri_resolve.proofs.Leads.{Led, led-nothing, led-step, led-on, not-whole, whole-append, whole_nil, whole_percent}
+use Rattle.iri_resolve.proofs.Leads.{capital-at, capital_same, decoded-at}
+use Rattle.iri_resolve.proofs.Places.{IsPlace}
+use Rattle.iri_resolve.specs.declared.step.Part.{Part}
 use Rattle.iri_resolve.specs.declared.step.Step.{Step}
 use Rattle.iri_resolve.specs.declared.step.Step.TheVariants.{HostLetter, HexDigit, Decode}
 
--- ---- one step more
-pub reach-step : (s : Tests) (t u v : Parts) (l : List Step) (x : Step) (good next : Bool) → Reach s t l u good → OneStep s u x v next
-    → Reach s t (l ++ x ∷ []) v next
-unfolding replayed_in
-reach-step s t u v l x good next r o = record {
-  leads = replayed-append s t u l (x ∷ []) r.leads ∙ ap (λ p. onward p (λ w. Some w)) o.leads;
-  kept = o.kept;
-}
-
-no_more : (s : Tests) (t u : Parts) (l : List Step) (good : Bool) → Reach s t l u good → Reach s t (l ++ []) u good
-no_more s t u l good r = subst (λ m. Reach s t m u good) (sym (append-nil l)) r
-
 -- ---- letters
-small_same : (x : ℕ) → is_ascii_uppercase x ≡ false → to_ascii_lowercase x ≡ x
-small_same x h = grind (arith, nat_tests)
-
-case-kept : (lower : Bool) (x : ℕ) → (lower && is_ascii_uppercase x) ≡ false → case_of lower x ≡ x
-case-kept true x h = small_same x h
-case-kept false x h = refl
-
 case-lowered : (lower : Bool) (x : ℕ) → (lower && is_ascii_uppercase x) ≡ true
     → (case_of lower x ≡ to_ascii_lowercase x) × (lower ≡ true) × (is_ascii_uppercase x ≡ true)
 case-lowered true x h = (refl, refl, h)
 case-lowered false x h = cc
 
--- a byte outside triplets, behind what is in normal form
-letter-goes : (s : Tests) (p : Component) (a r : List ℕ) (x at : ℕ) (l : List Step) (b : Bool) → (p.lower && is_ascii_uppercase x) ≡ b
-    → whole_triplets a ≡ true → at ≡ p.start + length a → GoesOn s p (a ++ x ∷ r) l (a ++ case_of p.lower x ∷ r) (l ++ letter_steps b at)
-letter-goes s p a r x at l true h w e t ok put c q =
-    let k = case-lowered p.lower x h in
-    let o = c.letter a r x k.1 w k.2 q.kept in
-    subst (λ y. Reach s t (l ++ HostLetter at ∷ []) (put (a ++ y ∷ r)) (ok (a ++ y ∷ r))) (sym k.0)
-    (subst (λ i. Reach s t (l ++ HostLetter i ∷ []) (put (a ++ to_ascii_lowercase x ∷ r)) (ok (a ++ to_ascii_lowercase x ∷ r))) (sym e)
-    (reach-step s t (put (a ++ x ∷ r)) (put (a ++ to_ascii_lowercase x ∷ r)) l (HostLetter (p.start + length a)) (ok (a ++ x ∷ r))
-    (ok (a ++ to_ascii_lowercase x ∷ r)) q o))
-letter-goes s p a r x at l false h w e t ok put c q =
-    subst (λ y. Reach s t (l ++ []) (put (a ++ y ∷ r)) (ok (a ++ y ∷ r))) (sym (case-kept p.lower x h))
-    (no_more s t (put (a ++ x ∷ r)) l (ok (a ++ x ∷ r)) q)
-
-one-byte : (a r : List ℕ) (x : ℕ) → a ++ x ∷ r ≡ (a ++ x ∷ []) ++ r
-one-byte a r x = sym (append_assoc a (x ∷ []) r)
+case-kept : (lower : Bool) (x : ℕ) → (lower && is_ascii_uppercase x) ≡ false → case_of lower x ≡ x
+case-kept true x h = other_same x h
+case-kept false x h = refl
 
 plain_case : (lower : Bool) (x : ℕ) → (x == 37) ≡ false → (case_of lower x == 37) ≡ false
 plain_case true x h = grind (arith, nat_tests)
 plain_case false x h = h
 
-pub plain-moves : (s : Tests) (p : Component) (at x : ℕ) (xs : List ℕ) (l m : List Step) (b : Bool) → whole_triplets (x ∷ xs) ≡ true
-    → (x == 37) ≡ false → (p.lower && is_ascii_uppercase x) ≡ b → m ≡ l ++ letter_steps b at → Moves s p at (x ∷ xs) 1 1 l m
-plain-moves s p at x xs l m b w n h e = record {
-  front = case_of p.lower x ∷ [];
-  len = refl;
-  some = omega arith;
-  shorter = omega arith;
-  within = omega arith;
-  whole = whole_plain (case_of p.lower x) [] (plain_case p.lower x n) ∙ whole_nil;
-  whole_rest = sym (whole_plain x xs n) ∙ w;
-  form = normal_plain s (case_of p.lower) x xs n;
-  leads = λ a v i.
-      subst (λ k. GoesOn s p (a ++ x ∷ xs) l ((a ++ case_of p.lower x ∷ []) ++ xs) k) (sym e)
-      (subst (λ y. GoesOn s p (a ++ x ∷ xs) l y (l ++ letter_steps b at)) (one-byte a xs (case_of p.lower x))
-      (letter-goes s p a xs x at l b h v i));
-}
+letter-at : (a r : List ℕ) (x : ℕ) → whole_triplets a ≡ true → is_ascii_uppercase x ≡ true
+    → with_small_host_letter (length a) (a ++ x ∷ r) ≡ Some (a ++ to_ascii_lowercase x ∷ r)
+unfolding with_small_host_letter with_small_letter
+letter-at a r x w h = rw (take-append_seam a (x ∷ r), w, get_or-append_seam a x r 0, h)
+    (ap Some (set-append_seam a x r (to_ascii_lowercase x)))
 
--- ---- the digits of a triplet
-digit-goes : (s : Tests) (p : Component) (a r : List ℕ) (x at : ℕ) (l : List Step) (b : Bool) → is_small_digit x ≡ b
-    → is_ascii_hexdigit x ≡ true → whole_triplets a ≡ false → at ≡ p.start + length a
-    → GoesOn s p (a ++ x ∷ r) l (a ++ to_ascii_uppercase x ∷ r) (l ++ cond b (HexDigit p.part at ∷ []) [])
-digit-goes s p a r x at l true h d w e t ok put c q =
-    let o = c.digit a r x w h q.kept in
-    subst (λ i. Reach s t (l ++ HexDigit p.part i ∷ []) (put (a ++ to_ascii_uppercase x ∷ r)) (ok (a ++ to_ascii_uppercase x ∷ r))) (sym e)
-    (reach-step s t (put (a ++ x ∷ r)) (put (a ++ to_ascii_uppercase x ∷ r)) l (HexDigit p.part (p.start + length a)) (ok (a ++ x ∷ r))
-    (ok (a ++ to_ascii_uppercase x ∷ r)) q o)
-digit-goes s p a r x at l false h d w e t ok put c q =
-    subst (λ y. Reach s t (l ++ []) (put (a ++ y ∷ r)) (ok (a ++ y ∷ r))) (sym (capital_same x d h))
-    (no_more s t (put (a ++ x ∷ r)) l (ok (a ++ x ∷ r)) q)
-
-digits-go : (s : Tests) (p : Component) (a r : List ℕ) (x y at : ℕ) (l : List Step) → is_ascii_hexdigit x ≡ true
-    → is_ascii_hexdigit y ≡ true → at ≡ p.start + length a
-    → GoesOn s p (a ++ 37 ∷ x ∷ y ∷ r) l ((a ++ 37 ∷ to_ascii_uppercase x ∷ to_ascii_uppercase y ∷ []) ++ r)
-    ((l ++ digit_steps p.part (at + 1) x) ++ digit_steps p.part (at + 2) y)
-unfolding whole_triplets
-digits-go s p a r x y at l dx dy e t ok put c q =
-    let X = to_ascii_uppercase x in
-    let Y = to_ascii_uppercase y in
-    let n = l ++ digit_steps p.part (at + 1) x in
-    let group : (z : ℕ) (w : List ℕ) → (a ++ 37 ∷ []) ++ z ∷ w ≡ a ++ 37 ∷ z ∷ w = λ z w. append_assoc a (37 ∷ []) (z ∷ w) in
-    let pair : (z v : ℕ) (w : List ℕ) → (a ++ 37 ∷ z ∷ []) ++ v ∷ w ≡ a ++ 37 ∷ z ∷ v ∷ w = λ z v w. append_assoc a (37 ∷ z ∷ []) (v ∷ w) in
-    let first = digit-goes s p (a ++ 37 ∷ []) (y ∷ r) x (at + 1) l (is_small_digit x) refl dx (not-whole a (37 ∷ []) whole_percent)
-    (omega (arith, e, length-append a (37 ∷ []))) t ok put c (subst (λ z. Reach s t l (put z) (ok z)) (sym (group x (y ∷ r))) q) in
-    let one : Reach s t n (put (a ++ 37 ∷ X ∷ y ∷ r)) (ok (a ++ 37 ∷ X ∷ y ∷ r)) =
-    subst (λ z. Reach s t n (put z) (ok z)) (group X (y ∷ r)) first in
-    let second = digit-goes s p (a ++ 37 ∷ X ∷ []) r y (at + 2) n (is_small_digit y) refl dy (not-whole a (37 ∷ X ∷ []) refl)
-    (omega (arith, e, length-append a (37 ∷ X ∷ []))) t ok put c (subst (λ z. Reach s t n (put z) (ok z)) (sym (pair X y r)) one) in
-    subst (λ z. Reach s t (n ++ digit_steps p.part (at + 2) y) (put z) (ok z))
-    (pair X Y r ∙ sym (append_assoc a (37 ∷ X ∷ Y ∷ []) r)) second
-
-digits-moves : (s : Tests) (p : Component) (at x y : ℕ) (r : List ℕ) (l : List Step) → whole_triplets r ≡ true → is_ascii_hexdigit x ≡ true
-    → is_ascii_hexdigit y ≡ true → decoded s (octets (37 ∷ x ∷ y ∷ r)) ≡ None
-    → Moves s p at (37 ∷ x ∷ y ∷ r) 3 3 l ((l ++ digit_steps p.part (at + 1) x) ++ digit_steps p.part (at + 2) y)
-digits-moves s p at x y r l w dx dy n = record {
-  front = 37 ∷ to_ascii_uppercase x ∷ to_ascii_uppercase y ∷ [];
-  len = refl;
-  some = omega arith;
-  shorter = omega arith;
-  within = omega arith;
-  whole = whole_triplet (to_ascii_uppercase x) (to_ascii_uppercase y) [] (upper_hex x dx) (upper_hex y dy) ∙ whole_nil;
-  whole_rest = w;
-  form = normal_kept s (case_of p.lower) x y r dx dy n;
-  leads = λ a v i. digits-go s p a r x y at l dx dy i;
-}
-
--- a text with whole triplets that begins with a `%`
-pub triplet-moves : (s : Tests) (p : Component) (at x : ℕ) (xs : List ℕ) (l m : List Step) → whole_triplets (x ∷ xs) ≡ true → x ≡ 37
-    → decoded s (octets (x ∷ xs)) ≡ None → m ≡ (l ++ digit_steps p.part (at + 1) (slice_index (x ∷ xs) 1))
-    ++ digit_steps p.part (at + 2) (slice_index (x ∷ xs) 2) → Moves s p at (x ∷ xs) 3 3 l m
-triplet-moves s p at x xs l m w e n h =
-    let whole : whole_triplets (37 ∷ xs) ≡ true = ap (λ z. whole_triplets (z ∷ xs)) (sym e) ∙ w in
-    let g = percent_follows xs whole in
-    let text : x ∷ xs ≡ 37 ∷ g.a ∷ g.b ∷ g.ys = ap (λ z. z ∷ xs) e ∙ ap (λ z. 37 ∷ z) g.text in
-    let rest : whole_triplets g.ys ≡ true = sym (whole_triplet g.a g.b g.ys g.first g.second) ∙ ap whole_triplets (sym text) ∙ w in
-    let steps : (l ++ digit_steps p.part (at + 1) g.a) ++ digit_steps p.part (at + 2) g.b ≡ m =
-    ap (λ t. (l ++ digit_steps p.part (at + 1) (slice_index t 1)) ++ digit_steps p.part (at + 2) (slice_index t 2))
-    (sym text) ∙ sym h in
-    subst (λ t. Moves s p at t 3 3 l m) (sym text)
-    (subst (λ k. Moves s p at (37 ∷ g.a ∷ g.b ∷ g.ys) 3 3 l k) steps
-    (digits-moves s p at g.a g.b g.ys l rest g.first g.second (ap (λ t. decoded s (octets t)) (sym text) ∙ n)))
-
--- ---- a character
 capital_low : (c : ℕ) → is_ascii_uppercase c ≡ true → (c < 128) × (to_ascii_lowercase c < 128)
 capital_low c h = (low c h, still c h)
   where
@@ -163,117 +61,248 @@ capital_low c h = (low c h, still c h)
     still : (c : ℕ) → is_ascii_uppercase c ≡ true → to_ascii_lowercase c < 128
     still c h = grind (arith, nat_tests)
 
-char-letter : (s : Tests) (p : Component) (a r : List ℕ) (c at : ℕ) (l : List Step) (b : Bool) → (p.lower && is_ascii_uppercase c) ≡ b
-    → whole_triplets a ≡ true → at ≡ p.start + length a
-    → GoesOn s p (a ++ (encode_utf8 c ++ r)) l (a ++ (encode_utf8 (case_of p.lower c) ++ r)) (l ++ letter_steps b at)
-char-letter s p a r c at l true h w e t ok put i q =
-    let k = case-lowered p.lower c h in
-    let low = capital_low c k.2 in
-    let old : encode_utf8 c ≡ c ∷ [] = encode_ascii c low.0 in
-    let new : encode_utf8 (case_of p.lower c) ≡ case_of p.lower c ∷ [] =
-    encode_ascii (case_of p.lower c) (subst (λ z. z < 128) (sym k.0) low.1) in
-    subst (λ z. GoesOn s p (a ++ (z ++ r)) l (a ++ (encode_utf8 (case_of p.lower c) ++ r)) (l ++ letter_steps true at)) (sym old)
-    (subst (λ z. GoesOn s p (a ++ c ∷ r) l (a ++ (z ++ r)) (l ++ letter_steps true at)) (sym new)
-    (letter-goes s p a r c at l true h w e)) t ok put i q
-char-letter s p a r c at l false h w e t ok put i q =
-    subst (λ y. Reach s t (l ++ []) (put (a ++ (encode_utf8 y ++ r))) (ok (a ++ (encode_utf8 y ++ r)))) (sym (case-kept p.lower c h))
-    (no_more s t (put (a ++ (encode_utf8 c ++ r))) l (ok (a ++ (encode_utf8 c ++ r))) q)
+-- ---- what is done to a text in its place
+module _ (s : Tests) (part : Part) (lower : Bool) (start : ℕ) (ok : List ℕ → Bool) (put : List ℕ → Parts) (p : IsPlace s part lower start ok put) where
+  letter-led : (a r : List ℕ) (x at : ℕ) → whole_triplets a ≡ true → at ≡ start + length a → ok (a ++ x ∷ r) ≡ true
+      → Led s ok put (a ++ x ∷ r) (letter_steps (lower && is_ascii_uppercase x) at) (a ++ case_of lower x ∷ r)
+  letter-led a r x at w e h =
+      elim (lower && is_ascii_uppercase x) as (λ b. (lower && is_ascii_uppercase x) ≡ b
+      → Led s ok put (a ++ x ∷ r) (letter_steps b at) (a ++ case_of lower x ∷ r)) [
+        | true ↦ λ g.
+            let c = case-lowered lower x g in
+            let q = p.letter (length a) (a ++ x ∷ r) (a ++ to_ascii_lowercase x ∷ r) c.1 h (letter-at a r x w c.2) in
+            rw (c.0, e) (led-step s ok put (a ++ x ∷ r) (a ++ to_ascii_lowercase x ∷ r) (HostLetter (start + length a)) q.0 q.1)
+        | false ↦ λ g. rw (case-kept lower x g) (led-nothing s ok put (a ++ x ∷ r) h)
+      ] refl
 
-pub decoded-moves : (s : Tests) (p : Component) (at x c : ℕ) (xs : List ℕ) (l m : List Step) (b : Bool) → IsSpec s
-    → whole_triplets (x ∷ xs) ≡ true → x ≡ 37 → decoded s (octets (x ∷ xs)) ≡ Some c → (p.lower && is_ascii_uppercase c) ≡ b
-    → m ≡ (l ++ Decode p.part at ∷ []) ++ letter_steps b at → Moves s p at (x ∷ xs) (3 * len_utf8 c) (len_utf8 c) l m
-decoded-moves s p at x c xs l m b k w e n h q =
-    let t = x ∷ xs in
-    let f = case_of p.lower in
-    let r = decodes s p.lower t c w e n in
-    let zero : 0 + 3 * len_utf8 c ≡ 3 * len_utf8 c = omega arith in
-    let free = decoded-after s [] t c n in
-    let percent = unreserved_percent s c k free.3 in
+  digit-led : (a r : List ℕ) (x at : ℕ) → whole_triplets a ≡ false → is_ascii_hexdigit x ≡ true → at ≡ start + length a
+      → ok (a ++ x ∷ r) ≡ true → Led s ok put (a ++ x ∷ r) (digit_steps part at x) (a ++ to_ascii_uppercase x ∷ r)
+  unfolding step_in
+  digit-led a r x at w d e h =
+      elim (is_small_digit x) as (λ b. is_small_digit x ≡ b
+      → Led s ok put (a ++ x ∷ r) (cond b (HexDigit part at ∷ []) []) (a ++ to_ascii_uppercase x ∷ r)) [
+        | true ↦ λ g.
+            let q = p.triplets with_capital_digit (length a) (a ++ x ∷ r) (a ++ to_ascii_uppercase x ∷ r) (capital-keeps s) h
+            (capital-at a r x w g) in
+            rw e (led-step s ok put (a ++ x ∷ r) (a ++ to_ascii_uppercase x ∷ r) (HexDigit part (start + length a)) q.0 q.1)
+        | false ↦ λ g. rw (capital_same x d g) (led-nothing s ok put (a ++ x ∷ r) h)
+      ] refl
+
+  -- the digits of a triplet that stays
+  digits-led : (a r : List ℕ) (x y at : ℕ) → is_ascii_hexdigit x ≡ true → is_ascii_hexdigit y ≡ true → at ≡ start + length a
+      → ok (a ++ 37 ∷ x ∷ y ∷ r) ≡ true
+      → Led s ok put (a ++ 37 ∷ x ∷ y ∷ r) (digit_steps part (at + 1) x ++ digit_steps part (at + 2) y)
+      ((a ++ 37 ∷ to_ascii_uppercase x ∷ to_ascii_uppercase y ∷ []) ++ r)
+  unfolding whole_triplets
+  digits-led a r x y at dx dy e h =
+      let X = to_ascii_uppercase x in
+      let Y = to_ascii_uppercase y in
+      let group : (z : ℕ) (w : List ℕ) → (a ++ 37 ∷ []) ++ z ∷ w ≡ a ++ 37 ∷ z ∷ w = λ z w. append_assoc a (37 ∷ []) (z ∷ w) in
+      let pair : (z v : ℕ) (w : List ℕ) → (a ++ 37 ∷ z ∷ []) ++ v ∷ w ≡ a ++ 37 ∷ z ∷ v ∷ w =
+      λ z v w. append_assoc a (37 ∷ z ∷ []) (v ∷ w) in
+      let one : Led s ok put (a ++ 37 ∷ x ∷ y ∷ r) (digit_steps part (at + 1) x) (a ++ 37 ∷ X ∷ y ∷ r) =
+      subst (λ z. Led s ok put z (digit_steps part (at + 1) x) (a ++ 37 ∷ X ∷ y ∷ r)) (group x (y ∷ r))
+      (subst (λ z. Led s ok put ((a ++ 37 ∷ []) ++ x ∷ y ∷ r) (digit_steps part (at + 1) x) z) (group X (y ∷ r))
+      (digit-led (a ++ 37 ∷ []) (y ∷ r) x (at + 1) (not-whole a (37 ∷ []) whole_percent) dx
+      (omega (arith, e, length-append a (37 ∷ []))) (ap ok (group x (y ∷ r)) ∙ h))) in
+      let two = digit-led (a ++ 37 ∷ X ∷ []) r y (at + 2) (not-whole a (37 ∷ X ∷ []) refl) dy
+      (omega (arith, e, length-append a (37 ∷ X ∷ []))) (ap ok (pair X y r) ∙ one.good) in
+      led-on s ok put (a ++ 37 ∷ x ∷ y ∷ r) (a ++ 37 ∷ X ∷ y ∷ r) ((a ++ 37 ∷ X ∷ Y ∷ []) ++ r) (digit_steps part (at + 1) x)
+      (digit_steps part (at + 2) y) one
+      (subst (λ z. Led s ok put z (digit_steps part (at + 2) y) ((a ++ 37 ∷ X ∷ Y ∷ []) ++ r)) (pair X y r)
+      (subst (λ z. Led s ok put ((a ++ 37 ∷ X ∷ []) ++ y ∷ r) (digit_steps part (at + 2) y) z)
+      (pair X Y r ∙ sym (append_assoc a (37 ∷ X ∷ Y ∷ []) r)) two))
+
+  -- a letter that was decoded
+  char-led : (a r : List ℕ) (c at : ℕ) → whole_triplets a ≡ true → at ≡ start + length a → ok (a ++ (encode_utf8 c ++ r)) ≡ true
+      → Led s ok put (a ++ (encode_utf8 c ++ r)) (letter_steps (lower && is_ascii_uppercase c) at) (a ++ (encode_utf8 (case_of lower c) ++ r))
+  char-led a r c at w e h =
+      elim (lower && is_ascii_uppercase c) as (λ b. (lower && is_ascii_uppercase c) ≡ b
+      → Led s ok put (a ++ (encode_utf8 c ++ r)) (letter_steps b at) (a ++ (encode_utf8 (case_of lower c) ++ r))) [
+        | true ↦ λ g.
+            let k = case-lowered lower c g in
+            let low = capital_low c k.2 in
+            let old : encode_utf8 c ≡ c ∷ [] = encode_ascii c low.0 in
+            let new : encode_utf8 (case_of lower c) ≡ case_of lower c ∷ [] =
+            encode_ascii (case_of lower c) (subst (λ z. z < 128) (sym k.0) low.1) in
+            subst (λ z. Led s ok put (a ++ (z ++ r)) (letter_steps true at) (a ++ (encode_utf8 (case_of lower c) ++ r))) (sym old)
+            (subst (λ z. Led s ok put (a ++ c ∷ r) (letter_steps true at) (a ++ (z ++ r))) (sym new)
+            (subst (λ b. Led s ok put (a ++ c ∷ r) (letter_steps b at) (a ++ case_of lower c ∷ r)) g
+            (letter-led a r c at w e (ap (λ z. ok (a ++ (z ++ r))) (sym old) ∙ h))))
+        | false ↦ λ g. rw (case-kept lower c g) (led-nothing s ok put (a ++ (encode_utf8 c ++ r)) h)
+      ] refl
+
+  decode-led : (a t : List ℕ) (c at : ℕ) → IsSpec s → whole_triplets a ≡ true → decoded s (octets t) ≡ Some c → at ≡ start + length a
+      → ok (a ++ t) ≡ true → Led s ok put (a ++ t) (Decode part at ∷ letter_steps (lower && is_ascii_uppercase c) at)
+      ((a ++ encode_utf8 (case_of lower c)) ++ drop (3 * len_utf8 c) t)
+  unfolding step_in
+  decode-led a t c at k w d e h =
+      let r = drop (3 * len_utf8 c) t in
+      let q = p.triplets (with_decoded s) (length a) (a ++ t) (a ++ (encode_utf8 c ++ r)) (decoding-keeps s k) h (decoded-at s a t c d) in
+      let one = led-step s ok put (a ++ t) (a ++ (encode_utf8 c ++ r)) (Decode part (start + length a)) q.0 q.1 in
+      let two = char-led a r c at w e one.good in
+      led-on s ok put (a ++ t) (a ++ (encode_utf8 c ++ r)) ((a ++ encode_utf8 (case_of lower c)) ++ r) (Decode part at ∷ [])
+      (letter_steps (lower && is_ascii_uppercase c) at)
+      (subst (λ i. Led s ok put (a ++ t) (Decode part i ∷ []) (a ++ (encode_utf8 c ++ r))) (sym e) one)
+      (subst (λ z. Led s ok put (a ++ (encode_utf8 c ++ r)) (letter_steps (lower && is_ascii_uppercase c) at) z)
+      (sym (append_assoc a (encode_utf8 (case_of lower c)) r)) two)
+
+-- ---- what a text begins with
+pub record IsPrefix (s : Tests) (part : Part) (lower : Bool) (at : ℕ) (t : List ℕ) (p : Prefix) : Type 0 where
+  pub text : List ℕ
+  pub long : length text ≡ p.normal_len
+  pub some : 0 < p.len
+  pub shorter : p.normal_len ≤ p.len
+  pub within : p.len ≤ length t
+  pub whole : whole_triplets text ≡ true
+  pub whole_rest : whole_triplets (drop p.len t) ≡ true
+  pub form : normal s (case_of lower) t ≡ text ++ normal s (case_of lower) (drop p.len t)
+  pub leads : (start : ℕ) (ok : List ℕ → Bool) (put : List ℕ → Parts) → IsPlace s part lower start ok put → (a : List ℕ)
+      → whole_triplets a ≡ true → at ≡ start + length a → ok (a ++ t) ≡ true → Led s ok put (a ++ t) p.steps ((a ++ text) ++ drop p.len t)
+
+module _ (s : Tests) (k : IsSpec s) (part : Part) (lower : Bool) (at : ℕ) where
+  byte-is : (x : ℕ) (xs : List ℕ) → whole_triplets (x ∷ xs) ≡ true → (x == 37) ≡ false
+      → IsPrefix s part lower at (x ∷ xs) (byte_prefix lower at x)
+  byte-is x xs w n = record {
+    text = case_of lower x ∷ [];
+    long = refl;
+    some = omega arith;
+    shorter = omega arith;
+    within = omega arith;
+    whole = whole_plain (case_of lower x) [] (plain_case lower x n) ∙ whole_nil;
+    whole_rest = sym (whole_plain x xs n) ∙ w;
+    form = normal_plain s (case_of lower) x xs n;
+    leads = λ start ok put p a v e h.
+        subst (λ z. Led s ok put (a ++ x ∷ xs) (letter_steps (lower && is_ascii_uppercase x) at) z)
+        (sym (append_assoc a (case_of lower x ∷ []) xs)) (letter-led s part lower start ok put p a xs x at v e h);
+  }
+
+  kept-is : (x y : ℕ) (r : List ℕ) → whole_triplets r ≡ true → is_ascii_hexdigit x ≡ true → is_ascii_hexdigit y ≡ true
+      → decoded s (octets (37 ∷ x ∷ y ∷ r)) ≡ None
+      → IsPrefix s part lower at (37 ∷ x ∷ y ∷ r) (triplet_prefix part lower at (37 ∷ x ∷ y ∷ r) None)
+  kept-is x y r w dx dy n = record {
+    text = 37 ∷ to_ascii_uppercase x ∷ to_ascii_uppercase y ∷ [];
+    long = refl;
+    some = omega arith;
+    shorter = omega arith;
+    within = omega arith;
+    whole = whole_triplet (to_ascii_uppercase x) (to_ascii_uppercase y) [] (upper_hex x dx) (upper_hex y dy) ∙ whole_nil;
+    whole_rest = w;
+    form = normal_kept s (case_of lower) x y r dx dy n;
+    leads = λ start ok put p a v e h. digits-led s part lower start ok put p a r x y at dx dy e h;
+  }
+
+  decoded-is : (t : List ℕ) (c : ℕ) → whole_triplets t ≡ true → slice_index t 0 ≡ 37 → decoded s (octets t) ≡ Some c
+      → IsPrefix s part lower at t (triplet_prefix part lower at t (Some c))
+  decoded-is t c w e d =
+      let f = case_of lower in
+      let r = decodes s lower t c w e d in
+      let zero : 0 + 3 * len_utf8 c ≡ 3 * len_utf8 c = omega arith in
+      let percent = unreserved_percent s c k (is_decoded s (octets t) c d).1 in
+      record {
+        text = encode_utf8 (f c);
+        long = ap length (sym (encode_case f c (case_is lower))) ∙ length-map (encode_utf8 c) f ∙ length-encode c;
+        some = omega (arith, r.some);
+        shorter = omega arith;
+        within = omega (arith, r.within);
+        whole = lacks-whole (encode_utf8 (f c)) (encode_percent (f c) (plain_case lower c percent));
+        whole_rest = ap (λ i. whole_triplets (drop i t)) (sym zero) ∙ r.whole;
+        form = r.text ∙ ap (λ i. encode_utf8 (f c) ++ normal s f (drop i t)) zero;
+        leads = λ start ok put p a v i h. decode-led s part lower start ok put p a t c at k v d i h;
+      }
+
+  triplet-is : (x : ℕ) (xs : List ℕ) (o : Option ℕ) → whole_triplets (x ∷ xs) ≡ true → x ≡ 37 → decoded s (octets (x ∷ xs)) ≡ o
+      → IsPrefix s part lower at (x ∷ xs) (triplet_prefix part lower at (x ∷ xs) o)
+  triplet-is x xs (Some c) w e d = decoded-is (x ∷ xs) c w e d
+  triplet-is x xs None w e d =
+      let g = percent_follows xs (ap (λ z. whole_triplets (z ∷ xs)) (sym e) ∙ w) in
+      let text : x ∷ xs ≡ 37 ∷ g.a ∷ g.b ∷ g.ys = ap (λ z. z ∷ xs) e ∙ ap (λ z. 37 ∷ z) g.text in
+      let rest : whole_triplets g.ys ≡ true = sym (whole_triplet g.a g.b g.ys g.first g.second) ∙ ap whole_triplets (sym text) ∙ w in
+      subst (λ t. IsPrefix s part lower at t (triplet_prefix part lower at t None)) (sym text)
+      (kept-is g.a g.b g.ys rest g.first g.second (ap (λ t. decoded s (octets t)) (sym text) ∙ d))
+
+  pub prefix-is : (t : List ℕ) → whole_triplets t ≡ true → 0 < length t → IsPrefix s part lower at t (prefix_of s part lower at t)
+  prefix-is [] w h = absurd (omega arith)
+  prefix-is (x ∷ xs) w h =
+      by_test x 37 (λ b. (x == 37) ≡ b → IsPrefix s part lower at (x ∷ xs)
+      (cond b (triplet_prefix part lower at (x ∷ xs) (decoded s (octets (x ∷ xs)))) (byte_prefix lower at x)))
+      (λ e _. triplet-is x xs (decoded s (octets (x ∷ xs))) w e refl)
+      (λ _ n. byte-is x xs w n)
+      refl
+
+-- ---- the whole text
+skipped : (s : Tests) (part : Part) (lower : Bool) (n at : ℕ) (t : List ℕ)
+    → component_steps s part lower n at t ≡ component_steps s part lower 0 at (drop n t)
+unfolding component_steps
+skipped s part lower zero at t = refl
+skipped s part lower (suc n) at [] = refl
+skipped s part lower (suc n) at (x ∷ xs) = skipped s part lower n at xs
+
+pub next-steps : (s : Tests) (part : Part) (lower : Bool) (at : ℕ) (t : List ℕ) → 0 < length t → 0 < (prefix_of s part lower at t).len
+    → component_steps s part lower 0 at t ≡ (prefix_of s part lower at t).steps
+    ++ component_steps s part lower 0 (at + (prefix_of s part lower at t).normal_len) (drop (prefix_of s part lower at t).len t)
+unfolding component_steps
+next-steps s part lower at [] h g = absurd (omega arith)
+next-steps s part lower at (x ∷ xs) h g =
+    let p = prefix_of s part lower at (x ∷ xs) in
+    let n : p.len ≡ suc (p.len - 1) = omega arith in
+    ap (λ l. p.steps ++ l) (skipped s part lower (p.len - 1) (at + p.normal_len) xs
+    ∙ ap (λ i. component_steps s part lower 0 (at + p.normal_len) (drop i (x ∷ xs))) (sym n))
+
+pub no-steps : (s : Tests) (part : Part) (lower : Bool) (at : ℕ) → component_steps s part lower 0 at [] ≡ []
+unfolding component_steps
+no-steps s part lower at = refl
+
+module _ (s : Tests) (k : IsSpec s) (part : Part) (lower : Bool) (start : ℕ) (ok : List ℕ → Bool) (put : List ℕ → Parts) (c : IsPlace s part lower start ok put) where
+  goes : (n : ℕ) (a t : List ℕ) (at : ℕ) → length t ≤ n → whole_triplets a ≡ true → whole_triplets t ≡ true → at ≡ start + length a
+      → ok (a ++ t) ≡ true → Led s ok put (a ++ t) (component_steps s part lower 0 at t) (a ++ normal s (case_of lower) t)
+  goes n a [] at l w v e h = rw (no-steps s part lower at, normal_nil s (case_of lower)) (led-nothing s ok put (a ++ []) h)
+  goes zero a (x ∷ xs) at l w v e h = absurd (omega arith)
+  goes (suc n) a (x ∷ xs) at l w v e h =
+      let t = x ∷ xs in
+      let f = case_of lower in
+      let p = prefix_of s part lower at t in
+      let q = prefix-is s k part lower at t v (omega arith) in
+      let r = drop p.len t in
+      let m = component_steps s part lower 0 (at + p.normal_len) r in
+      let one = q.leads start ok put c a w e h in
+      let two = goes n (a ++ q.text) r (at + p.normal_len) (omega (arith, l, q.some, length-drop p.len t)) (whole-append a q.text w q.whole)
+      q.whole_rest (omega (arith, e, q.long, length-append a q.text)) one.good in
+      let text : (a ++ q.text) ++ normal s f r ≡ a ++ normal s f t = append_assoc a q.text (normal s f r) ∙ ap (λ z. a ++ z) (sym q.form) in
+      subst (λ i. Led s ok put (a ++ t) i (a ++ normal s f t)) (sym (next-steps s part lower at t (omega arith) q.some))
+      (subst (λ z. Led s ok put (a ++ t) (p.steps ++ m) z) text
+      (led-on s ok put (a ++ t) ((a ++ q.text) ++ r) ((a ++ q.text) ++ normal s f r) p.steps m one two))
+
+  pub component-led : (t : List ℕ) → whole_triplets t ≡ true → ok t ≡ true
+      → Led s ok put t (component_steps s part lower 0 start t) (normal s (case_of lower) t)
+  component-led t w h = goes (length t) [] t start (omega arith) whole_nil w (omega arith) h
+
+-- ---- as it is written: so much is done, and the steps of the rest follow
+pub record Walked (s : Tests) (part : Part) (lower : Bool) (start : ℕ) (x : List ℕ) (at : ℕ) (t : List ℕ) (l m : List Step) : Type 0 where
+  pub steps : l ++ component_steps s part lower 0 start x ≡ m ++ component_steps s part lower 0 at t
+  pub place : at + length (normal s (case_of lower) t) ≡ start + length (normal s (case_of lower) x)
+  pub room : at + length t ≤ start + length x
+  pub whole : whole_triplets t ≡ true
+
+pub walked-on : (s : Tests) (part : Part) (lower : Bool) (start : ℕ) (x : List ℕ) (at : ℕ) (t : List ℕ) (l m n : List Step) → IsSpec s
+    → 0 < length t → Walked s part lower start x at t l m → n ≡ m ++ (prefix_of s part lower at t).steps
+    → Walked s part lower start x (at + (prefix_of s part lower at t).normal_len) (drop (prefix_of s part lower at t).len t) l n
+walked-on s part lower start x at t l m n k h w e =
+    let f = case_of lower in
+    let p = prefix_of s part lower at t in
+    let q = prefix-is s k part lower at t w.whole h in
+    let r = drop p.len t in
     record {
-      front = encode_utf8 (f c);
-      len = ap length (sym (encode_case f c (case_is p.lower))) ∙ length-map (encode_utf8 c) f ∙ length-encode c;
-      some = omega (arith, r.some);
-      shorter = omega arith;
-      within = omega (arith, r.within);
-      whole = lacks-whole (encode_utf8 (f c)) (encode_percent (f c) (plain_case p.lower c percent));
-      whole_rest = ap (λ i. whole_triplets (drop i t)) (sym zero) ∙ r.whole;
-      form = r.text ∙ ap (λ i. encode_utf8 (f c) ++ normal s f (drop i t)) zero;
-      leads = λ a v i u ok put d z.
-          let g = decoded-after s a t c n in
-          let o = d.decode a t (a ++ (encode_utf8 c ++ g.0)) z.kept g.1 in
-          let one = reach-step s u (put (a ++ t)) (put (a ++ (encode_utf8 c ++ g.0))) l (Decode p.part (p.start + length a)) (ok (a ++ t))
-          (ok (a ++ (encode_utf8 c ++ g.0))) z o in
-          let here = subst (λ j. Reach s u (l ++ Decode p.part j ∷ []) (put (a ++ (encode_utf8 c ++ g.0)))
-          (ok (a ++ (encode_utf8 c ++ g.0)))) (sym i) one in
-          let two = char-letter s p a g.0 c at (l ++ Decode p.part at ∷ []) b h v i u ok put d here in
-          let text : a ++ (encode_utf8 (f c) ++ g.0) ≡ (a ++ encode_utf8 (f c)) ++ drop (3 * len_utf8 c) t =
-          sym (append_assoc a (encode_utf8 (f c)) g.0) ∙ ap (λ y. (a ++ encode_utf8 (f c)) ++ y) (sym g.2) in
-          subst (λ j. Reach s u j (put ((a ++ encode_utf8 (f c)) ++ drop (3 * len_utf8 c) t))
-          (ok ((a ++ encode_utf8 (f c)) ++ drop (3 * len_utf8 c) t))) (sym q)
-          (subst (λ y. Reach s u ((l ++ Decode p.part at ∷ []) ++ letter_steps b at) (put y) (ok y)) text two);
+      steps = w.steps ∙ ap (λ z. m ++ z) (next-steps s part lower at t h q.some)
+          ∙ sym (append_assoc m p.steps (component_steps s part lower 0 (at + p.normal_len) r))
+          ∙ ap (λ z. z ++ component_steps s part lower 0 (at + p.normal_len) r) (sym e);
+      place = omega (arith, w.place, ap length q.form, length-append q.text (normal s f r), q.long);
+      room = omega (arith, w.room, q.shorter, q.within, length-drop p.len t);
+      whole = q.whole_rest;
     }
 
--- ---- the walk
-pub walked-start : (s : Tests) (p : Component) (x : List ℕ) (l : List Step) → whole_triplets x ≡ true → Walked s p x p.start x l l
-walked-start s p x l w = record {
-  front = [];
-  place = omega arith;
-  room = omega arith;
-  whole = whole_nil;
-  whole_rest = w;
-  form = refl;
-  leads = λ t ok put c r. r;
-}
-
-pub walked-on : (s : Tests) (p : Component) (x rest : List ℕ) (at n k : ℕ) (l m o : List Step) → Walked s p x at rest l m
-    → Moves s p at rest n k m o → Walked s p x (at + k) (drop n rest) l o
-walked-on s p x rest at n k l m o w v =
-    let f = case_of p.lower in
-    let long : length (w.front ++ v.front) ≡ length w.front + length v.front = length-append w.front v.front in
-    record {
-      front = w.front ++ v.front;
-      place = omega (arith, w.place, long, v.len);
-      room = omega (arith, w.room, long, v.len, v.shorter, v.within, Rattle.std.proofs.lemmas.List.length-drop n rest);
-      whole = whole-append w.front v.front w.whole v.whole;
-      whole_rest = v.whole_rest;
-      form = w.form ∙ ap (λ z. w.front ++ z) v.form ∙ sym (append_assoc w.front v.front (normal s f (drop n rest)));
-      leads = λ t ok put c r. v.leads w.front w.whole w.place t ok put c (w.leads t ok put c r);
-    }
-
-pub walked-end : (s : Tests) (p : Component) (x rest : List ℕ) (at : ℕ) (l m : List Step) → rest ≡ [] → Walked s p x at rest l m
-    → IsLed s p x at l m
-walked-end s p x rest at l m e w =
-    let f = case_of p.lower in
-    let form : normal s f x ≡ w.front = w.form ∙ ap (λ z. w.front ++ normal s f z) e ∙ ap (λ z. w.front ++ z) (normal_nil s f)
-    ∙ append-nil w.front in
-    record {
-      place = w.place ∙ ap (λ z. p.start + length z) (sym form);
-      shorter = omega (arith, w.room, ap length form);
-      leads = λ t ok put c r. subst (λ z. Reach s t m (put z) (ok z)) (append-nil w.front ∙ sym form)
-          (subst (λ z. Reach s t m (put (w.front ++ z)) (ok (w.front ++ z))) e (w.leads t ok put c r));
-    }
-
--- ---- by the prefix of a text
-pub at-plain : (s : Tests) (p : Component) (at : ℕ) (t : List ℕ) (l m : List Step) → whole_triplets t ≡ true → 0 < length t
-    → (slice_index t 0 == 37) ≡ false → m ≡ l ++ letter_steps (p.lower && is_ascii_uppercase (slice_index t 0)) at → Moves s p at t 1 1 l m
-at-plain s p at [] l m w z n e = absurd (omega arith)
-at-plain s p at (x ∷ xs) l m w z n e = plain-moves s p at x xs l m (p.lower && is_ascii_uppercase x) w n refl e
-
-pub at-triplet : (s : Tests) (p : Component) (at : ℕ) (t : List ℕ) (l m : List Step) → whole_triplets t ≡ true → 0 < length t
-    → slice_index t 0 ≡ 37 → decoded s (octets t) ≡ None
-    → m ≡ (l ++ digit_steps p.part (at + 1) (slice_index t 1)) ++ digit_steps p.part (at + 2) (slice_index t 2) → Moves s p at t 3 3 l m
-at-triplet s p at [] l m w z n e q = absurd (omega arith)
-at-triplet s p at (x ∷ xs) l m w z n e q = triplet-moves s p at x xs l m w n e q
-
-pub at-decoded : (s : Tests) (p : Component) (at c : ℕ) (t : List ℕ) (l m : List Step) → IsSpec s → whole_triplets t ≡ true → 0 < length t
-    → slice_index t 0 ≡ 37 → decoded s (octets t) ≡ Some c
-    → m ≡ (l ++ Decode p.part at ∷ []) ++ letter_steps (p.lower && is_ascii_uppercase c) at
-    → Moves s p at t (3 * len_utf8 c) (len_utf8 c) l m
-at-decoded s p at c [] l m k w z n e q = absurd (omega arith)
-at-decoded s p at c (x ∷ xs) l m k w z n e q = decoded-moves s p at x c xs l m (p.lower && is_ascii_uppercase c) k w n e refl q
-
-pub apart : (x : ℕ) → x ≢ 37 → (x == 37) ≡ false
-apart x h = grind (arith, nat_tests)
+pub something : (t : List ℕ) → (length t == 0) ≡ false → 0 < length t
+something t h = grind (arith, nat_tests)
 
 pub nothing : (t : List ℕ) → (length t == 0) ≡ true → t ≡ []
 nothing [] h = refl

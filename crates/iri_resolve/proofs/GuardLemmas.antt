@@ -19,7 +19,7 @@ use Rattle.iri_percent.specs.Units.{whole_triplets}
 use Rattle.iri_normal.specs.DotRemoval.{is_all, is_one_dot, is_two_dots, dots}
 use Rattle.iri_normal.specs.Dots.{any_dot_segment, has_dot_segment, is_dot_segment}
 use Rattle.iri_normal.specs.Guard.{guard}
-use Rattle.iri_resolve.specs.inside.NormalSteps.{is_behind_slash, is_guard_alone, loses_dots}
+use Rattle.iri_resolve.specs.inside.GuardAlone.{is_after_slash, is_guard_alone, loses_dots}
 use Rattle.iri_normal.proofs.PieceLaws.{pieces-some, pieces-slash, dot-is_one, dot_segment-lacks, nothing-is_no_dot}
 use Rattle.iri_normal.proofs.StableLaws.{dot_in_front, no_dots_left, no_dots-same, slashed, unsplit, unsplit-pieces}
 use Rattle.iri_normal.proofs.TripletDots.{dot_segment-pct, empty-pct, encode_point, point_scalar, point_unreserved, two_dots-pct}
@@ -84,20 +84,20 @@ any-pct s (t ∷ ts) k w =
     rw (dot_segment-pct s t k l.0, any-pct s ts k l.1) refl
 
 empty-kind : (xs ys : List ℕ) (s : List ℕ) (ss : List (List ℕ)) (u : List ℕ) (us : List (List ℕ)) → is_empty xs ≡ is_empty ys
-    → is_behind_slash (xs ∷ s ∷ ss) ≡ is_behind_slash (ys ∷ u ∷ us)
+    → is_after_slash (xs ∷ s ∷ ss) ≡ is_after_slash (ys ∷ u ∷ us)
 empty-kind [] [] s ss u us h = refl
 empty-kind [] (y ∷ ys) s ss u us h = cc
 empty-kind (x ∷ xs) [] s ss u us h = cc
 empty-kind (x ∷ xs) (y ∷ ys) s ss u us h = refl
 
-alone-segment : (xs : List ℕ) → is_behind_slash (xs ∷ []) ≡ false
+alone-segment : (xs : List ℕ) → is_after_slash (xs ∷ []) ≡ false
 alone-segment [] = refl
 alone-segment (x ∷ xs) = refl
 
-behind_slash-pct : (s : Tests) (ss : List (List ℕ)) → all_whole ss ≡ true → is_behind_slash (map (pct s) ss) ≡ is_behind_slash ss
-behind_slash-pct s [] w = refl
-behind_slash-pct s (t ∷ []) w = alone-segment (pct s t) ∙ sym (alone-segment t)
-behind_slash-pct s (t ∷ u ∷ us) w =
+after_slash-pct : (s : Tests) (ss : List (List ℕ)) → all_whole ss ≡ true → is_after_slash (map (pct s) ss) ≡ is_after_slash ss
+after_slash-pct s [] w = refl
+after_slash-pct s (t ∷ []) w = alone-segment (pct s t) ∙ sym (alone-segment t)
+after_slash-pct s (t ∷ u ∷ us) w =
     let l = both (whole_triplets t) (all_whole (u ∷ us)) w in
     empty-kind (pct s t) t (pct s u) (map (pct s) us) u us (empty-pct s t l.0)
 
@@ -107,7 +107,7 @@ guard_alone-pct s (t ∷ []) k w = refl
 guard_alone-pct s (t ∷ u ∷ us) k w =
     let l = both (whole_triplets t) (all_whole (u ∷ us)) w in
     let m = both (whole_triplets u) (all_whole us) l.1 in
-    rw (empty-pct s t l.0, dot_segment-pct s u k m.0, two_dots-pct s u k m.0, behind_slash-pct s us m.1, any-pct s us k m.1) refl
+    rw (empty-pct s t l.0, dot_segment-pct s u k m.0, two_dots-pct s u k m.0, after_slash-pct s us m.1, any-pct s us k m.1) refl
 
 -- ---- a guarded path without other dot segments
 two-slashes : (d : List ℕ) → starts_with_slashes d ≡ true → has_dot_segment d ≡ false → is_guard_alone (pieces 47 (47 ∷ 46 ∷ d)) ≡ true
@@ -148,8 +148,8 @@ module _ (s : Tests) (k : IsSpec s) (p : List ℕ) (w : whole_triplets p ≡ tru
   alone-again (f ∷ d ∷ []) e h = let a = both (is_empty f && (is_dot_segment d && not (is_two_dots d))) false h in cc
   alone-again (f ∷ d ∷ c ∷ []) e h =
       let a = both (is_empty f && (is_dot_segment d && not (is_two_dots d)))
-      (is_behind_slash (c ∷ []) && not (any_dot_segment (c ∷ []))) h in
-      let b = both (is_behind_slash (c ∷ [])) (not (any_dot_segment (c ∷ []))) a.1 in
+      (is_after_slash (c ∷ []) && not (any_dot_segment (c ∷ []))) h in
+      let b = both (is_after_slash (c ∷ [])) (not (any_dot_segment (c ∷ []))) a.1 in
       let no : true ≡ false = sym b.0 ∙ alone-segment c in
       cc
   alone-again ((x ∷ f) ∷ d ∷ c ∷ u ∷ us) e h = cc
@@ -241,12 +241,12 @@ two-segments t r e f =
     never true false = refl
     never false b = refl
 
-slash-first : (t : List ℕ) → is_behind_slash (pieces 47 t) ≡ starts_with_slash t
+slash-first : (t : List ℕ) → is_after_slash (pieces 47 t) ≡ starts_with_slash t
 slash-first [] = refl
 slash-first (x ∷ xs) =
     let p = pieces-some xs in
-    elim (x == 47) as (λ b. is_behind_slash (cond b ([] ∷ pieces 47 xs) (onto x (pieces 47 xs)))
-    ≡ b) [ true ↦ ap (λ ps. is_behind_slash ([] ∷ ps)) p.whole | false ↦ ap (λ ps. is_behind_slash (onto x ps)) p.whole ]
+    elim (x == 47) as (λ b. is_after_slash (cond b ([] ∷ pieces 47 xs) (onto x (pieces 47 xs)))
+    ≡ b) [ true ↦ ap (λ ps. is_after_slash ([] ∷ ps)) p.whole | false ↦ ap (λ ps. is_after_slash (onto x ps)) p.whole ]
 
 pub more-segments : (t r u : List ℕ) → behind 47 t ≡ Some r → behind 47 r ≡ Some u
     → is_guard_alone (pieces 47 t) ≡ (is_empty (before 47 t) && (is_dot_segment (before 47 r) && not (is_two_dots (before 47 r)))

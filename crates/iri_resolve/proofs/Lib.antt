@@ -11,7 +11,6 @@ pub mod ByteLaws
 pub mod ChangeKeeps
 pub mod ChangeLaws
 pub mod ChangeOf
-pub mod Confluence
 pub mod SchemeSteps
 pub mod Leads
 pub mod LookBack

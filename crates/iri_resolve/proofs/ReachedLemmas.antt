@@ -1,16 +1,14 @@
 -- What a step does to what a replay has reached.
-use Rattle.std.proofs.lemmas.Bool.Decides.{nat_tests}
-use Rattle.std.proofs.Common.{arith, suc}
-use Rattle.std.proofs.Common.{◌≡◌, ℕ, ◌-◌, Bool, true, false, cond, List, [], ◌∷◌, Option, Some, None, length, refl, sym, ◌∙◌, ap}
-use Rattle.std.specs.Prelude.{◌==◌, String, is_some, nat_lt, string_bytes}
+use Rattle.std.proofs.Common.{◌≡◌, ℕ, ◌-◌, Bool, true, false, cond, List, [], ◌∷◌, Option, Some, None, refl, sym, ◌∙◌, ap}
+use Rattle.std.specs.Prelude.{String, is_some, nat_lt, string_bytes}
 use Rattle.std.specs.Char.{to_ascii_lowercase}
 use Rattle.std.specs.declared.alloc.Global.{Global}
 use Rattle.iri_grammar.specs.Authority.{AuthorityParts, authority_parts, recompose_authority}
 use Rattle.iri_grammar.specs.Classes.{Tests, IsSpec, unreserved, userinfo_char}
-use Rattle.iri_grammar.specs.Components.{if_there, is_userinfo}
+use Rattle.iri_grammar.specs.Components.{if_there}
 use Rattle.iri_grammar.specs.Host.{is_host}
 use Rattle.iri_grammar.specs.Over.{text_over}
-use Rattle.iri_grammar.specs.Parts.{Parts, is_empty}
+use Rattle.iri_grammar.specs.Parts.{Parts}
 use Rattle.iri_grammar.proofs.AuthorityLaws.{reading_is}
 use Rattle.iri_percent.specs.NormalHost.{is_ascii_host}
 use Rattle.iri_percent.specs.SchemeRules.{dropped_port}
@@ -26,8 +24,8 @@ use Rattle.iri_resolve.specs.Changes.{with_small_host_letter, with_small_letter}
 use Rattle.iri_resolve.specs.Steps.{placed, in_part, in_host, in_userinfo_or_host, host_start, step_in, with_small_letter_in_host}
 use Rattle.iri_resolve.specs.Steps.{at_place, with_dots_removed, with_slash, without_dropped_port, without_empty_port}
 use Rattle.iri_resolve.specs.inside.ChangeOf.{change_of}
-use Rattle.iri_resolve.specs.inside.NormalSteps.{is_port_dropped}
-use Rattle.iri_resolve.specs.inside.Reached.{IsRead, IsReadThere, Holds, PartWent, ReadOn, ReadOnThere, Reaches, authority_of, authority_text}
+use Rattle.iri_resolve.specs.NormalSteps.{is_port_dropped}
+use Rattle.iri_resolve.specs.inside.Reached.{IsRead, Holds, PartWent, ReadOn, ReadOnThere, Reaches, authority_of, authority_text}
 use Rattle.iri_resolve.specs.inside.Reached.{is_port_empty, other_than, parts_of, went}
 use Rattle.iri_resolve.proofs.AuthoritySteps.{ascii-same, host-kept, letter-kept}
 use Rattle.iri_resolve.proofs.ChangeKeeps.{TripletChange}

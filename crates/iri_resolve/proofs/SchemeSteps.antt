@@ -20,12 +20,12 @@ use Rattle.iri_normal.specs.LowerCase.{lowered, where_there}
 use Rattle.iri_normal.specs.Modes.{mode_of}
 use Rattle.iri_normal.specs.NormalForm.{becomes_slash, form, normal_form, normal_form_in, normal_path, slash_or}
 use Rattle.iri_resolve.specs.Steps.{in_part, onward, placed, replayed, replayed_in, step, step_in, with_slash, without_dropped_port, Joined, JoinedIn}
-use Rattle.iri_resolve.specs.inside.NormalSteps.{has_port, is_port_dropped, port_steps, slash_steps}
+use Rattle.iri_resolve.specs.NormalSteps.{default_port_steps, has_port, is_port_dropped, plain_steps, scheme_rule_steps, slash_steps, steps_of}
 use Rattle.iri_resolve.specs.declared.step.Step.{Step}
 use Rattle.iri_resolve.specs.declared.step.Step.TheVariants.{SchemeLetter, HostLetter, HexDigit, Decode, EmptyPort, Dots, DefaultPort, SlashPath}
 use Rattle.iri_normal.proofs.AuthorityForm.{normal-parts}
 use Rattle.iri_resolve.proofs.AuthoritySteps.{placed-is, in_part-is}
-use Rattle.iri_resolve.proofs.Confluence.{normal-leads}
+use Rattle.iri_resolve.proofs.NormalStepLemmas.{plain-led}
 use Rattle.iri_resolve.proofs.Leads.{replayed_in-append}
 use Rattle.iri_normal.proofs.SchemeForm.{by_scheme, dropped-lowered, form-by_scheme, kept_port, normal-slash, normal_in-fits, one-form, slash-normal, without}
 use Rattle.iri_resolve.proofs.StepsKept.{Kept, Valid, authority-rules, no_default_port, step-kept}
@@ -280,7 +280,7 @@ abbrev without_port_of : Parts → Parts
 without_port_of t = record t { authority = where_there (without (dropped_port Scheme t.scheme)) t.authority }
 
 port-led : (s : Tests) (t : Parts) (o : Option (List ℕ)) (b : Bool) → t.authority ≡ o → has_port (dropped_port Scheme t.scheme) o ≡ b
-    → replayed_in s Scheme t (port_steps b) ≡ Some (without_port_of t)
+    → replayed_in s Scheme t (default_port_steps b) ≡ Some (without_port_of t)
 unfolding step_in
 port-led s t o false e h =
     let d = dropped_port Scheme t.scheme in
@@ -310,12 +310,11 @@ slash-led s t false h = no-step s Scheme t
 slash-led s t true h = one-step s Scheme t (record t { path = 47 ∷ [] }) SlashPath
     (ap (λ b. placed (λ p. record t { path = p }) (cond b (Some (47 ∷ [])) None)) h)
 
-by_scheme-led : (s : Tests) (t : Parts) → replayed_in s Scheme t (port_steps (has_port (dropped_port Scheme t.scheme) t.authority)
-    ++ slash_steps (becomes_slash (dropped_port Scheme t.scheme) t.authority t.path)) ≡ Some (by_scheme t)
+by_scheme-led : (s : Tests) (t : Parts) → replayed_in s Scheme t (scheme_rule_steps (dropped_port Scheme t.scheme) t) ≡ Some (by_scheme t)
 by_scheme-led s t =
     let d = dropped_port Scheme t.scheme in
     let b = becomes_slash d t.authority t.path in
-    replayed_in-append s Scheme t (without_port_of t) (port_steps (has_port d t.authority)) (slash_steps b)
+    replayed_in-append s Scheme t (without_port_of t) (default_port_steps (has_port d t.authority)) (slash_steps b)
     (port-led s t t.authority (has_port d t.authority) refl refl)
     ∙ slash-led s (without_port_of t) b (stands-on d t.authority (without d) t.path)
 
@@ -325,12 +324,8 @@ unfolding normal_form
 form-in s Default t = refl
 form-in s Scheme t = refl
 
-abbrev pub scheme_steps_of : CanonMode → Parts → List Step
-scheme_steps_of m t = port_steps (has_port (dropped_port m t.scheme) t.authority)
-    ++ slash_steps (becomes_slash (dropped_port m t.scheme) t.authority t.path)
-
-nothing-more : (t : Parts) → scheme_steps_of Default t ≡ []
-nothing-more t = ap (λ b. port_steps b ++ []) (none t.authority)
+nothing-more : (t : Parts) → scheme_rule_steps None t ≡ []
+nothing-more t = ap (λ b. default_port_steps b ++ []) (none t.authority)
   where
     none-here : (o : Option (List ℕ)) → is_port_dropped None o ≡ false
     none-here None = refl
@@ -353,7 +348,7 @@ unfolding normal_form form
 normal-path s t = refl
 
 -- the steps of scheme rules are those of the normal form
-steps-normal : (s : Tests) (t : Parts) → IsSpec s → Fits s t → scheme_steps_of Scheme (normal_form s t) ≡ scheme_steps_of Scheme t
+steps-normal : (s : Tests) (t : Parts) → IsSpec s → Fits s t → scheme_rule_steps (dropped_port Scheme (normal_form s t).scheme) (normal_form s t) ≡ scheme_rule_steps (dropped_port Scheme t.scheme) t
 steps-normal s t k f =
     let d = dropped_port Scheme t.scheme in
     rw (
@@ -366,17 +361,18 @@ steps-normal s t k f =
     )
     refl
 
-pub led-on : (s : Tests) (m : CanonMode) (t : Parts) (l : List Step) → IsSpec s → Fits s t → replayed s t l ≡ Some (normal_form s t)
-    → replayed_in s m t (l ++ scheme_steps_of m t) ≡ Some (normal_form_in s m t)
-led-on s Default t l k f h = ap (λ z. replayed_in s Default t (l ++ z)) (nothing-more t) ∙ (ap (replayed_in s Default t) (append-nil l) ∙ h)
-led-on s Scheme t l k f h =
-    replayed_in-append s Scheme t (normal_form s t) l (scheme_steps_of Scheme t) (replayed-in s Scheme t (normal_form s t) l h)
+-- the steps to the normal form lead to it
+pub normal_in-leads : (s : Tests) (m : CanonMode) (t : Parts) → IsSpec s → Fits s t
+    → replayed_in s m t (steps_of s m t) ≡ Some (normal_form_in s m t)
+unfolding steps_of
+normal_in-leads s Default t k f = ap (λ z. replayed_in s Default t (plain_steps s t ++ z)) (nothing-more t)
+    ∙ (ap (replayed_in s Default t) (append-nil (plain_steps s t)) ∙ plain-led s t k f)
+normal_in-leads s Scheme t k f =
+    let l = plain_steps s t in
+    let m = scheme_rule_steps (dropped_port Scheme t.scheme) t in
+    replayed_in-append s Scheme t (normal_form s t) l m (replayed-in s Scheme t (normal_form s t) l (plain-led s t k f))
     ∙ (ap (replayed_in s Scheme (normal_form s t)) (sym (steps-normal s t k f))
     ∙ (by_scheme-led s (normal_form s t) ∙ ap Some (form-by_scheme s t k f)))
-
-pub normal_in-leads : (s : Tests) (m : CanonMode) (t : Parts) → IsSpec s → Fits s t
-    → (l : List Step) × (replayed_in s m t l ≡ Some (normal_form_in s m t))
-normal_in-leads s m t k f = let l = normal-leads s t k f in (l.0 ++ scheme_steps_of m t, led-on s m t l.0 k f l.1)
 
 -- ---- steps join what has one normal form
 joined_in-form : (s : Tests) (m : CanonMode) (t u : Parts) → IsSpec s → Valid s t → Valid s u → JoinedIn s m t u
@@ -386,9 +382,7 @@ joined_in-form s m t u k v w j = sym (replayed_in-kept s m t j.2 j.0 k v j.3).fo
 form_in-joined : (s : Tests) (m : CanonMode) (t u : Parts) → IsSpec s → Fits s t → Fits s u
     → normal_form_in s m t ≡ normal_form_in s m u → JoinedIn s m t u
 form_in-joined s m t u k f g e =
-    let l = normal_in-leads s m t k f in
-    let n = normal_in-leads s m u k g in
-    (l.0, n.0, normal_form_in s m t, l.1, n.1 ∙ ap Some (sym e))
+    (steps_of s m t, steps_of s m u, normal_form_in s m t, normal_in-leads s m t k f, normal_in-leads s m u k g ∙ ap Some (sym e))
 
 pub joined_in-exactly : (s : Tests) (m : CanonMode) (t u : Parts) → IsSpec s → Fits s t → IsSome t.scheme → Fits s u → IsSome u.scheme
     → JoinedIn s m t u ↔ (normal_form_in s m t ≡ normal_form_in s m u)

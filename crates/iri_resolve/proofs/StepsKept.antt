@@ -5,8 +5,7 @@ use Rattle.std.specs.Char.{to_ascii_lowercase}
 use Rattle.std.specs.List.{list_all}
 use Rattle.std.specs.Str.{bytes_eq}
 use Rattle.iri_grammar.specs.Authority.{AuthorityParts, authority_parts, is_authority}
-use Rattle.iri_grammar.specs.Classes.{Tests, IsSpec, path_char, query_char, fragment_char, is_ascii_unreserved, is_ascii_reg_name}
-use Rattle.iri_grammar.specs.Classes.{is_ascii_pchar, is_ascii_path, is_sub_delim}
+use Rattle.iri_grammar.specs.Classes.{Tests, IsSpec, path_char, query_char, fragment_char}
 use Rattle.iri_grammar.specs.Components.{if_there, is_scheme, is_scheme_char, is_letter, is_path, is_query, is_fragment}
 use Rattle.iri_grammar.proofs.CutLaws.{both}
 use Rattle.iri_grammar.specs.Parts.{Parts, Fits, path_rules, is_empty, starts_with_slash}
@@ -21,7 +20,7 @@ use Rattle.iri_normal.proofs.TargetLaws.{slash_in_path}
 use Rattle.iri_normal.proofs.TripletPaths.{dots-pct}
 use Rattle.iri_resolve.specs.Changes.{with_small_letter, with_capital_digit, with_decoded}
 use Rattle.iri_resolve.specs.Steps.{in_part, in_userinfo_or_host, without_dropped_port, without_empty_port, with_small_letter_in_host, with_dots_removed}
-use Rattle.iri_resolve.specs.Steps.{at_place, step, step_in, onward, replayed, replayed_in}
+use Rattle.iri_resolve.specs.Steps.{at_place, step, step_in}
 use Rattle.iri_resolve.proofs.ByteLaws.{small_letter}
 use Rattle.iri_resolve.proofs.ChangeKeeps.{TripletChange, rules-same, capital-keeps, decoding-keeps}
 use Rattle.iri_resolve.proofs.AuthoritySteps.{AuthorityChange, authority-kept, triplets-changed, letter-changed, port-changed}

@@ -1,5 +1,6 @@
 pub mod Changes
 pub mod Steps
+pub mod NormalSteps
 pub mod StepExamples
 pub mod StepTexts
 pub mod DecodedPlace

@@ -1,32 +1,25 @@
 // The steps from a component to its normal form, from left to right: each has the length of what is in normal form already as
 // its place, so no text in between is built.
-ghost use Rattle.std.specs.Prelude.{◌≡◌, ◌<◌, ◌≤◌, ◌+◌, ◌*◌, ◌^◌, ◌++◌, ◌&&◌, [], ◌∷◌, false, IfOk, OnOk, true, length};
+ghost use Rattle.std.specs.Prelude.{◌≡◌, ◌<◌, ◌≤◌, ◌+◌, ◌^◌, ◌++◌, ◌&&◌, [], ◌∷◌, IfOk, OnOk, true, length};
 ghost use Rattle.std.specs.Char.{is_ascii_uppercase};
+ghost use Rattle.iri_percent.specs.Triplets.{normal};
 ghost use Rattle.iri_percent.specs.Units.{whole_triplets};
-ghost use Rattle.iri_resolve.specs.Changes.{is_small_digit};
-ghost use Rattle.iri_resolve.specs.inside.ComponentSteps.{Moves, Walked, IsLed, letter_steps, digit_steps};
+ghost use Rattle.iri_percent.specs.inside.Pieces.{case_of};
+ghost use Rattle.iri_resolve.specs.NormalSteps.{component_steps, digit_steps, letter_steps, prefix_of};
 ghost use Rattle.iri_resolve.specs.declared.step.Step.TheVariants.{Decode};
 
 use crate::change::is_small_digit;
-use crate::component::Component;
 use crate::step::{Part, Step};
 use crate::step_list::StepList;
 use iri_grammar::spec::Spec;
 use iri_percent::character::decoded_char;
 use std::alloc::AllocError;
 
-// What stands at the start of a text: how many bytes it has, and how many of them its normal form.
+// How many bytes the prefix of a text has, and how many in normal form.
 #[derive(Clone, Copy)]
-struct Front {
+struct Lengths {
     len: usize,
     normal_len: usize,
-}
-
-// Whether the character is a letter that becomes small.
-fn becomes_small(component: Component, c: char) -> bool
-    ensures { result ≡ (component.lower && is_ascii_uppercase c) }
-{
-    component.lower && c.is_ascii_uppercase()
 }
 
 // A letter of a host becomes small, where it is a capital.
@@ -58,7 +51,7 @@ fn push_digits(
     low: u8,
 ) -> Result<(), AllocError>
     requires { at + 2 < 2 ^ 64 }
-    ensures { OnOk result (steps.new ≡ (steps.old ++ digit_steps part (at + 1) high) ++ digit_steps part (at + 2) low) }
+    ensures { OnOk result (steps.new ≡ steps.old ++ (digit_steps part (at + 1) high ++ digit_steps part (at + 2) low)) }
 {
     push_digit(steps, part, at + 1, high)?;
     push_digit(steps, part, at + 2, low)
@@ -71,64 +64,71 @@ fn push_decoded(
     at: usize,
     is_capital: bool,
 ) -> Result<(), AllocError>
-    ensures { OnOk result (steps.new ≡ (steps.old ++ Decode part at ∷ []) ++ letter_steps is_capital at) }
+    ensures { OnOk result (steps.new ≡ steps.old ++ Decode part at ∷ letter_steps is_capital at) }
 {
     steps.push(Step::Decode(part, at))?;
     push_letter(steps, is_capital, at)
 }
 
-// The steps of what stands at the start, `at` bytes behind the beginning of the part in normal form.
-fn push_front<S: Spec>(
+// The steps of what a text begins with, at this place of the part in normal form.
+fn push_prefix<S: Spec>(
     steps: &mut StepList,
-    component: Component,
+    part: Part,
+    lower: bool,
     at: usize,
-    rest: &[u8],
-) -> Result<Front, AllocError>
-    requires whole { whole_triplets rest.now ≡ true }
-    requires some { 0 < length rest.now }
-    requires room { at + length rest.now < 2 ^ 64 }
-    ensures { IfOk result
-        (λ front. Moves S.tests component at rest.now front.len front.normal_len steps.old steps.new) }
+    text: &[u8],
+) -> Result<Lengths, AllocError>
+    requires whole { whole_triplets text.now ≡ true }
+    requires some { 0 < length text.now }
+    requires room { at + length text.now < 2 ^ 64 }
+    ensures steps { OnOk result (steps.new ≡ steps.old ++ (prefix_of S.tests part lower at text.now).steps) }
+    ensures len { IfOk result (λ l. l.len ≡ (prefix_of S.tests part lower at text.now).len) }
+    ensures normal_len { IfOk result (λ l. l.normal_len ≡ (prefix_of S.tests part lower at text.now).normal_len) }
 {
-    let first = rest[0];
+    let first = text[0];
     if first != b'%' {
-        push_letter(steps, becomes_small(component, char::from(first)), at)?;
-        return Ok(Front {
+        push_letter(steps, lower && first.is_ascii_uppercase(), at)?;
+        return Ok(Lengths {
             len: 1,
             normal_len: 1,
         });
     }
-    if let Some(c) = decoded_char::<S>(rest) {
-        push_decoded(steps, component.part, at, becomes_small(component, c))?;
-        return Ok(Front {
+    if let Some(c) = decoded_char::<S>(text) {
+        push_decoded(steps, part, at, lower && c.is_ascii_uppercase())?;
+        return Ok(Lengths {
             len: 3 * c.len_utf8(),
             normal_len: c.len_utf8(),
         });
     }
-    let (high, low) = (rest[1], rest[2]);
-    push_digits(steps, component.part, at, high, low)?;
-    Ok(Front {
+    let (high, low) = (text[1], text[2]);
+    push_digits(steps, part, at, high, low)?;
+    Ok(Lengths {
         len: 3,
         normal_len: 3,
     })
 }
 
-/// Appends the steps of a component, and says where its normal form ends. Allocation failure is the only error.
+/// Appends the steps of a text that begins at this place of the part, and says where its normal form ends. Allocation failure is the
+/// only error.
 pub(crate) fn push_component<S: Spec>(
     steps: &mut StepList,
-    component: Component,
+    part: Part,
+    lower: bool,
+    start: usize,
     text: &str,
 ) -> Result<usize, AllocError>
     requires whole { whole_triplets text.now ≡ true }
-    requires room { component.start + length text.now < 2 ^ 64 }
-    ensures { IfOk result (λ end. IsLed S.tests component text.now end steps.old steps.new) }
+    requires room { start + length text.now < 2 ^ 64 }
+    ensures steps { OnOk result (steps.new ≡ steps.old ++ component_steps S.tests part lower 0 start text.now) }
+    ensures place { IfOk result (λ end. end ≡ start + length (normal S.tests (case_of lower) text.now)) }
+    ensures shorter { IfOk result (λ end. end ≤ start + length text.now) }
 {
     let mut rest = text.as_bytes();
-    let mut at = component.start;
-    'fronts: while !rest.is_empty() {
-        let front = push_front::<S>(steps, component, at, rest)?;
-        at += front.normal_len;
-        rest = &rest[front.len..];
+    let mut at = start;
+    'prefixes: while !rest.is_empty() {
+        let prefix = push_prefix::<S>(steps, part, lower, at, rest)?;
+        at += prefix.normal_len;
+        rest = &rest[prefix.len..];
     }
     Ok(at)
 }

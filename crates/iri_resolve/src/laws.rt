@@ -5,6 +5,7 @@ ghost use Rattle.iri_percent.specs.Units.{whole_triplets};
 ghost use Rattle.iri_normal.specs.NormalForm.{form, normal_form_in};
 ghost use Rattle.iri_resolve.specs.Changes.{with_decoded};
 ghost use Rattle.iri_resolve.specs.DecodedPlace.{IsCharacterAt};
+ghost use Rattle.iri_resolve.specs.NormalSteps.{steps_of};
 ghost use Rattle.iri_resolve.specs.Steps.{JoinedIn, replayed_in, step_in};
 
 use crate::step::Step;
@@ -30,9 +31,11 @@ pub fn decoded_places_are_characters<S: Spec>()
         → IsCharacterAt S.tests i t }
 {}
 
-/// From all valid parts, steps lead to their normal form.
+/// From all valid parts, steps lead to their normal form: these.
 pub fn steps_lead_to_the_normal_form<S: Spec>()
-    ensures { (mode : CanonMode) (t : Parts) → Fits S.tests t
+    ensures these { (mode : CanonMode) (t : Parts) → Fits S.tests t
+        → replayed_in S.tests mode t (steps_of S.tests mode t) ≡ Some (normal_form_in S.tests mode t) }
+    ensures some { (mode : CanonMode) (t : Parts) → Fits S.tests t
         → (l : List Step) × (replayed_in S.tests mode t l ≡ Some (normal_form_in S.tests mode t)) }
 {}
 

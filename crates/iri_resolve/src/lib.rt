@@ -15,7 +15,6 @@
 #![tactic(auto)]
 
 mod change;
-mod component;
 mod component_steps;
 pub mod join;
 pub mod laws;

@@ -1,26 +1,26 @@
 //! Steps from a target to its normal form (RFC 3986 sections 6.2.2 and 6.2.3).
-ghost use Rattle.std.specs.Prelude.{◌≡◌, ◌<◌, ◌+◌, ◌^◌, ◌++◌, ◌&&◌, ◌||◌, IfOk, OnOk, Some, length, not, true};
-ghost use Rattle.std.specs.Char.{is_ascii_uppercase};
-ghost use Rattle.iri_grammar.specs.Authority.{AuthorityParts, FitsAuthority, authority_parts, is_authority};
-ghost use Rattle.iri_grammar.specs.Authority.{userinfo_text};
+ghost use Rattle.std.specs.Prelude.{◌≡◌, ◌<◌, ◌≤◌, ◌+◌, ◌^◌, ◌++◌, ◌&&◌, ◌||◌, IfOk, OnOk, Some, length, not, true};
+ghost use Rattle.iri_grammar.specs.Authority.{is_authority, userinfo_text};
+ghost use Rattle.iri_grammar.specs.Characters.{slash};
 ghost use Rattle.iri_grammar.specs.Components.{if_there, is_path};
 ghost use Rattle.iri_grammar.specs.Host.{is_host};
-ghost use Rattle.iri_grammar.specs.Parts.{Parts, is_empty, starts_with_slash, starts_with_slashes};
-ghost use Rattle.iri_grammar.specs.Pieces.{pieces};
 ghost use Rattle.iri_grammar.specs.OptionalSlices.{now_of};
-ghost use Rattle.iri_percent.specs.NormalHost.{normal_authority};
+ghost use Rattle.iri_grammar.specs.Parts.{is_empty, starts_with_slash, starts_with_slashes};
+ghost use Rattle.iri_grammar.specs.Pieces.{pieces};
+ghost use Rattle.iri_percent.specs.NormalHost.{normal_userinfo};
 ghost use Rattle.iri_percent.specs.Units.{whole_triplets};
 ghost use Rattle.iri_normal.specs.DotRemoval.{is_two_dots};
 ghost use Rattle.iri_normal.specs.Dots.{has_dot_segment, is_dot_segment};
 ghost use Rattle.iri_normal.specs.NormalForm.{normal_form, normal_form_in};
-ghost use Rattle.iri_resolve.specs.inside.NormalSteps.{AuthorityLed, HostLed, PartLed, PathLed, PortLed, SchemeLed};
-ghost use Rattle.iri_resolve.specs.inside.NormalSteps.{UserinfoLed, dots_steps, has_port, is_guard_alone, loses_dots};
-ghost use Rattle.iri_resolve.specs.inside.NormalSteps.{port_steps, scheme_steps, slash_steps};
+ghost use Rattle.iri_resolve.specs.NormalSteps.{authority_steps, default_port_steps, has_port, host_steps, path_steps};
+ghost use Rattle.iri_resolve.specs.NormalSteps.{port_steps, scheme_letter_steps, scheme_steps, slash_steps, steps_of};
+ghost use Rattle.iri_resolve.specs.NormalSteps.{steps_there, triplet_steps};
 ghost use Rattle.iri_resolve.specs.Steps.{replayed, replayed_in};
-ghost use Rattle.iri_resolve.specs.declared.step.Part.{Part};
-ghost use Rattle.iri_grammar.specs.Characters.{slash};
+ghost use Rattle.iri_resolve.specs.inside.GuardAlone.{is_guard_alone, loses_dots};
+ghost use Rattle.iri_percent.specs.declared.canon_mode.CanonMode.TheVariants.{Default};
+ghost use Rattle.iri_resolve.specs.declared.step.Part.TheVariants.{Authority};
+ghost use Rattle.iri_resolve.specs.declared.step.Step.TheVariants.{Dots};
 
-use crate::component::Component;
 use crate::component_steps::push_component;
 use crate::step::{Part, Step};
 use crate::step_list::StepList;
@@ -35,7 +35,7 @@ use std::alloc::{AllocError, Global};
 
 // A letter of the scheme becomes small, where it is a capital.
 fn push_scheme_letter(steps: &mut StepList, at: usize, letter: u8) -> Result<(), AllocError>
-    ensures { OnOk result (steps.new ≡ steps.old ++ scheme_steps at letter) }
+    ensures { OnOk result (steps.new ≡ steps.old ++ scheme_letter_steps at letter) }
 {
     if !letter.is_ascii_uppercase() {
         return Ok(());
@@ -44,8 +44,8 @@ fn push_scheme_letter(steps: &mut StepList, at: usize, letter: u8) -> Result<(),
 }
 
 // The steps of a scheme.
-fn push_scheme<S: Spec>(steps: &mut StepList, scheme: &str) -> Result<(), AllocError>
-    ensures { OnOk result (SchemeLed S.tests scheme.now steps.old steps.new) }
+fn push_scheme(steps: &mut StepList, scheme: &str) -> Result<(), AllocError>
+    ensures { OnOk result (steps.new ≡ steps.old ++ scheme_steps 0 scheme.now) }
 {
     let letters = scheme.as_bytes();
     for i in 0..letters.len() {
@@ -57,17 +57,16 @@ fn push_scheme<S: Spec>(steps: &mut StepList, scheme: &str) -> Result<(), AllocE
 // The steps of a userinfo that may stand. The answer is where the host begins in normal form.
 fn push_userinfo<S: Spec>(steps: &mut StepList, userinfo: Option<&str>) -> Result<usize, AllocError>
     requires { if_there whole_triplets (now_of userinfo) ≡ true }
-    ensures { IfOk result (λ start. UserinfoLed S.tests (now_of userinfo.entry) start steps.old steps.new) }
+    ensures steps { OnOk result (steps.new ≡ steps.old
+        ++ steps_there (triplet_steps S.tests Authority) (now_of userinfo.entry)) }
+    ensures place { IfOk result (λ start. start
+        ≡ length (userinfo_text (normal_userinfo S.tests (now_of userinfo.entry)))) }
+    ensures shorter { IfOk result (λ start. start ≤ length (userinfo_text (now_of userinfo.entry))) }
 {
     let Some(userinfo) = userinfo else {
         return Ok(0);
     };
-    let component = Component {
-        part: Part::Authority,
-        start: 0,
-        lower: false,
-    };
-    let end = push_component::<S>(steps, component, userinfo)?;
+    let end = push_component::<S>(steps, Part::Authority, false, 0, userinfo)?;
     Ok(end + 1)
 }
 
@@ -75,20 +74,16 @@ fn push_userinfo<S: Spec>(steps: &mut StepList, userinfo: Option<&str>) -> Resul
 fn push_host<S: Spec>(steps: &mut StepList, start: usize, host: &str) -> Result<(), AllocError>
     requires host { is_host S.tests host.now ≡ true }
     requires room { start + length host.now < 2 ^ 64 }
-    ensures { OnOk result (HostLed S.tests start host.now steps.old steps.new) }
+    ensures { OnOk result (steps.new ≡ steps.old ++ host_steps S.tests start host.now) }
 {
-    let component = Component {
-        part: Part::Authority,
-        start,
-        lower: is_ascii_host(host.as_bytes()),
-    };
-    push_component::<S>(steps, component, host)?;
+    let lower = is_ascii_host(host.as_bytes());
+    push_component::<S>(steps, Part::Authority, lower, start, host)?;
     Ok(())
 }
 
 // The step of an empty port.
-fn push_port<S: Spec>(steps: &mut StepList, port: Option<&str>) -> Result<(), AllocError>
-    ensures { OnOk result (PortLed S.tests (now_of port.entry) steps.old steps.new) }
+fn push_port(steps: &mut StepList, port: Option<&str>) -> Result<(), AllocError>
+    ensures { OnOk result (steps.new ≡ steps.old ++ port_steps (now_of port.entry)) }
 {
     let Some(port) = port else {
         return Ok(());
@@ -96,34 +91,22 @@ fn push_port<S: Spec>(steps: &mut StepList, port: Option<&str>) -> Result<(), Al
     if !port.is_empty() {
         return Ok(());
     }
-    steps.push(Step::EmptyPort)?;
-    Ok(())
-}
-
-// The steps of an authority.
-fn push_authority<S: Spec>(steps: &mut StepList, authority: &str) -> Result<(), AllocError>
-    requires { is_authority S.tests authority.now ≡ true }
-    ensures { OnOk result (AuthorityLed S.tests (Some authority.now) steps.old steps.new) }
-{
-    let span = AuthoritySpan::of::<S>(authority);
-    let start = push_userinfo::<S>(steps, span.userinfo())?;
-    push_host::<S>(steps, start, span.host())?;
-    push_port::<S>(steps, span.port())?;
-    Ok(())
+    steps.push(Step::EmptyPort)
 }
 
 // The steps of an authority that may stand.
-fn push_authority_there<S: Spec>(
-    steps: &mut StepList,
-    authority: Option<&str>,
-) -> Result<(), AllocError>
+fn push_authority<S: Spec>(steps: &mut StepList, authority: Option<&str>) -> Result<(), AllocError>
     requires { if_there (is_authority S.tests) (now_of authority) ≡ true }
-    ensures { OnOk result (AuthorityLed S.tests (now_of authority.entry) steps.old steps.new) }
+    ensures { OnOk result (steps.new ≡ steps.old ++ steps_there (authority_steps S.tests) (now_of authority.entry)) }
 {
-    match authority {
-        Some(authority) => push_authority::<S>(steps, authority),
-        None => Ok(()),
-    }
+    let Some(authority) = authority else {
+        return Ok(());
+    };
+    let span = AuthoritySpan::of::<S>(authority);
+    let start = push_userinfo::<S>(steps, span.userinfo())?;
+    push_host::<S>(steps, start, span.host())?;
+    push_port(steps, span.port())?;
+    Ok(())
 }
 
 // Whether the segment is `.`, in any spelling.
@@ -133,7 +116,7 @@ fn is_one_dot(segment: &str) -> bool
     is_dot_segment(segment) && !is_two_dots(segment)
 }
 
-// Whether a slash stands at the start, and no dot segment behind it.
+// Whether a slash stands at the start, and no dot segment after it.
 fn begins_plain(path: &str) -> bool
     ensures { result ≡ (starts_with_slash path.now && not (has_dot_segment path.now)) }
 {
@@ -141,26 +124,26 @@ fn begins_plain(path: &str) -> bool
 }
 
 // Whether these are the first segments of a guarded path, and what follows them has no dot segment.
-fn is_guard(front: &str, dot: &str, rest: &str) -> bool
-    ensures { result ≡ (is_empty front.now && (is_dot_segment dot.now && not (is_two_dots dot.now))
+fn is_guard(first: &str, dot: &str, rest: &str) -> bool
+    ensures { result ≡ (is_empty first.now && (is_dot_segment dot.now && not (is_two_dots dot.now))
         && (starts_with_slash rest.now && not (has_dot_segment rest.now))) }
 {
-    front.is_empty() && is_one_dot(dot) && begins_plain(rest)
+    first.is_empty() && is_one_dot(dot) && begins_plain(rest)
 }
 
 // Whether the path begins with its guard, which is `/.` before `//`, in any spelling, and has no other dot segment.
 fn is_guard_alone(path: &str) -> bool
     ensures { result ≡ is_guard_alone (pieces slash path.now) }
 {
-    let (front, behind) = cut(path, b'/');
-    let Some(rest) = behind else {
+    let (first, after) = cut(path, b'/');
+    let Some(rest) = after else {
         return false;
     };
-    let (dot, behind) = cut(rest, b'/');
-    let Some(rest) = behind else {
+    let (dot, after) = cut(rest, b'/');
+    let Some(rest) = after else {
         return false;
     };
-    is_guard(front, dot, rest)
+    is_guard(first, dot, rest)
 }
 
 // Whether the path loses dot segments. A guard stays, where it is needed.
@@ -170,14 +153,20 @@ fn loses_dots(path: &str, authority_stands: bool) -> bool
     has_dot_segment(path) && (authority_stands || !is_guard_alone(path))
 }
 
-// The step of dot segments, where some go.
-fn push_dots(steps: &mut StepList, go: bool) -> Result<(), AllocError>
-    ensures { OnOk result (steps.new ≡ steps.old ++ dots_steps go) }
+// The steps of the triplets of a part that may stand.
+fn push_triplets<S: Spec>(
+    steps: &mut StepList,
+    part: Part,
+    text: Option<&str>,
+) -> Result<(), AllocError>
+    requires { if_there whole_triplets (now_of text) ≡ true }
+    ensures { OnOk result (steps.new ≡ steps.old ++ steps_there (triplet_steps S.tests part) (now_of text.entry)) }
 {
-    if !go {
+    let Some(text) = text else {
         return Ok(());
-    }
-    steps.push(Step::Dots)
+    };
+    push_component::<S>(steps, part, false, 0, text)?;
+    Ok(())
 }
 
 // The steps of a path: those of its triplets on the path as it stands, and then that of its dot segments.
@@ -188,31 +177,13 @@ fn push_path<S: Spec>(
 ) -> Result<(), AllocError>
     requires path { is_path S.tests path.now ≡ true }
     requires unguarded { (authority_stands || not (starts_with_slashes path.now)) ≡ true }
-    ensures { OnOk result (PathLed S.tests authority_stands path.now steps.old steps.new) }
+    ensures { OnOk result (steps.new ≡ steps.old ++ path_steps S.tests authority_stands path.now) }
 {
-    push_triplets::<S>(steps, Part::Path, Some(path))?;
-    push_dots(steps, loses_dots(path, authority_stands))?;
-    Ok(())
-}
-
-// The steps of the triplets of a part that may stand.
-fn push_triplets<S: Spec>(
-    steps: &mut StepList,
-    part: Part,
-    text: Option<&str>,
-) -> Result<(), AllocError>
-    requires { if_there whole_triplets (now_of text) ≡ true }
-    ensures { OnOk result (PartLed S.tests part (now_of text.entry) steps.old steps.new) }
-{
-    let Some(text) = text else {
+    push_component::<S>(steps, Part::Path, false, 0, path)?;
+    if !loses_dots(path, authority_stands) {
         return Ok(());
-    };
-    let component = Component {
-        part,
-        start: 0,
-        lower: false,
-    };
-    push_component::<S>(steps, component, text)?;
+    }
+    steps.push(Step::Dots)?;
     Ok(())
 }
 
@@ -235,7 +206,7 @@ fn push_default_port<S: Spec>(
 ) -> Result<(), AllocError>
     requires { if_there (is_authority S.tests) (now_of authority) ≡ true }
     ensures { OnOk result (steps.new ≡ steps.old
-        ++ port_steps (has_port (now_of dropped.entry) (now_of authority.entry))) }
+        ++ default_port_steps (has_port (now_of dropped.entry) (now_of authority.entry))) }
 {
     let Some(authority) = authority else {
         return Ok(());
@@ -256,35 +227,34 @@ fn push_slash(steps: &mut StepList, go: bool) -> Result<(), AllocError>
     steps.push(Step::SlashPath)
 }
 
-/// Steps of a mode that lead from a target to its normal form: those of every scheme, and then the default port and the empty path.
-/// Allocation failure is the only error.
+/// Steps that lead from a target to its normal form, part by part and from left to right; the dot segments go after the other
+/// steps of the path. Places count bytes of what is in normal form already. Allocation failure is the only error.
+pub fn steps_to_normal<S: Spec>(alloc: Global, target: &Target<S>) -> Result<StepList, AllocError>
+    ensures list { IfOk result (λ l. l ≡ steps_of S.tests Default target.now) }
+    ensures leads { IfOk result (λ l. replayed S.tests target.now l ≡ Some (normal_form S.tests target.now)) }
+{
+    steps_to_normal_in(alloc, CanonMode::Default, target)
+}
+
+/// The same with the steps of a mode: those of every scheme, and then the default port and the empty path.
 pub fn steps_to_normal_in<S: Spec>(
     alloc: Global,
     mode: CanonMode,
     target: &Target<S>,
 ) -> Result<StepList, AllocError>
-    ensures { IfOk result (λ l. replayed_in S.tests mode target.now l ≡ Some (normal_form_in S.tests mode target.now)) }
+    ensures list { IfOk result (λ l. l ≡ steps_of S.tests mode target.now) }
+    ensures leads { IfOk result (λ l. replayed_in S.tests mode target.now l
+        ≡ Some (normal_form_in S.tests mode target.now)) }
 {
-    let _valid = target.slices();
-    let mut steps = steps_to_normal(alloc, target)?;
+    let parts = target.slices();
     let dropped = mode.dropped_port(Some(target.scheme()));
-    push_default_port::<S>(&mut steps, target.authority(), dropped)?;
-    push_slash(&mut steps, becomes_slash(&target.slices(), dropped))?;
-    Ok(steps)
-}
-
-/// Steps that lead from a target to its normal form, part by part and from left to right; the dot segments go behind the other
-/// steps of the path. Places count bytes of what is in normal form already. Allocation failure is the only error.
-pub fn steps_to_normal<S: Spec>(alloc: Global, target: &Target<S>) -> Result<StepList, AllocError>
-    ensures { IfOk result (λ l. replayed S.tests target.now l ≡ Some (normal_form S.tests target.now)) }
-{
-    let _valid = target.slices();
     let mut steps = StepList::new(alloc);
-    push_scheme::<S>(&mut steps, target.scheme())?;
-    push_authority_there::<S>(&mut steps, target.authority())?;
-    let stands = target.authority().is_some();
-    push_path::<S>(&mut steps, target.path(), stands)?;
+    push_scheme(&mut steps, target.scheme())?;
+    push_authority::<S>(&mut steps, target.authority())?;
+    push_path::<S>(&mut steps, target.path(), target.authority().is_some())?;
     push_triplets::<S>(&mut steps, Part::Query, target.query())?;
     push_triplets::<S>(&mut steps, Part::Fragment, target.fragment())?;
+    push_default_port::<S>(&mut steps, target.authority(), dropped)?;
+    push_slash(&mut steps, becomes_slash(&parts, dropped))?;
     Ok(steps)
 }

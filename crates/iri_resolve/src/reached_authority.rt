@@ -6,7 +6,7 @@ ghost use Rattle.iri_grammar.specs.Cut.{marked};
 ghost use Rattle.iri_grammar.specs.OptionalSlices.{now_of};
 ghost use Rattle.iri_normal.specs.Resolver.{bytes_of};
 ghost use Rattle.iri_resolve.specs.inside.ChangeOf.{change_of};
-ghost use Rattle.iri_resolve.specs.inside.NormalSteps.{is_port_dropped};
+ghost use Rattle.iri_resolve.specs.NormalSteps.{is_port_dropped};
 ghost use Rattle.iri_resolve.specs.inside.Reached.{IsRead, IsReadThere, ReadOn, ReadOnThere, authority_of, authority_text};
 ghost use Rattle.iri_resolve.specs.inside.Reached.{is_port_empty};
 ghost use Rattle.iri_resolve.specs.Steps.{host_start, in_userinfo_or_host, with_small_letter_in_host};

@@ -1,22 +1,47 @@
-use Rattle.std.proofs.Common.{◌+◌, sym, ◌∙◌, subst}
-use Rattle.iri_resolve.specs.inside.ComponentSteps.{Walked}
-use Rattle.iri_resolve.proofs.ComponentLemmas.{walked-start, walked-on, walked-end, nothing}
+use Rattle.std.proofs.Common.{◌++◌, length, sym, ◌∙◌, ap, arith, append-nil}
+use Rattle.iri_percent.proofs.NormalLaws.{normal_nil}
+use Rattle.iri_percent.specs.Triplets.{normal}
+use Rattle.iri_percent.specs.inside.Pieces.{case_of}
+use Rattle.iri_resolve.specs.NormalSteps.{component_steps}
+use Rattle.iri_resolve.proofs.ComponentLemmas.{no-steps, nothing, prefix-is, something, walked-on}
 use Rattle.iri_resolve.proofs.Edits.{rest_all}
 use Rattle.iri_resolve.proofs.component_steps.push_component.Goals as goal
 
-pub fronts-init : goal.fronts-init
-fronts-init g c =
-    subst (λ z. Walked g.S.Spec.tests c.args.component c.args.text.now c.args.component.start z c.args.steps.now c.args.steps.now)
-    (sym c.as_bytes-rest.ensures.value)
-    (walked-start g.S.Spec.tests c.args.component c.args.text.now c.args.steps.now c.requires.whole)
+pub overflow_add-at : goal.overflow_add-at
+overflow_add-at g c =
+    let q = prefix-is g.S.Spec.tests g.met.S.Spec.lawful c.args.part c.args.lower c.prefixes.at c.prefixes.rest.now c.prefixes.invariant.whole
+    (something c.prefixes.rest.now (sym c.is_empty.ensures ∙ c.prefixes-test.true)) in
+    omega (arith, q.shorter, q.within, c.in_ok-prefix.ensures.len, c.in_ok-prefix.ensures.normal_len, c.prefixes.invariant.room, c.requires.room)
 
-pub fronts-preserved : goal.fronts-preserved
-fronts-preserved g c =
-    subst (λ z. Walked g.S.Spec.tests c.args.component c.args.text.now
-    (c.fronts.at + c.in_ok-front.front.normal_len) z c.args.steps.now c.push_front.new.steps)
-    (sym (rest_all c.fronts.rest.now c.in_ok-front.front.len))
-    (walked-on g.S.Spec.tests c.args.component c.args.text.now c.fronts.rest.now c.fronts.at c.in_ok-front.front.len c.in_ok-front.front.normal_len c.args.steps.now c.fronts.steps c.push_front.new.steps c.fronts.invariant c.in_ok-front.ensures)
+pub slice_bounds-rest-count : goal.slice_bounds-rest-count
+slice_bounds-rest-count g c =
+    let q = prefix-is g.S.Spec.tests g.met.S.Spec.lawful c.args.part c.args.lower c.prefixes.at c.prefixes.rest.now c.prefixes.invariant.whole
+    (something c.prefixes.rest.now (sym c.is_empty.ensures ∙ c.prefixes-test.true)) in
+    omega (arith, q.within, c.in_ok-prefix.ensures.len)
 
-pub returns : goal.returns
-returns g c = walked-end g.S.Spec.tests c.args.component c.args.text.now c.fronts.rest.now c.fronts.at c.args.steps.now c.fronts.steps
-    (nothing c.fronts.rest.now (sym c.is_empty.ensures ∙ c.fronts-test.false)) c.fronts.invariant
+pub slice_bounds-rest-start : goal.slice_bounds-rest-start
+slice_bounds-rest-start g c =
+    let q = prefix-is g.S.Spec.tests g.met.S.Spec.lawful c.args.part c.args.lower c.prefixes.at c.prefixes.rest.now c.prefixes.invariant.whole
+    (something c.prefixes.rest.now (sym c.is_empty.ensures ∙ c.prefixes-test.true)) in
+    omega (arith, q.within, c.in_ok-prefix.ensures.len)
+
+pub prefixes-preserved : goal.prefixes-preserved
+prefixes-preserved g c =
+    let w = walked-on g.S.Spec.tests c.args.part c.args.lower c.args.start c.args.text.now c.prefixes.at c.prefixes.rest.now c.args.steps.now c.prefixes.steps c.push_prefix.new.steps g.met.S.Spec.lawful
+    (something c.prefixes.rest.now (sym c.is_empty.ensures ∙ c.prefixes-test.true)) c.prefixes.invariant c.in_ok-prefix.ensures.steps in
+    rw (rest_all c.prefixes.rest.now c.in_ok-prefix.prefix.len, c.in_ok-prefix.ensures.len, c.in_ok-prefix.ensures.normal_len) w
+
+pub returns-clause-steps : goal.returns-clause-steps
+returns-clause-steps g c =
+    let rest = nothing c.prefixes.rest.now (sym c.is_empty.ensures ∙ c.prefixes-test.false) in
+    sym (append-nil c.prefixes.steps)
+    ∙ ap (λ z. c.prefixes.steps ++ z) (sym (no-steps g.S.Spec.tests c.args.part c.args.lower c.prefixes.at))
+    ∙ ap (λ z. c.prefixes.steps ++ component_steps g.S.Spec.tests c.args.part c.args.lower 0 c.prefixes.at z) (sym rest)
+    ∙ sym c.prefixes.invariant.steps
+
+pub returns-clause-place : goal.returns-clause-place
+returns-clause-place g c =
+    let rest = nothing c.prefixes.rest.now (sym c.is_empty.ensures ∙ c.prefixes-test.false) in
+    let none = ap (λ z. length (normal g.S.Spec.tests (case_of c.args.lower) z)) rest
+    ∙ ap length (normal_nil g.S.Spec.tests (case_of c.args.lower)) in
+    omega (arith, none, c.prefixes.invariant.place)

@@ -14,4 +14,4 @@ returns g c =
     to-one g.S.Spec.tests c.args.mode c.args.a.now c.args.b.now c.in_ok-first.first c.in_ok-second.second g.met.S.Spec.lawful
     (record { fits = c.slices-first.ensures.fits; scheme = c.slices-first.ensures.scheme })
     (record { fits = c.slices-second.ensures.fits; scheme = c.slices-second.ensures.scheme })
-    (sym c.in_ok-have_one_normal_text.ensures ∙ c.if-not-branch.false) c.in_ok-first.ensures c.in_ok-second.ensures
+    (sym c.in_ok-have_one_normal_text.ensures ∙ c.if-not-branch.false) c.in_ok-first.ensures.leads c.in_ok-second.ensures.leads

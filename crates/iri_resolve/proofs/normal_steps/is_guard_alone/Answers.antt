@@ -11,17 +11,17 @@ use Rattle.iri_resolve.proofs.normal_steps.is_guard_alone.Goals as goal
 pub returns-in_default : goal.returns-in_default
 returns-in_default c = sym (one-segment c.args.path.now (sym c.cut.ensures.behind ∙ ap now_of c.in_default.is))
 
-pub returns-in_default-behind : goal.returns-in_default-behind
-returns-in_default-behind c = sym (two-segments c.args.path.now c.in-Some.rest.now (sym c.cut.ensures.behind ∙ ap now_of c.in-Some.is)
-    (sym c.cut-2.ensures.behind ∙ ap now_of c.in_default-behind.is))
+pub returns-in_default-after : goal.returns-in_default-after
+returns-in_default-after c = sym (two-segments c.args.path.now c.in-Some.rest.now (sym c.cut.ensures.behind ∙ ap now_of c.in-Some.is)
+    (sym c.cut-2.ensures.behind ∙ ap now_of c.in_default-after.is))
 
 pub returns : goal.returns
 returns c =
-    let more = more-segments c.args.path.now c.in-Some.rest.now c.in-Some-behind.rest.now
-    (sym c.cut.ensures.behind ∙ ap now_of c.in-Some.is) (sym c.cut-2.ensures.behind ∙ ap now_of c.in-Some-behind.is) in
+    let more = more-segments c.args.path.now c.in-Some.rest.now c.in-Some-after.rest.now
+    (sym c.cut.ensures.behind ∙ ap now_of c.in-Some.is) (sym c.cut-2.ensures.behind ∙ ap now_of c.in-Some-after.is) in
     c.is_guard.ensures
     ∙ ap (λ f. is_empty f && (is_dot_segment c.cut-2.result.0.now && not (is_two_dots c.cut-2.result.0.now))
-    && (starts_with_slash c.in-Some-behind.rest.now && not (has_dot_segment c.in-Some-behind.rest.now))) c.cut.ensures.before
+    && (starts_with_slash c.in-Some-after.rest.now && not (has_dot_segment c.in-Some-after.rest.now))) c.cut.ensures.before
     ∙ ap (λ d. is_empty (before 47 c.args.path.now) && (is_dot_segment d && not (is_two_dots d))
-    && (starts_with_slash c.in-Some-behind.rest.now && not (has_dot_segment c.in-Some-behind.rest.now))) c.cut-2.ensures.before
+    && (starts_with_slash c.in-Some-after.rest.now && not (has_dot_segment c.in-Some-after.rest.now))) c.cut-2.ensures.before
     ∙ sym more

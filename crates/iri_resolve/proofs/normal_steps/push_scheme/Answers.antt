@@ -1,20 +1,19 @@
 use Rattle.std.proofs.Common.{◌++◌, length, ◌∙◌, ap, arith}
 use Rattle.std.specs.Prelude.{slice_index}
-use Rattle.iri_resolve.specs.inside.NormalSteps.{scheme_steps}
-use Rattle.iri_resolve.proofs.NormalStepLemmas.{scheme-next, scheme-end}
+use Rattle.iri_resolve.specs.NormalSteps.{scheme_letter_steps, scheme_steps}
+use Rattle.iri_resolve.proofs.NormalStepLemmas.{letters-end, letters-on}
 use Rattle.iri_resolve.proofs.normal_steps.push_scheme.Goals as goal
 
 pub loop-i-preserved : goal.loop-i-preserved
-loop-i-preserved g c =
+loop-i-preserved c =
     let h = c.loop-i-test.true in
-    scheme-next g.S.Spec.tests c.args.scheme.now c.loop-i.i c.args.steps.now c.loop-i.steps c.push_scheme_letter.new.steps
+    letters-on c.args.scheme.now c.loop-i.i (c.args.steps.now ++ scheme_steps 0 c.args.scheme.now) c.loop-i.steps c.push_scheme_letter.new.steps
     (omega (arith, h, ap length c.as_bytes-letters.ensures.value)) c.loop-i.invariant
     (c.in_ok-push_scheme_letter.ensures ∙ ap (λ w. c.loop-i.steps
-    ++ scheme_steps c.loop-i.i (slice_index w c.loop-i.i)) c.as_bytes-letters.ensures.value)
+    ++ scheme_letter_steps c.loop-i.i (slice_index w c.loop-i.i)) c.as_bytes-letters.ensures.value)
 
 pub returns : goal.returns
-returns g c =
+returns c =
     let low = c.loop-i-test.false in
-    let high = c.loop-i.auto.i-end in
-    scheme-end g.S.Spec.tests c.args.scheme.now c.loop-i.i c.args.steps.now c.loop-i.steps
-    (omega (arith, low, high, ap length c.as_bytes-letters.ensures.value)) c.loop-i.invariant
+    letters-end c.args.scheme.now c.loop-i.i (c.args.steps.now ++ scheme_steps 0 c.args.scheme.now) c.loop-i.steps
+    (omega (arith, low, ap length c.as_bytes-letters.ensures.value)) c.loop-i.invariant
