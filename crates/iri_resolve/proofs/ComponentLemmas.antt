@@ -21,6 +21,7 @@ use Rattle.iri_percent.proofs.Stability.{upper_hex, encode_percent, unreserved_p
 use Rattle.iri_percent.proofs.WholeLaws.{lacks-whole}
 use Rattle.iri_percent.specs.Triplets.{normal}
 use Rattle.iri_percent.specs.Units.{octets, whole_triplets}
+use Rattle.iri_percent.specs.declared.canon_mode.CanonMode.{CanonMode}
 use Rattle.iri_resolve.specs.Changes.{is_small_digit, with_capital_digit, with_decoded, with_small_host_letter, with_small_letter}
 use Rattle.iri_resolve.specs.NormalSteps.{Prefix, byte_prefix, component_steps, digit_steps, letter_steps, prefix_of, triplet_prefix}
 use Rattle.iri_resolve.specs.Steps.{step_in}
@@ -62,36 +63,36 @@ capital_low c h = (low c h, still c h)
     still c h = grind (arith, nat_tests)
 
 -- ---- what is done to a text in its place
-module _ (s : Tests) (part : Part) (lower : Bool) (start : ℕ) (ok : List ℕ → Bool) (put : List ℕ → Parts) (p : IsPlace s part lower start ok put) where
+module _ (s : Tests) (m : CanonMode) (part : Part) (lower : Bool) (start : ℕ) (ok : List ℕ → Bool) (put : List ℕ → Parts) (p : IsPlace s part lower start ok put) where
   letter-led : (a r : List ℕ) (x at : ℕ) → whole_triplets a ≡ true → at ≡ start + length a → ok (a ++ x ∷ r) ≡ true
-      → Led s ok put (a ++ x ∷ r) (letter_steps (lower && is_ascii_uppercase x) at) (a ++ case_of lower x ∷ r)
+      → Led s m ok put (a ++ x ∷ r) (letter_steps (lower && is_ascii_uppercase x) at) (a ++ case_of lower x ∷ r)
   letter-led a r x at w e h =
       elim (lower && is_ascii_uppercase x) as (λ b. (lower && is_ascii_uppercase x) ≡ b
-      → Led s ok put (a ++ x ∷ r) (letter_steps b at) (a ++ case_of lower x ∷ r)) [
+      → Led s m ok put (a ++ x ∷ r) (letter_steps b at) (a ++ case_of lower x ∷ r)) [
         | true ↦ λ g.
             let c = case-lowered lower x g in
-            let q = p.letter (length a) (a ++ x ∷ r) (a ++ to_ascii_lowercase x ∷ r) c.1 h (letter-at a r x w c.2) in
-            rw (c.0, e) (led-step s ok put (a ++ x ∷ r) (a ++ to_ascii_lowercase x ∷ r) (HostLetter (start + length a)) q.0 q.1)
-        | false ↦ λ g. rw (case-kept lower x g) (led-nothing s ok put (a ++ x ∷ r) h)
+            let q = p.letter m (length a) (a ++ x ∷ r) (a ++ to_ascii_lowercase x ∷ r) c.1 h (letter-at a r x w c.2) in
+            rw (c.0, e) (led-step s m ok put (a ++ x ∷ r) (a ++ to_ascii_lowercase x ∷ r) (HostLetter (start + length a)) q.0 q.1)
+        | false ↦ λ g. rw (case-kept lower x g) (led-nothing s m ok put (a ++ x ∷ r) h)
       ] refl
 
   digit-led : (a r : List ℕ) (x at : ℕ) → whole_triplets a ≡ false → is_ascii_hexdigit x ≡ true → at ≡ start + length a
-      → ok (a ++ x ∷ r) ≡ true → Led s ok put (a ++ x ∷ r) (digit_steps part at x) (a ++ to_ascii_uppercase x ∷ r)
+      → ok (a ++ x ∷ r) ≡ true → Led s m ok put (a ++ x ∷ r) (digit_steps part at x) (a ++ to_ascii_uppercase x ∷ r)
   unfolding step_in
   digit-led a r x at w d e h =
       elim (is_small_digit x) as (λ b. is_small_digit x ≡ b
-      → Led s ok put (a ++ x ∷ r) (cond b (HexDigit part at ∷ []) []) (a ++ to_ascii_uppercase x ∷ r)) [
+      → Led s m ok put (a ++ x ∷ r) (cond b (HexDigit part at ∷ []) []) (a ++ to_ascii_uppercase x ∷ r)) [
         | true ↦ λ g.
             let q = p.triplets with_capital_digit (length a) (a ++ x ∷ r) (a ++ to_ascii_uppercase x ∷ r) (capital-keeps s) h
             (capital-at a r x w g) in
-            rw e (led-step s ok put (a ++ x ∷ r) (a ++ to_ascii_uppercase x ∷ r) (HexDigit part (start + length a)) q.0 q.1)
-        | false ↦ λ g. rw (capital_same x d g) (led-nothing s ok put (a ++ x ∷ r) h)
+            rw e (led-step s m ok put (a ++ x ∷ r) (a ++ to_ascii_uppercase x ∷ r) (HexDigit part (start + length a)) q.0 q.1)
+        | false ↦ λ g. rw (capital_same x d g) (led-nothing s m ok put (a ++ x ∷ r) h)
       ] refl
 
   -- the digits of a triplet that stays
   digits-led : (a r : List ℕ) (x y at : ℕ) → is_ascii_hexdigit x ≡ true → is_ascii_hexdigit y ≡ true → at ≡ start + length a
       → ok (a ++ 37 ∷ x ∷ y ∷ r) ≡ true
-      → Led s ok put (a ++ 37 ∷ x ∷ y ∷ r) (digit_steps part (at + 1) x ++ digit_steps part (at + 2) y)
+      → Led s m ok put (a ++ 37 ∷ x ∷ y ∷ r) (digit_steps part (at + 1) x ++ digit_steps part (at + 2) y)
       ((a ++ 37 ∷ to_ascii_uppercase x ∷ to_ascii_uppercase y ∷ []) ++ r)
   unfolding whole_triplets
   digits-led a r x y at dx dy e h =
@@ -100,51 +101,51 @@ module _ (s : Tests) (part : Part) (lower : Bool) (start : ℕ) (ok : List ℕ �
       let group : (z : ℕ) (w : List ℕ) → (a ++ 37 ∷ []) ++ z ∷ w ≡ a ++ 37 ∷ z ∷ w = λ z w. append_assoc a (37 ∷ []) (z ∷ w) in
       let pair : (z v : ℕ) (w : List ℕ) → (a ++ 37 ∷ z ∷ []) ++ v ∷ w ≡ a ++ 37 ∷ z ∷ v ∷ w =
       λ z v w. append_assoc a (37 ∷ z ∷ []) (v ∷ w) in
-      let one : Led s ok put (a ++ 37 ∷ x ∷ y ∷ r) (digit_steps part (at + 1) x) (a ++ 37 ∷ X ∷ y ∷ r) =
-      subst (λ z. Led s ok put z (digit_steps part (at + 1) x) (a ++ 37 ∷ X ∷ y ∷ r)) (group x (y ∷ r))
-      (subst (λ z. Led s ok put ((a ++ 37 ∷ []) ++ x ∷ y ∷ r) (digit_steps part (at + 1) x) z) (group X (y ∷ r))
+      let one : Led s m ok put (a ++ 37 ∷ x ∷ y ∷ r) (digit_steps part (at + 1) x) (a ++ 37 ∷ X ∷ y ∷ r) =
+      subst (λ z. Led s m ok put z (digit_steps part (at + 1) x) (a ++ 37 ∷ X ∷ y ∷ r)) (group x (y ∷ r))
+      (subst (λ z. Led s m ok put ((a ++ 37 ∷ []) ++ x ∷ y ∷ r) (digit_steps part (at + 1) x) z) (group X (y ∷ r))
       (digit-led (a ++ 37 ∷ []) (y ∷ r) x (at + 1) (not-whole a (37 ∷ []) whole_percent) dx
       (omega (arith, e, length-append a (37 ∷ []))) (ap ok (group x (y ∷ r)) ∙ h))) in
       let two = digit-led (a ++ 37 ∷ X ∷ []) r y (at + 2) (not-whole a (37 ∷ X ∷ []) refl) dy
       (omega (arith, e, length-append a (37 ∷ X ∷ []))) (ap ok (pair X y r) ∙ one.good) in
-      led-on s ok put (a ++ 37 ∷ x ∷ y ∷ r) (a ++ 37 ∷ X ∷ y ∷ r) ((a ++ 37 ∷ X ∷ Y ∷ []) ++ r) (digit_steps part (at + 1) x)
+      led-on s m ok put (a ++ 37 ∷ x ∷ y ∷ r) (a ++ 37 ∷ X ∷ y ∷ r) ((a ++ 37 ∷ X ∷ Y ∷ []) ++ r) (digit_steps part (at + 1) x)
       (digit_steps part (at + 2) y) one
-      (subst (λ z. Led s ok put z (digit_steps part (at + 2) y) ((a ++ 37 ∷ X ∷ Y ∷ []) ++ r)) (pair X y r)
-      (subst (λ z. Led s ok put ((a ++ 37 ∷ X ∷ []) ++ y ∷ r) (digit_steps part (at + 2) y) z)
+      (subst (λ z. Led s m ok put z (digit_steps part (at + 2) y) ((a ++ 37 ∷ X ∷ Y ∷ []) ++ r)) (pair X y r)
+      (subst (λ z. Led s m ok put ((a ++ 37 ∷ X ∷ []) ++ y ∷ r) (digit_steps part (at + 2) y) z)
       (pair X Y r ∙ sym (append_assoc a (37 ∷ X ∷ Y ∷ []) r)) two))
 
   -- a letter that was decoded
   char-led : (a r : List ℕ) (c at : ℕ) → whole_triplets a ≡ true → at ≡ start + length a → ok (a ++ (encode_utf8 c ++ r)) ≡ true
-      → Led s ok put (a ++ (encode_utf8 c ++ r)) (letter_steps (lower && is_ascii_uppercase c) at) (a ++ (encode_utf8 (case_of lower c) ++ r))
+      → Led s m ok put (a ++ (encode_utf8 c ++ r)) (letter_steps (lower && is_ascii_uppercase c) at) (a ++ (encode_utf8 (case_of lower c) ++ r))
   char-led a r c at w e h =
       elim (lower && is_ascii_uppercase c) as (λ b. (lower && is_ascii_uppercase c) ≡ b
-      → Led s ok put (a ++ (encode_utf8 c ++ r)) (letter_steps b at) (a ++ (encode_utf8 (case_of lower c) ++ r))) [
+      → Led s m ok put (a ++ (encode_utf8 c ++ r)) (letter_steps b at) (a ++ (encode_utf8 (case_of lower c) ++ r))) [
         | true ↦ λ g.
             let k = case-lowered lower c g in
             let low = capital_low c k.2 in
             let old : encode_utf8 c ≡ c ∷ [] = encode_ascii c low.0 in
             let new : encode_utf8 (case_of lower c) ≡ case_of lower c ∷ [] =
             encode_ascii (case_of lower c) (subst (λ z. z < 128) (sym k.0) low.1) in
-            subst (λ z. Led s ok put (a ++ (z ++ r)) (letter_steps true at) (a ++ (encode_utf8 (case_of lower c) ++ r))) (sym old)
-            (subst (λ z. Led s ok put (a ++ c ∷ r) (letter_steps true at) (a ++ (z ++ r))) (sym new)
-            (subst (λ b. Led s ok put (a ++ c ∷ r) (letter_steps b at) (a ++ case_of lower c ∷ r)) g
+            subst (λ z. Led s m ok put (a ++ (z ++ r)) (letter_steps true at) (a ++ (encode_utf8 (case_of lower c) ++ r))) (sym old)
+            (subst (λ z. Led s m ok put (a ++ c ∷ r) (letter_steps true at) (a ++ (z ++ r))) (sym new)
+            (subst (λ b. Led s m ok put (a ++ c ∷ r) (letter_steps b at) (a ++ case_of lower c ∷ r)) g
             (letter-led a r c at w e (ap (λ z. ok (a ++ (z ++ r))) (sym old) ∙ h))))
-        | false ↦ λ g. rw (case-kept lower c g) (led-nothing s ok put (a ++ (encode_utf8 c ++ r)) h)
+        | false ↦ λ g. rw (case-kept lower c g) (led-nothing s m ok put (a ++ (encode_utf8 c ++ r)) h)
       ] refl
 
   decode-led : (a t : List ℕ) (c at : ℕ) → IsSpec s → whole_triplets a ≡ true → decoded s (octets t) ≡ Some c → at ≡ start + length a
-      → ok (a ++ t) ≡ true → Led s ok put (a ++ t) (Decode part at ∷ letter_steps (lower && is_ascii_uppercase c) at)
+      → ok (a ++ t) ≡ true → Led s m ok put (a ++ t) (Decode part at ∷ letter_steps (lower && is_ascii_uppercase c) at)
       ((a ++ encode_utf8 (case_of lower c)) ++ drop (3 * len_utf8 c) t)
   unfolding step_in
   decode-led a t c at k w d e h =
       let r = drop (3 * len_utf8 c) t in
       let q = p.triplets (with_decoded s) (length a) (a ++ t) (a ++ (encode_utf8 c ++ r)) (decoding-keeps s k) h (decoded-at s a t c d) in
-      let one = led-step s ok put (a ++ t) (a ++ (encode_utf8 c ++ r)) (Decode part (start + length a)) q.0 q.1 in
+      let one = led-step s m ok put (a ++ t) (a ++ (encode_utf8 c ++ r)) (Decode part (start + length a)) q.0 q.1 in
       let two = char-led a r c at w e one.good in
-      led-on s ok put (a ++ t) (a ++ (encode_utf8 c ++ r)) ((a ++ encode_utf8 (case_of lower c)) ++ r) (Decode part at ∷ [])
+      led-on s m ok put (a ++ t) (a ++ (encode_utf8 c ++ r)) ((a ++ encode_utf8 (case_of lower c)) ++ r) (Decode part at ∷ [])
       (letter_steps (lower && is_ascii_uppercase c) at)
-      (subst (λ i. Led s ok put (a ++ t) (Decode part i ∷ []) (a ++ (encode_utf8 c ++ r))) (sym e) one)
-      (subst (λ z. Led s ok put (a ++ (encode_utf8 c ++ r)) (letter_steps (lower && is_ascii_uppercase c) at) z)
+      (subst (λ i. Led s m ok put (a ++ t) (Decode part i ∷ []) (a ++ (encode_utf8 c ++ r))) (sym e) one)
+      (subst (λ z. Led s m ok put (a ++ (encode_utf8 c ++ r)) (letter_steps (lower && is_ascii_uppercase c) at) z)
       (sym (append_assoc a (encode_utf8 (case_of lower c)) r)) two)
 
 -- ---- what a text begins with
@@ -157,8 +158,8 @@ pub record IsPrefix (s : Tests) (part : Part) (lower : Bool) (at : ℕ) (t : Lis
   pub whole : whole_triplets text ≡ true
   pub whole_rest : whole_triplets (drop p.len t) ≡ true
   pub form : normal s (case_of lower) t ≡ text ++ normal s (case_of lower) (drop p.len t)
-  pub leads : (start : ℕ) (ok : List ℕ → Bool) (put : List ℕ → Parts) → IsPlace s part lower start ok put → (a : List ℕ)
-      → whole_triplets a ≡ true → at ≡ start + length a → ok (a ++ t) ≡ true → Led s ok put (a ++ t) p.steps ((a ++ text) ++ drop p.len t)
+  pub leads : (m : CanonMode) (start : ℕ) (ok : List ℕ → Bool) (put : List ℕ → Parts) → IsPlace s part lower start ok put → (a : List ℕ)
+      → whole_triplets a ≡ true → at ≡ start + length a → ok (a ++ t) ≡ true → Led s m ok put (a ++ t) p.steps ((a ++ text) ++ drop p.len t)
 
 module _ (s : Tests) (k : IsSpec s) (part : Part) (lower : Bool) (at : ℕ) where
   byte-is : (x : ℕ) (xs : List ℕ) → whole_triplets (x ∷ xs) ≡ true → (x == 37) ≡ false
@@ -172,9 +173,9 @@ module _ (s : Tests) (k : IsSpec s) (part : Part) (lower : Bool) (at : ℕ) wher
     whole = whole_plain (case_of lower x) [] (plain_case lower x n) ∙ whole_nil;
     whole_rest = sym (whole_plain x xs n) ∙ w;
     form = normal_plain s (case_of lower) x xs n;
-    leads = λ start ok put p a v e h.
-        subst (λ z. Led s ok put (a ++ x ∷ xs) (letter_steps (lower && is_ascii_uppercase x) at) z)
-        (sym (append_assoc a (case_of lower x ∷ []) xs)) (letter-led s part lower start ok put p a xs x at v e h);
+    leads = λ m start ok put p a v e h.
+        subst (λ z. Led s m ok put (a ++ x ∷ xs) (letter_steps (lower && is_ascii_uppercase x) at) z)
+        (sym (append_assoc a (case_of lower x ∷ []) xs)) (letter-led s m part lower start ok put p a xs x at v e h);
   }
 
   kept-is : (x y : ℕ) (r : List ℕ) → whole_triplets r ≡ true → is_ascii_hexdigit x ≡ true → is_ascii_hexdigit y ≡ true
@@ -189,7 +190,7 @@ module _ (s : Tests) (k : IsSpec s) (part : Part) (lower : Bool) (at : ℕ) wher
     whole = whole_triplet (to_ascii_uppercase x) (to_ascii_uppercase y) [] (upper_hex x dx) (upper_hex y dy) ∙ whole_nil;
     whole_rest = w;
     form = normal_kept s (case_of lower) x y r dx dy n;
-    leads = λ start ok put p a v e h. digits-led s part lower start ok put p a r x y at dx dy e h;
+    leads = λ m start ok put p a v e h. digits-led s m part lower start ok put p a r x y at dx dy e h;
   }
 
   decoded-is : (t : List ℕ) (c : ℕ) → whole_triplets t ≡ true → slice_index t 0 ≡ 37 → decoded s (octets t) ≡ Some c
@@ -208,7 +209,7 @@ module _ (s : Tests) (k : IsSpec s) (part : Part) (lower : Bool) (at : ℕ) wher
         whole = lacks-whole (encode_utf8 (f c)) (encode_percent (f c) (plain_case lower c percent));
         whole_rest = ap (λ i. whole_triplets (drop i t)) (sym zero) ∙ r.whole;
         form = r.text ∙ ap (λ i. encode_utf8 (f c) ++ normal s f (drop i t)) zero;
-        leads = λ start ok put p a v i h. decode-led s part lower start ok put p a t c at k v d i h;
+        leads = λ m start ok put p a v i h. decode-led s m part lower start ok put p a t c at k v d i h;
       }
 
   triplet-is : (x : ℕ) (xs : List ℕ) (o : Option ℕ) → whole_triplets (x ∷ xs) ≡ true → x ≡ 37 → decoded s (octets (x ∷ xs)) ≡ o
@@ -253,10 +254,10 @@ pub no-steps : (s : Tests) (part : Part) (lower : Bool) (at : ℕ) → component
 unfolding component_steps
 no-steps s part lower at = refl
 
-module _ (s : Tests) (k : IsSpec s) (part : Part) (lower : Bool) (start : ℕ) (ok : List ℕ → Bool) (put : List ℕ → Parts) (c : IsPlace s part lower start ok put) where
+module _ (s : Tests) (k : IsSpec s) (m : CanonMode) (part : Part) (lower : Bool) (start : ℕ) (ok : List ℕ → Bool) (put : List ℕ → Parts) (c : IsPlace s part lower start ok put) where
   goes : (n : ℕ) (a t : List ℕ) (at : ℕ) → length t ≤ n → whole_triplets a ≡ true → whole_triplets t ≡ true → at ≡ start + length a
-      → ok (a ++ t) ≡ true → Led s ok put (a ++ t) (component_steps s part lower 0 at t) (a ++ normal s (case_of lower) t)
-  goes n a [] at l w v e h = rw (no-steps s part lower at, normal_nil s (case_of lower)) (led-nothing s ok put (a ++ []) h)
+      → ok (a ++ t) ≡ true → Led s m ok put (a ++ t) (component_steps s part lower 0 at t) (a ++ normal s (case_of lower) t)
+  goes n a [] at l w v e h = rw (no-steps s part lower at, normal_nil s (case_of lower)) (led-nothing s m ok put (a ++ []) h)
   goes zero a (x ∷ xs) at l w v e h = absurd (omega arith)
   goes (suc n) a (x ∷ xs) at l w v e h =
       let t = x ∷ xs in
@@ -264,17 +265,17 @@ module _ (s : Tests) (k : IsSpec s) (part : Part) (lower : Bool) (start : ℕ) (
       let p = prefix_of s part lower at t in
       let q = prefix-is s k part lower at t v (omega arith) in
       let r = drop p.len t in
-      let m = component_steps s part lower 0 (at + p.normal_len) r in
-      let one = q.leads start ok put c a w e h in
+      let rest = component_steps s part lower 0 (at + p.normal_len) r in
+      let one = q.leads m start ok put c a w e h in
       let two = goes n (a ++ q.text) r (at + p.normal_len) (omega (arith, l, q.some, length-drop p.len t)) (whole-append a q.text w q.whole)
       q.whole_rest (omega (arith, e, q.long, length-append a q.text)) one.good in
       let text : (a ++ q.text) ++ normal s f r ≡ a ++ normal s f t = append_assoc a q.text (normal s f r) ∙ ap (λ z. a ++ z) (sym q.form) in
-      subst (λ i. Led s ok put (a ++ t) i (a ++ normal s f t)) (sym (next-steps s part lower at t (omega arith) q.some))
-      (subst (λ z. Led s ok put (a ++ t) (p.steps ++ m) z) text
-      (led-on s ok put (a ++ t) ((a ++ q.text) ++ r) ((a ++ q.text) ++ normal s f r) p.steps m one two))
+      subst (λ i. Led s m ok put (a ++ t) i (a ++ normal s f t)) (sym (next-steps s part lower at t (omega arith) q.some))
+      (subst (λ z. Led s m ok put (a ++ t) (p.steps ++ rest) z) text
+      (led-on s m ok put (a ++ t) ((a ++ q.text) ++ r) ((a ++ q.text) ++ normal s f r) p.steps rest one two))
 
   pub component-led : (t : List ℕ) → whole_triplets t ≡ true → ok t ≡ true
-      → Led s ok put t (component_steps s part lower 0 start t) (normal s (case_of lower) t)
+      → Led s m ok put t (component_steps s part lower 0 start t) (normal s (case_of lower) t)
   component-led t w h = goes (length t) [] t start (omega arith) whole_nil w (omega arith) h
 
 -- ---- as it is written: so much is done, and the steps of the rest follow

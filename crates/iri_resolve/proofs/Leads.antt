@@ -12,9 +12,8 @@ use Rattle.iri_percent.specs.Units.{octets, two_digits, whole_triplets}
 use Rattle.iri_percent.specs.NormalLaws.{decoded}
 use Rattle.iri_percent.proofs.SeamLaws.{whole-behind}
 use Rattle.iri_percent.specs.declared.canon_mode.CanonMode.{CanonMode}
-use Rattle.iri_percent.specs.declared.canon_mode.CanonMode.TheVariants.{Default}
 use Rattle.iri_resolve.specs.Changes.{is_small_digit, with_capital_digit, with_character, with_decoded}
-use Rattle.iri_resolve.specs.Steps.{step, step_in, onward, replayed, replayed_in}
+use Rattle.iri_resolve.specs.Steps.{step_in, onward, replayed_in}
 use Rattle.iri_resolve.specs.declared.step.Step.{Step}
 
 -- ---- steps one after the other
@@ -30,26 +29,23 @@ replayed_in-append s c t u (x ∷ l) m h = at (step_in s c t x) h (λ w k. repla
     at None k go = cc
     at (Some w) k go = go w k
 
-pub replayed-append : (s : Tests) (t u : Parts) (l m : List Step) → replayed s t l ≡ Some u → replayed s t (l ++ m) ≡ replayed s u m
-replayed-append s t u l m h = replayed_in-append s Default t u l m h
-
 -- the steps l lead from the text x to the text y in its place; `ok` is what its texts keep
-pub record Led (s : Tests) (ok : List ℕ → Bool) (put : List ℕ → Parts) (x : List ℕ) (l : List Step) (y : List ℕ) : Type 0 where
-  pub leads : replayed s (put x) l ≡ Some (put y)
+pub record Led (s : Tests) (m : CanonMode) (ok : List ℕ → Bool) (put : List ℕ → Parts) (x : List ℕ) (l : List Step) (y : List ℕ) : Type 0 where
+  pub leads : replayed_in s m (put x) l ≡ Some (put y)
   pub good : ok y ≡ true
 
-pub led-nothing : (s : Tests) (ok : List ℕ → Bool) (put : List ℕ → Parts) (x : List ℕ) → ok x ≡ true → Led s ok put x [] x
+pub led-nothing : (s : Tests) (m : CanonMode) (ok : List ℕ → Bool) (put : List ℕ → Parts) (x : List ℕ) → ok x ≡ true → Led s m ok put x [] x
 unfolding replayed_in
-led-nothing s ok put x h = record { leads = refl; good = h }
+led-nothing s m ok put x h = record { leads = refl; good = h }
 
-pub led-step : (s : Tests) (ok : List ℕ → Bool) (put : List ℕ → Parts) (x y : List ℕ) (n : Step) → step s (put x) n ≡ Some (put y)
-    → ok y ≡ true → Led s ok put x (n ∷ []) y
+pub led-step : (s : Tests) (m : CanonMode) (ok : List ℕ → Bool) (put : List ℕ → Parts) (x y : List ℕ) (n : Step)
+    → step_in s m (put x) n ≡ Some (put y) → ok y ≡ true → Led s m ok put x (n ∷ []) y
 unfolding replayed_in
-led-step s ok put x y n h g = record { leads = ap (λ o. onward o (λ v. Some v)) h; good = g }
+led-step s m ok put x y n h g = record { leads = ap (λ o. onward o (λ v. Some v)) h; good = g }
 
-pub led-on : (s : Tests) (ok : List ℕ → Bool) (put : List ℕ → Parts) (x y z : List ℕ) (l m : List Step) → Led s ok put x l y
-    → Led s ok put y m z → Led s ok put x (l ++ m) z
-led-on s ok put x y z l m a b = record { leads = replayed-append s (put x) (put y) l m a.leads ∙ b.leads; good = b.good }
+pub led-on : (s : Tests) (m : CanonMode) (ok : List ℕ → Bool) (put : List ℕ → Parts) (x y z : List ℕ) (l n : List Step) → Led s m ok put x l y
+    → Led s m ok put y n z → Led s m ok put x (l ++ n) z
+led-on s m ok put x y z l n a b = record { leads = replayed_in-append s m (put x) (put y) l n a.leads ∙ b.leads; good = b.good }
 
 -- ---- whole triplets
 pub whole_nil : whole_triplets [] ≡ true

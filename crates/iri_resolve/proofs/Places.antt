@@ -16,8 +16,9 @@ use Rattle.iri_percent.specs.Triplets.{normal}
 use Rattle.iri_percent.specs.NormalHost.{is_ascii_host}
 use Rattle.iri_percent.proofs.ClassLaws.{in_userinfo, in_path, in_query, in_fragment}
 use Rattle.iri_percent.proofs.WholeLaws.{host-whole, userinfo_percent, path_percent, query_percent, fragment_percent}
+use Rattle.iri_percent.specs.declared.canon_mode.CanonMode.{CanonMode}
 use Rattle.iri_resolve.specs.Changes.{with_small_host_letter}
-use Rattle.iri_resolve.specs.Steps.{placed, host_start, at_place, step, step_in}
+use Rattle.iri_resolve.specs.Steps.{placed, host_start, at_place, step_in}
 use Rattle.iri_resolve.proofs.AuthoritySteps.{host-kept, letter-kept, ascii-same}
 use Rattle.iri_resolve.proofs.ChangeKeeps.{TripletChange}
 use Rattle.iri_resolve.specs.declared.step.Part.{Part}
@@ -28,8 +29,8 @@ use Rattle.iri_resolve.specs.declared.step.Step.TheVariants.{HostLetter}
 pub record IsPlace (s : Tests) (part : Part) (lower : Bool) (start : ℕ) (ok : List ℕ → Bool) (put : List ℕ → Parts) : Type 0 where
   pub triplets : (change : ℕ → List ℕ → Option (List ℕ)) (i : ℕ) (x y : List ℕ) → TripletChange s change → ok x ≡ true → change i x ≡ Some y
       → (at_place change (put x) part (start + i) ≡ Some (put y)) × (ok y ≡ true)
-  pub letter : (i : ℕ) (x y : List ℕ) → lower ≡ true → ok x ≡ true → with_small_host_letter i x ≡ Some y
-      → (step s (put x) (HostLetter (start + i)) ≡ Some (put y)) × (ok y ≡ true)
+  pub letter : (m : CanonMode) (i : ℕ) (x y : List ℕ) → lower ≡ true → ok x ≡ true → with_small_host_letter i x ≡ Some y
+      → (step_in s m (put x) (HostLetter (start + i)) ≡ Some (put y)) × (ok y ≡ true)
 
 nought : (n : ℕ) → 0 + n ≡ n
 nought n = omega arith
@@ -44,7 +45,7 @@ class-place s part class put n f at = record {
     ap (at_place change (put x) part) (nought i) ∙ at change i x ∙ ap (placed put) h,
     c.over class i x y n f h o,
   );
-  letter = λ i x y low o h. cc;
+  letter = λ m i x y low o h. cc;
 }
 
 pub path-place : (s : Tests) (u : Parts) → IsSpec s → IsPlace s Path false 0 (is_path s) (λ p. record u { path = p })
@@ -86,7 +87,7 @@ userinfo-place s t p k f = record {
         ∙ in-userinfo s change t p i x y k f o (c.inside i x y h) h,
     c.over (userinfo_char s) i x y (userinfo_percent s k) (in_userinfo s) h o,
   );
-  letter = λ i x y low o h. cc;
+  letter = λ m i x y low o h. cc;
 }
 
 after-start : (n i : ℕ) → (n + i) - n ≡ i
@@ -104,11 +105,11 @@ in-host s change t p i h g k f o e =
     let far : nat_lt (host_start p + i) (host_start p) ≡ false = not-below (host_start p + i) (host_start p) (omega arith) in
     rw (host-reading s p h k f o, far, after-start (host_start p) i, e) refl
 
-letter-in-host : (s : Tests) (t : Parts) (p : AuthorityParts) (i : ℕ) (h g : List ℕ) → IsSpec s → FitsAuthority s p → is_host s h ≡ true
+letter-in-host : (s : Tests) (m : CanonMode) (t : Parts) (p : AuthorityParts) (i : ℕ) (h g : List ℕ) → IsSpec s → FitsAuthority s p → is_host s h ≡ true
     → is_ascii_host h ≡ true → with_small_host_letter i h ≡ Some g
-    → step s (with_authority t (record p { host = h })) (HostLetter (host_start p + i)) ≡ Some (with_authority t (record p { host = g }))
+    → step_in s m (with_authority t (record p { host = h })) (HostLetter (host_start p + i)) ≡ Some (with_authority t (record p { host = g }))
 unfolding step_in
-letter-in-host s t p i h g k f o a e =
+letter-in-host s m t p i h g k f o a e =
     let far : nat_lt (host_start p + i) (host_start p) ≡ false = not-below (host_start p + i) (host_start p) (omega arith) in
     rw (host-reading s p h k f o, a, far, after-start (host_start p) i, e) refl
 
@@ -116,7 +117,7 @@ pub host-place : (s : Tests) (t : Parts) (p : AuthorityParts) → IsSpec s → F
     → IsPlace s Authority false (host_start p) (is_host s) (λ h. with_authority t (record p { host = h }))
 host-place s t p k f = record {
   triplets = λ change i x y c o h. (in-host s change t p i x y k f o h, (host-kept s change i x y k c h o).0);
-  letter = λ i x y low o h. cc;
+  letter = λ m i x y low o h. cc;
 }
 
 -- an ASCII host
@@ -136,7 +137,7 @@ ascii-place s t p k f = record {
         q.0,
         ascii-kept s x y k b.0 q.1 (c.form to_ascii_lowercase i x y h (host-whole s x k b.0) (host-whole s y k q.1)) b.1,
       );
-  letter = λ i x y low o h.
+  letter = λ m i x y low o h.
       let b = both (is_host s x) (is_ascii_host x) o in
-      let q = letter-kept s i x y k h b.0 in (letter-in-host s t p i x y k f b.0 b.1 h, ascii-kept s x y k b.0 q.0 q.1 b.1);
+      let q = letter-kept s i x y k h b.0 in (letter-in-host s m t p i x y k f b.0 b.1 h, ascii-kept s x y k b.0 q.0 q.1 b.1);
 }

@@ -25,7 +25,7 @@ use Rattle.iri_resolve.specs.Steps.{placed, in_part, in_host, in_userinfo_or_hos
 use Rattle.iri_resolve.specs.Steps.{at_place, with_dots_removed, with_slash, without_dropped_port, without_empty_port}
 use Rattle.iri_resolve.specs.inside.ChangeOf.{change_of}
 use Rattle.iri_resolve.specs.NormalSteps.{is_port_dropped}
-use Rattle.iri_resolve.specs.inside.Reached.{IsRead, Holds, PartWent, ReadOn, ReadOnThere, Reaches, authority_of, authority_text}
+use Rattle.iri_resolve.specs.inside.Reached.{IsRead, Holds, WentThere, ReadOn, ReadOnThere, Reaches, authority_of, authority_text}
 use Rattle.iri_resolve.specs.inside.Reached.{is_port_empty, other_than, parts_of, went}
 use Rattle.iri_resolve.proofs.AuthoritySteps.{ascii-same, host-kept, letter-kept}
 use Rattle.iri_resolve.proofs.ChangeKeeps.{TripletChange}
@@ -43,18 +43,18 @@ pub placed-went : {X : Type 0} (f : List ℕ → X) (b : Bool) (x : List ℕ) �
 placed-went f true x = refl
 placed-went f false x = refl
 
-pub part-went : (f : List ℕ → Option (List ℕ)) (b : Bool) (x y : List ℕ) → went b y ≡ f x → PartWent f b (Some x) (Some y)
+pub part-went : (f : List ℕ → Option (List ℕ)) (b : Bool) (x y : List ℕ) → went b y ≡ f x → WentThere f b (Some x) (Some y)
 part-went f true x y h = (sym h, refl)
 part-went f false x y h = sym h
 
 pub put-went : {X : Type 0} (put : Option (List ℕ) → X) (f : List ℕ → Option (List ℕ)) (b : Bool) (o p : Option (List ℕ))
-    → PartWent f b o p → went b (put p) ≡ placed (λ x. put (Some x)) (in_part f o)
+    → WentThere f b o p → went b (put p) ≡ placed (λ x. put (Some x)) (in_part f o)
 put-went put f true o None h = cc
 put-went put f true o (Some y) h = ap (placed (λ x. put (Some x))) (sym h.0)
 put-went put f false o p h = ap (placed (λ x. put (Some x))) (sym h)
 
 part-over : (s : Tests) (change : ℕ → List ℕ → Option (List ℕ)) (i : ℕ) (p : ℕ → Bool) (b : Bool) (o q : Option (List ℕ))
-    → TripletChange s change → p 37 ≡ false → ((c : ℕ) → unreserved s c ≡ true → p c ≡ true) → b ≡ true → PartWent (change i) b o q
+    → TripletChange s change → p 37 ≡ false → ((c : ℕ) → unreserved s c ≡ true → p c ≡ true) → b ≡ true → WentThere (change i) b o q
     → if_there (text_over p) o ≡ true → if_there (text_over p) q ≡ true
 part-over s change i p false o q c n f e h g = cc
 part-over s change i p true o None c n f e h g = refl
@@ -64,7 +64,7 @@ part-over s change i p true (Some x) (Some y) c n f e h g = c.over p i x y n f h
 -- ---- the parts of an authority
 pub userinfo-on : (s : Tests) (change : ℕ → List ℕ → Option (List ℕ)) (i : ℕ) (a : ReachedAuthority) (u : Option (String Global)) (b : Bool)
     → IsSpec s → TripletChange s change → IsRead s a → nat_lt i (host_start (authority_of a)) ≡ true
-    → PartWent (change i) b (bytes_of a.userinfo) (bytes_of u) → ReadOn s (in_userinfo_or_host change i) b a (record a { userinfo = u })
+    → WentThere (change i) b (bytes_of a.userinfo) (bytes_of u) → ReadOn s (in_userinfo_or_host change i) b a (record a { userinfo = u })
 userinfo-on s change i a u b k c r low h =
     let p = authority_of a in
     let put : Option (List ℕ) → List ℕ = λ o. recompose_authority (record p { userinfo = o }) in
@@ -238,7 +238,7 @@ path-reached s b r x w h e = record {
 }
 
 pub query-reached : (s : Tests) (f : List ℕ → Option (List ℕ)) (b : Bool) (r : Reached) (x : Option (String Global)) → Holds s r
-    → PartWent f b (bytes_of r.query) (bytes_of x)
+    → WentThere f b (bytes_of r.query) (bytes_of x)
     → Reaches s (placed (λ z. record (parts_of r) { query = Some z }) (in_part f (bytes_of r.query))) b (record r { query = x })
 query-reached s f b r x h e = record {
   parts = put-went (λ z. record (parts_of r) { query = z }) f b (bytes_of r.query) (bytes_of x) e;
@@ -246,7 +246,7 @@ query-reached s f b r x h e = record {
 }
 
 pub fragment-reached : (s : Tests) (f : List ℕ → Option (List ℕ)) (b : Bool) (r : Reached) (x : Option (String Global)) → Holds s r
-    → PartWent f b (bytes_of r.fragment) (bytes_of x)
+    → WentThere f b (bytes_of r.fragment) (bytes_of x)
     → Reaches s (placed (λ z. record (parts_of r) { fragment = Some z }) (in_part f (bytes_of r.fragment))) b (record r { fragment = x })
 fragment-reached s f b r x h e = record {
   parts = put-went (λ z. record (parts_of r) { fragment = z }) f b (bytes_of r.fragment) (bytes_of x) e;

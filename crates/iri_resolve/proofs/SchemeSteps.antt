@@ -19,7 +19,7 @@ use Rattle.iri_percent.proofs.MapKinds.{authority-reads as reads}
 use Rattle.iri_normal.specs.LowerCase.{lowered, where_there}
 use Rattle.iri_normal.specs.Modes.{mode_of}
 use Rattle.iri_normal.specs.NormalForm.{becomes_slash, form, normal_form, normal_form_in, normal_path, slash_or}
-use Rattle.iri_resolve.specs.Steps.{in_part, onward, placed, replayed, replayed_in, step, step_in, with_slash, without_dropped_port, Joined, JoinedIn}
+use Rattle.iri_resolve.specs.Steps.{in_part, onward, placed, replayed_in, step_in, with_slash, without_dropped_port, Joined, JoinedIn}
 use Rattle.iri_resolve.specs.NormalSteps.{default_port_steps, has_port, is_port_dropped, plain_steps, scheme_rule_steps, slash_steps, steps_of}
 use Rattle.iri_resolve.specs.declared.step.Step.{Step}
 use Rattle.iri_resolve.specs.declared.step.Step.TheVariants.{SchemeLetter, HostLetter, HexDigit, Decode, EmptyPort, Dots, DefaultPort, SlashPath}
@@ -28,7 +28,7 @@ use Rattle.iri_resolve.proofs.AuthoritySteps.{placed-is, in_part-is}
 use Rattle.iri_resolve.proofs.NormalStepLemmas.{plain-led}
 use Rattle.iri_resolve.proofs.Leads.{replayed_in-append}
 use Rattle.iri_normal.proofs.SchemeForm.{by_scheme, dropped-lowered, form-by_scheme, kept_port, normal-slash, normal_in-fits, one-form, slash-normal, without}
-use Rattle.iri_resolve.proofs.StepsKept.{Kept, Valid, authority-rules, no_default_port, step-kept}
+use Rattle.iri_resolve.proofs.StepsKept.{Kept, Valid, authority-rules, step-kept}
 use Rattle.iri_normal.proofs.TargetLaws.{slash_in_path}
 use Rattle.iri_normal.proofs.TextLaws.{slash_over}
 
@@ -146,18 +146,6 @@ slash-kept s t k v h =
     }
 
 -- ---- each step
--- the steps of every scheme are steps of each mode
-pub step-in : (s : Tests) (m : CanonMode) (t u : Parts) (x : Step) → step s t x ≡ Some u → step_in s m t x ≡ Some u
-unfolding step_in
-step-in s m t u (SchemeLetter i) h = h
-step-in s m t u (HostLetter i) h = h
-step-in s m t u (HexDigit part i) h = h
-step-in s m t u (Decode part i) h = h
-step-in s m t u EmptyPort h = h
-step-in s m t u Dots h = h
-step-in s m t u DefaultPort h = absurd (no_default_port s t u h)
-step-in s m t u SlashPath h = cc
-
 pub step_in-kept : (s : Tests) (m : CanonMode) (t u : Parts) (x : Step) → IsSpec s → Valid s t → step_in s m t x ≡ Some u → KeptIn s m t u
 unfolding step_in
 step_in-kept s Default t u x k v h = kept_in s Default t u k v (step-kept s t u x k v h)
@@ -195,17 +183,6 @@ replayed_in-kept s m t u (x ∷ xs) k v h = at (step_in s m t x) refl h (λ w o 
         let one = step_in-kept s m t w x k v e in
         let rest = go w (valid_in s m t w one) j in
         record { fits = rest.fits; scheme = rest.scheme; form = rest.form ∙ one.form }
-
-pub replayed-in : (s : Tests) (m : CanonMode) (t u : Parts) (l : List Step) → replayed s t l ≡ Some u → replayed_in s m t l ≡ Some u
-unfolding replayed_in
-replayed-in s m t u [] h = h
-replayed-in s m t u (x ∷ xs) h = at (step s t x) refl h (λ w j. replayed-in s m w u xs j)
-  where
-    at : (o : Option Parts) → step s t x ≡ o → onward o (λ w. replayed s w xs) ≡ Some u
-        → ((w : Parts) → replayed s w xs ≡ Some u → replayed_in s m w xs ≡ Some u)
-        → onward (step_in s m t x) (λ w. replayed_in s m w xs) ≡ Some u
-    at None e j go = cc
-    at (Some w) e j go = ap (λ o. onward o (λ w. replayed_in s m w xs)) (step-in s m t w x e) ∙ go w j
 
 -- ---- to the normal form
 one-step : (s : Tests) (m : CanonMode) (t u : Parts) (x : Step) → step_in s m t x ≡ Some u → replayed_in s m t (x ∷ []) ≡ Some u
@@ -366,11 +343,11 @@ pub normal_in-leads : (s : Tests) (m : CanonMode) (t : Parts) → IsSpec s → F
     → replayed_in s m t (steps_of s m t) ≡ Some (normal_form_in s m t)
 unfolding steps_of
 normal_in-leads s Default t k f = ap (λ z. replayed_in s Default t (plain_steps s t ++ z)) (nothing-more t)
-    ∙ (ap (replayed_in s Default t) (append-nil (plain_steps s t)) ∙ plain-led s t k f)
+    ∙ (ap (replayed_in s Default t) (append-nil (plain_steps s t)) ∙ plain-led s Default t k f)
 normal_in-leads s Scheme t k f =
     let l = plain_steps s t in
     let m = scheme_rule_steps (dropped_port Scheme t.scheme) t in
-    replayed_in-append s Scheme t (normal_form s t) l m (replayed-in s Scheme t (normal_form s t) l (plain-led s t k f))
+    replayed_in-append s Scheme t (normal_form s t) l m (plain-led s Scheme t k f)
     ∙ (ap (replayed_in s Scheme (normal_form s t)) (sym (steps-normal s t k f))
     ∙ (by_scheme-led s (normal_form s t) ∙ ap Some (form-by_scheme s t k f)))
 

@@ -6,14 +6,17 @@ use Rattle.iri_grammar.specs.Classes.{uri_tests, iri_tests, unreserved, is_ascii
 use Rattle.iri_grammar.specs.Authority.{authority_parts, recompose_authority}
 use Rattle.iri_grammar.specs.Parts.{Parts}
 use Rattle.iri_percent.specs.Units.{whole_triplets, first_char}
+use Rattle.iri_percent.specs.CharUnits.{char_units_from}
 use Rattle.iri_percent.specs.NormalHost.{is_ascii_host}
 use Rattle.iri_percent.specs.SchemeRules.{default_port}
-use Rattle.iri_percent.specs.declared.canon_mode.CanonMode.TheVariants.{Scheme}
+use Rattle.iri_percent.specs.Triplets.{normal}
+use Rattle.iri_percent.specs.declared.canon_mode.CanonMode.TheVariants.{Default, Scheme}
 use Rattle.iri_normal.specs.Dots.{is_dot_segment}
 use Rattle.iri_normal.specs.DotRemoval.{dots}
 use Rattle.iri_resolve.specs.Changes.{with_small_letter, with_small_host_letter, with_capital_digit, with_decoded}
+use Rattle.iri_resolve.specs.NormalSteps.{authority_steps, component_steps, path_steps, plain_steps, scheme_steps, steps_of}
 use Rattle.iri_resolve.specs.Steps.{step, step_in, replayed, replayed_in}
-use Rattle.iri_resolve.specs.declared.step.Part.TheVariants.{Authority, Path, Query}
+use Rattle.iri_resolve.specs.declared.step.Part.TheVariants.{Authority, Path, Query, Fragment}
 use Rattle.iri_resolve.specs.declared.step.Step.TheVariants.{SchemeLetter, HostLetter, HexDigit, Decode, EmptyPort, Dots, DefaultPort, SlashPath}
 
 abbrev link : Parts
@@ -25,7 +28,7 @@ unfolding replayed_in step_in with_small_letter with_small_host_letter with_deco
     recompose_authority first_char chars encode unreserved is_ascii_unreserved
 to_normal = refl
 
--- there is no empty port, no dot segment, no small digit outside triplets, and no letter behind the end
+-- there is no empty port, no dot segment, no small digit outside triplets, and no letter after the end
 no_step : (step uri_tests link EmptyPort ∷ step uri_tests link Dots ∷ step uri_tests link (HexDigit Path 0)
     ∷ step uri_tests link (SchemeLetter 4) ∷ step uri_tests link (HexDigit Query 1) ∷ []) ≡ None ∷ None ∷ None ∷ None ∷ None ∷ []
 unfolding step_in with_small_letter with_capital_digit whole_triplets authority_parts recompose_authority dots is_dot_segment
@@ -89,3 +92,18 @@ by_scheme = refl
 in_one_mode : (step uri_tests bare DefaultPort ∷ step uri_tests bare SlashPath ∷ []) ≡ None ∷ None ∷ []
 unfolding step_in authority_parts recompose_authority
 in_one_mode = refl
+
+-- the list from left to right: a place counts the bytes of the normal form before it, and the dot segments go after the triplets
+abbrev long_way : Parts
+long_way = record { scheme = Some (codes "Ws"); authority = Some (codes "%41@X%2d:80"); path = codes "/%7e/%2e"; query = None; fragment = Some (codes "%aa") }
+
+list : steps_of uri_tests Scheme long_way ≡ SchemeLetter 0 ∷ Decode Authority 0 ∷ HostLetter 2 ∷ Decode Authority 3 ∷ Decode Path 1
+    ∷ Decode Path 3 ∷ Dots ∷ HexDigit Fragment 1 ∷ HexDigit Fragment 2 ∷ DefaultPort ∷ []
+unfolding steps_of plain_steps scheme_steps authority_steps path_steps component_steps normal char_units_from is_ascii_host authority_parts
+    default_port dots is_dot_segment first_char chars encode unreserved is_ascii_unreserved
+list = refl
+
+no_list : steps_of uri_tests Default (record { scheme = Some (codes "ws"); authority = Some (codes "x:80"); path = []; query = None; fragment = None }) ≡ []
+unfolding steps_of plain_steps scheme_steps authority_steps path_steps component_steps normal char_units_from is_ascii_host authority_parts
+    dots is_dot_segment
+no_list = refl

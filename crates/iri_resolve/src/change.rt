@@ -10,7 +10,7 @@ ghost use Rattle.iri_resolve.specs.Changes.{is_in_triplet, is_small_digit, with_
 ghost use Rattle.iri_resolve.specs.Changes.{with_small_host_letter, with_small_letter};
 ghost use Rattle.iri_resolve.specs.inside.ChangeOf.{change_of};
 ghost use Rattle.iri_resolve.specs.inside.LookBack.{percent_before};
-ghost use Rattle.iri_resolve.specs.inside.Reached.{PartWent, went};
+ghost use Rattle.iri_resolve.specs.inside.Reached.{WentThere, went};
 
 use iri_grammar::spec::Spec;
 use iri_percent::character::decoded_char;
@@ -171,7 +171,7 @@ pub(crate) fn changed_there<S: Spec>(
     i: usize,
 ) -> Result<bool, AllocError>
     requires { if_there whole_triplets (bytes_of text.old) ≡ true }
-    ensures { IfOk result (λ b. PartWent (change_of S.tests change i) b (bytes_of text.old) (bytes_of text.new)) }
+    ensures { IfOk result (λ b. WentThere (change_of S.tests change i) b (bytes_of text.old) (bytes_of text.new)) }
 {
     let Some(text) = text else {
         return Ok(false);

@@ -73,7 +73,7 @@ pub(crate) fn read_there<S: Spec>(
     Ok(Some(read))
 }
 
-// The userinfo and the `@` behind it, where it stands.
+// The userinfo and the `@` after it, where it stands.
 fn push_userinfo(text: &mut String, userinfo: Option<&str>) -> Result<(), AllocError>
     ensures { OnOk result (string_bytes text.new ≡ string_bytes text.old ++ userinfo_text (now_of userinfo.entry)) }
 {

@@ -46,7 +46,7 @@ impl StepList {
         self.steps.len()
     }
 
-    /// The step of this number, from 0 on; none behind the last one.
+    /// The step of this number, from 0 on; none after the last one.
     pub fn get(&self, i: usize) -> Option<Step>
         ensures { result ≡ slice_get self.now i }
     {

@@ -48,9 +48,9 @@ abbrev pub went : {X : Type 0} → Bool → X → Option X
 went b x = cond b (Some x) None
 
 -- whether the change f of a text that may stand is one, and the text after it
-abbrev pub PartWent : (List ℕ → Option (List ℕ)) → Bool → Option (List ℕ) → Option (List ℕ) → Type 0
-PartWent f true old new = (in_part f old ≡ new) × (is_some new ≡ true)
-PartWent f false old new = in_part f old ≡ None
+abbrev pub WentThere : (List ℕ → Option (List ℕ)) → Bool → Option (List ℕ) → Option (List ℕ) → Type 0
+WentThere f true old new = (in_part f old ≡ new) × (is_some new ≡ true)
+WentThere f false old new = in_part f old ≡ None
 
 -- whether the change f of an authority is one, and the authority after it
 pub record ReadOn (s : Tests) (f : AuthorityParts → Option (List ℕ)) (b : Bool) (old new : ReachedAuthority) : Type 0 where
@@ -59,7 +59,7 @@ pub record ReadOn (s : Tests) (f : AuthorityParts → Option (List ℕ)) (b : Bo
 
 -- the same of one that may stand
 pub record ReadOnThere (s : Tests) (f : AuthorityParts → Option (List ℕ)) (b : Bool) (old new : Option ReachedAuthority) : Type 0 where
-  pub text : PartWent (λ a. f (authority_parts a)) b (authority_text old) (authority_text new)
+  pub text : WentThere (λ a. f (authority_parts a)) b (authority_text old) (authority_text new)
   pub read : b ≡ true → IsReadThere s new
 
 -- the new text, where it is another one
