@@ -73,8 +73,9 @@ prefix_of s part lower at t = cond (slice_index t 0 == percent_sign) (triplet_pr
 unfoldable pub component_steps : Tests → Part → Bool → ℕ → ℕ → List ℕ → List Step
 component_steps s part lower skip at [] = []
 component_steps s part lower (suc n) at (x ∷ xs) = component_steps s part lower n at xs
-component_steps s part lower zero at (x ∷ xs) = (prefix_of s part lower at (x ∷ xs)).steps
-    ++ component_steps s part lower ((prefix_of s part lower at (x ∷ xs)).len - 1) (at + (prefix_of s part lower at (x ∷ xs)).normal_len) xs
+component_steps s part lower zero at (x ∷ xs) =
+    let p = prefix_of s part lower at (x ∷ xs) in
+    p.steps ++ component_steps s part lower (p.len - 1) (at + p.normal_len) xs
 
 -- of the triplets of a userinfo, a path, a query or a fragment
 abbrev pub triplet_steps : Tests → Part → List ℕ → List Step
@@ -99,7 +100,8 @@ authority_steps s a = authority_parts_steps s (authority_parts a)
 
 -- of a path: its triplets, and then its dot segments, where the guarded path without them is another one
 unfoldable pub path_steps : Tests → Bool → List ℕ → List Step
-path_steps s authority_stands p = triplet_steps s Path p ++ cond (bytes_eq (guard (dots (pct s p)) authority_stands) (pct s p)) [] (Dots ∷ [])
+path_steps s authority_stands p = triplet_steps s Path p
+    ++ cond (bytes_eq (guard (dots (pct s p)) authority_stands) (pct s p)) [] (Dots ∷ [])
 
 -- of parts, by the rules of every scheme
 unfoldable pub plain_steps : Tests → Parts → List Step

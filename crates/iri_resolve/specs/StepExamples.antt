@@ -95,7 +95,13 @@ in_one_mode = refl
 
 -- the list from left to right: a place counts the bytes of the normal form before it, and the dot segments go after the triplets
 abbrev long_way : Parts
-long_way = record { scheme = Some (codes "Ws"); authority = Some (codes "%41@X%2d:80"); path = codes "/%7e/%2e"; query = None; fragment = Some (codes "%aa") }
+long_way = record {
+  scheme = Some (codes "Ws");
+  authority = Some (codes "%41@X%2d:80");
+  path = codes "/%7e/%2e";
+  query = None;
+  fragment = Some (codes "%aa");
+}
 
 list : steps_of uri_tests Scheme long_way ≡ SchemeLetter 0 ∷ Decode Authority 0 ∷ HostLetter 2 ∷ Decode Authority 3 ∷ Decode Path 1
     ∷ Decode Path 3 ∷ Dots ∷ HexDigit Fragment 1 ∷ HexDigit Fragment 2 ∷ DefaultPort ∷ []
@@ -103,7 +109,11 @@ unfolding steps_of plain_steps scheme_steps authority_steps path_steps component
     default_port dots is_dot_segment first_char chars encode unreserved is_ascii_unreserved
 list = refl
 
-no_list : steps_of uri_tests Default (record { scheme = Some (codes "ws"); authority = Some (codes "x:80"); path = []; query = None; fragment = None }) ≡ []
+-- by the rules of every scheme the default port stays, and an empty path too
+abbrev kept_port : Parts
+kept_port = record { scheme = Some (codes "ws"); authority = Some (codes "x:80"); path = []; query = None; fragment = None }
+
+no_list : steps_of uri_tests Default kept_port ≡ []
 unfolding steps_of plain_steps scheme_steps authority_steps path_steps component_steps normal char_units_from is_ascii_host authority_parts
     dots is_dot_segment
 no_list = refl

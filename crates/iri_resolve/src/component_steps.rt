@@ -1,5 +1,5 @@
-// The steps from a component to its normal form, from left to right: each has the length of what is in normal form already as
-// its place, so no text in between is built.
+// The steps of one component, from left to right: each has the length of what is in normal form already as its place, so no
+// text in between is built.
 ghost use Rattle.std.specs.Prelude.{◌≡◌, ◌<◌, ◌≤◌, ◌+◌, ◌^◌, ◌++◌, ◌&&◌, [], ◌∷◌, IfOk, OnOk, true, length};
 ghost use Rattle.std.specs.Char.{is_ascii_uppercase};
 ghost use Rattle.iri_percent.specs.Triplets.{normal};
@@ -108,8 +108,8 @@ fn push_prefix<S: Spec>(
     })
 }
 
-/// Appends the steps of a text that begins at this place of the part, and says where its normal form ends. Allocation failure is the
-/// only error.
+/// Appends the steps of a text that begins at this place of the part, and says where its normal form ends. Allocation failure
+/// is the only error.
 pub(crate) fn push_component<S: Spec>(
     steps: &mut StepList,
     part: Part,

@@ -227,8 +227,8 @@ fn push_slash(steps: &mut StepList, go: bool) -> Result<(), AllocError>
     steps.push(Step::SlashPath)
 }
 
-/// Steps that lead from a target to its normal form, part by part and from left to right; the dot segments go after the other
-/// steps of the path. Places count bytes of what is in normal form already. Allocation failure is the only error.
+/// The steps that lead from a target to its normal form, part by part and from left to right; the dot segments go after the
+/// other steps of the path. Places count bytes of what is in normal form already. Allocation failure is the only error.
 pub fn steps_to_normal<S: Spec>(alloc: Global, target: &Target<S>) -> Result<StepList, AllocError>
     ensures list { IfOk result (λ l. l ≡ steps_of S.tests Default target.now) }
     ensures leads { IfOk result (λ l. replayed S.tests target.now l ≡ Some (normal_form S.tests target.now)) }
