@@ -1,7 +1,7 @@
 //! A text is checked.
 
-use iri_grammar::error::ErrorKind;
-use iri_types::view::UriReferenceStr;
+use iri::types::UriReferenceStr;
+use iri::validate::ErrorKind;
 
 /// What is wrong with a link, or none where it is a URI reference.
 pub fn fault_of(link: &[u8]) -> Option<ErrorKind> {

@@ -1,7 +1,7 @@
 //! Two links are compared.
 
-use iri_grammar::spec::UriSpec;
-use iri_resolve::canonical::{CanonError, canonicalize};
+use iri::normalize::{CanonError, canonicalize};
+use iri::spec::UriSpec;
 use std::alloc::Global;
 
 /// Whether two links of a page are the same.

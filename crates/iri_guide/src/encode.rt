@@ -1,6 +1,6 @@
 //! A value is put into a link.
 
-use iri_percent::PercentEncodedForUri;
+use iri::percent_encode::PercentEncodedForUri;
 use std::alloc::{AllocError, Global};
 
 /// The address of a search for any words.

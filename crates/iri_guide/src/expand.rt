@@ -1,11 +1,10 @@
 //! A template is expanded.
 
-use iri_grammar::spec::UriSpec;
-use iri_owned::owned::UriReferenceString;
-use iri_template::simple_context::SimpleContext;
-use iri_template::template::UriTemplateStr;
-use iri_template::value::Value;
-use iri_text::Text;
+use iri::format::Text;
+use iri::spec::UriSpec;
+use iri::template::UriTemplateStr;
+use iri::template::simple_context::{SimpleContext, Value};
+use iri::types::UriReferenceString;
 use std::alloc::Global;
 
 /// The address of a search for any words, or none where allocation failed.

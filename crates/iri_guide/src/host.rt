@@ -1,7 +1,7 @@
 //! A host is changed.
 
-use iri_edit::host::ReplaceHost;
-use iri_owned::owned::UriString;
+use iri::edit::ReplaceHost;
+use iri::types::UriString;
 use std::alloc::AllocError;
 
 /// Leads a link to another host. False, with no change, where it has no host or the new one is none.

@@ -3,6 +3,7 @@
 
 pub mod check;
 pub mod compare;
+pub mod contract;
 pub mod encode;
 pub mod expand;
 pub mod host;

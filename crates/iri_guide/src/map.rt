@@ -1,9 +1,7 @@
 //! An IRI is mapped to a URI.
 
-use iri_owned::owned::UriString;
-use iri_percent::ToUri;
-use iri_text::ToDedicatedString;
-use iri_types::view::IriStr;
+use iri::prelude::{ToDedicatedString, ToUri};
+use iri::types::{IriStr, UriString};
 use std::alloc::{AllocError, Global};
 
 /// An IRI as the URI that a request is made with.

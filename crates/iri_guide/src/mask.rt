@@ -1,7 +1,7 @@
 //! A password is masked.
 
-use iri_edit::password::MaskPassword;
-use iri_types::view::UriReferenceStr;
+use iri::edit::MaskPassword;
+use iri::types::UriReferenceStr;
 use std::alloc::{AllocError, Global};
 
 /// A link as a log may have it.

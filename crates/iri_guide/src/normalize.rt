@@ -1,9 +1,7 @@
 //! A text is put into normal form.
 
-use iri_owned::owned::UriString;
-use iri_resolve::views::Normalize;
-use iri_text::ToDedicatedString;
-use iri_types::view::UriStr;
+use iri::prelude::{Normalize, ToDedicatedString};
+use iri::types::{UriStr, UriString};
 use std::alloc::{AllocError, Global};
 
 /// A link in normal form.

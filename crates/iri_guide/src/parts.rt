@@ -1,6 +1,6 @@
 //! A text is taken apart.
 
-use iri_types::view::IriStr;
+use iri::types::IriStr;
 
 /// The host and the port of a link that has an authority.
 pub fn host_and_port(link: IriStr<'_>) -> Option<(&str, Option<&str>)> {

@@ -1,9 +1,8 @@
 //! A link is resolved against its page.
 
-use iri_owned::owned::UriString;
-use iri_resolve::resolver::FixedBaseResolver;
-use iri_text::ToDedicatedString;
-use iri_types::view::{UriAbsoluteStr, UriReferenceStr};
+use iri::prelude::ToDedicatedString;
+use iri::resolve::FixedBaseResolver;
+use iri::types::{UriAbsoluteStr, UriReferenceStr, UriString};
 use std::alloc::{AllocError, Global};
 
 /// Where a link of a page leads.

@@ -1,7 +1,6 @@
-use crate::{check, compare, encode, expand, host, map, mask, normalize, parts, resolve};
-use iri_grammar::error::ErrorKind;
-use iri_owned::owned::UriString;
-use iri_types::view::{IriStr, UriAbsoluteStr, UriReferenceStr, UriStr};
+use crate::{check, compare, contract, encode, expand, host, map, mask, normalize, parts, resolve};
+use iri::types::{IriStr, UriAbsoluteStr, UriReferenceStr, UriStr, UriString};
+use iri::validate::ErrorKind;
 use std::test::Fail;
 
 #[test]
@@ -43,6 +42,14 @@ fn links_are_compared(rt: HostRuntime) -> Result<(), Fail> {
     let page = b"http://example.com/docs/";
     assert!(rt; compare::are_one(rt.alloc(), page, b"%7Ebob", b"/docs/./~bob")?);
     assert!(rt; !compare::are_one(rt.alloc(), page, b"a", b"/a")?);
+    Ok(())
+}
+
+#[test]
+fn a_contract_is_kept(rt: HostRuntime) -> Result<(), Fail> {
+    let link = contract::link_of(b"urn:a").ok_or("a link")?;
+    assert_eq!(rt; link.as_str(), "urn:a");
+    assert!(rt; contract::link_of(b"a").is_none());
     Ok(())
 }
 

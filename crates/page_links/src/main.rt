@@ -5,17 +5,14 @@
 //! link is told with its first fault. The program stands on the library as any other program may.
 #![tactic(auto)]
 
-use iri_edit::password::MaskPassword;
-use iri_grammar::error::Error as LinkFault;
-use iri_grammar::spec::UriSpec;
-use iri_owned::owned::UriString;
-use iri_resolve::resolver::FixedBaseResolver;
-use iri_template::error::Error as TemplateFault;
-use iri_template::simple_context::SimpleContext;
-use iri_template::template::UriTemplateStr;
-use iri_template::value::Value;
-use iri_text::{Text, ToDedicatedString, ToStringFallible};
-use iri_types::view::{UriAbsoluteStr, UriReferenceStr};
+use iri::format::Text;
+use iri::prelude::*;
+use iri::resolve::FixedBaseResolver;
+use iri::spec::UriSpec;
+use iri::template::simple_context::{SimpleContext, Value};
+use iri::template::{Error as TemplateFault, UriTemplateStr};
+use iri::types::{UriAbsoluteStr, UriReferenceStr, UriString};
+use iri::validate::Error as LinkFault;
 use std::alloc::{AllocError, Global};
 use std::collections::BTreeSet;
 use std::io::{self, BufRead, BufReader};

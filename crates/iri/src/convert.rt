@@ -1,0 +1,3 @@
+//! IRIs mapped to URIs (RFC 3987 section 3.1).
+
+pub use iri_percent::{IntoUri, MappedKind, MappedToUri, ToUri};

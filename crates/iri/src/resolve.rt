@@ -1,0 +1,4 @@
+//! References resolved against a base (RFC 3986 section 5.2).
+
+pub use iri_normal::resolver::FixedBaseResolver;
+pub use iri_normal::views::ResolveAgainst;

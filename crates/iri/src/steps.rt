@@ -1,0 +1,8 @@
+//! The steps that lead a target to its normal form.
+
+pub use iri_normal::owned_target::Target;
+pub use iri_resolve::join::{join_steps, join_steps_in};
+pub use iri_resolve::normal_steps::{steps_to_normal, steps_to_normal_in};
+pub use iri_resolve::replay::{ReplayError, replay, replay_in};
+pub use iri_resolve::step::{Part, Step};
+pub use iri_resolve::step_list::StepList;
