@@ -16,8 +16,22 @@ use iri_owned::owned::{Owned, RiAbsoluteString, RiReferenceString, RiRelativeStr
 use iri_types::kind::{Absolute, Fragment, Iri, Kind, Query, Reference, Relative};
 use std::alloc::{AllocError, Global};
 
-/// The parts of a text that is to be built. Setting a part validates nothing; `build_reference` and its kin validate all parts. It has
-/// no `Debug`, so that none shows a password.
+/// The parts of a text that is to be built (RFC 3986 section 5.3). Setting a part validates nothing; `build_reference`
+/// and its kin validate all parts. It has no `Debug`, so that none shows a password.
+///
+/// ```
+/// use iri::build::Builder;
+/// use iri::spec::UriSpec;
+/// let mut parts = Builder::new();
+/// parts.scheme("foo");
+/// parts.host("example.com");
+/// parts.port("8042");
+/// parts.path("/over/there");
+/// parts.query("name=ferret");
+/// parts.fragment("nose");
+/// let link = parts.build_iri::<UriSpec>(rt.alloc())?;
+/// assert_eq!(rt; link.as_str(), "foo://example.com:8042/over/there?name=ferret#nose");
+/// ```
 #[derive(Clone, Copy)]
 pub struct Builder<'a> {
     scheme: Option<&'a str>,
@@ -44,7 +58,7 @@ pub enum BuildError {
 impl<'a> Builder<'a> {
     ghost use Rattle.iri_edit.specs.Builders.{given, RefusedFor};
 
-    /// A builder with nothing set: its path is empty.
+    /// A builder with nothing set and an empty path.
     pub fn new() -> Self
         ensures { given result ≡ nothing_given }
     {
@@ -60,28 +74,28 @@ impl<'a> Builder<'a> {
         }
     }
 
-    /// Sets the scheme, without its colon.
+    /// Sets the scheme, without its `:`.
     pub fn scheme(&mut self, text: &'a str)
         ensures { given self.new ≡ record (given self.old) { scheme = Some text.now } }
     {
         self.scheme = Some(text);
     }
 
-    /// Sets the userinfo, without the `@` behind it.
+    /// Sets the userinfo, without the `@` after it.
     pub fn userinfo(&mut self, text: &'a str)
         ensures { given self.new ≡ record (given self.old) { userinfo = Some text.now } }
     {
         self.userinfo = Some(text);
     }
 
-    /// Sets the host.
+    /// Sets the host, an IP literal with its brackets.
     pub fn host(&mut self, text: &'a str)
         ensures { given self.new ≡ record (given self.old) { host = Some text.now } }
     {
         self.host = Some(text);
     }
 
-    /// Sets the port, without its colon.
+    /// Sets the port, without its `:`.
     pub fn port(&mut self, text: &'a str)
         ensures { given self.new ≡ record (given self.old) { port = Some text.now } }
     {
@@ -95,14 +109,14 @@ impl<'a> Builder<'a> {
         self.path = text;
     }
 
-    /// Sets the query, without its question mark.
+    /// Sets the query, without its `?`.
     pub fn query(&mut self, text: &'a str)
         ensures { given self.new ≡ record (given self.old) { query = Some text.now } }
     {
         self.query = Some(text);
     }
 
-    /// Sets the fragment, without its number sign.
+    /// Sets the fragment, without its `#`.
     pub fn fragment(&mut self, text: &'a str)
         ensures { given self.new ≡ record (given self.old) { fragment = Some text.now } }
     {
@@ -154,6 +168,17 @@ impl<'a> Builder<'a> {
     }
 
     /// Asks for the normal form of the text (RFC 3986 section 6.2.2). Without a scheme it is built as it is.
+    ///
+    /// ```
+    /// use iri::build::Builder;
+    /// use iri::spec::UriSpec;
+    /// let mut parts = Builder::new();
+    /// parts.scheme("eXAMPLE");
+    /// parts.host("a");
+    /// parts.path("/./b/../b/%63/%7bfoo%7d");
+    /// parts.normalize();
+    /// assert_eq!(rt; parts.build_iri::<UriSpec>(rt.alloc())?.as_str(), "example://a/b/c/%7Bfoo%7D");
+    /// ```
     pub fn normalize(&mut self)
         ensures { given self.new ≡ record (given self.old) { normal = true } }
     {
@@ -167,8 +192,14 @@ impl<'a> Builder<'a> {
         self.normal = false;
     }
 
-    /// The text of the kind `K` that the parts make. `Invalid` exactly where they make none, with the first fault: the parts one by
-    /// one, scheme, userinfo, host, port, path, query, fragment; then what the kind refuses; then the rules of the path.
+    /// The text of the kind `K` that the parts make.
+    ///
+    /// # Errors
+    ///
+    /// - `Invalid` exactly where they make none, with the first fault in this order: the parts one by one, scheme,
+    ///   userinfo, host, port, path, query, fragment; what the kind refuses (`build_iri` and its kin say it);
+    ///   `InvalidPath` where the path breaks the rules of its place (RFC 3986 section 3.3).
+    /// - `Memory` where allocation fails.
     pub fn build<S: Spec, K: BuildKind>(self, alloc: Global) -> Result<Owned<S, K>, BuildError>
         ensures { MatchResult result (λ t. (built_fault S.tests K.refusal (given self.entry) ≡ None)
             × (t.text ≡ built_text S.tests (given self.entry)))
@@ -181,6 +212,21 @@ impl<'a> Builder<'a> {
     }
 
     /// The reference that the parts make.
+    ///
+    /// # Errors
+    ///
+    /// Those of `build`: `Invalid` with the first faulty part, or with `InvalidPath` where the path breaks the rules of
+    /// its place; `Memory`.
+    ///
+    /// ```
+    /// use iri::build::Builder;
+    /// use iri::spec::UriSpec;
+    /// let mut parts = Builder::new();
+    /// parts.path("//g");
+    /// assert!(rt; parts.build_reference::<UriSpec>(rt.alloc()).is_err());
+    /// parts.host("h");
+    /// assert_eq!(rt; parts.build_reference::<UriSpec>(rt.alloc())?.as_str(), "//h//g");
+    /// ```
     pub fn build_reference<S: Spec>(self, alloc: Global) -> Result<RiReferenceString<S>, BuildError>
         ensures { MatchResult result (λ t. (built_fault S.tests reference_refusal (given self.entry) ≡ None)
             × (t.text ≡ built_text S.tests (given self.entry)))
@@ -189,7 +235,21 @@ impl<'a> Builder<'a> {
         self.build::<S, Reference>(alloc)
     }
 
-    /// The URI that the parts make: a scheme must be set.
+    /// The IRI of the grammar that the parts make.
+    ///
+    /// # Errors
+    ///
+    /// Those of `build`; after the parts one by one, `UnexpectedRelative` where no scheme is set.
+    ///
+    /// ```
+    /// use iri::build::Builder;
+    /// use iri::spec::IriSpec;
+    /// let mut parts = Builder::new();
+    /// parts.path("rosé");
+    /// assert!(rt; parts.build_iri::<IriSpec>(rt.alloc()).is_err());
+    /// parts.scheme("urn");
+    /// assert_eq!(rt; parts.build_iri::<IriSpec>(rt.alloc())?.as_str(), "urn:rosé");
+    /// ```
     pub fn build_iri<S: Spec>(self, alloc: Global) -> Result<RiString<S>, BuildError>
         ensures { MatchResult result (λ t. (built_fault S.tests iri_refusal (given self.entry) ≡ None)
             × (t.text ≡ built_text S.tests (given self.entry)))
@@ -198,7 +258,26 @@ impl<'a> Builder<'a> {
         self.build::<S, Iri>(alloc)
     }
 
-    /// The absolute URI that the parts make: a scheme must be set, and no fragment.
+    /// The IRI without a fragment that the parts make.
+    ///
+    /// # Errors
+    ///
+    /// Those of `build`; after the parts one by one, `UnexpectedRelative` where no scheme is set, and then
+    /// `UnexpectedFragment` where a fragment is.
+    ///
+    /// ```
+    /// use iri::build::{BuildError, Builder};
+    /// use iri::spec::UriSpec;
+    /// use iri::validate::ErrorKind;
+    /// let mut parts = Builder::new();
+    /// parts.scheme("urn");
+    /// parts.path("a");
+    /// parts.fragment("s");
+    /// match parts.build_absolute::<UriSpec>(rt.alloc()) {
+    ///     Err(BuildError::Invalid(error)) => assert_eq!(rt; error.kind(), ErrorKind::UnexpectedFragment),
+    ///     _ => assert!(rt; false),
+    /// }
+    /// ```
     pub fn build_absolute<S: Spec>(self, alloc: Global) -> Result<RiAbsoluteString<S>, BuildError>
         ensures { MatchResult result (λ t. (built_fault S.tests absolute_refusal (given self.entry) ≡ None)
             × (t.text ≡ built_text S.tests (given self.entry)))
@@ -207,7 +286,22 @@ impl<'a> Builder<'a> {
         self.build::<S, Absolute>(alloc)
     }
 
-    /// The relative reference that the parts make: no scheme may be set.
+    /// The relative reference that the parts make.
+    ///
+    /// # Errors
+    ///
+    /// Those of `build`; after the parts one by one, `InvalidScheme` where a scheme is set.
+    ///
+    /// ```
+    /// use iri::build::Builder;
+    /// use iri::spec::UriSpec;
+    /// let mut parts = Builder::new();
+    /// parts.path("g");
+    /// parts.query("y");
+    /// assert_eq!(rt; parts.build_relative::<UriSpec>(rt.alloc())?.as_str(), "g?y");
+    /// parts.scheme("http");
+    /// assert!(rt; parts.build_relative::<UriSpec>(rt.alloc()).is_err());
+    /// ```
     pub fn build_relative<S: Spec>(self, alloc: Global) -> Result<RiRelativeString<S>, BuildError>
         ensures { MatchResult result (λ t. (built_fault S.tests relative_refusal (given self.entry) ≡ None)
             × (t.text ≡ built_text S.tests (given self.entry)))

@@ -13,13 +13,27 @@ use iri_types::kind::FragmentKind;
 use iri_types::view::{RiFragmentStr, RiReferenceStr};
 use std::alloc::AllocError;
 
-/// Owned texts that may have a fragment.
+/// Owned texts that may have a fragment (RFC 3986 section 3.5).
 pub trait SetFragment<F: Show>: Show {
     /// How many bytes the text can have before it needs more memory.
     ghost capacity: { Self → ℕ };
 
-    /// Puts a fragment in place of the text's, or behind a text that has none; `None` takes out the fragment and its number sign,
-    /// and takes no memory. Memory is taken first: after an allocation failure the text is as it was.
+    /// Puts a fragment in place of the text's, or after a text that has none; `None` takes out the fragment and its
+    /// `#`, and takes no memory.
+    ///
+    /// # Errors
+    ///
+    /// Where allocation fails, and only where a fragment is given; the text is as it was then.
+    ///
+    /// ```
+    /// use iri::edit::SetFragment;
+    /// use iri::types::{UriFragmentStr, UriString};
+    /// let mut link = UriString::try_from_str(rt.alloc(), "http://a/b")?;
+    /// link.set_fragment(Some(UriFragmentStr::new("s")?))?;
+    /// assert_eq!(rt; link.as_str(), "http://a/b#s");
+    /// link.set_fragment(None::<UriFragmentStr<'_>>)?;
+    /// assert_eq!(rt; link.as_str(), "http://a/b");
+    /// ```
     fn set_fragment(&mut self, fragment: Option<F>) -> Result<(), AllocError>
         ensures ok { OnOk result (Self.text self.new
             ≡ with_fragment (Self.text self.old) (option_map F.text fragment)) }

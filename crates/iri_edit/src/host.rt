@@ -18,18 +18,41 @@ use iri_text::Show;
 use iri_types::kind::WholeKind;
 use std::alloc::AllocError;
 
-/// Owned whole texts whose host can be replaced.
+/// Owned whole texts whose host can be replaced (RFC 3986 section 3.2.2).
 pub trait ReplaceHost: Show {
     /// The classes of its characters.
     ghost tests: { Tests };
 
-    /// Puts another host in place of the text's, and answers the new host's slice. `None`, with no change, exactly where no authority
-    /// stands or the new host is no host. Memory is taken first: after an allocation failure the text is as it was.
+    /// Puts another host in place of the text's, and answers the new host's slice. `None`, with no change, exactly
+    /// where there is no authority or the new host is no host.
+    ///
+    /// # Errors
+    ///
+    /// Where allocation fails; the text is as it was then.
+    ///
+    /// ```
+    /// use iri::edit::ReplaceHost;
+    /// use iri::types::UriString;
+    /// let mut link = UriString::try_from_str(rt.alloc(), "http://192.0.2.16:80/")?;
+    /// assert_eq!(rt; link.try_replace_host("[2001:db8::7]")?, Some("[2001:db8::7]"));
+    /// assert_eq!(rt; link.as_str(), "http://[2001:db8::7]:80/");
+    /// ```
     fn try_replace_host(&mut self, new_host: &str) -> Result<Option<&str>, AllocError>
         ensures* host { sem 𝓛 (follows_so Self.row Self.row self.entry.ghost_name none (λ _ _. ⊤)
             (λ after. HostChange tests false Self.text self.old after new_host.now result)) };
 
-    /// The same where the old host is a registered name, and `None` also where it is none: an IP literal or an IPv4 text.
+    /// The same where the old host is a registered name; `None` also where it is an IP literal or an IPv4 address.
+    ///
+    /// # Errors
+    ///
+    /// Where allocation fails; the text is as it was then.
+    ///
+    /// ```
+    /// use iri::edit::ReplaceHost;
+    /// use iri::types::UriString;
+    /// let mut link = UriString::try_from_str(rt.alloc(), "http://192.0.2.16:80/")?;
+    /// assert_eq!(rt; link.try_replace_host_reg_name("example.com")?, None);
+    /// ```
     fn try_replace_host_reg_name(&mut self, new_host: &str) -> Result<Option<&str>, AllocError>
         ensures* host { sem 𝓛 (follows_so Self.row Self.row self.entry.ghost_name none (λ _ _. ⊤)
             (λ after. HostChange tests true Self.text self.old after new_host.now result)) };

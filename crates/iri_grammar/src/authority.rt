@@ -13,7 +13,7 @@ use crate::digits::all_digits;
 use crate::spec::Spec;
 use memchr::memrchr;
 
-/// The parts of an authority, as slices of its text.
+/// The parts of an authority, as slices of its text (RFC 3986 section 3.2).
 #[derive(Clone, Copy)]
 pub struct AuthoritySpan<'a> {
     userinfo: Option<&'a str>,
@@ -73,7 +73,7 @@ fn cut_port(s: &str) -> (&str, Option<&str>)
 }
 
 impl<'a> AuthoritySpan<'a> {
-    /// The parts of an authority of `S`. The text must be one: `validate::authority` tells.
+    /// The parts of an authority of `S`. It has a condition: the text is one, which `validate::authority` tests.
     pub fn of<S: Spec>(authority: &'a str) -> AuthoritySpan<'a>
         requires { is_authority S.tests authority.now ≡ true }
         ensures { span_parts result ≡ authority_parts authority.now }
@@ -95,7 +95,7 @@ impl<'a> AuthoritySpan<'a> {
         }
     }
 
-    /// The userinfo, without the `@` behind it.
+    /// The userinfo, without the `@` after it; `None` exactly where there is no `@`.
     pub fn userinfo(&self) -> Option<&'a str>
         ensures { now_of result ≡ (span_parts self.now).userinfo }
     {
@@ -109,7 +109,8 @@ impl<'a> AuthoritySpan<'a> {
         self.host
     }
 
-    /// The port, without the colon before it; a colon without digits gives the empty text.
+    /// The port, without the `:` before it; a `:` without digits gives the empty text, and `None` comes exactly where
+    /// there is no `:`.
     pub fn port(&self) -> Option<&'a str>
         ensures { now_of result ≡ (span_parts self.now).port }
     {

@@ -6,7 +6,7 @@ ghost use Rattle.iri_grammar.specs.ClassTests.{class_test, ascii_test, past_asci
 
 use crate::spec::Spec;
 
-/// A class of characters.
+/// A class of characters (RFC 3986 sections 2 and 3).
 #[derive(Clone, Copy, Debug, PartialEq, Eq)]
 pub enum Class {
     /// `unreserved`.
@@ -137,7 +137,7 @@ pub fn is_fragment_char<S: Spec>(c: char) -> bool
     Class::Fragment.has::<S>(c)
 }
 
-/// Whether the character may stand anywhere in a reference, outside triplets.
+/// Whether the character may stand anywhere in a reference, outside percent-encoded octets.
 pub fn is_any_char<S: Spec>(c: char) -> bool
     ensures { result ≡ any_char S.tests c }
 {

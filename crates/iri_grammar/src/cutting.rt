@@ -5,14 +5,15 @@ ghost use Rattle.iri_grammar.specs.OptionalSlices.{now_of};
 
 use memchr::memchr;
 
-/// Where the delimiter first stands, in bytes.
+/// Where the delimiter first stands, in bytes; `None` exactly where it is nowhere.
 pub fn find(s: &str, mark: u8) -> Option<usize>
     ensures { MatchOption result (NoCut mark s.now) (λ k. CutAt mark s.now k) }
 {
     memchr(mark, s.as_bytes())
 }
 
-/// What stands before the first delimiter, or all, and what stands behind it. The delimiter must be ASCII.
+/// What comes before the first delimiter, or all, and what comes after it. It has a condition: the delimiter is ASCII
+/// (`u8::is_ascii`).
 pub fn cut(s: &str, mark: u8) -> (&str, Option<&str>)
     requires { mark < 128 }
     ensures before { result.0.now ≡ before mark s.now }
@@ -24,7 +25,8 @@ pub fn cut(s: &str, mark: u8) -> (&str, Option<&str>)
     }
 }
 
-/// What stands before the first delimiter, or all, and the rest from it on. The delimiter must be ASCII.
+/// What comes before the first delimiter, or all, and the rest from it on. It has a condition: the delimiter is ASCII
+/// (`u8::is_ascii`).
 pub fn cut_before(s: &str, mark: u8) -> (&str, &str)
     requires { mark < 128 }
     ensures before { result.0.now ≡ before mark s.now }
@@ -36,7 +38,7 @@ pub fn cut_before(s: &str, mark: u8) -> (&str, &str)
     }
 }
 
-/// Whether the delimiter stands nowhere.
+/// Whether the delimiter is nowhere in the text.
 pub fn lacks(s: &str, mark: u8) -> bool
     ensures { result ≡ lacks mark s.now }
 {

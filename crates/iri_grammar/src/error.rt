@@ -4,6 +4,13 @@ ghost use Rattle.std.specs.Prelude.{◌≡◌, ◌++◌, Some, codes};
 use std::fmt;
 
 /// What is wrong with a text: the first part, from left to right, that is outside its production.
+///
+/// ```
+/// use iri::spec::UriSpec;
+/// use iri::validate::{self, ErrorKind};
+/// let error = validate::iri::<UriSpec>("http://[::1/a b").err().ok_or("a fault")?;
+/// assert_eq!(rt; error.kind(), ErrorKind::InvalidHost);
+/// ```
 #[derive(Clone, Copy, Debug, PartialEq, Eq)]
 pub enum ErrorKind {
     /// No `scheme` (RFC 3986, section 3.1).
@@ -54,6 +61,13 @@ impl ErrorKind {
 }
 
 /// Why a text is refused: the first fault of the text.
+///
+/// ```
+/// use iri::spec::UriSpec;
+/// use iri::validate;
+/// let error = validate::iri_reference::<UriSpec>("/a b").err().ok_or("a fault")?;
+/// assert_eq!(rt; error.kind().description(), "invalid path");
+/// ```
 #[derive(Clone, Copy, Debug, PartialEq, Eq)]
 pub struct Error {
     pub(crate) kind: ErrorKind,

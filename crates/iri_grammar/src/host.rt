@@ -17,8 +17,8 @@ pub(crate) fn is_host<S: Spec>(s: &str) -> bool
     is_ip_literal(s) || is_over::<S>(Class::RegName, s)
 }
 
-/// Whether the host is a registered name: no IP literal and no IPv4 text (RFC 3986 section 3.2.2).
-/// The text must be a host of `S`: `validate::host` tells.
+/// Whether the host is a registered name: no IP literal and no IPv4 address (RFC 3986 section 3.2.2). It has a
+/// condition: the text is a host of `S`, which `validate::host` tests.
 pub fn host_is_reg_name<S: Spec>(host: &str) -> bool
     requires { is_host S.tests host.now ≡ true }
     ensures { result ≡ not (is_ip_literal host.now || is_ipv4 host.now) }

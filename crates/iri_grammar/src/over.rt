@@ -48,7 +48,7 @@ pub(crate) fn is_run(class: Class, s: &str) -> bool
     run_len(class, s.as_bytes()) == s.len()
 }
 
-/// Whether the text is made of characters of the class and of triplets.
+/// Whether the text is made of characters of the class and of percent-encoded octets.
 #[tactic(auto, using(crate::proofs::UnitRuns::cut_decides))]
 pub fn is_over<S: Spec>(class: Class, s: &str) -> bool
     ensures { result ≡ text_over (class_test S.tests class) s.now }

@@ -3,7 +3,7 @@ ghost use Rattle.std.specs.Prelude.{◌≡◌, ℕ, ◌<◌, Bool, true, refl};
 ghost use Rattle.iri_grammar.specs.Classes.{Tests, IsSpec, HasFirstUcschars, uri_tests, iri_tests, is_ucschar_plane};
 ghost use Rattle.iri_grammar.specs.inside.Laws.{uri_is_spec, iri_is_spec};
 
-/// A grammar's choice of characters past ASCII.
+/// A grammar's choice of characters past ASCII (RFC 3987 section 2.2).
 pub trait Spec: Copy {
     /// Which characters pass the two tests.
     ghost tests: { Tests };
@@ -28,11 +28,26 @@ pub trait Spec: Copy {
     ghost lawful: { IsSpec tests };
 }
 
-/// The grammar of URIs: no character past ASCII.
+/// The grammar of URIs: no character past ASCII (RFC 3986).
+///
+/// ```
+/// use iri::spec::UriSpec;
+/// use iri::validate;
+/// assert!(rt; validate::iri_reference::<UriSpec>("ros%C3%A9").is_ok());
+/// assert!(rt; validate::iri_reference::<UriSpec>("rosé").is_err());
+/// ```
 #[derive(Clone, Copy)]
 pub enum UriSpec {}
 
 /// The grammar of IRIs: `ucschar`, and `iprivate` in a query (RFC 3987 section 2.2).
+///
+/// ```
+/// use iri::spec::IriSpec;
+/// use iri::validate;
+/// assert!(rt; validate::iri_reference::<IriSpec>("rosé").is_ok());
+/// assert!(rt; validate::query::<IriSpec>("\u{e000}").is_ok());
+/// assert!(rt; validate::fragment::<IriSpec>("\u{e000}").is_err());
+/// ```
 #[derive(Clone, Copy)]
 pub enum IriSpec {}
 

@@ -27,7 +27,7 @@ use crate::validate::judge;
 use memchr::memchr3;
 use std::alloc::AllocError;
 
-/// The five parts of a reference, as slices of its text.
+/// The five parts of a reference, as slices of its text (RFC 3986 section 3).
 pub struct Splitter<'a> {
     scheme: Option<&'a str>,
     authority: Option<&'a str>,
@@ -196,8 +196,12 @@ fn cut_authority(s: &str) -> (Option<&str>, &str, bool)
 impl<'a> Splitter<'a> {
     ghost use Rattle.iri_grammar.specs.Splitters.{found_no_triplet, parts};
 
-    /// The split of a text, where it is a reference of `S`: otherwise the kind of its first fault. The same as
-    /// `validate::iri_reference` and `of`, in one look at the text.
+    /// The split of a text that is a reference of `S`: the same as `validate::iri_reference` and `of`, in one scan of
+    /// the text.
+    ///
+    /// # Errors
+    ///
+    /// Exactly where the text is none: the first fault from the left.
     #[inline(always)]
     pub fn new<S: Spec>(text: &'a str) -> Result<Splitter<'a>, Error>
         ensures fault { Answers result (reference_fault S.tests text.now) }
@@ -210,7 +214,7 @@ impl<'a> Splitter<'a> {
         }
     }
 
-    /// The split of a reference of `S`. The text must be one: `validate::iri_reference` tells.
+    /// The split of a reference of `S`. It has a condition: the text is one, which `validate::iri_reference` tests.
     pub fn of<S: Spec>(text: &'a str) -> Splitter<'a>
         requires { reference_fault S.tests text.now ≡ None }
         ensures split { Splits S.tests text.now (parts result) }
@@ -295,7 +299,7 @@ impl<'a> Splitter<'a> {
         }
     }
 
-    /// Whether `new` found path, query and fragment to be without triplets. `of` doesn't look.
+    /// Whether `new` found path, query and fragment to have no percent-encoded octet. `of` doesn't look.
     pub fn lacks_triplets(&self) -> bool
         ensures found { result ≡ found_no_triplet self.now }
         ensures bare { result ≡ true → LackTriplets (parts self.now).path (parts self.now).query (parts self.now).fragment }
@@ -303,35 +307,35 @@ impl<'a> Splitter<'a> {
         self.triplets == 0
     }
 
-    /// The scheme, without its colon.
+    /// The scheme, without its `:`; `None` exactly where there is none (RFC 3986 section 3.1).
     pub fn scheme(&self) -> Option<&'a str>
         ensures { now_of result ≡ (parts self.now).scheme }
     {
         self.scheme
     }
 
-    /// The authority, without the slashes before it.
+    /// The authority, without the `//` before it; `None` exactly where there is none (section 3.2).
     pub fn authority(&self) -> Option<&'a str>
         ensures { now_of result ≡ (parts self.now).authority }
     {
         self.authority
     }
 
-    /// The path, which may be empty.
+    /// The path, which may be empty (section 3.3).
     pub fn path(&self) -> &'a str
         ensures { result.now ≡ (parts self.now).path }
     {
         self.path
     }
 
-    /// The query, without its question mark.
+    /// The query, without its `?`; `None` exactly where there is none (section 3.4).
     pub fn query(&self) -> Option<&'a str>
         ensures { now_of result ≡ (parts self.now).query }
     {
         self.query
     }
 
-    /// The fragment, without its number sign.
+    /// The fragment, without its `#`; `None` exactly where there is none (section 3.5).
     pub fn fragment(&self) -> Option<&'a str>
         ensures { now_of result ≡ (parts self.now).fragment }
     {

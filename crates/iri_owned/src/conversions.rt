@@ -19,7 +19,17 @@ use iri_types::view::RiFragmentStr;
 use std::alloc::{AllocError, Global};
 
 impl<S: Spec> Owned<S, Reference> {
-    /// The text as an IRI, exactly where a scheme stands; otherwise the same text as a relative reference.
+    /// The text as an IRI of its grammar, which has a scheme. It takes no memory.
+    ///
+    /// # Errors
+    ///
+    /// The same text as a relative reference, exactly where it has no scheme.
+    ///
+    /// ```
+    /// use iri::types::UriReferenceString;
+    /// let link = UriReferenceString::try_from_str(rt.alloc(), "g:h")?;
+    /// assert_eq!(rt; link.into_iri().ok().ok_or("a scheme")?.as_str(), "g:h");
+    /// ```
     pub fn into_iri(self) -> Result<RiString<S>, RiRelativeString<S>>
         ensures text { MatchResult result (λ iri. iri ≡ self) (λ relative. relative ≡ self) }
         ensures scheme { MatchResult result (λ _. IsSome (split_of self.text).scheme)
@@ -31,7 +41,11 @@ impl<S: Spec> Owned<S, Reference> {
         }
     }
 
-    /// The text as a relative reference, exactly where no scheme stands; otherwise the same text as an IRI.
+    /// The text as a relative reference, which has no scheme. It takes no memory.
+    ///
+    /// # Errors
+    ///
+    /// The same text as an IRI of its grammar, exactly where it has a scheme.
     pub fn into_relative_iri(self) -> Result<RiRelativeString<S>, RiString<S>>
         ensures text { MatchResult result (λ relative. relative ≡ self) (λ iri. iri ≡ self) }
         ensures scheme { MatchResult result (λ _. IsNone (split_of self.text).scheme)
@@ -74,7 +88,13 @@ fn copy_of<S: Spec>(
 }
 
 impl<S: Spec> Owned<S, Iri> {
-    /// The text before the number sign, or all where none stands. It takes no memory.
+    /// The text before the `#`, or all of it where there is none. It takes no memory.
+    ///
+    /// ```
+    /// use iri::types::UriString;
+    /// let link = UriString::try_from_str(rt.alloc(), "http://a/b/c/d;p?q#s")?;
+    /// assert_eq!(rt; link.into_absolute().as_str(), "http://a/b/c/d;p?q");
+    /// ```
     pub fn into_absolute(self) -> RiAbsoluteString<S>
         ensures text { result.text ≡ before number_sign self.text }
         ensures capacity { result.capacity ≡ self.capacity }
@@ -82,8 +102,11 @@ impl<S: Spec> Owned<S, Iri> {
         Owned::from_valid(cut_at_fragment(self.into_string()))
     }
 
-    /// The text before the number sign, or all, and the fragment, where one stands. For allocation failure, which
-    /// comes only where a fragment stands, the text is handed back.
+    /// The text before the `#`, or all of it, and the fragment, where there is one.
+    ///
+    /// # Errors
+    ///
+    /// The text handed back where allocation fails, and only where there is a fragment.
     pub fn into_absolute_and_fragment(
         self,
         alloc: Global,
@@ -103,14 +126,25 @@ impl<S: Spec> Owned<S, Iri> {
 }
 
 impl<S: Spec> Owned<S, Absolute> {
-    /// The text as an IRI.
+    /// The text as an IRI of its grammar, which may have a fragment. It takes no memory.
     pub fn into_iri(self) -> RiString<S>
         ensures { result ≡ self }
     {
         Owned::from_valid(self.into_string())
     }
 
-    /// The text of an IRI, where it is absolute: otherwise its first fault, with the IRI handed back.
+    /// The text of an IRI that has no fragment. It takes no memory.
+    ///
+    /// # Errors
+    ///
+    /// Exactly where it has one: `UnexpectedFragment`, with the IRI handed back.
+    ///
+    /// ```
+    /// use iri::types::{UriAbsoluteString, UriString};
+    /// let link = UriString::try_from_str(rt.alloc(), "http://a/b#s")?;
+    /// let error = UriAbsoluteString::try_from_iri(link).err().ok_or("a fragment")?;
+    /// assert_eq!(rt; error.into_source().as_str(), "http://a/b#s");
+    /// ```
     pub fn try_from_iri(s: RiString<S>) -> Result<Self, CreationError<RiString<S>>>
         ensures { MatchResult result (λ t. t ≡ s)
             (λ e. (e.source ≡ s) × (absolute_fault S.tests s.text ≡ Some e.error.kind)) }
@@ -132,15 +166,18 @@ fn downcast<S: Spec, J: Kind, K: Kind>(
 }
 
 impl<S: Spec, K: WholeKind> Owned<S, K> {
-    /// The text as a reference.
+    /// The text as a reference. It takes no memory.
     pub fn into_reference(self) -> RiReferenceString<S>
         ensures { result ≡ self }
     {
         Owned::from_valid(self.into_string())
     }
 
-    /// The text of a reference, where it is of the kind: otherwise its first fault, with the reference handed
-    /// back.
+    /// The text of a reference that is of the kind. It takes no memory.
+    ///
+    /// # Errors
+    ///
+    /// Exactly where it isn't: its first fault, with the reference handed back.
     pub fn try_from_reference(
         s: RiReferenceString<S>,
     ) -> Result<Self, CreationError<RiReferenceString<S>>>
@@ -151,7 +188,7 @@ impl<S: Spec, K: WholeKind> Owned<S, K> {
 }
 
 impl<K: Kind> Owned<UriSpec, K> {
-    /// The text of URIs as one of IRIs.
+    /// The text of URIs as one of IRIs: each URI is an IRI (RFC 3987 section 3). It takes no memory.
     pub fn into_iri_spec(self) -> Owned<IriSpec, K>
         ensures { result ≡ self }
     {

@@ -19,6 +19,15 @@ pub enum CreateError {
 }
 
 /// Why no owned text was made of another, which it hands back.
+///
+/// ```
+/// use iri::types::UriString;
+/// use iri::validate::ErrorKind;
+/// let text = String::from_str(rt.alloc(), "http://example.com/%4")?;
+/// let error = UriString::try_from_string(text).err().ok_or("a fault")?;
+/// assert_eq!(rt; error.validation_error().kind(), ErrorKind::InvalidPath);
+/// assert_eq!(rt; error.into_source().as_str(), "http://example.com/%4");
+/// ```
 #[derive(Debug, Drop)]
 pub struct CreationError<T> {
     pub(crate) source: T,

@@ -14,8 +14,14 @@ use std::alloc::{AllocError, Global};
 use std::marker::{Model, PhantomData};
 use std::mem;
 
-/// A text of the kind `K` in the grammar `S`, owned. It is seen as its UTF-8 bytes and its capacity.
-/// Owned texts are equal, ordered and hashed as their texts.
+/// A text of the kind `K` in the grammar `S`, owned. It is seen as its UTF-8 bytes and its capacity. Owned texts are
+/// equal, ordered and hashed as their texts.
+///
+/// ```
+/// use iri::types::UriString;
+/// let link = UriString::try_from_str(rt.alloc(), "http://example.com/")?;
+/// assert_eq!(rt; link.as_slice().path_str(), "/");
+/// ```
 #[derive(Drop)]
 #[derive_where(Debug)]
 pub struct Owned<S: Spec, K: Kind> {
@@ -37,7 +43,19 @@ impl<S: Spec, K: Kind> Model for Owned<S, K> {
 }
 
 impl<S: Spec, K: Kind> Owned<S, K> {
-    /// A copy of a text, where it is in its production: otherwise its first fault. `Memory` comes on allocation failure alone.
+    /// A copy of a text that is in its production.
+    ///
+    /// # Errors
+    ///
+    /// - `Invalid` exactly where the text isn't: its first fault.
+    /// - `Memory` where allocation fails.
+    ///
+    /// ```
+    /// use iri::types::{CreateError, UriString};
+    /// assert!(rt; UriString::try_from_str(rt.alloc(), "urn:example:a").is_ok());
+    /// let error = UriString::try_from_str(rt.alloc(), "//example.com/").err().ok_or("a fault")?;
+    /// assert!(rt; matches!(error, CreateError::Invalid(_)));
+    /// ```
     pub fn try_from_str(alloc: Global, s: &str) -> Result<Self, CreateError>
         ensures { MatchResult result (λ t. t.text ≡ s.now) (λ e. RefusedFor e (K.fault S.tests s.now)) }
     {
@@ -47,8 +65,13 @@ impl<S: Spec, K: Kind> Owned<S, K> {
         }
     }
 
-    /// A copy of bytes, where they are the UTF-8 of a text in its production: otherwise `InvalidUtf8`, or the
-    /// text's first fault. `Memory` comes on allocation failure alone.
+    /// A copy of bytes that are the UTF-8 of a text in its production.
+    ///
+    /// # Errors
+    ///
+    /// - `Invalid` with `InvalidUtf8` where the bytes aren't UTF-8, which is tested first.
+    /// - `Invalid` exactly where the text isn't in its production: its first fault.
+    /// - `Memory` where allocation fails.
     pub fn try_from_bytes(alloc: Global, b: &[u8]) -> Result<Self, CreateError>
         ensures { MatchResult result (λ t. t.text ≡ b.now) (λ e. RefusedFor e (bytes_fault (K.fault S.tests) b.now)) }
     {
@@ -58,8 +81,18 @@ impl<S: Spec, K: Kind> Owned<S, K> {
         }
     }
 
-    /// The text of a string, where it is in its production: otherwise its first fault, with the string handed
-    /// back. It takes no memory.
+    /// A string whose text is in its production. It takes no memory.
+    ///
+    /// # Errors
+    ///
+    /// Exactly where the text isn't: its first fault, with the string handed back.
+    ///
+    /// ```
+    /// use iri::types::UriReferenceString;
+    /// let text = String::from_str(rt.alloc(), "a b")?;
+    /// let error = UriReferenceString::try_from_string(text).err().ok_or("a fault")?;
+    /// assert_eq!(rt; error.into_source().as_str(), "a b");
+    /// ```
     pub fn try_from_string(s: String) -> Result<Self, CreationError<String>>
         ensures { MatchResult result (λ t. t ≡ owned_text s)
             (λ e. (e.source ≡ s) × (K.fault S.tests (string_bytes s) ≡ Some e.error.kind)) }
@@ -74,7 +107,17 @@ impl<S: Spec, K: Kind> Owned<S, K> {
         }
     }
 
-    /// A copy of a view's text. It fails on allocation failure alone.
+    /// A copy of a view's text.
+    ///
+    /// # Errors
+    ///
+    /// Where allocation fails.
+    ///
+    /// ```
+    /// use iri::types::{UriStr, UriString};
+    /// let link = UriStr::new("http://example.com/")?;
+    /// assert_eq!(rt; UriString::from_view(rt.alloc(), link)?.as_slice(), link);
+    /// ```
     pub fn from_view(alloc: Global, view: View<'_, S, K>) -> Result<Self, AllocError>
         ensures { IfOk result (λ t. t.text ≡ text view.entry) }
     {
@@ -86,8 +129,8 @@ impl<S: Spec, K: Kind> Owned<S, K> {
         })
     }
 
-    /// The text of a string that is in its production: `try_from_string` tells whether it is. It takes no
-    /// memory.
+    /// A string whose text is in its production, without a test. It has a condition: `try_from_string` tests it. It
+    /// takes no memory.
     pub fn from_valid(s: String) -> Self
         requires { K.fault S.tests (string_bytes s) ≡ None }
         ensures { result ≡ owned_text s }
@@ -99,7 +142,13 @@ impl<S: Spec, K: Kind> Owned<S, K> {
         }
     }
 
-    /// The text as a view.
+    /// The text as a view, which has the getters.
+    ///
+    /// ```
+    /// use iri::types::UriString;
+    /// let link = UriString::try_from_str(rt.alloc(), "http://example.com/a?b")?;
+    /// assert_eq!(rt; link.as_slice().query_str(), Some("b"));
+    /// ```
     pub fn as_slice(&self) -> View<'_, S, K>
         ensures { text result ≡ self.now.text }
     {
@@ -135,8 +184,11 @@ impl<S: Spec, K: Kind> Owned<S, K> {
         self.text.capacity()
     }
 
-    /// Gives back memory that the text doesn't need, and all of it where the text is empty. It never fails:
-    /// where a smaller place is refused, the text stays in the one that it has.
+    /// Gives back memory that the text doesn't need, and all of it where the text is empty.
+    ///
+    /// # Errors
+    ///
+    /// None: where a smaller place is refused, the text stays in the one that it has.
     pub fn shrink_to_fit(&mut self) -> Result<(), AllocError>
         ensures succeeds { IsOk result }
         ensures text { self.new.text ≡ self.old.text }
@@ -147,8 +199,20 @@ impl<S: Spec, K: Kind> Owned<S, K> {
         Ok(())
     }
 
-    /// Makes room for this many bytes more than the text has. Edits that fit within the capacity then never need memory.
-    /// After allocation failure the text and its capacity are as they were; it comes only where the room isn't there yet.
+    /// Makes room for this many bytes more than the text has. Edits that fit within the capacity then never need
+    /// memory.
+    ///
+    /// # Errors
+    ///
+    /// Where allocation fails, and only where the room isn't there yet; the text and its capacity are as they were
+    /// then.
+    ///
+    /// ```
+    /// use iri::types::UriString;
+    /// let mut link = UriString::try_from_str(rt.alloc(), "urn:a")?;
+    /// link.try_reserve(100)?;
+    /// assert!(rt; link.capacity() >= 105);
+    /// ```
     pub fn try_reserve(&mut self, additional: usize) -> Result<(), AllocError>
         ensures text { self.new.text ≡ self.old.text }
         ensures room { OnOk result (length self.old.text + additional ≤ self.new.capacity) }
@@ -159,15 +223,19 @@ impl<S: Spec, K: Kind> Owned<S, K> {
         self.text.try_reserve(additional)
     }
 
-    /// A copy. It fails on allocation failure alone.
+    /// A copy.
+    ///
+    /// # Errors
+    ///
+    /// Where allocation fails.
     pub fn try_clone(&self, alloc: Global) -> Result<Self, AllocError>
         ensures { IfOk result (λ t. t.text ≡ self.now.text) }
     {
         Owned::from_view(alloc, self.as_slice())
     }
 
-    /// Puts a text that is in its production, as `K::validate` tells, in the old one's place, and gives the old one back. It takes no
-    /// memory.
+    /// Puts a text that is in its production in the old one's place, and gives the old one back. It has a condition:
+    /// `K::validate` tests it. It takes no memory.
     pub fn replace_text(&mut self, text: String) -> String
         requires { K.fault S.tests (string_bytes text) ≡ None }
         ensures new { self.new ≡ owned_text text }
@@ -177,56 +245,74 @@ impl<S: Spec, K: Kind> Owned<S, K> {
     }
 }
 
-/// A `URI-reference` of `S`.
+/// A `URI-reference` of `S`, owned (RFC 3986 section 4.1).
 pub type RiReferenceString<S> = Owned<S, Reference>;
 
-/// A `URI` of `S`, with a scheme.
+/// A `URI` of `S`, with a scheme, owned (RFC 3986 section 3).
 pub type RiString<S> = Owned<S, Iri>;
 
-/// An `absolute-URI` of `S`, with a scheme and without a fragment.
+/// An `absolute-URI` of `S`, with a scheme and without a fragment, owned (RFC 3986 section 4.3).
 pub type RiAbsoluteString<S> = Owned<S, Absolute>;
 
-/// A `relative-ref` of `S`, without a scheme.
+/// A `relative-ref` of `S`, without a scheme, owned (RFC 3986 section 4.2).
 pub type RiRelativeString<S> = Owned<S, Relative>;
 
-/// A `query` of `S`, without its question mark.
+/// A `query` of `S`, without its `?`, owned (RFC 3986 section 3.4).
 pub type RiQueryString<S> = Owned<S, Query>;
 
-/// A `fragment` of `S`, without its number sign.
+/// A `fragment` of `S`, without its `#`, owned (RFC 3986 section 3.5).
 pub type RiFragmentString<S> = Owned<S, Fragment>;
 
-/// A reference of IRIs.
+/// An `IRI-reference`, owned (RFC 3987 section 2.2).
 pub type IriReferenceString = RiReferenceString<IriSpec>;
 
-/// An IRI.
+/// An `IRI`, owned (RFC 3987 section 2.2).
+///
+/// ```
+/// use iri::types::IriString;
+/// let link = IriString::try_from_str(rt.alloc(), "http://example.com/rosé")?;
+/// assert_eq!(rt; link.as_str(), "http://example.com/rosé");
+/// ```
 pub type IriString = RiString<IriSpec>;
 
-/// An absolute IRI.
+/// An `absolute-IRI`: an IRI without a fragment, owned (RFC 3987 section 2.2).
 pub type IriAbsoluteString = RiAbsoluteString<IriSpec>;
 
-/// A relative reference of IRIs.
+/// An `irelative-ref`: a reference without a scheme, owned (RFC 3987 section 2.2).
 pub type IriRelativeString = RiRelativeString<IriSpec>;
 
-/// A query of IRIs.
+/// An `iquery`, without its `?`, owned (RFC 3987 section 2.2).
 pub type IriQueryString = RiQueryString<IriSpec>;
 
-/// A fragment of IRIs.
+/// An `ifragment`, without its `#`, owned (RFC 3987 section 2.2).
 pub type IriFragmentString = RiFragmentString<IriSpec>;
 
-/// A reference of URIs.
+/// A `URI-reference`, owned (RFC 3986 section 4.1).
+///
+/// ```
+/// use iri::types::UriReferenceString;
+/// let link = UriReferenceString::try_from_str(rt.alloc(), "../../g")?;
+/// assert!(rt; link.into_iri().is_err());
+/// ```
 pub type UriReferenceString = RiReferenceString<UriSpec>;
 
-/// A URI.
+/// A `URI`, owned (RFC 3986 section 3).
+///
+/// ```
+/// use iri::types::UriString;
+/// let link = UriString::try_from_str(rt.alloc(), "mailto:John.Doe@example.com")?;
+/// assert_eq!(rt; link.as_slice().scheme_str(), "mailto");
+/// ```
 pub type UriString = RiString<UriSpec>;
 
-/// An absolute URI.
+/// An `absolute-URI`: a URI without a fragment, as a base is, owned (RFC 3986 section 4.3).
 pub type UriAbsoluteString = RiAbsoluteString<UriSpec>;
 
-/// A relative reference of URIs.
+/// A `relative-ref`: a reference without a scheme, owned (RFC 3986 section 4.2).
 pub type UriRelativeString = RiRelativeString<UriSpec>;
 
-/// A query of URIs.
+/// A `query`, without its `?`, owned (RFC 3986 section 3.4).
 pub type UriQueryString = RiQueryString<UriSpec>;
 
-/// A fragment of URIs.
+/// A `fragment`, without its `#`, owned (RFC 3986 section 3.5).
 pub type UriFragmentString = RiFragmentString<UriSpec>;

@@ -105,10 +105,21 @@ fn replace_past(text: &mut String, start: usize, end: usize, new: &str) -> Resul
 }
 
 impl<S: Spec, K: Kind> Owned<S, K> {
-    /// Puts a text in the place of a range in bytes. The range must lie in the text on character boundaries
-    /// (`str::is_char_boundary`), and what comes out must be in the production (`K::validate`). Allocation failure
-    /// comes only where what comes out is longer than the capacity, so never where the new text is no longer than
-    /// the range; the text and its capacity are then as they were.
+    /// Puts a text in the place of a range in bytes. It has conditions: the range lies in the text on character
+    /// boundaries (`str::is_char_boundary` tests each), and what comes out is in the production (`K::validate` tests
+    /// it).
+    ///
+    /// # Errors
+    ///
+    /// Where allocation fails, and only where what comes out is longer than the capacity, so never where the new text
+    /// is no longer than the range; the text and its capacity are as they were then.
+    ///
+    /// ```
+    /// use iri::types::UriString;
+    /// let mut link = UriString::try_from_str(rt.alloc(), "http://a/b/c")?;
+    /// link.splice(9..10, "xyz")?;
+    /// assert_eq!(rt; link.as_str(), "http://a/xyz/c");
+    /// ```
     pub fn splice(&mut self, range: Range<usize>, new: &str) -> Result<(), AllocError>
         requires ordered { range.start ≤ range.end }
         requires low { IsCharBoundary self.old.text range.start }

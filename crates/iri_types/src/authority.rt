@@ -14,7 +14,17 @@ use iri_grammar::spec::Spec;
 use std::alloc::AllocError;
 use std::hash::{Hash, Hasher};
 
-/// The components of an authority, as slices of its text. They are equal and hashed as that text.
+/// The parts of an authority, as slices of its text (RFC 3986 section 3.2). They are equal and hashed as that text.
+///
+/// ```
+/// use iri::components::AuthorityComponents;
+/// use iri::types::UriReferenceStr;
+/// let link = UriReferenceStr::new("//user:password@www.example.com:8080/")?;
+/// let authority = AuthorityComponents::from_iri(link).ok_or("an authority")?;
+/// assert_eq!(rt; authority.userinfo(), Some("user:password"));
+/// assert_eq!(rt; authority.host(), "www.example.com");
+/// assert_eq!(rt; authority.port(), Some("8080"));
+/// ```
 pub struct AuthorityComponents<'a> {
     text: &'a str,
     span: AuthoritySpan<'a>,
@@ -79,7 +89,7 @@ impl<'a> AuthorityComponents<'a> {
     ghost use Rattle.iri_types.specs.ComponentsText.{authority};
     ghost use Rattle.iri_types.specs.Texts.{text};
 
-    /// The components of a reference's authority; none exactly where no authority stands.
+    /// The parts of a reference's authority; `None` exactly where it has no authority.
     pub fn from_iri<S: Spec>(iri: RiReferenceStr<'a, S>) -> Option<Self>
         ensures { MatchOption result ((split_of (text iri.entry)).authority ≡ None)
             (λ a. (split_of (text iri.entry)).authority ≡ Some (authority a)) }
@@ -100,28 +110,44 @@ impl<'a> AuthorityComponents<'a> {
         AuthorityComponents { text, span, named }
     }
 
-    /// The userinfo, without the `@` behind it.
+    /// The userinfo, without the `@` after it; `None` exactly where there is no `@` (RFC 3986 section 3.2.1).
     pub fn userinfo(&self) -> Option<&'a str>
         ensures { now_of result ≡ (authority_parts (authority self.now)).userinfo }
     {
         self.span.userinfo()
     }
 
-    /// The host.
+    /// The host, with the brackets of an IP literal; it may be empty (RFC 3986 section 3.2.2).
+    ///
+    /// ```
+    /// use iri::types::UriStr;
+    /// let link = UriStr::new("ldap://[2001:db8::7]/c=GB?objectClass?one")?;
+    /// assert_eq!(rt; link.authority_components().ok_or("an authority")?.host(), "[2001:db8::7]");
+    /// ```
     pub fn host(&self) -> &'a str
         ensures { result.now ≡ (authority_parts (authority self.now)).host }
     {
         self.span.host()
     }
 
-    /// The host, where it is a registered name: no IP literal and no IPv4 text (RFC 3986 section 3.2.2).
+    /// The host, where it is a registered name; `None` exactly where it is an IP literal or an IPv4 address (RFC 3986
+    /// section 3.2.2).
+    ///
+    /// ```
+    /// use iri::types::UriStr;
+    /// let named = UriStr::new("http://example.com/")?.authority_components().ok_or("an authority")?;
+    /// assert_eq!(rt; named.reg_name(), Some("example.com"));
+    /// let address = UriStr::new("telnet://192.0.2.16:80/")?.authority_components().ok_or("an authority")?;
+    /// assert_eq!(rt; address.reg_name(), None);
+    /// ```
     pub fn reg_name(&self) -> Option<&'a str>
         ensures { now_of result ≡ reg_name_of (authority_parts (authority self.now)).host }
     {
         if self.named { Some(self.host()) } else { None }
     }
 
-    /// The port, without the colon before it; a colon without digits gives the empty text.
+    /// The port, without the `:` before it; a `:` without digits gives the empty text, and `None` comes exactly where
+    /// there is no `:` (RFC 3986 section 3.2.3).
     pub fn port(&self) -> Option<&'a str>
         ensures { now_of result ≡ (authority_parts (authority self.now)).port }
     {

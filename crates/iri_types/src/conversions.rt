@@ -14,7 +14,18 @@ use iri_grammar::error::{Error, ErrorKind};
 use iri_grammar::spec::{IriSpec, Spec, UriSpec};
 
 impl<'a, S: Spec> View<'a, S, Reference> {
-    /// The text as an IRI, exactly where a scheme stands; otherwise the same text as a relative reference.
+    /// The text as an IRI of its grammar, which has a scheme.
+    ///
+    /// # Errors
+    ///
+    /// The same text as a relative reference, exactly where it has no scheme.
+    ///
+    /// ```
+    /// use iri::types::UriReferenceStr;
+    /// assert!(rt; UriReferenceStr::new("g:h")?.to_iri().is_ok());
+    /// let relative = UriReferenceStr::new("g")?.to_iri().err().ok_or("no scheme")?;
+    /// assert_eq!(rt; relative.as_str(), "g");
+    /// ```
     pub fn to_iri(self) -> Result<RiStr<'a, S>, RiRelativeStr<'a, S>>
         ensures text { MatchResult result (λ iri. text iri ≡ text self.entry)
             (λ relative. text relative ≡ text self.entry) }
@@ -28,7 +39,11 @@ impl<'a, S: Spec> View<'a, S, Reference> {
         }
     }
 
-    /// The text as a relative reference, exactly where no scheme stands; otherwise the same text as an IRI.
+    /// The text as a relative reference, which has no scheme.
+    ///
+    /// # Errors
+    ///
+    /// The same text as an IRI of its grammar, exactly where it has a scheme.
     pub fn to_relative_iri(self) -> Result<RiRelativeStr<'a, S>, RiStr<'a, S>>
         ensures text { MatchResult result (λ relative. text relative ≡ text self.entry)
             (λ iri. text iri ≡ text self.entry) }
@@ -43,14 +58,27 @@ impl<'a, S: Spec> View<'a, S, Reference> {
 }
 
 impl<'a, S: Spec> View<'a, S, Iri> {
-    /// The text before the number sign, or all where none stands.
+    /// The text before the `#`, or all of it where there is none (RFC 3986 section 4.3).
+    ///
+    /// ```
+    /// use iri::types::UriStr;
+    /// let link = UriStr::new("http://a/b/c/d;p?q#s")?;
+    /// assert_eq!(rt; link.to_absolute().as_str(), "http://a/b/c/d;p?q");
+    /// ```
     pub fn to_absolute(self) -> RiAbsoluteStr<'a, S>
         ensures { text result ≡ before number_sign (text self.entry) }
     {
         View::from_valid(cut(self.as_str(), b'#').0)
     }
 
-    /// The text before the number sign, or all, and the fragment, where one stands.
+    /// The text before the `#`, or all of it, and the fragment, where there is one.
+    ///
+    /// ```
+    /// use iri::types::UriStr;
+    /// let (absolute, fragment) = UriStr::new("http://a/b#s")?.to_absolute_and_fragment();
+    /// assert_eq!(rt; absolute.as_str(), "http://a/b");
+    /// assert_eq!(rt; fragment.ok_or("a fragment")?.as_str(), "s");
+    /// ```
     pub fn to_absolute_and_fragment(self) -> (RiAbsoluteStr<'a, S>, Option<RiFragmentStr<'a, S>>)
         ensures absolute { text result.0 ≡ before number_sign (text self.entry) }
         ensures fragment { text_of result.1 ≡ (split_of (text self.entry)).fragment }
@@ -61,7 +89,7 @@ impl<'a, S: Spec> View<'a, S, Iri> {
 }
 
 impl<'a, S: Spec> View<'a, S, Absolute> {
-    /// The text as an IRI.
+    /// The text as an IRI of its grammar, which may have a fragment.
     pub fn as_iri(self) -> RiStr<'a, S>
         ensures { text result ≡ text self.entry }
     {
@@ -70,7 +98,13 @@ impl<'a, S: Spec> View<'a, S, Absolute> {
 }
 
 impl<'a, K: Kind> View<'a, UriSpec, K> {
-    /// The text of URIs as one of IRIs.
+    /// The text of URIs as one of IRIs: each URI is an IRI (RFC 3987 section 3).
+    ///
+    /// ```
+    /// use iri::types::{IriStr, UriStr};
+    /// let link: IriStr<'_> = UriStr::new("http://example.com/")?.to_iri_spec();
+    /// assert_eq!(rt; link.as_str(), "http://example.com/");
+    /// ```
     pub fn to_iri_spec(self) -> View<'a, IriSpec, K>
         ensures { text result ≡ text self.entry }
     {
@@ -92,8 +126,17 @@ fn behind_mark<'a, S: Spec, K: Kind>(s: &'a str, mark: &str) -> Option<View<'a, 
 }
 
 impl<'a, S: Spec> View<'a, S, Query> {
-    /// The query behind the question mark that begins the text: `InvalidQuery` where none begins it, or
-    /// where what follows is no query.
+    /// The query after the `?` that begins the text.
+    ///
+    /// # Errors
+    ///
+    /// `InvalidQuery` exactly where the text doesn't begin with `?`, or where what follows is no query.
+    ///
+    /// ```
+    /// use iri::types::UriQueryStr;
+    /// assert_eq!(rt; UriQueryStr::from_prefixed("?y")?.as_str(), "y");
+    /// assert!(rt; UriQueryStr::from_prefixed("y").is_err());
+    /// ```
     pub fn from_prefixed(s: &'a str) -> Result<Self, Error>
         ensures query { MatchResult result (λ v. s.now ≡ codes "?" ++ text v)
             (λ _. IsUnmarked (codes "?") (query_fault S.tests) s.now) }
@@ -107,8 +150,17 @@ impl<'a, S: Spec> View<'a, S, Query> {
 }
 
 impl<'a, S: Spec> View<'a, S, Fragment> {
-    /// The fragment behind the number sign that begins the text: `InvalidFragment` where none begins it, or
-    /// where what follows is no fragment.
+    /// The fragment after the `#` that begins the text.
+    ///
+    /// # Errors
+    ///
+    /// `InvalidFragment` exactly where the text doesn't begin with `#`, or where what follows is no fragment.
+    ///
+    /// ```
+    /// use iri::types::UriFragmentStr;
+    /// assert_eq!(rt; UriFragmentStr::from_prefixed("#s")?.as_str(), "s");
+    /// assert!(rt; UriFragmentStr::from_prefixed("s").is_err());
+    /// ```
     pub fn from_prefixed(s: &'a str) -> Result<Self, Error>
         ensures fragment { MatchResult result (λ v. s.now ≡ codes "#" ++ text v)
             (λ _. IsUnmarked (codes "#") (fragment_fault S.tests) s.now) }

@@ -16,8 +16,16 @@ use iri_grammar::spec::Spec;
 use iri_grammar::splitter::Splitter;
 use std::alloc::AllocError;
 
-/// A view and its five parts, which are cut once. A program that asks for several parts of a text, or resolves many references
-/// against one base, keeps this in place of the view.
+/// A view and its five parts, which are split once. A program that asks for several parts of a text, or resolves many
+/// references against one base, keeps this in place of the view.
+///
+/// ```
+/// use iri::spec::UriSpec;
+/// use iri::types::SplitView;
+/// let link = SplitView::<UriSpec, _>::new("../g?y#s")?;
+/// assert_eq!(rt; link.parts().path(), "../g");
+/// assert_eq!(rt; link.parts().fragment(), Some("s"));
+/// ```
 pub struct SplitView<'a, S: Spec, K: WholeKind> {
     view: View<'a, S, K>,
     cut: Splitter<'a>,
@@ -39,7 +47,7 @@ impl<S: Spec, K: WholeKind> Copy for SplitView<'_, S, K> {}
 impl<'a, S: Spec, K: WholeKind> SplitView<'a, S, K> {
     ghost use Rattle.iri_types.specs.SplitText.{split_text};
 
-    /// A view, cut into its parts.
+    /// A view, split into its parts.
     pub fn of(view: View<'a, S, K>) -> Self
         ensures { split_text result ≡ text view.entry }
     {
@@ -66,8 +74,13 @@ impl<'a, S: Spec, K: WholeKind> SplitView<'a, S, K> {
 impl<'a, S: Spec> SplitView<'a, S, Reference> {
     ghost use Rattle.iri_types.specs.SplitText.{split_text};
 
-    /// The split view of bytes, where they are the UTF-8 of a reference: otherwise `InvalidUtf8`, or the kind of the text's first
-    /// fault. The same as `View::try_from_bytes` and `of`, in one look at the text.
+    /// The split view of bytes that are the UTF-8 of a reference: the same as `View::try_from_bytes` and `of`, in one
+    /// scan of the text.
+    ///
+    /// # Errors
+    ///
+    /// - `InvalidUtf8` where the bytes aren't UTF-8, which is tested first.
+    /// - Otherwise the first fault of the text, exactly where it is no reference.
     #[inline(always)]
     pub fn try_from_bytes(b: &'a [u8]) -> Result<Self, Error>
         ensures fault { Answers result (bytes_fault (reference_fault S.tests) b.now) }
@@ -79,7 +92,11 @@ impl<'a, S: Spec> SplitView<'a, S, Reference> {
         }
     }
 
-    /// The split view of a text, where it is a reference: otherwise the kind of its first fault.
+    /// The split view of a text that is a reference.
+    ///
+    /// # Errors
+    ///
+    /// Exactly where the text is none: the first fault from the left.
     #[inline(always)]
     pub fn new(s: &'a str) -> Result<Self, Error>
         ensures fault { Answers result (reference_fault S.tests s.now) }

@@ -11,8 +11,16 @@ use std::alloc::AllocError;
 use std::fmt;
 use std::marker::PhantomData;
 
-/// A text of the kind `K` in the grammar `S`, borrowed. It is as small as a `&str`, and its slices outlive it.
-/// Views are equal, ordered and hashed as their texts.
+/// A text of the kind `K` in the grammar `S`, borrowed. It is as small as a `&str`, and its slices outlive it. Views
+/// are equal, ordered and hashed as their texts.
+///
+/// ```
+/// use iri::types::UriStr;
+/// let link = UriStr::new("foo://example.com:8042/over/there?name=ferret#nose")?;
+/// assert_eq!(rt; link.scheme_str(), "foo");
+/// assert_eq!(rt; link.authority_str(), Some("example.com:8042"));
+/// assert_eq!(rt; link.path_str(), "/over/there");
+/// ```
 #[derive_where(PartialEq, Eq, PartialOrd, Ord, Hash, Debug)]
 pub struct View<'a, S: Spec, K: Kind> {
     text: &'a str,
@@ -36,7 +44,19 @@ impl<S: Spec, K: Kind> Copy for View<'_, S, K> {}
 impl<'a, S: Spec, K: Kind> View<'a, S, K> {
     ghost use Rattle.iri_types.specs.Texts.{text};
 
-    /// The view of a text, where the text is in its production: otherwise the kind of its first fault.
+    /// The view of a text that is in its production.
+    ///
+    /// # Errors
+    ///
+    /// Exactly where the text isn't: the first fault from the left.
+    ///
+    /// ```
+    /// use iri::types::UriStr;
+    /// use iri::validate::ErrorKind;
+    /// assert!(rt; UriStr::new("mailto:John.Doe@example.com").is_ok());
+    /// let error = UriStr::new("http://[::1").err().ok_or("a fault")?;
+    /// assert_eq!(rt; error.kind(), ErrorKind::InvalidHost);
+    /// ```
     pub fn new(s: &'a str) -> Result<Self, Error>
         ensures fault { Answers result (K.fault S.tests s.now) }
         ensures text { IfOk result (λ v. text v ≡ s.now) }
@@ -51,8 +71,20 @@ impl<'a, S: Spec, K: Kind> View<'a, S, K> {
         }
     }
 
-    /// The view of bytes, where they are the UTF-8 of a text in its production: otherwise `InvalidUtf8`,
-    /// or the kind of the text's first fault.
+    /// The view of bytes that are the UTF-8 of a text in its production.
+    ///
+    /// # Errors
+    ///
+    /// - `InvalidUtf8` where the bytes aren't UTF-8, which is tested first.
+    /// - Otherwise the first fault of the text, exactly where it isn't in its production.
+    ///
+    /// ```
+    /// use iri::types::IriStr;
+    /// use iri::validate::ErrorKind;
+    /// assert!(rt; IriStr::try_from_bytes(b"http://example.org/ros\xc3\xa9").is_ok());
+    /// let error = IriStr::try_from_bytes(b"http://example.org/ros\xe9").err().ok_or("a fault")?;
+    /// assert_eq!(rt; error.kind(), ErrorKind::InvalidUtf8);
+    /// ```
     pub fn try_from_bytes(b: &'a [u8]) -> Result<Self, Error>
         ensures fault { Answers result (bytes_fault (K.fault S.tests) b.now) }
         ensures text { IfOk result (λ v. text v ≡ b.now) }
@@ -63,7 +95,7 @@ impl<'a, S: Spec, K: Kind> View<'a, S, K> {
         }
     }
 
-    /// The view of a text that is in its production: `new` tells whether it is.
+    /// The view of a text that is in its production, without a test. It has a condition: `new` tests it.
     pub fn from_valid(s: &'a str) -> Self
         requires { K.fault S.tests s.now ≡ None }
         ensures { text result ≡ s.now }
@@ -76,6 +108,11 @@ impl<'a, S: Spec, K: Kind> View<'a, S, K> {
     }
 
     /// The text.
+    ///
+    /// ```
+    /// use iri::types::UriStr;
+    /// assert_eq!(rt; UriStr::new("tel:+1-816-555-1212")?.as_str(), "tel:+1-816-555-1212");
+    /// ```
     pub fn as_str(self) -> &'a str
         ensures text { result.now ≡ text self.entry }
         ensures valid { K.fault S.tests result.now ≡ None }
@@ -83,14 +120,14 @@ impl<'a, S: Spec, K: Kind> View<'a, S, K> {
         self.text
     }
 
-    /// How many bytes the text has.
+    /// The length of the text in bytes.
     pub fn len(self) -> usize
         ensures { result ≡ length (text self.entry) }
     {
         self.text.len()
     }
 
-    /// Whether the text has no bytes.
+    /// Whether the text is empty, as a relative reference, a query or a fragment may be.
     pub fn is_empty(self) -> bool
         ensures { result ≡ (length (text self.entry) == 0) }
     {
@@ -118,56 +155,105 @@ impl<S: Spec, K: Kind> fmt::Display for View<'_, S, K> {
     }
 }
 
-/// A `URI-reference` of `S`.
+/// A `URI-reference` of `S` (RFC 3986 section 4.1).
 pub type RiReferenceStr<'a, S> = View<'a, S, Reference>;
 
-/// A `URI` of `S`, with a scheme.
+/// A `URI` of `S`, with a scheme (RFC 3986 section 3).
 pub type RiStr<'a, S> = View<'a, S, Iri>;
 
-/// An `absolute-URI` of `S`, with a scheme and without a fragment.
+/// An `absolute-URI` of `S`, with a scheme and without a fragment (RFC 3986 section 4.3).
 pub type RiAbsoluteStr<'a, S> = View<'a, S, Absolute>;
 
-/// A `relative-ref` of `S`, without a scheme.
+/// A `relative-ref` of `S`, without a scheme (RFC 3986 section 4.2).
 pub type RiRelativeStr<'a, S> = View<'a, S, Relative>;
 
-/// A `query` of `S`, without its question mark.
+/// A `query` of `S`, without its `?` (RFC 3986 section 3.4).
 pub type RiQueryStr<'a, S> = View<'a, S, Query>;
 
-/// A `fragment` of `S`, without its number sign.
+/// A `fragment` of `S`, without its `#` (RFC 3986 section 3.5).
 pub type RiFragmentStr<'a, S> = View<'a, S, Fragment>;
 
-/// A reference of IRIs.
+/// An `IRI-reference`: an IRI or a relative reference (RFC 3987 section 2.2).
+///
+/// ```
+/// use iri::types::IriReferenceStr;
+/// assert!(rt; IriReferenceStr::new("../rosé#rouge").is_ok());
+/// ```
 pub type IriReferenceStr<'a> = RiReferenceStr<'a, IriSpec>;
 
-/// An IRI.
+/// An `IRI` (RFC 3987 section 2.2).
+///
+/// ```
+/// use iri::types::IriStr;
+/// let link = IriStr::new("http://www.example.org/red%09rosé#red")?;
+/// assert_eq!(rt; link.path_str(), "/red%09rosé");
+/// ```
 pub type IriStr<'a> = RiStr<'a, IriSpec>;
 
-/// An absolute IRI.
+/// An `absolute-IRI`: an IRI without a fragment, as a base is (RFC 3987 section 2.2).
 pub type IriAbsoluteStr<'a> = RiAbsoluteStr<'a, IriSpec>;
 
-/// A relative reference of IRIs.
+/// An `irelative-ref`: a reference without a scheme (RFC 3987 section 2.2).
 pub type IriRelativeStr<'a> = RiRelativeStr<'a, IriSpec>;
 
-/// A query of IRIs.
+/// An `iquery`, without its `?` (RFC 3987 section 2.2).
 pub type IriQueryStr<'a> = RiQueryStr<'a, IriSpec>;
 
-/// A fragment of IRIs.
+/// An `ifragment`, without its `#` (RFC 3987 section 2.2).
 pub type IriFragmentStr<'a> = RiFragmentStr<'a, IriSpec>;
 
-/// A reference of URIs.
+/// A `URI-reference`: a URI or a relative reference, as a page has it (RFC 3986 section 4.1).
+///
+/// ```
+/// use iri::types::UriReferenceStr;
+/// let link = UriReferenceStr::new("../g?y#s")?;
+/// assert_eq!(rt; link.scheme_str(), None);
+/// assert_eq!(rt; link.query_str(), Some("y"));
+/// ```
 pub type UriReferenceStr<'a> = RiReferenceStr<'a, UriSpec>;
 
-/// A URI.
+/// A `URI` (RFC 3986 section 3).
+///
+/// ```
+/// use iri::types::UriStr;
+/// assert!(rt; UriStr::new("urn:oasis:names:specification:docbook:dtd:xml:4.1.2").is_ok());
+/// assert!(rt; UriStr::new("//example.com/").is_err());
+/// ```
 pub type UriStr<'a> = RiStr<'a, UriSpec>;
 
-/// An absolute URI.
+/// An `absolute-URI`: a URI without a fragment, as a base is (RFC 3986 section 4.3).
+///
+/// ```
+/// use iri::types::UriAbsoluteStr;
+/// use iri::validate::ErrorKind;
+/// assert!(rt; UriAbsoluteStr::new("http://a/b/c/d;p?q").is_ok());
+/// let error = UriAbsoluteStr::new("http://a/b#c").err().ok_or("a fault")?;
+/// assert_eq!(rt; error.kind(), ErrorKind::UnexpectedFragment);
+/// ```
 pub type UriAbsoluteStr<'a> = RiAbsoluteStr<'a, UriSpec>;
 
-/// A relative reference of URIs.
+/// A `relative-ref`: a reference without a scheme (RFC 3986 section 4.2).
+///
+/// ```
+/// use iri::types::UriRelativeStr;
+/// assert!(rt; UriRelativeStr::new("./g:h").is_ok());
+/// assert!(rt; UriRelativeStr::new("g:h").is_err());
+/// ```
 pub type UriRelativeStr<'a> = RiRelativeStr<'a, UriSpec>;
 
-/// A query of URIs.
+/// A `query`, without its `?` (RFC 3986 section 3.4).
+///
+/// ```
+/// use iri::types::UriQueryStr;
+/// assert!(rt; UriQueryStr::new("objectClass?one").is_ok());
+/// ```
 pub type UriQueryStr<'a> = RiQueryStr<'a, UriSpec>;
 
-/// A fragment of URIs.
+/// A `fragment`, without its `#` (RFC 3986 section 3.5).
+///
+/// ```
+/// use iri::types::UriFragmentStr;
+/// assert!(rt; UriFragmentStr::new("nose").is_ok());
+/// assert!(rt; UriFragmentStr::new("#nose").is_err());
+/// ```
 pub type UriFragmentStr<'a> = RiFragmentStr<'a, UriSpec>;

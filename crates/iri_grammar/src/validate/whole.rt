@@ -138,8 +138,18 @@ fn leading_scheme(s: &str) -> Result<(), Error>
     scheme(cut_before(s, b':').0)
 }
 
-/// Whether the text is a `URI-reference` (RFC 3986 section 4.1; of IRIs RFC 3987 section 2.2):
-/// otherwise the kind of its first fault.
+/// Whether the text is a `URI-reference` (RFC 3986 section 4.1; of IRIs RFC 3987 section 2.2).
+///
+/// # Errors
+///
+/// Exactly where it is none: the first fault from the left.
+///
+/// ```
+/// use iri::spec::UriSpec;
+/// use iri::validate;
+/// assert!(rt; validate::iri_reference::<UriSpec>("../../g").is_ok());
+/// assert!(rt; validate::iri_reference::<UriSpec>("1:2").is_err());
+/// ```
 pub fn iri_reference<S: Spec>(s: &str) -> Result<(), Error>
     ensures { Answers result (reference_fault S.tests s.now) }
 {
@@ -149,7 +159,19 @@ pub fn iri_reference<S: Spec>(s: &str) -> Result<(), Error>
     }
 }
 
-/// Whether the text is a `URI`, with a scheme (RFC 3986 section 3): otherwise the kind of its first fault.
+/// Whether the text is a `URI`, with a scheme (RFC 3986 section 3; of IRIs RFC 3987 section 2.2).
+///
+/// # Errors
+///
+/// Exactly where it is none: `UnexpectedRelative` where it has no `:`, and otherwise the first fault from the left.
+///
+/// ```
+/// use iri::spec::UriSpec;
+/// use iri::validate::{self, ErrorKind};
+/// assert!(rt; validate::iri::<UriSpec>("tel:+1-816-555-1212").is_ok());
+/// let error = validate::iri::<UriSpec>("//example.com/").err().ok_or("a fault")?;
+/// assert_eq!(rt; error.kind(), ErrorKind::UnexpectedRelative);
+/// ```
 pub fn iri<S: Spec>(s: &str) -> Result<(), Error>
     ensures { Answers result (iri_fault S.tests s.now) }
 {
@@ -157,8 +179,20 @@ pub fn iri<S: Spec>(s: &str) -> Result<(), Error>
     iri_reference::<S>(s)
 }
 
-/// Whether the text is an `absolute-URI`, with a scheme and without a fragment (RFC 3986 section 4.3):
-/// otherwise the kind of its first fault.
+/// Whether the text is an `absolute-URI`, with a scheme and without a fragment (RFC 3986 section 4.3).
+///
+/// # Errors
+///
+/// Exactly where it is none: `UnexpectedRelative` where it has no `:`, and otherwise the first fault from the left, a
+/// fragment among them (`UnexpectedFragment`).
+///
+/// ```
+/// use iri::spec::UriSpec;
+/// use iri::validate::{self, ErrorKind};
+/// assert!(rt; validate::absolute_iri::<UriSpec>("http://a/b/c/d;p?q").is_ok());
+/// let error = validate::absolute_iri::<UriSpec>("http://a/b#c").err().ok_or("a fault")?;
+/// assert_eq!(rt; error.kind(), ErrorKind::UnexpectedFragment);
+/// ```
 #[tactic(auto, unfolding(crate::specs::WholeFault::parts_fault))]
 pub fn absolute_iri<S: Spec>(s: &str) -> Result<(), Error>
     ensures { Answers result (absolute_fault S.tests s.now) }
@@ -172,8 +206,19 @@ pub fn absolute_iri<S: Spec>(s: &str) -> Result<(), Error>
     }
 }
 
-/// Whether the text is a `relative-ref`, without a scheme (RFC 3986 section 4.2): otherwise the kind of
-/// its first fault. A text with a scheme is told by its colon: its first segment has one.
+/// Whether the text is a `relative-ref`, without a scheme (RFC 3986 section 4.2).
+///
+/// # Errors
+///
+/// Exactly where it is none: the first fault from the left. A scheme is one: its `:` is in the first segment of a path,
+/// so `InvalidPath`.
+///
+/// ```
+/// use iri::spec::UriSpec;
+/// use iri::validate;
+/// assert!(rt; validate::relative_ref::<UriSpec>("./g:h").is_ok());
+/// assert!(rt; validate::relative_ref::<UriSpec>("g:h").is_err());
+/// ```
 pub fn relative_ref<S: Spec>(s: &str) -> Result<(), Error>
     ensures { Answers result (relative_fault S.tests s.now) }
 {
