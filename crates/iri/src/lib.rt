@@ -1,15 +1,16 @@
-//! URIs and IRIs (RFC 3986, RFC 3987), URI templates (RFC 6570), `Link` fields (RFC 8288) and robots rules (RFC 9309): the one crate
-//! that a program names. Each item is that of the crate below that has it, with its contract; the modules are named as those of the
-//! Rust crate `iri-string`.
+//! URIs and IRIs (RFC 3986, RFC 3987), URI templates (RFC 6570), `Link` fields (RFC 8288) and robots rules (RFC 9309):
+//! the one crate that a program names. Each item is that of the crate below that has it, with its contract; the modules
+//! are named as those of the Rust crate `iri-string`.
 //!
-//! - [`types`] has the views and the owned texts, [`components`] the parts of an authority, [`validate`] the test of each production,
-//!   [`spec`] the two grammars.
-//! - [`resolve`] resolves references, [`normalize`] puts texts into normal form and compares them, [`steps`] tells why two are one.
-//! - [`percent_encode`] encodes and decodes values, [`convert`] maps IRIs to URIs, [`build`] makes a text from its parts, [`edit`]
-//!   changes one part.
+//! - [`types`] has the views and the owned texts, [`components`] the parts of an authority, [`validate`] the test of
+//!   each production, [`spec`] the two grammars.
+//! - [`resolve`] resolves references, [`normalize`] puts texts into normal form and compares them, [`steps`] tells why
+//!   two are one.
+//! - [`percent_encode`] encodes and decodes values, [`convert`] maps IRIs to URIs, [`build`] makes a text from its
+//!   parts, [`edit`] changes one part.
 //! - [`template`] expands templates.
-//! - [`register`] keeps each link once, [`link`] reads `Link` fields, [`robots`] judges links by a robots file, [`docs`] expands
-//!   template documents in JSON.
+//! - [`register`] keeps each link once, [`link`] reads `Link` fields, [`robots`] judges links by a robots file,
+//!   [`docs`] expands template documents in JSON.
 //! - [`format`](mod@format) shows values to sinks, [`streams`] reads lines and writes bytes.
 //! - [`prelude`] has the traits whose methods these give: `use iri::prelude::*;`.
 #![tactic(auto)]

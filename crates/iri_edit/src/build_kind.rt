@@ -78,19 +78,19 @@ impl BuildKind for Relative {
     }
 }
 
-/// `scheme` (RFC 3986 section 3.1).
+// `scheme` (RFC 3986 section 3.1).
 #[derive(Clone, Copy)]
 pub(crate) enum Scheme {}
 
-/// `userinfo` (section 3.2.1).
+// `userinfo` (section 3.2.1).
 #[derive(Clone, Copy)]
 pub(crate) enum Userinfo {}
 
-/// `host` (section 3.2.2).
+// `host` (section 3.2.2).
 #[derive(Clone, Copy)]
 pub(crate) enum Host {}
 
-/// `port` (section 3.2.3).
+// `port` (section 3.2.3).
 #[derive(Clone, Copy)]
 pub(crate) enum Port {}
 

@@ -59,7 +59,7 @@ fn remove_fragment<S: Spec, K: FragmentKind>(owned: &mut Owned<S, K>)
     cut_out(owned, start, end);
 }
 
-// Puts a fragment in place of the text's, or behind a text that has none.
+// Puts a fragment in place of the text's, or after a text that has none.
 fn put_fragment<S: Spec, K: FragmentKind>(
     owned: &mut Owned<S, K>,
     fragment: RiFragmentStr<'_, S>,

@@ -1,4 +1,4 @@
-// Parts written one behind the other (RFC 3986 section 5.3), and the normal form of a text.
+// Parts written one after the other (RFC 3986 section 5.3), and the normal form of a text.
 ghost use Rattle.std.specs.Prelude.{◌≡◌, ◌++◌, [], ◌∷◌, ◌||◌, IfOk, None, OnOk, string_bytes};
 ghost use Rattle.iri_edit.specs.Built.{or_empty};
 ghost use Rattle.iri_edit.specs.inside.Rules.{ended, rules_by};
@@ -17,7 +17,7 @@ use iri_text::ToStringFallible;
 use iri_types::view::RiStr;
 use std::alloc::{AllocError, Global};
 
-// A part and the delimiter behind it, where the part stands.
+// A part and the delimiter after it, where there is one.
 pub(crate) fn push_ended(
     text: &mut String,
     part: Option<&str>,
@@ -34,7 +34,7 @@ pub(crate) fn push_ended(
     text.push_str(mark)
 }
 
-// A delimiter and the part behind it, where the part stands.
+// A delimiter and the part after it, where there is one.
 pub(crate) fn push_marked(
     text: &mut String,
     mark: &str,

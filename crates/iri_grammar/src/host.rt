@@ -10,7 +10,7 @@ use crate::ipv4::is_ipv4;
 use crate::over::is_over;
 use crate::spec::Spec;
 
-/// Whether the text is an IP literal or a registered name, IPv4 texts among them.
+// Whether the text is an IP literal or a registered name, IPv4 texts among them.
 pub(crate) fn is_host<S: Spec>(s: &str) -> bool
     ensures { result ≡ is_host S.tests s.now }
 {

@@ -1,4 +1,4 @@
-//! IP literals: an IPv6 text or an IPvFuture in brackets (RFC 3986 section 3.2.2).
+// IP literals: an IPv6 text or an IPvFuture in brackets (RFC 3986 section 3.2.2).
 ghost use Rattle.std.specs.Prelude.{◌≡◌, ◌&&◌, ◌||◌, ◌==◌};
 ghost use Rattle.std.specs.Char.{is_ascii_hexdigit};
 ghost use Rattle.std.specs.List.{list_all};
@@ -13,7 +13,7 @@ use crate::cutting::cut;
 use crate::digits::all_hex;
 use crate::ipv6::is_ipv6;
 
-/// Whether the bytes are one or more hex digits.
+// Whether the bytes are one or more hex digits.
 fn is_version(s: &[u8]) -> bool
     ensures { result ≡ some_of is_ascii_hexdigit s.now }
 {
@@ -26,14 +26,14 @@ fn all_userinfo(s: &[u8]) -> bool
     s.iter().all(|b| Class::Userinfo.has_byte(*b))
 }
 
-/// Whether the bytes are one or more unreserved characters, sub-delims and colons, all ASCII.
+// Whether the bytes are one or more unreserved characters, sub-delims and colons, all ASCII.
 fn is_address(s: &[u8]) -> bool
     ensures { result ≡ some_of is_ascii_userinfo s.now }
 {
     !s.is_empty() && all_userinfo(s)
 }
 
-/// Whether the text is what follows the `v` of an IPvFuture.
+// Whether the text is what follows the `v` of an IPvFuture.
 fn is_versioned(s: &str) -> bool
     ensures { result ≡ (some_of is_ascii_hexdigit (before dot s.now) && is_future_address (behind dot s.now)) }
 {
@@ -51,7 +51,7 @@ fn is_v(b: u8) -> bool
     b == b'v' || b == b'V'
 }
 
-/// Whether the text is a `v`, a version in hex digits, a dot and an address.
+// Whether the text is a `v`, a version in hex digits, a dot and an address.
 fn is_ipvfuture(s: &str) -> bool
     ensures { result ≡ is_ipvfuture s.now }
 {
@@ -61,7 +61,7 @@ fn is_ipvfuture(s: &str) -> bool
     }
 }
 
-/// Whether the text is what follows the opening bracket of an IP literal.
+// Whether the text is what follows the opening bracket of an IP literal.
 fn is_closed_literal(s: &str) -> bool
     ensures { result ≡ (is_end (behind right_bracket s.now)
         && (is_ipv6 (before right_bracket s.now) || is_ipvfuture (before right_bracket s.now))) }
@@ -72,7 +72,7 @@ fn is_closed_literal(s: &str) -> bool
     }
 }
 
-/// Whether the text is an IPv6 text or an IPvFuture in brackets.
+// Whether the text is an IPv6 text or an IPvFuture in brackets.
 pub(crate) fn is_ip_literal(s: &str) -> bool
     ensures { result ≡ is_ip_literal s.now }
 {

@@ -1,10 +1,10 @@
-//! IPv4 texts (RFC 3986 section 3.2.2).
+// IPv4 texts (RFC 3986 section 3.2.2).
 ghost use Rattle.std.specs.Prelude.{◌≡◌};
 ghost use Rattle.iri_grammar.specs.Ipv4.{is_hundreds, is_dec_octet, is_ipv4};
 
 use crate::cutting::cut;
 
-/// Whether three digits are a number from 100 to 255.
+// Whether three digits are a number from 100 to 255.
 #[tactic(auto, using(std::proofs::lemmas::Bool::Decides::nat_tests), unfolding(crate::specs::Ipv4::is_hundreds))]
 fn is_hundreds(a: u8, b: u8, c: u8) -> bool
     ensures { result ≡ is_hundreds a b c }
@@ -16,7 +16,7 @@ fn is_hundreds(a: u8, b: u8, c: u8) -> bool
     }
 }
 
-/// Whether the bytes are a number from 0 to 255 without leading zero.
+// Whether the bytes are a number from 0 to 255 without leading zero.
 fn is_dec_octet(s: &[u8]) -> bool
     ensures { result ≡ is_dec_octet s.now }
 {
@@ -28,7 +28,7 @@ fn is_dec_octet(s: &[u8]) -> bool
     }
 }
 
-/// Whether the text is four numbers from 0 to 255, without leading zeros, parted by dots.
+// Whether the text is four numbers from 0 to 255, without leading zeros, parted by dots.
 pub(crate) fn is_ipv4(s: &str) -> bool
     ensures { result ≡ is_ipv4 s.now }
 {

@@ -1,4 +1,4 @@
-//! IPv6 texts (RFC 3986 section 3.2.2).
+// IPv6 texts (RFC 3986 section 3.2.2).
 ghost use Rattle.std.specs.Prelude.{◌≡◌};
 ghost use Rattle.iri_grammar.specs.Ipv6.{is_group};
 ghost use Rattle.iri_grammar.specs.Pieces.{pieces};
@@ -11,7 +11,7 @@ use crate::cutting::cut;
 use crate::digits::all_hex;
 use crate::ipv4::is_ipv4;
 
-/// Whether the text is one to four hex digits.
+// Whether the text is one to four hex digits.
 #[tactic(auto, unfolding(crate::specs::Ipv6::is_group))]
 fn is_group(s: &str) -> bool
     ensures { result ≡ is_group s.now }
@@ -19,8 +19,8 @@ fn is_group(s: &str) -> bool
     all_hex(s.as_bytes()) && 0 < s.len() && s.len() < 5
 }
 
-/// How many groups stand between the colons; an IPv4 text counts as two, and may be the last part
-/// where that is said.
+// How many groups stand between the colons; an IPv4 text counts as two, and may be the last part
+// where that is said.
 fn count_parts(s: &str, ipv4: bool) -> Option<usize>
     ensures { result ≡ count ipv4 (pieces colon s.now) }
 {
@@ -49,7 +49,7 @@ fn count_parts(s: &str, ipv4: bool) -> Option<usize>
     }
 }
 
-/// The same, where the text may have no part.
+// The same, where the text may have no part.
 fn count_groups(s: &str, ipv4: bool) -> Option<usize>
     ensures { result ≡ count ipv4 (group_texts s.now) }
 {
@@ -60,7 +60,7 @@ fn count_groups(s: &str, ipv4: bool) -> Option<usize>
     }
 }
 
-/// What stands before the first `::`, or all, and what stands behind it.
+// What comes before the first `::`, or all, and what comes after it.
 fn cut_double(s: &str) -> (&str, Option<&str>)
     ensures before { result.0.now ≡ before_double s.now }
     ensures behind { now_of result.1 ≡ behind_double s.now }
@@ -89,8 +89,8 @@ fn is_shortened(front: &str, back: &str) -> bool
     }
 }
 
-/// Whether the text is eight groups parted by colons, or at most seven around one `::`, an IPv4 text
-/// at the end counting as two.
+// Whether the text is eight groups parted by colons, or at most seven around one `::`, an IPv4 text
+// at the end counting as two.
 pub(crate) fn is_ipv6(s: &str) -> bool
     ensures { result ≡ is_ipv6 s.now }
 {

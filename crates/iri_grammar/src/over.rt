@@ -10,7 +10,7 @@ use crate::class::Class;
 use crate::spec::Spec;
 use crate::unit::cut_units;
 
-/// How many bytes at the start are ASCII characters of the class.
+// How many bytes at the start are ASCII characters of the class.
 #[inline(always)]
 pub(crate) fn run_len(class: Class, bytes: &[u8]) -> usize
     ensures { result ≡ run_of (ascii_test class) bytes.now }
@@ -30,7 +30,7 @@ pub fn past_run(class: Class, s: &str) -> &str
     &s[run_len(class, s.as_bytes())..]
 }
 
-/// The ASCII characters of the class at the start, and what follows them.
+// The ASCII characters of the class at the start, and what follows them.
 #[inline(always)]
 pub(crate) fn cut_run(class: Class, s: &str) -> (&str, &str)
     ensures whole { s.now ≡ result.0.now ++ result.1.now }
@@ -40,7 +40,7 @@ pub(crate) fn cut_run(class: Class, s: &str) -> (&str, &str)
     (&s[..end], &s[end..])
 }
 
-/// Whether the text is made of ASCII characters of the class alone.
+// Whether the text is made of ASCII characters of the class alone.
 #[tactic(auto, using(crate::proofs::MarkLemmas::run_of_all))]
 pub(crate) fn is_run(class: Class, s: &str) -> bool
     ensures { result ≡ list_all (ascii_test class) s.now }

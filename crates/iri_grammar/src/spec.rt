@@ -87,7 +87,7 @@ impl Spec for IriSpec {
     }
 }
 
-/// Whether the character is a `ucschar` past the first plane: there the last two of each are none.
+// Whether the character is a `ucschar` past the first plane: there the last two of each are none.
 #[tactic(auto, using(std::proofs::lemmas::Bool::Decides::nat_tests), unfolding(crate::specs::Classes::is_ucschar_plane))]
 fn is_ucschar_plane(c: char) -> bool
     ensures { result ≡ is_ucschar_plane c }

@@ -68,7 +68,7 @@ fn is_scheme_byte(b: u8) -> bool
     SCHEME_BYTES[usize::from(b)] == b's'
 }
 
-/// How many bytes at the start may stand in a scheme.
+// How many bytes at the start may stand in a scheme.
 fn scheme_run(bytes: &[u8]) -> usize
     ensures { result ≡ run_of is_scheme_char bytes.now }
 {
@@ -80,7 +80,7 @@ fn scheme_run(bytes: &[u8]) -> usize
     bytes.len()
 }
 
-/// Whether each byte may stand in a scheme.
+// Whether each byte may stand in a scheme.
 #[tactic(auto, using(crate::proofs::MarkLemmas::run_of_all))]
 fn all_scheme_bytes(bytes: &[u8]) -> bool
     ensures { result ≡ list_all is_scheme_char bytes.now }
@@ -88,7 +88,7 @@ fn all_scheme_bytes(bytes: &[u8]) -> bool
     scheme_run(bytes) == bytes.len()
 }
 
-/// Whether the text is a scheme.
+// Whether the text is a scheme.
 #[tactic(auto, unfolding(crate::specs::Components::is_letter))]
 pub(crate) fn is_scheme(s: &str) -> bool
     ensures { result ≡ is_scheme s.now }
@@ -99,7 +99,7 @@ pub(crate) fn is_scheme(s: &str) -> bool
     }
 }
 
-/// Whether the colon behind a scheme stands here.
+// Whether the colon after a scheme is here.
 #[tactic(auto, unfolding(crate::specs::inside::Marks::ends_scheme))]
 fn ends_scheme(bytes: &[u8], end: usize) -> bool
     ensures { result ≡ ends_scheme bytes.now end }
@@ -107,7 +107,7 @@ fn ends_scheme(bytes: &[u8], end: usize) -> bool
     end < bytes.len() && bytes[end] == b':' && bytes[0].is_ascii_alphabetic()
 }
 
-/// Where the colon behind the scheme stands.
+// Where the colon after the scheme is.
 #[tactic(auto, using(crate::proofs::MarkLemmas::scheme_at, crate::proofs::MarkLemmas::no_scheme))]
 fn scheme_end(bytes: &[u8]) -> Option<usize>
     ensures { MatchOption result (NoScheme bytes.now) (λ k. SchemeAt bytes.now k) }
@@ -120,7 +120,7 @@ fn scheme_end(bytes: &[u8]) -> Option<usize>
     }
 }
 
-/// The scheme, and what follows it and its colon, or all.
+// The scheme, and what follows it and its colon, or all.
 fn cut_scheme(s: &str) -> (Option<&str>, &str)
     ensures scheme { now_of result.0 ≡ scheme_of s.now }
     ensures rest { result.1.now ≡ after_scheme s.now }
@@ -131,7 +131,7 @@ fn cut_scheme(s: &str) -> (Option<&str>, &str)
     }
 }
 
-/// Where the first slash, question mark or number sign stands.
+// Where the first `/`, `?` or `#` is.
 #[tactic(auto, using(crate::proofs::MarkLemmas::authority_end))]
 fn authority_end(bytes: &[u8]) -> Option<usize>
     ensures { MatchOption result (NoAuthorityEnd bytes.now) (λ k. AuthorityEndAt bytes.now k) }
@@ -139,7 +139,7 @@ fn authority_end(bytes: &[u8]) -> Option<usize>
     memchr3(b'/', b'?', b'#', bytes)
 }
 
-/// What stands before the end of an authority, and the rest from it on.
+// What stands before the end of an authority, and the rest from it on.
 fn cut_before_end(s: &str) -> (&str, &str)
     ensures front { result.0.now ≡ before_any ends_authority s.now }
     ensures rest { result.1.now ≡ from_any ends_authority s.now }
@@ -150,7 +150,7 @@ fn cut_before_end(s: &str) -> (&str, &str)
     }
 }
 
-/// Whether an authority ends at the start.
+// Whether an authority ends at the start.
 #[inline(always)]
 fn ends_at_start(bytes: &[u8]) -> bool
     ensures { result ≡ ends_at_start bytes.now }
@@ -161,7 +161,7 @@ fn ends_at_start(bytes: &[u8]) -> bool
     }
 }
 
-/// What stands before the end of an authority, the rest from it on, and whether the first was found to be a plain name.
+// What stands before the end of an authority, the rest from it on, and whether the first was found to be a plain name.
 #[inline(always)]
 fn look_before_end(s: &str) -> (&str, &str, bool)
     ensures front { result.0.now ≡ before_any ends_authority s.now }
@@ -177,7 +177,7 @@ fn look_before_end(s: &str) -> (&str, &str, bool)
     (front, rest, false)
 }
 
-/// The authority, what follows it, or all, and whether there is none or it was found to be a plain name.
+// The authority, what follows it, or all, and whether there is none or it was found to be a plain name.
 #[inline(always)]
 fn cut_authority(s: &str) -> (Option<&str>, &str, bool)
     ensures authority { now_of result.0 ≡ authority_of (hier_of s.now) }
@@ -223,8 +223,8 @@ impl<'a> Splitter<'a> {
         Splitter::cut(text)
     }
 
-    /// The parts of any text read as a reference, whether the authority was found to be a plain name or none, and whether path,
-    /// query and fragment were found to be each in its production.
+    // The parts of any text read as a reference, whether the authority was found to be a plain name or none, and whether path,
+    // query and fragment were found to be each in its production.
     #[tactic(auto, unfolding(crate::specs::Split::split_of))]
     #[inline(always)]
     fn look_at<S: Spec>(text: &'a str) -> (Splitter<'a>, bool, bool)
@@ -248,7 +248,7 @@ impl<'a> Splitter<'a> {
         }
     }
 
-    /// The parts of any text read as a reference.
+    // The parts of any text read as a reference.
     #[tactic(auto, unfolding(crate::specs::Split::split_of))]
     pub(crate) fn cut(text: &'a str) -> Splitter<'a>
         ensures { parts result ≡ split_of text.now }
@@ -257,7 +257,7 @@ impl<'a> Splitter<'a> {
         Splitter::behind(scheme, rest)
     }
 
-    /// The parts of any text read as a relative reference.
+    // The parts of any text read as a relative reference.
     #[tactic(auto, unfolding(crate::specs::Split::relative_split_of))]
     pub(crate) fn cut_relative(text: &'a str) -> Splitter<'a>
         ensures { parts result ≡ relative_split_of text.now }
@@ -265,7 +265,7 @@ impl<'a> Splitter<'a> {
         Splitter::behind(None, text)
     }
 
-    /// A scheme, and the parts of what follows it.
+    // A scheme, and the parts of what follows it.
     fn behind(scheme: Option<&'a str>, rest: &'a str) -> Splitter<'a>
         ensures { parts result ≡ parts_of (now_of scheme.entry) rest.now }
     {

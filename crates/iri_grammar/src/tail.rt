@@ -1,4 +1,4 @@
-//! Path, query and fragment (RFC 3986 sections 3.3 to 3.5).
+// Path, query and fragment (RFC 3986 sections 3.3 to 3.5).
 ghost use Rattle.std.specs.Prelude.{◌≡◌, ◌++◌, true, MatchOption};
 ghost use Rattle.iri_grammar.specs.Characters.{number_sign, percent_sign, question_mark};
 ghost use Rattle.iri_grammar.specs.Components.{if_there, is_fragment, is_query};
@@ -13,7 +13,7 @@ use crate::spec::Spec;
 use crate::unit::cut_units;
 use memchr::memchr2;
 
-/// Path, query and fragment, as slices of a text.
+// Path, query and fragment, as slices of a text.
 #[derive(Clone, Copy)]
 pub(crate) struct Tail<'a> {
     pub path: &'a str,
@@ -21,7 +21,7 @@ pub(crate) struct Tail<'a> {
     pub fragment: Option<&'a str>,
 }
 
-// Where the first question mark or number sign stands.
+// Where the first `?` or `#` is.
 #[tactic(auto, using(crate::proofs::MarkLemmas::tail_found))]
 fn find_tail(bytes: &[u8]) -> Option<usize>
     ensures { MatchOption result (NoTail bytes.now) (λ k. TailAt bytes.now k) }
@@ -29,7 +29,7 @@ fn find_tail(bytes: &[u8]) -> Option<usize>
     memchr2(b'?', b'#', bytes)
 }
 
-// The characters of a query behind a question mark at the start, the rest, and whether no triplet was found.
+// The characters of a query after a `?` at the start, the rest, and whether no triplet was found.
 #[inline(always)]
 fn cut_query<S: Spec>(s: &str) -> (Option<&str>, &str, bool)
     ensures whole { s.now ≡ marked question_mark (now_of result.0) ++ result.1.now }
@@ -45,7 +45,7 @@ fn cut_query<S: Spec>(s: &str) -> (Option<&str>, &str, bool)
     }
 }
 
-// The same of a fragment behind a number sign.
+// The same of a fragment after a `#`.
 #[inline(always)]
 fn cut_fragment<S: Spec>(s: &str) -> (Option<&str>, &str, bool)
     ensures whole { s.now ≡ marked number_sign (now_of result.0) ++ result.1.now }
@@ -62,7 +62,7 @@ fn cut_fragment<S: Spec>(s: &str) -> (Option<&str>, &str, bool)
 }
 
 impl<'a> Tail<'a> {
-    /// The parts of any text.
+    // The parts of any text.
     pub(crate) fn of(s: &'a str) -> Tail<'a>
         ensures { IsTail s.now result }
     {
@@ -92,7 +92,7 @@ impl<'a> Tail<'a> {
         }
     }
 
-    /// The parts of a text, where each is in its production, and whether no triplet was found in them: its bytes are looked at once.
+    // The parts of a text, where each is in its production, and whether no triplet was found in them: its bytes are looked at once.
     #[inline(always)]
     pub(crate) fn look_at<S: Spec>(s: &'a str) -> Option<(Tail<'a>, bool)>
         ensures { MatchOption result (Unit {0}) (λ r. IsTail s.now r.0 × IsOverTail S.tests r.0

@@ -4,7 +4,7 @@ ghost use Rattle.iri_normal.specs.inside.Beginning.{after_byte, begun_by, is_sla
 
 use iri_text::{Stop, TextSink};
 
-/// What a text begins with, as far as it was put.
+// What a text begins with, as far as it was put.
 #[derive(Clone, Copy)]
 pub(crate) enum Begun {
     Nothing,
@@ -13,13 +13,13 @@ pub(crate) enum Begun {
     Other,
 }
 
-/// It takes what a text begins with, and never stops.
+// It takes what a text begins with, and never stops.
 #[derive(Drop)]
 pub(crate) struct Beginning {
     pub(crate) begun: Begun,
 }
 
-/// Whether that is two slashes.
+// Whether that is two slashes.
 pub(crate) fn is_slashes(begun: Begun) -> bool
     ensures { result ≡ is_slashes begun }
 {

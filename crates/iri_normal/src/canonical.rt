@@ -36,8 +36,24 @@ pub enum CanonError {
     Memory,
 }
 
-/// Shows the canonical text of a reference against a resolver's base to a sink. It takes no memory, and where the sink stops, it
-/// stops within the text.
+/// Shows the canonical text of a reference against a resolver's base to a sink: the reference resolved (RFC 3986
+/// section 5.2) and put into normal form (section 6.2.2). It takes no memory.
+///
+/// # Errors
+///
+/// Only where the sink's count of stops rises; the sink has stopped within the text then.
+///
+/// ```
+/// use iri::format::SliceSink;
+/// use iri::normalize::show_canonical;
+/// use iri::resolve::FixedBaseResolver;
+/// use iri::types::{SplitView, UriAbsoluteStr};
+/// let page = FixedBaseResolver::new(UriAbsoluteStr::new("http://a/b/c/d;p?q")?);
+/// let mut buffer = [0; 32];
+/// let mut sink = SliceSink::new(&mut buffer);
+/// assert!(rt; show_canonical(&mut sink, &page, &SplitView::new("../%67")?).is_ok());
+/// assert_eq!(rt; sink.as_str(), "http://a/b/g");
+/// ```
 pub fn show_canonical<'a, S: Spec, W: TextSink>(
     sink: &mut W,
     resolver: &FixedBaseResolver<'a, S>,
@@ -94,9 +110,23 @@ fn canonicalize_against<S: Spec>(
     }
 }
 
-/// The canonical text of a reference against a base, both as bytes: the reference resolved (RFC 3986 section 5.2) and put into normal
-/// form (section 6.2.2). The base is validated first: `BadBase` where it is no absolute text of the spec, `BadReference` where the
-/// reference is none, each with the first fault, and `Memory` on allocation failure alone.
+/// The canonical text of a reference against a base, both as bytes: the reference resolved (RFC 3986 section 5.2) and
+/// put into normal form (section 6.2.2).
+///
+/// # Errors
+///
+/// - `BadBase` exactly where the base isn't UTF-8 or no absolute URI: its first fault.
+/// - `BadReference` exactly where the base is valid and the reference isn't UTF-8 or no reference: its first fault.
+/// - `Memory` where allocation fails; both are valid then.
+///
+/// ```
+/// use iri::normalize::{CanonError, canonicalize};
+/// use iri::spec::UriSpec;
+/// let link = canonicalize::<UriSpec>(rt.alloc(), b"http://a/b/c/d;p?q", b"../%67")?;
+/// assert_eq!(rt; link.as_str(), "http://a/b/g");
+/// let error = canonicalize::<UriSpec>(rt.alloc(), b"b", b"a b").err().ok_or("a fault")?;
+/// assert!(rt; matches!(error, CanonError::BadBase(_)));
+/// ```
 pub fn canonicalize<S: Spec>(
     alloc: Global,
     base: &[u8],
@@ -111,8 +141,18 @@ pub fn canonicalize<S: Spec>(
     canonicalize_in::<S>(alloc, CanonMode::Default, base, reference)
 }
 
-/// The canonical text of a reference against a base, both as bytes, by the rules of a mode. The base is validated first; the refusals
-/// are those of [`canonicalize`].
+/// The canonical text of a reference against a base, both as bytes, by the rules of a mode.
+///
+/// # Errors
+///
+/// Those of [`canonicalize`].
+///
+/// ```
+/// use iri::normalize::{CanonMode, canonicalize_in};
+/// use iri::spec::UriSpec;
+/// let link = canonicalize_in::<UriSpec>(rt.alloc(), CanonMode::Scheme, b"http://example.com:80", b"")?;
+/// assert_eq!(rt; link.as_str(), "http://example.com/");
+/// ```
 pub fn canonicalize_in<S: Spec>(
     alloc: Global,
     mode: CanonMode,

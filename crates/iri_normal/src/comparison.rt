@@ -5,7 +5,7 @@ ghost use Rattle.iri_text.specs.Shown.{Shows};
 
 use iri_text::{Show, Stop, TextSink};
 
-/// What is left of a text to compare with what is put. It stops at the first piece that doesn't stand at the start of that.
+// What is left of a text to compare with what is put. It stops at the first piece that doesn't stand at the start of that.
 #[derive(Drop)]
 pub(crate) struct Comparison<'a> {
     left: &'a [u8],
@@ -45,7 +45,7 @@ impl<'a> TextSink for Comparison<'a> {
     }
 }
 
-/// Whether a text is that of a value. It takes no memory.
+// Whether a text is that of a value. It takes no memory.
 pub(crate) fn is_text<T: Show>(value: &T, text: &str) -> bool
     ensures { (result ≡ true) ↔ (T.text value.now ≡ text.now) }
 {

@@ -1,4 +1,4 @@
-//! Dot segments.
+// Dot segments.
 ghost use Rattle.std.specs.Prelude.{◌≡◌, ◌<◌, ◌≤◌, ◌+◌, ◌-◌, ℕ, MatchOption, length, drop, false, true};
 ghost use Rattle.iri_grammar.specs.Characters.{slash};
 ghost use Rattle.iri_grammar.specs.Cut.{before, behind};
@@ -12,7 +12,7 @@ ghost use Rattle.iri_normal.specs.inside.Written.{or_nothing};
 
 use std::simd::prelude::*;
 
-/// What follows a dot at the start, in any spelling.
+// What follows a dot at the start, in any spelling.
 #[inline(always)]
 pub(crate) fn behind_dot(s: &[u8]) -> Option<&[u8]>
     ensures { now_of result ≡ behind_dot s.now }
@@ -81,7 +81,7 @@ fn dots_at(path: &[u8], i: usize) -> Option<FrontDots<'_>>
     }
 }
 
-/// A dot segment of a path: what stands before it, whether it is `..`, and what follows its slash.
+// A dot segment of a path: what stands before it, whether it is `..`, and what follows its slash.
 #[derive(Clone, Copy)]
 pub(crate) struct NextDots<'a> {
     pub(crate) run: &'a [u8],
@@ -145,7 +145,7 @@ fn has_dots_after_slash(path: &[u8]) -> bool
     has_dots_in(path, last)
 }
 
-/// The first dot segment of a path. A byte above `/` is no slash and begins no dot, so that the next place is passed with it.
+// The first dot segment of a path. A byte above `/` is no slash and begins no dot, so that the next place is passed with it.
 #[inline(always)]
 pub(crate) fn next_dots(path: &[u8]) -> Option<NextDots<'_>>
     ensures { MatchOption result (has_dot_segment path.now ≡ false)

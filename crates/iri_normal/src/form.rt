@@ -1,4 +1,4 @@
-//! The parts of a target, shown in a mode.
+// The parts of a target, shown in a mode.
 ghost use Rattle.std.specs.Prelude.{◌≡◌, ◌&&◌, ◌++◌, ◌∷◌, [], false, true, cond};
 ghost use Rattle.iri_grammar.specs.Authority.{is_authority};
 ghost use Rattle.iri_grammar.specs.Components.{if_there, is_path, is_scheme};
@@ -111,7 +111,7 @@ pub fn show_prefix<S: Spec, W: TextSink>(
     show_authority::<S, W>(sink, authority, normal, None)
 }
 
-// A delimiter and the part behind it, where the part stands.
+// A delimiter and the part after it, where there is one.
 fn show_marked<S: Spec, W: TextSink>(
     sink: &mut W,
     mark: &str,

@@ -16,7 +16,7 @@ use crate::views::Normalize;
 use iri_grammar::spec::Spec;
 use iri_types::view::View;
 
-/// Texts that may be in normal form. Nothing here takes memory.
+/// Texts that may be in normal form (RFC 3986 section 6.2.2). Nothing here takes memory.
 pub trait IsNormalized: Sized {
     /// The bytes of the text.
     ghost bytes: { Self → List ℕ };
@@ -24,12 +24,27 @@ pub trait IsNormalized: Sized {
     /// The classes of its characters.
     ghost tests: { Tests };
 
-    /// Whether the text is its own normal form (RFC 3986 section 6.2.2).
+    /// Whether the text is its own normal form.
+    ///
+    /// ```
+    /// use iri::prelude::IsNormalized;
+    /// use iri::types::UriStr;
+    /// assert!(rt; UriStr::new("example://a/b/c/%7Bfoo%7D")?.is_normalized());
+    /// assert!(rt; !UriStr::new("example://a/b/c/%7bfoo%7d")?.is_normalized());
+    /// ```
     fn is_normalized(self) -> bool
         ensures { (result ≡ true) ↔ IsInMode tests Normal (bytes self) };
 
-    /// Whether it is, and RFC 3986 alone has a normal form of it: without an authority, its path doesn't begin with `//` once its dot
-    /// segments are removed.
+    /// Whether it is, and RFC 3986 alone has a normal form of it: without an authority, its path doesn't begin with
+    /// `//` once its dot segments are removed.
+    ///
+    /// ```
+    /// use iri::prelude::IsNormalized;
+    /// use iri::types::UriStr;
+    /// let link = UriStr::new("web+demo:/.//not-a-host/")?;
+    /// assert!(rt; link.is_normalized());
+    /// assert!(rt; !link.is_normalized_rfc3986());
+    /// ```
     fn is_normalized_rfc3986(self) -> bool
         ensures { (result ≡ true) ↔ (IsInMode tests Normal (bytes self)
             × (is_unresolvable false (split_of (bytes self)) ≡ false)) };

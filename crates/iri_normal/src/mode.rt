@@ -30,7 +30,7 @@ pub fn mode_of(mode: CanonMode) -> Mode
     }
 }
 
-/// Whether more than the path is put into normal form.
+// Whether more than the path is put into normal form.
 pub(crate) fn is_normalizing(mode: Mode) -> bool
     ensures { result ≡ is_normalizing mode }
 {
@@ -40,7 +40,7 @@ pub(crate) fn is_normalizing(mode: Mode) -> bool
     }
 }
 
-/// Whether scheme rules are followed.
+// Whether scheme rules are followed.
 pub(crate) fn is_by_scheme(mode: Mode) -> bool
     ensures { result ≡ is_by_scheme mode }
 {
@@ -50,7 +50,7 @@ pub(crate) fn is_by_scheme(mode: Mode) -> bool
     }
 }
 
-/// The port that goes from an authority beside this scheme.
+// The port that goes from an authority beside this scheme.
 #[inline(always)]
 pub(crate) fn dropped_in(mode: Mode, scheme: Option<&str>) -> Option<&'static str>
     ensures { now_of result ≡ dropped_in mode (now_of scheme.entry) }

@@ -22,7 +22,8 @@ use std::alloc::{AllocError, Global};
 use std::fmt;
 use std::marker::PhantomData;
 
-/// Parts, borrowed, that show themselves as one text of the kind `K` in a mode: without dot segments alone, or in a normal form.
+/// Parts, borrowed, that show themselves as one text of the kind `K` in a mode: without dot segments alone, or in a
+/// normal form. It takes no memory until it is made a string.
 pub struct NormalizedText<'a, S: Spec, K: NormalKind> {
     prefix: Option<&'a str>,
     target: TargetSlices<'a>,
@@ -35,6 +36,15 @@ pub struct NormalizedText<'a, S: Spec, K: NormalKind> {
 }
 
 /// The same, as a `URI` of `S`.
+///
+/// ```
+/// use iri::prelude::{ResolveAgainst, ToDedicatedString};
+/// use iri::types::{UriAbsoluteStr, UriReferenceStr};
+/// let base = UriAbsoluteStr::new("HTTP://a/b")?;
+/// let target = UriReferenceStr::new("%7eg")?.resolve_against(base);
+/// assert_eq!(rt; target.try_to_dedicated_string(rt.alloc())?.as_str(), "HTTP://a/%7eg");
+/// assert_eq!(rt; target.and_normalize().try_to_dedicated_string(rt.alloc())?.as_str(), "http://a/~g");
+/// ```
 pub type Normalized<'a, S> = NormalizedText<'a, S, Iri>;
 
 /// The same, as an `absolute-URI` of `S`.
@@ -121,6 +131,13 @@ impl<'a, S: Spec, K: NormalKind> NormalizedText<'a, S, K> {
     }
 
     /// The same parts in normal form by scheme rules too (RFC 3986 section 6.2.3).
+    ///
+    /// ```
+    /// use iri::prelude::{Normalize, ToStringFallible};
+    /// use iri::types::UriStr;
+    /// let link = UriStr::new("http://example.com:80")?.normalize().and_normalize_by_scheme();
+    /// assert_eq!(rt; link.try_to_string(rt.alloc())?.as_str(), "http://example.com/");
+    /// ```
     pub fn and_normalize_by_scheme(self) -> Self
         ensures { written result ≡ record (written self.entry) { mode = ByScheme } }
     {
@@ -145,9 +162,13 @@ impl<'a, S: Spec, K: NormalKind> NormalizedText<'a, S, K> {
         }
     }
 
-    /// Whether RFC 3986 alone has a normal form of the parts, without the `/.` before a path that would be read as an authority: Err
-    /// where no authority stands, the path isn't the base's, taken whole, and without its dot segments it begins with two slashes.
-    /// It takes no memory.
+    /// Whether RFC 3986 alone has a normal form of the parts, without the `/.` before a path that would be read as an
+    /// authority. It takes no memory.
+    ///
+    /// # Errors
+    ///
+    /// Exactly where there is no authority, the path isn't the base's, taken whole, and without its dot segments it
+    /// begins with two slashes.
     pub fn ensure_rfc3986_normalizable(&self) -> Result<(), Unresolvable>
         ensures { IsErr result ↔ (has_no_normal_form (written self.now) ≡ true) }
     {
@@ -187,6 +208,10 @@ impl<S: Spec, K: NormalKind> fmt::Display for NormalizedText<'_, S, K> {
 impl<S: Spec, K: NormalKind> ToDedicatedString for NormalizedText<'_, S, K> {
     type Target = Owned<S, K>;
 
+    ///
+    /// # Errors
+    ///
+    /// Where allocation fails.
     fn try_to_dedicated_string(&self, alloc: Global) -> Result<Owned<S, K>, AllocError> {
         let text = self.try_to_string(alloc)?;
         K::forms_are_valid();

@@ -11,8 +11,8 @@ use iri_grammar::spec::Spec;
 use std::alloc::{AllocError, Global};
 use std::marker::{Model, PhantomData};
 
-/// Five parts with a scheme that fit the grammar of `S`: they recompose to a URI of `S`, and are its split. It is seen as
-/// these parts.
+/// Five parts with a scheme that fit the grammar of `S`: they recompose to a URI of `S`, and are its split (RFC 3986
+/// section 5.2.2). It is seen as these parts.
 #[derive(Drop)]
 pub struct Target<S: Spec> {
     scheme: String,
@@ -69,7 +69,12 @@ fn joined(alloc: Global, base: &str, path: &str) -> Result<String, AllocError>
 
 #[tactic(auto, using(crate::proofs::Borrowed::borrowed))]
 impl<S: Spec> Target<S> {
-    /// Copies of slices that fit and have a scheme.
+    /// Copies of slices. It has conditions, which the slices of each target meet: they fit the grammar of `S`, and
+    /// there is a scheme (`TargetSlices::of` of a split view has such).
+    ///
+    /// # Errors
+    ///
+    /// Where allocation fails.
     pub fn of(alloc: Global, parts: &TargetSlices<'_>) -> Result<Self, AllocError>
         requires fits { Fits S.tests (slices parts.now) }
         requires scheme { IsSome (slices parts.now).scheme }
@@ -105,7 +110,7 @@ impl<S: Spec> Target<S> {
         }
     }
 
-    /// The scheme, without its colon. The parts fit the grammar of `S`.
+    /// The scheme, without its `:`. The parts fit the grammar of `S`.
     pub fn scheme(&self) -> &str
         ensures scheme { Some result.now ≡ self.now.scheme }
         ensures fits { Fits S.tests self.now }
@@ -113,28 +118,28 @@ impl<S: Spec> Target<S> {
         self.scheme.as_str()
     }
 
-    /// The authority, without the slashes before it; none exactly where no authority stands.
+    /// The authority, without the `//` before it; `None` exactly where there is none.
     pub fn authority(&self) -> Option<&str>
         ensures { now_of result ≡ self.now.authority }
     {
         self.authority.as_deref()
     }
 
-    /// The path, which may be empty.
+    /// The path with its dot segments, which may be empty.
     pub fn path(&self) -> &str
         ensures { result.now ≡ self.now.path }
     {
         self.path.as_str()
     }
 
-    /// The query, without its question mark; none exactly where no question mark begins one.
+    /// The query, without its `?`; `None` exactly where there is none.
     pub fn query(&self) -> Option<&str>
         ensures { now_of result ≡ self.now.query }
     {
         self.query.as_deref()
     }
 
-    /// The fragment, without its number sign; none exactly where no number sign stands.
+    /// The fragment, without its `#`; `None` exactly where there is none.
     pub fn fragment(&self) -> Option<&str>
         ensures { now_of result ≡ self.now.fragment }
     {

@@ -1,4 +1,4 @@
-//! The path of a target, in a mode, with `/.` before it where it would be read as an authority (RFC 3986 section 4.2).
+// The path of a target, in a mode, with `/.` before it where it would be read as an authority (RFC 3986 section 4.2).
 ghost use Rattle.std.specs.Prelude.{◌≡◌, ◌++◌, ◌&&◌, not, true};
 ghost use Rattle.iri_grammar.specs.Components.{is_path};
 ghost use Rattle.iri_grammar.specs.Parts.{starts_with_slash, starts_with_slashes};

@@ -27,8 +27,19 @@ use iri_types::split::SplitView;
 use iri_types::view::{RiAbsoluteStr, RiQueryStr, RiReferenceStr};
 use std::alloc::{AllocError, Global};
 
-/// A base, against which references are resolved. It is cut into its parts once; whether its scheme and authority are in normal form
-/// is told once, and the prefix that relative paths are put behind is found once.
+/// A base, against which references are resolved (RFC 3986 section 5.2). It is split into its parts once; whether its
+/// scheme and authority are in normal form is found once, and so is the prefix that relative paths come after.
+///
+/// ```
+/// use iri::prelude::ToStringFallible;
+/// use iri::resolve::FixedBaseResolver;
+/// use iri::types::{UriAbsoluteStr, UriReferenceStr};
+/// let page = FixedBaseResolver::new(UriAbsoluteStr::new("http://a/b/c/d;p?q")?);
+/// for (link, target) in [("g:h", "g:h"), ("//g", "http://g"), ("?y", "http://a/b/c/d;p?y"), ("../g", "http://a/b/g")] {
+///     let resolved = page.resolve(UriReferenceStr::new(link)?);
+///     assert_eq!(rt; resolved.try_to_string(rt.alloc())?.as_str(), target);
+/// }
+/// ```
 pub struct FixedBaseResolver<'a, S: Spec> {
     base: SplitView<'a, S, Absolute>,
     front: &'a str,
@@ -79,14 +90,14 @@ impl<'a, S: Spec> FixedBaseResolver<'a, S> {
         self.base.view()
     }
 
-    /// The scheme of the base, without its colon.
+    /// The scheme of the base, without its `:`.
     pub fn scheme_str(&self) -> &'a str
         ensures { Some result.now ≡ (split_of (base_text self.now)).scheme }
     {
         self.base.view().scheme_str()
     }
 
-    /// The authority of the base, without the slashes before it; none exactly where no authority stands.
+    /// The authority of the base, without the `//` before it; `None` exactly where there is none.
     pub fn authority_str(&self) -> Option<&'a str>
         ensures { now_of result ≡ (split_of (base_text self.now)).authority }
     {
@@ -100,14 +111,14 @@ impl<'a, S: Spec> FixedBaseResolver<'a, S> {
         self.base.parts().path()
     }
 
-    /// The query of the base, without its question mark; none exactly where no question mark begins one.
+    /// The query of the base, without its `?`; `None` exactly where there is none.
     pub fn query_str(&self) -> Option<&'a str>
         ensures { now_of result ≡ (split_of (base_text self.now)).query }
     {
         self.base.parts().query()
     }
 
-    /// The query of the base as a view; none exactly where no question mark begins one.
+    /// The query of the base as a view; `None` exactly where there is none.
     pub fn query(&self) -> Option<RiQueryStr<'a, S>>
         ensures { text_of result ≡ (split_of (base_text self.now)).query }
     {
@@ -173,8 +184,8 @@ impl<'a, S: Spec> FixedBaseResolver<'a, S> {
         }
     }
 
-    /// What stands before a reference in its canonical text, where nothing in the reference changes: behind these two its own text
-    /// follows. `None` says nothing.
+    // What comes before a reference in its canonical text, where nothing in the reference changes: after these two its own text
+    // follows. `None` says nothing.
     pub(crate) fn before_unchanged(
         &self,
         reference: &SplitView<'a, S, Reference>,
@@ -190,9 +201,18 @@ impl<'a, S: Spec> FixedBaseResolver<'a, S> {
         }
     }
 
-    /// The text of a reference resolved against the base (RFC 3986 section 5.2): its dot segments are removed, but the base's path
-    /// stays as it is where the reference's is empty. Where the path would be read as an authority, `/.` stands before it. It takes no
-    /// memory.
+    /// The text of a reference resolved against the base (RFC 3986 section 5.2): its dot segments are removed, but the
+    /// base's path stays as it is where the reference's is empty. Where the path would be read as an authority, `/.`
+    /// comes before it. It takes no memory.
+    ///
+    /// ```
+    /// use iri::prelude::ToDedicatedString;
+    /// use iri::resolve::FixedBaseResolver;
+    /// use iri::types::{IriAbsoluteStr, IriReferenceStr};
+    /// let page = FixedBaseResolver::new(IriAbsoluteStr::new("http://a/b/c/d;p?q")?);
+    /// let target = page.resolve(IriReferenceStr::new("./../g/rosé")?).try_to_dedicated_string(rt.alloc())?;
+    /// assert_eq!(rt; target.as_str(), "http://a/b/g/rosé");
+    /// ```
     pub fn resolve(&self, reference: RiReferenceStr<'a, S>) -> Normalized<'a, S>
         ensures { written result ≡ record {
           parts = target (split_of (base_text self.now))
@@ -205,7 +225,7 @@ impl<'a, S: Spec> FixedBaseResolver<'a, S> {
         self.resolve_split(&SplitView::of(reference))
     }
 
-    /// The same of a reference that was cut into its parts before.
+    /// The same of a reference that was split into its parts before.
     #[inline(always)]
     pub fn resolve_split(&self, reference: &SplitView<'a, S, Reference>) -> Normalized<'a, S>
         ensures { written result ≡ record {
@@ -221,7 +241,19 @@ impl<'a, S: Spec> FixedBaseResolver<'a, S> {
         NormalizedText::behind(prefix, self.slices(reference), whole, Mode::Plain)
     }
 
-    /// The target of a reference (RFC 3986 section 5.2.2), with its dots kept. Allocation failure is the only error.
+    /// The target of a reference (RFC 3986 section 5.2.2), with its dot segments kept.
+    ///
+    /// # Errors
+    ///
+    /// Where allocation fails.
+    ///
+    /// ```
+    /// use iri::resolve::FixedBaseResolver;
+    /// use iri::types::{UriAbsoluteStr, UriReferenceStr};
+    /// let page = FixedBaseResolver::new(UriAbsoluteStr::new("http://a/b/c/d;p?q")?);
+    /// let target = page.target(rt.alloc(), UriReferenceStr::new("../g")?)?;
+    /// assert_eq!(rt; target.path(), "/b/c/../g");
+    /// ```
     pub fn target(
         &self,
         alloc: Global,

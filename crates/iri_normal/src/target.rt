@@ -1,4 +1,4 @@
-//! The target of a reference against a base.
+// The target of a reference against a base.
 ghost use Rattle.std.specs.Prelude.{◌≡◌, ◌++◌, ◌||◌, cond, is_some, None, true};
 ghost use Rattle.memchr.specs.Find.{IsLastByte, is_byte};
 ghost use Rattle.iri_grammar.specs.Parts.{starts_with_slash};
@@ -42,7 +42,7 @@ pub fn cut_last_segment(path: &str) -> (&str, &str)
     }
 }
 
-/// The prefix that a relative path is put behind.
+/// The prefix that a relative path is put after.
 pub fn merge_prefix<'a>(base: &Splitter<'a>) -> &'a str
     ensures ends { ends_at_slash result.now ≡ true }
     ensures prefix { result.now ≡ merge_prefix (parts base.now) }
@@ -54,7 +54,7 @@ pub fn merge_prefix<'a>(base: &Splitter<'a>) -> &'a str
     }
 }
 
-/// Whether a path begins with a slash.
+// Whether a path begins with a slash.
 pub(crate) fn starts_with_slash(path: &str) -> bool
     ensures { result ≡ starts_with_slash path.now }
 {
@@ -123,7 +123,7 @@ fn under_scheme<'a>(scheme: Option<&'a str>, reference: &Splitter<'a>) -> Target
     }
 }
 
-/// The target of a reference against a base (RFC 3986 sections 5.2.2 and 5.2.3), with its dots kept. `front` is the base's, by
+/// The target of a reference against a base (RFC 3986 sections 5.2.2 and 5.2.3), with its dot segments kept. `front` is the base's prefix, by
 /// `merge_prefix`.
 #[tactic(auto, unfolding(crate::specs::Target::target))]
 #[inline(always)]

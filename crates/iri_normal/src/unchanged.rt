@@ -15,21 +15,21 @@ use iri_grammar::splitter::Splitter;
 use iri_percent::is_plain as is_plain_text;
 use iri_text::{Stop, TextSink};
 
-/// What stands before such a reference: the prefix of the base and the path that relative ones are put behind, or nothing.
+// What comes before such a reference: the prefix of the base and the path that relative ones are put after, or nothing.
 #[derive(Clone, Copy)]
 pub(crate) struct Before<'a> {
     pub prefix: &'a str,
     pub front: &'a str,
 }
 
-/// Whether a text has no triplet, and a path of it no dot segment.
+// Whether a text has no triplet, and a path of it no dot segment.
 pub(crate) fn lacks_triplets_and_dots(text: &str, path: &str) -> bool
     ensures { result ≡ lacks_triplets_and_dots text.now path.now }
 {
     lacks(text, b'%') && !has_dot_segment(path)
 }
 
-/// Whether a reference was found to have no triplet behind its authority, and its path has no dot segment.
+// Whether a reference was found to have no percent-encoded octet after its authority, and its path has no dot segment.
 pub(crate) fn is_plain_reference(reference: &Splitter<'_>) -> bool
     ensures { result ≡ true → IsPlainReference (parts reference.now) }
 {
@@ -64,7 +64,7 @@ fn keeps_authority<S: Spec>(authority: Option<&str>) -> bool
     }
 }
 
-/// Whether scheme and authority are in normal form as they stand. Others may be too.
+// Whether scheme and authority are in normal form as they stand. Others may be too.
 pub(crate) fn keeps_prefix<S: Spec>(reference: &Splitter<'_>) -> bool
     ensures { result ≡ true → prefix_in S.tests true (parts reference.now) ≡ prefix_in S.tests false (parts reference.now) }
 {
@@ -82,7 +82,7 @@ fn show_some<W: TextSink>(sink: &mut W, text: &str) -> Result<(), Stop>
     sink.put(text)
 }
 
-/// Shows a text behind what stands before it, of which one or both are often empty.
+// Shows a text after what comes before it, of which one or both are often empty.
 #[inline(always)]
 pub(crate) fn show_behind<W: TextSink>(
     sink: &mut W,

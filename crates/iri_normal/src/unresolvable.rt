@@ -3,9 +3,9 @@ ghost use Rattle.std.specs.Prelude.{Some, codes};
 
 use std::fmt;
 
-/// No authority stands, and the path without its dot segments begins with two slashes, so that one would be read from it (RFC 3986
-/// section 3.3). A normal form there is has `/.` before the path. A base's path that is taken whole is never told so, since none of
-/// its dot segments is removed.
+/// There is no authority, and the path without its dot segments begins with two slashes, so that one would be read from
+/// it (RFC 3986 section 3.3). A normal form there is has `/.` before the path. A base's path that is taken whole is
+/// never refused so, since none of its dot segments is removed.
 #[derive(Clone, Debug, Drop)]
 pub struct Unresolvable;
 

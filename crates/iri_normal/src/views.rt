@@ -33,20 +33,46 @@ pub trait Normalize: Sized {
     ghost shown: { Self.Text → Written };
 
     /// The text in normal form.
+    ///
+    /// ```
+    /// use iri::prelude::{Normalize, ToStringFallible};
+    /// use iri::types::UriStr;
+    /// let link = UriStr::new("eXAMPLE://a/./b/../b/%63/%7bfoo%7d")?;
+    /// assert_eq!(rt; link.normalize().try_to_string(rt.alloc())?.as_str(), "example://a/b/c/%7Bfoo%7D");
+    /// ```
     fn normalize(self) -> Self::Text
         ensures { shown result ≡ record { parts = split_of (bytes self); whole = false; mode = Normal } };
 
     /// The text in normal form, but a path without authority that doesn't begin with a slash keeps its dot segments.
+    ///
+    /// ```
+    /// use iri::prelude::{Normalize, ToStringFallible};
+    /// use iri::types::UriStr;
+    /// let link = UriStr::new("URN:a/../%7e")?.normalize_but_preserve_authorityless_relative_path();
+    /// assert_eq!(rt; link.try_to_string(rt.alloc())?.as_str(), "urn:a/../~");
+    /// ```
     fn normalize_but_preserve_authorityless_relative_path(self) -> Self::Text
         ensures { shown result ≡ record { parts = split_of (bytes self); whole = false; mode = Preserving } };
 
-    /// Whether RFC 3986 alone has a normal form of the text, without the `/.` before a path that would be read as an authority: Err
-    /// where no authority stands and the path without its dot segments begins with two slashes.
+    /// Whether RFC 3986 alone has a normal form of the text, without the `/.` before a path that would be read as an
+    /// authority.
+    ///
+    /// # Errors
+    ///
+    /// Exactly where there is no authority and the path without its dot segments begins with two slashes.
+    ///
+    /// ```
+    /// use iri::prelude::Normalize;
+    /// use iri::types::UriStr;
+    /// assert!(rt; UriStr::new("http://a/.//b")?.ensure_rfc3986_normalizable().is_ok());
+    /// assert!(rt; UriStr::new("web+demo:/.//not-a-host/")?.ensure_rfc3986_normalizable().is_err());
+    /// ```
     fn ensure_rfc3986_normalizable(self) -> Result<(), Unresolvable>
         ensures { IsErr result ↔ (is_unresolvable false (split_of (bytes self)) ≡ true) };
 }
 
-/// References, which are resolved against a base (section 5.2). Nothing here takes memory.
+/// References, which are resolved against a base (RFC 3986 section 5.2). Nothing here takes memory. For many references
+/// of one base, `FixedBaseResolver` prepares the base once.
 pub trait ResolveAgainst: Sized {
     /// A base.
     type Base;
@@ -63,8 +89,16 @@ pub trait ResolveAgainst: Sized {
     /// What is shown.
     ghost shown: { Self.Text → Written };
 
-    /// The text resolved against the base: its dot segments are removed, but the base's path stays as it is where its own is empty.
-    /// Where the path would be read as an authority, `/.` stands before it.
+    /// The text resolved against the base: its dot segments are removed, but the base's path stays as it is where its
+    /// own is empty. Where the path would be read as an authority, `/.` comes before it.
+    ///
+    /// ```
+    /// use iri::prelude::{ResolveAgainst, ToStringFallible};
+    /// use iri::types::{UriAbsoluteStr, UriReferenceStr};
+    /// let base = UriAbsoluteStr::new("http://a/b/c/d;p?q")?;
+    /// let target = UriReferenceStr::new("../../../g")?.resolve_against(base);
+    /// assert_eq!(rt; target.try_to_string(rt.alloc())?.as_str(), "http://a/g");
+    /// ```
     fn resolve_against(self, base: Self::Base) -> Self::Text
         ensures { shown result ≡ record {
           parts = target (split_of (base_bytes base)) (split_of (bytes self));

@@ -21,9 +21,17 @@ use std::alloc::AllocError;
 use std::fmt;
 use std::marker::PhantomData;
 
-/// An authority that shows itself in normal form (RFC 3986 section 6.2.2): its userinfo in triplet normal form, its host in normal
-/// form, and its port as it stands. The port goes with its colon where it is empty (section 6.2.3), or where it is the one that is
-/// dropped, compared as text.
+/// An authority that shows itself in normal form (RFC 3986 section 6.2.2): its userinfo in triplet normal form, its
+/// host in normal form, and its port as it stands. The port goes with its `:` where it is empty (section 6.2.3), or
+/// where it is the one that is dropped, compared as text.
+///
+/// ```
+/// use iri::format::ToStringFallible;
+/// use iri::normalize::NormalizedAuthority;
+/// use iri::spec::UriSpec;
+/// let authority = NormalizedAuthority::<UriSpec>::new("%7eU@HOST:80", Some("80"));
+/// assert_eq!(rt; authority.try_to_string(rt.alloc())?.as_str(), "~U@host");
+/// ```
 pub struct NormalizedAuthority<'a, S: Spec> {
     authority: &'a str,
     dropped_port: Option<&'a str>,
@@ -44,7 +52,8 @@ impl<S: Spec> Clone for NormalizedAuthority<'_, S> {
 impl<S: Spec> Copy for NormalizedAuthority<'_, S> {}
 
 impl<'a, S: Spec> NormalizedAuthority<'a, S> {
-    /// The normal form of a valid authority (`validate::authority` of `iri_grammar` tells), without this port where one is given.
+    /// The normal form of an authority, without this port where one is given. It has a condition: the text is an
+    /// authority of `S`, which `validate::authority` tests.
     pub fn new(authority: &'a str, dropped_port: Option<&'a str>) -> Self
         requires { is_authority S.tests authority.now ≡ true }
         ensures { (result.authority.now ≡ authority.now) × (now_of result.dropped_port ≡ now_of dropped_port.entry) }

@@ -151,7 +151,7 @@ fn write_triplet<S: Spec>(text: &[u8], lower: bool, buf: &mut [u8; 64], at: usiz
     }
 }
 
-// Whether a mark is a letter and no `%`.
+// Whether the byte of a change is a letter and no `%`.
 fn is_letter(mark: u8, lower: bool) -> bool
     ensures { result ≡ (lower && not (mark == percent_sign)) }
 {

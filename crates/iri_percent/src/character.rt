@@ -51,7 +51,7 @@ fn char_of_four(lead: u8, rest: &[u8]) -> Option<char>
     )
 }
 
-// The character with whose UTF-8 this octet and those of the triplets behind it begin (RFC 3629 section 3). It has no
+// The character with whose UTF-8 this octet and those of the triplets after it begin (RFC 3629 section 3). It has no
 // loop, so that the compiler leaves it out where a grammar takes no character past ASCII.
 #[inline(always)]
 fn front_char(lead: u8, rest: &[u8]) -> Option<char>

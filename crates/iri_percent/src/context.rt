@@ -9,7 +9,7 @@ use iri_grammar::spec::Spec;
 #[derive(Clone, Copy)]
 pub(crate) enum Context {
     RegName,
-    // What stands before or behind the first colon of a userinfo.
+    // What comes before or after the first colon of a userinfo.
     UserOrPassword,
     PathSegment,
     Path,

@@ -15,7 +15,7 @@ use thiserror::Error;
 #[cfg(test)]
 mod tests;
 
-/// Bytes that are read decoded. They are equal, ordered and hashed as they stand, not as what they decode to.
+/// Bytes that are read decoded. They are equal, ordered and hashed as they are given, not as what they decode to.
 #[derive(Clone, Copy, Debug, PartialEq, Eq, PartialOrd, Ord, Hash)]
 pub struct PercentDecodedWhatwgBytes<'a> {
     source: &'a [u8],
@@ -34,9 +34,16 @@ pub enum DecodeTextError {
 
 /// Bytes to be decoded by the URL Standard (section 1.3, "percent-decode"). Nothing is done yet.
 ///
-/// Each `%` that two hex digits follow gives, with them, one byte; every other byte stands for itself. So a stray `%`, one
-/// that no two hex digits follow, stays: `50%` and `%zz` decode to themselves. What a triplet gives isn't decoded again:
-/// `%2541` gives `%41`. Every sequence of bytes can be decoded, and what comes out needn't be UTF-8.
+/// Each `%` that two hex digits follow gives, with them, one byte; every other byte stands for itself. So a stray `%`,
+/// one that no two hex digits follow, stays: `50%` and `%zz` decode to themselves. What a percent-encoded octet gives
+/// isn't decoded again: `%2541` gives `%41`. Every sequence of bytes can be decoded, and what comes out needn't be
+/// UTF-8.
+///
+/// ```
+/// use iri::percent_encode::decode::decode_whatwg_bytes;
+/// let decoded = decode_whatwg_bytes(b"%25%s%1G").into_bytes(rt.alloc())?;
+/// assert_eq!(rt; decoded.as_slice(), b"%%s%1G".as_slice());
+/// ```
 pub fn decode_whatwg_bytes(bytes: &[u8]) -> PercentDecodedWhatwgBytes<'_>
     ensures { result.source.now ≡ bytes.now }
 {
@@ -78,7 +85,14 @@ impl<'a> PercentDecodedWhatwgBytes<'a> {
         self.source
     }
 
-    /// The bytes as they were given, exactly where no `%` is followed by two hex digits: they are then what they decode to.
+    /// The bytes as they were given, exactly where no `%` is followed by two hex digits: they are then what they decode
+    /// to. It takes no memory.
+    ///
+    /// ```
+    /// use iri::percent_encode::decode::decode_whatwg_bytes;
+    /// assert_eq!(rt; decode_whatwg_bytes(b"50%").to_bytes(), Some(b"50%".as_slice()));
+    /// assert_eq!(rt; decode_whatwg_bytes(b"%20").to_bytes(), None);
+    /// ```
     pub fn to_bytes(&self) -> Option<&'a [u8]>
         ensures triplet { MatchOption result (has_triplet self.now.source.now ≡ true)
             (λ _. has_triplet self.now.source.now ≡ false) }
@@ -92,7 +106,11 @@ impl<'a> PercentDecodedWhatwgBytes<'a> {
         }
     }
 
-    /// The decoded bytes, in a vector. It fails on allocation failure alone, which comes only where there are bytes to decode.
+    /// The decoded bytes, in a vector.
+    ///
+    /// # Errors
+    ///
+    /// Where allocation fails, only where there are bytes to decode.
     pub fn into_bytes(&self, alloc: Global) -> Result<Vec<u8>, AllocError>
         ensures decoded { IfOk result (λ bytes. bytes.items ≡ decoding self.now.source.now) }
         ensures memory { OnErr result (0 < length self.now.source.now) }
@@ -104,8 +122,19 @@ impl<'a> PercentDecodedWhatwgBytes<'a> {
         Ok(bytes)
     }
 
-    /// The decoded bytes as a string: `NotUtf8` with them exactly where they aren't UTF-8. Both answers hold the decoded bytes,
-    /// so that allocation failure, which comes only where there are bytes to decode, may take the place of either.
+    /// The decoded bytes as a string.
+    ///
+    /// # Errors
+    ///
+    /// - `NotUtf8` with the decoded bytes, exactly where they aren't UTF-8.
+    /// - `Memory` where allocation fails, only where there are bytes to decode; it may take the place of either answer,
+    ///   since both hold the decoded bytes.
+    ///
+    /// ```
+    /// use iri::percent_encode::decode::decode_whatwg_bytes;
+    /// assert_eq!(rt; decode_whatwg_bytes(b"ros%C3%A9").into_string(rt.alloc())?.as_str(), "rosé");
+    /// assert!(rt; decode_whatwg_bytes(b"ros%E9").into_string(rt.alloc()).is_err());
+    /// ```
     pub fn into_string(&self, alloc: Global) -> Result<String, DecodeTextError>
         ensures { MatchResult result (λ s. string_bytes s ≡ decoding self.now.source.now)
             (λ e. IsNoText e self.now.source.now) }
@@ -120,6 +149,15 @@ impl<'a> PercentDecodedWhatwgBytes<'a> {
     }
 
     /// The fragments that the decoding is put together from. It takes no memory.
+    ///
+    /// ```
+    /// use iri::percent_encode::decode::{DecodedFragment, decode_whatwg_bytes};
+    /// let mut fragments = decode_whatwg_bytes(b"a%20%").bytes_fragments();
+    /// assert!(rt; matches!(fragments.next(), Some(DecodedFragment::Direct(b"a"))));
+    /// assert!(rt; matches!(fragments.next(), Some(DecodedFragment::DecodedByte(32))));
+    /// assert!(rt; matches!(fragments.next(), Some(DecodedFragment::StrayPercent)));
+    /// assert!(rt; fragments.next().is_none());
+    /// ```
     pub fn bytes_fragments(&self) -> PercentDecodedBytesFragments<'a>
         ensures fragments { fragments_left result ≡ fragments self.now.source.now }
         ensures source { result.rest.now ≡ self.now.source.now }

@@ -24,7 +24,7 @@ impl<'s, S: Spec, W: TextSink> TextSink for Encoder<'s, S, W> {
     }
 }
 
-// Shows a value to the sink behind an encoder.
+// Shows a value to the sink of an encoder.
 pub(crate) fn show_encoded<T: Show, S: Spec, W: TextSink>(
     encoder: &mut Encoder<S, W>,
     value: &T,

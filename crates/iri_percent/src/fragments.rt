@@ -20,14 +20,14 @@ pub enum DecodedFragment<'a> {
 }
 
 /// The fragments of a text, from the left. Joined, they are the decoded bytes: the bytes of each run, the byte of each
-/// triplet, and `%` for each stray one.
+/// percent-encoded octet, and `%` for each stray one.
 #[derive(Clone, Debug, Drop)]
 pub struct PercentDecodedBytesFragments<'a> {
     rest: &'a [u8],
 }
 
 impl<'a> PercentDecodedBytesFragments<'a> {
-    /// All fragments of the text.
+    // All fragments of the text.
     pub(crate) fn new(text: &'a [u8]) -> Self
         ensures { result.rest.now ≡ text.now }
     {

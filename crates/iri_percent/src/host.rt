@@ -16,6 +16,14 @@ use std::marker::PhantomData;
 /// A host that shows itself in normal form (RFC 3986 section 6.2.2.1): where every character of it and the octet of
 /// every triplet is ASCII, triplet normal form with the letters outside triplets in lower case; otherwise triplet
 /// normal form.
+///
+/// ```
+/// use iri::format::ToStringFallible;
+/// use iri::normalize::NormalizedHost;
+/// use iri::spec::UriSpec;
+/// let host = NormalizedHost::<UriSpec>::new("EXAMPLE%2Dsite.com");
+/// assert_eq!(rt; host.try_to_string(rt.alloc())?.as_str(), "example-site.com");
+/// ```
 pub struct NormalizedHost<'a, S: Spec> {
     host: &'a str,
     spec: PhantomData<S>,
@@ -35,7 +43,7 @@ impl<S: Spec> Clone for NormalizedHost<'_, S> {
 impl<S: Spec> Copy for NormalizedHost<'_, S> {}
 
 impl<'a, S: Spec> NormalizedHost<'a, S> {
-    /// The normal form of a valid host (`validate::host` of `iri_grammar` tells).
+    /// The normal form of a host. It has a condition: the text is a host of `S`, which `validate::host` tests.
     pub fn new(host: &'a str) -> Self
         requires { is_host S.tests host.now ≡ true }
         ensures { result.host.now ≡ host.now }

@@ -20,8 +20,9 @@ use std::marker::PhantomData;
 #[cfg(test)]
 mod tests;
 
-/// A view that shows itself mapped to a URI (RFC 3987 section 3.1): each character past ASCII is written as the triplets of
-/// its UTF-8 bytes, with capital hex digits; the rest stays, triplets too. `V` is a view of any kind and any grammar.
+/// A view that shows itself mapped to a URI (RFC 3987 section 3.1): each character past ASCII is written as the
+/// percent-encoded octets of its UTF-8, with capital hex digits; the rest stays. `V` is a view of any kind and any
+/// grammar.
 #[derive(Clone, Copy)]
 pub struct MappedToUri<'a, V> {
     view: V,
@@ -117,7 +118,11 @@ impl<'a, S: Spec, K: MappedKind> fmt::Display for MappedToUri<'a, View<'a, S, K>
 impl<'a, S: Spec, K: MappedKind> ToDedicatedString for MappedToUri<'a, View<'a, S, K>> {
     type Target = Owned<UriSpec, K>;
 
-    /// The mapped text, as an owned text of the same kind. It fails on allocation failure alone.
+    /// The mapped text, as an owned text of the same kind.
+    ///
+    /// # Errors
+    ///
+    /// Where allocation fails.
     fn try_to_dedicated_string(&self, alloc: Global) -> Result<Owned<UriSpec, K>, AllocError> {
         let mut text = String::with_capacity(alloc, self.view.as_str().len())?;
         try_append_to_string(&mut text, self)?;

@@ -86,7 +86,7 @@ fn find_mark(text: &[u8], lower: bool) -> Option<usize>
     }
 }
 
-// Where a change may begin, where one may. What stands in front of it stays.
+// Where a change may begin, where one may. What comes before it stays.
 fn next_mark<S: Spec>(text: &[u8], lower: bool) -> Option<usize>
     requires { whole_triplets text.now ≡ true }
     ensures { MatchOption result (normal S.tests (case_of lower) text.now ≡ text.now) (λ i. FirstMark S.tests lower text.now i) }
@@ -94,7 +94,7 @@ fn next_mark<S: Spec>(text: &[u8], lower: bool) -> Option<usize>
     find_mark(text, lower)
 }
 
-// Whether one more change is written: the buffer has room for it, and the text has a mark there.
+// Whether one more change is written: the buffer has room for it, and a change may begin there.
 #[inline(always)]
 fn has_next(text: &[u8], at: usize, lower: bool, written: usize) -> bool
     ensures { OnTrue result ((written ≤ 60) × (at < length text.now) × (stays lower (slice_index text.now at) ≡ false)) }
@@ -102,7 +102,7 @@ fn has_next(text: &[u8], at: usize, lower: bool, written: usize) -> bool
     written <= 60 && at < text.len() && is_mark(text[at], lower)
 }
 
-// Gathers what is written from the first mark on, up to a byte that stays or a full buffer: triplets that are in normal form too.
+// Gathers what is written from the first change on, up to a byte that stays or a full buffer: triplets that are in normal form too.
 #[inline(always)]
 fn gather_in<S: Spec>(text: &[u8], at: usize, lower: bool, buf: &mut [u8; 64]) -> Run
     requires { (whole_triplets text.now ≡ true) × FirstMark S.tests lower text.now at }

@@ -12,11 +12,20 @@ use iri_text::{FormatSink, Show, Stop, TextSink};
 use std::fmt;
 use std::marker::PhantomData;
 
-/// A raw value whose text is percent-encoded as it is shown (RFC 3986 sections 2.1 and 2.4): each character that may stand
-/// in its place of a reference of `S` stands as it is, and every other one, `%` among them, becomes the triplets of its
-/// UTF-8, with capital hex digits. So what is decoded again is the raw text, a `%` of which never passes for a triplet.
+/// A raw value whose text is percent-encoded as it is shown (RFC 3986 sections 2.1 and 2.4): each character that may
+/// stand in its place of a reference of `S` stays, and every other one, `%` among them, becomes the percent-encoded
+/// octets of its UTF-8, with capital hex digits. So what is decoded again is the raw text.
 ///
 /// It takes no memory, and the value may put its text in any pieces.
+///
+/// ```
+/// use iri::format::ToStringFallible;
+/// use iri::percent_encode::{PercentEncodedForIri, PercentEncodedForUri};
+/// let uri = PercentEncodedForUri::from_path_segment("rosé/100%").try_to_string(rt.alloc())?;
+/// assert_eq!(rt; uri.as_str(), "ros%C3%A9%2F100%25");
+/// let iri = PercentEncodedForIri::from_path_segment("rosé/100%").try_to_string(rt.alloc())?;
+/// assert_eq!(rt; iri.as_str(), "rosé%2F100%25");
+/// ```
 #[derive(Clone, Copy, Drop)]
 pub struct PercentEncoded<T, S> {
     raw: T,
@@ -43,6 +52,13 @@ impl<T: Show, S: Spec> PercentEncoded<T, S> {
     }
 
     /// Encodes for a registered name: the characters of a `reg-name` are kept (RFC 3986 section 3.2.2).
+    ///
+    /// ```
+    /// use iri::format::ToStringFallible;
+    /// use iri::percent_encode::PercentEncodedForUri;
+    /// let host = PercentEncodedForUri::from_reg_name("a:b").try_to_string(rt.alloc())?;
+    /// assert_eq!(rt; host.as_str(), "a%3Ab");
+    /// ```
     pub fn from_reg_name(raw: T) -> Self
         ensures raw { result.raw ≡ raw }
         ensures context { result.context ≡ RegName }
@@ -50,8 +66,15 @@ impl<T: Show, S: Spec> PercentEncoded<T, S> {
         PercentEncoded::new(raw, Context::RegName)
     }
 
-    /// Encodes for the user in a `userinfo`: the characters of a `userinfo` but the colon are kept (RFC 3986
-    /// section 3.2.1).
+    /// Encodes for the user in a `userinfo`: the characters of a `userinfo` but the `:` are kept (RFC 3986 section
+    /// 3.2.1).
+    ///
+    /// ```
+    /// use iri::format::ToStringFallible;
+    /// use iri::percent_encode::PercentEncodedForUri;
+    /// let user = PercentEncodedForUri::from_user("a:b@c").try_to_string(rt.alloc())?;
+    /// assert_eq!(rt; user.as_str(), "a%3Ab%40c");
+    /// ```
     pub fn from_user(raw: T) -> Self
         ensures raw { result.raw ≡ raw }
         ensures context { result.context ≡ UserOrPassword }
@@ -59,8 +82,8 @@ impl<T: Show, S: Spec> PercentEncoded<T, S> {
         PercentEncoded::new(raw, Context::UserOrPassword)
     }
 
-    /// Encodes for the password in a `userinfo`: the characters of a `userinfo` but the colon are kept (RFC 3986
-    /// section 3.2.1).
+    /// Encodes for the password in a `userinfo`: the characters of a `userinfo` but the `:` are kept (RFC 3986 section
+    /// 3.2.1).
     pub fn from_password(raw: T) -> Self
         ensures raw { result.raw ≡ raw }
         ensures context { result.context ≡ UserOrPassword }
@@ -68,7 +91,7 @@ impl<T: Show, S: Spec> PercentEncoded<T, S> {
         PercentEncoded::new(raw, Context::UserOrPassword)
     }
 
-    /// Encodes for one segment of a path, whose slashes are encoded too: `pchar` is kept (RFC 3986 section 3.3).
+    /// Encodes for one segment of a path: `pchar` is kept, and so each `/` is encoded (RFC 3986 section 3.3).
     pub fn from_path_segment(raw: T) -> Self
         ensures raw { result.raw ≡ raw }
         ensures context { result.context ≡ PathSegment }
@@ -76,7 +99,14 @@ impl<T: Show, S: Spec> PercentEncoded<T, S> {
         PercentEncoded::new(raw, Context::PathSegment)
     }
 
-    /// Encodes for a path, whose slashes are kept: `pchar` and `/` are kept (RFC 3986 section 3.3).
+    /// Encodes for a path: `pchar` and `/` are kept (RFC 3986 section 3.3).
+    ///
+    /// ```
+    /// use iri::format::ToStringFallible;
+    /// use iri::percent_encode::PercentEncodedForUri;
+    /// let path = PercentEncodedForUri::from_path("/a b/c?d").try_to_string(rt.alloc())?;
+    /// assert_eq!(rt; path.as_str(), "/a%20b/c%3Fd");
+    /// ```
     pub fn from_path(raw: T) -> Self
         ensures raw { result.raw ≡ raw }
         ensures context { result.context ≡ Path }
@@ -84,8 +114,15 @@ impl<T: Show, S: Spec> PercentEncoded<T, S> {
         PercentEncoded::new(raw, Context::Path)
     }
 
-    /// Encodes for a query: the characters of a `query` are kept (RFC 3986 section 3.4), in an IRI those for private use too
-    /// (RFC 3987 section 2.2). `&`, `=` and `+` are kept.
+    /// Encodes for a query: the characters of a `query` are kept (RFC 3986 section 3.4), in an IRI those for private
+    /// use too (RFC 3987 section 2.2). `&`, `=` and `+` are kept.
+    ///
+    /// ```
+    /// use iri::format::ToStringFallible;
+    /// use iri::percent_encode::PercentEncodedForUri;
+    /// let query = PercentEncodedForUri::from_query("a=b c&d#e").try_to_string(rt.alloc())?;
+    /// assert_eq!(rt; query.as_str(), "a=b%20c&d%23e");
+    /// ```
     pub fn from_query(raw: T) -> Self
         ensures raw { result.raw ≡ raw }
         ensures context { result.context ≡ Query }
@@ -94,6 +131,13 @@ impl<T: Show, S: Spec> PercentEncoded<T, S> {
     }
 
     /// Encodes for a fragment: the characters of a `fragment` are kept (RFC 3986 section 3.5).
+    ///
+    /// ```
+    /// use iri::format::ToStringFallible;
+    /// use iri::percent_encode::PercentEncodedForUri;
+    /// let fragment = PercentEncodedForUri::from_fragment("a/b?c#d").try_to_string(rt.alloc())?;
+    /// assert_eq!(rt; fragment.as_str(), "a/b?c%23d");
+    /// ```
     pub fn from_fragment(raw: T) -> Self
         ensures raw { result.raw ≡ raw }
         ensures context { result.context ≡ Fragment }
@@ -101,7 +145,15 @@ impl<T: Show, S: Spec> PercentEncoded<T, S> {
         PercentEncoded::new(raw, Context::Fragment)
     }
 
-    /// Encodes for any place: only `unreserved` characters are kept (RFC 3986 section 2.3).
+    /// Encodes for any place: only `unreserved` characters are kept (RFC 3986 section 2.3), so the value can't be read
+    /// as a delimiter.
+    ///
+    /// ```
+    /// use iri::format::ToStringFallible;
+    /// use iri::percent_encode::PercentEncodedForUri;
+    /// let value = PercentEncodedForUri::unreserve("a&b=50%~").try_to_string(rt.alloc())?;
+    /// assert_eq!(rt; value.as_str(), "a%26b%3D50%25~");
+    /// ```
     pub fn unreserve(raw: T) -> Self
         ensures raw { result.raw ≡ raw }
         ensures context { result.context ≡ Unreserved }
@@ -109,8 +161,15 @@ impl<T: Show, S: Spec> PercentEncoded<T, S> {
         PercentEncoded::new(raw, Context::Unreserved)
     }
 
-    /// Encodes what may stand nowhere in a reference: `unreserved` and `reserved` characters are kept (RFC 3986 section 2.2),
-    /// in an IRI those for private use too.
+    /// Encodes what may stand nowhere in a reference: `unreserved` and `reserved` characters are kept (RFC 3986 section
+    /// 2.2), in an IRI those for private use too.
+    ///
+    /// ```
+    /// use iri::format::ToStringFallible;
+    /// use iri::percent_encode::PercentEncodedForUri;
+    /// let text = PercentEncodedForUri::characters("http://a/b c#d").try_to_string(rt.alloc())?;
+    /// assert_eq!(rt; text.as_str(), "http://a/b%20c#d");
+    /// ```
     pub fn characters(raw: T) -> Self
         ensures raw { result.raw ≡ raw }
         ensures context { result.context ≡ Any }

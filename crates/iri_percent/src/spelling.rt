@@ -8,7 +8,7 @@ use iri_text::{Stop, TextSink};
 // So many octets are spelled in one piece.
 const MOST: usize = 8;
 
-/// The hex digit of this value: a capital letter from ten on.
+/// The hex digit of this value: a capital letter from ten on. It has a condition: the value is below 16.
 pub fn capital_digit(value: u8) -> u8
     requires { value < 16 }
     ensures { result ≡ capital_hex value }
@@ -63,7 +63,7 @@ fn put_some<W: TextSink>(sink: &mut W, octets: &[u8]) -> Result<(), Stop>
     put_few(sink, octets)
 }
 
-/// Writes the triplets of octets, with capital hex digits.
+// Writes the triplets of octets, with capital hex digits.
 pub(crate) fn put_triplets<W: TextSink>(sink: &mut W, octets: &[u8]) -> Result<(), Stop>
     ensures { Shows W.puts W.halts W.stops sink.old (triplets octets.now) sink.new result }
 {

@@ -10,9 +10,17 @@ use std::alloc::AllocError;
 use std::fmt;
 use std::marker::PhantomData;
 
-/// A part of a reference that shows itself in triplet normal form (RFC 3986 sections 6.2.2.1 and 6.2.2.2,
-/// RFC 3987 section 5.3.2.3): an unreserved character in triplets is written as itself, every other triplet
-/// has capital hex digits, and the rest stays.
+/// A part of a reference that shows itself in triplet normal form (RFC 3986 sections 6.2.2.1 and 6.2.2.2, RFC 3987
+/// section 5.3.2.3): an unreserved character in triplets is written as itself, every other triplet has capital hex
+/// digits, and the rest stays. A triplet is a percent-encoded octet, `%` and two hex digits.
+///
+/// ```
+/// use iri::format::ToStringFallible;
+/// use iri::normalize::PctCaseNormalized;
+/// use iri::spec::UriSpec;
+/// let path = PctCaseNormalized::<UriSpec>::new("/%7ebob/%3aa");
+/// assert_eq!(rt; path.try_to_string(rt.alloc())?.as_str(), "/~bob/%3Aa");
+/// ```
 pub struct PctCaseNormalized<'a, S: Spec> {
     part: &'a str,
     spec: PhantomData<S>,
@@ -32,7 +40,9 @@ impl<S: Spec> Clone for PctCaseNormalized<'_, S> {
 impl<S: Spec> Copy for PctCaseNormalized<'_, S> {}
 
 impl<'a, S: Spec> PctCaseNormalized<'a, S> {
-    /// The normal form of a text in which each `%` is followed by two hex digits, as in every part of a reference.
+    /// The normal form of a text. It has a condition: two hex digits follow each `%`, as in every part of a reference.
+    /// `validate::path`, `validate::query` and their kin are Ok only then; of any text it is so where the
+    /// `bytes_fragments` of `decode_whatwg_bytes` have no `StrayPercent`.
     pub fn new(part: &'a str) -> Self
         requires { whole_triplets part.now ≡ true }
         ensures { result.part.now ≡ part.now }

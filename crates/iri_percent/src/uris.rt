@@ -11,7 +11,7 @@ use iri_text::{Show, ToDedicatedString};
 use iri_types::view::View;
 use std::alloc::{AllocError, Global};
 
-/// Views of IRIs as URIs.
+/// Views of IRIs as URIs (RFC 3987 section 3.1).
 pub trait ToUri: Show {
     /// What shows itself mapped.
     type Mapped: Show;
@@ -19,11 +19,25 @@ pub trait ToUri: Show {
     /// The view of URIs of the same kind.
     type Uri: Show;
 
-    /// The view mapped to a URI (RFC 3987 section 3.1). Nothing is done yet.
+    /// The view mapped to a URI. Nothing is done yet.
+    ///
+    /// ```
+    /// use iri::prelude::{ToDedicatedString, ToUri};
+    /// use iri::types::IriStr;
+    /// let uri = IriStr::new("http://www.example.org/red%09rosé#red")?.encode_to_uri();
+    /// assert_eq!(rt; uri.try_to_dedicated_string(rt.alloc())?.as_str(), "http://www.example.org/red%09ros%C3%A9#red");
+    /// ```
     fn encode_to_uri(self) -> Self::Mapped
         ensures { Self.Mapped.text result ≡ mapped (Self.text self) };
 
     /// The same text as a URI, exactly where it is in ASCII. It takes no memory.
+    ///
+    /// ```
+    /// use iri::prelude::ToUri;
+    /// use iri::types::IriStr;
+    /// assert_eq!(rt; IriStr::new("http://a/ros%C3%A9")?.as_uri().ok_or("ASCII")?.as_str(), "http://a/ros%C3%A9");
+    /// assert!(rt; IriStr::new("http://a/rosé")?.as_uri().is_none());
+    /// ```
     fn as_uri(self) -> Option<Self::Uri>
         ensures { MatchOption result (IsNotAscii (Self.text self))
             (λ uri. IsAscii (Self.text self) × (Self.Uri.text uri ≡ Self.text self)) };
@@ -49,24 +63,58 @@ impl<'a, K: MappedKind> ToUri for View<'a, IriSpec, K> {
     }
 }
 
-/// Owned IRIs as URIs.
+/// Owned IRIs as URIs (RFC 3987 section 3.1).
 pub trait IntoUri: Show + Sized {
     /// The owned text of URIs of the same kind.
     type Uri: Show;
 
-    /// Maps the text in place (RFC 3987 section 3.1). Allocation failure comes only where the text isn't in ASCII; the text and
-    /// its capacity are then as they were.
+    /// Maps the text in place; it stays an IRI, and is in ASCII.
+    ///
+    /// # Errors
+    ///
+    /// Where allocation fails, only where the text isn't in ASCII; the text and its capacity are as they were then.
+    ///
+    /// ```
+    /// use iri::convert::IntoUri;
+    /// use iri::types::IriString;
+    /// let mut link = IriString::try_from_str(rt.alloc(), "http://a/rosé")?;
+    /// link.try_encode_to_uri_inline(rt.alloc())?;
+    /// assert_eq!(rt; link.as_str(), "http://a/ros%C3%A9");
+    /// ```
     fn try_encode_to_uri_inline(&mut self, alloc: Global) -> Result<(), AllocError>
         ensures text { OnOk result (Self.text self.new ≡ mapped (Self.text self.old)) }
         ensures err { OnErr result (self.new ≡ self.old) }
         ensures memory { OnErr result (IsNotAscii (Self.text self.old)) };
 
-    /// The mapped text. Allocation failure comes only where the text isn't in ASCII, and hands the text back.
+    /// The mapped text, as a URI.
+    ///
+    /// # Errors
+    ///
+    /// The text handed back where allocation fails, only where it isn't in ASCII.
+    ///
+    /// ```
+    /// use iri::convert::IntoUri;
+    /// use iri::types::IriString;
+    /// let link = IriString::try_from_str(rt.alloc(), "http://a/rosé")?;
+    /// let uri = link.try_encode_into_uri(rt.alloc()).ok().ok_or("memory")?;
+    /// assert_eq!(rt; uri.as_str(), "http://a/ros%C3%A9");
+    /// ```
     fn try_encode_into_uri(self, alloc: Global) -> Result<Self::Uri, Self>
         ensures { MatchResult result (λ uri. Self.Uri.text uri ≡ mapped (Self.text self))
             (λ iri. (iri ≡ self) × IsNotAscii (Self.text self)) };
 
-    /// The same text as a URI, exactly where it is in ASCII; otherwise the text is handed back. It takes no memory.
+    /// The same text as a URI, where it is in ASCII. It takes no memory.
+    ///
+    /// # Errors
+    ///
+    /// The text handed back, exactly where it isn't in ASCII.
+    ///
+    /// ```
+    /// use iri::convert::IntoUri;
+    /// use iri::types::IriString;
+    /// let link = IriString::try_from_str(rt.alloc(), "http://a/rosé")?;
+    /// assert_eq!(rt; link.try_into_uri().err().ok_or("past ASCII")?.as_str(), "http://a/rosé");
+    /// ```
     fn try_into_uri(self) -> Result<Self::Uri, Self>
         ensures { MatchResult result (λ uri. IsAscii (Self.text self) × (Self.Uri.text uri ≡ Self.text self))
             (λ iri. (iri ≡ self) × IsNotAscii (Self.text self)) };

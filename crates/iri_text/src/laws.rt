@@ -31,7 +31,7 @@ pub fn line_past_its_limit()
         limit_fault line input place 0 (front ++ rest) ≡ Some LineTooLong }
 {}
 
-/// Behind `place` bytes a byte passes the limit of the input where it comes behind as many bytes as that, and the line before
+/// After `place` bytes a byte passes the limit of the input where it comes after as many bytes as that, and the line before
 /// it hasn't ended and is within its own limit.
 pub fn input_past_its_limit()
     ensures { (line input place last : ℕ) (front rest : List ℕ) → NoLf front → length front ≤ line

@@ -1,4 +1,4 @@
-//! Values with a text, and sinks for texts.
+// Values with a text, and sinks for texts.
 
 pub(crate) mod format;
 pub(crate) mod format_sink;

@@ -1,4 +1,4 @@
-//! Sources and sinks of bytes, and the lines of a source.
+// Sources and sinks of bytes, and the lines of a source.
 
 pub(crate) mod memory_sink;
 pub(crate) mod memory_source;

@@ -112,7 +112,7 @@ impl<'a, K: Kind> View<'a, UriSpec, K> {
     }
 }
 
-// The view of what stands behind the delimiter.
+// The view of what comes after the delimiter.
 fn behind_mark<'a, S: Spec, K: Kind>(s: &'a str, mark: &str) -> Option<View<'a, S, K>>
     ensures { MatchOption result (IsUnmarked mark.now (K.fault S.tests) s.now) (λ v. s.now ≡ mark.now ++ text v) }
 {

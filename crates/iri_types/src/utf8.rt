@@ -4,7 +4,7 @@ ghost use Rattle.std.specs.Str.{IsUtf8};
 
 use std::str;
 
-/// The text of bytes, where they are UTF-8.
+// The text of bytes, where they are UTF-8.
 #[inline(always)]
 pub(crate) fn text_of(bytes: &[u8]) -> Option<&str>
     ensures { MatchOption result (¬ (IsUtf8 bytes.now)) (λ s. (s.now ≡ bytes.now) × IsUtf8 bytes.now) }

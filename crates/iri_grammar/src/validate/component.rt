@@ -1,4 +1,4 @@
-//! The validators of single components (RFC 3986 section 3, RFC 3987 section 2.2).
+// The validators of single components (RFC 3986 section 3, RFC 3987 section 2.2).
 ghost use Rattle.std.specs.Prelude.{◌≡◌};
 ghost use Rattle.iri_grammar.specs.Fault.{Answers, unless, scheme_fault, userinfo_fault, host_fault, reg_name_fault};
 ghost use Rattle.iri_grammar.specs.Fault.{port_fault, path_fault, path_segment_fault, query_fault, fragment_fault};
@@ -13,7 +13,7 @@ use crate::over::{is_over, is_run};
 use crate::spec::Spec;
 use crate::splitter::is_scheme;
 
-/// Ok where the test passed, otherwise the fault.
+// Ok where the test passed, otherwise the fault.
 fn ok_where(passed: bool, fault: ErrorKind) -> Result<(), Error>
     ensures { Answers result (unless passed fault) }
 {

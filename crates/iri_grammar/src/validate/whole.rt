@@ -1,4 +1,4 @@
-//! The validators of whole texts (RFC 3986 section 4).
+// The validators of whole texts (RFC 3986 section 4).
 ghost use Rattle.std.specs.Prelude.{◌≡◌, ◌&&◌, true};
 ghost use Rattle.std.specs.List.{list_all};
 ghost use Rattle.iri_grammar.specs.Characters.{colon, slash};
@@ -18,7 +18,7 @@ use crate::spec::Spec;
 use crate::splitter::Splitter;
 use crate::validate::component::{authority, fragment, path, query, scheme};
 
-/// Whether no colon stands before the first slash.
+// Whether no colon stands before the first slash.
 #[inline(always)]
 fn lacks_front_colon(path: &[u8]) -> bool
     ensures { result ≡ lacks colon (before slash path.now) }
@@ -43,7 +43,7 @@ fn colon_allowed(p: &Splitter<'_>) -> bool
     p.scheme().is_some() || p.authority().is_some() || lacks_front_colon(p.path().as_bytes())
 }
 
-/// The first segment without a colon where it has to be.
+// The first segment without a colon where it has to be.
 #[inline(always)]
 fn colon_in_place(p: &Splitter<'_>) -> Result<(), Error>
     ensures { Answers result (unless (colon_allowed (parts p.now)) ErrorKind.InvalidPath) }
@@ -55,7 +55,7 @@ fn colon_in_place(p: &Splitter<'_>) -> Result<(), Error>
     }
 }
 
-/// The path over its characters, and its first segment without a colon where it has to be.
+// The path over its characters, and its first segment without a colon where it has to be.
 fn path_in_place<S: Spec>(p: &Splitter<'_>) -> Result<(), Error>
     ensures { Answers result (unless (is_path S.tests (parts p.now).path
         && colon_allowed (parts p.now)) ErrorKind.InvalidPath) }
@@ -64,7 +64,7 @@ fn path_in_place<S: Spec>(p: &Splitter<'_>) -> Result<(), Error>
     colon_in_place(p)
 }
 
-/// The authority, where it stands.
+// The authority, where it stands.
 fn authority_in_place<S: Spec>(p: &Splitter<'_>) -> Result<(), Error>
     ensures { Answers result (part_fault (authority_fault S.tests) (parts p.now).authority) }
 {
@@ -74,7 +74,7 @@ fn authority_in_place<S: Spec>(p: &Splitter<'_>) -> Result<(), Error>
     }
 }
 
-/// Authority, path and query.
+// Authority, path and query.
 #[tactic(auto, unfolding(crate::specs::WholeFault::fault_before_fragment))]
 fn front<S: Spec>(p: &Splitter<'_>) -> Result<(), Error>
     ensures { Answers result (fault_before_fragment S.tests (parts p.now)) }
@@ -87,7 +87,7 @@ fn front<S: Spec>(p: &Splitter<'_>) -> Result<(), Error>
     Ok(())
 }
 
-/// Authority, path, query and fragment.
+// Authority, path, query and fragment.
 #[tactic(auto, unfolding(crate::specs::WholeFault::parts_fault))]
 fn front_and_fragment<S: Spec>(p: &Splitter<'_>) -> Result<(), Error>
     ensures { Answers result (parts_fault S.tests (fragment_fault S.tests) (parts p.now)) }
@@ -99,7 +99,7 @@ fn front_and_fragment<S: Spec>(p: &Splitter<'_>) -> Result<(), Error>
     Ok(())
 }
 
-/// The authority, and the first segment without a colon where it has to be.
+// The authority, and the first segment without a colon where it has to be.
 fn authority_and_colon<S: Spec>(p: &Splitter<'_>) -> Result<(), Error>
     ensures { Answers result (first (part_fault (authority_fault S.tests) (parts p.now).authority)
         (unless (colon_allowed (parts p.now)) ErrorKind.InvalidPath)) }
@@ -108,8 +108,8 @@ fn authority_and_colon<S: Spec>(p: &Splitter<'_>) -> Result<(), Error>
     colon_in_place(p)
 }
 
-/// Authority, path, query and fragment, of which the first may have been found to be a plain name or none, and the last three
-/// to be each in its production.
+// Authority, path, query and fragment, of which the first may have been found to be a plain name or none, and the last three
+// to be each in its production.
 #[inline(always)]
 pub(crate) fn judge<S: Spec>(p: &Splitter<'_>, named: bool, over: bool) -> Result<(), Error>
     requires name { named ≡ true → if_there (list_all (ascii_test RegName)) (parts p.now).authority ≡ true }
@@ -128,7 +128,7 @@ pub(crate) fn judge<S: Spec>(p: &Splitter<'_>, named: bool, over: bool) -> Resul
     }
 }
 
-/// The scheme and its colon.
+// The scheme and its colon.
 fn leading_scheme(s: &str) -> Result<(), Error>
     ensures { Answers result (missing_scheme_fault s.now) }
 {

@@ -11,7 +11,7 @@ ghost use Rattle.iri_normal.specs.inside.Written.{left, popped, popped_times, wr
 
 use crate::dots::next_dots;
 
-/// How many bytes a path has at most that is gathered.
+// How many bytes a path has at most that is gathered.
 pub(crate) const SHORT: usize = 512;
 
 fn append(buf: &mut [u8; SHORT], len: usize, piece: &[u8]) -> usize
@@ -101,7 +101,7 @@ fn pop_times(buf: &mut [u8; SHORT], len: usize, count: usize) -> usize
     end
 }
 
-/// Puts a short path in two pieces, cut where a segment ends or with nothing after the cut, without its dot segments.
+// Puts a short path in two pieces, cut where a segment ends or with nothing after the cut, without its dot segments.
 pub(crate) fn put_path(buf: &mut [u8; SHORT], base: &[u8], reference: &[u8]) -> usize
     requires cut { (is_empty reference.now || ends_at_slash base.now) ≡ true }
     requires short { length base.now + length reference.now ≤ 512 }
@@ -112,8 +112,8 @@ pub(crate) fn put_path(buf: &mut [u8; SHORT], base: &[u8], reference: &[u8]) -> 
     put(buf, first, reference)
 }
 
-/// Puts what stays of a part of a longer path, where `count` segments are taken away after it. A slash stands before it, which no dot
-/// segment takes away.
+// Puts what stays of a part of a longer path, where `count` segments are taken away after it. A slash stands before it, which no dot
+// segment takes away.
 pub(crate) fn put_kept(buf: &mut [u8; SHORT], text: &[u8], count: usize) -> usize
     requires ends { (ends_at_slash text.now || count == 0) ≡ true }
     requires short { length text.now < 512 }

@@ -38,7 +38,7 @@ fn counts_after(gone: usize, stay: usize, two: bool) -> (usize, usize)
     }
 }
 
-/// How many segments a path takes away before it, where `count` are taken away after it.
+// How many segments a path takes away before it, where `count` are taken away after it.
 pub(crate) fn taken(text: &str, count: usize) -> usize
     requires room { count + length text.now < 2 ^ 64 }
     ensures count { result ≡ taken (pieces slash text.now) count }
@@ -54,7 +54,7 @@ pub(crate) fn taken(text: &str, count: usize) -> usize
     gone + count.saturating_sub(stay + count_slashes(rest))
 }
 
-/// A path without the dot segments at its start.
+// A path without the dot segments at its start.
 pub(crate) fn without_first_dots<S: Spec>(text: &str) -> &str
     requires path { is_path S.tests text.now ≡ true }
     ensures ends { ends_at_slash text.now ≡ true → ends_at_slash result.now ≡ true }
@@ -87,7 +87,7 @@ fn slash_to_cut(text: &[u8]) -> Option<usize>
     }
 }
 
-/// A path cut after a segment, about an eighth of it after the cut where that can be. `None` where it is one segment.
+// A path cut after a segment, about an eighth of it after the cut where that can be. `None` where it is one segment.
 pub(crate) fn cut_eighth(text: &str) -> Option<(&str, &str)>
     requires { 8 ≤ length text.now }
     ensures { MatchOption result (lacks slash (take (length text.now - 1) text.now) ≡ true)

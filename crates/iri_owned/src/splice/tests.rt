@@ -9,7 +9,7 @@ use std::alloc::{AllocError, Global};
 use std::ops::Range;
 use std::test::Fail;
 
-// The text put together from what stands before the range, the new text and what stands behind.
+// The text put together from what comes before the range, the new text and what comes after.
 fn joined(
     alloc: Global,
     old: &str,

@@ -120,7 +120,7 @@ fn fragments(rt: HostRuntime) {
     assert_eq!(rt; i, want.len());
 }
 
-// Every pair of bytes behind a `%`.
+// Every pair of bytes after a `%`.
 #[test]
 fn all_pairs_of_digits(rt: HostRuntime) {
     let digits = b"0123456789abcdefABCDEF";

@@ -36,8 +36,12 @@ impl<'f, W: fmt::Write> TextSink for FormatSink<'f, W> {
 }
 
 impl<'f, W: fmt::Write> FormatSink<'f, W> {
-    /// Writes the text of a value. With `FormatSink::new(f)` before it, this is the body of `fmt` in the `Display` of a type that
-    /// has `Show`. It fails only where the count of pieces that the formatter refused rises.
+    /// Writes the text of a value. With `FormatSink::new(f)` before it, this is the body of `fmt` in the `Display` of a
+    /// type that has `Show`.
+    ///
+    /// # Errors
+    ///
+    /// Only where the count of pieces that the formatter refused rises.
     pub fn display<T: Show>(&mut self, value: &T) -> fmt::Result
         ensures text { OnOk result (FormatPuts W.write_str_gives self.old (T.text value.now) self.new) }
         ensures rose { OnErr result (Rose self.old.stops self.new.stops) }

@@ -3,7 +3,7 @@ ghost use Rattle.std.specs.Prelude.{◌≡◌};
 
 use std::fmt::Formatter;
 
-/// Writes what is put to a formatter.
+/// A sink that writes what it takes to a formatter.
 #[derive(Drop)]
 pub struct FormatSink<'f, W> {
     pub(crate) to: &'f mut Formatter<W>,

@@ -6,6 +6,12 @@ use std::fmt;
 use std::marker::Model;
 
 /// Owns a text, and is seen as its UTF-8 bytes.
+///
+/// ```
+/// use iri::format::Text;
+/// let text = Text::from_string(String::from_str(rt.alloc(), "rosé")?);
+/// assert_eq!(rt; text.as_str(), "rosé");
+/// ```
 #[derive(Debug, Drop)]
 pub struct Text {
     string: String,

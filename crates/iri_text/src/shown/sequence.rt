@@ -6,6 +6,18 @@ ghost use Rattle.iri_text.specs.Shown.{Shows};
 use crate::{Show, Stop, TextSink};
 
 /// Shows two values in a row.
+///
+/// # Errors
+///
+/// As those of `Show::show`: the sink stopped within the text of both.
+///
+/// ```
+/// use iri::format::{SliceSink, show_two};
+/// let mut buffer = [0; 8];
+/// let mut sink = SliceSink::new(&mut buffer);
+/// assert!(rt; show_two(&mut sink, &"port ", &80u8).is_ok());
+/// assert_eq!(rt; sink.as_str(), "port 80");
+/// ```
 pub fn show_two<A: Show, B: Show, W: TextSink>(sink: &mut W, a: &A, b: &B) -> Result<(), Stop>
     ensures { Shows W.puts W.halts W.stops sink.old (A.text a.now ++ B.text b.now) sink.new result }
 {

@@ -20,7 +20,11 @@ pub trait TextSink {
     /// How often it has stopped, up to 2^64 - 1, where the count stays. It never falls.
     ghost stops: { Self → ℕ };
 
-    /// Takes the whole piece. It answers `Stop` only where the count of stops rises, and has stopped within the piece then.
+    /// Takes the whole piece.
+    ///
+    /// # Errors
+    ///
+    /// Only where the count of stops rises; the sink has stopped within the piece then.
     fn put(&mut self, piece: &str) -> Result<(), Stop>
         ensures { Shows puts halts stops self.old piece.now self.new result };
 
@@ -28,13 +32,26 @@ pub trait TextSink {
     ghost rules: { AreSinkLaws puts halts };
 }
 
-/// What has a text.
+/// What has a text, and shows it without memory.
+///
+/// ```
+/// use iri::format::{Show, SliceSink};
+/// use iri::types::UriStr;
+/// let mut buffer = [0; 32];
+/// let mut sink = SliceSink::new(&mut buffer);
+/// assert!(rt; UriStr::new("http://a/b")?.show(&mut sink).is_ok());
+/// assert!(rt; 80u8.show(&mut sink).is_ok());
+/// assert_eq!(rt; sink.as_str(), "http://a/b80");
+/// ```
 pub trait Show {
     /// The text, as its UTF-8 bytes.
     ghost text: { Self → List ℕ };
 
-    /// Appends the text to the sink. It answers `Stop` only where the sink's count of stops rises, and the sink has stopped
-    /// within the text then.
+    /// Appends the text to the sink.
+    ///
+    /// # Errors
+    ///
+    /// Only where the sink's count of stops rises; the sink has stopped within the text then.
     fn show<W: TextSink>(&self, sink: &mut W) -> Result<(), Stop>
         ensures { Shows W.puts W.halts W.stops sink.old (text self.now) sink.new result };
 }

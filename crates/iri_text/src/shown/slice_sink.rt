@@ -72,7 +72,11 @@ impl<'b> TextSink for SliceSink<'b> {
 
     ghost rules = { record { none = slice_none; both = slice_both; until = slice_until; within = slice_within } };
 
-    /// Stops exactly where the piece is longer than the rest of the buffer, and then takes nothing of it.
+    /// Takes the piece.
+    ///
+    /// # Errors
+    ///
+    /// Exactly where the piece is longer than the rest of the slice; nothing of it is taken then.
     fn put(&mut self, piece: &str) -> Result<(), Stop>
         ensures shows { Shows SlicePuts SliceHalts (λ s. s.stops) self.old piece.now self.new result }
         ensures exact { IsErr result ↔ (self.old.room < length self.old.taken + length piece.now) }
@@ -91,7 +95,7 @@ impl<'b> TextSink for SliceSink<'b> {
     }
 }
 
-/// A text is longer than the buffer.
+/// A text has more bytes than the slice that it was to be written to.
 #[derive(Clone, Copy, Debug)]
 pub struct CapacityOverflowError;
 
@@ -105,7 +109,22 @@ impl fmt::Display for CapacityOverflowError {
 
 impl std::error::Error for CapacityOverflowError {}
 
-/// Writes the text of a value to the start of a slice, and gives it back. It refuses exactly where the text has more bytes than the slice.
+/// Writes the text of a value to the start of a slice, and gives it back. It takes no memory.
+///
+/// # Errors
+///
+/// Exactly where the text has more bytes than the slice.
+///
+/// ```
+/// use iri::format::write_to_slice;
+/// use iri::prelude::Normalize;
+/// use iri::types::UriStr;
+/// let mut buffer = [0; 27];
+/// let link = UriStr::new("eXAMPLE://a/./b/../b/%63/%7bfoo%7d")?.normalize();
+/// assert_eq!(rt; write_to_slice(&mut buffer, &link)?, "example://a/b/c/%7Bfoo%7D");
+/// let mut short = [0; 10];
+/// assert!(rt; write_to_slice(&mut short, &link).is_err());
+/// ```
 pub fn write_to_slice<'b, T: Show>(
     buf: &'b mut [u8],
     value: &T,

@@ -7,7 +7,7 @@ ghost use Rattle.iri_text.specs.Front.{IsFrontAfter};
 use crate::{Show, Stop, TextSink};
 use std::alloc::AllocError;
 
-/// A sink at the end of a string. It stops on allocation failure, and for nothing else: only where the string would have to grow.
+/// A sink at the end of a string. It stops where allocation fails, only where the string would have to grow.
 #[derive(Drop)]
 pub struct StringSink<'b> {
     dest: &'b mut String,
@@ -39,8 +39,12 @@ impl<'b> TextSink for StringSink<'b> {
 
     ghost rules = { record { none = string_none; both = string_both; until = string_until; within = string_within } };
 
-    /// Stops on allocation failure, only where the piece is longer than the room that the string has left, and then takes
-    /// nothing of it.
+    /// Takes the piece.
+    ///
+    /// # Errors
+    ///
+    /// Where allocation fails, only where the piece has more bytes than the room that the string has left; nothing of
+    /// it is taken then.
     fn put(&mut self, piece: &str) -> Result<(), Stop>
         ensures shows { Shows StringPuts StringHalts (λ s. s.stops) self.old piece.now self.new result }
         ensures nothing { OnErr result (string_taken self.new ≡ string_taken self.old) }
@@ -55,8 +59,20 @@ impl<'b> TextSink for StringSink<'b> {
     }
 }
 
-/// Appends the text of a value to a string. Allocation fails only where the string has no room for the whole text, and then
-/// the string is the old text and a prefix of the new one.
+/// Appends the text of a value to a string.
+///
+/// # Errors
+///
+/// Where allocation fails, only where the string has no room for the whole text; the string is the old text and a
+/// prefix of the new one then.
+///
+/// ```
+/// use iri::format::try_append_to_string;
+/// use iri::types::UriReferenceStr;
+/// let mut line = String::from_str(rt.alloc(), "GET ")?;
+/// try_append_to_string(&mut line, &UriReferenceStr::new("/over/there?name=ferret")?)?;
+/// assert_eq!(rt; line.as_str(), "GET /over/there?name=ferret");
+/// ```
 pub fn try_append_to_string<T: Show>(dest: &mut String, value: &T) -> Result<(), AllocError>
     ensures whole { OnOk result (string_bytes dest.new ≡ string_bytes dest.old ++ T.text value.now) }
     ensures prefix { OnErr result (IsFrontAfter (string_bytes dest.old) (T.text value.now) (string_bytes dest.new)) }

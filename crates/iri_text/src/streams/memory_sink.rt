@@ -5,7 +5,17 @@ use crate::copying::copy_to;
 use crate::{Failed, Sink};
 use std::marker::Model;
 
-/// Writes to a slice of bytes. It fails as it is told, and where a piece has no room.
+/// A sink that writes to a slice of bytes. It fails as it is told, and where a piece has no room.
+///
+/// ```
+/// use iri::streams::{MemorySink, Sink};
+/// let mut buffer = [0; 4];
+/// let mut sink = MemorySink::new(&mut buffer, &[2]);
+/// assert!(rt; sink.put_all(b"ab").is_ok());
+/// assert!(rt; sink.put_all(b"c").is_err());
+/// assert!(rt; sink.put_all(b"de").is_ok());
+/// assert_eq!(rt; sink.written(), b"abde".as_slice());
+/// ```
 #[derive(Drop)]
 pub struct MemorySink<'a> {
     buf: &'a mut [u8],
@@ -33,7 +43,7 @@ impl<'a> Model for MemorySink<'a> {
 }
 
 impl<'a> MemorySink<'a> {
-    /// Nothing is written yet, and no call is numbered. The calls whose numbers, from 1, stand in `fails` will fail.
+    /// An empty sink with no call numbered yet. The calls whose numbers, from 1, are in `fails` fail.
     pub fn new(buf: &'a mut [u8], fails: &'a [u64]) -> MemorySink<'a>
         ensures written { ⟦<MemorySink<'a> as Sink>⟧.written result ≡ Some [] }
         ensures faults { ⟦<MemorySink<'a> as Sink>⟧.faults result ≡ 0 }
@@ -71,7 +81,12 @@ impl<'a> Sink for MemorySink<'a> {
 
     ghost room_left = { room_left_of };
 
-    /// Fails exactly where the number of the call stands in `fails` or the piece is longer than the room that is left, and writes nothing then.
+    /// Writes the whole piece.
+    ///
+    /// # Errors
+    ///
+    /// Exactly where the number of the call is in `fails`, or the piece is longer than the room that is left; nothing
+    /// is written then.
     fn put_all(&mut self, piece: &[u8]) -> Result<(), Failed>
         ensures puts { PutsAll (Some self.old.written) (Some self.new.written) self.old.faults self.new.faults
             (room_left_of self.old) (room_left_of self.new) result piece.now }

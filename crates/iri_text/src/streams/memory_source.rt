@@ -5,7 +5,7 @@ ghost use Rattle.iri_text.specs.Memory.{cut_of, capped};
 use crate::{Failed, Source};
 use std::marker::Model;
 
-/// Gives the bytes of a slice in pieces, and fails as it is told.
+/// A source that gives the bytes of a slice in pieces, and fails as it is told.
 #[derive(Drop)]
 pub struct MemorySource<'a> {
     bytes: &'a [u8],
@@ -33,9 +33,9 @@ impl<'a> Model for MemorySource<'a> {
 }
 
 impl<'a> MemorySource<'a> {
-    /// All of the bytes are left, and no call is numbered yet. A call gives at most as many bytes as its number in `cuts` says,
-    /// the last one repeating; no cut may be 0, which would be the end of the source. The calls whose numbers, from 1, stand in
-    /// `fails` will fail.
+    /// All of the bytes are left, and no call is numbered yet. A call gives at most as many bytes as its number in
+    /// `cuts` says, the last one repeating. The calls whose numbers, from 1, are in `fails` fail. It has a condition:
+    /// no cut is 0, which would be the end of the source.
     pub fn new(bytes: &'a [u8], cuts: &'a [usize], fails: &'a [u64]) -> MemorySource<'a>
         requires { All (λ cut. 0 < cut) cuts.now }
         ensures left { ⟦<MemorySource<'a> as Source>⟧.left result ≡ Some bytes.now }
@@ -80,7 +80,11 @@ impl<'a> Source for MemorySource<'a> {
 
     ghost call = { IsNextCall };
 
-    /// Fails exactly where the number of the call stands in `fails`. Each failure raises the count by one, up to its last value.
+    /// Gives the next bytes.
+    ///
+    /// # Errors
+    ///
+    /// Exactly where the number of the call is in `fails`. Each failure raises the count by one, up to its last value.
     fn take(&mut self, buf: &mut [u8]) -> Result<usize, Failed>
         ensures takes { Takes (Some self.old.left) (Some self.new.left) self.old.faults self.new.faults result buf.new }
         ensures call { IsNextCall self.old self.new }

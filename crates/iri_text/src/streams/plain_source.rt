@@ -4,7 +4,7 @@ ghost use Rattle.std.specs.Prelude.{◌≡◌, Some};
 use crate::{Failed, Source};
 use std::marker::Model;
 
-/// Gives the bytes of a slice, and never fails.
+/// A source that gives the bytes of a slice, and never fails.
 #[derive(Drop)]
 pub struct PlainSource<'a> {
     bytes: &'a [u8],

@@ -5,7 +5,7 @@ use crate::{Failed, Source};
 use std::io::{ErrorKind, Read};
 use std::marker::Model;
 
-/// Takes bytes from a reader.
+/// A source that takes bytes from a reader of std.
 #[derive(Drop)]
 pub struct ReadSource<R> {
     reader: R,

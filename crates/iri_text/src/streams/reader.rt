@@ -28,8 +28,19 @@ pub enum LineFault {
     InputTooLong,
 }
 
-/// Turns a source into lines. An LF ends a line; what follows the last LF is a line where it has at least one byte. One CR
-/// directly before the LF, or before the end of the last line, isn't part of the line.
+/// Turns a source into lines. An LF ends a line; what follows the last LF is a line where it has at least one byte. One
+/// CR directly before the LF, or before the end of the last line, isn't part of the line.
+///
+/// ```
+/// use iri::streams::{LineReader, PlainSource};
+/// let mut source = PlainSource::new(b"http://a/\r\n../g");
+/// let mut reader = LineReader::new(rt.alloc(), 100, 1000)?;
+/// assert!(rt; matches!(reader.advance(&mut source), Ok(true)));
+/// assert_eq!(rt; reader.line(), b"http://a/".as_slice());
+/// assert!(rt; matches!(reader.advance(&mut source), Ok(true)));
+/// assert_eq!(rt; reader.line(), b"../g".as_slice());
+/// assert!(rt; matches!(reader.advance(&mut source), Ok(false)));
+/// ```
 #[derive(Drop)]
 pub struct LineReader {
     // What is held lies from `start` to `end`. Its first LF is the byte `lf`, counted from `start`, or `lf` is its length.
@@ -142,7 +153,7 @@ fn grow(buf: &mut Vec<u8>)
     }
 }
 
-// Makes room behind a part that lies at the end: it moves to the start, or the buffer grows. Says where the part begins.
+// Makes room after a part that lies at the end: it moves to the start, or the buffer grows. Says where the part begins.
 fn make_room(buf: &mut Vec<u8>, start: usize, end: usize) -> usize
     requires part { (start ≤ end) × (end ≤ length buf.old.items) }
     requires capacity { end - start + 65536 ≤ vec_capacity buf.old }
@@ -162,7 +173,7 @@ fn make_room(buf: &mut Vec<u8>, start: usize, end: usize) -> usize
     0
 }
 
-// Takes bytes behind a part.
+// Takes bytes after a part.
 fn fill<I: Source>(
     buf: &mut Vec<u8>,
     end: usize,
@@ -193,8 +204,12 @@ impl LineReader {
     ghost use Rattle.iri_text.specs.contracts.streams.reader.LineReader.{the_row};
     ghost use Rattle.iri_text.specs.Reader.{NextLine};
 
-    /// Takes all of the memory that it will need: `line_limit` and 65,536 bytes. Both limits are counts of bytes: a line may have at
-    /// most 1,048,576, and at least 1; the input less than 2^63. It fails on allocation failure alone.
+    /// A reader that takes all of the memory that it will need: `line_limit` and 65,536 bytes. It has conditions: both
+    /// limits are counts of bytes, for a line at least 1 and at most 1,048,576, for the input less than 2^63.
+    ///
+    /// # Errors
+    ///
+    /// Where allocation fails.
     pub fn new(alloc: Global, line_limit: usize, input_limit: u64) -> Result<LineReader, AllocError>
         requires { (0 < line_limit) × (line_limit ≤ 1048576) × (input_limit < 2 ^ 63) }
         ensures { IfOk result (λ r. (r.held ≡ []) × (r.taken ≡ 0) × (r.ended ≡ false) × (r.line_limit ≡ line_limit)
@@ -222,8 +237,22 @@ impl LineReader {
         &self.buf[self.line_start..self.line_end]
     }
 
-    /// Goes to the next line, and says whether there is one: `line` gives it. No earlier call may have answered `false` or a
-    /// fault, which `is_done` tells. Bytes are taken only while those that are held have no LF.
+    /// Goes to the next line, and says whether there is one: `line` gives it. Bytes are taken only while those that are
+    /// held have no LF. It has a condition: no earlier call answered `false` or a fault, which `is_done` tests.
+    ///
+    /// # Errors
+    ///
+    /// - `Source` only where the source's count of faults rose; what is held passes no limit and has no LF then.
+    /// - `LineTooLong` and `InputTooLong` exactly at the byte past the limit, the first of both in the order of bytes,
+    ///   and `InputTooLong` on one byte. What was taken is held.
+    ///
+    /// ```
+    /// use iri::streams::{LineFault, LineReader, PlainSource};
+    /// let mut source = PlainSource::new(b"abcd\n");
+    /// let mut reader = LineReader::new(rt.alloc(), 3, 1000)?;
+    /// assert!(rt; matches!(reader.advance(&mut source), Err(LineFault::LineTooLong)));
+    /// assert!(rt; reader.is_done());
+    /// ```
     #[inline(always)]
     pub fn advance<I: Source>(&mut self, source: &mut I) -> Result<bool, LineFault>
         requires { self.old.done ≡ false }
@@ -291,14 +320,28 @@ impl LineReader {
         self.lf < self.end - self.start
     }
 
-    /// Whether a call answered that there is no line, or a fault. No call may follow then.
+    /// Whether a call answered that there is no line, or a fault: the test of the condition of `advance` and
+    /// `next_line`.
     pub fn is_done(&self) -> bool
         ensures { result ≡ self.now.done }
     {
         self.done
     }
 
-    /// The next line, or `None` at the end. No earlier call may have answered `None` or a fault, which `is_done` tells.
+    /// The next line, or `None` at the end. It has a condition: no earlier call answered `None` or a fault, which
+    /// `is_done` tests.
+    ///
+    /// # Errors
+    ///
+    /// Those of `advance`.
+    ///
+    /// ```
+    /// use iri::streams::{LineReader, PlainSource};
+    /// let mut source = PlainSource::new(b"../g\n");
+    /// let mut reader = LineReader::new(rt.alloc(), 100, 1000)?;
+    /// let line = reader.next_line(&mut source).ok().ok_or("no fault")?;
+    /// assert_eq!(rt; line.ok_or("a line")?, b"../g".as_slice());
+    /// ```
     pub fn next_line<I: Source>(&mut self, source: &mut I) -> Result<Option<&[u8]>, LineFault>
         requires { self.old.done ≡ false }
         ensures needed { TakesAsNeeded I.call I.left self.old.held source.old source.new }

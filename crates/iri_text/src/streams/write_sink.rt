@@ -5,7 +5,7 @@ use crate::{Failed, Sink};
 use std::io::Write;
 use std::marker::Model;
 
-/// Puts bytes into a writer, which may buffer them.
+/// A sink that puts bytes into a writer of std, which may buffer them.
 #[derive(Drop)]
 pub struct WriteSink<W> {
     writer: W,
@@ -47,9 +47,12 @@ impl<W: Write> Sink for WriteSink<W> {
 
     ghost faults = { λ s. s.faults };
 
-    /// Writes until the whole piece is taken. It fails where the writer answers an error or takes nothing,
-    /// which raises the count by one, up to its last value. Where the writer tells its bytes,
-    /// it has the whole piece, or a prefix of it, behind them. An empty piece is not written at all.
+    /// Writes until the whole piece is taken. Where the writer tells its bytes, it has the whole piece, or a prefix of
+    /// it, after them. An empty piece is not written at all.
+    ///
+    /// # Errors
+    ///
+    /// Where the writer answers an error or takes nothing; the count rises by one, up to its last value.
     fn put_all(&mut self, piece: &[u8]) -> Result<(), Failed>
         ensures puts { PutsAll None None self.old.faults self.new.faults None None result piece.now }
         ensures whole { OnOk result (Appends (W.contents self.old.inner) (W.contents self.new.inner) piece.now) }
@@ -76,9 +79,13 @@ impl<W: Write> Sink for WriteSink<W> {
         Ok(())
     }
 
-    /// Flushes the writer, where bytes may be pending: at first, and where some were written since the last flush that succeeded.
-    /// Where the writer answers an error the count rises by one, up to its last value. A writer that tells its bytes keeps them.
-    /// No clause says that the writer is called, since std's contract of writers tells of no call; a test counts the calls.
+    /// Flushes the writer, where bytes may be pending: at first, and where some were written since the last flush that
+    /// succeeded. A writer that tells its bytes keeps them. No clause says that the writer is called, since std's
+    /// contract of writers tells of no call; a test counts the calls.
+    ///
+    /// # Errors
+    ///
+    /// Where the writer answers an error; the count rises by one, up to its last value.
     fn flush(&mut self) -> Result<(), Failed>
         ensures flushes { Flushes None None self.old.faults self.new.faults None None result }
         ensures kept { Keeps (W.contents self.old.inner) (W.contents self.new.inner) }
