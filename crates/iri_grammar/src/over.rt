@@ -1,4 +1,4 @@
-//! Texts over a class: characters of the class and triplets (RFC 3986 section 2.1).
+//! Texts over a class: characters of the class and percent-encoded octets (RFC 3986 section 2.1).
 ghost use Rattle.std.specs.Prelude.{◌≡◌, ◌≤◌, ◌+◌, ◌&&◌, ◌++◌, drop, length, false, true, MatchOption};
 ghost use Rattle.std.specs.List.{list_all};
 ghost use Rattle.std.specs.Str.{chars, IsUtf8};

@@ -34,7 +34,8 @@ pub struct Splitter<'a> {
     path: &'a str,
     query: Option<&'a str>,
     fragment: Option<&'a str>,
-    // 0 where path, query and fragment were found to be without triplets, otherwise 1. Behind a `bool` each copy would copy padding.
+    // 0 where path, query and fragment were found to be without percent-encoded octets, otherwise 1. After a `bool` each
+    // copy would copy padding.
     triplets: usize,
     pub ghost told: { triplets ≡ 0 → LackTriplets path.now (now_of query) (now_of fragment) } by { Prim.hlevel props },
 }
@@ -273,7 +274,7 @@ impl<'a> Splitter<'a> {
         Splitter::with_tail(scheme, authority, Tail::of(rest), false)
     }
 
-    // `bare` says that no triplet stands in path, query and fragment.
+    // `bare` says that no percent-encoded octet stands in path, query and fragment.
     fn with_tail(
         scheme: Option<&'a str>,
         authority: Option<&'a str>,

@@ -29,7 +29,7 @@ fn find_tail(bytes: &[u8]) -> Option<usize>
     memchr2(b'?', b'#', bytes)
 }
 
-// The characters of a query after a `?` at the start, the rest, and whether no triplet was found.
+// The characters of a query after a `?` at the start, the rest, and whether no percent-encoded octet was found.
 #[inline(always)]
 fn cut_query<S: Spec>(s: &str) -> (Option<&str>, &str, bool)
     ensures whole { s.now ≡ marked question_mark (now_of result.0) ++ result.1.now }
@@ -92,7 +92,8 @@ impl<'a> Tail<'a> {
         }
     }
 
-    // The parts of a text, where each is in its production, and whether no triplet was found in them: its bytes are looked at once.
+    // The parts of a text, where each is in its production, and whether no percent-encoded octet was found in them: its
+    // bytes are looked at once.
     #[inline(always)]
     pub(crate) fn look_at<S: Spec>(s: &'a str) -> Option<(Tail<'a>, bool)>
         ensures { MatchOption result (Unit {0}) (λ r. IsTail s.now r.0 × IsOverTail S.tests r.0

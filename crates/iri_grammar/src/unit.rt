@@ -1,4 +1,4 @@
-// Units of a class, its characters and triplets (RFC 3986 section 2.1), at the start of a text.
+// Units of a class, its characters and percent-encoded octets (RFC 3986 section 2.1), at the start of a text.
 ghost use Rattle.std.specs.Prelude.{◌≡◌, ◌++◌, ◌&&◌, ℕ, Bool, false, true, take, drop};
 ghost use Rattle.std.specs.Char.{is_ascii_hexdigit};
 ghost use Rattle.std.specs.Str.{IsUtf8};
@@ -31,7 +31,7 @@ fn are_hex_digits(a: u8, b: u8) -> bool
     HEX_DIGITS[usize::from(a)] & HEX_DIGITS[usize::from(b)] == b'1'
 }
 
-// Whether the bytes begin with a triplet.
+// Whether the bytes begin with a percent-encoded octet.
 #[inline(always)]
 pub(crate) fn begins_with_triplet(bytes: &[u8]) -> bool
     ensures { result ≡ begins_with_triplet bytes.now }
@@ -42,7 +42,7 @@ pub(crate) fn begins_with_triplet(bytes: &[u8]) -> bool
     }
 }
 
-// How many bytes at the start are triplets.
+// How many bytes at the start are percent-encoded octets.
 #[inline(always)]
 fn triplets_len(bytes: &[u8]) -> usize
     requires { IsUtf8 bytes.now }
@@ -105,8 +105,8 @@ fn wide_char_len<S: Spec>(class: Class, s: &str) -> usize
     }
 }
 
-// How many bytes at the start are units of one kind: ASCII characters of the class, triplets, or one character past ASCII;
-// and whether they are no triplets. 0 where no unit stands there.
+// How many bytes at the start are units of one kind: ASCII characters of the class, percent-encoded octets, or one character
+// past ASCII; and whether they are no percent-encoded octets. 0 where no unit stands there.
 #[tactic(auto, using(crate::proofs::UnitRuns::no_units))]
 #[inline(always)]
 fn same_units_len<S: Spec>(class: Class, s: &str) -> (usize, bool)
@@ -121,7 +121,7 @@ fn same_units_len<S: Spec>(class: Class, s: &str) -> (usize, bool)
     }
 }
 
-// How many bytes at the start are units of the class, and whether none of them is a triplet.
+// How many bytes at the start are units of the class, and whether none of them is a percent-encoded octet.
 #[tactic(auto, using(crate::proofs::UnitRuns::no_units))]
 #[inline(always)]
 fn units_len<S: Spec>(class: Class, s: &str) -> (usize, bool)
@@ -141,7 +141,7 @@ fn units_len<S: Spec>(class: Class, s: &str) -> (usize, bool)
     }
 }
 
-// The longest start of whole units of the class, what follows it, and whether no triplet stands in the first.
+// The longest start of whole units of the class, what follows it, and whether no percent-encoded octet stands in the first.
 #[inline(always)]
 pub(crate) fn cut_units<S: Spec>(class: Class, s: &str) -> (&str, &str, bool)
     ensures whole { s.now ≡ result.0.now ++ result.1.now }

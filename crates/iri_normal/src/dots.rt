@@ -127,8 +127,8 @@ fn has_dots_in(path: &[u8], i: usize) -> bool
     !are_plain(path, i) && has_dots_near(path, i)
 }
 
-// Whether a dot segment stands after a slash. Places are looked at by eight, and the last ones perhaps twice: by twos, triplets cost
-// two instructions a byte more.
+// Whether a dot segment stands after a slash. Places are looked at by eight, and the last ones perhaps twice: by twos,
+// percent-encoded octets cost two instructions a byte more.
 fn has_dots_after_slash(path: &[u8]) -> bool
     requires { 9 ≤ length path.now }
     ensures none { result ≡ false → (k : ℕ) → k + 1 < length path.now → slash_and_dots (drop k path.now) ≡ false }

@@ -35,7 +35,7 @@ use iri_text::{Show, Stop, TextSink};
 mod output_buffer;
 mod segments;
 
-/// A part, its triplets in normal form where that is asked for.
+/// A part, its percent-encoded octets in normal form where that is asked for.
 pub fn show_part<S: Spec, W: TextSink>(sink: &mut W, part: &str, normal: bool) -> Result<(), Stop>
     requires { whole_triplets part.now ≡ true }
     ensures { Shows W.puts W.halts W.stops sink.old (in_form S.tests normal part.now) sink.new result }

@@ -22,7 +22,7 @@ pub(crate) struct Before<'a> {
     pub front: &'a str,
 }
 
-// Whether a text has no triplet, and a path of it no dot segment.
+// Whether a text has no percent-encoded octet, and a path of it no dot segment.
 pub(crate) fn lacks_triplets_and_dots(text: &str, path: &str) -> bool
     ensures { result ≡ lacks_triplets_and_dots text.now path.now }
 {

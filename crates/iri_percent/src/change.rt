@@ -1,4 +1,5 @@
-// What a change of a text writes: a letter in lower case, a decoded character, or a triplet of capital digits.
+// What a change of a text writes: a letter in lower case, a decoded character, or a percent-encoded octet with capital
+// digits.
 ghost use Rattle.std.specs.Prelude.{◌≡◌, ◌<◌, ◌≤◌, ◌+◌, ◌∷◌, ◌++◌, ◌&&◌, ◌==◌, not, [], true, false, cond, drop, length, slice_index, take};
 ghost use Rattle.std.specs.Char.{is_ascii_hexdigit, encode_utf8};
 ghost use Rattle.std.specs.Str.{IsUtf8};
@@ -107,7 +108,8 @@ fn len_of(decodes: bool) -> usize
     if decodes { 1 } else { 3 }
 }
 
-// An octet alone: three bytes are written in either case, and counted where the triplet stays. So no branch depends on the octet.
+// An octet alone: three bytes are written in either case, and counted where the percent-encoded octet stays. So no branch
+// depends on the octet.
 #[inline(always)]
 fn write_octet(octet: u8, high: u8, low: u8, lower: bool, buf: &mut [u8; 64], at: usize) -> usize
     requires { (is_ascii_hexdigit high ≡ true) × (is_ascii_hexdigit low ≡ true) × (at ≤ 60) }

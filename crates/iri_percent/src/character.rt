@@ -1,4 +1,4 @@
-//! Characters in triplets.
+//! Percent-encoded characters.
 ghost use Rattle.std.specs.Prelude.{◌≡◌, ◌≤◌, ◌<◌, ◌∷◌};
 ghost use Rattle.iri_percent.specs.Units.{octets, first_char};
 ghost use Rattle.iri_percent.specs.NormalLaws.{decoded};
@@ -51,7 +51,7 @@ fn char_of_four(lead: u8, rest: &[u8]) -> Option<char>
     )
 }
 
-// The character with whose UTF-8 this octet and those of the triplets after it begin (RFC 3629 section 3). It has no
+// The character with whose UTF-8 this octet and the percent-encoded ones after it begin (RFC 3629 section 3). It has no
 // loop, so that the compiler leaves it out where a grammar takes no character past ASCII.
 #[inline(always)]
 fn front_char(lead: u8, rest: &[u8]) -> Option<char>
@@ -66,7 +66,7 @@ fn front_char(lead: u8, rest: &[u8]) -> Option<char>
     }
 }
 
-/// The character in triplets with which the text begins.
+/// The percent-encoded character with which the text begins.
 pub fn triplets_char(text: &[u8]) -> Option<char>
     ensures { result ≡ first_char (octets text.now) }
 {
@@ -87,7 +87,7 @@ pub(crate) fn char_past_ascii<S: Spec>(lead: u8, rest: &[u8]) -> Option<char>
     }
 }
 
-/// The unreserved character in triplets with which the text begins.
+/// The unreserved percent-encoded character with which the text begins.
 pub fn decoded_char<S: Spec>(text: &[u8]) -> Option<char>
     ensures { result ≡ decoded S.tests (octets text.now) }
 {

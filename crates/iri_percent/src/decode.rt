@@ -1,4 +1,4 @@
-// Decoding of triplets (the URL Standard, section 1.3, "percent-decode").
+// Percent-decoding (the URL Standard, section 1.3, "percent-decode").
 ghost use Rattle.std.specs.Prelude.{◌≡◌, ◌<◌, ◌++◌, length, true, false, IfOk, IfSome, MatchOption, MatchResult, OnErr, OnOk};
 ghost use Rattle.std.specs.Prelude.{string_bytes};
 ghost use Rattle.iri_percent.specs.Decoding.{decoding, has_triplet, fragments, fragment_bytes};

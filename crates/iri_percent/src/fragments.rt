@@ -13,7 +13,7 @@ use memchr::memchr;
 pub enum DecodedFragment<'a> {
     /// A run of bytes without `%`, as long as it can be.
     Direct(&'a [u8]),
-    /// The byte that a triplet gives.
+    /// The byte that a percent-encoded octet gives.
     DecodedByte(u8),
     /// A `%` that no two hex digits follow. It stands for itself.
     StrayPercent,

@@ -13,9 +13,8 @@ use std::alloc::AllocError;
 use std::fmt;
 use std::marker::PhantomData;
 
-/// A host that shows itself in normal form (RFC 3986 section 6.2.2.1): where every character of it and the octet of
-/// every triplet is ASCII, triplet normal form with the letters outside triplets in lower case; otherwise triplet
-/// normal form.
+/// A host that shows itself in normal form (RFC 3986 section 6.2.2.1): where every character of it and every octet that is
+/// percent-encoded is ASCII, triplet normal form with the other letters in lower case; otherwise triplet normal form.
 ///
 /// ```
 /// use iri::format::ToStringFallible;
@@ -55,7 +54,7 @@ impl<'a, S: Spec> NormalizedHost<'a, S> {
     }
 }
 
-// Whether the octet of the triplet of these digits is ASCII.
+// Whether the octet of these hex digits is ASCII.
 fn is_low(digits: &[u8]) -> bool
     requires { two_digits digits.now ≡ true }
     ensures { result ≡ octet_below_128 digits.now }
@@ -63,7 +62,7 @@ fn is_low(digits: &[u8]) -> bool
     digits[0] < b'8'
 }
 
-// Whether the first byte is ASCII, and so is the octet of a triplet that it begins.
+// Whether the first byte is ASCII, and so is the octet where it begins a percent-encoded one.
 fn is_ascii_front(first: u8, tail: &[u8]) -> bool
     requires { whole_triplets (first ∷ tail.now) ≡ true }
     ensures { result ≡ (nat_lt first 128 && cond (first == percent_sign) (octet_below_128 tail.now) true) }
@@ -71,7 +70,8 @@ fn is_ascii_front(first: u8, tail: &[u8]) -> bool
     first < 128 && (first != b'%' || is_low(tail))
 }
 
-/// Whether each byte of the host is ASCII, and so is the octet of each triplet. Each `%` of it begins a triplet.
+/// Whether each byte of the host is ASCII, and so is each octet that is percent-encoded. It has a condition: two hex digits
+/// follow each `%`, as `validate::host` tests.
 pub fn is_ascii_host(host: &[u8]) -> bool
     requires { whole_triplets host.now ≡ true }
     ensures { result ≡ is_ascii_host host.now }
@@ -132,7 +132,8 @@ fn is_plain_byte_by_byte(text: &[u8]) -> bool
     text.iter().all(|b| is_plain_byte(*b))
 }
 
-/// Whether the text is ASCII without a triplet and a capital letter: as a host or a scheme it is in normal form as it stands.
+/// Whether the text is ASCII without a percent-encoded octet and a capital letter: as a host or a scheme it is in normal
+/// form as it stands.
 pub fn is_plain(text: &[u8]) -> bool
     ensures { result ≡ list_all is_plain_byte text.now }
 {

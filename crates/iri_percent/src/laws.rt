@@ -29,14 +29,15 @@ pub fn units_of_texts()
         → (first_char os ≡ Some c) ↔ (IsScalar c × ((rest : List ℕ) × (os ≡ encode_utf8 c ++ rest))) }
 {}
 
-/// A text has whole triplets exactly where none of its units is a stray `%`, read character by character or byte by byte.
+/// Two hex digits follow each `%` of a text exactly where none of its units is a stray `%`, read character by character or
+/// byte by byte.
 pub fn whole_triplets_have_no_stray_percent()
     ensures characters { (t : List ℕ) → (whole_triplets t ≡ true) ↔ All (λ u. u ≢ TextUnit.Stray) (char_units t) }
     ensures bytes { (t : List ℕ) → (whole_triplets t ≡ true) ↔ All (λ u. u ≢ TextUnit.Stray) (units t) }
 {}
 
-/// The units of a text, read character by character, put together are the text. They are those of its characters; and
-/// where each character outside triplets gives way to the bytes of its UTF-8, they are the units of its bytes. So its
+/// The units of a text, read character by character, put together are the text. They are those of its characters; and where
+/// each character that isn't percent-encoded gives way to the bytes of its UTF-8, they are the units of its bytes. So its
 /// triplet normal form can be read byte by byte too.
 pub fn units_of_characters<S: Spec>()
     ensures whole { (t : List ℕ) → flat_map char_unit_text (char_units t) ≡ t }
@@ -51,7 +52,7 @@ pub fn triplet_form_is_stable<S: Spec>()
     ensures stable { (t : List ℕ) → whole_triplets t ≡ true → pct S.tests (pct S.tests t) ≡ pct S.tests t }
 {}
 
-/// No decoding makes a new character in triplets: the units of the triplet normal form are those of the text, each in
+/// No decoding makes a new percent-encoded character: the units of the triplet normal form are those of the text, each in
 /// normal form.
 pub fn decoding_makes_no_new_character<S: Spec>()
     ensures characters { (t : List ℕ) → IsUtf8 t → whole_triplets t ≡ true
@@ -105,7 +106,8 @@ pub fn mapped_texts_are_uris<S: Spec>()
     ensures parts { (t : List ℕ) → IsReference S.tests t → split_of (mapped t) ≡ mapped_parts (split_of t) }
 {}
 
-/// The fragments of a text, joined, are what it decodes to. A text decodes to itself exactly where it has no triplet.
+/// The fragments of a text, joined, are what it decodes to. A text decodes to itself exactly where it has no percent-encoded
+/// octet.
 pub fn decoding_of_texts()
     ensures joined { (t : List ℕ) → flat_map fragment_bytes (fragments t) ≡ decoding t }
     ensures same { (t : List ℕ) → (decoding t ≡ t) ↔ (has_triplet t ≡ false) }

@@ -1,5 +1,5 @@
-//! Triplets: normal forms, encoding, decoding, and the mapping of IRIs to URIs (RFC 3986 sections 2.1 and 6.2.2, RFC 3987
-//! section 3.1, the URL Standard, section 1.3).
+//! Percent-encoded octets: normal forms, encoding, decoding, and the mapping of IRIs to URIs (RFC 3986 sections 2.1 and
+//! 6.2.2, RFC 3987 section 3.1, the URL Standard, section 1.3).
 //!
 //! [`PercentEncoded`] shows a raw value encoded for its place in a reference. [`PctCaseNormalized`], [`NormalizedHost`] and
 //! [`NormalizedAuthority`] show a part, a host and an authority in normal form; [`CanonMode`] says whether a scheme's default port goes
@@ -7,9 +7,9 @@
 //! [`MappedToUri`] shows a view mapped to a URI; [`ToUri`] and [`IntoUri`] have the calls on views and owned texts of IRIs.
 //! `laws` has what holds of all texts.
 //!
-//! Proved: each shows exactly its definition, and takes no memory. A triplet is decoded, a stray `%` stays, and the fragments,
-//! joined, are the decoded bytes. A mapped text is a text of the same kind of URIs; a text that couldn't be mapped after
-//! an allocation failure is left as it was or handed back.
+//! Proved: each shows exactly its definition, and takes no memory. A percent-encoded octet is decoded, a stray `%` stays,
+//! and the fragments, joined, are the decoded bytes. A mapped text is a text of the same kind of URIs; a text that couldn't
+//! be mapped after an allocation failure is left as it was or handed back.
 //!
 //! Not proved: the words of `DecodeTextError`'s `Display`, which `thiserror` makes; that memory is allocated, which tests show.
 #![tactic(auto)]

@@ -102,7 +102,8 @@ fn has_next(text: &[u8], at: usize, lower: bool, written: usize) -> bool
     written <= 60 && at < text.len() && is_mark(text[at], lower)
 }
 
-// Gathers what is written from the first change on, up to a byte that stays or a full buffer: triplets that are in normal form too.
+// Gathers what is written from the first change on, up to a byte that stays or a full buffer: percent-encoded octets that
+// are in normal form too.
 #[inline(always)]
 fn gather_in<S: Spec>(text: &[u8], at: usize, lower: bool, buf: &mut [u8; 64]) -> Run
     requires { (whole_triplets text.now ≡ true) × FirstMark S.tests lower text.now at }
@@ -151,7 +152,7 @@ fn put_run<W: TextSink>(sink: &mut W, run: &str) -> Result<(), Stop>
     sink.put(run)
 }
 
-// Writes a text in triplet normal form, and where it is asked for, its letters outside triplets in lower case.
+// Writes a text in triplet normal form, and where it is asked for, its letters outside percent-encoded octets in lower case.
 #[inline(always)]
 pub(crate) fn show_normal<S: Spec, W: TextSink>(
     text: &str,

@@ -1,4 +1,4 @@
-// Octets in triplets.
+// Percent-encoded octets.
 ghost use Rattle.std.specs.Prelude.{◌≡◌, ◌<◌, ◌+◌, ◌∷◌, [], true, false, ◌&&◌, MatchOption, drop};
 ghost use Rattle.std.specs.Char.{is_ascii_hexdigit, digit_value, to_ascii_uppercase};
 ghost use Rattle.iri_percent.specs.Units.{octet, octets};
@@ -70,7 +70,7 @@ fn octet(high: u8, low: u8) -> Option<u8>
     Some(high * 16 + low)
 }
 
-// The octet of the triplet with which the text begins, and the rest.
+// The value of the percent-encoded octet with which the text begins, and the rest.
 pub(crate) fn split_octet(text: &[u8]) -> Option<(u8, &[u8])>
     ensures { MatchOption result (octets text.now ≡ [])
         (λ r. (octets text.now ≡ r.0 ∷ octets r.1.now) × (r.1.now ≡ drop 3 text.now)) }
@@ -81,7 +81,7 @@ pub(crate) fn split_octet(text: &[u8]) -> Option<(u8, &[u8])>
     }
 }
 
-// The octet of the triplet with which the text begins.
+// The value of the percent-encoded octet with which the text begins.
 pub(crate) fn first_octet(text: &[u8]) -> Option<u8>
     ensures { MatchOption result (octets text.now ≡ []) (λ o. octets text.now ≡ o ∷ octets (drop 3 text.now)) }
 {
@@ -89,7 +89,8 @@ pub(crate) fn first_octet(text: &[u8]) -> Option<u8>
     Some(octet)
 }
 
-// The six bits of an octet that continues a character, where the text begins with such a triplet, and the rest.
+// The six bits of an octet that continues a character, where the text begins with such a percent-encoded octet, and the
+// rest.
 pub(crate) fn split_bits(text: &[u8]) -> Option<(u32, &[u8])>
     ensures { MatchOption result (goes_on (octets text.now) ≡ false)
         (λ r. (octets text.now ≡ (128 + r.0) ∷ octets r.1.now) × (r.0 < 64)) }

@@ -1,4 +1,4 @@
-// Octets spelled as triplets (RFC 3986 section 2.1).
+// Octets percent-encoded (RFC 3986 section 2.1).
 ghost use Rattle.std.specs.Prelude.{◌≡◌, ◌≤◌, ◌<◌, ◌*◌, ◌∷◌, [], take, length};
 ghost use Rattle.iri_text.specs.Shown.{Shows};
 ghost use Rattle.iri_percent.specs.Mapping.{capital_hex, triplets};
@@ -63,7 +63,7 @@ fn put_some<W: TextSink>(sink: &mut W, octets: &[u8]) -> Result<(), Stop>
     put_few(sink, octets)
 }
 
-// Writes the triplets of octets, with capital hex digits.
+// Writes octets percent-encoded, with capital hex digits.
 pub(crate) fn put_triplets<W: TextSink>(sink: &mut W, octets: &[u8]) -> Result<(), Stop>
     ensures { Shows W.puts W.halts W.stops sink.old (triplets octets.now) sink.new result }
 {

@@ -126,7 +126,7 @@ fn ill_formed_sequences(rt: HostRuntime) {
 
 const UNRESERVED: &[u8] = b"ABCDEFGHIJKLMNOPQRSTUVWXYZabcdefghijklmnopqrstuvwxyz0123456789-._~";
 
-// Of all triplets those of unreserved characters are decoded (RFC 3986 section 2.3).
+// Of all percent-encoded octets those of unreserved characters are decoded (RFC 3986 section 2.3).
 #[test]
 fn all_triplets(rt: HostRuntime) {
     let small = b"0123456789abcdef";
@@ -158,7 +158,7 @@ fn all_triplets(rt: HostRuntime) {
     }
 }
 
-// Rows of triplets of all lengths, also such as are put in several pieces.
+// Rows of percent-encoded octets of all lengths, also such as are put in several pieces.
 #[test]
 fn long_rows(rt: HostRuntime) -> Result<(), Fail> {
     let mut text = String::new(rt.alloc());

@@ -64,7 +64,7 @@ fn strings(rt: HostRuntime) -> Result<(), Fail> {
     // Where there is nothing to decode no memory is wanted.
     let empty = decode_whatwg_bytes(b"").into_string(rt.alloc());
     assert_eq!(rt; empty.ok().ok_or("refused")?.as_str(), "");
-    // A character whose octets stand both raw and in triplets.
+    // A character whose octets stand both raw and percent-encoded.
     let mixed = decode_whatwg_bytes(b"\xCE%B1").into_string(rt.alloc())?;
     assert_eq!(rt; mixed.as_str(), "\u{3b1}");
     Ok(())

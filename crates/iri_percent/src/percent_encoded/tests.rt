@@ -37,7 +37,7 @@ fn shown<'b, S: Spec>(buf: &'b mut [u8], place: usize, raw: &str) -> &'b str {
     write_to_slice(buf, &encoder::<S>(place, raw)).unwrap_or("no room")
 }
 
-// Whether these are the triplets of the octets, with capital hex digits.
+// Whether these are the percent-encoded octets of the octets, with capital hex digits.
 fn is_spelled(text: &[u8], octets: &[u8]) -> bool {
     let digits = b"0123456789ABCDEF";
     for (triplet, octet) in text.chunks(3).zip(octets) {
@@ -51,7 +51,7 @@ fn is_spelled(text: &[u8], octets: &[u8]) -> bool {
     text.len() / 3 == octets.len() && text.len() % 3 == 0
 }
 
-// Whether a character stands as it is, where that is wanted, or is in triplets.
+// Whether a character stands as it is, where that is wanted, or is percent-encoded.
 fn is_encoded<S: Spec>(place: usize, c: char, kept: bool) -> bool {
     let mut raw = [0u8; 4];
     let raw: &str = c.encode_utf8(&mut raw);
