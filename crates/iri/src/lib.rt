@@ -13,6 +13,16 @@
 //!   [`docs`] expands template documents in JSON.
 //! - [`format`](mod@format) shows values to sinks, [`streams`] reads lines and writes bytes.
 //! - [`prelude`] has the traits whose methods these give: `use iri::prelude::*;`.
+//!
+//! Each example in the docs is the body of a test: `rt` is its runtime, and its first error ends it.
+//!
+//! ```
+//! use iri::prelude::*;
+//! use iri::types::{UriAbsoluteStr, UriReferenceStr};
+//! let page = UriAbsoluteStr::new("http://a/b/c/d;p?q")?;
+//! let target = UriReferenceStr::new("../%67")?.resolve_against(page).and_normalize();
+//! assert_eq!(rt; target.try_to_string(rt.alloc())?.as_str(), "http://a/b/g");
+//! ```
 #![tactic(auto)]
 
 pub mod build;

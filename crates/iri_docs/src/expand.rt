@@ -69,9 +69,23 @@ fn canonicalize<S: Spec>(
 /// The canonical text (RFC 3986 sections 5.2 and 6.2.2) of the expansion of a document's template with its values (RFC
 /// 6570 section 3), against a base. `S` is the spec of the expansion and of the base.
 ///
-/// It is refused by the first that holds: `Template`, where the text is no template, or a varspec with a length has a
-/// list or an associative array that isn't empty; `TooLong`, where the expansion has more than [`EXPANSION_LIMIT`]
-/// bytes; `Invalid`, where it is no reference. `Memory` may come at any place, and says nothing of the document.
+/// # Errors
+///
+/// The first of these:
+///
+/// - `Template` where the text is no template, or a varspec with a length has a list or an associative array that isn't
+///   empty.
+/// - `TooLong` where the expansion has more than [`EXPANSION_LIMIT`] bytes.
+/// - `Invalid` where it is no reference.
+/// - `Memory` where allocation fails, which may come at any place, and says nothing of the document.
+///
+/// ```
+/// use iri::docs::{expand_document, read_document};
+/// use iri::types::UriAbsoluteStr;
+/// let page = UriAbsoluteStr::new("http://a/")?;
+/// let document = read_document(rt.alloc(), b"{\"template\":\"x{?q}\",\"vars\":{\"q\":7}}")?;
+/// assert_eq!(rt; expand_document(rt.alloc(), page, &document)?.as_str(), "http://a/x?q=7");
+/// ```
 pub fn expand_document<S: Spec>(
     alloc: Global,
     base: RiAbsoluteStr<'_, S>,

@@ -52,8 +52,13 @@ fn read_vars(alloc: Global, vars: Option<&Json>) -> Result<SimpleContext, DocErr
 /// The document that a value of JSON is: an object with a string as its member `template`, maybe an object as its
 /// member `vars`, and no other member. `vars` has the values of variables, as [`read_variables`] reads them.
 ///
-/// The first fault is told: `Shape`, or that of the first member of `vars` that has one. `Memory` may come at any
-/// place, and says nothing of the value.
+/// # Errors
+///
+/// The first of these:
+///
+/// - `Shape` exactly where the value isn't such an object.
+/// - The fault of the first member of `vars` that has one.
+/// - `Memory` where allocation fails, which may come at any place, and says nothing of the value.
 pub fn document_of(alloc: Global, value: &Json) -> Result<Document, DocError>
     ensures { AnswersBut DocError.Memory held result (document (view value.now)) }
 {
@@ -74,8 +79,18 @@ pub fn document_of(alloc: Global, value: &Json) -> Result<Document, DocError>
 /// The document of a line, which is one value of JSON, as [`document_of`] has it. The line is as `serde_json` reads it:
 /// an object has its members in the order of their keys' bytes, and the last value of a key stays.
 ///
-/// The first fault is told, in the order of [`DocError`]'s kinds: that of the line, then that of its value. `Memory`
-/// may come at any place, and says nothing of the line.
+/// # Errors
+///
+/// The first fault, in the order of [`DocError`]'s kinds: `Json`, then those of `document_of`. `Memory` may come at any
+/// place, and says nothing of the line.
+///
+/// ```
+/// use iri::docs::read_document;
+/// let line = b"{\"template\":\"x{?q}\",\"vars\":{\"q\":7}}";
+/// let document = read_document(rt.alloc(), line)?;
+/// assert_eq!(rt; document.template(), "x{?q}");
+/// assert!(rt; read_document(rt.alloc(), b"x{?q}").is_err());
+/// ```
 pub fn read_document(alloc: Global, line: &[u8]) -> Result<Document, DocError>
     ensures { AnswersBut DocError.Memory held result (line_document line.now) }
 {

@@ -87,9 +87,15 @@ fn read_pairs(alloc: Global, object: &Map<String, Json>) -> Result<PairList, Doc
 /// decimal, null no value; an array of strings and whole numbers is a list, an object of them an associative array, in
 /// the order in which the map has its members.
 ///
-/// The first fault from the left is told: `Truth`, `Float`, or `Nested`, where a null, an array or an object stands in
-/// an array or an object. A float is what `serde_json` holds as one: `1.0`, `1e2`, `-0`, and a whole number below -2^63
-/// or above 2^64 - 1. `Memory` may come at any place, and says nothing of the value.
+/// # Errors
+///
+/// The first fault from the left:
+///
+/// - `Truth` for a truth value.
+/// - `Float` for what `serde_json` holds as a float: `1.0`, `1e2`, `-0`, and a whole number below -2^63 or above 2^64 -
+///   1.
+/// - `Nested` for a null, an array or an object in an array or an object.
+/// - `Memory` where allocation fails, which may come at any place, and says nothing of the value.
 pub fn read_value(alloc: Global, value: &Json) -> Result<Value, DocError>
     ensures { AnswersBut DocError.Memory shown_value result (value_of (view value.now)) }
 {

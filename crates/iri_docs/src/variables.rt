@@ -17,8 +17,12 @@ use iri_template::var_name::VarName;
 use serde_json::{Map, Value as Json};
 use std::alloc::Global;
 
-/// A variable of a key and its value, as [`read_value`] reads it. A key that is no variable's name (RFC 6570 section
-/// 2.3) is told by `Name`, before its value is looked at.
+/// A variable of a key and its value, as [`read_value`] reads it.
+///
+/// # Errors
+///
+/// `Name` exactly where the key is no variable's name (RFC 6570 section 2.3), before its value is looked at; then those
+/// of `read_value`.
 pub fn read_variable(alloc: Global, key: &str, value: &Json) -> Result<(String, Value), DocError>
     ensures { AnswersBut DocError.Memory entry_of result (variable key.now (view value.now)) }
 {
@@ -42,8 +46,11 @@ fn insert(context: &mut SimpleContext, name: String, value: Value) -> Result<(),
     }
 }
 
-/// The values of an object's members by their keys, each as [`read_variable`] reads it. The fault of the first member
-/// that has one is told, in the order in which the map has its members.
+/// The values of an object's members by their keys, each as [`read_variable`] reads it.
+///
+/// # Errors
+///
+/// That of the first member that has one, in the order in which the map has its members.
 pub fn read_variables(alloc: Global, object: &Map<String, Json>) -> Result<SimpleContext, DocError>
     ensures { AnswersBut DocError.Memory value_in result
         (result_map value_by_name (variables (members_view object.now.entries))) }

@@ -10,18 +10,18 @@ use std::fmt;
 pub enum LinkKind {
     /// Bytes that are no UTF-8. Their place is the length of the longest prefix that is.
     NotUtf8,
-    /// A link-value that doesn't begin with `<`, told at its first byte.
+    /// A link-value that doesn't begin with `<`; its place is its first byte.
     NoTarget,
-    /// A target without `>`, told at its `<`.
+    /// A target without `>`; its place is its `<`.
     OpenTarget,
-    /// A target that is no URI-reference (RFC 3986 section 4.1), with its first fault, told behind its `<`.
+    /// A target that is no URI-reference (RFC 3986 section 4.1), with its first fault; its place is after its `<`.
     BadTarget(TargetError),
-    /// Behind a target or a parameter and blanks, a byte that is neither `;` nor `,`; or behind a `;` and blanks, one
-    /// that begins no token either. Told at that byte.
+    /// After a target or a parameter and blanks, a byte that is neither `;` nor `,`; or after a `;` and blanks, one
+    /// that begins no token either. Its place is that byte.
     NoParam,
-    /// Neither a token nor a quoted string behind a `=` and blanks, told there.
+    /// Neither a token nor a quoted string after a `=` and blanks, which is its place.
     NoValue,
-    /// A quoted string that doesn't end, told at its first mark.
+    /// A quoted string that doesn't end; its place is its first `"`.
     OpenString,
 }
 

@@ -18,7 +18,7 @@
 //! Bytes have no fault exactly where they are such a field value; the written form of a set has exactly its
 //! link-values, against every base.
 //!
-//! Not proved: that memory is allocated, so that a `read_links` that answered `Memory` to each text with a target behind
+//! Not proved: that memory is allocated, so that a `read_links` that answered `Memory` to each text with a target after
 //! blanks and commas, and to no other, would keep its contract; tests show that it succeeds with ample memory, and that
 //! a `Display` does. The text of `Debug`. Not proved, and not tested: how long a call takes.
 #![tactic(auto)]

@@ -24,14 +24,14 @@ use iri_types::kind::Reference;
 use iri_types::split::SplitView;
 use std::alloc::{AllocError, Global};
 
-/// A link-value, its target in canonical form.
+// A link-value, its target in canonical form.
 #[derive(Debug, Drop)]
 pub(crate) struct Link {
     pub(crate) target: String,
     pub(crate) params: Vec<Param>,
 }
 
-// The target that stands behind a `<`, and what follows its `>`.
+// The target that comes after a `<`, and what follows its `>`.
 fn cut_target<'a, S: Spec>(
     whole: &'a str,
     s: &'a str,
@@ -65,7 +65,7 @@ fn canonical_target<'a, S: Spec>(
         .try_to_string(alloc)
 }
 
-// A link-value and what follows it and blanks: nothing, or a comma. `s` stands behind its `<`.
+// A link-value and what follows it and blanks: nothing, or a comma. `s` comes after its `<`.
 fn read_link<'a, S: Spec>(
     alloc: Global,
     resolver: &FixedBaseResolver<'a, S>,
@@ -133,7 +133,7 @@ fn push_link<'a, S: Spec>(
     }
 }
 
-/// The link-values of a text.
+// The link-values of a text.
 pub(crate) fn read_text<'a, S: Spec>(
     alloc: Global,
     resolver: &FixedBaseResolver<'a, S>,

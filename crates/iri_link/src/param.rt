@@ -15,14 +15,14 @@ use crate::runs::{Run, begins_token, cut_run, past};
 use crate::value::read_value;
 use std::alloc::Global;
 
-/// A parameter: its name in lower case, and its value where it has one.
+// A parameter: its name in lower case, and its value where it has one.
 #[derive(Debug, Drop)]
 pub(crate) struct Param {
     pub(crate) name: String,
     pub(crate) value: Option<String>,
 }
 
-// What follows a `=` and the blanks round it, where it stands behind a name.
+// What follows a `=` and the blanks round it, where it comes after a name.
 fn past_equals(s: &str) -> Option<&str>
     ensures { MatchOption result ((t : Tests) → fault_from t behind_name s.now ≡ fault_from t behind_param s.now)
         (λ r. ReadsEquals s.now r.now) }
@@ -62,7 +62,7 @@ fn read_param<'a>(alloc: Global, s: &'a str) -> Result<(Param, &'a str), Halt<'a
     }
 }
 
-// The parameter that may stand behind a `;` and blanks, put at the end, and what follows it.
+// The parameter that may come after a `;` and blanks, put at the end, and what follows it.
 fn push_param<'a>(alloc: Global, params: &mut Vec<Param>, s: &'a str) -> Result<&'a str, Halt<'a>>
     requires { begins is_blank s.now ≡ false }
     ensures { MatchResult result
@@ -91,7 +91,7 @@ fn ends_link(s: &str) -> bool
     }
 }
 
-/// The parameters of a link-value, and what follows them and blanks: nothing, or a comma.
+// The parameters of a link-value, and what follows them and blanks: nothing, or a comma.
 pub(crate) fn read_params<'a>(alloc: Global, s: &'a str) -> Result<(Vec<Param>, &'a str), Halt<'a>>
     ensures { MatchResult result (λ r. ReadsParams s.now r.1.now (map param_of r.0.items))
         (λ e. (t : Tests) → HaltsAt e (fault_from t behind_param s.now)) }

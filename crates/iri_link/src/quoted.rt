@@ -15,14 +15,14 @@ fn is_pair_char(b: u8) -> bool
     b == b'\t' || (32..=126).contains(&b) || b > 127
 }
 
-// Whether the byte is the mark, and no `\` stands before it.
+// Whether the byte is the delimiter, and no `\` comes before it.
 fn stands_free(escaped: bool, b: u8, mark: u8) -> bool
     ensures { result ≡ (not escaped && b == mark) }
 {
     !escaped && b == mark
 }
 
-// Where the mark stands that ends a quoted string, behind its first mark.
+// Where the `"` is that ends a quoted string, after its first one.
 fn find_end(bytes: &[u8]) -> Option<usize>
     ensures { MatchOption result (closes_from false bytes.now ≡ false)
         (λ n. (closes_from false bytes.now ≡ true) × (n ≡ quoted_len false bytes.now)) }
@@ -40,7 +40,7 @@ fn find_end(bytes: &[u8]) -> Option<usize>
     None
 }
 
-/// What stands between the marks of a quoted string, and what follows it, behind its first mark.
+// What is between the two `"` of a quoted string, and what follows it, after the first one.
 pub(crate) fn cut_quoted(s: &str) -> Option<(&str, &str)>
     ensures { MatchOption result (closes_from false s.now ≡ false) (λ r. IsCutQuoted s.now r.0.now r.1.now) }
 {
@@ -50,7 +50,7 @@ pub(crate) fn cut_quoted(s: &str) -> Option<(&str, &str)>
     }
 }
 
-/// The value of a quoted string, from what stands between its marks.
+// The value of a quoted string, from what is between its two `"`.
 pub(crate) fn unquote(alloc: Global, raw: &str) -> Result<String, AllocError>
     ensures { IfOk result (λ v. string_bytes v ≡ unquoted raw.now) }
 {

@@ -4,12 +4,12 @@ ghost use Rattle.iri_grammar.specs.Runs.{run_of};
 ghost use Rattle.iri_link.specs.Token.{is_token_char};
 ghost use Rattle.iri_link.specs.inside.Runs.{run_test, begins, IsRun};
 
-/// What a run is of.
+// What a run is of.
 #[derive(Clone, Copy)]
 pub(crate) enum Run {
-    /// Spaces and tabs.
+    // Spaces and tabs.
     Blank,
-    /// Characters of a token.
+    // Characters of a token.
     Token,
 }
 
@@ -55,14 +55,14 @@ fn run_len(run: Run, bytes: &[u8]) -> usize
     bytes.len()
 }
 
-/// The run at the start, and what follows it.
+// The run at the start, and what follows it.
 pub(crate) fn cut_run(run: Run, s: &str) -> (&str, &str)
     ensures { IsRun (run_test run) s.now result.0.now result.1.now }
 {
     s.split_at(run_len(run, s.as_bytes()))
 }
 
-// Whether the mark comes first.
+// Whether the delimiter comes first.
 fn begins_with(bytes: &[u8], mark: u8) -> bool
     ensures { result ≡ begins (λ c. c == mark) bytes.now }
 {
@@ -72,7 +72,7 @@ fn begins_with(bytes: &[u8], mark: u8) -> bool
     }
 }
 
-/// What follows the mark at the start, where it stands there. The mark must be ASCII.
+// What follows the delimiter at the start, where it is there. The delimiter must be ASCII.
 pub(crate) fn past(s: &str, mark: u8) -> Option<&str>
     requires { mark < 128 }
     ensures { MatchOption result (begins (λ c. c == mark) s.now ≡ false) (λ r. s.now ≡ mark ∷ r.now) }
@@ -84,7 +84,7 @@ pub(crate) fn past(s: &str, mark: u8) -> Option<&str>
     }
 }
 
-/// Whether a token begins there.
+// Whether a token begins there.
 pub(crate) fn begins_token(s: &str) -> bool
     ensures { result ≡ begins is_token_char s.now }
 {

@@ -19,8 +19,8 @@ use std::alloc::Global;
 use std::fmt;
 use std::marker::{Model, PhantomData};
 
-/// The link-values of a field value, in their order. Each has a target, in canonical form, and parameters, each of
-/// which has a name in lower case and may have a value. It is seen as their list.
+/// The link-values of a field value, in their order (RFC 8288 section 3). Each has a target, in canonical form, and
+/// parameters, each of which has a name in lower case and may have a value. It is seen as their list.
 #[derive(Drop)]
 pub struct LinkSet<S: Spec> {
     links: Vec<Link>,
@@ -63,9 +63,24 @@ fn read_valid<S: Spec>(
 /// The link-values of the value of a `Link` field (RFC 8288 section 3), each with its target's canonical text against a
 /// base (RFC 3986 sections 5.2 and 6.2.2).
 ///
-/// It answers Ok exactly where the bytes are UTF-8 and have link-values whose targets are URI-references of `S`, and
-/// otherwise the first fault from the left, with its place in bytes; or allocation failed. Allocation can fail only
-/// where the bytes are UTF-8 and the first element that isn't empty begins with a target that is a URI-reference.
+/// # Errors
+///
+/// - `Fault` exactly where the bytes aren't UTF-8 or have no link-values whose targets are URI-references of `S`: the
+///   first fault from the left, and its place in bytes.
+/// - `Memory` where allocation fails, only where the bytes are UTF-8 and the first element that isn't empty begins with
+///   a target that is a URI-reference.
+///
+/// ```
+/// use iri::link::read_links;
+/// use iri::types::UriAbsoluteStr;
+/// let page = UriAbsoluteStr::new("http://example.com/TheBook/chapter3")?;
+/// let field = b"<chapter2>; rel=\"previous\"; title=\"previous chapter\"";
+/// let links = read_links(rt.alloc(), page, field)?;
+/// assert_eq!(rt; links.len(), 1);
+/// assert_eq!(rt; links.target(0), Some("http://example.com/TheBook/chapter2"));
+/// assert_eq!(rt; links.param_name(0, 1), Some("title"));
+/// assert_eq!(rt; links.param_value(0, 1), Some("previous chapter"));
+/// ```
 pub fn read_links<S: Spec>(
     alloc: Global,
     base: RiAbsoluteStr<'_, S>,
@@ -92,7 +107,7 @@ impl<S: Spec> LinkSet<S> {
         self.links.len()
     }
 
-    /// The target of the link-value at `i`, from 0: none exactly where there are no more than `i`.
+    /// The target of the link-value at `i`, from 0: `None` exactly where there are no more than `i`.
     pub fn target(&self, i: usize) -> Option<&str>
         ensures { now_of result ≡ target_at self.now i }
     {
@@ -119,8 +134,8 @@ impl<S: Spec> LinkSet<S> {
         self.params(i).len()
     }
 
-    /// The name of the parameter at `j` of the link-value at `i`, both from 0, in lower case: none exactly where there
-    /// are no more than `i` or `j`.
+    /// The name of the parameter at `j` of the link-value at `i`, both from 0, in lower case: `None` exactly where
+    /// there are no more than `i` or `j`.
     pub fn param_name(&self, i: usize, j: usize) -> Option<&str>
         ensures { now_of result ≡ name_at self.now i j }
     {
@@ -130,7 +145,7 @@ impl<S: Spec> LinkSet<S> {
         }
     }
 
-    /// The value of the parameter at `j` of the link-value at `i`, both from 0: none exactly where there are no more
+    /// The value of the parameter at `j` of the link-value at `i`, both from 0: `None` exactly where there are no more
     /// than `i` or `j`, or the parameter has none.
     pub fn param_value(&self, i: usize, j: usize) -> Option<&str>
         ensures { now_of result ≡ value_at self.now i j }

@@ -32,7 +32,7 @@ fn read_token<'a>(alloc: Global, s: &'a str) -> Result<(String, &'a str), Halt<'
     }
 }
 
-// A value that is a quoted string, of which `inner` stands behind its first mark.
+// A value that is a quoted string, of which `inner` comes after its first `"`.
 fn read_quoted<'a>(alloc: Global, s: &'a str, inner: &'a str) -> Result<(String, &'a str), Halt<'a>>
     requires { s.now ≡ quotation_mark ∷ inner.now }
     ensures { MatchResult result (λ r. ReadsValue s.now r.1.now (string_bytes r.0))
@@ -47,7 +47,7 @@ fn read_quoted<'a>(alloc: Global, s: &'a str, inner: &'a str) -> Result<(String,
     }
 }
 
-/// A value and what follows it, behind a `=` and blanks.
+// A value and what follows it, after a `=` and blanks.
 pub(crate) fn read_value<'a>(alloc: Global, s: &'a str) -> Result<(String, &'a str), Halt<'a>>
     requires { begins is_blank s.now ≡ false }
     ensures { MatchResult result (λ r. ReadsValue s.now r.1.now (string_bytes r.0))

@@ -17,7 +17,7 @@ fn find_mark(s: &str) -> Option<usize>
     memchr2(b'"', b'\\', s.as_bytes())
 }
 
-// What stands before the first `"` or `\`, that mark, and what follows it.
+// What comes before the first `"` or `\`, that byte, and what follows it.
 fn cut_mark(s: &str) -> Option<(&str, &str, &str)>
     ensures { MatchOption result (escaped s.now ≡ s.now) (λ r. IsCutAtMark s.now r.0.now r.1.now r.2.now) }
 {
@@ -88,7 +88,7 @@ impl Show for Link {
     }
 }
 
-/// Shows link-values in their written form.
+// Shows link-values in their written form.
 pub(crate) fn show_links<W: TextSink>(sink: &mut W, links: &[Link]) -> Result<(), Stop>
     ensures { Shows W.puts W.halts W.stops sink.old (written (links_of links.now)) sink.new result }
 {

@@ -26,6 +26,17 @@ use std::marker::Model;
 ///
 /// References are bytes. Each is resolved against the base and put into normal form (RFC 3986 sections 5.2 and 6.2.2),
 /// and this canonical text is compared. Places count from 1.
+///
+/// ```
+/// use iri::register::{Added, Register};
+/// use iri::types::UriAbsoluteString;
+/// let base = UriAbsoluteString::try_from_str(rt.alloc(), "http://a/")?;
+/// let mut links = Register::new(rt.alloc(), base);
+/// assert!(rt; matches!(links.add(b"x/../b", 2), Ok(Added::New(1))));
+/// assert!(rt; matches!(links.add(b"/%62", 3), Ok(Added::Old(1))));
+/// assert_eq!(rt; links.target_at(1), Some("http://a/b"));
+/// assert_eq!(rt; links.lines_at(1).ok_or("an entry")?, [2, 3].as_slice());
+/// ```
 #[derive(Drop)]
 pub struct Register<S: Spec> {
     alloc: Global,
@@ -82,7 +93,7 @@ fn none_there<S: Spec>(reference: &[u8]) -> Result<Option<usize>, RegisterError>
 
 impl<S: Spec> Register<S> {
     /// The register of a base, with no entries. Targets are hashed with the key 0: who picks the references can make
-    /// look-ups slow.
+    /// look-ups slow. It takes no memory.
     pub fn new(alloc: Global, base: RiAbsoluteString<S>) -> Self
         ensures base { result.base ≡ base.text }
         ensures entries { result.entries ≡ [] }
@@ -112,10 +123,22 @@ impl<S: Spec> Register<S> {
         entries::len(&self.entries)
     }
 
-    /// The place, from 1, of the entry that has the reference's canonical target; none exactly where no entry has it.
+    /// The place, from 1, of the entry that has the reference's canonical target; `None` exactly where no entry has it.
     ///
-    /// Fails with the first fault of a reference that isn't valid, or where allocation failed; without entries it takes
-    /// no memory.
+    /// # Errors
+    ///
+    /// - `Bad` exactly where the reference isn't UTF-8 or no reference: its first fault.
+    /// - `Memory` where allocation fails, only where there are entries; the reference is valid then.
+    ///
+    /// ```
+    /// use iri::register::Register;
+    /// use iri::types::UriAbsoluteString;
+    /// let base = UriAbsoluteString::try_from_str(rt.alloc(), "http://a/")?;
+    /// let mut links = Register::new(rt.alloc(), base);
+    /// assert!(rt; links.add(b"b", 2).is_ok());
+    /// assert!(rt; matches!(links.find(b"HTTP://a/./b"), Ok(Some(1))));
+    /// assert!(rt; matches!(links.find(b"c"), Ok(None)));
+    /// ```
     pub fn find(&self, reference: &[u8]) -> Result<Option<usize>, RegisterError>
         ensures causes { MatchResult result (λ _. bytes_fault (reference_fault S.tests) reference.now ≡ None)
             (λ e. CausedBy e (bytes_fault (reference_fault S.tests) reference.now)) }
@@ -135,8 +158,12 @@ impl<S: Spec> Register<S> {
     /// Puts a line: at the end of the lines of the entry that has the reference's canonical target, or into a new entry
     /// at the end. All other entries stay.
     ///
-    /// Fails with the first fault of a reference that isn't valid, or where allocation failed; the register is then
-    /// unchanged.
+    /// # Errors
+    ///
+    /// The register is unchanged then.
+    ///
+    /// - `Bad` exactly where the reference isn't UTF-8 or no reference: its first fault.
+    /// - `Memory` where allocation fails; the reference is valid then.
     pub fn add(&mut self, reference: &[u8], line: u64) -> Result<Added, RegisterError>
         ensures causes { MatchResult result (λ _. bytes_fault (reference_fault S.tests) reference.now ≡ None)
             (λ e. CausedBy e (bytes_fault (reference_fault S.tests) reference.now)) }
@@ -161,12 +188,27 @@ impl<S: Spec> Register<S> {
         }
     }
 
-    /// Takes out the entry that has the reference's canonical target, and tells how many lines it had; none exactly
+    /// Takes out the entry that has the reference's canonical target, and answers how many lines it had; `None` exactly
     /// where no entry has it. Later entries move up by one. The removal takes no memory but for the target's text; the
     /// text of the one that goes stays until the map is packed, where an `add` finds no free slot.
     ///
-    /// Fails with the first fault of a reference that isn't valid, or where allocation failed; the register is then
-    /// unchanged. Without entries it takes no memory.
+    /// # Errors
+    ///
+    /// The register is unchanged then.
+    ///
+    /// - `Bad` exactly where the reference isn't UTF-8 or no reference: its first fault.
+    /// - `Memory` where allocation fails, only where there are entries; the reference is valid then.
+    ///
+    /// ```
+    /// use iri::register::Register;
+    /// use iri::types::UriAbsoluteString;
+    /// let base = UriAbsoluteString::try_from_str(rt.alloc(), "http://a/")?;
+    /// let mut links = Register::new(rt.alloc(), base);
+    /// assert!(rt; links.add(b"b", 2).is_ok());
+    /// assert!(rt; links.add(b"./b", 3).is_ok());
+    /// assert!(rt; matches!(links.remove(b"/b"), Ok(Some(2))));
+    /// assert_eq!(rt; links.len(), 0);
+    /// ```
     pub fn remove(&mut self, reference: &[u8]) -> Result<Option<usize>, RegisterError>
         ensures causes { MatchResult result (λ _. bytes_fault (reference_fault S.tests) reference.now ≡ None)
             (λ e. CausedBy e (bytes_fault (reference_fault S.tests) reference.now)) }

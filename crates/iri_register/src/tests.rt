@@ -90,7 +90,7 @@ fn answers(rt: HostRuntime) -> Result<(), Fail> {
         (b'f', b"HTTP://A/b", Answer::At(1), 2),
         (b'f', b"d", Answer::Nothing, 2),
         (b'a', b"d", Answer::Put(Added::New(3)), 3),
-        // From the front, from the middle, from the end; and back again.
+        // From the start, from the middle, from the end; and back again.
         (b'd', b"b", Answer::Gone(2), 2),
         (b'f', b"c", Answer::At(1), 2),
         (b'a', b"b", Answer::Put(Added::New(3)), 3),
@@ -151,7 +151,7 @@ fn one_link_in_twenty_spellings(rt: HostRuntime) -> Result<(), Fail> {
     Ok(())
 }
 
-// A reserved character and its triplet are two targets, and so are no query and an empty one.
+// A reserved character and its percent-encoded octet are two targets, and so are no query and an empty one.
 #[test]
 fn other_links_stay_apart(rt: HostRuntime) -> Result<(), Fail> {
     let mut register = register::<UriSpec>(rt.alloc(), "http://a/")?;

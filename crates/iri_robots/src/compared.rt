@@ -10,7 +10,7 @@ use iri_percent::capital_digit;
 use iri_percent::character::decoded_char;
 use std::alloc::{AllocError, Global};
 
-// A character, or a triplet of these digits.
+// A character, or a percent-encoded octet of these digits.
 #[derive(Clone, Copy)]
 enum Written {
     Char(char),
@@ -24,7 +24,7 @@ struct Front {
     taken: usize,
 }
 
-// The front of a text that begins with a triplet.
+// The start of a text that begins with a percent-encoded octet.
 fn triplet_front(text: &[u8]) -> Front
     requires { (3 ≤ length text.now) × (slice_index text.now 0 ≡ percent_sign)
         × (is_ascii_hexdigit (slice_index text.now 1) ≡ true) × (is_ascii_hexdigit (slice_index text.now 2) ≡ true) }
@@ -42,7 +42,7 @@ fn triplet_front(text: &[u8]) -> Front
     }
 }
 
-// The front of a text that begins with a `%`.
+// The start of a text that begins with a `%`.
 fn percent_front(text: &[u8]) -> Front
     requires { (0 < length text.now) × (slice_index text.now 0 ≡ percent_sign) }
     ensures { IsFront text.now result.written result.taken }

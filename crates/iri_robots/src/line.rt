@@ -10,7 +10,7 @@ ghost use Rattle.iri_robots.specs.inside.ReadLines.{said};
 
 use memchr::memchr;
 
-// Where the mark first stands.
+// Where the delimiter first is.
 fn find(text: &[u8], mark: u8) -> Option<usize>
     ensures { MatchOption result (NoCut mark text.now) (λ k. CutAt mark text.now k) }
 {
@@ -71,7 +71,7 @@ fn trim(text: &[u8]) -> &[u8]
     trim_end(trim_front(text))
 }
 
-// How many bytes at the front are characters of a product token.
+// How many bytes at the start are characters of a product token.
 pub(crate) fn token_len(text: &[u8]) -> usize
     ensures value { result ≡ prefix_len is_token_char text.now }
     ensures within { result ≤ length text.now }

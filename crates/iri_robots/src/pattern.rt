@@ -26,7 +26,7 @@ enum Reached<'a> {
     Nowhere,
 }
 
-// The mark that an escape at the start of the pattern stands for.
+// The character that an escape at the start of the pattern stands for.
 fn escaped_mark(pattern: &[u8]) -> Option<u8>
     ensures { MatchOption result (NoEscape pattern.now) (λ m. EscapeOf pattern.now m) }
 {
@@ -226,6 +226,13 @@ fn fits(pattern: &[u8], text: &[u8], anchored: bool) -> bool
 /// Whether the pattern matches the text (RFC 9309 sections 2.2.2 and 2.2.3): the text, or where no `$` ends the pattern
 /// a prefix of it, is the pattern with some text for each `*`. `%2A` and `%24` match `*` and `$` too. An empty pattern
 /// matches nothing. It takes no memory.
+///
+/// ```
+/// use iri::robots::matches;
+/// assert!(rt; matches(b"/path/file-with-a-*.html", b"/path/file-with-a-%2A.html"));
+/// assert!(rt; matches(b"*.gif$", b"/image.gif"));
+/// assert!(rt; !matches(b"*.gif$", b"/image.gif?x"));
+/// ```
 pub fn matches(pattern: &[u8], text: &[u8]) -> bool
     ensures { (result ≡ true) ↔ Matches pattern.now text.now }
 {

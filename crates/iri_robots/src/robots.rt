@@ -41,7 +41,19 @@ pub enum Verdict {
     Disallow,
 }
 
-/// The records of a robots file, for the crawler of one product token.
+/// The records of a robots file, for the crawler of one product token (RFC 9309 section 2.2).
+///
+/// ```
+/// use iri::robots::{Robots, Verdict};
+/// let mut rules = Robots::new(rt.alloc(), "ExampleBot")?;
+/// rules.feed_line(b"User-agent: *")?;
+/// rules.feed_line(b"Disallow: *.gif$")?;
+/// rules.feed_line(b"Disallow: /example/")?;
+/// rules.feed_line(b"Allow: /publications/")?;
+/// assert!(rt; matches!(rules.verdict("/example/page.html"), Verdict::Disallow));
+/// assert!(rt; matches!(rules.verdict("/publications/page.html"), Verdict::Allow));
+/// assert!(rt; matches!(rules.verdict("/image.gif"), Verdict::Disallow));
+/// ```
 #[derive(Drop)]
 pub struct Robots {
     alloc: Global,
@@ -50,6 +62,12 @@ pub struct Robots {
 }
 
 /// Whether a text is a product token (RFC 9309 section 2.2.1): one or more ASCII letters, `_` and `-`.
+///
+/// ```
+/// use iri::robots::is_product_token;
+/// assert!(rt; is_product_token("ExampleBot"));
+/// assert!(rt; !is_product_token("ExampleBot/1.0"));
+/// ```
 pub fn is_product_token(text: &str) -> bool
     ensures { result ≡ is_token text.now }
 {
@@ -57,8 +75,12 @@ pub fn is_product_token(text: &str) -> bool
 }
 
 impl Robots {
-    /// The rules for the crawler of this product token (RFC 9309 section 2.2.1). No line is read yet. `Token` comes exactly where the
-    /// text isn't one or more ASCII letters, `_` and `-`, and `Memory` on allocation failure alone.
+    /// The rules for the crawler of this product token (RFC 9309 section 2.2.1). No line is read yet.
+    ///
+    /// # Errors
+    ///
+    /// - `Token` exactly where the text is no product token, which `is_product_token` tests.
+    /// - `Memory` where allocation fails.
     pub fn new(alloc: Global, token: &str) -> Result<Robots, RobotsError>
         ensures made { MatchResult result
             (λ r. (is_token token.now ≡ true) × (string_bytes r.token ≡ token.now) × (r.records.items ≡ []))
@@ -96,8 +118,11 @@ impl Robots {
     }
 
     /// Stores the record of a line of the robots file, where it has one (RFC 9309 section 2.2). The line is any bytes,
-    /// without its line end: one that isn't UTF-8, or that has no key of a record, is ignored. After an allocation
-    /// failure nothing has changed; where the line has no record, none comes.
+    /// without its line end: one that isn't UTF-8, or that has no key of a record, is ignored.
+    ///
+    /// # Errors
+    ///
+    /// Where allocation fails, only where the line has a record; nothing has changed then.
     pub fn feed_line(&mut self, line: &[u8]) -> Result<(), AllocError>
         ensures token { string_bytes self.new.token ≡ string_bytes self.old.token }
         ensures records { MatchResult result (λ _. record_texts self.new.records.items
@@ -108,13 +133,23 @@ impl Robots {
         self.store(line_record(self.alloc, line)?)
     }
 
-    /// [`Robots::feed_line`] for a file that nobody vouches for: a rule whose pattern has more than so many escapes
+    /// [`Robots::feed_line`] for a file that nobody vouches for: a rule whose pattern has more than `most` escapes
     /// (each `%2A`, `%24` and `$` counts) isn't stored.
     ///
     /// # Errors
     ///
-    /// `Escapes` where the rule has more escapes, and `Memory` on allocation failure alone, where the line has a
-    /// record. Nothing has changed then.
+    /// Nothing has changed then.
+    ///
+    /// - `Escapes` exactly where the rule has more escapes.
+    /// - `Memory` where allocation fails, only where the line has a record.
+    ///
+    /// ```
+    /// use iri::robots::{LineError, Robots};
+    /// let mut rules = Robots::new(rt.alloc(), "ExampleBot")?;
+    /// assert!(rt; rules.feed_line_within(b"User-agent: *", 1).is_ok());
+    /// assert!(rt; rules.feed_line_within(b"Disallow: *.gif$", 1).is_ok());
+    /// assert!(rt; matches!(rules.feed_line_within(b"Disallow: /%2A%2A", 1), Err(LineError::Escapes)));
+    /// ```
     pub fn feed_line_within(&mut self, line: &[u8], most: usize) -> Result<(), LineError>
         ensures token { string_bytes self.new.token ≡ string_bytes self.old.token }
         ensures records { MatchResult result (λ _. record_texts self.new.records.items

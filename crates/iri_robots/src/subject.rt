@@ -33,9 +33,20 @@ fn push_query(whole: &mut String, query: Option<&str>) -> Result<(), AllocError>
     }
 }
 
-/// What of a target the rules speak of (RFC 9309 section 2.2.2): its path, or `/` where it is empty, and behind it `?`
+/// What of a target the rules speak of (RFC 9309 section 2.2.2): its path, or `/` where it is empty, and after it `?`
 /// and its query, where it has one. The text is mapped to URIs (RFC 3987 section 3.1) and in triplet normal form (RFC
-/// 3986 section 6.2.2). It fails on allocation failure alone.
+/// 3986 section 6.2.2).
+///
+/// # Errors
+///
+/// Where allocation fails.
+///
+/// ```
+/// use iri::robots::subject_of;
+/// use iri::types::IriStr;
+/// let subject = subject_of(rt.alloc(), IriStr::new("http://example.com/foo/bar/ツ?%7e")?)?;
+/// assert_eq!(rt; subject.as_str(), "/foo/bar/%E3%83%84?~");
+/// ```
 pub fn subject_of<S: Spec>(alloc: Global, target: RiStr<'_, S>) -> Result<Text, AllocError>
     ensures { IfOk result (λ t. t ≡ subject (split_of (text target.entry))) }
 {

@@ -217,7 +217,7 @@ fn groups_of_one_token(rt: HostRuntime) -> Result<(), Fail> {
     Ok(())
 }
 
-// Sections 2.2.2 to 2.2.4: comments, marks, and records that are none of these and end no group.
+// Sections 2.2.2 to 2.2.4: comments, special characters, and records that are none of these and end no group.
 #[test]
 fn other_lines_of_a_file(rt: HostRuntime) -> Result<(), Fail> {
     let robots = fed(

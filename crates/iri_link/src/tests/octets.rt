@@ -123,7 +123,7 @@ fn octets_behind_a_backslash(rt: HostRuntime) -> Result<(), Fail> {
     Ok(())
 }
 
-// An octet behind a target is a blank, a semicolon or a comma.
+// An octet after a target is a blank, a semicolon or a comma.
 #[test]
 fn octets_behind_a_target(rt: HostRuntime) -> Result<(), Fail> {
     for octet in 0..=255u8 {
