@@ -66,6 +66,10 @@ pub fn show_canonical<'a, S: Spec, W: TextSink>(
 }
 
 /// The same by the rules of a mode.
+///
+/// # Errors
+///
+/// Those of [`show_canonical`].
 pub fn show_canonical_in<'a, S: Spec, W: TextSink>(
     sink: &mut W,
     mode: CanonMode,

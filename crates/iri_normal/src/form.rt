@@ -232,8 +232,13 @@ fn show_from_authority<S: Spec, W: TextSink>(
     show_from_path::<S, W>(sink, target, mode, whole, dropped)
 }
 
-/// Shows the recomposition (RFC 3986 section 5.3) of a target's parts in a mode. `whole` says that the path is the base's, taken
-/// whole. It takes no memory.
+/// Shows the recomposition (RFC 3986 section 5.3) of a target's parts in a mode. `whole` says that the path is the
+/// base's, taken whole. It takes no memory. It has a condition: the parts fit the grammar of `S`, as those of a
+/// `Target` and of a split view do.
+///
+/// # Errors
+///
+/// Only where the sink's count of stops rises; the sink has stopped within the text then.
 #[tactic(auto, unfolding(crate::specs::NormalForm::form, iri_grammar::specs::Parts::recompose))]
 pub fn show_form<S: Spec, W: TextSink>(
     sink: &mut W,

@@ -39,7 +39,12 @@ fn is_guarded<S: Spec>(path: &MergedPath<'_>, authority_stands: bool) -> bool
     !authority_stands && begins_with_slashes::<S>(path)
 }
 
-/// A path without its dot segments, and with `/.` before it where it would be read as an authority.
+/// Shows a path without its dot segments, and with `/.` before it where it would be read as an authority. It has a
+/// condition: the text is a path of `S`, which `validate::path` tests.
+///
+/// # Errors
+///
+/// Only where the sink's count of stops rises; the sink has stopped within the text then.
 #[inline(always)]
 pub fn show_guarded<S: Spec, W: TextSink>(
     sink: &mut W,

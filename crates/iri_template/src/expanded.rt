@@ -119,7 +119,12 @@ impl<'a, S: Spec, C: Context> Expanded<'a, S, C> {
         self.into_owned(alloc)
     }
 
-    /// The expansion as a string, where it has at most so many bytes: otherwise none, and no memory is taken for it.
+    /// The expansion as a string, where it has at most `limit` bytes; `None` exactly where it has more, and no memory
+    /// is taken for it.
+    ///
+    /// # Errors
+    ///
+    /// Where allocation fails.
     pub fn try_into_text_within(
         &self,
         alloc: Global,

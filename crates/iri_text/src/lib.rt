@@ -64,6 +64,15 @@ pub use streams::write_sink::WriteSink;
 pub struct Failed;
 
 /// Where bytes come from.
+///
+/// ```
+/// use iri::streams::{PlainSource, Source};
+/// let mut source = PlainSource::new(b"abc");
+/// let mut buffer = [0; 2];
+/// assert!(rt; matches!(source.take(&mut buffer), Ok(2)));
+/// assert!(rt; matches!(source.take(&mut buffer), Ok(1)));
+/// assert!(rt; matches!(source.take(&mut buffer), Ok(0)));
+/// ```
 pub trait Source {
     /// The bytes still to come, where the source tells them.
     ghost left: { Self → Option (List ℕ) };
@@ -74,8 +83,12 @@ pub trait Source {
     /// One call of `take` leads from this source to that one. A source that says no more of its calls needn't give it.
     ghost call: { Self → Self → Type 0 } = { λ _ _. ⊤ };
 
-    /// Puts the next bytes at the start of `buf` and answers how many, at most its length. The answer is 0 only where nothing
-    /// is left or `buf` is empty. It fails only where the count of faults rises, and takes nothing then.
+    /// Puts the next bytes at the start of `buf` and answers how many, at most its length. The answer is 0 only where
+    /// nothing is left or `buf` is empty.
+    ///
+    /// # Errors
+    ///
+    /// Only where the count of faults rises; nothing is taken then.
     fn take(&mut self, buf: &mut [u8]) -> Result<usize, Failed>
         ensures takes { Takes (left self.old) (left self.new) (faults self.old) (faults self.new) result buf.new }
         ensures call { call self.old self.new };
@@ -92,14 +105,21 @@ pub trait Sink {
     /// How many more bytes it is known to take without a fault. A sink of which that isn't known needn't give it.
     ghost room_left: { Self → Option ℕ } = { λ _. None };
 
-    /// Writes the whole piece. It fails only where the count of faults rises, and has written a prefix of the piece then. Where
-    /// it is known to have room for the piece, it doesn't fail.
+    /// Writes the whole piece.
+    ///
+    /// # Errors
+    ///
+    /// Only where the count of faults rises, and never where the sink is known to have room for the piece; a prefix of
+    /// the piece is written then.
     fn put_all(&mut self, piece: &[u8]) -> Result<(), Failed>
         ensures { PutsAll (written self.old) (written self.new) (faults self.old) (faults self.new) (room_left self.old)
             (room_left self.new) result piece.now };
 
-    /// Hands on what the sink buffers. It fails only where the count of faults rises, and what is written stays as it was. A sink
-    /// that buffers nothing needn't give it: nothing is done then.
+    /// Hands on what the sink buffers. A sink that buffers nothing needn't give it: nothing is done then.
+    ///
+    /// # Errors
+    ///
+    /// Only where the count of faults rises; what is written stays as it was.
     fn flush(&mut self) -> Result<(), Failed>
         ensures { Flushes (written self.old) (written self.new) (faults self.old) (faults self.new) (room_left self.old)
             (room_left self.new) result }

@@ -24,7 +24,11 @@ pub trait Kind {
     /// The first fault of a text; none where the text is in the production.
     ghost fault: { Tests → List ℕ → Option ErrorKind };
 
-    /// Whether the text is in the production of `S`: otherwise the kind of its first fault.
+    /// Whether the text is in the production of `S`.
+    ///
+    /// # Errors
+    ///
+    /// Exactly where it isn't: the first fault from the left.
     fn validate<S: Spec>(s: &str) -> Result<(), Error>
         ensures { Answers result (fault S.tests s.now) };
 

@@ -215,9 +215,10 @@ pub fn absolute_iri<S: Spec>(s: &str) -> Result<(), Error>
 ///
 /// ```
 /// use iri::spec::UriSpec;
-/// use iri::validate;
+/// use iri::validate::{self, ErrorKind};
 /// assert!(rt; validate::relative_ref::<UriSpec>("./g:h").is_ok());
-/// assert!(rt; validate::relative_ref::<UriSpec>("g:h").is_err());
+/// let error = validate::relative_ref::<UriSpec>("g:h").err().ok_or("a fault")?;
+/// assert_eq!(rt; error.kind(), ErrorKind::InvalidPath);
 /// ```
 pub fn relative_ref<S: Spec>(s: &str) -> Result<(), Error>
     ensures { Answers result (relative_fault S.tests s.now) }

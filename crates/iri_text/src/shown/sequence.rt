@@ -26,6 +26,10 @@ pub fn show_two<A: Show, B: Show, W: TextSink>(sink: &mut W, a: &A, b: &B) -> Re
 }
 
 /// Shows three values in a row.
+///
+/// # Errors
+///
+/// As those of `show_two`.
 pub fn show_three<A: Show, B: Show, C: Show, W: TextSink>(
     sink: &mut W,
     a: &A,
@@ -39,6 +43,10 @@ pub fn show_three<A: Show, B: Show, C: Show, W: TextSink>(
 }
 
 /// Shows four values in a row.
+///
+/// # Errors
+///
+/// As those of `show_two`.
 pub fn show_four<A: Show, B: Show, C: Show, D: Show, W: TextSink>(
     sink: &mut W,
     a: &A,
@@ -54,6 +62,10 @@ pub fn show_four<A: Show, B: Show, C: Show, D: Show, W: TextSink>(
 }
 
 /// Shows five values in a row.
+///
+/// # Errors
+///
+/// As those of `show_two`.
 pub fn show_five<A: Show, B: Show, C: Show, D: Show, E: Show, W: TextSink>(
     sink: &mut W,
     a: &A,
@@ -70,6 +82,18 @@ pub fn show_five<A: Show, B: Show, C: Show, D: Show, E: Show, W: TextSink>(
 }
 
 /// Shows all the values of a slice in a row.
+///
+/// # Errors
+///
+/// As those of `show_two`.
+///
+/// ```
+/// use iri::format::{SliceSink, show_each};
+/// let mut buffer = [0; 8];
+/// let mut sink = SliceSink::new(&mut buffer);
+/// assert!(rt; show_each(&mut sink, &["/a", "/b"]).is_ok());
+/// assert_eq!(rt; sink.as_str(), "/a/b");
+/// ```
 pub fn show_each<T: Show, W: TextSink>(sink: &mut W, values: &[T]) -> Result<(), Stop>
     ensures { Shows W.puts W.halts W.stops sink.old (flat_map T.text values.now) sink.new result }
 {
