@@ -339,7 +339,7 @@ impl<'a> Builder<'a> {
         }
     }
 
-    // `//` and the authority, where it stands.
+    // `//` and the authority, where there is one.
     #[tactic(auto, unfolding(iri_grammar::specs::Authority::recompose_authority))]
     fn push_authority(&self, text: &mut String) -> Result<(), AllocError>
         ensures { OnOk result (string_bytes text.new

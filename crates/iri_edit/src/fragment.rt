@@ -42,7 +42,7 @@ pub trait SetFragment<F: Show>: Show {
         ensures capacity { fragment ≡ None → capacity self.new ≡ capacity self.old };
 }
 
-// Where the fragment's number sign stands, or the end of the text where none stands; and the end.
+// Where the fragment's `#` is, or the end of the text where there is none; and the end.
 fn fragment_at<S: Spec>(reference: RiReferenceStr<'_, S>) -> (usize, usize)
     ensures { IsFragmentAt (text reference.entry) result.0 result.1 }
 {

@@ -1,4 +1,4 @@
-// Where parts of an authority stand in a whole text, in bytes (RFC 3986 section 3.2).
+// Where parts of an authority are in a whole text, in bytes (RFC 3986 section 3.2).
 ghost use Rattle.std.specs.Prelude.{◌≡◌, ◌+◌, drop, length, take, MatchOption, None, Some, true};
 ghost use Rattle.std.specs.Str.{IsCharBoundary};
 ghost use Rattle.iri_edit.specs.Password.{password_of};
@@ -15,7 +15,7 @@ use iri_grammar::spec::Spec;
 use iri_grammar::splitter::Splitter;
 use iri_types::view::RiReferenceStr;
 
-// How many bytes stand before an authority: the scheme and its colon, and the slashes.
+// How many bytes come before an authority: the scheme and its colon, and the slashes.
 fn bytes_before(scheme: Option<&str>) -> usize
     ensures { result ≡ length (scheme_text (now_of scheme.entry)) + 2 }
 {
@@ -37,7 +37,7 @@ fn authority_at<'a, S: Spec>(reference: RiReferenceStr<'a, S>) -> Option<(usize,
     }
 }
 
-// Where the colon before the password stands, and where the password ends.
+// Where the colon before the password is, and where the password ends.
 pub(crate) fn password_at<S: Spec>(reference: RiReferenceStr<'_, S>) -> Option<(usize, usize)>
     ensures { MatchOption result (password_of (text reference.entry) ≡ None)
         (λ r. IsPasswordAt (text reference.entry) r.0 r.1) }
@@ -78,7 +78,7 @@ pub(crate) fn host_at<'a, S: Spec>(reference: RiReferenceStr<'a, S>) -> Option<(
     Some((start + userinfo_bytes(span.userinfo()), span.host()))
 }
 
-// What stands before the one position, and what stands from the other on.
+// What comes before the one position, and what comes from the other on.
 pub(crate) fn around(text: &str, start: usize, end: usize) -> (&str, &str)
     requires low { IsCharBoundary text.now start }
     requires high { IsCharBoundary text.now end }

@@ -51,7 +51,7 @@ pub(crate) fn push_marked(
     text.push_str(part)
 }
 
-// A part that may stand, or the empty text.
+// A part that may be absent, or the empty text.
 pub(crate) fn or_nothing(part: Option<&str>) -> &str
     ensures { result.now ≡ or_empty (now_of part.entry) }
 {

@@ -21,14 +21,14 @@ pub struct AuthoritySpan<'a> {
     port: Option<&'a str>,
 }
 
-// Where the last byte of this kind stands.
+// Where the last byte of this kind is.
 fn rfind(s: &str, mark: u8) -> Option<usize>
     ensures { IsLastByte (is_byte mark) s.now result }
 {
     memrchr(mark, s.as_bytes())
 }
 
-// Where the last colon stands.
+// Where the last colon is.
 #[tactic(auto, using(crate::proofs::Ports::found))]
 fn last_colon(s: &str) -> Option<usize>
     ensures { MatchOption result (NoColon s.now) (λ k. LastColon s.now k) }
@@ -43,7 +43,7 @@ pub(crate) fn is_port(s: &str) -> bool
     all_digits(s.as_bytes())
 }
 
-// The userinfo, where an `@` stands, and what follows it.
+// The userinfo, where there is an `@`, and what follows it.
 fn cut_userinfo(s: &str) -> (Option<&str>, &str)
     ensures userinfo { now_of result.0 ≡ userinfo_of s.now }
     ensures rest { result.1.now ≡ after_userinfo s.now }
@@ -54,7 +54,7 @@ fn cut_userinfo(s: &str) -> (Option<&str>, &str)
     }
 }
 
-// The host, and the port where a last colon stands that only digits follow.
+// The host, and the port where only digits follow the last colon.
 fn cut_port(s: &str) -> (&str, Option<&str>)
     ensures host { result.0.now ≡ host_of s.now }
     ensures port { now_of result.1 ≡ port_of s.now }

@@ -95,49 +95,49 @@ pub fn is_unreserved<S: Spec>(c: char) -> bool
     Class::Unreserved.has::<S>(c)
 }
 
-/// Whether the character may stand in a `reg-name` (RFC 3986 section 3.2.2).
+/// Whether the character may be in a `reg-name` (RFC 3986 section 3.2.2).
 pub fn is_reg_name_char<S: Spec>(c: char) -> bool
     ensures { result ≡ reg_name_char S.tests c }
 {
     Class::RegName.has::<S>(c)
 }
 
-/// Whether the character may stand in a `userinfo` (RFC 3986 section 3.2.1).
+/// Whether the character may be in a `userinfo` (RFC 3986 section 3.2.1).
 pub fn is_userinfo_char<S: Spec>(c: char) -> bool
     ensures { result ≡ userinfo_char S.tests c }
 {
     Class::Userinfo.has::<S>(c)
 }
 
-/// Whether the character may stand in a path's segment (RFC 3986 section 3.3).
+/// Whether the character may be in a path's segment (RFC 3986 section 3.3).
 pub fn is_pchar<S: Spec>(c: char) -> bool
     ensures { result ≡ pchar S.tests c }
 {
     Class::Pchar.has::<S>(c)
 }
 
-/// Whether the character may stand in a path: `is_pchar`, or a slash (RFC 3986 section 3.3).
+/// Whether the character may be in a path: `is_pchar`, or a slash (RFC 3986 section 3.3).
 pub fn is_path_char<S: Spec>(c: char) -> bool
     ensures { result ≡ path_char S.tests c }
 {
     Class::Path.has::<S>(c)
 }
 
-/// Whether the character may stand in a `query` (RFC 3986 section 3.4, RFC 3987 section 2.2).
+/// Whether the character may be in a `query` (RFC 3986 section 3.4, RFC 3987 section 2.2).
 pub fn is_query_char<S: Spec>(c: char) -> bool
     ensures { result ≡ query_char S.tests c }
 {
     Class::Query.has::<S>(c)
 }
 
-/// Whether the character may stand in a `fragment` (RFC 3986 section 3.5).
+/// Whether the character may be in a `fragment` (RFC 3986 section 3.5).
 pub fn is_fragment_char<S: Spec>(c: char) -> bool
     ensures { result ≡ fragment_char S.tests c }
 {
     Class::Fragment.has::<S>(c)
 }
 
-/// Whether the character may stand anywhere in a reference, outside percent-encoded octets.
+/// Whether the character may be anywhere in a reference, outside percent-encoded octets.
 pub fn is_any_char<S: Spec>(c: char) -> bool
     ensures { result ≡ any_char S.tests c }
 {

@@ -5,7 +5,7 @@ ghost use Rattle.iri_grammar.specs.OptionalSlices.{now_of};
 
 use memchr::memchr;
 
-/// Where the delimiter first stands, in bytes; `None` exactly where it is nowhere.
+/// Where the delimiter first is, in bytes; `None` exactly where it is nowhere.
 pub fn find(s: &str, mark: u8) -> Option<usize>
     ensures { MatchOption result (NoCut mark s.now) (λ k. CutAt mark s.now k) }
 {

@@ -23,15 +23,15 @@ pub enum ErrorKind {
     InvalidRegName,
     /// No `port` (section 3.2.3).
     InvalidPort,
-    /// No `path`, or one that can't stand where it stands (section 3.3).
+    /// No `path`, or one that isn't allowed in its place (section 3.3).
     InvalidPath,
     /// No `query` (section 3.4).
     InvalidQuery,
     /// No `fragment` (section 3.5).
     InvalidFragment,
-    /// A fragment where none may stand (`absolute-URI`, section 4.3).
+    /// A fragment where none is allowed (`absolute-URI`, section 4.3).
     UnexpectedFragment,
-    /// No scheme where one must stand (section 4.3).
+    /// No scheme where one is wanted (section 4.3).
     UnexpectedRelative,
     /// Bytes that are no UTF-8.
     InvalidUtf8,
@@ -40,7 +40,7 @@ pub enum ErrorKind {
 impl ErrorKind {
     ghost use Rattle.iri_grammar.specs.ErrorTexts.{description};
 
-    /// The kind in words, as they stand in `Error`'s `Display`.
+    /// The kind in words, as in `Error`'s `Display`.
     pub fn description(self) -> &'static str
         ensures { result.now ≡ description self }
     {

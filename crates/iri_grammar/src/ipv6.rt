@@ -19,8 +19,7 @@ fn is_group(s: &str) -> bool
     all_hex(s.as_bytes()) && 0 < s.len() && s.len() < 5
 }
 
-// How many groups stand between the colons; an IPv4 text counts as two, and may be the last part
-// where that is said.
+// How many groups are between the colons; an IPv4 text counts as two, and may be the last part where that is said.
 fn count_parts(s: &str, ipv4: bool) -> Option<usize>
     ensures { result ≡ count ipv4 (pieces colon s.now) }
 {

@@ -12,7 +12,7 @@ pub trait Spec: Copy {
     fn is_nonascii_char_unreserved(c: char) -> bool
         ensures { result ≡ tests.ucs c };
 
-    /// Whether the character is for private use, which may stand in a query.
+    /// Whether the character is for private use, which may be in a query.
     fn is_nonascii_char_private(c: char) -> bool
         ensures { result ≡ tests.priv c };
 

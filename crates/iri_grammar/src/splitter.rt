@@ -52,7 +52,7 @@ impl Clone for Splitter<'_> {
 
 impl Copy for Splitter<'_> {}
 
-// For each byte an `s` where it may stand in a scheme: letters, digits, `+`, `-` and `.`.
+// For each byte an `s` where it may be in a scheme: letters, digits, `+`, `-` and `.`.
 static SCHEME_BYTES: [u8; 256] = *b"\
     ................................\
     ...........s.ss.ssssssssss......\
@@ -69,7 +69,7 @@ fn is_scheme_byte(b: u8) -> bool
     SCHEME_BYTES[usize::from(b)] == b's'
 }
 
-// How many bytes at the start may stand in a scheme.
+// How many bytes at the start may be in a scheme.
 fn scheme_run(bytes: &[u8]) -> usize
     ensures { result ≡ run_of is_scheme_char bytes.now }
 {
@@ -81,7 +81,7 @@ fn scheme_run(bytes: &[u8]) -> usize
     bytes.len()
 }
 
-// Whether each byte may stand in a scheme.
+// Whether each byte may be in a scheme.
 #[tactic(auto, using(crate::proofs::MarkLemmas::run_of_all))]
 fn all_scheme_bytes(bytes: &[u8]) -> bool
     ensures { result ≡ list_all is_scheme_char bytes.now }
@@ -140,7 +140,7 @@ fn authority_end(bytes: &[u8]) -> Option<usize>
     memchr3(b'/', b'?', b'#', bytes)
 }
 
-// What stands before the end of an authority, and the rest from it on.
+// What comes before the end of an authority, and the rest from it on.
 fn cut_before_end(s: &str) -> (&str, &str)
     ensures front { result.0.now ≡ before_any ends_authority s.now }
     ensures rest { result.1.now ≡ from_any ends_authority s.now }
@@ -162,7 +162,7 @@ fn ends_at_start(bytes: &[u8]) -> bool
     }
 }
 
-// What stands before the end of an authority, the rest from it on, and whether the first was found to be a plain name.
+// What comes before the end of an authority, the rest from it on, and whether the first was found to be a plain name.
 #[inline(always)]
 fn look_before_end(s: &str) -> (&str, &str, bool)
     ensures front { result.0.now ≡ before_any ends_authority s.now }
@@ -274,7 +274,7 @@ impl<'a> Splitter<'a> {
         Splitter::with_tail(scheme, authority, Tail::of(rest), false)
     }
 
-    // `bare` says that no percent-encoded octet stands in path, query and fragment.
+    // `bare` says that there is no percent-encoded octet in path, query and fragment.
     fn with_tail(
         scheme: Option<&'a str>,
         authority: Option<&'a str>,

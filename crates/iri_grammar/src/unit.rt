@@ -23,7 +23,7 @@ static HEX_DIGITS: [u8; 256] = *b"\
     00000000000000000000000000000000\
     00000000000000000000000000000000";
 
-// Whether both bytes are hex digits, told without a branch.
+// Whether both bytes are hex digits, without a branch.
 #[inline(always)]
 fn are_hex_digits(a: u8, b: u8) -> bool
     ensures { result ≡ (is_ascii_hexdigit a && is_ascii_hexdigit b) }
@@ -106,7 +106,7 @@ fn wide_char_len<S: Spec>(class: Class, s: &str) -> usize
 }
 
 // How many bytes at the start are units of one kind: ASCII characters of the class, percent-encoded octets, or one character
-// past ASCII; and whether they are no percent-encoded octets. 0 where no unit stands there.
+// past ASCII; and whether they are no percent-encoded octets. 0 where there is no unit.
 #[tactic(auto, using(crate::proofs::UnitRuns::no_units))]
 #[inline(always)]
 fn same_units_len<S: Spec>(class: Class, s: &str) -> (usize, bool)
@@ -141,7 +141,8 @@ fn units_len<S: Spec>(class: Class, s: &str) -> (usize, bool)
     }
 }
 
-// The longest start of whole units of the class, what follows it, and whether no percent-encoded octet stands in the first.
+// The longest start of whole units of the class, what follows it, and whether there is no percent-encoded octet in the
+// first.
 #[inline(always)]
 pub(crate) fn cut_units<S: Spec>(class: Class, s: &str) -> (&str, &str, bool)
     ensures whole { s.now ≡ result.0.now ++ result.1.now }

@@ -1,4 +1,4 @@
-// Whether a text begins with two slashes, told from its pieces.
+// Whether a text begins with two slashes, by its pieces.
 ghost use Rattle.std.specs.Prelude.{◌≡◌};
 ghost use Rattle.iri_normal.specs.inside.Beginning.{after_byte, begun_by, is_slashes};
 

@@ -5,7 +5,7 @@ ghost use Rattle.iri_text.specs.Shown.{Shows};
 
 use iri_text::{Show, Stop, TextSink};
 
-// What is left of a text to compare with what is put. It stops at the first piece that doesn't stand at the start of that.
+// What is left of a text to compare with what is put. It stops at the first piece that isn't at the start of that.
 #[derive(Drop)]
 pub(crate) struct Comparison<'a> {
     left: &'a [u8],

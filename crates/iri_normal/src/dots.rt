@@ -67,7 +67,7 @@ fn dots_in_front(path: &[u8]) -> Option<FrontDots<'_>>
     }
 }
 
-// The dot segment at a place, where a slash stands before it.
+// The dot segment at a place, where a slash comes before it.
 #[inline(always)]
 fn dots_at(path: &[u8], i: usize) -> Option<FrontDots<'_>>
     requires { (1 ≤ i) × (i < length path.now) }
@@ -81,7 +81,7 @@ fn dots_at(path: &[u8], i: usize) -> Option<FrontDots<'_>>
     }
 }
 
-// A dot segment of a path: what stands before it, whether it is `..`, and what follows its slash.
+// A dot segment of a path: what comes before it, whether it is `..`, and what follows its slash.
 #[derive(Clone, Copy)]
 pub(crate) struct NextDots<'a> {
     pub(crate) run: &'a [u8],
@@ -127,7 +127,7 @@ fn has_dots_in(path: &[u8], i: usize) -> bool
     !are_plain(path, i) && has_dots_near(path, i)
 }
 
-// Whether a dot segment stands after a slash. Places are looked at by eight, and the last ones perhaps twice: by twos,
+// Whether a dot segment comes after a slash. Places are looked at by eight, and the last ones perhaps twice: by twos,
 // percent-encoded octets cost two instructions a byte more.
 fn has_dots_after_slash(path: &[u8]) -> bool
     requires { 9 ≤ length path.now }
@@ -203,7 +203,7 @@ pub fn is_two_dots(segment: &str) -> bool
     }
 }
 
-// Whether a dot segment stands in a short path.
+// Whether there is a dot segment in a short path.
 fn has_dots_in_short(path: &[u8]) -> bool
     ensures { result ≡ has_dot_segment path.now }
 {
@@ -213,7 +213,7 @@ fn has_dots_in_short(path: &[u8]) -> bool
     }
 }
 
-/// Whether a dot segment stands in the path.
+/// Whether there is a dot segment in the path.
 pub fn has_dot_segment(path: &str) -> bool
     ensures { result ≡ has_dot_segment path.now }
 {

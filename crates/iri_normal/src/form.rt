@@ -40,7 +40,7 @@ fn show_scheme_name<S: Spec, W: TextSink>(
     }
 }
 
-// The scheme and its colon, where it stands.
+// The scheme and its colon, where there is one.
 fn show_scheme<S: Spec, W: TextSink>(
     sink: &mut W,
     scheme: Option<&str>,
@@ -75,7 +75,7 @@ fn show_authority_name<S: Spec, W: TextSink>(
     }
 }
 
-// `//` and the authority, where it stands.
+// `//` and the authority, where there is one.
 fn show_authority<S: Spec, W: TextSink>(
     sink: &mut W,
     authority: Option<&str>,
@@ -94,7 +94,7 @@ fn show_authority<S: Spec, W: TextSink>(
     show_authority_name::<S, W>(sink, authority, normal, dropped)
 }
 
-/// Shows a scheme with its colon, and `//` with an authority, where they stand.
+/// Shows a scheme with its colon, and `//` with an authority, each where there is one.
 pub fn show_prefix<S: Spec, W: TextSink>(
     sink: &mut W,
     scheme: Option<&str>,

@@ -12,21 +12,22 @@
 //! [`CanonMode`](mode::CanonMode): the normal form by the rules of every scheme, or by scheme rules too. `laws` has what holds of all
 //! targets, forms and canonical texts. The steps from a target to its normal form are `iri_resolve`'s, which stands on this crate.
 //!
-//! Proved: a target is that of section 5.2.2, with its dots kept. What is shown is exactly the recomposition of the target's form in
-//! the mode, whatever the sink and however many segments the path has; a sink that stops, stops within that text. Only a path that
-//! would be read as an authority is told as not normalizable by RFC 3986 alone. A canonical text is the recomposition of the target's
-//! normal form; it is a URI of the grammar, splits into exactly the normal parts, and is its own canonical text against every base.
-//! `canonicalize` refuses exactly a base or a reference outside its grammar, with its first fault, the base first; memory is
-//! wanted only where both are valid. Dot removal is the rewriting of section 5.2.4, and is stable; each form fits the grammar again,
-//! and the normal ones and the preserving one are stable; a canonical text has at most three bytes more than base and reference
-//! together. A text is told to be in normal form exactly where it is, without memory. What is said of shown texts and canonical texts
-//! holds of the mode by scheme rules too; the tests of being in normal form have no such mode.
+//! Proved: a target is that of section 5.2.2, with its dots kept. What is shown is exactly the recomposition of the target's
+//! form in the mode, whatever the sink and however many segments the path has; a sink that stops, stops within that text.
+//! Only a path that would be read as an authority is answered to be not normalizable by RFC 3986 alone. A canonical text is
+//! the recomposition of the target's normal form; it is a URI of the grammar, splits into exactly the normal parts, and is
+//! its own canonical text against every base. `canonicalize` refuses exactly a base or a reference outside its grammar, with
+//! its first fault, the base first; memory is wanted only where both are valid. Dot removal is the rewriting of section
+//! 5.2.4, and is stable; each form fits the grammar again, and the normal ones and the preserving one are stable; a
+//! canonical text has at most three bytes more than base and reference together. A text is found to be in normal form
+//! exactly where it is, without memory. What is said of shown texts and canonical texts holds of the mode by scheme rules
+//! too; the tests of being in normal form have no such mode.
 //!
-//! Not proved: that memory is allocated, so that a call that always answered `Memory` would keep its contract; tests show that each
-//! succeeds with ample memory. The words of `Display` of `CanonError`, which `thiserror` makes. Any bound on time: a path is written
-//! by parts, in O(n log n) looks at its bytes; a resolver tells once whether the scheme and the authority of its base are in
-//! normal form, and of each reference whether anything in it changes, so as to write them as they stand; one that told it of none
-//! would write the same texts more slowly. Which of two equal texts a law hands back
+//! Not proved: that memory is allocated, so that a call that always answered `Memory` would keep its contract; tests show
+//! that each succeeds with ample memory. The words of `Display` of `CanonError`, which `thiserror` makes. Any bound on time:
+//! a path is written by parts, in O(n log n) looks at its bytes; a resolver tells once whether the scheme and the authority
+//! of its base are in normal form, and of each reference whether anything in it changes, so as to write them as they are;
+//! one that told it of none would write the same texts more slowly. Which of two equal texts a law hands back
 //! (`mapping_laws::canonicalize_commutes_with_mapping`).
 #![tactic(auto)]
 

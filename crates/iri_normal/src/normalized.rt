@@ -73,7 +73,7 @@ impl<'a, S: Spec, K: NormalKind> NormalizedText<'a, S, K> {
         NormalizedText::behind(None, target, whole, mode)
     }
 
-    // The same, with their prefix, where that is in normal form as it stands.
+    // The same, with their prefix, where that is in normal form as it is.
     pub(crate) fn behind(
         prefix: Option<&'a str>,
         target: TargetSlices<'a>,

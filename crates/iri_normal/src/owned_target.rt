@@ -48,7 +48,7 @@ impl<S: Spec> Model for Target<S> {
     }) };
 }
 
-// A copy of a part that may stand.
+// A copy of a part that may be absent.
 fn copied(alloc: Global, part: Option<&str>) -> Result<Option<String>, AllocError>
     ensures { IfOk result (λ copy. bytes_of copy ≡ now_of part.entry) }
 {

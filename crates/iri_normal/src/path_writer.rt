@@ -100,7 +100,7 @@ fn show_preserved<S: Spec, W: TextSink>(sink: &mut W, target: &TargetSlices<'_>)
     show_as_it_stands::<S, W>(sink, &target.path, true)
 }
 
-// Without its dot segments, and as it stands otherwise; or all as it stands.
+// Without its dot segments, and as it is otherwise; or all as it is.
 fn show_plain<S: Spec, W: TextSink>(
     sink: &mut W,
     target: &TargetSlices<'_>,
@@ -136,7 +136,7 @@ pub fn show_path<S: Spec, W: TextSink>(
     }
 }
 
-/// Whether no authority stands, and the path without its dot segments begins as one would.
+/// Whether there is no authority, and the path without its dot segments begins as one would.
 pub fn is_unresolvable<S: Spec>(target: &TargetSlices<'_>, whole: bool) -> bool
     requires { is_path S.tests (slices target.now).path ≡ true }
     ensures { result ≡ is_unresolvable whole (slices target.now) }

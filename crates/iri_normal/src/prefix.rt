@@ -54,7 +54,7 @@ fn prefix_len(scheme: Option<&str>, authority: Option<&str>) -> usize
     scheme_len(scheme) + authority_len(authority)
 }
 
-// The prefix of a base as it stands.
+// The prefix of a base as it is.
 fn prefix<'a, S: Spec>(base: &SplitView<'a, S, Absolute>) -> &'a str
     ensures { result.now ≡ prefix_in S.tests false (split_of (split_text base.now)) }
 {

@@ -1,11 +1,12 @@
 // Removal of dot segments (RFC 3986 section 5.2.4), into a sink, with no memory.
 //
-// The output buffer of the definition holds segments, each with its slash. A path of up to 512 bytes goes into such a buffer on the
-// stack, run by run (`written`): in the end it holds the path without its dot segments (`dots`), by the law `written-dots`. A longer
-// one is shown in parts. After a slash, segments take some of those before them away and then push what stays of themselves (`taken`,
-// `kept`), and the law `path-stays` says that this is what the buffer does: so a part is shown as soon as it was counted, forward, how
-// many of its segments the parts after it take away. Each part is cut in two until it is short or stays as it stands; the second part
-// is an eighth of it, so that all counts together go through a text of 64 KiB less than twice.
+// The output buffer of the definition holds segments, each with its slash. A path of up to 512 bytes goes into such a buffer
+// on the stack, run by run (`written`): in the end it holds the path without its dot segments (`dots`), by the law
+// `written-dots`. A longer one is shown in parts. After a slash, segments take some of those before them away and then push
+// what stays of themselves (`taken`, `kept`), and the law `path-stays` says that this is what the buffer does: so a part is
+// shown as soon as it was counted, forward, how many of its segments the parts after it take away. Each part is cut in two
+// until it is short or stays as it is; the second part is an eighth of it, so that all counts together go through a text of
+// 64 KiB less than twice.
 ghost use Rattle.std.specs.Prelude.{◌≡◌, ◌<◌, ◌≤◌, ◌+◌, ◌^◌, ◌==◌, ◌++◌, ◌&&◌, ◌||◌, ◌∷◌, [], false, not, true, drop, length, take};
 ghost use Rattle.std.specs.Str.{IsUtf8};
 ghost use Rattle.iri_grammar.specs.Characters.{slash};
@@ -50,7 +51,7 @@ pub fn show_part<S: Spec, W: TextSink>(sink: &mut W, part: &str, normal: bool) -
     }
 }
 
-/// A path as it stands.
+/// A path as it is.
 #[inline(always)]
 pub fn show_as_it_stands<S: Spec, W: TextSink>(
     sink: &mut W,
@@ -64,7 +65,7 @@ pub fn show_as_it_stands<S: Spec, W: TextSink>(
     show_part::<S, W>(sink, path.reference, normal)
 }
 
-// The text that stands in the buffer between two places.
+// The text in the buffer between two places.
 fn text_of(buf: &[u8; SHORT], start: usize, len: usize) -> &str
     requires within { (start ≤ len) × (len ≤ 512) }
     requires utf8 { IsUtf8 (drop start (take len buf.now)) }
@@ -196,7 +197,7 @@ fn show_long<S: Spec, W: TextSink>(
     show_from_first::<S, W>(sink, base, path.reference, normal)
 }
 
-// Whether a dot segment stands in a path.
+// Whether there is a dot segment in a path.
 fn has_dots(path: &MergedPath<'_>) -> bool
     ensures { result ≡ has_dot_segment (merged path.now) }
 {

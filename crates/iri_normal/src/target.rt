@@ -23,7 +23,7 @@ pub struct TargetSlices<'a> {
     pub fragment: Option<&'a str>,
 }
 
-// Where the last slash stands.
+// Where the last slash is.
 pub(crate) fn last_slash(path: &str) -> Option<usize>
     ensures { IsLastByte (is_byte slash) path.now result }
 {

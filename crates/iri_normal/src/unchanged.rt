@@ -1,4 +1,4 @@
-// References that end their canonical text as they stand: nothing in them changes.
+// References that end their canonical text as they are: nothing in them changes.
 ghost use Rattle.std.specs.Prelude.{◌≡◌, ◌++◌, false, true};
 ghost use Rattle.iri_grammar.specs.OptionalSlices.{now_of};
 ghost use Rattle.iri_grammar.specs.Splitters.{parts};
@@ -64,7 +64,7 @@ fn keeps_authority<S: Spec>(authority: Option<&str>) -> bool
     }
 }
 
-// Whether scheme and authority are in normal form as they stand. Others may be too.
+// Whether scheme and authority are in normal form as they are. Others may be too.
 pub(crate) fn keeps_prefix<S: Spec>(reference: &Splitter<'_>) -> bool
     ensures { result ≡ true → prefix_in S.tests true (parts reference.now) ≡ prefix_in S.tests false (parts reference.now) }
 {

@@ -70,7 +70,7 @@ fn cut_at_fragment(text: String) -> String
     text
 }
 
-// A copy of the fragment, where one stands.
+// A copy of the fragment, where there is one.
 fn copy_of<S: Spec>(
     alloc: Global,
     fragment: Option<RiFragmentStr<'_, S>>,

@@ -17,7 +17,7 @@ use std::ops::Range;
 #[cfg(test)]
 mod tests;
 
-// Writes bytes over those that stand from `start` on.
+// Writes bytes over those from `start` on.
 fn write_at(bytes: &mut [u8], start: usize, new: &[u8])
     requires { start + length new.now ≤ length bytes.old }
     ensures { bytes.new ≡ paste bytes.old start new.now (length new.now) }

@@ -21,9 +21,9 @@ use std::alloc::AllocError;
 use std::fmt;
 use std::marker::PhantomData;
 
-/// An authority that shows itself in normal form (RFC 3986 section 6.2.2): its userinfo in triplet normal form, its
-/// host in normal form, and its port as it stands. The port goes with its `:` where it is empty (section 6.2.3), or
-/// where it is the one that is dropped, compared as text.
+/// An authority that shows itself in normal form (RFC 3986 section 6.2.2): its userinfo in triplet normal form, its host in
+/// normal form, and its port as it is. The port goes with its `:` where it is empty (section 6.2.3), or where it is the one
+/// that is dropped, compared as text.
 ///
 /// ```
 /// use iri::format::ToStringFallible;
@@ -66,7 +66,7 @@ impl<'a, S: Spec> NormalizedAuthority<'a, S> {
     }
 }
 
-// The userinfo and its `@`, where it stands, in normal form.
+// The userinfo and its `@`, where there is one, in normal form.
 fn show_userinfo<S: Spec, W: TextSink>(sink: &mut W, userinfo: Option<&str>) -> Result<(), Stop>
     requires { if_there whole_triplets (now_of userinfo) ≡ true }
     ensures { Shows W.puts W.halts W.stops sink.old
@@ -102,7 +102,7 @@ fn kept_port<'a>(port: Option<&'a str>, dropped: Option<&str>) -> Option<&'a str
     Some(port)
 }
 
-// The port and its colon, where it stands.
+// The port and its colon, where there is one.
 fn show_port<W: TextSink>(sink: &mut W, port: Option<&str>) -> Result<(), Stop>
     ensures { Shows W.puts W.halts W.stops sink.old (marked colon (now_of port.entry)) sink.new result }
 {

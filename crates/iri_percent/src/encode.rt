@@ -13,7 +13,7 @@ use iri_grammar::over;
 use iri_grammar::spec::Spec;
 use iri_text::{Stop, TextSink};
 
-// A run of characters that all stand as they are, or that are all percent-encoded, and what follows it.
+// A run of characters that all stay as they are, or that are all percent-encoded, and what follows it.
 #[derive(Clone, Copy)]
 struct Run<'a> {
     stands: bool,
@@ -129,7 +129,7 @@ fn put_over<S: Spec, W: TextSink>(sink: &mut W, class: Class, text: &str) -> Res
     Ok(())
 }
 
-// Writes a raw text: a character that is kept stands as it is, and every other one becomes the percent-encoded octets of its
+// Writes a raw text: a character that is kept stays as it is, and every other one becomes the percent-encoded octets of its
 // UTF-8.
 pub(crate) fn put_encoded<S: Spec, W: TextSink>(
     sink: &mut W,

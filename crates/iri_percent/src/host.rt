@@ -104,7 +104,7 @@ fn is_plain_byte(b: u8) -> bool
     PLAIN_BYTES[usize::from(b)] % 2 == 0
 }
 
-// Whether four bytes are plain, told without a branch.
+// Whether four bytes are plain, without a branch.
 #[inline(always)]
 fn are_plain(w: u8, x: u8, y: u8, z: u8) -> bool
     ensures { result ≡ (((is_plain_byte w && is_plain_byte x) && is_plain_byte y) && is_plain_byte z) }
@@ -133,7 +133,7 @@ fn is_plain_byte_by_byte(text: &[u8]) -> bool
 }
 
 /// Whether the text is ASCII without a percent-encoded octet and a capital letter: as a host or a scheme it is in normal
-/// form as it stands.
+/// form as it is.
 pub fn is_plain(text: &[u8]) -> bool
     ensures { result ≡ list_all is_plain_byte text.now }
 {

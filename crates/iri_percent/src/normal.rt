@@ -26,7 +26,7 @@ fn stay(w: u8, x: u8, y: u8, z: u8) -> bool
     !is_mark(w, false) && !is_mark(x, false) && !is_mark(y, false) && !is_mark(z, false)
 }
 
-// How many bytes at the start have no `%`, told four at a time.
+// How many bytes at the start have no `%`, four at a time.
 fn past_fours(text: &[u8]) -> usize
     ensures within { result ≤ length text.now }
     ensures run { NoMark false text.now result }

@@ -12,9 +12,9 @@ use iri_text::{FormatSink, Show, Stop, TextSink};
 use std::fmt;
 use std::marker::PhantomData;
 
-/// A raw value whose text is percent-encoded as it is shown (RFC 3986 sections 2.1 and 2.4): each character that may
-/// stand in its place of a reference of `S` stays, and every other one, `%` among them, becomes the percent-encoded
-/// octets of its UTF-8, with capital hex digits. So what is decoded again is the raw text.
+/// A raw value whose text is percent-encoded as it is shown (RFC 3986 sections 2.1 and 2.4): each character that may be in
+/// its place of a reference of `S` stays, and every other one, `%` among them, becomes the percent-encoded octets of its
+/// UTF-8, with capital hex digits. So what is decoded again is the raw text.
 ///
 /// It takes no memory, and the value may put its text in any pieces.
 ///
@@ -161,8 +161,8 @@ impl<T: Show, S: Spec> PercentEncoded<T, S> {
         PercentEncoded::new(raw, Context::Unreserved)
     }
 
-    /// Encodes what may stand nowhere in a reference: `unreserved` and `reserved` characters are kept (RFC 3986 section
-    /// 2.2), in an IRI those for private use too.
+    /// Encodes what may be nowhere in a reference: `unreserved` and `reserved` characters are kept (RFC 3986 section 2.2),
+    /// in an IRI those for private use too.
     ///
     /// ```
     /// use iri::format::ToStringFallible;

@@ -1,7 +1,7 @@
 // Bytes at a place in a slice.
 ghost use Rattle.std.specs.Prelude.{◌≡◌, ◌≤◌, ◌+◌, ◌++◌, length, take};
 
-// Writes bytes over what stands at a place.
+// Writes bytes over what is at a place.
 pub(crate) fn copy_to(buf: &mut [u8], at: usize, bytes: &[u8])
     requires { at + length bytes.now ≤ length buf.old }
     ensures { take (at + length bytes.now) buf.new ≡ take at buf.old ++ bytes.now }

@@ -23,8 +23,8 @@ pub fn line_without_cr()
     ensures other { (bytes : List ℕ) (b : ℕ) → b ≢ carriage_return → no_cr (bytes ++ b ∷ []) ≡ bytes ++ b ∷ [] }
 {}
 
-/// Behind `place` bytes a line passes its limit where no LF stands among as many bytes as it and one more, and they are within
-/// the limit of the input.
+/// After `place` bytes a line passes its limit where there is no LF among as many bytes as it and one more, and they are
+/// within the limit of the input.
 pub fn line_past_its_limit()
     ensures { (line input place : ℕ) (front rest : List ℕ) → NoLf front → length front ≡ line + 1
         → place + length front ≤ input →
@@ -39,7 +39,8 @@ pub fn input_past_its_limit()
         limit_fault line input place 0 (front ++ last ∷ rest) ≡ Some InputTooLong }
 {}
 
-/// Behind `place` bytes a line that an LF ends passes no limit where it is within its own and its LF within that of the input.
+/// After `place` bytes a line that an LF ends passes no limit where it is within its own and its LF within that of the
+/// input.
 pub fn line_within_its_limits()
     ensures { (line input place : ℕ) (raw rest : List ℕ) → NoLf raw → length raw ≤ line → place + length raw < input →
         limit_fault line input place 0 (raw ++ line_feed ∷ rest) ≡ None }

@@ -32,8 +32,8 @@
 //! `LineReader::new` gets its memory, that memory is allocated where a string grows, and that a `Display` here fails only where the
 //! formatter does.
 //!
-//! A `LineReader` looks at each byte for an LF once, and keeps where the first one stands, so `holds_lf` looks at none. That lines
-//! come out the same in whatever pieces a source gives them is proved, and `reader/tests.rt` shows it byte by byte.
+//! A `LineReader` looks at each byte for an LF once, and keeps where the first one is, so `holds_lf` looks at none. That
+//! lines come out the same in whatever pieces a source gives them is proved, and `reader/tests.rt` shows it byte by byte.
 #![tactic(auto)]
 
 ghost use Rattle.std.specs.Prelude.{ℕ, List, Option, None, ⊤};

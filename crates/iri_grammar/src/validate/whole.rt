@@ -18,7 +18,7 @@ use crate::spec::Spec;
 use crate::splitter::Splitter;
 use crate::validate::component::{authority, fragment, path, query, scheme};
 
-// Whether no colon stands before the first slash.
+// Whether no colon comes before the first slash.
 #[inline(always)]
 fn lacks_front_colon(path: &[u8]) -> bool
     ensures { result ≡ lacks colon (before slash path.now) }
@@ -64,7 +64,7 @@ fn path_in_place<S: Spec>(p: &Splitter<'_>) -> Result<(), Error>
     colon_in_place(p)
 }
 
-// The authority, where it stands.
+// The authority, where there is one.
 fn authority_in_place<S: Spec>(p: &Splitter<'_>) -> Result<(), Error>
     ensures { Answers result (part_fault (authority_fault S.tests) (parts p.now).authority) }
 {

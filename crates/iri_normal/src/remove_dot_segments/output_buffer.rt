@@ -24,7 +24,7 @@ fn append(buf: &mut [u8; SHORT], len: usize, piece: &[u8]) -> usize
     end
 }
 
-// Where the last slash stands. Segments are short where there are many, so it is looked for byte by byte.
+// Where the last slash is. Segments are short where there are many, so it is looked for byte by byte.
 fn rfind_near(bytes: &[u8]) -> Option<usize>
     ensures { IsLastByte (is_byte 47) bytes.now result }
 {
@@ -67,7 +67,7 @@ fn leave(buf: &mut [u8; SHORT], len: usize, two: bool) -> usize
     if two { pop(buf, len) } else { len }
 }
 
-// Puts a path after what stands in the buffer, without its dot segments.
+// Puts a path after what is in the buffer, without its dot segments.
 #[inline(always)]
 fn put(buf: &mut [u8; SHORT], len: usize, path: &[u8]) -> usize
     requires room { len + length path.now ≤ 512 }
@@ -112,8 +112,8 @@ pub(crate) fn put_path(buf: &mut [u8; SHORT], base: &[u8], reference: &[u8]) -> 
     put(buf, first, reference)
 }
 
-// Puts what stays of a part of a longer path, where `count` segments are taken away after it. A slash stands before it, which no dot
-// segment takes away.
+// Puts what stays of a part of a longer path, where `count` segments are taken away after it. A slash comes before it, which
+// no dot segment takes away.
 pub(crate) fn put_kept(buf: &mut [u8; SHORT], text: &[u8], count: usize) -> usize
     requires ends { (ends_at_slash text.now || count == 0) ≡ true }
     requires short { length text.now < 512 }

@@ -16,7 +16,7 @@ use iri_grammar::cutting::cut;
 use iri_grammar::spec::Spec;
 use memchr::{memchr, memrchr};
 
-// How many slashes stand in a text.
+// How many slashes are in a text.
 fn count_slashes(text: &[u8]) -> usize
     ensures { result ≡ count_by (is_byte 47) text.now }
 {
@@ -75,7 +75,7 @@ pub(crate) fn without_first_dots<S: Spec>(text: &str) -> &str
     }
 }
 
-// Where the last slash of the first seven eighths stands, or the first one before the end.
+// Where the last slash of the first seven eighths is, or the first one before the end.
 fn slash_to_cut(text: &[u8]) -> Option<usize>
     requires { 8 ≤ length text.now }
     ensures { MatchOption result (lacks slash (take (length text.now - 1) text.now) ≡ true)

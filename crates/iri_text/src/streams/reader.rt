@@ -20,7 +20,7 @@ const BLOCK: usize = 65536;
 /// Why there is no next line.
 #[derive(Clone, Copy, Debug, PartialEq, Eq)]
 pub enum LineFault {
-    /// The source failed. What it gave before is within both limits, and no LF stands in what is held.
+    /// The source failed. What it gave before is within both limits, and there is no LF in what is held.
     Source,
     /// The line has more bytes before its LF, or before the end, than its limit. A CR counts.
     LineTooLong,
@@ -72,7 +72,7 @@ impl Model for LineReader {
     ghost invariant = { IsSound };
 }
 
-// What stands at the start of the bytes that are held.
+// What is at the start of the bytes that are held.
 enum Look {
     // A line of so many bytes, and its LF.
     Line(usize),
@@ -82,7 +82,7 @@ enum Look {
     More,
 }
 
-// Where the first LF stands, or the length where there is none. There is none before `from`.
+// Where the first LF is, or the length where there is none. There is none before `from`.
 fn find_lf(held: &[u8], from: usize) -> usize
     requires from { from ≤ length held.now }
     requires no_lf { NoLf (take from held.now) }
@@ -94,7 +94,7 @@ fn find_lf(held: &[u8], from: usize) -> usize
     }
 }
 
-// What stands there, by the first LF. From `usable` on nothing counts.
+// What is there, by the first LF. From `usable` on nothing counts.
 fn look_at(held: &[u8], lf: usize, usable: usize, limit: usize) -> Look
     requires usable { usable ≤ length held.now }
     requires first { IsFirstLf held.now lf }
@@ -313,7 +313,7 @@ impl LineReader {
         }
     }
 
-    /// Whether an LF stands in the bytes that are held. The next call of `advance` or `next_line` takes no bytes then.
+    /// Whether there is an LF in the bytes that are held. The next call of `advance` or `next_line` takes no bytes then.
     pub fn holds_lf(&self) -> bool
         ensures { NoLf self.now.held ↔ (result ≡ false) }
     {
