@@ -1,7 +1,7 @@
 -- The steps of each part lead to its normal form.
 use Rattle.std.proofs.Common.{◌≡◌, ℕ, ◌+◌, ◌<◌, ◌≤◌, Bool, true, false, cond, ◌||◌, List, [], ◌∷◌, ◌++◌, Option, Some, None, length, refl}
 use Rattle.std.proofs.Common.{sym, ◌∙◌, ap, subst, arith, append_assoc, append-nil, drop_of_length-le, length-append, drop-cons}
-use Rattle.std.specs.Prelude.{not, is_some, IsSome, drop, slice_index}
+use Rattle.std.specs.Prelude.{not, is_some, drop, slice_index}
 use Rattle.std.specs.Char.{is_ascii_uppercase, to_ascii_lowercase}
 use Rattle.std.specs.Str.{bytes_eq}
 use Rattle.std.proofs.Math.Seq.{get_or-append_seam, set-append_seam}
@@ -12,7 +12,7 @@ use Rattle.iri_grammar.proofs.AuthorityLaws.{authority_recomposed, reading_is}
 use Rattle.iri_grammar.specs.Classes.{Tests, IsSpec}
 use Rattle.iri_grammar.specs.Components.{if_there, is_userinfo, is_path, is_query, is_fragment}
 use Rattle.iri_grammar.specs.Host.{is_host}
-use Rattle.iri_grammar.specs.Parts.{Parts, Fits, path_rules, starts_with_slashes}
+use Rattle.iri_grammar.specs.Parts.{Parts, Fits, starts_with_slashes}
 use Rattle.iri_percent.specs.NormalHost.{is_ascii_host, normal_authority, normal_authority_parts, normal_host, normal_port, normal_userinfo}
 use Rattle.iri_percent.specs.Triplets.{normal, pct}
 use Rattle.iri_percent.specs.declared.canon_mode.CanonMode.{CanonMode}
@@ -231,9 +231,3 @@ pub all-pushed : (m n o p q r l a b c d e f g : List Step) → m ≡ a → n ≡
     → l ≡ (a ++ (b ++ (c ++ (d ++ e)))) ++ (f ++ g)
 all-pushed m n o p q r l a b c d e f g hm hn ho hp hq hr hl =
     let all : l ≡ (((((a ++ b) ++ c) ++ d) ++ e) ++ f) ++ g = cc in all ∙ simp append_assoc
-
-pub rules-unguarded : (o a : Option (List ℕ)) (p : List ℕ) → IsSome o → path_rules o a p ≡ true
-    → (is_some a || not (starts_with_slashes p)) ≡ true
-rules-unguarded None a p i h = cc
-rules-unguarded (Some x) (Some y) p i h = refl
-rules-unguarded (Some x) None p i h = h
