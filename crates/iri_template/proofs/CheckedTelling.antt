@@ -1,4 +1,4 @@
--- What a visitor that writes has done of a value, whether it checks types or not.
+-- What a visitor that writes has done of a value, whose type it checks.
 use Rattle.std.proofs.Common.{◌≡◌, ℕ, Bool, true, false, cond, ◌&&◌, ◌||◌, List, [], ◌∷◌, ◌++◌, map, refl, sym, ◌∙◌, ap}
 use Rattle.iri_grammar.specs.Classes.{Tests}
 use Rattle.iri_text.specs.inside.Through.{after, texts}
@@ -11,8 +11,8 @@ use Rattle.iri_template.specs.inside.Written.{WriteState, event_step, event_text
 use Rattle.iri_template.specs.declared.var_spec.Modifier.{Modifier}
 use Rattle.iri_template.specs.declared.var_spec.Modifier.TheVariants.{Whole, Explode, Prefix}
 
-abbrev pub checking : WriteState → Bool → Bool → CheckState
-checking w c b = record { write = w; checks = c; mistyped = b }
+abbrev pub checking : WriteState → Bool → CheckState
+checking w b = record { write = w; mistyped = b }
 
 -- ---- where no member is refused
 no_misfit : (u : CheckState) (e : Event) → refuses u ≡ false → is_misfit u e ≡ false
@@ -27,50 +27,50 @@ same_modifier w PairsBegun = refl
 same_modifier w (Entry k t) = refl
 same_modifier w Finished = refl
 
-still : (c : Bool) (w : WriteState) (e : Event) → (c && has_length w.modifier) ≡ false → (c && has_length (event_step w e).modifier) ≡ false
-still c w e h = ap (λ m. c && has_length m) (same_modifier w e) ∙ h
+still : (w : WriteState) (e : Event) → has_length w.modifier ≡ false → has_length (event_step w e).modifier ≡ false
+still w e h = ap has_length (same_modifier w e) ∙ h
 
-pub plain_texts : (s : Tests) (c : Bool) (w : WriteState) (b : Bool) (es : List Event) → (c && has_length w.modifier) ≡ false
-    → texts checked_step (checked_text s) (checking w c b) es ≡ texts event_step (event_text s) w es
-plain_texts s c w b [] h = refl
-plain_texts s c w b (e ∷ es) h =
-    ap (λ x. cond x [] (event_text s w e) ++ texts checked_step (checked_text s) (cond x (checking w c true) (checking (event_step w e) c b)) es)
-    (no_misfit (checking w c b) e h)
-    ∙ ap (λ l. event_text s w e ++ l) (plain_texts s c (event_step w e) b es (still c w e h))
+plain_texts : (s : Tests) (w : WriteState) (b : Bool) (es : List Event) → has_length w.modifier ≡ false
+    → texts checked_step (checked_text s) (checking w b) es ≡ texts event_step (event_text s) w es
+plain_texts s w b [] h = refl
+plain_texts s w b (e ∷ es) h =
+    ap (λ x. cond x [] (event_text s w e) ++ texts checked_step (checked_text s) (cond x (checking w true) (checking (event_step w e) b)) es)
+    (no_misfit (checking w b) e h)
+    ∙ ap (λ l. event_text s w e ++ l) (plain_texts s (event_step w e) b es (still w e h))
 
-pub plain_after : (s : Tests) (c : Bool) (w : WriteState) (b : Bool) (es : List Event) → (c && has_length w.modifier) ≡ false
-    → after checked_step (checked_text s) (checking w c b) es ≡ checking (after event_step (event_text s) w es) c b
-plain_after s c w b [] h = refl
-plain_after s c w b (e ∷ es) h =
-    ap (λ x. after checked_step (checked_text s) (cond x (checking w c true) (checking (event_step w e) c b)) es)
-    (no_misfit (checking w c b) e h)
-    ∙ plain_after s c (event_step w e) b es (still c w e h)
+plain_after : (s : Tests) (w : WriteState) (b : Bool) (es : List Event) → has_length w.modifier ≡ false
+    → after checked_step (checked_text s) (checking w b) es ≡ checking (after event_step (event_text s) w es) b
+plain_after s w b [] h = refl
+plain_after s w b (e ∷ es) h =
+    ap (λ x. after checked_step (checked_text s) (cond x (checking w true) (checking (event_step w e) b)) es)
+    (no_misfit (checking w b) e h)
+    ∙ plain_after s (event_step w e) b es (still w e h)
 
 -- ---- where members are
 module _ (s : Tests) (w : WriteState) (h : has_length w.modifier ≡ true) where
-  misfit : {X : Type 0} (ev : X → Event) → ((x : X) → is_member (ev x) ≡ true) → (b : Bool) (x : X) → is_misfit (checking w true b) (ev x) ≡ true
+  misfit : {X : Type 0} (ev : X → Event) → ((x : X) → is_member (ev x) ≡ true) → (b : Bool) (x : X) → is_misfit (checking w b) (ev x) ≡ true
   misfit ev i b x = ap (λ m. m && has_length w.modifier) (i x) ∙ h
 
   misfits_texts : {X : Type 0} (ev : X → Event) → ((x : X) → is_member (ev x) ≡ true) → (b : Bool) (xs : List X)
-      → texts checked_step (checked_text s) (checking w true b) (map ev xs ++ (Finished ∷ [])) ≡ []
+      → texts checked_step (checked_text s) (checking w b) (map ev xs ++ (Finished ∷ [])) ≡ []
   misfits_texts ev i b [] = refl
   misfits_texts ev i b (x ∷ xs) =
       ap (λ m. cond m [] (event_text s w (ev x)) ++ texts checked_step (checked_text s)
-      (cond m (checking w true true) (checking (event_step w (ev x)) true b)) (map ev xs ++ (Finished ∷ []))) (misfit ev i b x)
+      (cond m (checking w true) (checking (event_step w (ev x)) b)) (map ev xs ++ (Finished ∷ []))) (misfit ev i b x)
       ∙ misfits_texts ev i true xs
 
   misfits_after : {X : Type 0} (ev : X → Event) → ((x : X) → is_member (ev x) ≡ true) → (xs : List X)
-      → after checked_step (checked_text s) (checking w true true) (map ev xs ++ (Finished ∷ [])) ≡ checking w true true
+      → after checked_step (checked_text s) (checking w true) (map ev xs ++ (Finished ∷ [])) ≡ checking w true
   misfits_after ev i [] = refl
   misfits_after ev i (x ∷ xs) =
-      ap (λ m. after checked_step (checked_text s) (cond m (checking w true true) (checking (event_step w (ev x)) true true))
+      ap (λ m. after checked_step (checked_text s) (cond m (checking w true) (checking (event_step w (ev x)) true))
       (map ev xs ++ (Finished ∷ []))) (misfit ev i true x)
       ∙ misfits_after ev i xs
 
   first_misfit : {X : Type 0} (ev : X → Event) → ((x : X) → is_member (ev x) ≡ true) → (x : X) (xs : List X)
-      → after checked_step (checked_text s) (checking w true false) (map ev (x ∷ xs) ++ (Finished ∷ [])) ≡ checking w true true
+      → after checked_step (checked_text s) (checking w false) (map ev (x ∷ xs) ++ (Finished ∷ [])) ≡ checking w true
   first_misfit ev i x xs =
-      ap (λ m. after checked_step (checked_text s) (cond m (checking w true true) (checking (event_step w (ev x)) true false))
+      ap (λ m. after checked_step (checked_text s) (cond m (checking w true) (checking (event_step w (ev x)) false))
       (map ev xs ++ (Finished ∷ []))) (misfit ev i false x)
       ∙ misfits_after ev i xs
 
@@ -81,18 +81,18 @@ none_put ev i (x ∷ xs) = ap (λ b. b || puts_some true (map ev xs ++ (Finished
 -- ---- a value whose type is checked
 -- what was written of it, and whether it is mistyped; where it is, nothing is put
 pub record IsChecked (s : Tests) (w : WriteState) (v : ShownValue) : Type 0 where
-  pub texts_are : texts checked_step (checked_text s) (checking w true false) (telling v)
+  pub texts_are : texts checked_step (checked_text s) (checking w false) (telling v)
       ≡ cond (is_mistyped_as w.modifier v) [] (texts event_step (event_text s) w (telling v))
-  pub mistyped_is : (after checked_step (checked_text s) (checking w true false) (telling v)).mistyped ≡ is_mistyped_as w.modifier v
+  pub mistyped_is : (after checked_step (checked_text s) (checking w false) (telling v)).mistyped ≡ is_mistyped_as w.modifier v
   pub write_is : is_mistyped_as w.modifier v ≡ false
-      → (after checked_step (checked_text s) (checking w true false) (telling v)).write ≡ after event_step (event_text s) w (telling v)
+      → (after checked_step (checked_text s) (checking w false) (telling v)).write ≡ after event_step (event_text s) w (telling v)
   pub silent : is_mistyped_as w.modifier v ≡ true → puts_some (has_length w.modifier) (telling v) ≡ false
 
 without : (s : Tests) (w : WriteState) (v : ShownValue) → has_length w.modifier ≡ false → is_mistyped_as w.modifier v ≡ false → IsChecked s w v
 without s w v h k = record {
-  texts_are = plain_texts s true w false (telling v) h ∙ ap (λ b. cond b [] (texts event_step (event_text s) w (telling v))) (sym k);
-  mistyped_is = ap (λ (u : CheckState). u.mistyped) (plain_after s true w false (telling v) h) ∙ sym k;
-  write_is = λ _. ap (λ (u : CheckState). u.write) (plain_after s true w false (telling v) h);
+  texts_are = plain_texts s w false (telling v) h ∙ ap (λ b. cond b [] (texts event_step (event_text s) w (telling v))) (sym k);
+  mistyped_is = ap (λ (u : CheckState). u.mistyped) (plain_after s w false (telling v) h) ∙ sym k;
+  write_is = λ _. ap (λ (u : CheckState). u.write) (plain_after s w false (telling v) h);
   silent = λ yes. cc;
 }
 

@@ -1,123 +1,33 @@
 -- What is written where every call tells the same values; and which calls decide what is written.
-use Rattle.std.proofs.Common.{◌≡◌, ℕ, ◌+◌, ◌*◌, Bool, true, false, cond, ◌||◌, List, [], ◌∷◌, ◌++◌, None, Some, length, refl, sym, ◌∙◌, ap}
+use Rattle.std.proofs.Common.{◌≡◌, ◌≤◌, ℕ, ◌+◌, ◌*◌, Bool, true, false, cond, ◌||◌, List, [], ◌∷◌, ◌++◌, None, Some, length, refl, sym, ◌∙◌, ap}
 use Rattle.std.proofs.Common.{subst, arith, append_assoc, append-nil, Result, Ok, Err, MatchResult}
 use Rattle.std.specs.Char.{encode_utf8}
 use Rattle.std.specs.List.{flat_map}
 use Rattle.iri_grammar.specs.Characters.{percent_sign}
 use Rattle.iri_grammar.specs.Classes.{Tests, any_char}
 use Rattle.iri_percent.specs.Encoding.{encoded_char}
+use Rattle.iri_text.specs.Shown.{AreSinkLaws, Shows}
+use Rattle.iri_text.specs.declared.shown.show.Stop.{Stop}
 use Rattle.iri_template.specs.Expansion.{row_of, value_texts, varspec_texts, expression_text, expansion}
 use Rattle.iri_template.specs.Fault.{fault, first}
 use Rattle.iri_template.specs.Led.{led, has_texts}
 use Rattle.iri_template.specs.Portions.{Portion, outside, varspec_portion, varspec_portions, portions_from, portions, portions_fault, portions_text}
 use Rattle.iri_template.specs.ShownValues.{ShownValue}
 use Rattle.iri_template.specs.Tells.{Telling, later, always}
-use Rattle.iri_template.specs.Template.{VarSpec, Piece, literal, triplet, expression, operator_text, varspec_text, piece_text}
+use Rattle.iri_template.specs.Template.{Modifier, whole, explode, prefix, VarSpec, Piece, literal, triplet, expression, operator_text, varspec_text, piece_text}
 use Rattle.iri_template.specs.TypeFaults.{is_mistyped, varspecs_type_fault, type_fault_from, type_fault}
-use Rattle.iri_template.specs.Writings.{IsRefused, EndsAs}
+use Rattle.iri_template.specs.Writings.{StopsAt, IsRefused, EndsAs, IsCaused, HasCause}
+use Rattle.iri_template.specs.inside.ByPurpose.{by_purpose, untold}
 use Rattle.iri_template.specs.declared.error.Error.{Error}
-use Rattle.iri_template.specs.declared.error.ErrorKind.TheVariants.{UnexpectedValueType}
+use Rattle.iri_template.specs.declared.error.ErrorKind.{ErrorKind}
+use Rattle.iri_template.specs.declared.error.ErrorKind.TheVariants.{WriteFailed, ExpressionNotClosed, InvalidCharacter, InvalidExpression}
+use Rattle.iri_template.specs.declared.error.ErrorKind.TheVariants.{InvalidPercentEncoding, InvalidUtf8, UnexpectedValueType, UnsupportedOperator, Memory}
 use Rattle.iri_template.specs.declared.operator.Operator.{Operator}
 use Rattle.iri_template.specs.declared.visitor.VisitPurpose.TheVariants.{Typecheck, Expand}
 use Rattle.iri_template.proofs.FaultLemmas.{neither}
 use Rattle.iri_template.proofs.PartPortions.{outside_fault, outside_text}
 use Rattle.iri_template.proofs.PortionWalk.{fault_behind, text_behind}
 use Rattle.iri_template.proofs.Telling.{led-append, led_expression}
-
--- ---- faults
-or_same : (b : Bool) → (b || b) ≡ b
-or_same true = refl
-or_same false = refl
-
-faults_append : (ps qs : List Portion) → portions_fault (ps ++ qs) ≡ first (portions_fault ps) (portions_fault qs)
-faults_append [] qs = refl
-faults_append (p ∷ ps) qs =
-    elim p.mistyped as (λ b. cond b (fault UnexpectedValueType p.location) (portions_fault (ps ++ qs))
-    ≡ first (cond b (fault UnexpectedValueType p.location) (portions_fault ps)) (portions_fault qs)) [
-      | true ↦ refl
-      | false ↦ faults_append ps qs
-    ]
-
-module _ (s : Tests) (value : List ℕ → ShownValue) where
-  specs_fault : (operator : Operator) (at : ℕ) (written : Bool) (vs : List VarSpec)
-      → portions_fault (varspec_portions s operator (always value) at written vs) ≡ varspecs_type_fault value at vs
-  specs_fault operator at written [] = refl
-  specs_fault operator at written (v ∷ vs) =
-      let b = is_mistyped v.modifier (value v.name) in
-      let now = written || has_texts (value_texts s (row_of operator) v.name v.modifier (value v.name)) in
-      let there = at + length (varspec_text v) + 1 in
-      ap (λ m. cond m (fault UnexpectedValueType at) (portions_fault (varspec_portions s operator (always value) there now vs))) (or_same b)
-      ∙ ap (λ f. cond b (fault UnexpectedValueType at) f) (specs_fault operator there now vs)
-
-  fault_from : (at here : ℕ) (front : List ℕ) (ps : List Piece)
-      → portions_fault (portions_from s (always value) at here front ps) ≡ type_fault_from value here ps
-  fault_from at here front [] = outside_fault at front
-  fault_from at here front (literal c ∷ ps) = fault_from at (here + length (encode_utf8 c)) (front ++ encoded_char (any_char s) c) ps
-  fault_from at here front (triplet a b ∷ ps) = fault_from at (here + 3) (front ++ percent_sign ∷ a ∷ b ∷ []) ps
-  fault_from at here front (expression operator vs ∷ ps) =
-      let inner = varspec_portions s operator (always value) (here + 1 + length (operator_text operator)) false vs in
-      let there = here + length (piece_text (expression operator vs)) in
-      let others = portions_from s (always value) there there [] ps in
-      fault_behind (outside at front) (inner ++ others) (outside_fault at front) ∙ faults_append inner others
-      ∙ ap (λ f. first f (portions_fault others)) (specs_fault operator (here + 1 + length (operator_text operator)) false vs)
-      ∙ ap (first (varspecs_type_fault value (here + 1 + length (operator_text operator)) vs)) (fault_from there there [] ps)
-
-  pub fixed_fault : (ps : List Piece) → portions_fault (portions s (always value) ps) ≡ type_fault value ps
-  fixed_fault ps = fault_from 0 0 [] ps
-
-  -- ---- texts
-  specs_text : (operator : Operator) (at : ℕ) (written : Bool) (vs : List VarSpec) → varspecs_type_fault value at vs ≡ None
-      → portions_text (varspec_portions s operator (always value) at written vs)
-      ≡ led (row_of operator) written (flat_map (varspec_texts s operator value) vs)
-  specs_text operator at written [] h = refl
-  specs_text operator at written (v ∷ vs) h =
-      let ts = varspec_texts s operator value v in
-      let now = written || has_texts ts in
-      let there = at + length (varspec_text v) + 1 in
-      let rest = portions_text (varspec_portions s operator (always value) there now vs) in
-      elim (is_mistyped v.modifier (value v.name)) as (λ b. cond b (fault UnexpectedValueType at) (varspecs_type_fault value there vs) ≡ None
-      → cond (b || b) [] (led (row_of operator) written ts ++ rest)
-      ≡ led (row_of operator) written (ts ++ flat_map (varspec_texts s operator value) vs)) [
-        | true ↦ λ k. cc
-        | false ↦ λ k. ap (λ l. led (row_of operator) written ts ++ l) (specs_text operator there now vs k)
-            ∙ sym (led-append (row_of operator) written ts (flat_map (varspec_texts s operator value) vs))
-      ] h
-
-  text_from : (at here : ℕ) (front : List ℕ) (ps : List Piece) → type_fault_from value here ps ≡ None
-      → portions_text (portions_from s (always value) at here front ps) ≡ front ++ expansion s value ps
-  text_from at here front [] h = outside_text at front ∙ sym (append-nil front)
-  text_from at here front (literal c ∷ ps) h =
-      text_from at (here + length (encode_utf8 c)) (front ++ encoded_char (any_char s) c) ps h
-      ∙ append_assoc front (encoded_char (any_char s) c) (expansion s value ps)
-  text_from at here front (triplet a b ∷ ps) h =
-      let t : List ℕ = percent_sign ∷ a ∷ b ∷ [] in
-      text_from at (here + 3) (front ++ t) ps h ∙ append_assoc front t (expansion s value ps)
-  text_from at here front (expression operator vs ∷ ps) h =
-      let place = here + 1 + length (operator_text operator) in
-      let inner = varspec_portions s operator (always value) place false vs in
-      let there = here + length (piece_text (expression operator vs)) in
-      let others = portions_from s (always value) there there [] ps in
-      let both = neither (varspecs_type_fault value place vs) (type_fault_from value there ps) h in
-      text_behind (outside at front) (inner ++ others) (outside_fault at front)
-      ∙ ap (λ l. l ++ portions_text (inner ++ others)) (outside_text at front)
-      ∙ ap (λ l. front ++ l) (text_behind inner others (specs_fault operator place false vs ∙ both.0)
-      ∙ ap (λ l. l ++ portions_text others) (specs_text operator place false vs both.0
-      ∙ led_expression (row_of operator) (flat_map (varspec_texts s operator value) vs))
-      ∙ ap (λ l. expression_text (row_of operator) (flat_map (varspec_texts s operator value) vs) ++ l) (text_from there there [] ps both.1))
-
-  pub fixed_text : (ps : List Piece) → type_fault value ps ≡ None → portions_text (portions s (always value) ps) ≡ expansion s value ps
-  fixed_text ps h = text_from 0 0 [] ps h
-
-  -- ---- how such an expansion ends
-  pub fixed_ends : {W : Type 0} (puts halts : W → List ℕ → W → Type 0) (ps : List Piece) (a b : W) (r : Result (Unit {0}) Error)
-      → EndsAs puts halts (portions s (always value) ps) a b r
-      → MatchResult r (λ _. (type_fault value ps ≡ None) × puts a (expansion s value ps) b)
-      (λ e. e.kind ≡ UnexpectedValueType → type_fault value ps ≡ Some e)
-  fixed_ends puts halts ps a b (Ok x) q =
-      let none = sym (fixed_fault ps) ∙ q.0 in
-      (none, subst (λ l. puts a l b) (fixed_text ps none) q.1)
-  fixed_ends puts halts ps a b (Err e) q = λ kind.
-      sym (fixed_fault ps) ∙ (subst (IsRefused puts halts (portions s (always value) ps) a b e) kind q).0
 
 -- ---- which calls decide
 -- the same at the calls for types, which are even, and at those that write, which are odd
@@ -165,3 +75,179 @@ module _ (s : Tests) where
 pub same_portions : (s : Tests) (f g : Telling) (ps : List Piece) → ((i : ℕ) (name : List ℕ) → f (2 * i) name Typecheck ≡ g (2 * i) name Typecheck)
     → ((i : ℕ) (name : List ℕ) → f (2 * i + 1) name Expand ≡ g (2 * i + 1) name Expand) → portions s f ps ≡ portions s g ps
 same_portions s f g ps looks writes = same_from s f g 0 0 [] ps (record { looks = looks; writes = writes })
+
+-- ---- faults
+or_same : (b : Bool) → (b || b) ≡ b
+or_same true = refl
+or_same false = refl
+
+faults_append : (ps qs : List Portion) → portions_fault (ps ++ qs) ≡ first (portions_fault ps) (portions_fault qs)
+faults_append [] qs = refl
+faults_append (p ∷ ps) qs =
+    elim p.mistyped as (λ b. cond b (fault UnexpectedValueType p.location) (portions_fault (ps ++ qs))
+    ≡ first (cond b (fault UnexpectedValueType p.location) (portions_fault ps)) (portions_fault qs)) [
+      | true ↦ refl
+      | false ↦ faults_append ps qs
+    ]
+
+-- ---- a stop
+-- where none is mistyped, a stop within one of the texts is one within all
+here_fine : (here : Portion) (rest : List Portion) → portions_fault (here ∷ rest) ≡ None → portions_text (here ∷ rest) ≡ here.text ++ portions_text rest
+here_fine here rest h = elim here.mistyped as (λ b. cond b (fault UnexpectedValueType here.location) (portions_fault rest) ≡ None
+    → cond b [] (here.text ++ portions_text rest) ≡ here.text ++ portions_text rest) [ true ↦ λ k. cc | false ↦ λ k. refl ] h
+
+halts_within : {W : Type 0} {puts halts : W → List ℕ → W → Type 0} (laws : AreSinkLaws puts halts) (ps : List Portion) (at : ℕ) (a b : W)
+    → portions_fault ps ≡ None → StopsAt puts halts ps at a b → halts a (portions_text ps) b
+halts_within {halts = halts} laws ps at a b none q =
+    let r = q.reached in
+    let both = neither (portions_fault r.front) (portions_fault (r.here ∷ r.rest))
+    (sym (faults_append r.front (r.here ∷ r.rest)) ∙ ap portions_fault (sym r.split) ∙ none) in
+    subst (λ l. halts a l b)
+    (ap (λ l. portions_text r.front ++ l) (sym (here_fine r.here r.rest both.1)) ∙ sym (text_behind r.front (r.here ∷ r.rest) both.0)
+    ∙ ap portions_text (sym r.split))
+    (laws.until a q.mid b (portions_text r.front) (r.here.text ++ portions_text r.rest) q.put
+    (laws.within q.mid b r.here.text (portions_text r.rest) q.halt))
+
+-- ---- where types are looked at in values of their own
+-- no type that is looked at is wrong where that of the value that is written is right
+abbrev pub AddsNone : (List ℕ → ShownValue) → (List ℕ → ShownValue) → Type 0
+AddsNone looked value = (m : Modifier) (name : List ℕ) → (is_mistyped m (looked name) || is_mistyped m (value name)) ≡ is_mistyped m (value name)
+
+pub untold_adds : (value : List ℕ → ShownValue) → AddsNone untold value
+untold_adds value whole name = refl
+untold_adds value explode name = refl
+untold_adds value (prefix ds) name = refl
+
+module _ (s : Tests) (looked value : List ℕ → ShownValue) (adds : AddsNone looked value) where
+  abbrev telling : Telling
+  telling = by_purpose looked value
+
+  specs_fault : (operator : Operator) (at : ℕ) (written : Bool) (vs : List VarSpec)
+      → portions_fault (varspec_portions s operator telling at written vs) ≡ varspecs_type_fault value at vs
+  specs_fault operator at written [] = refl
+  specs_fault operator at written (v ∷ vs) =
+      let b = is_mistyped v.modifier (value v.name) in
+      let now = written || has_texts (value_texts s (row_of operator) v.name v.modifier (value v.name)) in
+      let there = at + length (varspec_text v) + 1 in
+      ap (λ m. cond m (fault UnexpectedValueType at) (portions_fault (varspec_portions s operator telling there now vs))) (adds v.modifier v.name)
+      ∙ ap (λ f. cond b (fault UnexpectedValueType at) f) (specs_fault operator there now vs)
+
+  fault_from : (at here : ℕ) (front : List ℕ) (ps : List Piece)
+      → portions_fault (portions_from s telling at here front ps) ≡ type_fault_from value here ps
+  fault_from at here front [] = outside_fault at front
+  fault_from at here front (literal c ∷ ps) = fault_from at (here + length (encode_utf8 c)) (front ++ encoded_char (any_char s) c) ps
+  fault_from at here front (triplet a b ∷ ps) = fault_from at (here + 3) (front ++ percent_sign ∷ a ∷ b ∷ []) ps
+  fault_from at here front (expression operator vs ∷ ps) =
+      let inner = varspec_portions s operator telling (here + 1 + length (operator_text operator)) false vs in
+      let there = here + length (piece_text (expression operator vs)) in
+      let others = portions_from s telling there there [] ps in
+      fault_behind (outside at front) (inner ++ others) (outside_fault at front) ∙ faults_append inner others
+      ∙ ap (λ f. first f (portions_fault others)) (specs_fault operator (here + 1 + length (operator_text operator)) false vs)
+      ∙ ap (first (varspecs_type_fault value (here + 1 + length (operator_text operator)) vs)) (fault_from there there [] ps)
+
+  whole_fault : (ps : List Piece) → portions_fault (portions s telling ps) ≡ type_fault value ps
+  whole_fault ps = fault_from 0 0 [] ps
+
+  -- ---- texts
+  specs_text : (operator : Operator) (at : ℕ) (written : Bool) (vs : List VarSpec) → varspecs_type_fault value at vs ≡ None
+      → portions_text (varspec_portions s operator telling at written vs)
+      ≡ led (row_of operator) written (flat_map (varspec_texts s operator value) vs)
+  specs_text operator at written [] h = refl
+  specs_text operator at written (v ∷ vs) h =
+      let ts = varspec_texts s operator value v in
+      let now = written || has_texts ts in
+      let there = at + length (varspec_text v) + 1 in
+      let rest = portions_text (varspec_portions s operator telling there now vs) in
+      ap (λ b. cond b [] (led (row_of operator) written ts ++ rest)) (adds v.modifier v.name)
+      ∙ elim (is_mistyped v.modifier (value v.name)) as (λ b. cond b (fault UnexpectedValueType at) (varspecs_type_fault value there vs) ≡ None
+      → cond b [] (led (row_of operator) written ts ++ rest)
+      ≡ led (row_of operator) written (ts ++ flat_map (varspec_texts s operator value) vs)) [
+        | true ↦ λ k. cc
+        | false ↦ λ k. ap (λ l. led (row_of operator) written ts ++ l) (specs_text operator there now vs k)
+            ∙ sym (led-append (row_of operator) written ts (flat_map (varspec_texts s operator value) vs))
+      ] h
+
+  text_from : (at here : ℕ) (front : List ℕ) (ps : List Piece) → type_fault_from value here ps ≡ None
+      → portions_text (portions_from s telling at here front ps) ≡ front ++ expansion s value ps
+  text_from at here front [] h = outside_text at front ∙ sym (append-nil front)
+  text_from at here front (literal c ∷ ps) h =
+      text_from at (here + length (encode_utf8 c)) (front ++ encoded_char (any_char s) c) ps h
+      ∙ append_assoc front (encoded_char (any_char s) c) (expansion s value ps)
+  text_from at here front (triplet a b ∷ ps) h =
+      let t : List ℕ = percent_sign ∷ a ∷ b ∷ [] in
+      text_from at (here + 3) (front ++ t) ps h ∙ append_assoc front t (expansion s value ps)
+  text_from at here front (expression operator vs ∷ ps) h =
+      let place = here + 1 + length (operator_text operator) in
+      let inner = varspec_portions s operator telling place false vs in
+      let there = here + length (piece_text (expression operator vs)) in
+      let others = portions_from s telling there there [] ps in
+      let both = neither (varspecs_type_fault value place vs) (type_fault_from value there ps) h in
+      text_behind (outside at front) (inner ++ others) (outside_fault at front)
+      ∙ ap (λ l. l ++ portions_text (inner ++ others)) (outside_text at front)
+      ∙ ap (λ l. front ++ l) (text_behind inner others (specs_fault operator place false vs ∙ both.0)
+      ∙ ap (λ l. l ++ portions_text others) (specs_text operator place false vs both.0
+      ∙ led_expression (row_of operator) (flat_map (varspec_texts s operator value) vs))
+      ∙ ap (λ l. expression_text (row_of operator) (flat_map (varspec_texts s operator value) vs) ++ l) (text_from there there [] ps both.1))
+
+  whole_text : (ps : List Piece) → type_fault value ps ≡ None → portions_text (portions s telling ps) ≡ expansion s value ps
+  whole_text ps h = text_from 0 0 [] ps h
+
+  -- ---- where no fault is there, it is written, or the sink stopped within it
+  pub shows_all : {W : Type 0} {puts halts : W → List ℕ → W → Type 0} {stops : W → ℕ} {x : Unit {0}} (ps : List Piece) (a b : W)
+      → type_fault value ps ≡ None → EndsAs puts halts (portions s telling ps) a b (Ok x) → stops a ≤ stops b
+      → Shows puts halts stops a (expansion s value ps) b (Ok tt)
+  shows_all {puts = puts} ps a b none q on = record {
+    appends = subst (λ l. puts a l b) (whole_text ps none) q.1;
+    stops_within = tt;
+    rose = tt;
+    later = on;
+  }
+
+  stopped : {W : Type 0} {puts halts : W → List ℕ → W → Type 0} {stops : W → ℕ} {d : Stop} (laws : AreSinkLaws puts halts) (ps : List Piece)
+      (a b : W) (e : Error) (kind : ErrorKind) → type_fault value ps ≡ None → IsRefused puts halts (portions s telling ps) a b e kind
+      → IsCaused (stops a) (stops b) kind → stops a ≤ stops b → Shows puts halts stops a (expansion s value ps) b (Err d)
+  stopped {halts = halts} laws ps a b e WriteFailed none q rose on = record {
+    appends = tt;
+    stops_within = subst (λ l. halts a l b) (whole_text ps none) (halts_within laws (portions s telling ps) e.location a b
+        (whole_fault ps ∙ none) q);
+    rose = rose;
+    later = on;
+  }
+  stopped laws ps a b e UnexpectedValueType none q rose on = let clash = sym (whole_fault ps ∙ none) ∙ q.0 in cc
+  stopped laws ps a b e ExpressionNotClosed none q rose on = absurd q
+  stopped laws ps a b e InvalidCharacter none q rose on = absurd q
+  stopped laws ps a b e InvalidExpression none q rose on = absurd q
+  stopped laws ps a b e InvalidPercentEncoding none q rose on = absurd q
+  stopped laws ps a b e InvalidUtf8 none q rose on = absurd q
+  stopped laws ps a b e UnsupportedOperator none q rose on = absurd q
+  stopped laws ps a b e Memory none q rose on = absurd q
+
+  pub shows_stop : {W : Type 0} {puts halts : W → List ℕ → W → Type 0} {stops : W → ℕ} {d : Stop} (laws : AreSinkLaws puts halts) (ps : List Piece)
+      (a b : W) (e : Error) → type_fault value ps ≡ None → EndsAs puts halts (portions s telling ps) a b (Err e)
+      → HasCause (stops a) (stops b) (Err e) → stops a ≤ stops b → Shows puts halts stops a (expansion s value ps) b (Err d)
+  shows_stop {stops = stops} laws ps a b e none q rose on = stopped {stops = stops} laws ps a b e e.kind none q rose on
+
+-- ---- the same values at every call
+module _ (s : Tests) (value : List ℕ → ShownValue) where
+  none_added : AddsNone value value
+  none_added m name = or_same (is_mistyped m (value name))
+
+  by_value : (ps : List Piece) → portions s (always value) ps ≡ portions s (by_purpose value value) ps
+  by_value ps = same_portions s (always value) (by_purpose value value) ps (λ i name. refl) (λ i name. refl)
+
+  pub fixed_fault : (ps : List Piece) → portions_fault (portions s (always value) ps) ≡ type_fault value ps
+  fixed_fault ps = ap portions_fault (by_value ps) ∙ whole_fault s value value none_added ps
+
+  pub fixed_text : (ps : List Piece) → type_fault value ps ≡ None → portions_text (portions s (always value) ps) ≡ expansion s value ps
+  fixed_text ps h = ap portions_text (by_value ps) ∙ whole_text s value value none_added ps h
+
+  -- ---- how such an expansion ends
+  pub fixed_ends : {W : Type 0} (puts halts : W → List ℕ → W → Type 0) (ps : List Piece) (a b : W) (r : Result (Unit {0}) Error)
+      → EndsAs puts halts (portions s (always value) ps) a b r
+      → MatchResult r (λ _. (type_fault value ps ≡ None) × puts a (expansion s value ps) b)
+      (λ e. e.kind ≡ UnexpectedValueType → type_fault value ps ≡ Some e)
+  fixed_ends puts halts ps a b (Ok x) q =
+      let none = sym (fixed_fault ps) ∙ q.0 in
+      (none, subst (λ l. puts a l b) (fixed_text ps none) q.1)
+  fixed_ends puts halts ps a b (Err e) q = λ kind.
+      sym (fixed_fault ps) ∙ (subst (IsRefused puts halts (portions s (always value) ps) a b e) kind q).0

@@ -19,7 +19,6 @@ pub mod UnitShows
 pub mod Telling
 pub mod VarSpecWalk
 pub mod PartWalk
-pub mod WriterShows
 pub mod ThroughEach
 pub mod UnitRuns
 pub mod CheckedTelling

@@ -17,7 +17,7 @@ use Rattle.iri_template.specs.Template.{Piece, literal, triplet, expression, Var
 use Rattle.iri_template.specs.Fault.{fault}
 use Rattle.iri_template.specs.Tells.{Telling, later, WhereTold, MovesBy}
 use Rattle.iri_template.specs.Writings.{EndsAs, CallsUpTo}
-use Rattle.iri_template.specs.inside.PartEnds.{PartEnds, PartCalls, calls_of, begin_behind}
+use Rattle.iri_template.specs.inside.PartEnds.{PartEnds, PartCalls, calls_of, begin_after}
 use Rattle.iri_template.specs.inside.Parts.{part_pieces, IsPlaced}
 use Rattle.iri_template.specs.declared.error.Error.{Error}
 use Rattle.iri_template.specs.declared.error.ErrorKind.TheVariants.{WriteFailed, UnexpectedValueType}
@@ -306,7 +306,7 @@ module _ {W : Type 0} (s : Tests) (puts halts : W → List ℕ → W → Type 0)
   part_more : (p : Part) (t r x : List ℕ) (begin here there : ℕ) (b c : W) (y : Unit {0}) → PartCut p t r → IsPlaced p here
       → x ≡ template_text (part_pieces p) → there ≡ here + (length t - length r) → (h k : Telling) → MovesBy (calls_of p) (Some h) (Some k)
       → PartEnds s puts halts begin x b c (Ok y) p h → HasReached s puts all a f h begin here t b
-      → HasReached s puts all a f k (begin_behind p begin there) there r c
+      → HasReached s puts all a f k (begin_after p begin there) there r c
   part_more (part.Literals l) t r x begin here there b c y cut placed text e h k m q p =
       subst (λ (n : Telling). HasReached s puts all a f n begin there r c) (moved_none h k m)
       (literals_more h begin here there t r (encoded (any_char s) l.now) (map literal (chars l.now)) cut.pieces
@@ -381,7 +381,7 @@ module _ {W : Type 0} (s : Tests) (puts halts : W → List ℕ → W → Type 0)
   pub reached_more : (p : Part) (t r x : List ℕ) (begin : ℕ) (b c : W) (y : Unit {0}) → PartCut p t r → IsPlaced p (length whole - length t)
       → x ≡ template_text (part_pieces p) → length r < length t → length t ≤ length whole → (u w z : Option Telling)
       → BothTold u w (ReachedUpTo begin t b) → MovesBy (calls_of p) w z → WhereTold w (PartEnds s puts halts begin x b c (Ok y) p)
-      → BothTold u z (ReachedUpTo (begin_behind p begin (length whole - length r)) r c)
+      → BothTold u z (ReachedUpTo (begin_after p begin (length whole - length r)) r c)
   reached_more p t r x begin b c y cut placed text shorter within None w z i m q = tt
   reached_more p t r x begin b c y cut placed text shorter within (Some f) None z i m q = absurd i
   reached_more p t r x begin b c y cut placed text shorter within (Some f) (Some h) None i m q = absurd m

@@ -1,4 +1,4 @@
--- A walk over the parts of a template without a fault: what is written of them, and their values' types.
+-- A walk over the parts of a template without a fault: the part at the start, and the types of values.
 use Rattle.std.proofs.Common.{◌≡◌, ℕ, ◌+◌, ◌-◌, cond, List, [], ◌∷◌, ◌++◌, None, length, map, refl, sym, ◌∙◌, ap, subst, arith}
 use Rattle.std.proofs.Common.{append_assoc, append-nil, length-append, Ok, Err}
 use Rattle.std.specs.Str.{IsUtf8}
@@ -52,55 +52,6 @@ part_cut p at t r k u v h =
       text = whole;
       len = ap length whole ∙ length-append (template_text (part_pieces p)) r;
     }
-
--- ---- what is written
-pub literals_stand : (s : Tests) (value : List ℕ → ShownValue) (cs : List ℕ)
-    → expansion s value (map literal cs) ≡ flat_map (encoded_char (any_char s)) cs
-literals_stand s value [] = refl
-literals_stand s value (c ∷ cs) = ap (λ l. encoded_char (any_char s) c ++ l) (literals_stand s value cs)
-
-pub nothing_written : (s : Tests) (value : List ℕ → ShownValue) (t : List ℕ) → length t ≡ 0 → expansion s value (pieces_of t) ≡ []
-unfolding pieces_from
-nothing_written s value [] h = refl
-nothing_written s value (x ∷ xs) h = absurd (omega arith)
-
--- the parts in front of the rest were written
-pub record HasWritten {W : Type 0} (s : Tests) (value : List ℕ → ShownValue) (puts : W → List ℕ → W → Type 0) (stops : W → ℕ) (all : List ℕ)
-    (old : W) (rest : List ℕ) (new : W) : Type 0 where
-  pub before : List ℕ
-  pub put : HasShown puts stops old before new
-  pub split : expansion s value (pieces_of all) ≡ before ++ expansion s value (pieces_of rest)
-
-module _ {W : Type 0} {puts halts : W → List ℕ → W → Type 0} {stops : W → ℕ} (laws : AreSinkLaws puts halts) (s : Tests)
-    (value : List ℕ → ShownValue) (all : List ℕ) where
-  pub written_none : (a : W) → HasWritten s value puts stops all a all a
-  written_none a = record { before = []; put = shown_none laws a; split = refl }
-
-  pub written_more : {a b c : W} {x : Unit {0}} (p : Part) (t r : List ℕ) → PartCut p t r → HasWritten s value puts stops all a t b
-      → Shows puts halts stops b (expansion s value (part_pieces p)) c (Ok x) → HasWritten s value puts stops all a r c
-  written_more p t r k h q = record {
-    before = h.before ++ expansion s value (part_pieces p);
-    put = shown_more laws h.put q;
-    split = h.split ∙ ap (λ l. h.before ++ l) (ap (expansion s value) k.pieces
-        ∙ flat_map-append (piece_expansion s value) (part_pieces p) (pieces_of r))
-        ∙ sym (append_assoc h.before (expansion s value (part_pieces p)) (expansion s value (pieces_of r)));
-  }
-
-  pub written_exit : {a b c : W} {e : Stop} (p : Part) (t r : List ℕ) → PartCut p t r → HasWritten s value puts stops all a t b
-      → Shows puts halts stops b (expansion s value (part_pieces p)) c (Err e)
-      → Shows puts halts stops a (expansion s value (pieces_of all)) c (Err e)
-  written_exit {a = a} {c = c} {e = e} p t r k h q =
-      subst (λ l. Shows puts halts stops a l c (Err e))
-      (append_assoc h.before (expansion s value (part_pieces p)) (expansion s value (pieces_of r))
-      ∙ ap (λ l. h.before ++ l) (sym (flat_map-append (piece_expansion s value) (part_pieces p) (pieces_of r))
-      ∙ ap (expansion s value) (sym k.pieces)) ∙ sym h.split)
-      (shown_exit laws {r = Err e} (expansion s value (pieces_of r)) refl h.put q)
-
-  pub written_end : {a b : W} (t : List ℕ) → length t ≡ 0 → HasWritten s value puts stops all a t b
-      → Shows puts halts stops a (expansion s value (pieces_of all)) b (Ok tt)
-  written_end {a = a} {b = b} t z h =
-      subst (λ l. Shows puts halts stops a l b (Ok tt))
-      (sym (append-nil h.before) ∙ ap (λ l. h.before ++ l) (sym (nothing_written s value t z)) ∙ sym h.split) (shows_all h.put)
 
 -- ---- types
 pub types-append : (value : List ℕ → ShownValue) (at : ℕ) (ps qs : List Piece)

@@ -39,36 +39,12 @@ pub fine_left : (t : List ℕ) (o : Option (Bor (List ℕ))) → now_of o ≡ be
 fine_left t o e h k = (taken t (name_of (before 44 t)) o e refl h k).fine
 
 -- ---- what is written
-abbrev pub spec_texts : Tests → Operator → (List ℕ → ShownValue) → List ℕ → List (List ℕ)
-spec_texts s operator value p = varspec_texts s operator value (varspec_of p)
-
-abbrev pub spec_step : Tests → Operator → (List ℕ → ShownValue) → Bool → List ℕ → Bool
-spec_step s operator value written p = written || has_texts (spec_texts s operator value p)
-
-abbrev pub spec_text : Tests → Operator → (List ℕ → ShownValue) → Bool → List ℕ → List ℕ
-spec_text s operator value written p = led (row_of operator) written (spec_texts s operator value p)
-
 pub held_spec : (s : Tests) (operator : Operator) (value : List ℕ → ShownValue) (v : VarSpec) (w : template.VarSpec) → IsHeld v w
     → told_texts s (row_of operator) v.name.text.now v.modifier (value v.name.text.now) ≡ varspec_texts s operator value w
 held_spec s operator value v w i =
     ap (λ n. told_texts s (row_of operator) n v.modifier (value n)) i.name
     ∙ ap (λ m. told_texts s (row_of operator) w.name m (value w.name)) i.modifier
     ∙ held_texts s (row_of operator) w.name w.modifier (value w.name)
-
-all_specs : (s : Tests) (operator : Operator) (value : List ℕ → ShownValue) (written : Bool) (ps : List (List ℕ))
-    → texts (spec_step s operator value) (spec_text s operator value) written ps
-    ≡ led (row_of operator) written (flat_map (varspec_texts s operator value) (map varspec_of ps))
-all_specs s operator value written [] = refl
-all_specs s operator value written (p ∷ ps) =
-    ap (λ l. spec_text s operator value written p ++ l) (all_specs s operator value (spec_step s operator value written p) ps)
-    ∙ sym (led-append (row_of operator) written (spec_texts s operator value p)
-    (flat_map (varspec_texts s operator value) (map varspec_of ps)))
-
-pub whole_expression : (s : Tests) (operator : Operator) (value : List ℕ → ShownValue) (ps : List (List ℕ))
-    → texts (spec_step s operator value) (spec_text s operator value) false ps
-    ≡ expression_text (row_of operator) (flat_map (varspec_texts s operator value) (map varspec_of ps))
-whole_expression s operator value ps = all_specs s operator value false ps
-    ∙ led_expression (row_of operator) (flat_map (varspec_texts s operator value) (map varspec_of ps))
 
 -- ---- types
 pub spec_len : (p : List ℕ) → moved 0 (varspec_fault p) ≡ None → length (varspec_text (varspec_of p)) ≡ length p

@@ -1,5 +1,5 @@
 -- How a visitor that writes and checks types has ended, once it was told a value.
-use Rattle.std.proofs.Common.{◌≡◌, ℕ, true, false, cond, ◌&&◌, ◌||◌, List, [], ◌∷◌, ◌++◌, Option, None, Some, refl, sym, ◌∙◌, ap, subst}
+use Rattle.std.proofs.Common.{◌≡◌, ℕ, Bool, true, false, cond, ◌&&◌, ◌||◌, List, [], ◌∷◌, ◌++◌, Option, None, Some, refl, sym, ◌∙◌, ap, subst}
 use Rattle.std.proofs.Common.{append-nil, Result, Ok, Err}
 use Rattle.iri_grammar.specs.Classes.{Tests}
 use Rattle.iri_text.specs.Shown.{AreSinkLaws, Shows}
@@ -15,14 +15,15 @@ use Rattle.iri_template.specs.Tells.{Telling, WhereTold}
 use Rattle.iri_template.specs.TypeFaults.{is_mistyped_as}
 use Rattle.iri_template.specs.Writings.{EndsAs}
 use Rattle.iri_template.specs.inside.Checked.{has_length, CheckState, checked_step, checked_text, puts_some, place_texts, place_portion}
-use Rattle.iri_template.specs.inside.Written.{state_at}
+use Rattle.iri_template.specs.inside.Written.{WriteState, state_at, event_step, event_text}
 use Rattle.iri_template.specs.inside.WriterHears.{WriterHears, WriterHalts, state_of}
 use Rattle.iri_template.specs.declared.error.Error.{Error}
 use Rattle.iri_template.specs.declared.error.ErrorKind.TheVariants.{WriteFailed, UnexpectedValueType}
+use Rattle.iri_template.specs.declared.place.Place.{Place}
 use Rattle.iri_template.specs.declared.value_writer.ValueWriter.{ValueWriter}
 use Rattle.iri_template.specs.declared.visitor.VisitPurpose.TheVariants.{Expand}
 use Rattle.iri_template.proofs.CheckedTelling.{checking, IsChecked, is_checked}
-use Rattle.iri_template.proofs.WriterShows.{first_text, first_written}
+use Rattle.iri_template.proofs.Telling.{told_text, told_written}
 
 -- ---- one portion
 module _ {W : Type 0} (puts halts : W → List ℕ → W → Type 0) (p : Portion) where
@@ -59,13 +60,26 @@ module _ {W : Type 0} (puts halts : W → List ℕ → W → Type 0) (p : Portio
   })
 
 -- ---- the visitor
-module _ {S W : Type 0} (s : Tests) (a : ValueWriter S W) (v : ShownValue) (checks : a.checks ≡ true) (right : a.mistyped ≡ false)
+abbrev begun : Place → Bool → WriteState
+begun p b = record { operator = p.operator; name = p.name.text.now; modifier = p.modifier; written = p.written; member = b }
+
+first_text : (s : Tests) (p : Place) (v : ShownValue) → p.member ≡ false
+    → texts event_step (event_text s) (begun p p.member) (telling v) ≡ led (row_of p.operator) p.written (place_texts s p v)
+first_text s p v e = ap (λ b. texts event_step (event_text s) (begun p b) (telling v)) e
+    ∙ told_text s p.operator p.name.text.now p.modifier p.written v
+
+first_written : (s : Tests) (p : Place) (v : ShownValue) → p.member ≡ false
+    → (after event_step (event_text s) (begun p p.member) (telling v)).written ≡ (p.written || has_texts (place_texts s p v))
+first_written s p v e = ap (λ b. (after event_step (event_text s) (begun p b) (telling v)).written) e
+    ∙ told_written s p.operator p.name.text.now p.modifier p.written v
+
+module _ {S W : Type 0} (s : Tests) (a : ValueWriter S W) (v : ShownValue) (right : a.mistyped ≡ false)
     (first : a.place.member ≡ false) where
   checked : IsChecked s (state_at a.place) v
   checked = is_checked s (state_at a.place) v
 
-  begins : state_of s a ≡ checking (state_at a.place) true false
-  begins = ap (λ c. checking (state_at a.place) c a.mistyped) checks ∙ ap (λ b. checking (state_at a.place) true b) right
+  begins : state_of s a ≡ checking (state_at a.place) false
+  begins = ap (checking (state_at a.place)) right
 
   text_is : texts checked_step (checked_text s) (state_of s a) (telling v)
       ≡ cond (is_mistyped_as a.place.modifier v) [] (led (row_of a.place.operator) a.place.written (place_texts s a.place v))
@@ -111,8 +125,7 @@ module _ {S W : Type 0} (s : Tests) (a : ValueWriter S W) (v : ShownValue) (chec
     pub ends_stopped : {d : Stop} → AreSinkLaws puts halts → (at : ℕ) (e : Error) → e ≡ record { kind = WriteFailed; location = at }
         → Heard (Err d) → EndsAs puts halts (portion_at at ∷ []) a.to.now b.to.now (Err e)
     ends_stopped laws at e is q =
-        let some : puts_some (has_length a.place.modifier) (telling v) ≡ true =
-        ap (λ c. puts_some (c && has_length a.place.modifier) (telling v)) (sym checks) ∙ q.stops_within.put in
+        let some : puts_some (has_length a.place.modifier) (telling v) ≡ true = q.stops_within.put in
         let no : is_mistyped_as a.place.modifier v ≡ false =
         elim (is_mistyped_as a.place.modifier v) as (λ k. is_mistyped_as a.place.modifier v ≡ k → k ≡ false) [
           | true ↦ λ yes. let none = checked.silent yes in cc

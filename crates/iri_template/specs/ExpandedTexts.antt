@@ -14,7 +14,7 @@ use Rattle.iri_template.specs.declared.expanded.ExpandedError.{ExpandedError}
 use Rattle.iri_template.specs.declared.expanded.ExpandedError.TheVariants.{Invalid, Memory}
 
 -- the expansion of the template with the values of the context
-abbrev pub expanded_text : {S C : Type 0} → Tests → (C → List ℕ → ShownValue) → Expanded S C → List ℕ
+abbrev pub expanded_text : {S C : Type 0} {g : _} → Tests → (C → List ℕ → ShownValue) → Expanded S C g → List ℕ
 expanded_text s value_of e = expansion s (value_of e.context.now) (pieces_of (text e.template))
 
 -- the text is handed out with its fault; allocation failure says nothing of it

@@ -1,4 +1,5 @@
 -- What private contracts cite, and laws that an `impl` cites.
+pub mod ByPurpose
 pub mod CharFront
 pub mod CharFrontText
 pub mod Checked

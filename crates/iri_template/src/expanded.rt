@@ -1,12 +1,15 @@
 //! Templates that are expanded (RFC 6570 section 3).
-ghost use Rattle.std.specs.Prelude.{◌≡◌, IfOk, MatchResult, Some};
+ghost use Rattle.std.specs.Prelude.{◌≡◌, IfOk, MatchResult, None, Some};
 ghost use Rattle.iri_grammar.specs.WholeFault.{reference_fault, iri_fault, absolute_fault, relative_fault};
-ghost use Rattle.iri_template.specs.ExpandedTexts.{expanded_text, RefusedAs, IsWithin};
+ghost use Rattle.iri_template.specs.Reading.{pieces_of};
+ghost use Rattle.iri_template.specs.Texts.{text};
+ghost use Rattle.iri_template.specs.TypeFaults.{type_fault};
 
 use crate::context::Context;
+use crate::expansion_writer::write_expansion;
 use crate::length::is_within;
-use crate::part_writer::write_expansion;
 use crate::template::UriTemplateStr;
+use crate::typechecked::Typechecked;
 use iri_grammar::spec::Spec;
 use iri_owned::error::CreationError;
 use iri_owned::owned::{Owned, RiAbsoluteString, RiReferenceString, RiRelativeString, RiString};
@@ -18,13 +21,14 @@ use std::marker::PhantomData;
 
 /// A template whose expansion for a URI or an IRI is shown, with the values of a context (RFC 6570 section 3). It
 /// takes no memory, and the values may put their texts in any pieces.
-pub struct Expanded<'a, S, C> {
+pub struct Expanded<'a, S, C: Context> {
     pub(crate) template: UriTemplateStr<'a>,
     pub(crate) context: &'a C,
     pub(crate) spec: PhantomData<S>,
+    pub ghost fine: { ∥ type_fault (C.value_of context.now) (pieces_of (text template)) ≡ None ∥₁ },
 }
 
-impl<S, C> Clone for Expanded<'_, S, C> {
+impl<S, C: Context> Clone for Expanded<'_, S, C> {
     ghost is_clone = { λ e f. f ≡ e };
 
     ghost is_infallible = { λ _. Unit {0} };
@@ -34,7 +38,7 @@ impl<S, C> Clone for Expanded<'_, S, C> {
     }
 }
 
-impl<S, C> Copy for Expanded<'_, S, C> {}
+impl<S, C: Context> Copy for Expanded<'_, S, C> {}
 
 /// Why an expansion was made no owned text of its kind.
 #[derive(Debug, Drop, thiserror::Error)]
@@ -53,7 +57,11 @@ impl<'a, S: Spec, C: Context> Show for Expanded<'a, S, C> {
     ghost text = { λ e. expanded_text S.tests C.value_of e };
 
     fn show<W: TextSink>(&self, sink: &mut W) -> Result<(), Stop> {
-        write_expansion::<C, S, W>(sink, self.context, self.template.as_str())
+        let mut values = Typechecked::new(self.context);
+        match write_expansion::<Typechecked<'_, C>, S, W>(sink, &mut values, self.template.as_str()) {
+            Ok(()) => Ok(()),
+            Err(_) => Err(Stop),
+        }
     }
 }
 
@@ -68,6 +76,8 @@ impl<'a, S: Spec, C: Context> fmt::Display for Expanded<'a, S, C> {
 }
 
 impl<'a, S: Spec, C: Context> Expanded<'a, S, C> {
+    ghost use Rattle.iri_template.specs.ExpandedTexts.{expanded_text, RefusedAs, IsWithin};
+
     /// The expansion as an owned text of a kind.
     fn into_owned<K: Kind>(&self, alloc: Global) -> Result<Owned<S, K>, ExpandedError>
         ensures { MatchResult result (λ t. t.text ≡ expanded_text S.tests C.value_of self.now)

@@ -11,9 +11,9 @@ ghost use Rattle.iri_template.specs.Writings.{EndsAs, HasCause, CallsUpTo, IsStr
 
 use crate::context::Context;
 use crate::dynamic_context::DynamicContext;
-use crate::dynamic_writer::write_template;
 use crate::error::{Error, ErrorKind};
 use crate::expanded::Expanded;
+use crate::expansion_writer::write_expansion;
 use crate::part::{Part, read_part};
 use crate::type_fault::find_type_fault;
 use crate::variables::UriTemplateVariables;
@@ -181,7 +181,7 @@ impl<'a> UriTemplateStr<'a> {
             (C.tells context.old) (C.tells context.new))) }
     {
         context.on_expansion_start();
-        let result = write_template::<C, S, W>(writer, context, self.text);
+        let result = write_expansion::<C, S, W>(writer, context, self.text);
         end_expansion(context, result)
     }
 

@@ -6,33 +6,30 @@ use crate::place::Place;
 use crate::visitor::Phase;
 use std::marker::PhantomData;
 
-/// Writes the value that it is told to a sink. Where it checks types, and a length stands, it takes the members of a value
-/// and writes none of them: the value is mistyped.
+/// Writes the value that it is told to a sink. Where a prefix stands, it takes the members of a value and writes none of
+/// them: the value is mistyped.
 #[derive(Drop)]
 pub(crate) struct ValueWriter<'w, S, W> {
     pub(crate) to: &'w mut W,
     pub(crate) place: Place<'w>,
     pub(crate) phase: Phase,
-    pub(crate) checks: bool,
     pub(crate) mistyped: bool,
     spec: PhantomData<S>,
 }
 
 impl<'w, S, W> ValueWriter<'w, S, W> {
     /// What the variable is told goes to the sink.
-    pub(crate) fn new(to: &'w mut W, place: Place<'w>, checks: bool) -> ValueWriter<'w, S, W>
+    pub(crate) fn new(to: &'w mut W, place: Place<'w>) -> ValueWriter<'w, S, W>
         ensures same { result.to.ghost_name ≡ to.entry.ghost_name }
         ensures now { result.to.now ≡ to.old }
         ensures place { result.place ≡ place.entry }
         ensures phase { result.phase ≡ Fresh }
-        ensures checks { result.checks ≡ checks }
         ensures mistyped { result.mistyped ≡ false }
     {
         ValueWriter {
             to,
             place,
             phase: Phase::Fresh,
-            checks,
             mistyped: false,
             spec: PhantomData,
         }

@@ -169,7 +169,7 @@ impl<'w, S: Spec, W: TextSink> Visitor for ValueWriter<'w, S, W> {
     }
 
     fn visit_item<T: Show>(&mut self, item: &T) -> Result<(), Stop> {
-        if self.checks && has_length(self.place.modifier) {
+        if has_length(self.place.modifier) {
             self.mistyped = true;
             return Ok(());
         }
@@ -186,7 +186,7 @@ impl<'w, S: Spec, W: TextSink> Visitor for ValueWriter<'w, S, W> {
     }
 
     fn visit_entry<K: Show, T: Show>(&mut self, key: &K, value: &T) -> Result<(), Stop> {
-        if self.checks && has_length(self.place.modifier) {
+        if has_length(self.place.modifier) {
             self.mistyped = true;
             return Ok(());
         }

@@ -1,4 +1,4 @@
--- What is written for the events of a value, where types are checked: a varspec with a length has no use for members.
+-- What is written for the events of a value, whose type is checked: a varspec with a prefix has no use for members.
 use Rattle.std.specs.Prelude.{ℕ, Bool, true, false, cond, not, ◌&&◌, ◌||◌, List, [], ◌∷◌}
 use Rattle.iri_grammar.specs.Classes.{Tests}
 use Rattle.iri_template.specs.Events.{Event, StringTold, Item, Entry}
@@ -20,22 +20,21 @@ has_length Whole = false
 has_length Explode = false
 has_length (Prefix n) = true
 
--- how far the value was written; whether its type is checked; whether it had a member that was refused
+-- how far the value was written; whether it had a member that was refused
 pub record CheckState : Type 0 where
   pub write : WriteState
-  pub checks : Bool
   pub mistyped : Bool
 
 abbrev pub refuses : CheckState → Bool
-refuses u = u.checks && has_length u.write.modifier
+refuses u = has_length u.write.modifier
 
 -- a member, where members are refused
 abbrev pub is_misfit : CheckState → Event → Bool
 is_misfit u e = is_member e && refuses u
 
 abbrev pub checked_step : CheckState → Event → CheckState
-checked_step u e = cond (is_misfit u e) (record { write = u.write; checks = u.checks; mistyped = true })
-    (record { write = event_step u.write e; checks = u.checks; mistyped = u.mistyped })
+checked_step u e = cond (is_misfit u e) (record { write = u.write; mistyped = true })
+    (record { write = event_step u.write e; mistyped = u.mistyped })
 
 abbrev pub checked_text : Tests → CheckState → Event → List ℕ
 checked_text s u e = cond (is_misfit u e) [] (event_text s u.write e)

@@ -12,7 +12,7 @@ use Rattle.iri_template.specs.declared.value_writer.ValueWriter.{ValueWriter}
 
 module _ {S W : Type 0} (s : Tests) where
   abbrev pub state_of : ValueWriter S W → CheckState
-  state_of v = record { write = state_at v.place; checks = v.checks; mistyped = v.mistyped }
+  state_of v = record { write = state_at v.place; mistyped = v.mistyped }
 
   abbrev pub refused_by : ValueWriter S W → Bool
   refused_by v = refuses (state_of v)

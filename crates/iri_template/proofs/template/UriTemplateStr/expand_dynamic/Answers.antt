@@ -13,7 +13,7 @@ pub returns-clause-written : goal.returns-clause-written
 returns-clause-written g c =
     let w = g.W.TextSink in
     let d = g.C.DynamicContext in
-    let written = c.write_template-result in
+    let written = c.write_expansion-result in
     let begun = d.tells c.on_expansion_start.new.self in
     told_later 1 (d.tells c.args.context.now) begun
     (λ f. EndsAs w.puts w.halts (portions g.S.Spec.tests f (pieces_of (text c.args.self))) c.args.writer.now written.new.sink c.end_expansion.result)
@@ -25,7 +25,7 @@ returns-clause-written g c =
 pub returns-clause-refused : goal.returns-clause-refused
 returns-clause-refused g c =
     let d = g.C.DynamicContext in
-    let written = c.write_template-result in
+    let written = c.write_expansion-result in
     calls_between (d.tells c.args.context.now) (d.tells c.on_expansion_start.new.self) (d.tells written.new.context)
     (d.tells c.end_expansion.new.context) (λ f. portions g.S.Spec.tests f (pieces_of (text c.args.self))) c.end_expansion.result
     c.on_expansion_start.ensures.moves c.end_expansion.ensures.end.moves

@@ -1,5 +1,5 @@
-//! Expressions that are written where values may change (RFC 6570 section 3.2.1).
-ghost use Rattle.std.specs.Prelude.{◌≡◌, ◌≤◌, ◌<◌, ◌+◌, ◌*◌, ◌^◌, ◌||◌, [], ◌∷◌, true, false, cond, None};
+//! Expressions that are written (RFC 6570 section 3.2.1).
+ghost use Rattle.std.specs.Prelude.{◌≡◌, ◌≤◌, ◌<◌, ◌+◌, ◌*◌, ◌^◌, ◌||◌, [], ◌∷◌, false, cond, None};
 ghost use Rattle.std.specs.Prelude.{map, length, IfErr, OnOk};
 ghost use Rattle.iri_grammar.specs.Pieces.{pieces};
 ghost use Rattle.iri_template.specs.Expansion.{row_of};
@@ -48,7 +48,6 @@ fn tell_next<C: DynamicContext, S: Spec, W: TextSink>(
 ) -> Result<(), Error>
     requires fresh { visitor.old.phase ≡ Fresh }
     requires first { visitor.old.place.member ≡ false }
-    requires checks { visitor.old.checks ≡ true }
     requires right { visitor.old.mistyped ≡ false }
     ensures written { WhereTold (C.tells context.old)
         (λ f. EndsAs W.puts W.halts (place_portion S.tests at visitor.old.place false
@@ -76,7 +75,7 @@ fn tell_next<C: DynamicContext, S: Spec, W: TextSink>(
     }
 }
 
-/// Writes the value that the context tells next, behind the operator's first text or its separator. `at` is the place of
+/// Writes the value that the context tells next, after the operator's first text or its separator. `at` is the place of
 /// the varspec.
 fn write_next<C: DynamicContext, S: Spec, W: TextSink>(
     sink: &mut W,
@@ -105,7 +104,7 @@ fn write_next<C: DynamicContext, S: Spec, W: TextSink>(
         written: *written,
         member: false,
     };
-    let mut visitor = ValueWriter::<S, W>::new(sink, place, true);
+    let mut visitor = ValueWriter::<S, W>::new(sink, place);
     let result = tell_next(&mut visitor, context, at);
     *written = visitor.place.written;
     result
@@ -143,7 +142,7 @@ fn write_varspec<C: DynamicContext, S: Spec, W: TextSink>(
     write_next::<C, S, W>(sink, context, operator, varspec, at, written)
 }
 
-/// Writes the values of varspecs, which have no fault. `at` is their place, and a brace stands behind them.
+/// Writes the values of varspecs, which have no fault. `at` is their place, and a brace stands after them.
 pub(crate) fn write_varspecs<C: DynamicContext, S: Spec, W: TextSink>(
     sink: &mut W,
     context: &mut C,

@@ -10,7 +10,7 @@ use Rattle.iri_template.proofs.PartPortions.{ReachedUpTo, reached_none, reached_
 use Rattle.iri_template.proofs.PartWalk.{part_cut}
 use Rattle.iri_template.proofs.TellWalk.{BothTold, HasMoved, moved_none, moved_more, moved_all}
 use Rattle.iri_template.proofs.Walks.{never}
-use Rattle.iri_template.proofs.dynamic_writer.write_template.Goals as goal
+use Rattle.iri_template.proofs.expansion_writer.write_expansion.Goals as goal
 
 pub parts-init : goal.parts-init
 parts-init g c =
@@ -64,7 +64,7 @@ parts-preserved g c =
       far =
           subst (λ n. BothTold (d.tells c.args.context.now) (d.tells c.write_part.new.context)
           (ReachedUpTo g.S.Spec.tests w.puts w.halts g.met.W.TextSink.rules whole c.args.sink.now n r c.write_part.new.sink))
-          (sym c.begin_behind-begin.ensures)
+          (sym c.begin_after-begin.ensures)
           (reached_more g.S.Spec.tests w.puts w.halts g.met.W.TextSink.rules whole c.args.sink.now c.in-Ok.part t r c.range-text.result.now
           c.parts.begin c.parts.sink c.write_part.new.sink tt k c.in-Ok.ensures.placed text shorter i.len
           (d.tells c.args.context.now) (d.tells c.parts.context) (d.tells c.write_part.new.context) i.far q.moves q.written);

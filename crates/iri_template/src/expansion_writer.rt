@@ -1,21 +1,31 @@
-//! Templates that are written where values may change (RFC 6570 section 3.1).
+//! Expansions that are written (RFC 6570 section 3.1).
 ghost use Rattle.std.specs.Prelude.{◌≡◌, ◌≤◌, ◌<◌, ◌+◌, ◌-◌, ◌*◌, ◌^◌, length, IfErr, OnOk, None};
+ghost use Rattle.iri_text.specs.Shown.{Shows};
+ghost use Rattle.iri_percent.specs.Encoding.{encoded, keeps};
+ghost use Rattle.iri_percent.specs.declared.context.Context.TheVariants.{Any};
 ghost use Rattle.iri_template.specs.Fault.{text_fault};
 ghost use Rattle.iri_template.specs.Portions.{portions};
 ghost use Rattle.iri_template.specs.Reading.{pieces_of};
 ghost use Rattle.iri_template.specs.Template.{names_of, template_text};
 ghost use Rattle.iri_template.specs.Tells.{WhereTold, MovesBy};
 ghost use Rattle.iri_template.specs.Writings.{EndsAs, HasCause, CallsUpTo};
-ghost use Rattle.iri_template.specs.inside.PartEnds.{PartEnds, PartCalls, calls_of, begin_behind, told_of};
+ghost use Rattle.iri_template.specs.inside.PartEnds.{PartEnds, PartCalls, calls_of, begin_after, told_of};
 ghost use Rattle.iri_template.specs.inside.Parts.{part_pieces, part_fault, EndsBefore};
 
 use crate::dynamic_context::DynamicContext;
-use crate::dynamic_varspecs::write_varspecs;
 use crate::error::{Error, ErrorKind};
+use crate::expression_writer::write_varspecs;
 use crate::part::{Part, read_part};
-use crate::part_writer::write_literals;
 use iri_grammar::spec::Spec;
-use iri_text::{Stop, TextSink};
+use iri_percent::PercentEncoded;
+use iri_text::{Show, Stop, TextSink};
+
+/// Writes literals: what a reference of `S` can't hold becomes triplets.
+fn write_literals<S: Spec, W: TextSink>(sink: &mut W, literals: &str) -> Result<(), Stop>
+    ensures { Shows W.puts W.halts W.stops sink.old (encoded (keeps S.tests Any) literals.now) sink.new result }
+{
+    PercentEncoded::<&str, S>::characters(literals).show(sink)
+}
 
 /// What is told of literals and triplets that begin at this place, where they were put or the sink stopped within them.
 fn told(put: Result<(), Stop>, begin: usize) -> Result<(), Error>
@@ -60,9 +70,9 @@ fn write_part<C: DynamicContext, S: Spec, W: TextSink>(
     }
 }
 
-/// Where the literals and triplets behind a part begin, which ends at `end`.
-fn begin_behind(part: Part<'_>, begin: usize, end: usize) -> usize
-    ensures { result ≡ begin_behind part.entry begin end }
+/// Where the literals and triplets after a part begin, which ends at `end`.
+fn begin_after(part: Part<'_>, begin: usize, end: usize) -> usize
+    ensures { result ≡ begin_after part.entry begin end }
 {
     match part {
         Part::Expression(_) => end,
@@ -72,7 +82,7 @@ fn begin_behind(part: Part<'_>, begin: usize, end: usize) -> usize
 }
 
 /// Writes the expansion of a template.
-pub(crate) fn write_template<C: DynamicContext, S: Spec, W: TextSink>(
+pub(crate) fn write_expansion<C: DynamicContext, S: Spec, W: TextSink>(
     sink: &mut W,
     context: &mut C,
     template: &str,
@@ -98,7 +108,7 @@ pub(crate) fn write_template<C: DynamicContext, S: Spec, W: TextSink>(
                 let text = &rest[..rest.len() - next.len()];
                 match write_part::<C, S, W>(sink, context, part, text, begin) {
                     Ok(()) => {
-                        begin = begin_behind(part, begin, template.len() - next.len());
+                        begin = begin_after(part, begin, template.len() - next.len());
                         rest = next;
                     }
                     Err(error) => return Err(error),

@@ -4,7 +4,7 @@ use denote.Shadow.{shadow}
 use Rattle.iri_template.specs.Fault.{text_fault}
 use Rattle.iri_template.proofs.PartPortions.{names_in, ReachedUpTo}
 use Rattle.iri_template.proofs.TellWalk.{BothTold, HasMoved}
-use Rattle.iri_template.proofs.dynamic_writer.write_template.Given as goal
+use Rattle.iri_template.proofs.expansion_writer.write_expansion.Given as goal
 
 -- the parts in front of those that are left were written, with two calls for each varspec
 abbrev pub invariant-parts : goal.invariant-parts

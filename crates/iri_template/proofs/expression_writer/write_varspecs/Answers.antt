@@ -10,7 +10,7 @@ use Rattle.iri_template.proofs.TellWalk.{moved_none, moved_more, moved_all}
 use Rattle.iri_template.proofs.VarSpecFaults.{cut_len, bad_varspec}
 use Rattle.iri_template.proofs.VarSpecWalk.{fine_left}
 use Rattle.iri_template.proofs.VarSpecPortions.{specs_in, specs_cut, up_to_none, up_to_more, up_to_end, up_to_exit, up_to_calls}
-use Rattle.iri_template.proofs.dynamic_varspecs.write_varspecs.Goals as goal
+use Rattle.iri_template.proofs.expression_writer.write_varspecs.Goals as goal
 
 pub varspecs-init : goal.varspecs-init
 varspecs-init g c =

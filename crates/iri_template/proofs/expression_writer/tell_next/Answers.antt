@@ -3,7 +3,7 @@ use Rattle.iri_template.specs.Led.{has_texts}
 use Rattle.iri_template.specs.Writings.{EndsAs}
 use Rattle.iri_template.specs.inside.Checked.{place_texts, place_portion}
 use Rattle.iri_template.proofs.WriterEnds.{where_next, ends_mistyped, ends_written, goes_on_written, ends_stopped}
-use Rattle.iri_template.proofs.dynamic_varspecs.tell_next.Goals as goal
+use Rattle.iri_template.proofs.expression_writer.tell_next.Goals as goal
 
 pub returns-then-visitor-clause-written : goal.returns-then-visitor-clause-written
 returns-then-visitor-clause-written g c =
@@ -13,7 +13,7 @@ returns-then-visitor-clause-written g c =
     let h = c.in-Ok.ensures.visit in
     where_next (g.C.DynamicContext.tells c.args.context.now) a.place.name.text.now h.value
     (λ v. EndsAs w.puts w.halts (place_portion s c.args.at a.place false v ∷ []) a.to.now c.visit_dynamic.new.visitor.to.now (Err c.new.result)) h.next
-    (ends_mistyped s a h.value c.requires.checks c.requires.right c.requires.first w.puts w.halts w.stops c.visit_dynamic.new.visitor c.args.at c.new.result
+    (ends_mistyped s a h.value c.requires.right c.requires.first w.puts w.halts w.stops c.visit_dynamic.new.visitor c.args.at c.new.result
     c.new.ensures c.if-visitor.true h.visits.tells)
 
 pub returns-else-visitor-clause-written : goal.returns-else-visitor-clause-written
@@ -24,7 +24,7 @@ returns-else-visitor-clause-written g c =
     let h = c.in-Ok.ensures.visit in
     where_next (g.C.DynamicContext.tells c.args.context.now) a.place.name.text.now h.value
     (λ v. EndsAs w.puts w.halts (place_portion s c.args.at a.place false v ∷ []) a.to.now c.visit_dynamic.new.visitor.to.now (Ok tt)) h.next
-    (ends_written s a h.value c.requires.checks c.requires.right c.requires.first w.puts w.halts w.stops c.visit_dynamic.new.visitor c.args.at tt
+    (ends_written s a h.value c.requires.right c.requires.first w.puts w.halts w.stops c.visit_dynamic.new.visitor c.args.at tt
     c.if-visitor.false h.visits.tells)
 
 pub returns-else-visitor-clause-goes_on : goal.returns-else-visitor-clause-goes_on
@@ -35,7 +35,7 @@ returns-else-visitor-clause-goes_on g c =
     let h = c.in-Ok.ensures.visit in
     where_next (g.C.DynamicContext.tells c.args.context.now) a.place.name.text.now h.value
     (λ v. c.visit_dynamic.new.visitor.place.written ≡ (a.place.written || has_texts (place_texts s a.place v))) h.next
-    (goes_on_written s a h.value c.requires.checks c.requires.right c.requires.first w.puts w.halts w.stops c.visit_dynamic.new.visitor
+    (goes_on_written s a h.value c.requires.right c.requires.first w.puts w.halts w.stops c.visit_dynamic.new.visitor
     c.if-visitor.false h.visits.tells)
 
 pub returns-in-Err-clause-written : goal.returns-in-Err-clause-written
@@ -47,5 +47,5 @@ returns-in-Err-clause-written g c =
     where_next (g.C.DynamicContext.tells c.args.context.now) a.place.name.text.now h.value
     (λ v. EndsAs w.puts w.halts (place_portion s c.args.at a.place false v ∷ []) a.to.now c.visit_dynamic.new.visitor.to.now
     (Err c.new-in-Err.result)) h.next
-    (ends_stopped s a h.value c.requires.checks c.requires.right c.requires.first w.puts w.halts w.stops c.visit_dynamic.new.visitor g.met.W.TextSink.rules
+    (ends_stopped s a h.value c.requires.right c.requires.first w.puts w.halts w.stops c.visit_dynamic.new.visitor g.met.W.TextSink.rules
     c.args.at c.new-in-Err.result c.new-in-Err.ensures h.visits.tells)
