@@ -14,7 +14,7 @@ pub mod UnitLaws
 pub mod Drains
 pub mod FrontUnits
 pub mod FrontChars
-pub mod EqualsLaws
+pub mod FirstChars
 pub mod UnitShows
 pub mod Telling
 pub mod VarSpecWalk

@@ -1,18 +1,11 @@
 -- A walk over the parts of a template without a fault: the part at the start, and the types of values.
-use Rattle.std.proofs.Common.{◌≡◌, ℕ, ◌+◌, ◌-◌, cond, List, [], ◌∷◌, ◌++◌, None, length, map, refl, sym, ◌∙◌, ap, subst, arith}
-use Rattle.std.proofs.Common.{append_assoc, append-nil, length-append, Ok, Err}
+use Rattle.std.proofs.Common.{◌≡◌, ℕ, ◌+◌, ◌-◌, cond, List, [], ◌∷◌, ◌++◌, None, length, map, refl, sym, ◌∙◌, ap, arith}
+use Rattle.std.proofs.Common.{length-append}
 use Rattle.std.specs.Str.{IsUtf8}
 use Rattle.std.specs.Str.Lossy.{utf8_valid_len}
 use Rattle.std.proofs.lemmas.Grind.{flat_map-append}
 use Rattle.std.proofs.lemmas.Str.{is_utf8-from_IsUtf8}
-use Rattle.std.specs.List.{flat_map}
-use Rattle.iri_grammar.specs.Classes.{Tests, any_char}
-use Rattle.iri_percent.specs.Encoding.{encoded_char}
-use Rattle.iri_text.specs.Shown.{AreSinkLaws, Shows}
-use Rattle.iri_text.proofs.Compose.{HasShown, shown_none, shown_more, shown_exit, shows_all}
-use Rattle.iri_text.specs.declared.shown.show.Stop.{Stop}
 use Rattle.iri_template.specs.Template.{Piece, literal, piece_text, template_text}
-use Rattle.iri_template.specs.Expansion.{piece_expansion, expansion}
 use Rattle.iri_template.specs.Fault.{fault, fault_from, text_fault, first}
 use Rattle.iri_template.specs.inside.Parts.{part_pieces, part_fault, IsFront}
 use Rattle.iri_template.specs.Reading.{pieces_from, pieces_of}

@@ -1,7 +1,6 @@
 -- A walk over varspecs without a fault: what is written of them, and their values' types.
-use Rattle.std.proofs.Common.{◌≡◌, ℕ, ◌+◌, Bool, true, false, cond, ◌||◌, List, [], ◌∷◌, ◌++◌, Option, Some, None, length, map, refl, sym}
+use Rattle.std.proofs.Common.{◌≡◌, ℕ, ◌+◌, true, false, cond, List, ◌∷◌, Option, Some, None, length, map, refl, sym}
 use Rattle.std.proofs.Common.{◌∙◌, ap}
-use Rattle.std.specs.List.{flat_map}
 use denote.Ref.{Bor}
 use Rattle.iri_grammar.specs.Classes.{Tests}
 use Rattle.iri_grammar.specs.Cut.{before, behind}
@@ -9,23 +8,21 @@ use Rattle.iri_grammar.specs.Pieces.{pieces}
 use Rattle.iri_grammar.specs.inside.PiecesLaws.{more_pieces}
 use Rattle.iri_grammar.proofs.PiecesLaws.{pieces_cut}
 use Rattle.iri_grammar.specs.OptionalSlices.{now_of}
-use Rattle.iri_text.specs.inside.Through.{texts}
 use Rattle.iri_template.specs.Template as template
 use Rattle.iri_template.specs.Template.{varspec_text}
-use Rattle.iri_template.specs.Expansion.{row_of, varspec_texts, expression_text}
+use Rattle.iri_template.specs.Expansion.{row_of, varspec_texts}
 use Rattle.iri_template.specs.Fault.{moved, varspec_fault, varspecs_fault, fault}
 use Rattle.iri_template.specs.Left.{varspecs_left}
 use Rattle.iri_template.specs.Reading.{name_of, varspec_of}
 use Rattle.iri_template.specs.ShownValues.{ShownValue}
 use Rattle.iri_template.specs.TypeFaults.{is_mistyped, is_mistyped_as, varspecs_type_fault}
 use Rattle.iri_template.specs.VarSpecs.{held, IsHeld}
-use Rattle.iri_template.specs.Led.{led, has_texts}
 use Rattle.iri_template.specs.inside.Written.{told_texts}
 use Rattle.iri_template.specs.declared.error.ErrorKind.TheVariants.{UnexpectedValueType}
 use Rattle.iri_template.specs.declared.operator.Operator.{Operator}
 use Rattle.iri_template.specs.declared.var_spec.VarSpec.{VarSpec}
 use Rattle.iri_template.proofs.FaultLemmas.{moved_none}
-use Rattle.iri_template.proofs.Telling.{held_texts, led_expression, led-append}
+use Rattle.iri_template.proofs.Telling.{held_texts}
 use Rattle.iri_template.proofs.VarSpecLemmas.{varspec_is}
 use Rattle.iri_template.proofs.Walks.{taken}
 

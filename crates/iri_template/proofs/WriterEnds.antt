@@ -1,5 +1,5 @@
 -- How a visitor that writes and checks types has ended, once it was told a value.
-use Rattle.std.proofs.Common.{◌≡◌, ℕ, Bool, true, false, cond, ◌&&◌, ◌||◌, List, [], ◌∷◌, ◌++◌, Option, None, Some, refl, sym, ◌∙◌, ap, subst}
+use Rattle.std.proofs.Common.{◌≡◌, ℕ, Bool, true, false, cond, ◌||◌, List, [], ◌∷◌, ◌++◌, Option, None, Some, refl, sym, ◌∙◌, ap, subst}
 use Rattle.std.proofs.Common.{append-nil, Result, Ok, Err}
 use Rattle.iri_grammar.specs.Classes.{Tests}
 use Rattle.iri_text.specs.Shown.{AreSinkLaws, Shows}

@@ -3,7 +3,6 @@ pub mod ByPurpose
 pub mod CharFront
 pub mod CharFrontText
 pub mod Checked
-pub mod Equals
 pub mod InMemory
 pub mod Lengths
 pub mod Members

@@ -75,42 +75,8 @@ fn tell_next<C: DynamicContext, S: Spec, W: TextSink>(
     }
 }
 
-/// Writes the value that the context tells next, after the operator's first text or its separator. `at` is the place of
-/// the varspec.
-fn write_next<C: DynamicContext, S: Spec, W: TextSink>(
-    sink: &mut W,
-    context: &mut C,
-    operator: Operator,
-    varspec: VarSpec<'_>,
-    at: usize,
-    written: &mut bool,
-) -> Result<(), Error>
-    ensures written { WhereTold (C.tells context.old)
-        (λ f. EndsAs W.puts W.halts (held_portion S.tests operator at written.old varspec.entry false
-        (f 0 varspec.entry.name.text.now Expand) ∷ []) sink.old sink.new result) }
-    ensures goes_on { OnOk result (WhereTold (C.tells context.old)
-        (λ f. written.new ≡ (written.old || has_texts (told_texts S.tests (row_of operator) varspec.entry.name.text.now
-        varspec.entry.modifier (f 0 varspec.entry.name.text.now Expand))))) }
-    ensures place { IfErr result (λ e. e.location ≡ at) }
-    ensures cause { HasCause (W.stops sink.old) (W.stops sink.new) result }
-    ensures later { W.stops sink.old ≤ W.stops sink.new }
-    ensures call { Calls 1 (C.tells context.old) (C.tells context.new) (C.starts context.old) (C.starts context.new)
-        (C.ends context.old) (C.ends context.new) }
-{
-    let place = Place {
-        operator,
-        name: varspec.name,
-        modifier: varspec.modifier,
-        written: *written,
-        member: false,
-    };
-    let mut visitor = ValueWriter::<S, W>::new(sink, place);
-    let result = tell_next(&mut visitor, context, at);
-    *written = visitor.place.written;
-    result
-}
-
-/// Looks at the value of a variable, and then writes it.
+/// Looks at the value of a variable, and then writes it, after the operator's first text or its separator. `at` is the place
+/// of the varspec.
 fn write_varspec<C: DynamicContext, S: Spec, W: TextSink>(
     sink: &mut W,
     context: &mut C,
@@ -139,7 +105,17 @@ fn write_varspec<C: DynamicContext, S: Spec, W: TextSink>(
     if looks_mistyped(context, varspec) {
         return Err(Error::new(ErrorKind::UnexpectedValueType, at));
     }
-    write_next::<C, S, W>(sink, context, operator, varspec, at, written)
+    let place = Place {
+        operator,
+        name: varspec.name,
+        modifier: varspec.modifier,
+        written: *written,
+        member: false,
+    };
+    let mut visitor = ValueWriter::<S, W>::new(sink, place);
+    let result = tell_next(&mut visitor, context, at);
+    *written = visitor.place.written;
+    result
 }
 
 /// Writes the values of varspecs, which have no fault. `at` is their place, and a brace stands after them.

@@ -47,14 +47,12 @@
 //! ample memory; the text of `Debug`.
 #![tactic(auto)]
 
-mod behind_name;
 mod char_front;
 mod char_front_sink;
 pub mod comparison;
 pub mod context;
 pub mod creation;
 pub mod dynamic_context;
-mod equals_sink;
 pub mod error;
 pub mod expanded;
 mod expansion_writer;

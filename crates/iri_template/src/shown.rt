@@ -1,11 +1,10 @@
 //! The text of a value, encoded (RFC 6570 section 3.2.1).
-ghost use Rattle.std.specs.Prelude.{◌≡◌, false, None};
+ghost use Rattle.std.specs.Prelude.{◌≡◌, ◌==◌, false, length, None};
 ghost use Rattle.iri_text.specs.Shown.{Shows};
-ghost use Rattle.iri_percent.specs.Encoding.{keeps, encoded};
 ghost use Rattle.iri_template.specs.Expansion.{shown_text};
-ghost use Rattle.iri_percent.specs.declared.context.Context.TheVariants.{Unreserved};
 
 use crate::char_front::show_front;
+use crate::length::is_within;
 use crate::units::show_kept;
 use iri_grammar::spec::Spec;
 use iri_percent::PercentEncoded;
@@ -26,17 +25,10 @@ impl<'v, T: Show> Show for Lent<'v, T> {
     }
 }
 
-fn show_unreserved<T: Show, S: Spec, W: TextSink>(sink: &mut W, value: &T) -> Result<(), Stop>
-    ensures { Shows W.puts W.halts W.stops sink.old
-        (encoded (keeps S.tests Unreserved) (T.text value.now)) sink.new result }
-{
-    PercentEncoded::<Lent<'_, T>, S>::unreserve(Lent { value }).show(sink)
-}
-
 fn show_all<T: Show, S: Spec, W: TextSink>(sink: &mut W, value: &T) -> Result<(), Stop>
     ensures { Shows W.puts W.halts W.stops sink.old (shown_text S.tests false None (T.text value.now)) sink.new result }
 {
-    show_unreserved::<T, S, W>(sink, value)
+    PercentEncoded::<Lent<'_, T>, S>::unreserve(Lent { value }).show(sink)
 }
 
 /// A value, or its first characters or units, encoded as it is shown.
@@ -61,6 +53,15 @@ impl<'v, T: Show, S: Spec> Shown<'v, T, S> {
             count,
             spec: PhantomData,
         }
+    }
+
+    /// Whether its text is empty: that of its first character says so. Triplets don't stay.
+    pub(crate) fn is_empty(&self) -> bool
+        requires { self.now.allow ≡ false }
+        ensures { result ≡ (length (shown_text S.tests self.now.allow self.now.count (T.text self.now.value.now)) == 0) }
+    {
+        let first = Shown::<T, S>::new(self.value, false, Some(self.count.unwrap_or(1)));
+        is_within(&first, 0)
     }
 }
 

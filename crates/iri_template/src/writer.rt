@@ -8,7 +8,6 @@ ghost use Rattle.iri_template.specs.inside.Written.{state_at, name_mark, item_le
 ghost use Rattle.iri_template.specs.inside.Written.{event_text};
 ghost use Rattle.iri_template.specs.declared.visitor.Phase.TheVariants.{Halted};
 
-use crate::behind_name::BehindName;
 use crate::place::{Place, count_of, explodes, has_length};
 use crate::row::{allows_reserved, if_empty, is_named, lead};
 use crate::shown::Shown;
@@ -16,7 +15,7 @@ use crate::value_writer::ValueWriter;
 use crate::var_name::VarName;
 use crate::visitor::{Phase, VisitPurpose, Visitor};
 use iri_grammar::spec::Spec;
-use iri_text::{Show, Stop, TextSink, show_three, show_two};
+use iri_text::{Show, Stop, TextSink, show_four, show_three, show_two};
 
 /// The phase behind a call that goes on to this one.
 fn phase_after(shown: &Result<(), Stop>, phase: Phase) -> Phase
@@ -76,12 +75,14 @@ fn show_string<T: Show, S: Spec, W: TextSink>(
         allows_reserved(place.operator),
         count_of(place.modifier),
     );
-    if is_named(place.operator) {
-        let behind = BehindName::new(&shown, if_empty(place.operator));
-        show_three(sink, &first, &place.name.as_str(), &behind)
-    } else {
-        show_two(sink, &first, &shown)
+    if !is_named(place.operator) {
+        return show_two(sink, &first, &shown);
     }
+    let name = place.name.as_str();
+    if shown.is_empty() {
+        return show_three(sink, &first, &name, &if_empty(place.operator));
+    }
+    show_four(sink, &first, &name, &"=", &shown)
 }
 
 fn show_item<T: Show, S: Spec, W: TextSink>(
