@@ -231,8 +231,8 @@ fn put_chars<W: TextSink>(sink: &mut W, text: &str) -> Result<(), Stop>
 
 // A text that is put character by character.
 #[derive(Drop)]
-struct Chars<'a> {
-    text: &'a str,
+pub(crate) struct Chars<'a> {
+    pub(crate) text: &'a str,
 }
 
 impl Show for Chars<'_> {
@@ -317,7 +317,11 @@ impl<T: VisitValueNaive> Context for Naive<T> {
     }
 }
 
-fn expanded<S: Spec, C: Context>(alloc: Global, text: &str, context: &C) -> Result<String, Fail> {
+pub(crate) fn expanded<S: Spec, C: Context>(
+    alloc: Global,
+    text: &str,
+    context: &C,
+) -> Result<String, Fail> {
     let template = UriTemplateStr::new(text)?;
     let text = template
         .expand::<S, C>(context)?
@@ -329,7 +333,7 @@ fn expanded<S: Spec, C: Context>(alloc: Global, text: &str, context: &C) -> Resu
 }
 
 // How many rows come before the first with another expansion.
-fn right_rows<C: Context>(
+pub(crate) fn right_rows<C: Context>(
     alloc: Global,
     rows: &[(&str, &str)],
     context: &C,
@@ -403,6 +407,14 @@ static IRI_LENGTHS: [(&str, &str, &str); 3] = [
     ("{+v}", "%4α%", "%254α%25"),
 ];
 
+// Names with triplets are written as they stand.
+static NAMES: [(&str, &str, &str); 4] = [
+    ("{;%41b}", "x y", ";%41b=x%20y"),
+    ("{?a%20c,%e2%82%ac*}", "x y", "?a%20c=x%20y&%e2%82%ac=x%20y"),
+    ("{&%41b:1}", "x y", "&%41b=x"),
+    ("{;%41b,c}{?%41b}{&%41b}", "", ";%41b;c?%41b=&%41b="),
+];
+
 // How many rows come before the first with another expansion.
 fn right_texts<S: Spec>(alloc: Global, rows: &[(&str, &str, &str)]) -> Result<usize, Fail> {
     let mut right = 0usize;
@@ -413,6 +425,12 @@ fn right_texts<S: Spec>(alloc: Global, rows: &[(&str, &str, &str)]) -> Result<us
         right = right.wrapping_add(1);
     }
     Ok(right)
+}
+
+#[test]
+fn names_with_triplets(rt: HostRuntime) -> Result<(), Fail> {
+    assert_eq!(rt; right_texts::<UriSpec>(rt.alloc(), &NAMES)?, NAMES.len());
+    Ok(())
 }
 
 #[test]

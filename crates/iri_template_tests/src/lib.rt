@@ -13,6 +13,8 @@ mod faults;
 #[cfg(test)]
 mod literals;
 #[cfg(test)]
+mod members;
+#[cfg(test)]
 mod names;
 #[cfg(test)]
 mod templates;
