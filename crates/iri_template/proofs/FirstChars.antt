@@ -1,16 +1,33 @@
--- Whether a text is empty once it is encoded, by its first character.
-use Rattle.std.proofs.Common.{◌≡◌, ◌<◌, ℕ, Bool, true, false, cond, List, [], ◌∷◌, Option, None, Some, length, take, nat_le, refl, arith, length-append}
-use Rattle.std.specs.Prelude.{◌==◌, unwrap_or}
+-- Whether a text is empty once it is encoded.
+use Rattle.std.proofs.Common.{◌≡◌, ◌<◌, ◌≤◌, ℕ, Bool, zero, suc, true, false, cond, List, [], ◌∷◌, ◌++◌, Option, None, Some, length, take, nat_le, refl, sym, ◌∙◌, ap}
+use Rattle.std.proofs.Common.{subst, arith, length-append}
+use Rattle.std.specs.Prelude.{◌==◌}
 use Rattle.std.specs.Char.{encode_utf8}
 use Rattle.std.specs.List.{flat_map}
-use Rattle.std.specs.Str.{chars}
+use Rattle.std.specs.Str.{IsUtf8, chars, encode_utf8_all}
 use Rattle.std.proofs.lemmas.Bool.Decides.{nat_tests}
-use Rattle.std.proofs.lemmas.Str.{len_utf8_bounds, length-encode}
+use Rattle.std.proofs.lemmas.Str.{chars-append, encodes-chars, len_utf8_bounds, length-encode}
 use Rattle.iri_grammar.specs.Classes.{Tests, unreserved}
+use Rattle.iri_text.proofs.CharSteps.{no_chars}
 use Rattle.iri_percent.specs.Encoding.{encoded_char}
 use Rattle.iri_percent.specs.Mapping.{triplets}
-use Rattle.iri_template.specs.Expansion.{shown_text}
+use Rattle.iri_template.specs.Expansion.{limited, shown_text}
+use Rattle.iri_template.specs.inside.UnitSteps.{is_used_up}
 
+-- ---- characters
+utf8_chars : (t : List ℕ) → IsUtf8 t → 0 < length t → 0 < length (chars t)
+utf8_chars t u h = elim (chars t) as (λ cs. encode_utf8_all cs ≡ t → 0 < length cs) [
+  | [] ↦ λ e. let z = ap length e in absurd (omega (arith, z, h))
+  | c ∷ cs ↦ λ e. omega arith
+] (encodes-chars t u)
+
+-- those of a text that goes on behind some of them
+pub some_chars : (front rest t : List ℕ) → front ++ rest ≡ t → IsUtf8 front → 0 < length front → 0 < length (chars t)
+some_chars front rest t e u h =
+    let all : length (chars t) ≡ length (chars front ++ chars rest) = ap length (ap chars (sym e) ∙ chars-append front rest u) in
+    omega (arith, all, length-append (chars front) (chars rest), utf8_chars front u h)
+
+-- ---- encoded
 some_triplets : (bs : List ℕ) → 0 < length bs → 0 < length (triplets bs)
 some_triplets [] h = absurd (omega arith)
 some_triplets (b ∷ bs) h = omega arith
@@ -20,17 +37,35 @@ some_encoded kept c =
     let some : 0 < length (encode_utf8 c) = omega (arith, length-encode c, len_utf8_bounds c) in
     elim (kept c) as (λ b. 0 < length (cond b (encode_utf8 c) (triplets (encode_utf8 c)))) [ true ↦ some | false ↦ some_triplets (encode_utf8 c) some ]
 
-first_of_all : (kept : ℕ → Bool) (cs : List ℕ)
-    → nat_le (length (flat_map (encoded_char kept) (take 1 cs))) 0 ≡ (length (flat_map (encoded_char kept) cs) == 0)
-first_of_all kept [] = refl
-first_of_all kept (c ∷ cs) =
+some_more : (kept : ℕ → Bool) (c : ℕ) (cs : List ℕ) → (length (flat_map (encoded_char kept) (c ∷ cs)) == 0) ≡ false
+some_more kept c cs =
     let some = some_encoded kept c in
-    let one = length-append (encoded_char kept c) [] in
     let all = length-append (encoded_char kept c) (flat_map (encoded_char kept) cs) in
     grind (arith, nat_tests)
 
--- the text is empty where that of the first character is
-pub first_decides : (s : Tests) (count : Option ℕ) (t : List ℕ)
-    → nat_le (length (shown_text s false (Some (unwrap_or count 1)) t)) 0 ≡ (length (shown_text s false count t) == 0)
-first_decides s None t = first_of_all (unreserved s) (chars t)
-first_decides s (Some n) t = grind (arith, nat_tests)
+some_limited : (kept : ℕ → Bool) (count : Option ℕ) (cs : List ℕ) → is_used_up count ≡ false → 0 < length cs
+    → (length (flat_map (encoded_char kept) (limited count cs)) == 0) ≡ false
+some_limited kept count [] h k = absurd (omega arith)
+some_limited kept None (c ∷ cs) h k = some_more kept c cs
+some_limited kept (Some zero) (c ∷ cs) h k = cc
+some_limited kept (Some (suc n)) (c ∷ cs) h k = some_more kept c (take n cs)
+
+none_limited : (kept : ℕ → Bool) (count : Option ℕ) (cs : List ℕ) → cs ≡ [] → (length (flat_map (encoded_char kept) (limited count cs)) == 0) ≡ true
+none_limited kept None [] e = refl
+none_limited kept None (c ∷ cs) e = cc
+none_limited kept (Some zero) cs e = refl
+none_limited kept (Some (suc n)) [] e = refl
+none_limited kept (Some (suc n)) (c ∷ cs) e = cc
+
+pub none_of_none : (s : Tests) (count : Option ℕ) (t : List ℕ) → is_used_up count ≡ true → (length (shown_text s false count t) == 0) ≡ true
+none_of_none s None t h = cc
+none_of_none s (Some zero) t h = refl
+none_of_none s (Some (suc n)) t h = cc
+
+-- the text is empty where its value is
+pub value_decides : (s : Tests) (count : Option ℕ) (t : List ℕ) (b : Bool) → is_used_up count ≡ false → b ≡ nat_le (length t) 0
+    → (b ≡ false → 0 < length (chars t)) → b ≡ (length (shown_text s false count t) == 0)
+value_decides s count t true h e some =
+    let none : length t ≡ 0 = grind (arith, nat_tests) in
+    sym (none_limited (unreserved s) count (chars t) (no_chars t none))
+value_decides s count t false h e some = sym (some_limited (unreserved s) count (chars t) h (some refl))

@@ -1,5 +1,6 @@
 //! How many bytes a text has.
-ghost use Rattle.std.specs.Prelude.{◌≡◌, length, nat_le};
+ghost use Rattle.std.specs.Prelude.{◌≡◌, ◌<◌, false, length, nat_le};
+ghost use Rattle.std.specs.Str.{chars};
 
 use iri_text::{Show, Stop, TextSink};
 
@@ -32,9 +33,10 @@ impl TextSink for LengthSink {
     }
 }
 
-/// Whether the text of a value has at most so many bytes.
+/// Whether the text of a value has at most so many bytes. One with more has characters.
 pub(crate) fn is_within<T: Show>(value: &T, limit: usize) -> bool
-    ensures { result ≡ nat_le (length (T.text value.now)) limit }
+    ensures within { result ≡ nat_le (length (T.text value.now)) limit }
+    ensures longer { result ≡ false → 0 < length (chars (T.text value.now)) }
 {
     let mut sink = LengthSink {
         room: limit,

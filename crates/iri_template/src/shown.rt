@@ -5,7 +5,7 @@ ghost use Rattle.iri_template.specs.Expansion.{shown_text};
 
 use crate::char_front::show_front;
 use crate::length::is_within;
-use crate::units::show_kept;
+use crate::units::{is_used_up, show_kept};
 use iri_grammar::spec::Spec;
 use iri_percent::PercentEncoded;
 use iri_text::{Show, Stop, TextSink};
@@ -55,13 +55,15 @@ impl<'v, T: Show, S: Spec> Shown<'v, T, S> {
         }
     }
 
-    /// Whether its text is empty: that of its first character says so. Triplets don't stay.
+    /// Whether its text is empty. Triplets don't stay.
     pub(crate) fn is_empty(&self) -> bool
         requires { self.now.allow ≡ false }
         ensures { result ≡ (length (shown_text S.tests self.now.allow self.now.count (T.text self.now.value.now)) == 0) }
     {
-        let first = Shown::<T, S>::new(self.value, false, Some(self.count.unwrap_or(1)));
-        is_within(&first, 0)
+        if is_used_up(self.count) {
+            return true;
+        }
+        is_within(self.value, 0)
     }
 }
 

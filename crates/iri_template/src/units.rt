@@ -28,7 +28,7 @@ fn is_part(c: char) -> bool
     c == '%' || c.is_ascii_hexdigit()
 }
 
-fn is_used_up(left: Option<u16>) -> bool
+pub(crate) fn is_used_up(left: Option<u16>) -> bool
     ensures { result ≡ is_used_up left }
 {
     match left {

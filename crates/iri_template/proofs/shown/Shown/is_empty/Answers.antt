@@ -1,19 +1,23 @@
-use Rattle.std.proofs.Common.{false, Some, length, nat_le, sym, ◌∙◌, ap}
+use Rattle.std.proofs.Common.{◌≡◌, true, false, length, sym, ◌∙◌, ap}
 use Rattle.std.specs.Prelude.{◌==◌}
 use Rattle.iri_template.specs.Expansion.{shown_text}
-use Rattle.iri_template.proofs.FirstChars.{first_decides}
+use Rattle.iri_template.specs.inside.UnitSteps.{is_used_up}
+use Rattle.iri_template.proofs.FirstChars.{none_of_none, value_decides}
 use Rattle.iri_template.proofs.shown.Shown.is_empty.Goals as goal
+
+pub returns-then-is_used_up : goal.returns-then-is_used_up
+returns-then-is_used_up g c =
+    let s = g.S.Spec.tests in
+    let self = c.args.self.now in
+    let t = g.T.Show.text self.value.now in
+    let used : is_used_up self.count ≡ true = sym c.is_used_up.ensures ∙ c.if-is_used_up.true in
+    sym (none_of_none s self.count t used) ∙ ap (λ a. length (shown_text s a self.count t) == 0) (sym c.requires)
 
 pub returns : goal.returns
 returns g c =
     let s = g.S.Spec.tests in
-    let text = g.T.Show.text in
     let self = c.args.self.now in
-    let first = c.new-first.result in
-    c.is_within.ensures
-    ∙ ap (λ a. nat_le (length (shown_text s a first.count (text first.value.now))) 0) c.new-first.ensures.allow
-    ∙ ap (λ n. nat_le (length (shown_text s false n (text first.value.now))) 0) c.new-first.ensures.count
-    ∙ ap (λ v. nat_le (length (shown_text s false (Some c.unwrap_or.result) (text v))) 0) c.new-first.ensures.value
-    ∙ ap (λ n. nat_le (length (shown_text s false (Some n) (text self.value.now))) 0) c.unwrap_or.ensures
-    ∙ first_decides s self.count (text self.value.now)
-    ∙ ap (λ a. length (shown_text s a self.count (text self.value.now)) == 0) (sym c.requires)
+    let t = g.T.Show.text self.value.now in
+    let unused : is_used_up self.count ≡ false = sym c.is_used_up.ensures ∙ c.if-is_used_up.false in
+    value_decides s self.count t c.is_within.result unused c.is_within.ensures.within c.is_within.ensures.longer
+    ∙ ap (λ a. length (shown_text s a self.count t) == 0) (sym c.requires)
