@@ -5,11 +5,11 @@ use Rattle.iri_text.specs.inside.Through.{after, texts}
 use Rattle.iri_template.specs.Events.{Event, Undefined, StringTold, ListBegun, Item, PairsBegun, Entry, Finished, telling, entry_of}
 use Rattle.iri_template.specs.ShownValues.{ShownValue, undefined, string, list, pairs}
 use Rattle.iri_template.specs.TypeFaults.{is_mistyped_as}
-use Rattle.iri_template.specs.inside.Checked.{has_length, CheckState, refuses, is_misfit, checked_step, checked_text, is_put, puts_some}
+use Rattle.iri_template.specs.inside.Checked.{has_prefix, CheckState, refuses, is_misfit, checked_step, checked_text, is_put, puts_some}
 use Rattle.iri_template.specs.inside.Members.{is_member}
 use Rattle.iri_template.specs.inside.Written.{WriteState, event_step, event_text}
-use Rattle.iri_template.specs.declared.var_spec.Modifier.{Modifier}
-use Rattle.iri_template.specs.declared.var_spec.Modifier.TheVariants.{Whole, Explode, Prefix}
+use Rattle.iri_template.specs.declared.varspec.Modifier.{Modifier}
+use Rattle.iri_template.specs.declared.varspec.Modifier.TheVariants.{Whole, Explode, Prefix}
 
 abbrev pub checking : WriteState → Bool → CheckState
 checking w b = record { write = w; mistyped = b }
@@ -27,10 +27,10 @@ same_modifier w PairsBegun = refl
 same_modifier w (Entry k t) = refl
 same_modifier w Finished = refl
 
-still : (w : WriteState) (e : Event) → has_length w.modifier ≡ false → has_length (event_step w e).modifier ≡ false
-still w e h = ap has_length (same_modifier w e) ∙ h
+still : (w : WriteState) (e : Event) → has_prefix w.modifier ≡ false → has_prefix (event_step w e).modifier ≡ false
+still w e h = ap has_prefix (same_modifier w e) ∙ h
 
-plain_texts : (s : Tests) (w : WriteState) (b : Bool) (es : List Event) → has_length w.modifier ≡ false
+plain_texts : (s : Tests) (w : WriteState) (b : Bool) (es : List Event) → has_prefix w.modifier ≡ false
     → texts checked_step (checked_text s) (checking w b) es ≡ texts event_step (event_text s) w es
 plain_texts s w b [] h = refl
 plain_texts s w b (e ∷ es) h =
@@ -38,7 +38,7 @@ plain_texts s w b (e ∷ es) h =
     (no_misfit (checking w b) e h)
     ∙ ap (λ l. event_text s w e ++ l) (plain_texts s (event_step w e) b es (still w e h))
 
-plain_after : (s : Tests) (w : WriteState) (b : Bool) (es : List Event) → has_length w.modifier ≡ false
+plain_after : (s : Tests) (w : WriteState) (b : Bool) (es : List Event) → has_prefix w.modifier ≡ false
     → after checked_step (checked_text s) (checking w b) es ≡ checking (after event_step (event_text s) w es) b
 plain_after s w b [] h = refl
 plain_after s w b (e ∷ es) h =
@@ -47,9 +47,9 @@ plain_after s w b (e ∷ es) h =
     ∙ plain_after s (event_step w e) b es (still w e h)
 
 -- ---- where members are
-module _ (s : Tests) (w : WriteState) (h : has_length w.modifier ≡ true) where
+module _ (s : Tests) (w : WriteState) (h : has_prefix w.modifier ≡ true) where
   misfit : {X : Type 0} (ev : X → Event) → ((x : X) → is_member (ev x) ≡ true) → (b : Bool) (x : X) → is_misfit (checking w b) (ev x) ≡ true
-  misfit ev i b x = ap (λ m. m && has_length w.modifier) (i x) ∙ h
+  misfit ev i b x = ap (λ m. m && has_prefix w.modifier) (i x) ∙ h
 
   misfits_texts : {X : Type 0} (ev : X → Event) → ((x : X) → is_member (ev x) ≡ true) → (b : Bool) (xs : List X)
       → texts checked_step (checked_text s) (checking w b) (map ev xs ++ (Finished ∷ [])) ≡ []
@@ -86,9 +86,9 @@ pub record IsChecked (s : Tests) (w : WriteState) (v : ShownValue) : Type 0 wher
   pub mistyped_is : (after checked_step (checked_text s) (checking w false) (telling v)).mistyped ≡ is_mistyped_as w.modifier v
   pub write_is : is_mistyped_as w.modifier v ≡ false
       → (after checked_step (checked_text s) (checking w false) (telling v)).write ≡ after event_step (event_text s) w (telling v)
-  pub silent : is_mistyped_as w.modifier v ≡ true → puts_some (has_length w.modifier) (telling v) ≡ false
+  pub silent : is_mistyped_as w.modifier v ≡ true → puts_some (has_prefix w.modifier) (telling v) ≡ false
 
-without : (s : Tests) (w : WriteState) (v : ShownValue) → has_length w.modifier ≡ false → is_mistyped_as w.modifier v ≡ false → IsChecked s w v
+without : (s : Tests) (w : WriteState) (v : ShownValue) → has_prefix w.modifier ≡ false → is_mistyped_as w.modifier v ≡ false → IsChecked s w v
 without s w v h k = record {
   texts_are = plain_texts s w false (telling v) h ∙ ap (λ b. cond b [] (texts event_step (event_text s) w (telling v))) (sym k);
   mistyped_is = ap (λ (u : CheckState). u.mistyped) (plain_after s w false (telling v) h) ∙ sym k;
@@ -99,18 +99,18 @@ without s w v h k = record {
 abbrev modified : WriteState → Modifier → WriteState
 modified w m = record { operator = w.operator; name = w.name; modifier = m; written = w.written; member = w.member }
 
-with_length : (s : Tests) (w : WriteState) (n : ℕ) (v : ShownValue) → IsChecked s (modified w (Prefix n)) v
-with_length s w n undefined = record { texts_are = refl; mistyped_is = refl; write_is = λ _. refl; silent = λ yes. cc }
-with_length s w n (string t) = record { texts_are = refl; mistyped_is = refl; write_is = λ _. refl; silent = λ yes. cc }
-with_length s w n (list []) = record { texts_are = refl; mistyped_is = refl; write_is = λ _. refl; silent = λ yes. cc }
-with_length s w n (list (x ∷ xs)) = let u = modified w (Prefix n) in record {
+with_prefix : (s : Tests) (w : WriteState) (n : ℕ) (v : ShownValue) → IsChecked s (modified w (Prefix n)) v
+with_prefix s w n undefined = record { texts_are = refl; mistyped_is = refl; write_is = λ _. refl; silent = λ yes. cc }
+with_prefix s w n (string t) = record { texts_are = refl; mistyped_is = refl; write_is = λ _. refl; silent = λ yes. cc }
+with_prefix s w n (list []) = record { texts_are = refl; mistyped_is = refl; write_is = λ _. refl; silent = λ yes. cc }
+with_prefix s w n (list (x ∷ xs)) = let u = modified w (Prefix n) in record {
   texts_are = misfits_texts s u refl Item (λ y. refl) false (x ∷ xs);
   mistyped_is = ap (λ (k : CheckState). k.mistyped) (first_misfit s u refl Item (λ y. refl) x xs);
   write_is = λ no. cc;
   silent = λ _. none_put Item (λ y. refl) (x ∷ xs);
 }
-with_length s w n (pairs []) = record { texts_are = refl; mistyped_is = refl; write_is = λ _. refl; silent = λ yes. cc }
-with_length s w n (pairs (p ∷ ps)) = let u = modified w (Prefix n) in record {
+with_prefix s w n (pairs []) = record { texts_are = refl; mistyped_is = refl; write_is = λ _. refl; silent = λ yes. cc }
+with_prefix s w n (pairs (p ∷ ps)) = let u = modified w (Prefix n) in record {
   texts_are = misfits_texts s u refl entry_of (λ y. refl) false (p ∷ ps);
   mistyped_is = ap (λ (k : CheckState). k.mistyped) (first_misfit s u refl entry_of (λ y. refl) p ps);
   write_is = λ no. cc;
@@ -120,7 +120,7 @@ with_length s w n (pairs (p ∷ ps)) = let u = modified w (Prefix n) in record {
 with_modifier : (s : Tests) (w : WriteState) (m : Modifier) (v : ShownValue) → IsChecked s (modified w m) v
 with_modifier s w Whole v = without s (modified w Whole) v refl refl
 with_modifier s w Explode v = without s (modified w Explode) v refl refl
-with_modifier s w (Prefix n) v = with_length s w n v
+with_modifier s w (Prefix n) v = with_prefix s w n v
 
 pub is_checked : (s : Tests) (w : WriteState) (v : ShownValue) → IsChecked s w v
 is_checked s w v = with_modifier s w w.modifier v

@@ -60,7 +60,7 @@ fewer_none : (left : Option ℕ) → fewer left 0 ≡ left
 fewer_none None = refl
 fewer_none (Some m) = let e : m - 0 ≡ m = omega arith in ap Some e
 
--- what is written of the unit at the start and those behind it
+-- what is written of the unit at the start and those after it
 split_one : (s : Tests) (end : Bool) (k : ℕ) (held : List ℕ) (left : Option ℕ) (len : ℕ) (t : List ℕ) → Tells end k held len
     → kept_unit s (unit_at held) ≡ t
     → written_units s left (told_units end (suc k) held)

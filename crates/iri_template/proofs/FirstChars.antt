@@ -21,7 +21,7 @@ utf8_chars t u h = elim (chars t) as (λ cs. encode_utf8_all cs ≡ t → 0 < le
   | c ∷ cs ↦ λ e. omega arith
 ] (encodes-chars t u)
 
--- those of a text that goes on behind some of them
+-- those of a text that goes on after some of them
 pub some_chars : (front rest t : List ℕ) → front ++ rest ≡ t → IsUtf8 front → 0 < length front → 0 < length (chars t)
 some_chars front rest t e u h =
     let all : length (chars t) ≡ length (chars front ++ chars rest) = ap length (ap chars (sym e) ∙ chars-append front rest u) in

@@ -484,7 +484,7 @@ text_more [] qs = refl
 text_more (p ∷ ps) qs = ap (λ l. piece_text p ++ l) (text_more ps qs)
     ∙ sym (append_assoc (piece_text p) (template_text ps) (template_text qs))
 
--- a template and another behind it
+-- a template and another after it
 pub joined_templates : (a b : List ℕ) → IsUtf8 a → IsUtf8 b → text_fault a ≡ None → text_fault b ≡ None → text_fault (a ++ b) ≡ None
 joined_templates a b u v h k =
     let x = within (length a) a (omega arith) u h in

@@ -13,7 +13,7 @@ pub mod VisitsEach
 pub mod UnitLaws
 pub mod Drains
 pub mod FrontUnits
-pub mod FrontChars
+pub mod PrefixChars
 pub mod FirstChars
 pub mod UnitShows
 pub mod Telling

@@ -122,7 +122,7 @@ begins s f at here x xs (expression operator vs ∷ ps) =
       split = ap (λ l. (record { location = at; text = l; mistyped = false; calls = 0 }) ∷ behind) (sym (append-nil (x ∷ xs)));
     }
 
--- a text within the portion behind those that are done
+-- a text within the portion after those that are done
 record StandsAt (all done : List Portion) (at : ℕ) (t : List ℕ) : Type 0 where
   here : Portion
   rest : List Portion
@@ -186,7 +186,7 @@ module _ {W : Type 0} (s : Tests) (puts halts : W → List ℕ → W → Type 0)
       moved = p.moved;
     }
 
-    -- they are among the portion behind those that went in
+    -- they are among the portion after those that went in
     literals_stand_at : 0 < length x → (p : HasReached s puts all a f h begin here t b) → StandsAt all p.done begin (p.front ++ x)
     literals_stand_at some p = found (p.front ++ x) refl
       where

@@ -12,7 +12,7 @@ use Rattle.iri_template.specs.declared.error.ErrorKind.TheVariants.{WriteFailed,
 use Rattle.iri_template.specs.declared.error.ErrorKind.TheVariants.{InvalidPercentEncoding, InvalidUtf8, UnexpectedValueType, UnsupportedOperator, Memory}
 use Rattle.iri_template.proofs.TellWalk.{moves_none, moves_more, moved_on}
 
--- ---- behind portions that aren't mistyped
+-- ---- after portions that aren't mistyped
 pub fault_behind : (ps qs : List Portion) → portions_fault ps ≡ None → portions_fault (ps ++ qs) ≡ portions_fault qs
 fault_behind [] qs h = refl
 fault_behind (p ∷ ps) qs h =

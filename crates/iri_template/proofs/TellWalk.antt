@@ -46,7 +46,7 @@ moved_more t u v all left rest n e h m = record { calls = h.calls + n; moves = m
 pub moved_all : (t u : Option Telling) (all : ℕ) → HasMoved t all u 0 → MovesBy (2 * all) t u
 moved_all t u all h = let e : h.calls ≡ 2 * all = omega (arith, h.sum) in subst (λ n. MovesBy n t u) e h.moves
 
--- what holds of what is told behind so many calls
+-- what holds of what is told after so many calls
 pub told_later : (n : ℕ) (t u : Option Telling) (P : Telling → Type 0) → MovesBy n t u → WhereTold u P → WhereTold t (λ f. P (later n f))
 told_later n None u P m p = tt
 told_later n (Some f) None P m p = absurd m

@@ -13,7 +13,7 @@ use Rattle.iri_template.specs.Led.{lead, led, has_texts}
 use Rattle.iri_template.specs.inside.Written.{WriteState, explodes, name_mark, item_lead, entry_lead, entry_mark, event_step}
 use Rattle.iri_template.specs.inside.Written.{event_text, told_texts}
 use Rattle.iri_template.specs.declared.operator.Operator.{Operator}
-use Rattle.iri_template.specs.declared.var_spec.Modifier.{Modifier}
+use Rattle.iri_template.specs.declared.varspec.Modifier.{Modifier}
 
 -- the texts of a varspec, as it is held
 pub held_texts : (s : Tests) (row : Row) (name : List ℕ) (m : template.Modifier) (v : ShownValue)
@@ -72,7 +72,7 @@ module _ (s : Tests) (operator : Operator) (name : List ℕ) (m : Modifier) wher
   abbrev told : Bool → Bool → List Event → List ℕ
   told written member es = texts event_step (event_text s) (state written member) es
 
-  -- a member: what it writes behind what leads it, and that it was written
+  -- a member: what it writes after what leads it, and that it was written
   record IsMember {X : Type 0} (ev : X → Event) (front : Bool → Bool → List ℕ) (body : X → List ℕ) : Type 0 where
     text : (written member : Bool) (x : X) → event_text s (state written member) (ev x) ≡ front written member ++ body x
     step : (written member : Bool) (x : X) → event_step (state written member) (ev x) ≡ state true true
@@ -84,7 +84,7 @@ module _ (s : Tests) (operator : Operator) (name : List ℕ) (m : Modifier) wher
       ap (λ (w : WriteState). event_text s (state written member) (ev x) ++ texts event_step (event_text s) w es) (i.step written member x)
       ∙ ap (λ l. l ++ told true true es) (i.text written member x)
 
-  -- one by one, each behind the lead
+  -- one by one, each after the lead
   each : {X : Type 0} (ev : X → Event) (front : Bool → Bool → List ℕ) (body whole : X → List ℕ) → IsMember ev front body
       → ((written member : Bool) (x : X) → front written member ++ body x ≡ lead row written ++ whole x)
       → (written member : Bool) (xs : List X) → told written member (map ev xs ++ (Finished ∷ [])) ≡ led row written (map whole xs)

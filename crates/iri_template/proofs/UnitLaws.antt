@@ -147,7 +147,7 @@ drop_within : (n x : ℕ) (xs r : List ℕ) → 0 < n → n ≤ length (x ∷ xs
 drop_within zero x xs r h k = absurd (omega arith)
 drop_within (suc n) x xs r h k = let e : suc n - 1 ≡ n = omega arith in ap (λ m. drop m (xs ++ r)) e ∙ drop_front n xs r (omega arith)
 
--- the unit at the start, and the units behind it
+-- the unit at the start, and the units after it
 units_first : (x : ℕ) (xs r : List ℕ) → first_unit x (xs ++ r) ≡ first_unit x xs
     → units (x ∷ (xs ++ r)) ≡ first_unit x xs ∷ units (behind_unit x xs ++ r)
 unfolding units_from
@@ -247,7 +247,7 @@ used_up s h None t e = cc
 used_up s h (Some zero) t e = none_more s h t
 used_up s h (Some (suc n)) t e = cc
 
--- ---- the whole: what was written for a text, and what is held behind it
+-- ---- the whole: what was written for a text, and what is held after it
 abbrev end_text : Tests → UnitState → List ℕ → List ℕ
 end_text s u t = written_units s (after unit_step (unit_step_text s) u t).left (units (after unit_step (unit_step_text s) u t).held)
 

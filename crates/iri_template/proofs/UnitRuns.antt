@@ -75,7 +75,7 @@ encodes_lack (x ∷ cs) h =
     (subst (λ y. lacks 37 (encode y ++ encodes cs) ≡ true) e h))
     (λ _. encodes_lack cs (lacks_right (encode x) (encodes cs) h))
 
--- it is encoded, and nothing is held behind it
+-- it is encoded, and nothing is held after it
 pub record IsPlainRun (s : Tests) (u : UnitState) (t : List ℕ) : Type 0 where
   pub text : texts unit_step (unit_step_text s) u (chars t) ≡ encoded (keeps s Any) t
   pub same : after unit_step (unit_step_text s) u (chars t) ≡ u

@@ -51,7 +51,7 @@ module _ {S W : Type 0} (s : Tests) {puts halts : W → List ℕ → W → Type 
       subst (λ l. Shows puts halts stops a.to.now l b.to.now (Err e)) (whole_text s a t none)
       (shows_exit laws {r = Err e} (written_units s now.left (units now.held)) refl first)
 
--- nothing is held behind the end
+-- nothing is held after the end
 pub end_short : (h now : List ℕ) (r : Result (Unit {0}) Stop) → length h ≤ 11 → OnOk r (now ≡ left_over true 12 h) → OnErr r (now ≡ [])
     → length now ≤ 11
 end_short h now (Ok x) short p q = omega (arith, ap length (p ∙ all_left 12 h (omega arith)))

@@ -23,7 +23,7 @@ use Rattle.iri_template.specs.inside.Written.{told_texts}
 use Rattle.iri_template.specs.declared.error.Error.{Error}
 use Rattle.iri_template.specs.declared.error.ErrorKind.TheVariants.{UnexpectedValueType}
 use Rattle.iri_template.specs.declared.operator.Operator.{Operator}
-use Rattle.iri_template.specs.declared.var_spec.VarSpec.{VarSpec}
+use Rattle.iri_template.specs.declared.varspec.VarSpec.{VarSpec}
 use Rattle.iri_template.specs.declared.visitor.VisitPurpose.TheVariants.{Typecheck, Expand}
 use Rattle.iri_template.proofs.PortionWalk.{HasEnded, ended_none, ended_more, ended_exit, ended_calls, ended_end}
 use Rattle.iri_template.proofs.TellWalk.{BothTold, moved_on}
@@ -104,7 +104,7 @@ module _ (s : Tests) (operator : Operator) where
         subst (λ n. HasEnded puts (whole f) a (varspec_portions s operator f n false (map varspec_of (pieces 44 all))) a f f) e
         (ended_none puts halts laws (whole f) a f)
 
-    -- the next varspec, behind which `rest` begins
+    -- the next varspec, after which `rest` begins
     module _ (written : Bool) (t : List ℕ) (v : VarSpec) (o : Option (Bor (List ℕ))) (e : now_of o ≡ behind 44 t)
         (fine : moved 0 (varspec_fault (before 44 t)) ≡ None) (i : IsHeld v (varspec_of (before 44 t))) (b c : W) where
       abbrev place : ℕ

@@ -20,7 +20,7 @@ use Rattle.iri_template.specs.VarSpecs.{held, IsHeld}
 use Rattle.iri_template.specs.inside.Written.{told_texts}
 use Rattle.iri_template.specs.declared.error.ErrorKind.TheVariants.{UnexpectedValueType}
 use Rattle.iri_template.specs.declared.operator.Operator.{Operator}
-use Rattle.iri_template.specs.declared.var_spec.VarSpec.{VarSpec}
+use Rattle.iri_template.specs.declared.varspec.VarSpec.{VarSpec}
 use Rattle.iri_template.proofs.FaultLemmas.{moved_none}
 use Rattle.iri_template.proofs.Telling.{held_texts}
 use Rattle.iri_template.proofs.VarSpecLemmas.{varspec_is}

@@ -14,7 +14,7 @@ use Rattle.iri_template.specs.ShownValues.{ShownValue}
 use Rattle.iri_template.specs.Tells.{Telling, WhereTold}
 use Rattle.iri_template.specs.TypeFaults.{is_mistyped_as}
 use Rattle.iri_template.specs.Writings.{EndsAs}
-use Rattle.iri_template.specs.inside.Checked.{has_length, CheckState, checked_step, checked_text, puts_some, place_texts, place_portion}
+use Rattle.iri_template.specs.inside.Checked.{has_prefix, CheckState, checked_step, checked_text, puts_some, place_texts, place_portion}
 use Rattle.iri_template.specs.inside.Written.{WriteState, state_at, event_step, event_text}
 use Rattle.iri_template.specs.inside.WriterHears.{WriterHears, WriterHalts, state_of}
 use Rattle.iri_template.specs.declared.error.Error.{Error}
@@ -125,7 +125,7 @@ module _ {S W : Type 0} (s : Tests) (a : ValueWriter S W) (v : ShownValue) (righ
     pub ends_stopped : {d : Stop} → AreSinkLaws puts halts → (at : ℕ) (e : Error) → e ≡ record { kind = WriteFailed; location = at }
         → Heard (Err d) → EndsAs puts halts (portion_at at ∷ []) a.to.now b.to.now (Err e)
     ends_stopped laws at e is q =
-        let some : puts_some (has_length a.place.modifier) (telling v) ≡ true = q.stops_within.put in
+        let some : puts_some (has_prefix a.place.modifier) (telling v) ≡ true = q.stops_within.put in
         let no : is_mistyped_as a.place.modifier v ≡ false =
         elim (is_mistyped_as a.place.modifier v) as (λ k. is_mistyped_as a.place.modifier v ≡ k → k ≡ false) [
           | true ↦ λ yes. let none = checked.silent yes in cc

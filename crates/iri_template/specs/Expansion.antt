@@ -57,7 +57,7 @@ shown_text s true n t = flat_map (kept_unit s) (limited n (text_units t))
 shown_text s false n t = flat_map (encoded_char (unreserved s)) (limited n (chars t))
 
 -- ---- variables (sections 3.2.2 to 3.2.9)
--- `=` and the text behind the name of a string; where it is empty, what the operator has
+-- `=` and the text after the name of a string; where it is empty, what the operator has
 abbrev pub behind_name : List ℕ → List ℕ → List ℕ
 behind_name ifemp [] = ifemp
 behind_name ifemp (x ∷ xs) = equals_sign ∷ x ∷ xs
@@ -92,7 +92,7 @@ max_length explode = None
 abbrev pub shown_pair : Tests → Bool → List ℕ × List ℕ → List ℕ × List ℕ
 shown_pair s allow p = (shown_text s allow None p.0, shown_text s allow None p.1)
 
--- what a variable writes. A length is for strings alone.
+-- what a variable writes. A prefix is for strings alone.
 abbrev pub value_texts : Tests → Row → List ℕ → Modifier → ShownValue → List (List ℕ)
 value_texts s row name m undefined = []
 value_texts s row name m (string t) = string_text row name (shown_text s row.allow (max_length m) t) ∷ []

@@ -40,7 +40,7 @@ unless b f = cond b None f
 abbrev pub name_fault : List ℕ → Option Error
 name_fault t = unless (is_varname t) (fault InvalidExpression 0)
 
--- ---- varspecs (section 2.3). A bad length is told one byte behind the place where it begins.
+-- ---- varspecs (section 2.3). A bad length is told one byte after the place where it begins.
 -- there are 0 bytes or more than 4; the first byte that is no digit; a leading zero
 abbrev pub max_length_fault : List ℕ → Option Error
 max_length_fault ds =
@@ -109,7 +109,7 @@ fault_from (suc skip) at (c ∷ cs) = fault_from skip (at + 1) cs
 abbrev pub text_fault : List ℕ → Option Error
 text_fault t = fault_from 0 0 t
 
--- of bytes: they are no UTF-8 behind the longest prefix that is; or the text has a fault
+-- of bytes: they are no UTF-8 after the longest prefix that is; or the text has a fault
 abbrev pub template_fault : List ℕ → Option Error
 template_fault bs = cond (is_utf8 bs) (text_fault bs) (fault InvalidUtf8 (utf8_valid_len bs))
 

@@ -1,4 +1,4 @@
--- The texts of an expression, each behind the operator's first text or its separator (RFC 6570 section 3.2.1).
+-- The texts of an expression, each after the operator's first text or its separator (RFC 6570 section 3.2.1).
 use Rattle.std.specs.Prelude.{ℕ, Bool, true, false, cond, List, [], ◌∷◌, ◌++◌}
 use Rattle.iri_template.specs.Expansion.{Row}
 

@@ -15,7 +15,7 @@ use Rattle.iri_template.specs.declared.error.ErrorKind.TheVariants.{UnexpectedVa
 use Rattle.iri_template.specs.declared.operator.Operator.{Operator}
 use Rattle.iri_template.specs.declared.visitor.VisitPurpose.TheVariants.{Typecheck, Expand}
 
--- its place in the template, in bytes; what it writes; whether it is a varspec with a length that has no use for its value (section 2.4.1);
+-- its place in the template, in bytes; what it writes; whether it is a varspec with a prefix that has no use for its value (section 2.4.1);
 -- and how many calls of the context it takes
 pub record Portion : Type 0 where
   pub location : ℕ

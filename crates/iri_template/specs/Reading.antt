@@ -38,7 +38,7 @@ abbrev pub operator_of : List ℕ → Operator
 operator_of [] = Simple
 operator_of (c ∷ cs) = operator_at c
 
--- what stands behind the operator
+-- what stands after the operator
 abbrev pub behind_operator : List ℕ → List ℕ
 behind_operator t = drop (length (operator_text (operator_of t))) t
 

@@ -8,7 +8,7 @@ use Rattle.iri_template.specs.declared.visitor.VisitPurpose.{VisitPurpose}
 use Rattle.iri_template.specs.declared.visitor.Phase.{Phase}
 use Rattle.iri_template.specs.declared.visitor.Phase.TheVariants.{Done}
 
--- the value that a visit for a name and a purpose tells, behind so many more calls of the context, which may be visits or callbacks
+-- the value that a visit for a name and a purpose tells, after so many more calls of the context, which may be visits or callbacks
 abbrev pub Telling : Type 0
 Telling = ℕ → List ℕ → VisitPurpose → ShownValue
 

@@ -1,4 +1,4 @@
--- Values that a varspec with a length has no use for (RFC 6570 section 2.4.1).
+-- Values that a varspec with a prefix has no use for (RFC 6570 section 2.4.1).
 use Rattle.std.specs.Prelude.{ℕ, ◌+◌, Bool, false, cond, List, [], ◌∷◌, length, Option, None}
 use Rattle.iri_template.specs.Template.{whole, explode, prefix, VarSpec, Piece, literal, triplet, expression, operator_text, varspec_text}
 use Rattle.iri_template.specs.Template.{piece_text}
@@ -7,10 +7,10 @@ use Rattle.iri_template.specs.Fault.{fault, first}
 use Rattle.iri_template.specs.ShownValues.{ShownValue, has_members}
 use Rattle.iri_template.specs.declared.error.Error.{Error}
 use Rattle.iri_template.specs.declared.error.ErrorKind.TheVariants.{UnexpectedValueType}
-use Rattle.iri_template.specs.declared.var_spec.Modifier.{Modifier}
-use Rattle.iri_template.specs.declared.var_spec.Modifier.TheVariants.{Whole, Explode, Prefix}
+use Rattle.iri_template.specs.declared.varspec.Modifier.{Modifier}
+use Rattle.iri_template.specs.declared.varspec.Modifier.TheVariants.{Whole, Explode, Prefix}
 
--- a length for a list or an associative array that isn't empty
+-- a prefix for a list or an associative array that isn't empty
 abbrev pub is_mistyped : template.Modifier → ShownValue → Bool
 is_mistyped (prefix ds) v = has_members v
 is_mistyped whole v = false

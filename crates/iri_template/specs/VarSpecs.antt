@@ -1,11 +1,11 @@
 -- How a varspec is held.
 use Rattle.std.specs.Prelude.{◌≡◌, ℕ, ◌+◌, ◌-◌, ◌*◌, List, [], ◌∷◌}
 use Rattle.iri_template.specs.Template as template
-use Rattle.iri_template.specs.declared.var_spec.VarSpec.{VarSpec}
-use Rattle.iri_template.specs.declared.var_spec.Modifier.{Modifier}
-use Rattle.iri_template.specs.declared.var_spec.Modifier.TheVariants.{Whole, Explode, Prefix}
+use Rattle.iri_template.specs.declared.varspec.VarSpec.{VarSpec}
+use Rattle.iri_template.specs.declared.varspec.Modifier.{Modifier}
+use Rattle.iri_template.specs.declared.varspec.Modifier.TheVariants.{Whole, Explode, Prefix}
 
--- the number that digits spell, behind those of n
+-- the number that digits spell, after those of n
 abbrev pub number_from : ℕ → List ℕ → ℕ
 number_from n [] = n
 number_from n (d ∷ ds) = number_from (n * 10 + (d - 48)) ds

@@ -11,7 +11,7 @@ use iri_text::Stop;
 /// for each varspec `visit_dynamic` to look at the value's type and `visit_dynamic` again to write the value, and at last
 /// `on_expansion_end` once.
 pub trait DynamicContext {
-    /// The values that visits tell, where the context says so: behind so many more calls of these three, for a name and a
+    /// The values that visits tell, where the context says so: after so many more calls of these three, for a name and a
     /// purpose.
     ghost tells: { Self → Option Telling };
 

@@ -12,13 +12,13 @@ pub enum ErrorKind {
     ExpressionNotClosed,
     /// A character that can't stand outside expressions (section 2.1).
     InvalidCharacter,
-    /// No variable's name, or no modifier behind it (sections 2.3 and 2.4).
+    /// No variable's name, or no modifier after it (sections 2.3 and 2.4).
     InvalidExpression,
-    /// A percent sign without two hex digits behind it (section 2.1).
+    /// A percent sign without two hex digits after it (section 2.1).
     InvalidPercentEncoding,
     /// Bytes that are no UTF-8.
     InvalidUtf8,
-    /// A prefix length on a list or an associative array that isn't empty (section 2.4.1).
+    /// A prefix on a list or an associative array that isn't empty (section 2.4.1).
     UnexpectedValueType,
     /// An operator that is reserved for later (section 2.2).
     UnsupportedOperator,

@@ -7,7 +7,7 @@ ghost use Rattle.iri_template.specs.TypeFaults.{type_fault};
 
 use crate::context::Context;
 use crate::expansion_writer::write_expansion;
-use crate::length::is_within;
+use crate::byte_count::is_within;
 use crate::template::UriTemplateStr;
 use crate::typechecked::Typechecked;
 use iri_grammar::spec::Spec;

@@ -18,11 +18,11 @@ ghost use Rattle.iri_template.specs.declared.visitor.VisitPurpose.TheVariants.{T
 use crate::dynamic_context::DynamicContext;
 use crate::error::{Error, ErrorKind};
 use crate::operator::Operator;
-use crate::place::{Place, has_length};
+use crate::place::{Place, prefix_of};
 use crate::type_check::TypeCheck;
 use crate::value_writer::ValueWriter;
-use crate::var_spec::VarSpec;
-use crate::varspecs::read_first;
+use crate::varspec::VarSpec;
+use crate::variable_list::read_first;
 use iri_grammar::spec::Spec;
 use iri_text::TextSink;
 
@@ -35,7 +35,7 @@ fn looks_mistyped<C: DynamicContext>(context: &mut C, varspec: VarSpec<'_>) -> b
 {
     let mut visitor = TypeCheck::new(varspec.name);
     match context.visit_dynamic(&mut visitor) {
-        Ok(()) => has_length(varspec.modifier) && visitor.members,
+        Ok(()) => prefix_of(varspec.modifier).is_some() && visitor.members,
         Err(_) => false,
     }
 }

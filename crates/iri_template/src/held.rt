@@ -1,10 +1,10 @@
-//! What a sink holds back of a text, where triplets may go on.
+//! What a sink holds back of a text: triplets, until the octets that tell their character have come, four of them at most.
 ghost use Rattle.std.specs.Prelude.{◌≡◌, ◌<◌, ◌≤◌, ◌++◌, ◌∷◌, [], length, take, drop};
 ghost use Rattle.std.specs.Str.{IsAscii};
 
 use std::marker::Model;
 
-/// At most twelve bytes, all in ASCII: as many as the triplets of a character have. It is seen as the list of them.
+/// At most twelve bytes, all in ASCII, since a character has no more than four triplets. It is seen as the list of them.
 #[derive(Drop)]
 pub(crate) struct Held {
     buf: [u8; 12],

@@ -38,7 +38,7 @@ pub fn no_fault_of_templates()
     ensures utf8 { (bs : List ℕ) → IsTemplate bs → IsUtf8 bs }
 {}
 
-/// Two templates one behind the other are a template.
+/// Two templates one after the other are a template.
 pub fn joined_templates()
     ensures { (a b : List ℕ) → template_fault a ≡ None → template_fault b ≡ None → template_fault (a ++ b) ≡ None }
 {}

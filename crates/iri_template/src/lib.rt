@@ -24,16 +24,16 @@
 //! old value, changes nothing where the key is no name, and hands key and value back where allocation fails. Equality,
 //! order and hash of templates are those of their texts, and so is what is shown and displayed.
 //!
-//! `expand` refuses exactly where a varspec with a length has a list or an associative array that isn't empty, and
+//! `expand` refuses exactly where a varspec with a prefix has a list or an associative array that isn't empty, and
 //! tells the first one's place before anything is written. The text of an `Expanded` is the definition's (`expansion`),
 //! in whatever pieces a value puts its text; it takes no memory, and where the sink stops, it stops within that text.
 //! The conversions refuse exactly what is outside their production, and `try_into_text_within` what is longer.
 //!
 //! `expand_dynamic` visits each varspec twice: its value is looked at, and then written. Of a context that tells which
 //! value comes at which call, the end is exact: all of the text was written; or the answer is `UnexpectedValueType` at
-//! the first varspec with a length that was told a list or an associative array that isn't empty, at either visit,
-//! behind exactly the text before it; or it is `WriteFailed` at the varspec, or the literals and triplets between
-//! expressions, within whose text the sink stopped, behind all text before it; no later varspec is visited then. Of any
+//! the first varspec with a prefix that was told a list or an associative array that isn't empty, at either visit,
+//! after exactly the text before it; or it is `WriteFailed` at the varspec, or the literals and triplets between
+//! expressions, within whose text the sink stopped, after all text before it; no later varspec is visited then. Of any
 //! context: `WriteFailed` comes only where the sink's count of stops rose, and no third refusal comes; the callbacks at
 //! the start and at the end of an expansion are each called once, after a refusal too, where the context counts them.
 //! `expand_dynamic_to_string` gives that text, and alone answers `Memory`, with the places of `WriteFailed`. With
@@ -47,8 +47,7 @@
 //! ample memory; the text of `Debug`.
 #![tactic(auto)]
 
-mod char_front;
-mod char_front_sink;
+mod byte_count;
 pub mod comparison;
 pub mod context;
 pub mod creation;
@@ -60,12 +59,13 @@ mod expression_writer;
 mod front_unit;
 mod held;
 pub mod laws;
-mod length;
 pub mod naive;
 mod operator;
 pub mod owned;
 mod part;
 mod place;
+mod prefix;
+mod prefix_sink;
 mod row;
 mod shown;
 pub mod simple_context;
@@ -78,8 +78,8 @@ mod units;
 pub mod value;
 mod value_writer;
 pub mod var_name;
-mod var_spec;
+mod variable_list;
 pub mod variables;
-mod varspecs;
+mod varspec;
 pub mod visitor;
 mod writer;

@@ -31,7 +31,7 @@ impl Model for UriTemplateString {
     ghost invariant = { λ t. text_fault (string_bytes t.text) ≡ None };
 }
 
-// Puts a template behind a text that is one. What comes out is one, whether there is memory or not.
+// Puts a template after a text that is one. What comes out is one, whether there is memory or not.
 fn push_template(whole: &mut String, other: UriTemplateStr<'_>) -> Result<(), AllocError>
     requires { text_fault (string_bytes whole.old) ≡ None }
     ensures valid { text_fault (string_bytes whole.new) ≡ None }
@@ -133,7 +133,7 @@ impl UriTemplateString {
         Ok(())
     }
 
-    /// Puts another template behind this one. Memory is taken first: where it is refused, nothing changes.
+    /// Puts another template after this one. Memory is taken first: where it is refused, nothing changes.
     pub fn append(&mut self, other: UriTemplateStr<'_>) -> Result<(), AllocError>
         ensures text { OnOk result (self.new.text ≡ self.old.text ++ text other.entry) }
         ensures capacity { self.old.capacity ≤ self.new.capacity }

@@ -1,11 +1,10 @@
 //! How far an expression is written.
 ghost use Rattle.std.specs.Prelude.{◌≡◌};
-ghost use Rattle.iri_template.specs.inside.Checked.{has_length};
-ghost use Rattle.iri_template.specs.inside.Written.{explodes, count_of};
+ghost use Rattle.iri_template.specs.inside.Written.{explodes, prefix_of};
 
 use crate::operator::Operator;
 use crate::var_name::VarName;
-use crate::var_spec::Modifier;
+use crate::varspec::Modifier;
 
 /// What is written next to a value.
 #[derive(Clone, Copy)]
@@ -30,23 +29,12 @@ pub(crate) fn explodes(modifier: Modifier) -> bool
     }
 }
 
-/// Whether a length stands at the variable.
-pub(crate) fn has_length(modifier: Modifier) -> bool
-    ensures { result ≡ has_length modifier }
+/// How many characters or units of a string are meant, where a prefix stands.
+pub(crate) fn prefix_of(modifier: Modifier) -> Option<u16>
+    ensures { result ≡ prefix_of modifier }
 {
     match modifier {
-        Modifier::Prefix(_) => true,
-        Modifier::Whole => false,
-        Modifier::Explode => false,
-    }
-}
-
-/// How many characters or units of a string are meant.
-pub(crate) fn count_of(modifier: Modifier) -> Option<u16>
-    ensures { result ≡ count_of modifier }
-{
-    match modifier {
-        Modifier::Prefix(count) => Some(count),
+        Modifier::Prefix(prefix) => Some(prefix),
         Modifier::Whole => None,
         Modifier::Explode => None,
     }

@@ -3,8 +3,8 @@ ghost use Rattle.std.specs.Prelude.{◌≡◌, ◌==◌, false, length, None};
 ghost use Rattle.iri_text.specs.Shown.{Shows};
 ghost use Rattle.iri_template.specs.Expansion.{shown_text};
 
-use crate::char_front::show_front;
-use crate::length::is_within;
+use crate::prefix::show_prefix;
+use crate::byte_count::is_within;
 use crate::units::{is_used_up, show_kept};
 use iri_grammar::spec::Spec;
 use iri_percent::PercentEncoded;
@@ -37,20 +37,20 @@ pub(crate) struct Shown<'v, T, S> {
     value: &'v T,
     /// Whether reserved characters and triplets stay.
     allow: bool,
-    count: Option<u16>,
+    prefix: Option<u16>,
     spec: PhantomData<S>,
 }
 
 impl<'v, T: Show, S: Spec> Shown<'v, T, S> {
-    pub(crate) fn new(value: &'v T, allow: bool, count: Option<u16>) -> Shown<'v, T, S>
+    pub(crate) fn new(value: &'v T, allow: bool, prefix: Option<u16>) -> Shown<'v, T, S>
         ensures value { result.value.now ≡ value.now }
         ensures allow { result.allow ≡ allow }
-        ensures count { result.count ≡ count }
+        ensures prefix { result.prefix ≡ prefix }
     {
         Shown {
             value,
             allow,
-            count,
+            prefix,
             spec: PhantomData,
         }
     }
@@ -58,9 +58,9 @@ impl<'v, T: Show, S: Spec> Shown<'v, T, S> {
     /// Whether its text is empty. Triplets don't stay.
     pub(crate) fn is_empty(&self) -> bool
         requires { self.now.allow ≡ false }
-        ensures { result ≡ (length (shown_text S.tests self.now.allow self.now.count (T.text self.now.value.now)) == 0) }
+        ensures { result ≡ (length (shown_text S.tests self.now.allow self.now.prefix (T.text self.now.value.now)) == 0) }
     {
-        if is_used_up(self.count) {
+        if is_used_up(self.prefix) {
             return true;
         }
         is_within(self.value, 0)
@@ -70,14 +70,14 @@ impl<'v, T: Show, S: Spec> Shown<'v, T, S> {
 impl<'v, T: Show, S: Spec> Show for Shown<'v, T, S> {
     ghost use Rattle.iri_template.specs.Expansion.{shown_text};
 
-    ghost text = { λ v. shown_text S.tests v.allow v.count (T.text v.value.now) };
+    ghost text = { λ v. shown_text S.tests v.allow v.prefix (T.text v.value.now) };
 
     fn show<W: TextSink>(&self, sink: &mut W) -> Result<(), Stop> {
         if self.allow {
-            return show_kept::<T, S, W>(sink, self.value, self.count);
+            return show_kept::<T, S, W>(sink, self.value, self.prefix);
         }
-        match self.count {
-            Some(count) => show_front::<T, S, W>(sink, self.value, count),
+        match self.prefix {
+            Some(prefix) => show_prefix::<T, S, W>(sink, self.value, prefix),
             None => show_all::<T, S, W>(sink, self.value),
         }
     }

@@ -17,7 +17,7 @@ use crate::expansion_writer::write_expansion;
 use crate::part::{Part, read_part};
 use crate::type_fault::find_type_fault;
 use crate::variables::UriTemplateVariables;
-use crate::varspecs;
+use crate::variable_list;
 use iri_grammar::spec::Spec;
 use iri_text::{FormatSink, Show, Stop, StringSink, TextSink};
 use std::alloc::{AllocError, Global};
@@ -33,7 +33,7 @@ pub(crate) fn validate(s: &str) -> Result<(), Error>
         match read_part(rest, s.len() - rest.len()) {
             Ok((part, next)) => {
                 if let Part::Expression(expression) = part {
-                    varspecs::check(expression.varspecs, expression.location)?;
+                    variable_list::check(expression.varspecs, expression.location)?;
                 }
                 rest = next;
             }
@@ -90,7 +90,7 @@ impl<'a> UriTemplateStr<'a> {
         }
     }
 
-    /// The template of bytes, where they are the UTF-8 of its text: otherwise `InvalidUtf8` behind the longest prefix
+    /// The template of bytes, where they are the UTF-8 of its text: otherwise `InvalidUtf8` after the longest prefix
     /// that is UTF-8, or the text's first fault.
     pub fn try_from_bytes(b: &'a [u8]) -> Result<Self, Error>
         ensures fault { Answers result (template_fault b.now) }
@@ -140,7 +140,7 @@ impl<'a> UriTemplateStr<'a> {
     }
 
     /// The expansion for URIs or IRIs, with the values of a context (RFC 6570 section 3). It is refused by
-    /// `UnexpectedValueType` exactly where a variable with a prefix length has a list or an associative array that
+    /// `UnexpectedValueType` exactly where a variable with a prefix has a list or an associative array that
     /// isn't empty, at the first byte of the first such varspec. Nothing is written and no memory is taken.
     pub fn expand<S: Spec, C: Context>(self, context: &'a C) -> Result<Expanded<'a, S, C>, Error>
         ensures fault { Answers result (type_fault (C.value_of context.now) (pieces_of (text self.entry))) }
@@ -158,7 +158,7 @@ impl<'a> UriTemplateStr<'a> {
 
     /// Writes the expansion with the values of a context that may change from call to call, to any sink (RFC 6570
     /// section 3). Each varspec's value is looked at, and then written; it takes no memory. `UnexpectedValueType` comes
-    /// exactly where one with a prefix length was told a list or an associative array that isn't empty, at either of the
+    /// exactly where one with a prefix was told a list or an associative array that isn't empty, at either of the
     /// two, at its first byte; then exactly the text before that varspec was written. `WriteFailed` comes only where the
     /// sink stopped, at the first byte of the varspec, or of the literals and triplets between expressions, within whose
     /// text it stopped; all text before it was written.

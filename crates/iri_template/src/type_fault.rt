@@ -1,4 +1,4 @@
-//! Values that varspecs with a length have no use for (RFC 6570 section 2.4.1).
+//! Values that varspecs with a prefix have no use for (RFC 6570 section 2.4.1).
 ghost use Rattle.std.specs.Prelude.{◌≡◌, ◌<◌, ◌+◌, ◌-◌, ◌^◌, map, length, None};
 ghost use Rattle.iri_grammar.specs.Pieces.{pieces};
 ghost use Rattle.iri_template.specs.Fault.{text_fault, varspecs_fault};
@@ -10,8 +10,8 @@ use crate::context::Context;
 use crate::error::{Error, ErrorKind};
 use crate::part::{Part, read_part};
 use crate::type_check::value_has_members;
-use crate::var_spec::{Modifier, VarSpec};
-use crate::varspecs::read_first;
+use crate::varspec::{Modifier, VarSpec};
+use crate::variable_list::read_first;
 
 fn is_mistyped<C: Context>(context: &C, varspec: VarSpec<'_>) -> bool
     ensures { result ≡ is_mistyped_as varspec.entry.modifier (C.value_of context.now varspec.entry.name.text.now) }
@@ -23,7 +23,7 @@ fn is_mistyped<C: Context>(context: &C, varspec: VarSpec<'_>) -> bool
     }
 }
 
-/// The first of varspecs without fault that has such a value. `at` is their place, and a brace stands behind them.
+/// The first of varspecs without fault that has such a value. `at` is their place, and a brace stands after them.
 fn find_mistyped<C: Context>(context: &C, varspecs: &str, at: usize) -> Option<Error>
     requires fine { varspecs_fault 0 (pieces 44 varspecs.now) ≡ None }
     requires fits { at + length varspecs.now + 1 < 2 ^ 64 }

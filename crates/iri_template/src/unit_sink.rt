@@ -17,16 +17,16 @@ pub(crate) struct UnitSink<'s, S, W> {
 
 impl<'s, S, W> UnitSink<'s, S, W> {
     /// So many units, or all, go to this sink.
-    pub(crate) fn new(to: &'s mut W, count: Option<u16>) -> UnitSink<'s, S, W>
+    pub(crate) fn new(to: &'s mut W, prefix: Option<u16>) -> UnitSink<'s, S, W>
         ensures same { result.to.ghost_name ≡ to.entry.ghost_name }
         ensures now { result.to.now ≡ to.old }
         ensures held { result.held ≡ [] }
-        ensures left { result.left ≡ count }
+        ensures left { result.left ≡ prefix }
     {
         UnitSink {
             to,
             held: Held::new(),
-            left: count,
+            left: prefix,
             spec: PhantomData,
         }
     }

@@ -293,11 +293,11 @@ fn show_units<T: Show, S: Spec, W: TextSink>(
 pub(crate) fn show_kept<T: Show, S: Spec, W: TextSink>(
     sink: &mut W,
     value: &T,
-    count: Option<u16>,
+    prefix: Option<u16>,
 ) -> Result<(), Stop>
     ensures { Shows W.puts W.halts W.stops sink.old
-        (written_units S.tests count (text_units (T.text value.now))) sink.new result }
+        (written_units S.tests prefix (text_units (T.text value.now))) sink.new result }
 {
-    let mut units = UnitSink::<S, W>::new(sink, count);
+    let mut units = UnitSink::<S, W>::new(sink, prefix);
     show_units(&mut units, value)
 }

@@ -8,7 +8,7 @@ ghost use Rattle.iri_template.specs.inside.Written.{state_at, name_mark, item_le
 ghost use Rattle.iri_template.specs.inside.Written.{event_text};
 ghost use Rattle.iri_template.specs.declared.visitor.Phase.TheVariants.{Halted};
 
-use crate::place::{Place, count_of, explodes, has_length};
+use crate::place::{Place, explodes, prefix_of};
 use crate::row::{allows_reserved, if_empty, is_named, lead};
 use crate::shown::Shown;
 use crate::value_writer::ValueWriter;
@@ -17,7 +17,7 @@ use crate::visitor::{Phase, VisitPurpose, Visitor};
 use iri_grammar::spec::Spec;
 use iri_text::{Show, Stop, TextSink, show_four, show_three, show_two};
 
-/// The phase behind a call that goes on to this one.
+/// The phase after a call that goes on to this one.
 fn phase_after(shown: &Result<(), Stop>, phase: Phase) -> Phase
     ensures { MatchResult shown.now (λ _. result ≡ phase) (λ _. result ≡ Halted) }
 {
@@ -73,7 +73,7 @@ fn show_string<T: Show, S: Spec, W: TextSink>(
     let shown = Shown::<T, S>::new(
         value,
         allows_reserved(place.operator),
-        count_of(place.modifier),
+        prefix_of(place.modifier),
     );
     if !is_named(place.operator) {
         return show_two(sink, &first, &shown);
@@ -170,7 +170,7 @@ impl<'w, S: Spec, W: TextSink> Visitor for ValueWriter<'w, S, W> {
     }
 
     fn visit_item<T: Show>(&mut self, item: &T) -> Result<(), Stop> {
-        if has_length(self.place.modifier) {
+        if prefix_of(self.place.modifier).is_some() {
             self.mistyped = true;
             return Ok(());
         }
@@ -187,7 +187,7 @@ impl<'w, S: Spec, W: TextSink> Visitor for ValueWriter<'w, S, W> {
     }
 
     fn visit_entry<K: Show, T: Show>(&mut self, key: &K, value: &T) -> Result<(), Stop> {
-        if has_length(self.place.modifier) {
+        if prefix_of(self.place.modifier).is_some() {
             self.mistyped = true;
             return Ok(());
         }

@@ -1,5 +1,5 @@
 -- What is written for the events of a value, whose type is checked: a varspec with a prefix has no use for members.
-use Rattle.std.specs.Prelude.{ℕ, Bool, true, false, cond, not, ◌&&◌, ◌||◌, List, [], ◌∷◌}
+use Rattle.std.specs.Prelude.{ℕ, is_some, Bool, true, false, cond, not, ◌&&◌, ◌||◌, List, [], ◌∷◌}
 use Rattle.iri_grammar.specs.Classes.{Tests}
 use Rattle.iri_template.specs.Events.{Event, StringTold, Item, Entry}
 use Rattle.iri_template.specs.Expansion.{row_of}
@@ -8,17 +8,14 @@ use Rattle.iri_template.specs.Portions.{Portion}
 use Rattle.iri_template.specs.ShownValues.{ShownValue}
 use Rattle.iri_template.specs.TypeFaults.{is_mistyped_as}
 use Rattle.iri_template.specs.inside.Members.{is_member}
-use Rattle.iri_template.specs.inside.Written.{WriteState, event_step, event_text, told_texts}
+use Rattle.iri_template.specs.inside.Written.{WriteState, event_step, event_text, told_texts, prefix_of}
 use Rattle.iri_template.specs.declared.operator.Operator.{Operator}
 use Rattle.iri_template.specs.declared.place.Place.{Place}
-use Rattle.iri_template.specs.declared.var_spec.Modifier.{Modifier}
-use Rattle.iri_template.specs.declared.var_spec.Modifier.TheVariants.{Whole, Explode, Prefix}
-use Rattle.iri_template.specs.declared.var_spec.VarSpec.{VarSpec}
+use Rattle.iri_template.specs.declared.varspec.Modifier.{Modifier}
+use Rattle.iri_template.specs.declared.varspec.VarSpec.{VarSpec}
 
-abbrev pub has_length : Modifier → Bool
-has_length Whole = false
-has_length Explode = false
-has_length (Prefix n) = true
+abbrev pub has_prefix : Modifier → Bool
+has_prefix m = is_some (prefix_of m)
 
 -- how far the value was written; whether it had a member that was refused
 pub record CheckState : Type 0 where
@@ -26,7 +23,7 @@ pub record CheckState : Type 0 where
   pub mistyped : Bool
 
 abbrev pub refuses : CheckState → Bool
-refuses u = has_length u.write.modifier
+refuses u = has_prefix u.write.modifier
 
 -- a member, where members are refused
 abbrev pub is_misfit : CheckState → Event → Bool

@@ -45,7 +45,7 @@ calls_of (part.Literals l) = 0
 calls_of (part.Triplet l) = 0
 calls_of (part.Expression e) = 2 * length (map varspec_of (pieces 44 e.varspecs.now))
 
--- where literals and triplets begin behind this part, which ends at `end`
+-- where literals and triplets begin after this part, which ends at `end`
 abbrev pub begin_after : Part → ℕ → ℕ → ℕ
 begin_after (part.Literals l) begin end = begin
 begin_after (part.Triplet l) begin end = begin

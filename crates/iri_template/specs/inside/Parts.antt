@@ -24,13 +24,13 @@ part_fault (part.Literals l) = None
 part_fault (part.Triplet l) = None
 part_fault (part.Expression e) = varspecs_fault e.location (pieces 44 e.varspecs.now)
 
--- its varspecs, and a brace behind them, end before m
+-- its varspecs, and a brace after them, end before m
 abbrev pub EndsBefore : Part → ℕ → Type 0
 EndsBefore (part.Literals l) m = Unit {0}
 EndsBefore (part.Triplet l) m = Unit {0}
 EndsBefore (part.Expression e) m = e.location + length e.varspecs.now < m
 
--- its varspecs stand behind the brace and the operator
+-- its varspecs stand after the brace and the operator
 abbrev pub IsPlaced : Part → ℕ → Type 0
 IsPlaced (part.Literals l) at = Unit {0}
 IsPlaced (part.Triplet l) at = Unit {0}

@@ -66,7 +66,7 @@ is_used_up left = false
 abbrev pub next_state : UnitState → ℕ → UnitState
 next_state u c = record { held = step_held u.held c; left = fewer u.left (length (step_units u.held c)) }
 
--- behind the last unit that may be written nothing is held back any more
+-- after the last unit that may be written nothing is held back any more
 abbrev pub unit_step : UnitState → ℕ → UnitState
 unit_step u c = cond (is_used_up u.left) u (next_state u c)
 

@@ -7,8 +7,8 @@ use Rattle.iri_template.specs.Led.{lead}
 use Rattle.iri_template.specs.ShownValues.{ShownValue, undefined, string, list, pairs}
 use Rattle.iri_template.specs.declared.operator.Operator.{Operator}
 use Rattle.iri_template.specs.declared.place.Place.{Place}
-use Rattle.iri_template.specs.declared.var_spec.Modifier.{Modifier}
-use Rattle.iri_template.specs.declared.var_spec.Modifier.TheVariants.{Whole, Explode, Prefix}
+use Rattle.iri_template.specs.declared.varspec.Modifier.{Modifier}
+use Rattle.iri_template.specs.declared.varspec.Modifier.TheVariants.{Whole, Explode, Prefix}
 
 -- how a variable is written; whether the expression has a text before, and this value a member
 pub record WriteState : Type 0 where
@@ -26,15 +26,15 @@ explodes Whole = false
 explodes Explode = true
 explodes (Prefix n) = false
 
-abbrev pub count_of : Modifier → Option ℕ
-count_of Whole = None
-count_of Explode = None
-count_of (Prefix n) = Some n
+abbrev pub prefix_of : Modifier → Option ℕ
+prefix_of Whole = None
+prefix_of Explode = None
+prefix_of (Prefix n) = Some n
 
 abbrev pub name_mark : Row → List ℕ → List ℕ
 name_mark row name = cond row.named (name ++ 61 ∷ []) []
 
--- what stands before a member: that, with the name where names are written; in one text, a comma behind the first
+-- what stands before a member: that, with the name where names are written; in one text, a comma after the first
 abbrev pub item_lead : WriteState → List ℕ
 item_lead w = cond (w.member && not (explodes w.modifier)) (44 ∷ [])
     (lead (row_of w.operator) w.written ++ name_mark (row_of w.operator) w.name)
@@ -53,7 +53,7 @@ event_step w e = w
 
 abbrev pub event_text : Tests → WriteState → Event → List ℕ
 event_text s w (StringTold t) = lead (row_of w.operator) w.written
-    ++ string_text (row_of w.operator) w.name (shown_text s (row_of w.operator).allow (count_of w.modifier) t)
+    ++ string_text (row_of w.operator) w.name (shown_text s (row_of w.operator).allow (prefix_of w.modifier) t)
 event_text s w (Item t) = item_lead w ++ shown_text s (row_of w.operator).allow None t
 event_text s w (Entry k t) = entry_lead w ++ pair_with (entry_mark w.modifier)
     (shown_text s (row_of w.operator).allow None k, shown_text s (row_of w.operator).allow None t)
@@ -62,7 +62,7 @@ event_text s w e = []
 -- ---- what a variable writes, by its varspec as it is held
 abbrev pub told_texts : Tests → Row → List ℕ → Modifier → ShownValue → List (List ℕ)
 told_texts s row name m undefined = []
-told_texts s row name m (string t) = string_text row name (shown_text s row.allow (count_of m) t) ∷ []
+told_texts s row name m (string t) = string_text row name (shown_text s row.allow (prefix_of m) t) ∷ []
 told_texts s row name m (list items) =
     cond (explodes m) (map (named_text row name) (map (shown_text s row.allow None) items))
     (in_one row name (map (shown_text s row.allow None) items))

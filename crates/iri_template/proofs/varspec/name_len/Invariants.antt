@@ -1,0 +1,11 @@
+use Rattle.std.proofs.Common.{◌≡◌, ◌++◌, take, drop}
+use Rattle.iri_grammar.specs.Marks.{before_any, from_any}
+use Rattle.iri_template.specs.Reading.{ends_name}
+use Rattle.iri_template.proofs.varspec.name_len.Given as goal
+
+-- what is left is cut where the whole is
+abbrev pub invariant-loop-i : goal.invariant-loop-i
+invariant-loop-i l = record {
+  name : take l.i l.bytes ++ before_any ends_name (drop l.i l.bytes) ≡ before_any ends_name l.bytes;
+  rest : from_any ends_name (drop l.i l.bytes) ≡ from_any ends_name l.bytes;
+}

@@ -1,0 +1,43 @@
+//! The varspecs of an expression, parted by commas (RFC 6570 section 2.3).
+ghost use Rattle.std.specs.Prelude.{◌≡◌, ◌<◌, ◌+◌, ◌^◌, length, MatchResult, IfOk, Some, None};
+ghost use Rattle.iri_grammar.specs.Cut.{before, behind};
+ghost use Rattle.iri_grammar.specs.Pieces.{pieces};
+ghost use Rattle.iri_grammar.specs.OptionalSlices.{now_of};
+ghost use Rattle.iri_template.specs.Reading.{varspec_of};
+ghost use Rattle.iri_template.specs.Fault.{Answers, moved, varspec_fault, varspecs_fault};
+ghost use Rattle.iri_template.specs.VarSpecs.{IsHeld};
+
+use crate::error::Error;
+use crate::varspec::{VarSpec, read_varspec};
+use iri_grammar::cutting::cut;
+
+/// The first varspec, and the others, where there are some. `at` is its place, and a brace stands after all of
+/// them.
+pub(crate) fn read_first(varspecs: &str, at: usize) -> Result<(VarSpec<'_>, Option<&str>), Error>
+    requires { at + length varspecs.now + 1 < 2 ^ 64 }
+    ensures fault { Answers result (moved at (varspec_fault (before 44 varspecs.now))) }
+    ensures value { IfOk result (λ p. IsHeld p.0 (varspec_of (before 44 varspecs.now))) }
+    ensures others { IfOk result (λ p. now_of p.1 ≡ behind 44 varspecs.now) }
+{
+    let (first, others) = cut(varspecs, b',');
+    match read_varspec(first, at) {
+        Ok(varspec) => Ok((varspec, others)),
+        Err(error) => Err(error),
+    }
+}
+
+/// Whether all varspecs are well-formed: otherwise the first fault. `at` is their place, and a brace stands after
+/// them.
+pub(crate) fn check(varspecs: &str, at: usize) -> Result<(), Error>
+    requires { at + length varspecs.now + 1 < 2 ^ 64 }
+    ensures { Answers result (varspecs_fault at (pieces 44 varspecs.now)) }
+{
+    let mut rest = varspecs;
+    'varspecs: loop {
+        match read_first(rest, at + (varspecs.len() - rest.len())) {
+            Ok((_, Some(others))) => rest = others,
+            Ok((_, None)) => return Ok(()),
+            Err(error) => return Err(error),
+        }
+    }
+}
