@@ -28,7 +28,7 @@ use Rattle.iri_resolve.proofs.AuthoritySteps.{placed-is, in_part-is}
 use Rattle.iri_resolve.proofs.NormalStepLemmas.{plain-led}
 use Rattle.iri_resolve.proofs.Leads.{replayed_in-append}
 use Rattle.iri_normal.proofs.SchemeForm.{by_scheme, dropped-lowered, form-by_scheme, kept_port, normal-slash, normal_in-fits, one-form, slash-normal, without}
-use Rattle.iri_resolve.proofs.StepsKept.{Kept, Valid, authority-rules, step-kept}
+use Rattle.iri_resolve.proofs.StepsKept.{Kept, Valid, authority-fits, path-fits, step-kept}
 use Rattle.iri_normal.proofs.TargetLaws.{slash_in_path}
 use Rattle.iri_normal.proofs.TextLaws.{slash_over}
 
@@ -94,14 +94,7 @@ default_port-kept s t a b k v e h =
     let new : is_authority s b ≡ true = subst (λ z. is_authority s z ≡ true) r.1 kept.0 in
     let same : normal_authority_in s d b ≡ normal_authority_in s d a = ap (normal_authority_in s d) (sym r.1) ∙ kept.1 in
     record {
-      fits = record {
-        scheme = v.fits.scheme;
-        authority = new;
-        path = v.fits.path;
-        query = v.fits.query;
-        fragment = v.fits.fragment;
-        rules = authority-rules t.scheme a b t.path (ap (λ o. path_rules t.scheme o t.path) (sym e) ∙ v.fits.rules);
-      };
+      fits = authority-fits s t a b v.fits e new;
       scheme = v.scheme;
       form = rw (e, same, still-stands d b a t.path, still-path s b a t.path) refl;
     }
@@ -133,14 +126,8 @@ slash-kept s t k v h =
     let z = slash-stands d t.authority t.path h in
     let normal : normal_path s t.authority (47 ∷ []) ≡ 47 ∷ [] = ap (λ a. normal_path s a (47 ∷ [])) z.1 ∙ normal-slash s z.0 in
     record {
-      fits = record {
-        scheme = v.fits.scheme;
-        authority = v.fits.authority;
-        path = slash_over (path_char s) (slash_in_path s);
-        query = v.fits.query;
-        fragment = v.fits.fragment;
-        rules = ap (λ a. path_rules t.scheme a (47 ∷ [])) z.1;
-      };
+      fits = path-fits s t (47 ∷ []) v.fits (slash_over (path_char s) (slash_in_path s))
+          (ap (λ a. path_rules t.scheme a (47 ∷ [])) z.1);
       scheme = v.scheme;
       form = rw (h, not-empty d t.authority, normal) refl;
     }

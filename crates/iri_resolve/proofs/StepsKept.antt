@@ -85,8 +85,14 @@ scheme-step s t i w v k e h =
     }
 
 -- ---- the authority
-pub authority-rules : (o : Option (List ℕ)) (a b p : List ℕ) → path_rules o (Some a) p ≡ true → path_rules o (Some b) p ≡ true
+authority-rules : (o : Option (List ℕ)) (a b p : List ℕ) → path_rules o (Some a) p ≡ true → path_rules o (Some b) p ≡ true
 authority-rules o a b p h = h
+
+pub authority-fits : (s : Tests) (t : Parts) (a b : List ℕ) → Fits s t → t.authority ≡ Some a → is_authority s b ≡ true
+    → Fits s (record t { authority = Some b })
+authority-fits s t a b f e h =
+    let r = authority-rules t.scheme a b t.path (ap (λ o. path_rules t.scheme o t.path) (sym e) ∙ f.rules) in
+    record { scheme = f.scheme; authority = h; path = f.path; query = f.query; fragment = f.fragment; rules = r }
 
 authority-step : (s : Tests) (t : Parts) (a b : List ℕ) → IsSpec s → Valid s t → t.authority ≡ Some a
     → (is_authority s a ≡ true → AuthorityChange s a b) → Kept s t (record t { authority = Some b })
@@ -95,19 +101,16 @@ authority-step s t a b k v e go =
     let old : is_authority s a ≡ true = ap (if_there (is_authority s)) (sym e) ∙ v.fits.authority in
     let r = authority-kept s a b k (go old) in
     record {
-      fits = record {
-        scheme = v.fits.scheme;
-        authority = r.0;
-        path = v.fits.path;
-        query = v.fits.query;
-        fragment = v.fits.fragment;
-        rules = authority-rules t.scheme a b t.path (ap (λ o. path_rules t.scheme o t.path) (sym e) ∙ v.fits.rules);
-      };
+      fits = authority-fits s t a b v.fits e r.0;
       scheme = v.scheme;
       form = rw (e, r.1) refl;
     }
 
 -- ---- the path
+pub path-fits : (s : Tests) (t : Parts) (p : List ℕ) → Fits s t → is_path s p ≡ true → path_rules t.scheme t.authority p ≡ true
+    → Fits s (record t { path = p })
+path-fits s t p f h r = record { scheme = f.scheme; authority = f.authority; path = h; query = f.query; fragment = f.fragment; rules = r }
+
 triplet_rules : (o a : Option (List ℕ)) (t u : List ℕ) → IsSome o → ((sch : List ℕ) → path_rules (Some sch) a u ≡ path_rules (Some sch) a t)
     → path_rules o a t ≡ true → path_rules o a u ≡ true
 triplet_rules None a t u i e h = cc
@@ -123,15 +126,8 @@ path-triplets s change t i u k c v h =
     let same : pct s (dots u) ≡ pct s (dots t.path) =
     sym (dots-pct s u k x) ∙ ap dots (c.form as_it_is i t.path u h w x) ∙ dots-pct s t.path k w in
     record {
-      fits = record {
-        scheme = v.fits.scheme;
-        authority = v.fits.authority;
-        path = new;
-        query = v.fits.query;
-        fragment = v.fits.fragment;
-        rules = triplet_rules t.scheme t.authority t.path u v.scheme
-            (λ sch. rules-same sch t.authority t.path u (c.slashes i t.path u h)) v.fits.rules;
-      };
+      fits = path-fits s t u v.fits new (triplet_rules t.scheme t.authority t.path u v.scheme
+          (λ sch. rules-same sch t.authority t.path u (c.slashes i t.path u h)) v.fits.rules);
       scheme = v.scheme;
       form = rw same refl;
     }
@@ -152,15 +148,9 @@ dots-rules (Some x) None p i h = guarded (dots p)
 pub dots-step : (s : Tests) (t : Parts) → IsSpec s → Valid s t → Kept s t (record t { path = guard (dots t.path) (is_some t.authority) })
 unfolding normal_form form normal_path
 dots-step s t k v = record {
-  fits = record {
-    scheme = v.fits.scheme;
-    authority = v.fits.authority;
-    path = guard-over (path_char s) (dots t.path) (is_some t.authority) (slash_in_path s) (point_in_path s)
-        (dots-over (path_char s) t.path (slash_in_path s) v.fits.path);
-    query = v.fits.query;
-    fragment = v.fits.fragment;
-    rules = dots-rules t.scheme t.authority t.path v.scheme v.fits.rules;
-  };
+  fits = path-fits s t (guard (dots t.path) (is_some t.authority)) v.fits
+      (guard-over (path_char s) (dots t.path) (is_some t.authority) (slash_in_path s) (point_in_path s)
+      (dots-over (path_char s) t.path (slash_in_path s) v.fits.path)) (dots-rules t.scheme t.authority t.path v.scheme v.fits.rules);
   scheme = v.scheme;
   form = rw (guarded-stable t.path (is_some t.authority)) refl;
 }
