@@ -5,9 +5,9 @@ ghost use Rattle.iri_template.specs.Reading.{pieces_of};
 ghost use Rattle.iri_template.specs.Texts.{text};
 ghost use Rattle.iri_template.specs.TypeFaults.{type_fault};
 
+use crate::byte_count::is_within;
 use crate::context::Context;
 use crate::expansion_writer::write_expansion;
-use crate::byte_count::is_within;
 use crate::template::UriTemplateStr;
 use crate::typechecked::Typechecked;
 use iri_grammar::spec::Spec;

@@ -21,8 +21,8 @@ use crate::operator::Operator;
 use crate::place::{Place, prefix_of};
 use crate::type_check::TypeCheck;
 use crate::value_writer::ValueWriter;
-use crate::varspec::VarSpec;
 use crate::variable_list::read_first;
+use crate::varspec::VarSpec;
 use iri_grammar::spec::Spec;
 use iri_text::TextSink;
 

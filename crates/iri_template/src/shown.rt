@@ -3,8 +3,8 @@ ghost use Rattle.std.specs.Prelude.{◌≡◌, ◌==◌, false, length, None};
 ghost use Rattle.iri_text.specs.Shown.{Shows};
 ghost use Rattle.iri_template.specs.Expansion.{shown_text};
 
-use crate::prefix::show_prefix;
 use crate::byte_count::is_within;
+use crate::prefix::show_prefix;
 use crate::units::{is_used_up, show_kept};
 use iri_grammar::spec::Spec;
 use iri_percent::PercentEncoded;

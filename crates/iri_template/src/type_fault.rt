@@ -10,8 +10,8 @@ use crate::context::Context;
 use crate::error::{Error, ErrorKind};
 use crate::part::{Part, read_part};
 use crate::type_check::value_has_members;
-use crate::varspec::{Modifier, VarSpec};
 use crate::variable_list::read_first;
+use crate::varspec::{Modifier, VarSpec};
 
 fn is_mistyped<C: Context>(context: &C, varspec: VarSpec<'_>) -> bool
     ensures { result ≡ is_mistyped_as varspec.entry.modifier (C.value_of context.now varspec.entry.name.text.now) }

@@ -104,7 +104,10 @@ fn stopped_half_way(rt: HostRuntime) -> Result<(), Fail> {
         assert!(rt; expansion.show(&mut sink).is_err(), "{room} bytes");
         let written = sink.as_str();
         assert!(rt; whole.as_str().starts_with(written), "{room} bytes");
-        assert!(rt; written.len() <= room && room - written.len() < 3, "{room} bytes");
+        assert!(rt;
+            written.len() <= room && room - written.len() < 3,
+            "{room} bytes"
+        );
     }
     Ok(())
 }
