@@ -1,0 +1,65 @@
+// The page: its fields, what they are read by, and where what they come to is shown.
+import { clearAnswers, showAnswers, showBase } from "./answers.mjs";
+import { showPair, showVerdict } from "./pair.mjs";
+import { choose, knowsSchemes, load } from "./reading.mjs";
+import { fromFragment, toFragment } from "./state.mjs";
+
+const FIELDS = ["base", "links", "one", "other"], CHOICES = ["grammar", "mode"];
+const PAUSE = 300;
+
+const at = (id) => document.getElementById(id);
+const radio = (name, chosen) => document.querySelector(`input[name=${name}]${chosen}`);
+
+function values() {
+  const fields = FIELDS.map((name) => [name, at(name).value]);
+  return Object.fromEntries([...fields, ...CHOICES.map((name) => [name, radio(name, ":checked").value])]);
+}
+
+function setValues(state) {
+  for (const name of FIELDS) at(name).value = state[name];
+  for (const name of CHOICES) radio(name, `[value=${state[name]}]`).checked = true;
+  if (at("modes").disabled) radio("mode", "[value=normal]").checked = true;
+}
+
+function show() {
+  const { base, links, grammar, mode } = values();
+  choose({ grammar, mode });
+  if (showBase(at("base"), at("base-answer"))) {
+    showAnswers(base, [base, grammar, mode], links, at("answers"), at("tally"));
+    showPair(base, [at("one"), at("other")], at("verdict"), at("ways"));
+  } else {
+    clearAnswers(at("answers"), at("tally"));
+    showVerdict(at("verdict"), ["refused", "The page’s address is refused"]);
+    at("ways").replaceChildren();
+  }
+}
+
+// Puts the state into the fragment, once nothing was typed for a while.
+let pending;
+function keep() {
+  clearTimeout(pending);
+  pending = setTimeout(() => {
+    const fragment = toFragment(values());
+    at("unkept").hidden = fragment !== null;
+    history.replaceState(null, "", fragment ?? "#");
+  }, PAUSE);
+}
+
+// The module is in the page where the page is one file.
+function inside() {
+  const coded = at("module")?.textContent;
+  return coded && Uint8Array.from(atob(coded), (letter) => letter.charCodeAt(0));
+}
+
+async function start() {
+  await load(inside());
+  at("modes").disabled = at("modes").hidden = !knowsSchemes();
+  const take = () => { setValues(fromFragment(location.hash)); show(); };
+  take();
+  addEventListener("hashchange", take);
+  document.querySelector("main").addEventListener("input", () => { show(); keep(); });
+}
+
+start().catch((error) => {
+  showVerdict(at("verdict"), ["refused", `This browser doesn’t run the library: ${error.message}`]);
+});

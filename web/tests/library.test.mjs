@@ -1,0 +1,100 @@
+// The module: rows of the standards, refusals, parts, long texts, and bases that change between calls.
+import assert from "node:assert/strict";
+import { readFileSync } from "node:fs";
+import { test } from "node:test";
+import { folder, kit, library, rows } from "./kit.mjs";
+
+const { open, Refused, URI, IRI, NORMAL, REFERENCE, WITH_SCHEME, ABSOLUTE, RELATIVE } = library;
+const grammars = { uri: URI, iri: IRI };
+
+// The answer of `irikit canon`.
+function answer(base, reference, grammar) {
+  try {
+    return `ok ${kit.canonical(base, reference, grammar)}`;
+  } catch (error) {
+    if (!(error instanceof Refused)) throw error;
+    return `${error.whose === "base" ? "base" : "bad"} ${error.message}`;
+  }
+}
+
+function refusal(call) {
+  try {
+    return call();
+  } catch (error) {
+    return [error.whose, error.fault, error.message];
+  }
+}
+
+test("the rows of examples/rows.txt", () => {
+  const all = rows("rows.txt");
+  assert.ok(all.length > 100);
+  for (const [grammar, base, reference, wanted] of all) assert.equal(answer(base, reference, grammars[grammar]), wanted);
+});
+
+test("the same as bytes, and from the 64-bit module where this Node runs it", async () => {
+  const bytes = (text) => new TextEncoder().encode(text);
+  const kits = [kit], with64 = readFileSync(`${folder}/irikit64.wasm`);
+  if (WebAssembly.validate(with64)) kits.push(await open(with64));
+  for (const [grammar, base, reference, wanted] of rows("rows.txt").filter((row) => row[3].startsWith("ok "))) {
+    for (const one of kits) assert.equal(`ok ${one.canonical(bytes(base), bytes(reference), grammars[grammar])}`, wanted);
+  }
+});
+
+test("refusals name the text, its first fault and the words for it", () => {
+  assert.deepEqual(refusal(() => kit.canonical("", "")), ["base", 9, "expected an absolute IRI but got a relative IRI"]);
+  assert.deepEqual(refusal(() => kit.canonical("http://a/#f", "%")), ["base", 8, "unexpected fragment"]);
+  assert.deepEqual(refusal(() => kit.canonical("http://a/", "//[1::2::3]/")), ["reference", 2, "invalid host"]);
+  assert.deepEqual(refusal(() => kit.canonical("http://a/", Uint8Array.of(0xff))), ["reference", 10, "invalid utf-8 bytes"]);
+  assert.deepEqual(refusal(() => kit.canonical("http://a/", "", IRI + 1)), ["call", null, "no such number"]);
+  assert.deepEqual(refusal(() => kit.canonical("http://a/", "", URI, 7)), ["call", null, "no such number"]);
+  assert.deepEqual(refusal(() => kit.isNormalized("a")), ["text", 9, "expected an absolute IRI but got a relative IRI"]);
+  assert.deepEqual(refusal(() => kit.split("?%")), ["text", 6, "invalid query"]);
+  assert.deepEqual(refusal(() => kit.mapToUri("##")), ["text", 7, "invalid fragment"]);
+  assert.deepEqual(refusal(() => kit.faultWords(11)), ["call", null, "no such number"]);
+});
+
+test("kinds of texts", () => {
+  const kinds = [REFERENCE, WITH_SCHEME, ABSOLUTE, RELATIVE];
+  assert.deepEqual(kinds.map((kind) => kit.validate("http://a/#f", kind)), [null, null, 8, 5]);
+  assert.deepEqual(kinds.map((kind) => kit.validate("/a", kind)), [null, 9, 9, null]);
+  assert.deepEqual(kinds.map((kind) => kit.validate("x:\u00e9", kind, IRI)), [null, null, null, 5]);
+  assert.equal(kit.validate("x:\u00e9", REFERENCE, URI), 5);
+  assert.equal(kit.validate("x:\ud800", REFERENCE, IRI), 5);
+});
+
+test("parts", () => {
+  const authority = { authority: "u@h:8", userinfo: "u", host: "h", port: "8" };
+  assert.deepEqual(kit.split("foo://u@h:8/p?#f"), { scheme: "foo", ...authority, path: "/p", query: "", fragment: "f" });
+  assert.deepEqual(kit.split(""), { path: "" });
+  const wide = { authority: "\u00e9\u{1f600}:", host: "\u00e9\u{1f600}", port: "", path: "/\u65e5", query: "\u03b1" };
+  assert.deepEqual(kit.split("//\u00e9\u{1f600}:/\u65e5?\u03b1", IRI), wide);
+});
+
+test("normal forms and the mapping to URIs", () => {
+  assert.equal(kit.isNormalized("http://a/%2F"), true);
+  assert.equal(kit.isNormalized("http://a/%2f"), false);
+  assert.equal(kit.isNormalized("http://a/%C3%A9", URI), true);
+  assert.equal(kit.isNormalized("http://a/%C3%A9", IRI, NORMAL), false);
+  assert.equal(kit.mapToUri("http://a/\u00e9%41"), "http://a/%C3%A9%41");
+});
+
+test("a base stays between calls, and another takes its place", () => {
+  const base = new Uint8Array(new TextEncoder().encode("http://a/"));
+  assert.equal(kit.canonical("http://a/", "g"), "http://a/g");
+  assert.equal(kit.split("//h/").host, "h");
+  assert.equal(kit.canonical("http://a/", "g"), "http://a/g");
+  assert.equal(kit.canonical("http://longer/x/", "g"), "http://longer/x/g");
+  assert.equal(kit.canonical(base, "g"), "http://a/g");
+  base[7] = 98;
+  assert.equal(kit.canonical(base, "g"), "http://b/g");
+  assert.equal(kit.canonical("http://a/", "g"), "http://a/g");
+});
+
+test("long texts, for which the memory grows", () => {
+  const long = "a/".repeat(1 << 20), wide = "\u65e5".repeat(1 << 18);
+  assert.equal(kit.canonical("http://h/", `${long}..`), `http://h/${long.slice(0, -2)}`);
+  assert.equal(kit.canonical(`http://h/${long}`, "../g"), `http://h/${long.slice(0, -2)}g`);
+  assert.equal(kit.canonical("http://h/", wide, IRI), `http://h/${wide}`);
+  assert.equal(kit.mapToUri(wide), "%E6%97%A5".repeat(1 << 18));
+  assert.equal(kit.split(`?${long}`).query, long);
+});
