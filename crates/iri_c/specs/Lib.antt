@@ -1,7 +1,10 @@
 pub mod Buffers
 pub mod Examples
+pub mod Lines
 pub mod Numbers
 pub mod Outcome
 pub mod Outcomes
 pub mod Slots
+pub mod Templates
+pub mod Variables
 pub mod inside

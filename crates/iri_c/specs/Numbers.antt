@@ -1,6 +1,8 @@
 -- What the numbers stand for that cross to C.
 use Rattle.std.specs.Prelude.{ℕ, cond, nat_eq, List, [], ◌∷◌, Option, Some, None}
 use Rattle.iri_grammar.specs.Classes.{Tests, uri_tests, iri_tests}
+use Rattle.iri_percent.specs.declared.canon_mode.CanonMode.{CanonMode}
+use Rattle.iri_percent.specs.declared.canon_mode.CanonMode.TheVariants.{Default, Scheme}
 use Rattle.iri_grammar.specs.declared.error.ErrorKind.{ErrorKind}
 use Rattle.iri_grammar.specs.declared.error.ErrorKind.TheVariants.{InvalidScheme, InvalidUserInfo, InvalidHost, InvalidRegName}
 use Rattle.iri_grammar.specs.declared.error.ErrorKind.TheVariants.{InvalidPort, InvalidPath, InvalidQuery, InvalidFragment}
@@ -28,9 +30,16 @@ bad_reference = 5
 abbrev pub unknown : ℕ
 unknown = 6
 
+abbrev pub bad_variable : ℕ
+bad_variable = 7
+
 -- the grammars: URIs and IRIs
 abbrev pub grammar_of : ℕ → Option Tests
 grammar_of n = cond (nat_eq n 0) (Some uri_tests) (cond (nat_eq n 1) (Some iri_tests) None)
+
+-- the modes: the normal form by the rules of every scheme, and by scheme rules too
+abbrev pub mode_numbered : ℕ → Option CanonMode
+mode_numbered n = cond (nat_eq n 0) (Some Default) (cond (nat_eq n 1) (Some Scheme) None)
 
 -- the kinds of faults, in the order of their numbers
 abbrev pub kinds : List ErrorKind

@@ -6,10 +6,11 @@ use Rattle.iri_grammar.specs.Fault.{bytes_fault}
 use Rattle.iri_grammar.specs.WholeFault.{reference_fault, iri_fault, absolute_fault, relative_fault}
 use Rattle.iri_grammar.specs.declared.error.ErrorKind.{ErrorKind}
 use Rattle.iri_percent.specs.Mapping.{mapped}
+use Rattle.iri_percent.specs.declared.canon_mode.CanonMode.{CanonMode}
 use Rattle.iri_normal.specs.IsNormalized.{IsInMode}
-use Rattle.iri_normal.specs.NormalForm.{canonical}
+use Rattle.iri_normal.specs.NormalForm.{canonical_in}
 use Rattle.iri_normal.specs.declared.mode.Mode.TheVariants.{Normal}
-use Rattle.iri_c.specs.Numbers.{ok, not_normal, bad_text, bad_base, bad_reference, unknown, grammar_of, kinds}
+use Rattle.iri_c.specs.Numbers.{ok, not_normal, bad_text, bad_base, bad_reference, unknown, grammar_of, kinds, mode_numbered}
 use Rattle.iri_c.specs.Outcome.{Outcome, Told}
 use Rattle.iri_c.specs.Outcome.Outcome.{text, fault, plain}
 
@@ -23,19 +24,20 @@ abbrev pub in_grammar : Option Tests → (Tests → Outcome) → Outcome
 in_grammar None f = plain unknown
 in_grammar (Some s) f = f s
 
--- in the mode of this number: there is one, 0
-abbrev pub in_mode : ℕ → Outcome → Outcome
-in_mode mode next = cond (nat_eq mode 0) next (plain unknown)
+-- in the mode of this number, where there is one
+abbrev pub in_mode : Option CanonMode → (CanonMode → Outcome) → Outcome
+in_mode None f = plain unknown
+in_mode (Some mode) f = f mode
 
 -- the canonical text of a reference against a base: the base is judged first
-abbrev pub canonical_in : Tests → List ℕ → List ℕ → Outcome
-canonical_in s base reference =
+abbrev pub canonical_as : Tests → CanonMode → List ℕ → List ℕ → Outcome
+canonical_as s mode base reference =
     unless_fault bad_base (bytes_fault (absolute_fault s) base)
-    (unless_fault bad_reference (bytes_fault (reference_fault s) reference) (text (canonical s base reference)))
+    (unless_fault bad_reference (bytes_fault (reference_fault s) reference) (text (canonical_in s mode base reference)))
 
 abbrev pub canonical_outcome : ℕ → ℕ → List ℕ → List ℕ → Outcome
 canonical_outcome grammar mode base reference =
-    in_mode mode (in_grammar (grammar_of grammar) (λ s. canonical_in s base reference))
+    in_mode (mode_numbered mode) (λ m. in_grammar (grammar_of grammar) (λ s. canonical_as s m base reference))
 
 -- a reference of IRIs, mapped to one of URIs
 abbrev pub mapped_outcome : List ℕ → Outcome

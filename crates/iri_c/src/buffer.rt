@@ -29,7 +29,7 @@ pub struct BufferSink<'b> {
 
 impl<'b> BufferSink<'b> {
     // A sink over the whole buffer.
-    fn new(buf: &'b mut [u8]) -> BufferSink<'b>
+    pub(crate) fn new(buf: &'b mut [u8]) -> BufferSink<'b>
         ensures same { result.buf.ghost_name ≡ buf.entry.ghost_name }
         ensures buf { result.buf.now ≡ buf.old }
         ensures len { result.len ≡ 0 }
@@ -42,7 +42,7 @@ impl<'b> BufferSink<'b> {
     }
 
     // How many bytes were put.
-    fn count(&self) -> usize
+    pub(crate) fn count(&self) -> usize
         ensures { result ≡ self.now.len }
     {
         self.len

@@ -1,41 +1,49 @@
 // Canonical texts (RFC 3986 sections 5.2 and 6.2.2, RFC 3987 section 5.3.2).
 ghost use Rattle.iri_c.specs.Outcome.{Answered};
-ghost use Rattle.iri_c.specs.Outcomes.{canonical_in, canonical_outcome};
+ghost use Rattle.iri_c.specs.Outcomes.{canonical_as, canonical_outcome};
 
 use crate::buffer::answer_text;
 use crate::fault::{answer, answer_fault};
-use crate::grammar::{IRI, NORMAL, URI};
+use crate::grammar::{IRI, URI, mode_of};
 use crate::status::{BAD_BASE, BAD_REFERENCE, UNKNOWN};
 use iri_grammar::spec::{IriSpec, Spec, UriSpec};
-use iri_normal::canonical::show_canonical;
+use iri_normal::canonical::show_canonical_in;
+use iri_normal::mode::CanonMode;
 use iri_normal::resolver::FixedBaseResolver;
 use iri_text::{Show, Stop, TextSink};
 use iri_types::kind::Reference;
 use iri_types::split::SplitView;
 use iri_types::view::RiAbsoluteStr;
 
-// The canonical text of a reference against a base.
+// The canonical text of a reference against a base, by the rules of a mode.
 #[derive(Drop)]
-struct Canonical<'a, S: Spec> {
-    resolver: FixedBaseResolver<'a, S>,
-    reference: SplitView<'a, S, Reference>,
+pub(crate) struct Canonical<'a, S: Spec> {
+    pub(crate) mode: CanonMode,
+    pub(crate) resolver: FixedBaseResolver<'a, S>,
+    pub(crate) reference: SplitView<'a, S, Reference>,
 }
 
 impl<S: Spec> Show for Canonical<'_, S> {
-    ghost use Rattle.iri_normal.specs.NormalForm.{canonical};
+    ghost use Rattle.iri_normal.specs.NormalForm.{canonical_in};
     ghost use Rattle.iri_normal.specs.Resolver.{base_text};
     ghost use Rattle.iri_types.specs.SplitText.{split_text};
 
-    ghost text = { λ c. canonical S.tests (base_text c.resolver) (split_text c.reference) };
+    ghost text = { λ c. canonical_in S.tests c.mode (base_text c.resolver) (split_text c.reference) };
 
     fn show<W: TextSink>(&self, sink: &mut W) -> Result<(), Stop> {
-        show_canonical(sink, &self.resolver, &self.reference)
+        show_canonical_in(sink, self.mode, &self.resolver, &self.reference)
     }
 }
 
 // The canonical text in one grammar.
-fn canonical_in<S: Spec>(base: &[u8], reference: &[u8], out: &mut [u8], told: &mut usize) -> u8
-    ensures { Answered (canonical_in S.tests base.now reference.now) out.old out.new told.new result }
+fn canonical_as<S: Spec>(
+    mode: CanonMode,
+    base: &[u8],
+    reference: &[u8],
+    out: &mut [u8],
+    told: &mut usize,
+) -> u8
+    ensures { Answered (canonical_as S.tests mode base.now reference.now) out.old out.new told.new result }
 {
     let base = match RiAbsoluteStr::<S>::try_from_bytes(base) {
         Ok(base) => base,
@@ -47,6 +55,7 @@ fn canonical_in<S: Spec>(base: &[u8], reference: &[u8], out: &mut [u8], told: &m
             answer_text(
                 out,
                 &Canonical {
+                    mode,
                     resolver,
                     reference,
                 },
@@ -69,9 +78,9 @@ pub extern "C" fn irikit_canonical(
 ) -> u8
     ensures { Answered (canonical_outcome grammar mode base.now reference.now) out.old out.new told.new result }
 {
-    match (grammar, mode) {
-        (URI, NORMAL) => canonical_in::<UriSpec>(base, reference, out, told),
-        (IRI, NORMAL) => canonical_in::<IriSpec>(base, reference, out, told),
+    match (grammar, mode_of(mode)) {
+        (URI, Some(mode)) => canonical_as::<UriSpec>(mode, base, reference, out, told),
+        (IRI, Some(mode)) => canonical_as::<IriSpec>(mode, base, reference, out, told),
         _ => answer(UNKNOWN, told),
     }
 }

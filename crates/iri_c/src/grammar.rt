@@ -1,4 +1,8 @@
 // The numbers of grammars and modes.
+ghost use Rattle.std.specs.Prelude.{◌≡◌};
+ghost use Rattle.iri_c.specs.Numbers.{mode_numbered};
+
+use iri_normal::mode::CanonMode;
 
 /// The grammar of URIs (RFC 3986).
 pub const URI: u8 = 0;
@@ -6,6 +10,20 @@ pub const URI: u8 = 0;
 /// The grammar of IRIs (RFC 3987).
 pub const IRI: u8 = 1;
 
-/// The normal form of RFC 3986 section 6.2.2, with an empty port removed (section 6.2.3). No other mode is offered
-/// here.
+/// The normal form of RFC 3986 section 6.2.2, with an empty port removed (section 6.2.3).
 pub const NORMAL: u8 = 0;
+
+/// That, by scheme rules too (section 6.2.3): without the scheme's default port, and with `/` for an empty path beside
+/// an authority.
+const BY_SCHEME: u8 = 1;
+
+/// The mode of this number.
+pub fn mode_of(mode: u8) -> Option<CanonMode>
+    ensures { result ≡ mode_numbered mode }
+{
+    match mode {
+        NORMAL => Some(CanonMode::Default),
+        BY_SCHEME => Some(CanonMode::Scheme),
+        _ => None,
+    }
+}

@@ -12,13 +12,17 @@ mod buffer;
 mod canonical;
 mod fault;
 mod grammar;
+mod lines;
 mod mapping;
 mod normal;
 mod parts;
 mod status;
+mod template;
 mod validation;
+mod variables;
 
 pub use parts::{AuthoritySlots, Slot, Slots};
+pub use variables::{Text, Variable};
 
 #[cfg(test)]
 mod tests;

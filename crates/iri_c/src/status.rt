@@ -20,3 +20,6 @@ pub const BAD_REFERENCE: u8 = 5;
 
 /// A number that stands for a grammar, a mode, a kind of text or a kind of fault stands for none.
 pub const UNKNOWN: u8 = 6;
+
+/// A variable hasn't as many texts as its kind asks, or has one that isn't UTF-8.
+pub const BAD_VARIABLE: u8 = 7;

@@ -41,7 +41,7 @@ fn canonical_texts(rt: HostRuntime) {
     assert!(rt; irikit_canonical(0, 0, b"a", b"%", &mut out, &mut told) == 4);
     assert!(rt; told == 9);
     assert!(rt; irikit_canonical(2, 0, base, b"", &mut out, &mut told) == 6);
-    assert!(rt; irikit_canonical(0, 1, base, b"", &mut out, &mut told) == 6);
+    assert!(rt; irikit_canonical(0, 2, base, b"", &mut out, &mut told) == 6);
     assert!(rt; told == 0);
 }
 

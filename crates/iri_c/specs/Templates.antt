@@ -1,0 +1,52 @@
+-- What an expansion comes to.
+use Rattle.std.specs.Prelude.{◌≡◌, ℕ, not, List, Option, Some, None, position}
+use Rattle.iri_grammar.specs.Classes.{Tests}
+use Rattle.iri_template.specs.Expansion.{expansion}
+use Rattle.iri_template.specs.Fault.{template_fault, first}
+use Rattle.iri_template.specs.Reading.{pieces_of}
+use Rattle.iri_template.specs.TypeFaults.{type_fault}
+use Rattle.iri_template.specs.declared.error.Error.{Error}
+use Rattle.iri_template.specs.declared.error.ErrorKind.{ErrorKind}
+use Rattle.iri_template.specs.declared.error.ErrorKind.TheVariants.{ExpressionNotClosed, InvalidCharacter, InvalidExpression}
+use Rattle.iri_template.specs.declared.error.ErrorKind.TheVariants.{InvalidPercentEncoding, InvalidUtf8, UnexpectedValueType}
+use Rattle.iri_template.specs.declared.error.ErrorKind.TheVariants.{UnsupportedOperator, WriteFailed, Memory}
+use Rattle.iri_c.specs.Numbers.{bad_text, bad_variable, unknown, grammar_of}
+use Rattle.iri_c.specs.Outcome.{Answered}
+use Rattle.iri_c.specs.Outcome.Outcome.{text, plain}
+use Rattle.iri_c.specs.Variables.{value_in, is_sound}
+use Rattle.iri_c.specs.declared.variables.Variable.{Variable}
+
+abbrev pub template_fault_number : ErrorKind → ℕ
+template_fault_number ExpressionNotClosed = 0
+template_fault_number InvalidCharacter = 1
+template_fault_number InvalidExpression = 2
+template_fault_number InvalidPercentEncoding = 3
+template_fault_number InvalidUtf8 = 4
+template_fault_number UnexpectedValueType = 5
+template_fault_number UnsupportedOperator = 6
+template_fault_number WriteFailed = 7
+template_fault_number Memory = 8
+
+-- the kind of a fault and its place in bytes
+abbrev pub Refused : Error → ℕ → ℕ → ℕ → Type 0
+Refused e told place status = (told ≡ template_fault_number e.kind) × (place ≡ e.location) × (status ≡ bad_text)
+
+-- the first fault of the template; otherwise that of its values; otherwise the expansion
+abbrev pub ExpandedBy : Option Error → Tests → List ℕ → List Variable → List ℕ → List ℕ → ℕ → ℕ → ℕ → Type 0
+ExpandedBy (Some e) s t vs old new told place status = (new ≡ old) × Refused e told place status
+ExpandedBy None s t vs old new told place status =
+    (place ≡ 0) × Answered (text (expansion s (value_in vs) (pieces_of t))) old new told status
+
+abbrev pub ExpandedIn : Tests → List ℕ → List Variable → List ℕ → List ℕ → ℕ → ℕ → ℕ → Type 0
+ExpandedIn s t vs old new told place status =
+    ExpandedBy (first (template_fault t) (type_fault (value_in vs) (pieces_of t))) s t vs old new told place status
+
+abbrev pub ExpandedOf : Option ℕ → Option Tests → List ℕ → List Variable → List ℕ → List ℕ → ℕ → ℕ → ℕ → Type 0
+ExpandedOf (Some i) g t vs old new told place status = (place ≡ i) × Answered (plain bad_variable) old new told status
+ExpandedOf None None t vs old new told place status = (place ≡ 0) × Answered (plain unknown) old new told status
+ExpandedOf None (Some s) t vs old new told place status = ExpandedIn s t vs old new told place status
+
+-- a variable that isn't sound is told by its index, before all else
+abbrev pub Expanded : ℕ → List ℕ → List Variable → List ℕ → List ℕ → ℕ → ℕ → ℕ → Type 0
+Expanded grammar t vs old new told place status =
+    ExpandedOf (position (λ v. not (is_sound v)) vs) (grammar_of grammar) t vs old new told place status
