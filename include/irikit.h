@@ -3,8 +3,8 @@
  * How texts cross: each text is a pointer and a length in bytes. It needs no NUL at its end, and may have NULs in it (no grammar
  * takes them). A length may be 0, and then its pointer may be NULL. No call writes a NUL.
  *
- * What the caller owes: each pointer points to as many bytes as its length says; `told`, and `parts` of irikit_split, are not NULL;
- * no other thread writes to what is passed while the call runs; `out`, `told` and `parts` overlap with nothing else that is passed.
+ * What the caller owes: each pointer points to as many bytes as its length says; the pointers to what is written besides
+ * `out` aren't NULL; no other thread writes to what is passed while the call runs; what is written overlaps with nothing else that is passed.
  *
  * What each call does: it reads what is passed, writes to `out`, `told` and `parts` alone, takes no memory, keeps nothing, and
  * returns. So calls may run in several threads at once, each with its own `out` and `told`.
@@ -37,7 +37,8 @@ enum irikit_status {
     IRIKIT_BAD_TEXT = 3,      /* the text is refused */
     IRIKIT_BAD_BASE = 4,      /* the base is refused */
     IRIKIT_BAD_REFERENCE = 5, /* the base is valid, and the reference is refused */
-    IRIKIT_UNKNOWN = 6        /* a number for a grammar, a mode, a kind or a fault stands for none */
+    IRIKIT_UNKNOWN = 6,       /* a number for a grammar, a mode, a kind or a fault stands for none */
+    IRIKIT_BAD_VARIABLE = 7   /* a variable hasn't as many texts as its kind asks, or has one that isn't UTF-8 */
 };
 
 /* The grammars. */
@@ -48,7 +49,9 @@ enum irikit_grammar {
 
 /* The modes of normal form. */
 enum irikit_mode {
-    IRIKIT_NORMAL = 0 /* RFC 3986 section 6.2.2, and an empty port removed (section 6.2.3) */
+    IRIKIT_NORMAL = 0,   /* RFC 3986 section 6.2.2, and an empty port removed (section 6.2.3) */
+    IRIKIT_BY_SCHEME = 1 /* that, without the default port of http, https, ws, wss and ftp, and with `/` for an empty path
+                            beside an authority (section 6.2.3) */
 };
 
 /* The kinds of whole texts. */
@@ -96,6 +99,8 @@ struct irikit_parts {
     struct irikit_slot port;
 };
 
+/* ---- Texts ---- */
+
 /* The canonical text of a reference: resolved against the base (RFC 3986 section 5.2), in normal form.
  *
  * Takes: the number of a grammar and of a mode; the base, an absolute-URI of the grammar; the reference, which may be a URI; a buffer.
@@ -137,6 +142,82 @@ uint8_t irikit_map_to_uri(const char *text, size_t len, char *out, size_t size, 
  * Writes: the words to `out`.
  * Returns: IRIKIT_OK; IRIKIT_SHORT; IRIKIT_UNKNOWN: no kind has this number. */
 uint8_t irikit_fault_words(size_t fault, char *out, size_t size, size_t *told);
+
+/* ---- Templates ---- */
+
+/* A text inside a struct. Where `len` is 0, `bytes` may be NULL. */
+struct irikit_text {
+    const char *bytes;
+    size_t len;
+};
+
+/* The kinds of values of variables (RFC 6570 section 2.3), and how many texts each has. */
+enum irikit_value {
+    IRIKIT_UNDEFINED = 0, /* 0 */
+    IRIKIT_STRING = 1,    /* 1 */
+    IRIKIT_LIST = 2,      /* one for each item */
+    IRIKIT_PAIRS = 3      /* two for each pair: its key, then its value */
+};
+
+/* A variable. Where `count` is 0, `values` may be NULL. Of two with one name the first counts. */
+struct irikit_variable {
+    struct irikit_text name;
+    size_t kind;
+    const struct irikit_text *values;
+    size_t count;
+};
+
+/* The kinds of faults of templates (RFC 6570 section 2). */
+enum irikit_template_fault {
+    IRIKIT_EXPRESSION_NOT_CLOSED = 0,
+    IRIKIT_INVALID_CHARACTER = 1,
+    IRIKIT_INVALID_EXPRESSION = 2,
+    IRIKIT_INVALID_PERCENT_ENCODING = 3,
+    IRIKIT_TEMPLATE_INVALID_UTF8 = 4,
+    IRIKIT_UNEXPECTED_VALUE_TYPE = 5, /* a prefix length on a list, or on pairs, that isn't empty */
+    IRIKIT_UNSUPPORTED_OPERATOR = 6
+};
+
+/* The expansion of a URI template (RFC 6570 section 3).
+ *
+ * Takes: the number of a grammar; the template; variables; a buffer.
+ * Writes: the expansion to `out`; `*place`, which is 0 at every status but the two below.
+ * Returns: IRIKIT_OK; IRIKIT_SHORT; IRIKIT_BAD_VARIABLE: `*place` is the index of the first such variable; IRIKIT_BAD_TEXT:
+ * `*told` is the template's first fault, one of irikit_template_fault, and `*place` its place in bytes; IRIKIT_UNKNOWN: grammar.
+ *
+ *   struct irikit_text word = {"two words", 9};
+ *   struct irikit_variable q = {{"q", 1}, IRIKIT_STRING, &word, 1};
+ *   irikit_expand(IRIKIT_URI, "/s{?q}", 6, &q, 1, out, sizeof out, &told, &place);  // "/s?q=two%20words" */
+uint8_t irikit_expand(uint8_t grammar, const char *template_text, size_t template_len,
+                      const struct irikit_variable *variables, size_t count, char *out, size_t size, size_t *told,
+                      size_t *place);
+
+/* The words for a kind of fault of a template, as `irikit expand` answers them, in ASCII.
+ *
+ * Takes: the number of a kind, one of irikit_template_fault; a buffer, for which 64 bytes suffice.
+ * Writes: the words to `out`.
+ * Returns: IRIKIT_OK; IRIKIT_SHORT; IRIKIT_UNKNOWN: no kind has this number.
+ *
+ *   irikit_template_fault_words(IRIKIT_EXPRESSION_NOT_CLOSED, out, sizeof out, &told);  // "expression not closed" */
+uint8_t irikit_template_fault_words(size_t fault, char *out, size_t size, size_t *told);
+
+/* ---- Many lines ---- */
+
+/* Many references against one base: what irikit_canonical gives for each line, in one call.
+ *
+ * Takes: the number of a grammar and of a mode; the base, an absolute-URI of the grammar; lines, each ended by an LF. One CR
+ * before the LF isn't part of the reference; what follows the last LF is left alone. A buffer.
+ * Writes: to `out`, the answers one after the other, each `ok TEXT` or `bad WORDS` and an LF, as far as there is room; to `*told`,
+ * how many bytes the answers have that stand there whole; to `*consumed`, how many bytes of `lines` these answer, LFs among them.
+ * So the next call goes on with `lines + *consumed`.
+ * Returns: IRIKIT_OK: all lines are answered; IRIKIT_SHORT: the next answer has no room (one has at most the line's length +
+ * base_len + 7 bytes, or 64); IRIKIT_BAD_BASE: `*told` is its first fault; IRIKIT_UNKNOWN: grammar or mode. At the last two
+ * `*consumed` is 0.
+ *
+ *   irikit_canonical_lines(IRIKIT_URI, IRIKIT_NORMAL, "http://a/b", 10, "c\n../d\n", 7, out, sizeof out, &consumed, &told);
+ *   fwrite(out, 1, told, stdout);  // "ok http://a/c\nok http://a/d\n" */
+uint8_t irikit_canonical_lines(uint8_t grammar, uint8_t mode, const char *base, size_t base_len, const char *lines,
+                               size_t lines_len, char *out, size_t size, size_t *consumed, size_t *told);
 
 #ifdef __cplusplus
 }

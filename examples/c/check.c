@@ -1,11 +1,8 @@
 /* check ROWS: the rows of a file of grammars, bases, references and answers; a buffer of each size; empty and NULL pieces; eight
  * threads. Names each row that fails. */
 #define _GNU_SOURCE
-#include <irikit.h>
+#include "check.h"
 #include <pthread.h>
-#include <stdio.h>
-#include <stdlib.h>
-#include <string.h>
 
 #define THREADS 8
 #define MOST_ROWS 1000
@@ -72,26 +69,18 @@ static void *check_often(void *unused) {
     return (void *)failed;
 }
 
-static size_t wrong(int holds, const char *what) {
-    if (!holds)
-        printf("FAILED %s\n", what);
-    return !holds;
-}
-
 /* A buffer of each size, with bytes behind it that are to stay. */
 static size_t check_sizes(void) {
     const char *base = "http://a/b/c/d;p?q", *text = "http://a/b/g?y#s";
     size_t failed = 0, len = strlen(text);
     for (size_t size = 0; size <= len; size++) {
-        char *out = malloc(len + 1), wanted[64];
+        char *out = malloc(len + 1);
         size_t told = 9;
         memset(out, '.', len + 1);
-        memset(wanted, '.', sizeof wanted);
-        memcpy(wanted, text, size);
         uint8_t status = irikit_canonical(IRIKIT_URI, IRIKIT_NORMAL, base, strlen(base), "../g?y#s", 8, out, size, &told);
         failed += wrong(status == (size < len ? IRIKIT_SHORT : IRIKIT_OK), "the status of a size");
         failed += wrong(told == len, "the length that is wanted");
-        failed += wrong(!memcmp(out, wanted, len + 1), "a byte behind the buffer");
+        failed += wrong(is_over(out, size, text, len, len + 1), "a byte behind the buffer");
         free(out);
     }
     return failed;
@@ -105,6 +94,9 @@ static size_t check_empty(void) {
     failed += wrong(irikit_canonical(0, 0, "a:", 2, "", 0, NULL, 0, &told) == IRIKIT_SHORT && told == 2, "NULL as a buffer");
     failed += wrong(irikit_canonical(0, 0, NULL, 0, "", 0, out, sizeof out, &told) == IRIKIT_BAD_BASE
                         && told == IRIKIT_UNEXPECTED_RELATIVE, "NULL as a base");
+    failed += wrong(irikit_canonical(0, 2, "a:", 2, "", 0, out, sizeof out, &told) == IRIKIT_UNKNOWN && told == 0, "a mode that is none");
+    failed += wrong(irikit_canonical(0, IRIKIT_BY_SCHEME, "ws://a:80", 9, "", 0, out, sizeof out, &told) == IRIKIT_OK && told == 7
+                        && !memcmp(out, "ws://a/", 7), "a default port");
     failed += wrong(irikit_validate(1, IRIKIT_REFERENCE, NULL, 0, &told) == IRIKIT_OK && told == 0, "NULL is a reference");
     failed += wrong(irikit_validate(1, IRIKIT_WITH_SCHEME, "", 0, &told) == IRIKIT_BAD_TEXT, "an empty text is no URI");
     failed += wrong(irikit_is_normalized(0, 0, NULL, 0, &told) == IRIKIT_BAD_TEXT, "NULL is no URI");

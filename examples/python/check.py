@@ -1,4 +1,5 @@
-"""check.py: the rows of examples/rows.txt, a buffer of each size, empty texts, parts and eight threads. Names each row that fails."""
+"""check.py: the rows of examples/rows.txt one by one and in one call, the templates of examples/expansions.txt, a buffer of each size,
+empty texts, parts and eight threads. Names each row that fails."""
 import ctypes
 import pathlib
 import sys
@@ -7,7 +8,15 @@ import threading
 import irikit
 from irikit import IRI, URI, Links, Refused
 
-ROWS = [line.split("\t") for line in (pathlib.Path(__file__).parents[1] / "rows.txt").read_text("utf-8").split("\n")[:-1]]
+EXAMPLES = pathlib.Path(__file__).parents[1]
+ROWS = [line.split("\t") for line in (EXAMPLES / "rows.txt").read_text("utf-8").split("\n")[:-1]]
+EXPANSIONS = [line.split("\t") for line in (EXAMPLES / "expansions.txt").read_text("utf-8").split("\n")[:-1]]
+# The variables of RFC 6570 section 3.2.
+VARIABLES = dict(
+    count=["one", "two", "three"], dom=["example", "com"], list=["red", "green", "blue"], dub="me/too", hello="Hello World!",
+    keys={"semi": ";", "dot": ".", "comma": ","}, half="50%", var="value", who="fred", base="http://example.com/home/",
+    path="/foo/bar", v="6", x="1024", y="768", empty="", empty_keys={}, undef=None,
+)
 failures = []
 
 
@@ -57,7 +66,8 @@ def check_texts():
     same("bytes that are no UTF-8", (5, 10, "invalid utf-8 bytes"), refusal(links.canonical_bytes, b"\xff"))
     same("an empty base", (4, 9, "expected an absolute IRI but got a relative IRI"), refusal(Links, ""))
     same("a grammar that is none", (6, 0, "no such number"), refusal(Links, "a:", 2))
-    same("a mode that is none", (6, 0, "no such number"), refusal(links.canonical_bytes, b"", 1))
+    same("a mode that is none", (6, 0, "no such number"), refusal(links.canonical_bytes, b"", 2))
+    same("scheme rules", "http://b/", links.canonical("//b:80", irikit.BY_SCHEME))
     told = ctypes.c_size_t(9)
     same("no text at all", (0, 0), (irikit._validate(URI, irikit.REFERENCE, None, 0, told), told.value))
     same("its own normal form", True, links.is_normalized("http://a/%2F"))
@@ -69,16 +79,56 @@ def check_texts():
     same("a mapped text", "http://a/%C3%A9%41", irikit.map_to_uri("http://a/\u00e9%41"))
 
 
+def check_many():
+    """The rows of each base and grammar in one call; lines that are ended otherwise, and many calls for one list."""
+    wanted = {}
+    for grammar, base, reference, answer_ in ROWS:
+        wanted.setdefault((grammar, base), []).append((reference, answer_))
+    for (grammar, base), rows in wanted.items():
+        if not rows[0][1].startswith("base"):
+            texts = [text[3:] if text.startswith("ok") else None for _, text in rows]
+            many = Links(base, IRI if grammar == "iri" else URI).canonical_many([reference for reference, _ in rows])
+            same(f"many against {base}", texts, many)
+    links = Links("http://a/b")
+    same("no references", [], links.canonical_many([]))
+    same("an LF and CRs", [None, None, "http://a/c", None, "http://a/b"], links.canonical_many(["c\nd", "c\r", "c", "\r", ""]))
+    same("lines", b"ok http://a/c\nok http://a/b\nbad invalid path\n", links.answers(b"c\r\n\n%\nno end"))
+    same("lines by scheme rules", b"ok http://c/\n", links.answers(b"//c:80\n", irikit.BY_SCHEME))
+    same("a mode that is none", (6, 0, "no such number"), refusal(links.answers, b"c\n", 2))
+    same("many calls", ["http://a/" + "d" * 999] * 5000, links.canonical_many(["d" * 999] * 5000))
+
+
+def check_templates():
+    links = Links("a:")
+    for template, wanted in EXPANSIONS:
+        same(template, wanted, links.expand(template, VARIABLES))
+    same("no variables", "/", links.expand("{a}/", {}))
+    same("an IRI's literal", "\u00e9", Links("a:", IRI).expand("\u00e9", {}))
+    same("a long expansion", "a" * 1000, links.expand("{a}", {"a": "a" * 1000}))
+    for template, fault, place, words in [("ab{", 0, 2, "expression not closed"), ("{=a}", 6, 1, "unsupported operator"),
+                                          ("a{list:1}", 5, 2, "unexpected value type for the variable")]:
+        try:
+            same(template, "a refusal", links.expand(template, VARIABLES))
+        except Refused as error:
+            same(template, (3, fault, place, words), (error.status, error.fault, error.place, str(error)))
+    try:
+        same("bytes that are no UTF-8", "a refusal", links.expand("", {"a": "b", "c": ["d", b"\xff"]}))
+    except Refused as error:
+        same("the second variable", (7, 1), (error.status, error.place))
+
+
 def main():
     check_rows()
     check_sizes()
     check_texts()
+    check_many()
+    check_templates()
     threads = [threading.Thread(target=check_rows, args=(20,)) for _ in range(8)]
     for thread in threads:
         thread.start()
     for thread in threads:
         thread.join()
-    print(f"Python: {len(ROWS)} rows, {len(failures)} failed")
+    print(f"Python: {len(ROWS)} rows, {len(EXPANSIONS)} templates, {len(failures)} failed")
     return bool(failures) or not ROWS
 
 

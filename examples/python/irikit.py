@@ -9,15 +9,25 @@ The library is the one that IRIKIT_LIBRARY names, or libirikit.so.0 where the sy
 import ctypes
 import os
 
-OK, SHORT, NOT_NORMAL, BAD_TEXT, BAD_BASE, BAD_REFERENCE, UNKNOWN = range(7)
+OK, SHORT, NOT_NORMAL, BAD_TEXT, BAD_BASE, BAD_REFERENCE, UNKNOWN, BAD_VARIABLE = range(8)
 URI, IRI = range(2)
+NORMAL, BY_SCHEME = range(2)
 REFERENCE, WITH_SCHEME, ABSOLUTE, RELATIVE = range(4)
+UNDEFINED, STRING, LIST, PAIRS = range(4)
 PARTS = "scheme authority path query fragment userinfo host port".split()
 NOWHERE = ctypes.c_size_t(-1).value
 
 _library = ctypes.CDLL(os.environ.get("IRIKIT_LIBRARY", "libirikit.so.0"))
 _byte, _text, _size = ctypes.c_uint8, ctypes.c_char_p, ctypes.c_size_t
 _told = ctypes.POINTER(_size)
+
+
+class _Text(ctypes.Structure):
+    _fields_ = [("bytes", _text), ("len", _size)]
+
+
+class _Variable(ctypes.Structure):
+    _fields_ = [("name", _Text), ("kind", _size), ("values", ctypes.POINTER(_Text)), ("count", _size)]
 
 
 def _call(name, *types):
@@ -27,25 +37,52 @@ def _call(name, *types):
 
 
 _canonical = _call("irikit_canonical", _byte, _byte, _text, _size, _text, _size, _text, _size, _told)
+_canonical_lines = _call(
+    "irikit_canonical_lines", _byte, _byte, _text, _size, ctypes.c_void_p, _size, _text, _size, _told, _told
+)
 _validate = _call("irikit_validate", _byte, _byte, _text, _size, _told)
 _split = _call("irikit_split", _byte, _text, _size, ctypes.POINTER(_size * 16), _told)
 _is_normalized = _call("irikit_is_normalized", _byte, _byte, _text, _size, _told)
 _map_to_uri = _call("irikit_map_to_uri", _text, _size, _text, _size, _told)
 _fault_words = _call("irikit_fault_words", _size, _text, _size, _told)
+_template_fault_words = _call("irikit_template_fault_words", _size, _text, _size, _told)
+_expand = _call("irikit_expand", _byte, _text, _size, ctypes.POINTER(_Variable), _size, _text, _size, _told, _told)
 
 
 class Refused(ValueError):
-    """A text is refused: `status` says which one, `fault` is the kind of its first fault, and the words name that."""
+    """A text is refused: `status` says which one, `fault` is the kind of its first fault, and the words name that. `place` is the
+    place of a template's fault in bytes, or the index of a variable."""
 
-    def __init__(self, status, fault):
-        out, told = ctypes.create_string_buffer(64), _size()
-        _fault_words(fault, out, 64, told)
-        super().__init__(out.raw[: told.value].decode() if status != UNKNOWN else "no such number")
-        self.status, self.fault = status, fault
+    def __init__(self, status, fault, place=None):
+        super().__init__(_words(status, fault, place))
+        self.status, self.fault, self.place = status, fault, place
+
+
+def _words(status, fault, place):
+    if status in (UNKNOWN, BAD_VARIABLE):
+        return "no such number" if status == UNKNOWN else "a text that isn't UTF-8"
+    out, told = ctypes.create_string_buffer(64), _size()
+    (_fault_words if place is None else _template_fault_words)(fault, out, 64, told)
+    return out.raw[: told.value].decode()
 
 
 def _bytes(text):
     return text.encode("utf-8", "surrogateescape") if isinstance(text, str) else bytes(text)
+
+
+def _variable(name, value):
+    """A variable of C: None, a text, a list of texts, or a mapping of texts to texts."""
+    if value is None:
+        kind, texts = UNDEFINED, []
+    elif isinstance(value, dict):
+        kind, texts = PAIRS, [text for pair in value.items() for text in pair]
+    elif isinstance(value, (list, tuple)):
+        kind, texts = LIST, value
+    else:
+        kind, texts = STRING, [value]
+    texts = [_Text(text, len(text)) for text in map(_bytes, texts)]
+    name = _bytes(name)
+    return _Variable(_Text(name, len(name)), kind, (_Text * len(texts))(*texts), len(texts))
 
 
 class Links:
@@ -60,7 +97,7 @@ class Links:
         if status != OK:
             raise Refused(bad if bad and status == BAD_TEXT else status, self._told.value)
 
-    def canonical_bytes(self, reference, mode=0):
+    def canonical_bytes(self, reference, mode=NORMAL):
         """The canonical text of a reference, as bytes."""
         base, size = self.base, len(self.base) + len(reference) + 3
         if size > len(self._out):
@@ -71,9 +108,50 @@ class Links:
             raise Refused(status, told.value)
         return out[: told.value]
 
-    def canonical(self, reference):
+    def canonical(self, reference, mode=NORMAL):
         """The canonical text of a reference."""
-        return self.canonical_bytes(_bytes(reference)).decode()
+        return self.canonical_bytes(_bytes(reference), mode).decode()
+
+    def answers(self, lines, mode=NORMAL):
+        """The answers to lines, each ended by an LF, as bytes: `ok TEXT` or `bad WORDS` for each, in as few calls as there is room."""
+        base, at, end, used = self.base, 0, len(lines), _size()
+        room = min(end + lines.count(b"\n") * (len(base) + 64), 1 << 20) + len(base) + end
+        out, pieces, status = ctypes.create_string_buffer(room), [], SHORT
+        start = ctypes.cast(lines, ctypes.c_void_p).value
+        while status == SHORT:
+            status = _canonical_lines(
+                self.grammar, mode, base, len(base), start + at, end - at, out, room, used, self._told
+            )
+            if status not in (OK, SHORT):
+                raise Refused(status, self._told.value)
+            pieces.append(ctypes.string_at(out, self._told.value))
+            at += used.value
+        return b"".join(pieces)
+
+    def canonical_many(self, references, mode=NORMAL):
+        """The canonical texts of a list of references, in one call; None for each that is refused."""
+        lines = "\n".join([*references, ""])
+        if "\r" in lines or lines.count("\n") != len(references):
+            # No reference has a CR or an LF, and a percent sign alone is none either.
+            lines = "\n".join(["%" if {"\r", "\n"} & set(text) else text for text in references] + [""])
+        answers = self.answers(_bytes(lines), mode).decode().split("\n")[:-1]
+        return [answer[3:] if answer.startswith("ok") else None for answer in answers]
+
+    def expand(self, template, variables):
+        """The expansion of a template by a dict of variables: None, texts, lists of texts, or dicts of texts."""
+        template = _bytes(template)
+        array = (_Variable * len(variables))(*(_variable(name, value) for name, value in variables.items()))
+        place, size = _size(), 256
+        while True:
+            out = ctypes.create_string_buffer(size)
+            status = _expand(
+                self.grammar, template, len(template), array, len(array), out, size, self._told, place
+            )
+            if status == OK:
+                return ctypes.string_at(out, self._told.value).decode()
+            if status != SHORT:
+                raise Refused(status, self._told.value, place.value)
+            size = self._told.value
 
     def is_normalized(self, text):
         """Whether a text with a scheme is its own normal form."""

@@ -1,6 +1,7 @@
 -- What an expansion comes to.
-use Rattle.std.specs.Prelude.{◌≡◌, ℕ, not, List, Option, Some, None, position}
+use Rattle.std.specs.Prelude.{◌≡◌, ℕ, not, List, [], ◌∷◌, Option, Some, None, position, slice_get}
 use Rattle.iri_grammar.specs.Classes.{Tests}
+use Rattle.iri_template.specs.ErrorTexts.{description}
 use Rattle.iri_template.specs.Expansion.{expansion}
 use Rattle.iri_template.specs.Fault.{template_fault, first}
 use Rattle.iri_template.specs.Reading.{pieces_of}
@@ -11,10 +12,17 @@ use Rattle.iri_template.specs.declared.error.ErrorKind.TheVariants.{ExpressionNo
 use Rattle.iri_template.specs.declared.error.ErrorKind.TheVariants.{InvalidPercentEncoding, InvalidUtf8, UnexpectedValueType}
 use Rattle.iri_template.specs.declared.error.ErrorKind.TheVariants.{UnsupportedOperator, WriteFailed, Memory}
 use Rattle.iri_c.specs.Numbers.{bad_text, bad_variable, unknown, grammar_of}
-use Rattle.iri_c.specs.Outcome.{Answered}
+use Rattle.iri_c.specs.Outcome.{Outcome, Answered}
 use Rattle.iri_c.specs.Outcome.Outcome.{text, plain}
 use Rattle.iri_c.specs.Variables.{value_in, is_sound}
 use Rattle.iri_c.specs.declared.variables.Variable.{Variable}
+
+-- the kinds of faults, in the order of their numbers; the last two of `template_fault_number` don't come where no text is written
+-- to a sink that stops and no memory is taken
+abbrev pub template_kinds : List ErrorKind
+template_kinds =
+    ExpressionNotClosed ∷ InvalidCharacter ∷ InvalidExpression ∷ InvalidPercentEncoding ∷ InvalidUtf8 ∷ UnexpectedValueType
+    ∷ UnsupportedOperator ∷ []
 
 abbrev pub template_fault_number : ErrorKind → ℕ
 template_fault_number ExpressionNotClosed = 0
@@ -26,6 +34,14 @@ template_fault_number UnexpectedValueType = 5
 template_fault_number UnsupportedOperator = 6
 template_fault_number WriteFailed = 7
 template_fault_number Memory = 8
+
+-- the words for the kind of this number
+abbrev pub words_of : Option ErrorKind → Outcome
+words_of None = plain unknown
+words_of (Some kind) = text (description kind)
+
+abbrev pub template_fault_words : ℕ → Outcome
+template_fault_words number = words_of (slice_get template_kinds number)
 
 -- the kind of a fault and its place in bytes
 abbrev pub Refused : Error → ℕ → ℕ → ℕ → Type 0

@@ -1,6 +1,7 @@
 // Templates, expanded (RFC 6570).
-ghost use Rattle.std.specs.Prelude.{◌≡◌};
-ghost use Rattle.iri_c.specs.Templates.{Expanded, ExpandedIn, Refused, template_fault_number};
+ghost use Rattle.std.specs.Prelude.{◌≡◌, slice_get};
+ghost use Rattle.iri_c.specs.Outcome.{Answered};
+ghost use Rattle.iri_c.specs.Templates.{Expanded, ExpandedIn, Refused, template_fault_number, template_fault_words, template_kinds};
 
 use crate::buffer::answer_text;
 use crate::fault::answer;
@@ -85,5 +86,32 @@ pub extern "C" fn irikit_expand(
             *place = 0;
             answer(UNKNOWN, told)
         }
+    }
+}
+
+// The kind of this number.
+fn kind_of(number: usize) -> Option<ErrorKind>
+    ensures { result ≡ slice_get template_kinds number }
+{
+    match number {
+        0 => Some(ErrorKind::ExpressionNotClosed),
+        1 => Some(ErrorKind::InvalidCharacter),
+        2 => Some(ErrorKind::InvalidExpression),
+        3 => Some(ErrorKind::InvalidPercentEncoding),
+        4 => Some(ErrorKind::InvalidUtf8),
+        5 => Some(ErrorKind::UnexpectedValueType),
+        6 => Some(ErrorKind::UnsupportedOperator),
+        _ => None,
+    }
+}
+
+/// The words for a kind of fault of a template.
+#[unsafe(no_mangle)]
+pub extern "C" fn irikit_template_fault_words(fault: usize, out: &mut [u8], told: &mut usize) -> u8
+    ensures { Answered (template_fault_words fault) out.old out.new told.new result }
+{
+    match kind_of(fault) {
+        Some(kind) => answer_text(out, &kind.description(), told),
+        None => answer(UNKNOWN, told),
     }
 }

@@ -1,0 +1,78 @@
+/* check_lines: many lines in one call, in buffers of each size; pieces that are empty; numbers that stand for nothing.
+ * Names each that fails. */
+#include "check.h"
+
+#define ROOM 1024
+
+static const char *base = "http://a/b/c/d;p?q";
+static const char *lines = "../g\n%4\r\n\ng:80\n//a:80\nno end";
+static const char *answers[] = {"ok http://a/b/g\n", "bad invalid path\n", "ok http://a/b/c/d;p?q\n", "ok g:80\n", "ok http://a:80\n"};
+static const size_t ends[] = {5, 9, 10, 15, 22};
+#define LINES 5
+
+static uint8_t call(uint8_t grammar, uint8_t mode, const char *text, char *out, size_t size, size_t *consumed, size_t *told) {
+    return irikit_canonical_lines(grammar, mode, base, strlen(base), text, strlen(text), out, size, consumed, told);
+}
+
+/* The answers that have room stand whole and are told; the next is cut off. */
+static size_t check_sizes(void) {
+    char whole[ROOM] = "";
+    size_t failed = 0;
+    for (int i = 0; i < LINES; i++)
+        strcat(whole, answers[i]);
+    for (size_t size = 0; size <= strlen(whole) + 2; size++) {
+        char out[ROOM];
+        size_t consumed = 9, told = 9, done = 0, written = 0;
+        while (done < LINES && written + strlen(answers[done]) <= size)
+            written += strlen(answers[done++]);
+        memset(out, '.', sizeof out);
+        uint8_t status = call(IRIKIT_URI, IRIKIT_NORMAL, lines, out, size, &consumed, &told);
+        failed += wrong(status == (done < LINES ? IRIKIT_SHORT : IRIKIT_OK), "the status of a size");
+        failed += wrong(told == written && consumed == (done ? ends[done - 1] : 0), "what is told");
+        failed += wrong(is_over(out, size, whole, strlen(whole), sizeof out), "what stands in the buffer");
+    }
+    return failed;
+}
+
+/* Calls that go on where the one before them stopped give what one call gives. */
+static size_t check_going_on(void) {
+    char whole[ROOM] = "", wanted[ROOM] = "", out[24];
+    size_t failed = 0, at = 0, consumed, told;
+    uint8_t status;
+    for (int i = 0; i < LINES; i++)
+        strcat(wanted, answers[i]);
+    do {
+        status = call(IRIKIT_URI, IRIKIT_NORMAL, lines + at, out, sizeof out, &consumed, &told);
+        strncat(whole, out, told);
+        at += consumed;
+    } while (status == IRIKIT_SHORT && consumed);
+    failed += wrong(status == IRIKIT_OK && at == ends[LINES - 1], "the end of calls that go on");
+    failed += wrong(!strcmp(whole, wanted), "the answers of calls that go on");
+    return failed;
+}
+
+static size_t check_others(void) {
+    char out[64];
+    size_t failed = 0, consumed = 9, told = 9;
+    memset(out, '.', sizeof out);
+    failed += wrong(call(2, 0, lines, out, 64, &consumed, &told) == IRIKIT_UNKNOWN && !consumed && !told, "a grammar that is none");
+    consumed = told = 9;
+    failed += wrong(call(0, 2, lines, out, 64, &consumed, &told) == IRIKIT_UNKNOWN && !consumed && !told, "a mode that is none");
+    consumed = 9;
+    failed += wrong(irikit_canonical_lines(0, 0, "a", 1, lines, 5, out, 64, &consumed, &told) == IRIKIT_BAD_BASE && !consumed
+                        && told == IRIKIT_UNEXPECTED_RELATIVE, "a base that is none");
+    failed += wrong(is_over(out, 0, "", 0, sizeof out), "a buffer that stays");
+    failed += wrong(irikit_canonical_lines(0, 0, "a:", 2, NULL, 0, NULL, 0, &consumed, &told) == IRIKIT_OK && !consumed && !told,
+                    "NULL as lines");
+    failed += wrong(irikit_canonical_lines(0, 0, "a:", 2, "\n", 1, NULL, 0, &consumed, &told) == IRIKIT_SHORT && !consumed && !told,
+                    "NULL as a buffer");
+    failed += wrong(call(0, IRIKIT_BY_SCHEME, "//a:80\n//a:81\n", out, 64, &consumed, &told) == IRIKIT_OK && told == 29
+                        && !memcmp(out, "ok http://a/\nok http://a:81/\n", 29), "scheme rules");
+    return failed;
+}
+
+int main(void) {
+    size_t failed = check_sizes() + check_going_on() + check_others();
+    printf("C: lines, %zu failed\n", failed);
+    return failed != 0;
+}

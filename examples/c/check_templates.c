@@ -1,0 +1,122 @@
+/* check_templates ROWS: the examples of RFC 6570, each in a buffer of each size; faults and their places; variables that aren't as their
+ * kind asks; pieces that are empty; the layout of the structs. Names each that fails. */
+#define _GNU_SOURCE
+#include "check.h"
+
+#define TEXT(text) {text, sizeof text - 1}
+#define STRING(name, text) {TEXT(name), IRIKIT_STRING, &(const struct irikit_text)TEXT(text), 1}
+#define SEVERAL(name, kind, texts) {TEXT(name), kind, texts, sizeof texts / sizeof *texts}
+
+static const struct irikit_text count[] = {TEXT("one"), TEXT("two"), TEXT("three")}, dom[] = {TEXT("example"), TEXT("com")},
+                                list[] = {TEXT("red"), TEXT("green"), TEXT("blue")},
+                                keys[] = {TEXT("semi"), TEXT(";"), TEXT("dot"), TEXT("."), TEXT("comma"), TEXT(",")};
+
+/* The variables of RFC 6570 section 3.2. */
+static const struct irikit_variable variables[] = {
+    SEVERAL("count", IRIKIT_LIST, count), SEVERAL("dom", IRIKIT_LIST, dom), SEVERAL("list", IRIKIT_LIST, list),
+    SEVERAL("keys", IRIKIT_PAIRS, keys), STRING("dub", "me/too"), STRING("hello", "Hello World!"), STRING("half", "50%"),
+    STRING("var", "value"), STRING("who", "fred"), STRING("base", "http://example.com/home/"), STRING("path", "/foo/bar"),
+    STRING("v", "6"), STRING("x", "1024"), STRING("y", "768"), STRING("empty", ""),
+    {TEXT("empty_keys"), IRIKIT_PAIRS, NULL, 0}, {TEXT("undef"), IRIKIT_UNDEFINED, NULL, 0},
+};
+#define COUNT (sizeof variables / sizeof *variables)
+
+static uint8_t expand(const char *text, char *out, size_t size, size_t *told, size_t *place) {
+    return irikit_expand(IRIKIT_URI, text, strlen(text), variables, COUNT, out, size, told, place);
+}
+
+static size_t check_row(const char *template_text, const char *wanted) {
+    size_t failed = 0, len = strlen(wanted);
+    for (size_t size = 0; size <= len + 1; size++) {
+        char out[256];
+        size_t told = 9, place = 9;
+        memset(out, '.', sizeof out);
+        uint8_t status = expand(template_text, out, size, &told, &place);
+        failed += wrong(status == (size < len ? IRIKIT_SHORT : IRIKIT_OK) && told == len && !place
+                            && is_over(out, size, wanted, len, sizeof out), template_text);
+    }
+    return failed;
+}
+
+static size_t check_rows(const char *name, size_t *rows) {
+    FILE *file = fopen(name, "r");
+    char *line = NULL;
+    size_t room = 0, failed = 0;
+    if (!file) {
+        perror(name);
+        exit(2);
+    }
+    while (getline(&line, &room, file) > 0) {
+        char *rest = line, *template_text = strsep(&rest, "\t");
+        failed += check_row(template_text, strsep(&rest, "\n"));
+        (*rows)++;
+    }
+    free(line);
+    fclose(file);
+    return failed;
+}
+
+static size_t check_refused(const char *template_text, size_t fault, size_t wanted) {
+    char out[8];
+    size_t told = 9, place = 9;
+    memset(out, '.', sizeof out);
+    uint8_t status = expand(template_text, out, sizeof out, &told, &place);
+    return wrong(status == IRIKIT_BAD_TEXT && told == fault && place == wanted && is_over(out, 0, "", 0, sizeof out), template_text);
+}
+
+/* One variable that isn't as its kind asks, behind one that is. */
+static size_t check_variable(struct irikit_variable second, uint8_t status, const char *what) {
+    struct irikit_variable both[] = {STRING("v", "6"), second};
+    char out[8];
+    size_t told = 9, place = 9;
+    memset(out, '.', sizeof out);
+    uint8_t is = irikit_expand(IRIKIT_IRI, "{v}", 3, both, 2, out, sizeof out, &told, &place);
+    if (status == IRIKIT_OK)
+        return wrong(is == status && told == 1 && !place && is_over(out, 8, "6", 1, sizeof out), what);
+    return wrong(is == status && !told && place == 1 && is_over(out, 0, "", 0, sizeof out), what);
+}
+
+static size_t check_variables(void) {
+    const struct irikit_text nothing = {NULL, 0}, no_utf8 = {"\xff", 1}, both[] = {TEXT("a"), {"\xc3", 1}};
+    size_t failed = 0;
+    failed += check_variable((struct irikit_variable){{NULL, 0}, IRIKIT_UNDEFINED, NULL, 0}, IRIKIT_OK, "a name that is NULL");
+    failed += check_variable((struct irikit_variable){TEXT("w"), IRIKIT_STRING, &nothing, 1}, IRIKIT_OK, "a text that is NULL");
+    failed += check_variable((struct irikit_variable){TEXT("w"), IRIKIT_LIST, NULL, 0}, IRIKIT_OK, "a list that is NULL");
+    failed += check_variable((struct irikit_variable)STRING("v", "7"), IRIKIT_OK, "a second variable of a name");
+    failed += check_variable((struct irikit_variable){TEXT("w"), IRIKIT_UNDEFINED, both, 1}, IRIKIT_BAD_VARIABLE, "a text too many");
+    failed += check_variable((struct irikit_variable){TEXT("w"), IRIKIT_STRING, NULL, 0}, IRIKIT_BAD_VARIABLE, "a string of none");
+    failed += check_variable((struct irikit_variable){TEXT("w"), IRIKIT_PAIRS, both, 1}, IRIKIT_BAD_VARIABLE, "half a pair");
+    failed += check_variable((struct irikit_variable){TEXT("w"), 4, NULL, 0}, IRIKIT_BAD_VARIABLE, "a kind that is none");
+    failed += check_variable((struct irikit_variable){TEXT("w"), IRIKIT_STRING, &no_utf8, 1}, IRIKIT_BAD_VARIABLE, "no UTF-8");
+    failed += check_variable((struct irikit_variable){TEXT("w"), IRIKIT_LIST, both, 2}, IRIKIT_BAD_VARIABLE, "an item of no UTF-8");
+    return failed;
+}
+
+static size_t check_others(void) {
+    const struct irikit_text word = {NULL, 0};
+    const struct irikit_variable empty = {TEXT("e"), IRIKIT_STRING, &word, 1};
+    char out[8];
+    size_t failed = 0, told = 9, place = 9;
+    failed += wrong(irikit_expand(2, "", 0, NULL, 0, out, 8, &told, &place) == IRIKIT_UNKNOWN && !told && !place, "a grammar that is none");
+    failed += wrong(irikit_expand(0, NULL, 0, NULL, 0, NULL, 0, &told, &place) == IRIKIT_OK && !told && !place, "NULL as a template");
+    failed += wrong(irikit_expand(0, "{e}a{?e}", 8, &empty, 1, out, 8, &told, &place) == IRIKIT_OK && told == 4
+                        && !memcmp(out, "a?e=", 4), "a value that is NULL");
+    failed += wrong(irikit_expand(1, "\xc3\xa9", 2, NULL, 0, out, 8, &told, &place) == IRIKIT_OK && told == 2, "an IRI's literal");
+    failed += wrong(irikit_expand(0, "\xc3\xa9", 2, NULL, 0, out, 8, &told, &place) == IRIKIT_OK && told == 6, "a URI's literal");
+    failed += wrong(sizeof(struct irikit_text) == 2 * sizeof(size_t) && sizeof(struct irikit_variable) == 5 * sizeof(size_t)
+                        && offsetof(struct irikit_variable, kind) == 2 * sizeof(size_t)
+                        && offsetof(struct irikit_variable, values) == 3 * sizeof(size_t), "the layout of the structs");
+    return failed;
+}
+
+int main(int argc, char **argv) {
+    size_t failed = 0, rows = 0;
+    if (argc != 2)
+        return 2;
+    failed += check_rows(argv[1], &rows) + check_variables() + check_others();
+    failed += check_refused("ab{", IRIKIT_EXPRESSION_NOT_CLOSED, 2) + check_refused("a}", IRIKIT_INVALID_CHARACTER, 1);
+    failed += check_refused("\xff", IRIKIT_TEMPLATE_INVALID_UTF8, 0) + check_refused("{=v}", IRIKIT_UNSUPPORTED_OPERATOR, 1);
+    failed += check_refused("a%4", IRIKIT_INVALID_PERCENT_ENCODING, 1) + check_refused("a{list:1}", IRIKIT_UNEXPECTED_VALUE_TYPE, 2);
+    printf("C: %zu templates, %zu failed\n", rows, failed);
+    return failed || !rows;
+}
