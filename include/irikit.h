@@ -38,7 +38,8 @@ enum irikit_status {
     IRIKIT_BAD_BASE = 4,      /* the base is refused */
     IRIKIT_BAD_REFERENCE = 5, /* the base is valid, and the reference is refused */
     IRIKIT_UNKNOWN = 6,       /* a number for a grammar, a mode, a kind or a fault stands for none */
-    IRIKIT_BAD_VARIABLE = 7   /* a variable hasn't as many texts as its kind asks, or has one that isn't UTF-8 */
+    IRIKIT_BAD_VARIABLE = 7,  /* a variable hasn't as many texts as its kind asks, or has one that isn't UTF-8 */
+    IRIKIT_BAD_PART = 8       /* the text is valid, and what is to stand in it is refused */
 };
 
 /* The grammars. */
@@ -60,6 +61,18 @@ enum irikit_kind {
     IRIKIT_WITH_SCHEME = 1, /* URI (section 3) */
     IRIKIT_ABSOLUTE = 2,    /* absolute-URI: with a scheme and without a fragment (section 4.3) */
     IRIKIT_RELATIVE = 3     /* relative-ref: without a scheme (section 4.2) */
+};
+
+/* The places of a reference, by what stands as it is there beside `unreserved` and, in IRIs, characters past ASCII. */
+enum irikit_place {
+    IRIKIT_IN_REG_NAME = 0,   /* sub-delims (RFC 3986 section 3.2.2) */
+    IRIKIT_IN_USER = 1,       /* sub-delims: the user or the password (section 3.2.1) */
+    IRIKIT_IN_SEGMENT = 2,    /* sub-delims : @ (section 3.3) */
+    IRIKIT_IN_PATH = 3,       /* sub-delims : @ / (section 3.3) */
+    IRIKIT_IN_QUERY = 4,      /* sub-delims : @ / ? (section 3.4) */
+    IRIKIT_IN_FRAGMENT = 5,   /* sub-delims : @ / ? (section 3.5) */
+    IRIKIT_ANYWHERE = 6,      /* nothing (section 2.3) */
+    IRIKIT_IN_REFERENCE = 7   /* sub-delims and gen-delims (section 2.2) */
 };
 
 /* The kinds of faults. irikit_fault_words gives the words for them. */
@@ -142,6 +155,56 @@ uint8_t irikit_map_to_uri(const char *text, size_t len, char *out, size_t size, 
  * Writes: the words to `out`.
  * Returns: IRIKIT_OK; IRIKIT_SHORT; IRIKIT_UNKNOWN: no kind has this number. */
 uint8_t irikit_fault_words(size_t fault, char *out, size_t size, size_t *told);
+
+/* A raw text, percent-encoded for its place in a reference (RFC 3986 sections 2.1 and 2.4): what may not stand there, `%` among it,
+ * becomes the triplets of its UTF-8.
+ *
+ * Takes: the number of a grammar and of a place; the text, in UTF-8; a buffer.
+ * Writes: the encoded text to `out`. It has at most 3 * len bytes.
+ * Returns: IRIKIT_OK; IRIKIT_SHORT; IRIKIT_BAD_TEXT: it isn't UTF-8; IRIKIT_UNKNOWN: grammar or place.
+ *
+ *   irikit_encode(IRIKIT_URI, IRIKIT_IN_SEGMENT, "50% off/a", 9, out, sizeof out, &told);  // "50%25%20off%2Fa" */
+uint8_t irikit_encode(uint8_t grammar, uint8_t place, const char *text, size_t len, char *out, size_t size, size_t *told);
+
+/* The bytes that a text decodes to (the URL Standard, section 1.3): each triplet gives its octet, and all else, a `%` that begins
+ * none among it, stays. They needn't be UTF-8.
+ *
+ * Takes: any bytes; a buffer.
+ * Writes: the decoded bytes to `out`. They are at most `len`.
+ * Returns: IRIKIT_OK; IRIKIT_SHORT.
+ *
+ *   irikit_decode("50%25%20off%2Fa", 15, out, sizeof out, &told);  // "50% off/a" */
+uint8_t irikit_decode(const char *text, size_t len, char *out, size_t size, size_t *told);
+
+/* ---- Edits ---- */
+
+/* A reference without its password: what follows the first `:` of its userinfo (RFC 3986 section 3.2.1) is left out.
+ *
+ * Takes: the number of a grammar; the text, a URI-reference of the grammar; a buffer.
+ * Writes: the masked text to `out`. It has at most `len` bytes.
+ * Returns: IRIKIT_OK; IRIKIT_SHORT; IRIKIT_BAD_TEXT; IRIKIT_UNKNOWN: grammar.
+ *
+ *   irikit_mask_password(IRIKIT_URI, "http://u:pw@h/", 14, out, sizeof out, &told);  // "http://u:@h/" */
+uint8_t irikit_mask_password(uint8_t grammar, const char *text, size_t len, char *out, size_t size, size_t *told);
+
+/* A reference without its fragment and the `#` before it (RFC 3986 section 3.5).
+ *
+ * Takes: the number of a grammar; the text, a URI-reference of the grammar; a buffer.
+ * Writes: the text to `out`. It has at most `len` bytes.
+ * Returns: IRIKIT_OK; IRIKIT_SHORT; IRIKIT_BAD_TEXT; IRIKIT_UNKNOWN: grammar.
+ *
+ *   irikit_remove_fragment(IRIKIT_URI, "a?b#c", 5, out, sizeof out, &told);  // "a?b" */
+uint8_t irikit_remove_fragment(uint8_t grammar, const char *text, size_t len, char *out, size_t size, size_t *told);
+
+/* A reference with a fragment in place of its own, or behind one that has none (RFC 3986 section 3.5).
+ *
+ * Takes: the number of a grammar; the text, a URI-reference of the grammar; the fragment without `#`; a buffer.
+ * Writes: the text to `out`. It has at most len + fragment_len + 1 bytes.
+ * Returns: IRIKIT_OK; IRIKIT_SHORT; IRIKIT_BAD_TEXT; IRIKIT_BAD_PART: the fragment's first fault; IRIKIT_UNKNOWN: grammar.
+ *
+ *   irikit_set_fragment(IRIKIT_URI, "a?b#c", 5, "d", 1, out, sizeof out, &told);  // "a?b#d" */
+uint8_t irikit_set_fragment(uint8_t grammar, const char *text, size_t len, const char *fragment, size_t fragment_len, char *out,
+                            size_t size, size_t *told);
 
 /* ---- Templates ---- */
 

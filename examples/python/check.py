@@ -76,6 +76,14 @@ def check_texts():
     parts = dict(scheme=b"foo", authority=b"u@h:8", path=b"/p", query=b"", fragment=b"f", userinfo=b"u", host=b"h", port=b"8")
     same("parts", parts, links.split("foo://u@h:8/p?#f"))
     same("parts of an empty text", {"path": b""}, links.split(""))
+    same("a masked text", "http://u:@h/", links.mask_password("http://u:pw@h/"))
+    same("another fragment", "a?b#d", links.with_fragment("a?b#c", "d"))
+    same("no fragment", "a?b", links.with_fragment("a?b#c", None))
+    same("a fragment that is none", (8, 7, "invalid fragment"), refusal(links.with_fragment, "a", "#"))
+    same("an encoded text", "50%25%20off%2Fa", irikit.encode("50% off/a"))
+    same("an encoded query", "a=\u00e9&b", irikit.encode("a=\u00e9&b", irikit.IN_QUERY, IRI))
+    same("a place that is none", (6, 0, "no such number"), refusal(irikit.encode, "a", 8))
+    same("decoded bytes", b"50% off/a\xff%4", irikit.decode("50%25%20off%2Fa%ff%4"))
     same("a mapped text", "http://a/%C3%A9%41", irikit.map_to_uri("http://a/\u00e9%41"))
 
 

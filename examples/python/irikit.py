@@ -9,11 +9,12 @@ The library is the one that IRIKIT_LIBRARY names, or libirikit.so.0 where the sy
 import ctypes
 import os
 
-OK, SHORT, NOT_NORMAL, BAD_TEXT, BAD_BASE, BAD_REFERENCE, UNKNOWN, BAD_VARIABLE = range(8)
+OK, SHORT, NOT_NORMAL, BAD_TEXT, BAD_BASE, BAD_REFERENCE, UNKNOWN, BAD_VARIABLE, BAD_PART = range(9)
 URI, IRI = range(2)
 NORMAL, BY_SCHEME = range(2)
 REFERENCE, WITH_SCHEME, ABSOLUTE, RELATIVE = range(4)
 UNDEFINED, STRING, LIST, PAIRS = range(4)
+IN_REG_NAME, IN_USER, IN_SEGMENT, IN_PATH, IN_QUERY, IN_FRAGMENT, ANYWHERE, IN_REFERENCE = range(8)
 PARTS = "scheme authority path query fragment userinfo host port".split()
 NOWHERE = ctypes.c_size_t(-1).value
 
@@ -44,6 +45,11 @@ _validate = _call("irikit_validate", _byte, _byte, _text, _size, _told)
 _split = _call("irikit_split", _byte, _text, _size, ctypes.POINTER(_size * 16), _told)
 _is_normalized = _call("irikit_is_normalized", _byte, _byte, _text, _size, _told)
 _map_to_uri = _call("irikit_map_to_uri", _text, _size, _text, _size, _told)
+_encode = _call("irikit_encode", _byte, _byte, _text, _size, _text, _size, _told)
+_decode = _call("irikit_decode", _text, _size, _text, _size, _told)
+_mask_password = _call("irikit_mask_password", _byte, _text, _size, _text, _size, _told)
+_remove_fragment = _call("irikit_remove_fragment", _byte, _text, _size, _text, _size, _told)
+_set_fragment = _call("irikit_set_fragment", _byte, _text, _size, _text, _size, _text, _size, _told)
 _fault_words = _call("irikit_fault_words", _size, _text, _size, _told)
 _template_fault_words = _call("irikit_template_fault_words", _size, _text, _size, _told)
 _expand = _call("irikit_expand", _byte, _text, _size, ctypes.POINTER(_Variable), _size, _text, _size, _told, _told)
@@ -153,6 +159,20 @@ class Links:
                 raise Refused(status, self._told.value, place.value)
             size = self._told.value
 
+    def mask_password(self, text):
+        """A reference without its password."""
+        text = _bytes(text)
+        return _written(len(text), _mask_password, self.grammar, text, len(text)).decode()
+
+    def with_fragment(self, text, fragment):
+        """A reference with another fragment, or with none where that is None."""
+        text = _bytes(text)
+        if fragment is None:
+            return _written(len(text), _remove_fragment, self.grammar, text, len(text)).decode()
+        fragment = _bytes(fragment)
+        room = len(text) + len(fragment) + 1
+        return _written(room, _set_fragment, self.grammar, text, len(text), fragment, len(fragment)).decode()
+
     def is_normalized(self, text):
         """Whether a text with a scheme is its own normal form."""
         text = _bytes(text)
@@ -167,11 +187,28 @@ class Links:
         return {name: text[at : at + length] for name, at, length in places if at != NOWHERE}
 
 
-def map_to_uri(text):
-    """A reference of IRIs, mapped to one of URIs."""
-    text, told = _bytes(text), _size()
-    out = ctypes.create_string_buffer(3 * len(text) + 1)
-    status = _map_to_uri(text, len(text), out, len(out), told)
+def _written(room, call, *passed):
+    """What a call writes that never writes more than `room` bytes."""
+    out, told = ctypes.create_string_buffer(room + 1), _size()
+    status = call(*passed, out, room, told)
     if status != OK:
         raise Refused(status, told.value)
-    return out.raw[: told.value].decode()
+    return out.raw[: told.value]
+
+
+def map_to_uri(text):
+    """A reference of IRIs, mapped to one of URIs."""
+    text = _bytes(text)
+    return _written(3 * len(text), _map_to_uri, text, len(text)).decode()
+
+
+def encode(text, place=IN_SEGMENT, grammar=URI):
+    """A raw text, percent-encoded for its place in a reference."""
+    text = _bytes(text)
+    return _written(3 * len(text), _encode, grammar, place, text, len(text)).decode()
+
+
+def decode(text):
+    """The bytes that a text decodes to."""
+    text = _bytes(text)
+    return _written(len(text), _decode, text, len(text))

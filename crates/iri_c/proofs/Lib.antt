@@ -1,3 +1,5 @@
 pub mod SlotLemmas
 pub mod LineLemmas
 pub mod PairLemmas
+pub mod EditLemmas
+pub mod DecodingLemmas

@@ -1,4 +1,6 @@
 pub mod Buffers
+pub mod Edits
+pub mod Encodings
 pub mod Examples
 pub mod Lines
 pub mod Numbers

@@ -33,6 +33,9 @@ unknown = 6
 abbrev pub bad_variable : ℕ
 bad_variable = 7
 
+abbrev pub bad_part : ℕ
+bad_part = 8
+
 -- the grammars: URIs and IRIs
 abbrev pub grammar_of : ℕ → Option Tests
 grammar_of n = cond (nat_eq n 0) (Some uri_tests) (cond (nat_eq n 1) (Some iri_tests) None)

@@ -8,8 +8,8 @@ ghost use Rattle.iri_c.specs.inside.Placed.{over_at};
 use crate::status::{OK, SHORT};
 use iri_text::{Show, Stop, TextSink};
 
-// Writes bytes over what stands at a place, as far as there is room.
-fn copy_at(buf: &mut [u8], at: usize, bytes: &[u8])
+/// Writes bytes over what stands at a place, as far as there is room.
+pub(crate) fn copy_at(buf: &mut [u8], at: usize, bytes: &[u8])
     ensures { buf.new ≡ over_at at bytes.now buf.old }
 {
     if at < buf.len() {

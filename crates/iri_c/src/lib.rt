@@ -10,6 +10,9 @@
 
 mod buffer;
 mod canonical;
+mod decoding;
+mod edits;
+mod encoding;
 mod fault;
 mod grammar;
 mod lines;

@@ -23,3 +23,6 @@ pub const UNKNOWN: u8 = 6;
 
 /// A variable hasn't as many texts as its kind asks, or has one that isn't UTF-8.
 pub const BAD_VARIABLE: u8 = 7;
+
+/// The text is valid, and what is to stand in it is refused.
+pub const BAD_PART: u8 = 8;

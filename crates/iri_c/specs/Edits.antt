@@ -1,0 +1,37 @@
+-- What edits come to.
+use Rattle.std.specs.Prelude.{ℕ, List, Some, None}
+use Rattle.iri_edit.specs.Fragment.{with_fragment}
+use Rattle.iri_edit.specs.Password.{masked}
+use Rattle.iri_grammar.specs.Classes.{Tests}
+use Rattle.iri_grammar.specs.Fault.{bytes_fault, fragment_fault}
+use Rattle.iri_grammar.specs.WholeFault.{reference_fault}
+use Rattle.iri_c.specs.Numbers.{bad_text, bad_part, grammar_of}
+use Rattle.iri_c.specs.Outcome.{Outcome}
+use Rattle.iri_c.specs.Outcome.Outcome.{text}
+use Rattle.iri_c.specs.Outcomes.{unless_fault, in_grammar}
+
+-- what follows where a text is a reference
+abbrev pub of_reference : List ℕ → Tests → Outcome → Outcome
+of_reference t s next = unless_fault bad_text (bytes_fault (reference_fault s) t) next
+
+-- a reference without its password
+abbrev pub masked_in : List ℕ → Tests → Outcome
+masked_in t s = of_reference t s (text (masked t))
+
+abbrev pub masked_outcome : ℕ → List ℕ → Outcome
+masked_outcome grammar t = in_grammar (grammar_of grammar) (masked_in t)
+
+-- a reference without its fragment
+abbrev pub cut_in : List ℕ → Tests → Outcome
+cut_in t s = of_reference t s (text (with_fragment t None))
+
+abbrev pub cut_outcome : ℕ → List ℕ → Outcome
+cut_outcome grammar t = in_grammar (grammar_of grammar) (cut_in t)
+
+-- a reference with another fragment: the reference is judged first
+abbrev pub fragment_in : List ℕ → List ℕ → Tests → Outcome
+fragment_in t f s =
+    of_reference t s (unless_fault bad_part (bytes_fault (fragment_fault s) f) (text (with_fragment t (Some f))))
+
+abbrev pub fragment_outcome : ℕ → List ℕ → List ℕ → Outcome
+fragment_outcome grammar t f = in_grammar (grammar_of grammar) (fragment_in t f)

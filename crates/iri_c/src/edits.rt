@@ -1,0 +1,130 @@
+// References with one part changed (RFC 3986 sections 3.2.1, 3.5 and 7.5).
+ghost use Rattle.std.specs.Prelude.{◌≡◌};
+ghost use Rattle.iri_c.specs.Edits.{masked_in, masked_outcome, cut_in, cut_outcome, fragment_in, fragment_outcome};
+ghost use Rattle.iri_c.specs.Outcome.{Answered};
+ghost use Rattle.iri_grammar.specs.Cut.{before};
+ghost use Rattle.iri_types.specs.Texts.{text};
+
+use crate::buffer::answer_text;
+use crate::fault::{answer, answer_fault};
+use crate::grammar::{IRI, URI};
+use crate::status::{BAD_PART, BAD_TEXT, UNKNOWN};
+use iri_edit::password::MaskPassword;
+use iri_grammar::cutting::cut_before;
+use iri_grammar::spec::{IriSpec, Spec, UriSpec};
+use iri_text::{Show, Stop, TextSink, show_three};
+use iri_types::view::{RiFragmentStr, RiReferenceStr};
+
+// The masked text in one grammar.
+fn mask_in<S: Spec>(text: &[u8], out: &mut [u8], told: &mut usize) -> u8
+    ensures { Answered (masked_in text.now S.tests) out.old out.new told.new result }
+{
+    match RiReferenceStr::<S>::try_from_bytes(text) {
+        Ok(view) => answer_text(out, &view.mask_password(), told),
+        Err(error) => answer_fault(BAD_TEXT, error.kind(), told),
+    }
+}
+
+/// A reference without its password.
+#[unsafe(no_mangle)]
+pub extern "C" fn irikit_mask_password(
+    grammar: u8,
+    text: &[u8],
+    out: &mut [u8],
+    told: &mut usize,
+) -> u8
+    ensures { Answered (masked_outcome grammar text.now) out.old out.new told.new result }
+{
+    match grammar {
+        URI => mask_in::<UriSpec>(text, out, told),
+        IRI => mask_in::<IriSpec>(text, out, told),
+        _ => answer(UNKNOWN, told),
+    }
+}
+
+// What stands before the fragment.
+fn before_fragment<S: Spec>(view: RiReferenceStr<'_, S>) -> &str
+    ensures { result.now ≡ before 35 (text view.entry) }
+{
+    cut_before(view.as_str(), b'#').0
+}
+
+// The text without its fragment in one grammar.
+fn remove_fragment_in<S: Spec>(text: &[u8], out: &mut [u8], told: &mut usize) -> u8
+    ensures { Answered (cut_in text.now S.tests) out.old out.new told.new result }
+{
+    match RiReferenceStr::<S>::try_from_bytes(text) {
+        Ok(view) => answer_text(out, &before_fragment(view), told),
+        Err(error) => answer_fault(BAD_TEXT, error.kind(), told),
+    }
+}
+
+/// A reference without its fragment.
+#[unsafe(no_mangle)]
+pub extern "C" fn irikit_remove_fragment(
+    grammar: u8,
+    text: &[u8],
+    out: &mut [u8],
+    told: &mut usize,
+) -> u8
+    ensures { Answered (cut_outcome grammar text.now) out.old out.new told.new result }
+{
+    match grammar {
+        URI => remove_fragment_in::<UriSpec>(text, out, told),
+        IRI => remove_fragment_in::<IriSpec>(text, out, told),
+        _ => answer(UNKNOWN, told),
+    }
+}
+
+// A text and the fragment behind it.
+#[derive(Drop)]
+struct Fragmented<'a> {
+    front: &'a str,
+    fragment: &'a str,
+}
+
+impl Show for Fragmented<'_> {
+    ghost use Rattle.std.specs.Prelude.{◌++◌, ◌∷◌};
+
+    ghost text = { λ f. f.front.now ++ 35 ∷ f.fragment.now };
+
+    fn show<W: TextSink>(&self, sink: &mut W) -> Result<(), Stop> {
+        show_three(sink, &self.front, &"#", &self.fragment)
+    }
+}
+
+// The text with another fragment in one grammar.
+fn set_fragment_in<S: Spec>(text: &[u8], fragment: &[u8], out: &mut [u8], told: &mut usize) -> u8
+    ensures { Answered (fragment_in text.now fragment.now S.tests) out.old out.new told.new result }
+{
+    let view = match RiReferenceStr::<S>::try_from_bytes(text) {
+        Ok(view) => view,
+        Err(error) => return answer_fault(BAD_TEXT, error.kind(), told),
+    };
+    match RiFragmentStr::<S>::try_from_bytes(fragment) {
+        Ok(fragment) => {
+            let front = before_fragment(view);
+            let fragment = fragment.as_str();
+            answer_text(out, &Fragmented { front, fragment }, told)
+        }
+        Err(error) => answer_fault(BAD_PART, error.kind(), told),
+    }
+}
+
+/// A reference with a fragment in place of its own, or behind one that has none.
+#[unsafe(no_mangle)]
+pub extern "C" fn irikit_set_fragment(
+    grammar: u8,
+    text: &[u8],
+    fragment: &[u8],
+    out: &mut [u8],
+    told: &mut usize,
+) -> u8
+    ensures { Answered (fragment_outcome grammar text.now fragment.now) out.old out.new told.new result }
+{
+    match grammar {
+        URI => set_fragment_in::<UriSpec>(text, fragment, out, told),
+        IRI => set_fragment_in::<IriSpec>(text, fragment, out, told),
+        _ => answer(UNKNOWN, told),
+    }
+}

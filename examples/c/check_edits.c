@@ -1,0 +1,102 @@
+/* check_edits: encoding, decoding and edits, each in buffers of each size; what is refused; numbers that stand for nothing; pieces that
+ * are NULL. Names each that fails. */
+#include "check.h"
+
+enum call { ENCODE, DECODE, MASK, REMOVE_FRAGMENT, SET_FRAGMENT };
+
+/* A call with its numbers and texts, and what it answers: a text, or a status and what is told. */
+struct row {
+    enum call call;
+    uint8_t grammar, place;
+    const char *text, *part, *wanted;
+    uint8_t status;
+    size_t told;
+};
+
+static const struct row rows[] = {
+    /* What each place keeps (RFC 3986 sections 2.2, 2.3, 3.2.1, 3.2.2, 3.3, 3.4 and 3.5). */
+    {ENCODE, 0, IRIKIT_IN_REG_NAME, "a-._~!$&'()*+,;=:@/?#[]% ", NULL, "a-._~!$&'()*+,;=%3A%40%2F%3F%23%5B%5D%25%20", 0, 0},
+    {ENCODE, 0, IRIKIT_IN_USER, "a-._~!$&'()*+,;=:@/?#[]% ", NULL, "a-._~!$&'()*+,;=%3A%40%2F%3F%23%5B%5D%25%20", 0, 0},
+    {ENCODE, 0, IRIKIT_IN_SEGMENT, "a-._~!$&'()*+,;=:@/?#[]% ", NULL, "a-._~!$&'()*+,;=:@%2F%3F%23%5B%5D%25%20", 0, 0},
+    {ENCODE, 0, IRIKIT_IN_PATH, "a-._~!$&'()*+,;=:@/?#[]% ", NULL, "a-._~!$&'()*+,;=:@/%3F%23%5B%5D%25%20", 0, 0},
+    {ENCODE, 0, IRIKIT_IN_QUERY, "a-._~!$&'()*+,;=:@/?#[]% ", NULL, "a-._~!$&'()*+,;=:@/?%23%5B%5D%25%20", 0, 0},
+    {ENCODE, 0, IRIKIT_IN_FRAGMENT, "a-._~!$&'()*+,;=:@/?#[]% ", NULL, "a-._~!$&'()*+,;=:@/?%23%5B%5D%25%20", 0, 0},
+    {ENCODE, 0, IRIKIT_ANYWHERE, "a-._~!:@", NULL, "a-._~%21%3A%40", 0, 0},
+    {ENCODE, 0, IRIKIT_IN_REFERENCE, "a-._~!$&'()*+,;=:@/?#[]% ", NULL, "a-._~!$&'()*+,;=:@/?#[]%25%20", 0, 0},
+    /* RFC 3987 section 2.2: `iprivate` stands in a query alone. */
+    {ENCODE, 0, IRIKIT_IN_PATH, "\xc3\xa9", NULL, "%C3%A9", 0, 0},
+    {ENCODE, 1, IRIKIT_IN_PATH, "\xc3\xa9\xee\x80\x80", NULL, "\xc3\xa9%EE%80%80", 0, 0},
+    {ENCODE, 1, IRIKIT_IN_QUERY, "\xc3\xa9\xee\x80\x80", NULL, "\xc3\xa9\xee\x80\x80", 0, 0},
+    {ENCODE, 0, IRIKIT_IN_PATH, "\xc3", NULL, NULL, IRIKIT_BAD_TEXT, IRIKIT_INVALID_UTF8},
+    {ENCODE, 0, 8, "a", NULL, NULL, IRIKIT_UNKNOWN, 0},
+    {ENCODE, 2, 0, "a", NULL, NULL, IRIKIT_UNKNOWN, 0},
+    /* The examples of the URL Standard, section 1.3, and triplets that aren't one. */
+    {DECODE, 0, 0, "%25%s%1G", NULL, "%%s%1G", 0, 0},
+    {DECODE, 0, 0, "%2541%%41%4%", NULL, "%41%A%4%", 0, 0},
+    {DECODE, 0, 0, "\xff%fF", NULL, "\xff\xff", 0, 0},
+    /* RFC 3986 sections 3.2.1 and 7.5. */
+    {MASK, 0, 0, "ftp://u:p:w@h:2/a#f", NULL, "ftp://u:@h:2/a#f", 0, 0},
+    {MASK, 0, 0, "//:@h", NULL, "//:@h", 0, 0},
+    {MASK, 0, 0, "//u@h/a:b@c", NULL, "//u@h/a:b@c", 0, 0},
+    {MASK, 1, 0, "//\xc3\xa9:\xc3\xa9@h", NULL, "//\xc3\xa9:@h", 0, 0},
+    {MASK, 0, 0, "//\xc3\xa9:p@h", NULL, NULL, IRIKIT_BAD_TEXT, IRIKIT_INVALID_USERINFO},
+    {MASK, 2, 0, "", NULL, NULL, IRIKIT_UNKNOWN, 0},
+    /* RFC 3986 section 3.5. */
+    {REMOVE_FRAGMENT, 0, 0, "foo://h/p?q#f", NULL, "foo://h/p?q", 0, 0},
+    {REMOVE_FRAGMENT, 0, 0, "a#", NULL, "a", 0, 0},
+    {REMOVE_FRAGMENT, 0, 0, "a", NULL, "a", 0, 0},
+    {REMOVE_FRAGMENT, 0, 0, "a##", NULL, NULL, IRIKIT_BAD_TEXT, IRIKIT_INVALID_FRAGMENT},
+    {REMOVE_FRAGMENT, 2, 0, "a", NULL, NULL, IRIKIT_UNKNOWN, 0},
+    {SET_FRAGMENT, 0, 0, "foo://h/p?q#f", "n/?", "foo://h/p?q#n/?", 0, 0},
+    {SET_FRAGMENT, 0, 0, "a", "", "a#", 0, 0},
+    {SET_FRAGMENT, 1, 0, "", "\xc3\xa9", "#\xc3\xa9", 0, 0},
+    {SET_FRAGMENT, 0, 0, "a", "\xc3\xa9", NULL, IRIKIT_BAD_PART, IRIKIT_INVALID_FRAGMENT},
+    {SET_FRAGMENT, 0, 0, "a", "\xff", NULL, IRIKIT_BAD_PART, IRIKIT_INVALID_UTF8},
+    {SET_FRAGMENT, 0, 0, "%", "#", NULL, IRIKIT_BAD_TEXT, IRIKIT_INVALID_PATH},
+    {SET_FRAGMENT, 2, 0, "a", "", NULL, IRIKIT_UNKNOWN, 0},
+};
+
+static uint8_t call(const struct row *row, char *out, size_t size, size_t *told) {
+    size_t len = strlen(row->text);
+    switch (row->call) {
+    case ENCODE: return irikit_encode(row->grammar, row->place, row->text, len, out, size, told);
+    case DECODE: return irikit_decode(row->text, len, out, size, told);
+    case MASK: return irikit_mask_password(row->grammar, row->text, len, out, size, told);
+    case REMOVE_FRAGMENT: return irikit_remove_fragment(row->grammar, row->text, len, out, size, told);
+    default: return irikit_set_fragment(row->grammar, row->text, len, row->part, strlen(row->part), out, size, told);
+    }
+}
+
+static size_t check_row(const struct row *row) {
+    size_t failed = 0, len = row->wanted ? strlen(row->wanted) : 0;
+    for (size_t size = 0; size <= len + 1; size++) {
+        char out[64];
+        size_t told = 9;
+        memset(out, '.', sizeof out);
+        uint8_t status = call(row, out, size, &told);
+        if (row->wanted)
+            failed += wrong(status == (size < len ? IRIKIT_SHORT : IRIKIT_OK) && told == len
+                                && is_over(out, size, row->wanted, len, sizeof out), row->text);
+        else
+            failed += wrong(status == row->status && told == row->told && is_over(out, 0, "", 0, sizeof out), row->text);
+    }
+    return failed;
+}
+
+static size_t check_null(void) {
+    size_t failed = 0, told = 9;
+    failed += wrong(irikit_encode(0, 0, NULL, 0, NULL, 0, &told) == IRIKIT_OK && !told, "NULL to encode");
+    failed += wrong(irikit_decode(NULL, 0, NULL, 0, &told) == IRIKIT_OK && !told, "NULL to decode");
+    failed += wrong(irikit_mask_password(0, NULL, 0, NULL, 0, &told) == IRIKIT_OK && !told, "NULL to mask");
+    failed += wrong(irikit_remove_fragment(0, NULL, 0, NULL, 0, &told) == IRIKIT_OK && !told, "NULL without a fragment");
+    failed += wrong(irikit_set_fragment(0, NULL, 0, NULL, 0, NULL, 0, &told) == IRIKIT_SHORT && told == 1, "NULL as a fragment");
+    return failed;
+}
+
+int main(void) {
+    size_t failed = check_null();
+    for (size_t i = 0; i < sizeof rows / sizeof *rows; i++)
+        failed += check_row(&rows[i]);
+    printf("C: %zu edits, %zu failed\n", sizeof rows / sizeof *rows, failed);
+    return failed != 0;
+}
