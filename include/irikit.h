@@ -156,6 +156,26 @@ uint8_t irikit_map_to_uri(const char *text, size_t len, char *out, size_t size, 
  * Returns: IRIKIT_OK; IRIKIT_SHORT; IRIKIT_UNKNOWN: no kind has this number. */
 uint8_t irikit_fault_words(size_t fault, char *out, size_t size, size_t *told);
 
+/* A reference resolved against a base (RFC 3986 section 5.2), not in normal form.
+ *
+ * Takes: the number of a grammar; the base, an absolute-URI of the grammar; the reference, which may be a URI; a buffer.
+ * Writes: the resolved text to `out`. It has at most base_len + reference_len + 3 bytes.
+ * Returns: IRIKIT_OK; IRIKIT_SHORT; IRIKIT_BAD_BASE, IRIKIT_BAD_REFERENCE: the first fault of the one or the other, the base
+ * first; IRIKIT_UNKNOWN: grammar.
+ *
+ *   irikit_resolve(IRIKIT_URI, "http://A/b/c", 12, "../%7e", 6, out, sizeof out, &told);  // "http://A/%7e" */
+uint8_t irikit_resolve(uint8_t grammar, const char *base, size_t base_len, const char *reference, size_t reference_len, char *out,
+                       size_t size, size_t *told);
+
+/* The normal form of a text with a scheme (RFC 3986 section 6.2.2; by scheme rules section 6.2.3).
+ *
+ * Takes: the number of a grammar and of a mode; the text, a URI of the grammar; a buffer.
+ * Writes: the normal form to `out`. It has at most len + 3 bytes.
+ * Returns: IRIKIT_OK; IRIKIT_SHORT; IRIKIT_BAD_TEXT: it is no URI; IRIKIT_UNKNOWN: grammar or mode.
+ *
+ *   irikit_normalize(IRIKIT_URI, IRIKIT_BY_SCHEME, "HTTP://a:80", 11, out, sizeof out, &told);  // "http://a/" */
+uint8_t irikit_normalize(uint8_t grammar, uint8_t mode, const char *text, size_t len, char *out, size_t size, size_t *told);
+
 /* A raw text, percent-encoded for its place in a reference (RFC 3986 sections 2.1 and 2.4): what may not stand there, `%` among it,
  * becomes the triplets of its UTF-8.
  *
@@ -281,6 +301,30 @@ uint8_t irikit_template_fault_words(size_t fault, char *out, size_t size, size_t
  *   fwrite(out, 1, told, stdout);  // "ok http://a/c\nok http://a/d\n" */
 uint8_t irikit_canonical_lines(uint8_t grammar, uint8_t mode, const char *base, size_t base_len, const char *lines,
                                size_t lines_len, char *out, size_t size, size_t *consumed, size_t *told);
+
+/* ---- Run ---- */
+
+/* What the program's run comes to. */
+enum irikit_run_status {
+    IRIKIT_RUN_OK = 0,            /* the input was read to its end, and every answer is `ok` */
+    IRIKIT_RUN_BAD_ANSWER = 1,    /* the input was read to its end, and an answer isn't `ok` */
+    IRIKIT_RUN_NO_COMMAND = 2,    /* the words are no command */
+    IRIKIT_RUN_BAD_BASE = 3,      /* the base, or what stands in its place, is refused */
+    IRIKIT_RUN_SHORT = 5,         /* the output has no room: what was written is a prefix of it */
+    IRIKIT_RUN_MEMORY = 6,        /* allocation failed */
+    IRIKIT_RUN_LONG_LINE = 7,     /* a line has more than 1,048,576 bytes */
+    IRIKIT_RUN_LONG_INPUT = 8     /* the input has more than 1,073,741,824 bytes */
+};
+
+/* What the program `irikit` does with words and an input: canon, expand, register, links, docs, robots, gen, --help, --version. It is
+ * the one call that takes memory, and it has given all of it back when it returns.
+ *
+ * Takes: the words with one space between each two; the input; a buffer.
+ * Writes: the output over the start of `out`; its length to `*told`, whatever the status is.
+ * Returns: one of irikit_run_status, which are the program's.
+ *
+ *   irikit_run("canon uri", 9, "http://a/b\n../c\n", 16, out, sizeof out, &told);  // "ok http://a/c\n" */
+uint8_t irikit_run(const char *words, size_t words_len, const char *input, size_t input_len, char *out, size_t size, size_t *told);
 
 #ifdef __cplusplus
 }

@@ -1,19 +1,31 @@
-/* check_edits: encoding, decoding and edits, each in buffers of each size; what is refused; numbers that stand for nothing; pieces that
+/* check_edits: resolution, normal forms, encoding, decoding and edits, each in buffers of each size; what is refused; numbers that stand for nothing; pieces that
  * are NULL. Names each that fails. */
 #include "check.h"
 
-enum call { ENCODE, DECODE, MASK, REMOVE_FRAGMENT, SET_FRAGMENT };
+enum call { RESOLVE, NORMALIZE, ENCODE, DECODE, MASK, REMOVE_FRAGMENT, SET_FRAGMENT };
 
 /* A call with its numbers and texts, and what it answers: a text, or a status and what is told. */
 struct row {
     enum call call;
-    uint8_t grammar, place;
+    uint8_t grammar, place; /* of a normal form: its mode */
     const char *text, *part, *wanted;
     uint8_t status;
     size_t told;
 };
 
 static const struct row rows[] = {
+    /* RFC 3986 sections 5.2.4, 5.4 and 6.2. */
+    {RESOLVE, 0, 0, "http://a/b/c/d;p?q", "../../../g", "http://a/g", 0, 0},
+    {RESOLVE, 0, 0, "HTTP://A/b%7ec", "#%7e", "HTTP://A/b%7ec#%7e", 0, 0},
+    {RESOLVE, 0, 0, "a", "%", NULL, IRIKIT_BAD_BASE, IRIKIT_UNEXPECTED_RELATIVE},
+    {RESOLVE, 0, 0, "a:", "%", NULL, IRIKIT_BAD_REFERENCE, IRIKIT_INVALID_PATH},
+    {RESOLVE, 2, 0, "a:", "", NULL, IRIKIT_UNKNOWN, 0},
+    {NORMALIZE, 0, IRIKIT_NORMAL, "eXAMPLE://a/./b/../b/%63/%7bfoo%7d", NULL, "example://a/b/c/%7Bfoo%7D", 0, 0},
+    {NORMALIZE, 0, IRIKIT_NORMAL, "http://example.com:80", NULL, "http://example.com:80", 0, 0},
+    {NORMALIZE, 0, IRIKIT_BY_SCHEME, "http://example.com:80", NULL, "http://example.com/", 0, 0},
+    {NORMALIZE, 1, IRIKIT_NORMAL, "a:/..//b\xc3\xa9", NULL, "a:/.//b\xc3\xa9", 0, 0},
+    {NORMALIZE, 0, IRIKIT_NORMAL, "a", NULL, NULL, IRIKIT_BAD_TEXT, IRIKIT_UNEXPECTED_RELATIVE},
+    {NORMALIZE, 0, 2, "a:", NULL, NULL, IRIKIT_UNKNOWN, 0},
     /* What each place keeps (RFC 3986 sections 2.2, 2.3, 3.2.1, 3.2.2, 3.3, 3.4 and 3.5). */
     {ENCODE, 0, IRIKIT_IN_REG_NAME, "a-._~!$&'()*+,;=:@/?#[]% ", NULL, "a-._~!$&'()*+,;=%3A%40%2F%3F%23%5B%5D%25%20", 0, 0},
     {ENCODE, 0, IRIKIT_IN_USER, "a-._~!$&'()*+,;=:@/?#[]% ", NULL, "a-._~!$&'()*+,;=%3A%40%2F%3F%23%5B%5D%25%20", 0, 0},
@@ -59,6 +71,9 @@ static const struct row rows[] = {
 static uint8_t call(const struct row *row, char *out, size_t size, size_t *told) {
     size_t len = strlen(row->text);
     switch (row->call) {
+    case RESOLVE:
+        return irikit_resolve(row->grammar, row->text, len, row->part, strlen(row->part), out, size, told);
+    case NORMALIZE: return irikit_normalize(row->grammar, row->place, row->text, len, out, size, told);
     case ENCODE: return irikit_encode(row->grammar, row->place, row->text, len, out, size, told);
     case DECODE: return irikit_decode(row->text, len, out, size, told);
     case MASK: return irikit_mask_password(row->grammar, row->text, len, out, size, told);

@@ -76,6 +76,9 @@ def check_texts():
     parts = dict(scheme=b"foo", authority=b"u@h:8", path=b"/p", query=b"", fragment=b"f", userinfo=b"u", host=b"h", port=b"8")
     same("parts", parts, links.split("foo://u@h:8/p?#f"))
     same("parts of an empty text", {"path": b""}, links.split(""))
+    same("a resolved reference", "http://A/%7e", Links("http://A/b/c").resolved("../%7e"))
+    same("a normal form", "http://a:80", links.normalized("HTTP://a:80"))
+    same("a normal form by scheme rules", "http://a/", links.normalized("HTTP://a:80", irikit.BY_SCHEME))
     same("a masked text", "http://u:@h/", links.mask_password("http://u:pw@h/"))
     same("another fragment", "a?b#d", links.with_fragment("a?b#c", "d"))
     same("no fragment", "a?b", links.with_fragment("a?b#c", None))
@@ -125,7 +128,19 @@ def check_templates():
         same("the second variable", (7, 1), (error.status, error.place))
 
 
+def check_runs():
+    same("a run", (b"ok http://a/c\nbad invalid path\n", 1), irikit.run("canon uri", b"http://a/b\n../c\n%\n"))
+    same("a run in little room", (b"", 5), irikit.run("canon uri", b"http://a/b\n../c\n", 3))
+    same("no command", (b"", 2), irikit.run("canon", b""))
+    field = b'<b>; rel="next"\n'
+    same("links", 0, irikit.run("links uri", b"http://a/\n" + field)[1])
+    status, rows = 0, b"http://a/\n" + b"".join(b"%d\n" % n for n in range(50000))
+    text = b"".join(b"ok http://a/%d\n" % n for n in range(50000))
+    same("many lines", (text, status), irikit.run("canon uri", rows))
+
+
 def main():
+    check_runs()
     check_rows()
     check_sizes()
     check_texts()

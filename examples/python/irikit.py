@@ -14,6 +14,7 @@ URI, IRI = range(2)
 NORMAL, BY_SCHEME = range(2)
 REFERENCE, WITH_SCHEME, ABSOLUTE, RELATIVE = range(4)
 UNDEFINED, STRING, LIST, PAIRS = range(4)
+RUN_SHORT = 5
 IN_REG_NAME, IN_USER, IN_SEGMENT, IN_PATH, IN_QUERY, IN_FRAGMENT, ANYWHERE, IN_REFERENCE = range(8)
 PARTS = "scheme authority path query fragment userinfo host port".split()
 NOWHERE = ctypes.c_size_t(-1).value
@@ -45,11 +46,14 @@ _validate = _call("irikit_validate", _byte, _byte, _text, _size, _told)
 _split = _call("irikit_split", _byte, _text, _size, ctypes.POINTER(_size * 16), _told)
 _is_normalized = _call("irikit_is_normalized", _byte, _byte, _text, _size, _told)
 _map_to_uri = _call("irikit_map_to_uri", _text, _size, _text, _size, _told)
+_resolve = _call("irikit_resolve", _byte, _text, _size, _text, _size, _text, _size, _told)
+_normalize = _call("irikit_normalize", _byte, _byte, _text, _size, _text, _size, _told)
 _encode = _call("irikit_encode", _byte, _byte, _text, _size, _text, _size, _told)
 _decode = _call("irikit_decode", _text, _size, _text, _size, _told)
 _mask_password = _call("irikit_mask_password", _byte, _text, _size, _text, _size, _told)
 _remove_fragment = _call("irikit_remove_fragment", _byte, _text, _size, _text, _size, _told)
 _set_fragment = _call("irikit_set_fragment", _byte, _text, _size, _text, _size, _text, _size, _told)
+_run = _call("irikit_run", _text, _size, _text, _size, _text, _size, _told)
 _fault_words = _call("irikit_fault_words", _size, _text, _size, _told)
 _template_fault_words = _call("irikit_template_fault_words", _size, _text, _size, _told)
 _expand = _call("irikit_expand", _byte, _text, _size, ctypes.POINTER(_Variable), _size, _text, _size, _told, _told)
@@ -159,6 +163,17 @@ class Links:
                 raise Refused(status, self._told.value, place.value)
             size = self._told.value
 
+    def resolved(self, reference):
+        """A reference resolved against the base, not in normal form."""
+        base, reference = self.base, _bytes(reference)
+        room = len(base) + len(reference) + 3
+        return _written(room, _resolve, self.grammar, base, len(base), reference, len(reference)).decode()
+
+    def normalized(self, text, mode=NORMAL):
+        """The normal form of a text with a scheme."""
+        text = _bytes(text)
+        return _written(len(text) + 3, _normalize, self.grammar, mode, text, len(text)).decode()
+
     def mask_password(self, text):
         """A reference without its password."""
         text = _bytes(text)
@@ -200,6 +215,18 @@ def map_to_uri(text):
     """A reference of IRIs, mapped to one of URIs."""
     text = _bytes(text)
     return _written(3 * len(text), _map_to_uri, text, len(text)).decode()
+
+
+def run(words, lines, room=None):
+    """The output and the status of the program `irikit` with these words and this input, as bytes; in as much room as is given, or as
+    much as it wants."""
+    words, size, told = _bytes(words), 4 * len(lines) + 65536 if room is None else room, _size()
+    while True:
+        out = ctypes.create_string_buffer(size + 1)
+        status = _run(words, len(words), lines, len(lines), out, size, told)
+        if status != RUN_SHORT or room is not None:
+            return ctypes.string_at(out, told.value), status
+        size *= 4
 
 
 def encode(text, place=IN_SEGMENT, grammar=URI):

@@ -6,6 +6,7 @@ pub mod Lines
 pub mod Numbers
 pub mod Outcome
 pub mod Outcomes
+pub mod Resolutions
 pub mod Slots
 pub mod Templates
 pub mod Variables

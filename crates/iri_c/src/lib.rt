@@ -19,6 +19,7 @@ mod lines;
 mod mapping;
 mod normal;
 mod parts;
+mod resolve;
 mod status;
 mod template;
 mod validation;

@@ -1,10 +1,17 @@
 // What the calls answer: rows of the RFCs, room for each length, and unknown numbers.
 use crate::canonical::irikit_canonical;
+use crate::decoding::irikit_decode;
+use crate::edits::{irikit_mask_password, irikit_remove_fragment, irikit_set_fragment};
+use crate::encoding::irikit_encode;
 use crate::fault::irikit_fault_words;
+use crate::lines::irikit_canonical_lines;
 use crate::mapping::irikit_map_to_uri;
-use crate::normal::irikit_is_normalized;
+use crate::normal::{irikit_is_normalized, irikit_normalize};
 use crate::parts::{AuthoritySlots, Slot, Slots, irikit_split};
+use crate::resolve::irikit_resolve;
+use crate::template::{irikit_expand, irikit_template_fault_words};
 use crate::validation::irikit_validate;
+use crate::variables::{Text, Variable};
 
 const HERE: Slot = Slot { offset: 0, len: 0 };
 
@@ -143,4 +150,92 @@ fn words_of_faults(rt: HostRuntime) {
     assert!(rt; out.starts_with(b"invalid path\0"));
     assert!(rt; irikit_fault_words(10, &mut [], &mut told) == 1 && told == 19);
     assert!(rt; irikit_fault_words(11, &mut out, &mut told) == 6 && told == 0);
+}
+
+#[test]
+fn lines(rt: HostRuntime) {
+    let mut out = [b'.'; 64];
+    let (mut consumed, mut told) = (9, 9);
+    let lines = b"../c\n%\r\nno end";
+    let base = b"http://a/b";
+    let status = irikit_canonical_lines(0, 0, base, lines, &mut out, &mut consumed, &mut told);
+    assert!(rt; status == 0 && consumed == 8 && told == 31);
+    assert!(rt; out.starts_with(b"ok http://a/c\nbad invalid path\n."));
+    let room = &mut out[..30];
+    let status = irikit_canonical_lines(0, 1, base, lines, room, &mut consumed, &mut told);
+    assert!(rt; status == 1 && consumed == 5 && told == 14);
+    let status = irikit_canonical_lines(0, 2, base, lines, &mut out, &mut consumed, &mut told);
+    assert!(rt; status == 6 && consumed == 0 && told == 0);
+}
+
+fn text(bytes: &[u8]) -> Text<'_> {
+    Text { bytes }
+}
+
+// Examples of RFC 6570 section 3.2.
+#[test]
+fn templates(rt: HostRuntime) {
+    let mut out = [b'.'; 64];
+    let (mut told, mut place) = (9, 9);
+    let who = [text(b"fred")];
+    let keys = [text(b"semi"), text(b";"), text(b"dot"), text(b".")];
+    let mut variables = [
+        Variable {
+            name: text(b"who"),
+            kind: 1,
+            values: &who,
+        },
+        Variable {
+            name: text(b"keys"),
+            kind: 3,
+            values: &keys,
+        },
+    ];
+    let status = irikit_expand(
+        0,
+        b"{who}{?keys*}",
+        &variables,
+        &mut out,
+        &mut told,
+        &mut place,
+    );
+    assert!(rt;
+        status == 0 && told == 19 && place == 0 && out.starts_with(b"fred?semi=%3B&dot=..")
+    );
+    let status = irikit_expand(0, b"a{keys:1}", &variables, &mut out, &mut told, &mut place);
+    assert!(rt; status == 3 && told == 5 && place == 2);
+    variables[1].values = &keys[..3];
+    let status = irikit_expand(0, b"", &variables, &mut out, &mut told, &mut place);
+    assert!(rt; status == 7 && told == 0 && place == 1);
+    assert!(rt; irikit_template_fault_words(0, &mut out, &mut told) == 0 && told == 21);
+    assert!(rt; out.starts_with(b"expression not closed"));
+    assert!(rt; irikit_template_fault_words(7, &mut out, &mut told) == 6);
+}
+
+#[test]
+fn encoded_and_decoded(rt: HostRuntime) {
+    let mut out = [b'.'; 64];
+    let mut told = 9;
+    assert!(rt; irikit_encode(0, 2, b"50% off/a", &mut out, &mut told) == 0 && told == 15);
+    assert!(rt; out.starts_with(b"50%25%20off%2Fa."));
+    assert!(rt; irikit_decode(b"50%25%20off%2Fa%4", &mut out, &mut told) == 0 && told == 11);
+    assert!(rt; out.starts_with(b"50% off/a%4"));
+    assert!(rt; irikit_encode(0, 8, b"a", &mut out, &mut told) == 6);
+    assert!(rt; irikit_encode(0, 2, b"\xff", &mut out, &mut told) == 3 && told == 10);
+}
+
+#[test]
+fn edits(rt: HostRuntime) {
+    let mut out = [b'.'; 64];
+    let mut told = 9;
+    assert!(rt; irikit_mask_password(0, b"http://u:pw@h/", &mut out, &mut told) == 0);
+    assert!(rt; out.starts_with(b"http://u:@h/."));
+    assert!(rt; irikit_remove_fragment(0, b"a?b#c", &mut out, &mut told) == 0 && told == 3);
+    assert!(rt; irikit_set_fragment(0, b"a?b#c", b"d", &mut out, &mut told) == 0 && told == 5);
+    assert!(rt; out.starts_with(b"a?b#d"));
+    assert!(rt; irikit_set_fragment(0, b"a", b"#", &mut out, &mut told) == 8 && told == 7);
+    assert!(rt; irikit_resolve(0, b"http://A/b/c", b"../%7e", &mut out, &mut told) == 0);
+    assert!(rt; out.starts_with(b"http://A/%7e"));
+    assert!(rt; irikit_normalize(0, 1, b"HTTP://a:80", &mut out, &mut told) == 0 && told == 9);
+    assert!(rt; out.starts_with(b"http://a/"));
 }

@@ -1,0 +1,48 @@
+// References resolved against a base (RFC 3986 section 5.2), without a normal form.
+ghost use Rattle.iri_c.specs.Outcome.{Answered};
+ghost use Rattle.iri_c.specs.Resolutions.{resolved_in, resolved_outcome};
+
+use crate::buffer::answer_text;
+use crate::fault::{answer, answer_fault};
+use crate::grammar::{IRI, URI};
+use crate::status::{BAD_BASE, BAD_REFERENCE, UNKNOWN};
+use iri_grammar::spec::{IriSpec, Spec, UriSpec};
+use iri_normal::resolver::FixedBaseResolver;
+use iri_types::kind::Reference;
+use iri_types::split::SplitView;
+use iri_types::view::RiAbsoluteStr;
+
+// The resolved text in one grammar.
+fn resolve_in<S: Spec>(base: &[u8], reference: &[u8], out: &mut [u8], told: &mut usize) -> u8
+    ensures { Answered (resolved_in base.now reference.now S.tests) out.old out.new told.new result }
+{
+    let base = match RiAbsoluteStr::<S>::try_from_bytes(base) {
+        Ok(base) => base,
+        Err(error) => return answer_fault(BAD_BASE, error.kind(), told),
+    };
+    match SplitView::<S, Reference>::try_from_bytes(reference) {
+        Ok(reference) => {
+            let resolver = FixedBaseResolver::new(base);
+            answer_text(out, &resolver.resolve_split(&reference), told)
+        }
+        Err(error) => answer_fault(BAD_REFERENCE, error.kind(), told),
+    }
+}
+
+/// A reference resolved against a base.
+#[unsafe(no_mangle)]
+pub extern "C" fn irikit_resolve(
+    grammar: u8,
+    base: &[u8],
+    reference: &[u8],
+    out: &mut [u8],
+    told: &mut usize,
+) -> u8
+    ensures { Answered (resolved_outcome grammar base.now reference.now) out.old out.new told.new result }
+{
+    match grammar {
+        URI => resolve_in::<UriSpec>(base, reference, out, told),
+        IRI => resolve_in::<IriSpec>(base, reference, out, told),
+        _ => answer(UNKNOWN, told),
+    }
+}

@@ -1,0 +1,58 @@
+-- What a run over memory comes to.
+use Rattle.std.specs.Str.{IsUtf8}
+use Rattle.iri_grammar.specs.Pieces.{pieces}
+use Rattle.std.specs.Prelude.{◌≡◌, ◌⊎◌, ℕ, length, List, [], ◌∷◌, Option, Some}
+use Rattle.iri_percent.specs.declared.canon_mode.CanonMode.{CanonMode}
+use Rattle.iri_cli.specs.Gen.{gen_text}
+use Rattle.iri_cli.specs.Notices.{Tells, notice_text}
+use Rattle.iri_cli.specs.Run.{Outside, outside, RunsLines}
+use Rattle.iri_cli.specs.Words.{IsCommand, IsRobots, robots_rules, rules_of, tests_of}
+use Rattle.iri_cli.specs.declared.command.Command.{Command}
+use Rattle.iri_cli.specs.declared.command.Command.TheVariants.{Lines, Robots, Gen, Tell}
+use Rattle.iri_cli.specs.declared.command.Grammar.{Grammar}
+use Rattle.iri_cli.specs.declared.command.LineCommand.{LineCommand}
+use Rattle.iri_cli.specs.declared.notice.Notice.{Notice}
+
+abbrev pub space : ℕ
+space = 32
+
+-- the bytes of the text, and behind them what stood there; what the buffer has no room for is cut off
+unfoldable pub over : List ℕ → List ℕ → List ℕ
+over [] buffer = buffer
+over (x ∷ text) [] = []
+over (x ∷ text) (y ∷ buffer) = x ∷ over text buffer
+
+-- The contract of the program's `run`.
+pub record RunsWords (words : List (List ℕ)) (old new : Outside) (room_old room_new : Option ℕ) (status : ℕ) : Type 0 where
+  pub no_command : ((command : Command) → ¬ (IsCommand words command)) → (status ≡ 2) × (new ≡ old)
+  pub tells : (notice : Notice) → IsCommand words (Tell notice) → Tells (notice_text notice) old new room_old room_new status
+  pub lines : (command : LineCommand) (grammar : Grammar) → IsCommand words (Lines command grammar)
+      → RunsLines (rules_of command (tests_of grammar)) old new room_old room_new status
+  pub robots : (grammar : Grammar) (token : List ℕ) → IsRobots words grammar token
+      → RunsLines (robots_rules (tests_of grammar) token) old new room_old room_new status
+  pub gens : (grammar : Grammar) (count : ℕ) → IsCommand words (Gen grammar count)
+      → Tells (gen_text (tests_of grammar) count) old new room_old room_new status ⊎ ((status ≡ 6) × (new ≡ old))
+
+-- nothing was read or written
+abbrev pub begun : List ℕ → Outside
+begun input = outside (Some input) (Some []) 0 0
+
+-- The output stands over the start of the buffer; a sink with room for as many bytes as the buffer has would have taken it.
+pub record Ran (words : List (List ℕ)) (input old new : List ℕ) (told status : ℕ) : Type 0 where
+  pub end : Outside
+  pub room_left : Option ℕ
+  pub output : List ℕ
+  pub written : end.written ≡ Some output
+  pub runs : RunsWords words (begun input) end (Some (length old)) room_left status
+  pub out : new ≡ over output old
+  pub len : told ≡ length output
+
+-- That, or allocation failed before anything was read.
+abbrev pub Told : List (List ℕ) → List ℕ → List ℕ → List ℕ → ℕ → ℕ → Type 0
+Told words input old new told status = Ran words input old new told status ⊎ ((new ≡ old) × (told ≡ 0) × (status ≡ 6))
+
+-- The words are what stands between the spaces; bytes that aren't UTF-8 are no command.
+abbrev pub RunTold : List ℕ → List ℕ → List ℕ → List ℕ → ℕ → ℕ → Type 0
+RunTold words input old new told status =
+    (IsUtf8 words × Told (pieces space words) input old new told status)
+    ⊎ ((¬ (IsUtf8 words)) × (new ≡ old) × (told ≡ 0) × (status ≡ 2))
