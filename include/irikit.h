@@ -1,23 +1,26 @@
 /* irikit: canonical texts of URI and IRI references (RFC 3986, RFC 3987), by proved code.
  *
- * How texts cross: each text is a pointer and a length in bytes. It needs no NUL at its end, and may have NULs in it (no grammar
- * takes them). A length may be 0, and then its pointer may be NULL. No call writes a NUL.
+ * How texts cross: each text is a pointer and a length in bytes. It needs no NUL at its end, and may have NULs in it (no
+ * grammar takes them). A length may be 0, and then its pointer may be NULL. No call writes a NUL.
  *
  * What the caller owes: each pointer points to as many bytes as its length says; the pointers to what is written besides
- * `out` aren't NULL; no other thread writes to what is passed while the call runs; what is written overlaps with nothing else that is passed.
+ * `out` aren't NULL; no other thread writes to what is passed while the call runs; what is written overlaps with nothing
+ * else that is passed.
  *
- * What each call does: it reads what is passed, writes to `out`, `told` and `parts` alone, takes no memory, keeps nothing, and
- * returns. So calls may run in several threads at once, each with its own `out` and `told`.
+ * What each call does: it reads what is passed, writes to `out` and to what its comment names, takes no memory, keeps
+ * nothing, and returns. (irikit_run takes memory, and gives all of it back.) So calls may run in several threads at once,
+ * each with its own `out` and `told`.
  *
- * Statuses: each function returns one of irikit_status, and always writes `told`:
+ * Statuses: each call but irikit_run returns one of irikit_status, and always writes `told`:
  *
  *   IRIKIT_OK, IRIKIT_SHORT   where a text is written: its length in bytes. Otherwise 0
- *   IRIKIT_BAD_..             the kind of the first fault from the left, one of irikit_fault
+ *   IRIKIT_BAD_..             the kind of the first fault from the left, one of irikit_fault; of IRIKIT_BAD_VARIABLE 0
  *   IRIKIT_NOT_NORMAL, IRIKIT_UNKNOWN   0
  *
- * A text that is written stands at the start of `out`, and what lies behind it stays as it was. Where it is longer than `size`,
- * `out` holds its first `size` bytes, the status is IRIKIT_SHORT, and `told` is the size that is wanted: so a call with size 0
- * measures. At every other status `out` stays as it was.
+ * A text that is written stands at the start of `out`, and what lies behind it stays as it was. Where it is longer than
+ * `size`, `out` holds its first `size` bytes, the status is IRIKIT_SHORT, and `told` is the size that is wanted: so a call
+ * with size 0 measures. At every other status `out` stays as it was. Of many lines and of a run what is told is in their
+ * comments.
  */
 #ifndef IRIKIT_H
 #define IRIKIT_H
@@ -99,8 +102,8 @@ struct irikit_slot {
     size_t len;
 };
 
-/* Where the parts of a reference stand, without the delimiters around them, and where those of its authority do. The path always
- * stands; the host stands where the authority does. */
+/* Where the parts of a reference stand, without the delimiters around them, and where those of its authority do. The path
+ * always stands; the host stands where the authority does. */
 struct irikit_parts {
     struct irikit_slot scheme;
     struct irikit_slot authority;
@@ -116,7 +119,8 @@ struct irikit_parts {
 
 /* The canonical text of a reference: resolved against the base (RFC 3986 section 5.2), in normal form.
  *
- * Takes: the number of a grammar and of a mode; the base, an absolute-URI of the grammar; the reference, which may be a URI; a buffer.
+ * Takes: the number of a grammar and of a mode; the base, an absolute-URI of the grammar; the reference, which may be a URI;
+ * a buffer.
  * Writes: the canonical text to `out`. It has at most base_len + reference_len + 3 bytes.
  * Returns: IRIKIT_OK; IRIKIT_SHORT; IRIKIT_BAD_BASE, IRIKIT_BAD_REFERENCE: the first fault of the one or the other, the base
  * first; IRIKIT_UNKNOWN: grammar or mode. */
@@ -142,7 +146,8 @@ uint8_t irikit_split(uint8_t grammar, const char *text, size_t len, struct iriki
  * Returns: IRIKIT_OK: it is; IRIKIT_NOT_NORMAL: it isn't; IRIKIT_BAD_TEXT: it is no URI; IRIKIT_UNKNOWN: grammar or mode. */
 uint8_t irikit_is_normalized(uint8_t grammar, uint8_t mode, const char *text, size_t len, size_t *told);
 
-/* A reference of IRIs, mapped to one of URIs (RFC 3987 section 3.1): each character past ASCII becomes the triplets of its UTF-8.
+/* A reference of IRIs, mapped to one of URIs (RFC 3987 section 3.1): each character past ASCII becomes the triplets of its
+ * UTF-8.
  *
  * Takes: the text, a URI-reference of IRIs; a buffer.
  * Writes: the mapped text to `out`. It has at most 3 * len bytes.
@@ -164,8 +169,8 @@ uint8_t irikit_fault_words(size_t fault, char *out, size_t size, size_t *told);
  * first; IRIKIT_UNKNOWN: grammar.
  *
  *   irikit_resolve(IRIKIT_URI, "http://A/b/c", 12, "../%7e", 6, out, sizeof out, &told);  // "http://A/%7e" */
-uint8_t irikit_resolve(uint8_t grammar, const char *base, size_t base_len, const char *reference, size_t reference_len, char *out,
-                       size_t size, size_t *told);
+uint8_t irikit_resolve(uint8_t grammar, const char *base, size_t base_len, const char *reference, size_t reference_len,
+                       char *out, size_t size, size_t *told);
 
 /* The normal form of a text with a scheme (RFC 3986 section 6.2.2; by scheme rules section 6.2.3).
  *
@@ -176,8 +181,8 @@ uint8_t irikit_resolve(uint8_t grammar, const char *base, size_t base_len, const
  *   irikit_normalize(IRIKIT_URI, IRIKIT_BY_SCHEME, "HTTP://a:80", 11, out, sizeof out, &told);  // "http://a/" */
 uint8_t irikit_normalize(uint8_t grammar, uint8_t mode, const char *text, size_t len, char *out, size_t size, size_t *told);
 
-/* A raw text, percent-encoded for its place in a reference (RFC 3986 sections 2.1 and 2.4): what may not stand there, `%` among it,
- * becomes the triplets of its UTF-8.
+/* A raw text, percent-encoded for its place in a reference (RFC 3986 sections 2.1 and 2.4): what may not stand there, `%`
+ * among it, becomes the triplets of its UTF-8.
  *
  * Takes: the number of a grammar and of a place; the text, in UTF-8; a buffer.
  * Writes: the encoded text to `out`. It has at most 3 * len bytes.
@@ -186,8 +191,8 @@ uint8_t irikit_normalize(uint8_t grammar, uint8_t mode, const char *text, size_t
  *   irikit_encode(IRIKIT_URI, IRIKIT_IN_SEGMENT, "50% off/a", 9, out, sizeof out, &told);  // "50%25%20off%2Fa" */
 uint8_t irikit_encode(uint8_t grammar, uint8_t place, const char *text, size_t len, char *out, size_t size, size_t *told);
 
-/* The bytes that a text decodes to (the URL Standard, section 1.3): each triplet gives its octet, and all else, a `%` that begins
- * none among it, stays. They needn't be UTF-8.
+/* The bytes that a text decodes to (the URL Standard, section 1.3): each triplet gives its octet, and all else, a `%` that
+ * begins none among it, stays. They needn't be UTF-8.
  *
  * Takes: any bytes; a buffer.
  * Writes: the decoded bytes to `out`. They are at most `len`.
@@ -207,6 +212,18 @@ uint8_t irikit_decode(const char *text, size_t len, char *out, size_t size, size
  *   irikit_mask_password(IRIKIT_URI, "http://u:pw@h/", 14, out, sizeof out, &told);  // "http://u:@h/" */
 uint8_t irikit_mask_password(uint8_t grammar, const char *text, size_t len, char *out, size_t size, size_t *told);
 
+/* A reference with another text in place of its password; one without a colon in its userinfo stays as it is. The new text
+ * is written as it stands, so the whole is a reference again only where it may stand in a userinfo (IRIKIT_IN_USER encodes
+ * it so).
+ *
+ * Takes: the number of a grammar; the text, a URI-reference of the grammar; the new password, in UTF-8; a buffer.
+ * Writes: the text to `out`. It has at most len + password_len bytes.
+ * Returns: IRIKIT_OK; IRIKIT_SHORT; IRIKIT_BAD_TEXT; IRIKIT_BAD_PART: the password isn't UTF-8; IRIKIT_UNKNOWN: grammar.
+ *
+ *   irikit_replace_password(IRIKIT_URI, "http://u:pw@h/", 14, "***", 3, out, sizeof out, &told);  // "http://u:***@h/" */
+uint8_t irikit_replace_password(uint8_t grammar, const char *text, size_t len, const char *password, size_t password_len,
+                                char *out, size_t size, size_t *told);
+
 /* A reference without its fragment and the `#` before it (RFC 3986 section 3.5).
  *
  * Takes: the number of a grammar; the text, a URI-reference of the grammar; a buffer.
@@ -223,8 +240,8 @@ uint8_t irikit_remove_fragment(uint8_t grammar, const char *text, size_t len, ch
  * Returns: IRIKIT_OK; IRIKIT_SHORT; IRIKIT_BAD_TEXT; IRIKIT_BAD_PART: the fragment's first fault; IRIKIT_UNKNOWN: grammar.
  *
  *   irikit_set_fragment(IRIKIT_URI, "a?b#c", 5, "d", 1, out, sizeof out, &told);  // "a?b#d" */
-uint8_t irikit_set_fragment(uint8_t grammar, const char *text, size_t len, const char *fragment, size_t fragment_len, char *out,
-                            size_t size, size_t *told);
+uint8_t irikit_set_fragment(uint8_t grammar, const char *text, size_t len, const char *fragment, size_t fragment_len,
+                            char *out, size_t size, size_t *told);
 
 /* ---- Templates ---- */
 
@@ -266,7 +283,8 @@ enum irikit_template_fault {
  * Takes: the number of a grammar; the template; variables; a buffer.
  * Writes: the expansion to `out`; `*place`, which is 0 at every status but the two below.
  * Returns: IRIKIT_OK; IRIKIT_SHORT; IRIKIT_BAD_VARIABLE: `*place` is the index of the first such variable; IRIKIT_BAD_TEXT:
- * `*told` is the template's first fault, one of irikit_template_fault, and `*place` its place in bytes; IRIKIT_UNKNOWN: grammar.
+ * `*told` is the template's first fault, one of irikit_template_fault, and `*place` its place in bytes; IRIKIT_UNKNOWN:
+ * grammar.
  *
  *   struct irikit_text word = {"two words", 9};
  *   struct irikit_variable q = {{"q", 1}, IRIKIT_STRING, &word, 1};
@@ -290,9 +308,9 @@ uint8_t irikit_template_fault_words(size_t fault, char *out, size_t size, size_t
  *
  * Takes: the number of a grammar and of a mode; the base, an absolute-URI of the grammar; lines, each ended by an LF. One CR
  * before the LF isn't part of the reference; what follows the last LF is left alone. A buffer.
- * Writes: to `out`, the answers one after the other, each `ok TEXT` or `bad WORDS` and an LF, as far as there is room; to `*told`,
- * how many bytes the answers have that stand there whole; to `*consumed`, how many bytes of `lines` these answer, LFs among them.
- * So the next call goes on with `lines + *consumed`.
+ * Writes: to `out`, the answers one after the other, each `ok TEXT` or `bad WORDS` and an LF, as far as there is room; to
+ * `*told`, how many bytes the answers have that stand there whole; to `*consumed`, how many bytes of `lines` these answer,
+ * LFs among them. So the next call goes on with `lines + *consumed`.
  * Returns: IRIKIT_OK: all lines are answered; IRIKIT_SHORT: the next answer has no room (one has at most the line's length +
  * base_len + 7 bytes, or 64); IRIKIT_BAD_BASE: `*told` is its first fault; IRIKIT_UNKNOWN: grammar or mode. At the last two
  * `*consumed` is 0.
@@ -316,15 +334,16 @@ enum irikit_run_status {
     IRIKIT_RUN_LONG_INPUT = 8     /* the input has more than 1,073,741,824 bytes */
 };
 
-/* What the program `irikit` does with words and an input: canon, expand, register, links, docs, robots, gen, --help, --version. It is
- * the one call that takes memory, and it has given all of it back when it returns.
+/* What the program `irikit` does with words and an input: canon, expand, register, links, docs, robots, gen, --help,
+ * --version. It is the one call that takes memory, and it has given all of it back when it returns.
  *
  * Takes: the words with one space between each two; the input; a buffer.
  * Writes: the output over the start of `out`; its length to `*told`, whatever the status is.
  * Returns: one of irikit_run_status, which are the program's.
  *
  *   irikit_run("canon uri", 9, "http://a/b\n../c\n", 16, out, sizeof out, &told);  // "ok http://a/c\n" */
-uint8_t irikit_run(const char *words, size_t words_len, const char *input, size_t input_len, char *out, size_t size, size_t *told);
+uint8_t irikit_run(const char *words, size_t words_len, const char *input, size_t input_len, char *out, size_t size,
+                   size_t *told);
 
 #ifdef __cplusplus
 }

@@ -1,5 +1,5 @@
-/* check ROWS: the rows of a file of grammars, bases, references and answers; a buffer of each size; empty and NULL pieces; eight
- * threads. Names each row that fails. */
+/* check ROWS: the rows of a file of grammars, bases, references and answers; a buffer of each size; empty and NULL
+ * pieces; eight threads. Names each row that fails. */
 #define _GNU_SOURCE
 #include "check.h"
 #include <pthread.h>
@@ -90,12 +90,16 @@ static size_t check_empty(void) {
     size_t failed = 0, told = 9;
     char out[16];
     struct irikit_parts parts;
-    failed += wrong(irikit_canonical(0, 0, "a:", 2, NULL, 0, out, sizeof out, &told) == IRIKIT_OK && told == 2, "NULL as a reference");
-    failed += wrong(irikit_canonical(0, 0, "a:", 2, "", 0, NULL, 0, &told) == IRIKIT_SHORT && told == 2, "NULL as a buffer");
+    failed += wrong(irikit_canonical(0, 0, "a:", 2, NULL, 0, out, sizeof out, &told) == IRIKIT_OK && told == 2,
+                        "NULL as a reference");
+    failed += wrong(irikit_canonical(0, 0, "a:", 2, "", 0, NULL, 0, &told) == IRIKIT_SHORT && told == 2,
+                        "NULL as a buffer");
     failed += wrong(irikit_canonical(0, 0, NULL, 0, "", 0, out, sizeof out, &told) == IRIKIT_BAD_BASE
                         && told == IRIKIT_UNEXPECTED_RELATIVE, "NULL as a base");
-    failed += wrong(irikit_canonical(0, 2, "a:", 2, "", 0, out, sizeof out, &told) == IRIKIT_UNKNOWN && told == 0, "a mode that is none");
-    failed += wrong(irikit_canonical(0, IRIKIT_BY_SCHEME, "ws://a:80", 9, "", 0, out, sizeof out, &told) == IRIKIT_OK && told == 7
+    failed += wrong(irikit_canonical(0, 2, "a:", 2, "", 0, out, sizeof out, &told) == IRIKIT_UNKNOWN && told == 0,
+                        "a mode that is none");
+    failed += wrong(irikit_canonical(0, IRIKIT_BY_SCHEME, "ws://a:80", 9,
+                        "", 0, out, sizeof out, &told) == IRIKIT_OK && told == 7
                         && !memcmp(out, "ws://a/", 7), "a default port");
     failed += wrong(irikit_validate(1, IRIKIT_REFERENCE, NULL, 0, &told) == IRIKIT_OK && told == 0, "NULL is a reference");
     failed += wrong(irikit_validate(1, IRIKIT_WITH_SCHEME, "", 0, &told) == IRIKIT_BAD_TEXT, "an empty text is no URI");
@@ -103,7 +107,8 @@ static size_t check_empty(void) {
     failed += wrong(irikit_map_to_uri(NULL, 0, NULL, 0, &told) == IRIKIT_OK && told == 0, "NULL is mapped to nothing");
     failed += wrong(irikit_fault_words(11, out, sizeof out, &told) == IRIKIT_UNKNOWN && told == 0, "a fault that is none");
     failed += wrong(irikit_split(0, NULL, 0, &parts, &told) == IRIKIT_OK && parts.path.offset == 0 && parts.path.len == 0
-                        && parts.scheme.offset == IRIKIT_NOWHERE && parts.host.offset == IRIKIT_NOWHERE, "the parts of NULL");
+                        && parts.scheme.offset == IRIKIT_NOWHERE && parts.host.offset == IRIKIT_NOWHERE,
+                                            "the parts of NULL");
     return failed;
 }
 
@@ -116,7 +121,8 @@ static size_t check_parts(void) {
     failed += wrong(irikit_split(IRIKIT_URI, text, strlen(text), &parts, &told) == IRIKIT_OK, "the status of a split");
     const struct irikit_slot *slot = &parts.scheme;
     for (int i = 0; i < 8; i++)
-        failed += wrong(slot[i].len == strlen(wanted[i]) && !memcmp(text + slot[i].offset, wanted[i], slot[i].len), wanted[i]);
+        failed += wrong(slot[i].len == strlen(wanted[i]) && !memcmp(text + slot[i].offset, wanted[i], slot[i].len),
+                            wanted[i]);
     return failed;
 }
 

@@ -11,8 +11,8 @@ static inline size_t wrong(int holds, const char *what) {
     return !holds;
 }
 
-/* Whether a buffer of this size in which `told` bytes of a text of this length were to stand has its first bytes, and behind them
- * dots as before. */
+/* Whether a buffer of this size in which `told` bytes of a text of this length were to stand has its first bytes, and
+ * behind them dots as before. */
 static inline int is_over(const char *out, size_t size, const char *text, size_t len, size_t room) {
     size_t front = size < len ? size : len;
     if (memcmp(out, text, front))

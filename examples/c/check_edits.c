@@ -1,8 +1,8 @@
-/* check_edits: resolution, normal forms, encoding, decoding and edits, each in buffers of each size; what is refused; numbers that stand for nothing; pieces that
- * are NULL. Names each that fails. */
+/* check_edits: resolution, normal forms, encoding, decoding and edits, each in buffers of each size; what is refused;
+ * numbers that stand for nothing; pieces that are NULL. Names each that fails. */
 #include "check.h"
 
-enum call { RESOLVE, NORMALIZE, ENCODE, DECODE, MASK, REMOVE_FRAGMENT, SET_FRAGMENT };
+enum call { RESOLVE, NORMALIZE, ENCODE, DECODE, MASK, REPLACE_PASSWORD, REMOVE_FRAGMENT, SET_FRAGMENT };
 
 /* A call with its numbers and texts, and what it answers: a text, or a status and what is told. */
 struct row {
@@ -53,6 +53,12 @@ static const struct row rows[] = {
     {MASK, 1, 0, "//\xc3\xa9:\xc3\xa9@h", NULL, "//\xc3\xa9:@h", 0, 0},
     {MASK, 0, 0, "//\xc3\xa9:p@h", NULL, NULL, IRIKIT_BAD_TEXT, IRIKIT_INVALID_USERINFO},
     {MASK, 2, 0, "", NULL, NULL, IRIKIT_UNKNOWN, 0},
+    {REPLACE_PASSWORD, 0, 0, "ftp://u:p:w@h:2/a#f", "***", "ftp://u:***@h:2/a#f", 0, 0},
+    {REPLACE_PASSWORD, 0, 0, "//u@h/a:b@c", "***", "//u@h/a:b@c", 0, 0},
+    {REPLACE_PASSWORD, 1, 0, "//:@h", "\xc3\xa9", "//:\xc3\xa9@h", 0, 0},
+    {REPLACE_PASSWORD, 0, 0, "//u:p@h", "\xc3", NULL, IRIKIT_BAD_PART, IRIKIT_INVALID_UTF8},
+    {REPLACE_PASSWORD, 0, 0, "%", "\xc3", NULL, IRIKIT_BAD_TEXT, IRIKIT_INVALID_PATH},
+    {REPLACE_PASSWORD, 2, 0, "", "", NULL, IRIKIT_UNKNOWN, 0},
     /* RFC 3986 section 3.5. */
     {REMOVE_FRAGMENT, 0, 0, "foo://h/p?q#f", NULL, "foo://h/p?q", 0, 0},
     {REMOVE_FRAGMENT, 0, 0, "a#", NULL, "a", 0, 0},
@@ -77,6 +83,8 @@ static uint8_t call(const struct row *row, char *out, size_t size, size_t *told)
     case ENCODE: return irikit_encode(row->grammar, row->place, row->text, len, out, size, told);
     case DECODE: return irikit_decode(row->text, len, out, size, told);
     case MASK: return irikit_mask_password(row->grammar, row->text, len, out, size, told);
+    case REPLACE_PASSWORD:
+        return irikit_replace_password(row->grammar, row->text, len, row->part, strlen(row->part), out, size, told);
     case REMOVE_FRAGMENT: return irikit_remove_fragment(row->grammar, row->text, len, out, size, told);
     default: return irikit_set_fragment(row->grammar, row->text, len, row->part, strlen(row->part), out, size, told);
     }
@@ -103,8 +111,11 @@ static size_t check_null(void) {
     failed += wrong(irikit_encode(0, 0, NULL, 0, NULL, 0, &told) == IRIKIT_OK && !told, "NULL to encode");
     failed += wrong(irikit_decode(NULL, 0, NULL, 0, &told) == IRIKIT_OK && !told, "NULL to decode");
     failed += wrong(irikit_mask_password(0, NULL, 0, NULL, 0, &told) == IRIKIT_OK && !told, "NULL to mask");
+    failed += wrong(irikit_replace_password(0, NULL, 0, NULL, 0, NULL, 0, &told) == IRIKIT_OK && !told,
+                        "NULL as a password");
     failed += wrong(irikit_remove_fragment(0, NULL, 0, NULL, 0, &told) == IRIKIT_OK && !told, "NULL without a fragment");
-    failed += wrong(irikit_set_fragment(0, NULL, 0, NULL, 0, NULL, 0, &told) == IRIKIT_SHORT && told == 1, "NULL as a fragment");
+    failed += wrong(irikit_set_fragment(0, NULL, 0, NULL, 0, NULL, 0, &told) == IRIKIT_SHORT && told == 1,
+                        "NULL as a fragment");
     return failed;
 }
 

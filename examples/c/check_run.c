@@ -1,4 +1,5 @@
-/* check_run: the program's run over memory, in buffers of each size, and words that are no command. Names each that fails. */
+/* check_run: the program's run over memory, in buffers of each size, and words that are no command. Names each that
+ * fails. */
 #include "check.h"
 
 static const char *input = "http://a/b\n../c\n%\n\n", *output = "ok http://a/c\nbad invalid path\nok http://a/b\n";
@@ -12,7 +13,8 @@ static size_t check_sizes(void) {
         memset(out, '.', sizeof out);
         uint8_t status = irikit_run("canon uri", 9, input, strlen(input), out, size, &told);
         failed += wrong(status == (size < len ? IRIKIT_RUN_SHORT : IRIKIT_RUN_BAD_ANSWER), "the status of a size");
-        failed += wrong(told <= size && (size < len || told == len) && is_over(out, told, output, len, sizeof out), "the output");
+        failed += wrong(told <= size && (size < len || told == len) && is_over(out, told, output, len, sizeof out),
+                            "the output");
     }
     return failed;
 }
@@ -29,10 +31,12 @@ int main(void) {
     size_t failed = check_sizes(), told = 99;
     failed += check_words("", "", IRIKIT_RUN_NO_COMMAND, "") + check_words("canon  uri", "a:\n", IRIKIT_RUN_NO_COMMAND, "");
     failed += check_words("canon \xff", "a:\n", IRIKIT_RUN_NO_COMMAND, "");
-    failed += check_words("canon uri", "a\n", IRIKIT_RUN_BAD_BASE, "base expected an absolute IRI but got a relative IRI\n");
+    failed += check_words("canon uri", "a\n", IRIKIT_RUN_BAD_BASE,
+                        "base expected an absolute IRI but got a relative IRI\n");
     failed += check_words("canon iri", "a:\n\xc3\xa9\n", IRIKIT_RUN_OK, "ok a:\xc3\xa9\n");
     failed += check_words("canon uri scheme", "http://a:80\n\n", IRIKIT_RUN_OK, "ok http://a/\n");
-    failed += check_words("expand uri", "http://a/\ns q two words\nt s{?q}\n", IRIKIT_RUN_OK, "ok http://a/s?q=two%20words\n");
+    failed += check_words("expand uri", "http://a/\ns q two words\nt s{?q}\n", IRIKIT_RUN_OK,
+                        "ok http://a/s?q=two%20words\n");
     failed += wrong(irikit_run(NULL, 0, NULL, 0, NULL, 0, &told) == IRIKIT_RUN_NO_COMMAND && !told, "NULL");
     failed += wrong(irikit_run("canon uri", 9, NULL, 0, NULL, 0, &told) != IRIKIT_RUN_OK && !told, "NULL as an input");
     printf("C: runs, %zu failed\n", failed);

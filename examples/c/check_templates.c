@@ -1,5 +1,5 @@
-/* check_templates ROWS: the examples of RFC 6570, each in a buffer of each size; faults and their places; variables that aren't as their
- * kind asks; pieces that are empty; the layout of the structs. Names each that fails. */
+/* check_templates ROWS: the examples of RFC 6570, each in a buffer of each size; faults and their places; variables that
+ * aren't as their kind asks; pieces that are empty; the layout of the structs. Names each that fails. */
 #define _GNU_SOURCE
 #include "check.h"
 
@@ -61,7 +61,8 @@ static size_t check_refused(const char *template_text, size_t fault, size_t want
     size_t told = 9, place = 9;
     memset(out, '.', sizeof out);
     uint8_t status = expand(template_text, out, sizeof out, &told, &place);
-    return wrong(status == IRIKIT_BAD_TEXT && told == fault && place == wanted && is_over(out, 0, "", 0, sizeof out), template_text);
+    return wrong(status == IRIKIT_BAD_TEXT && told == fault && place == wanted && is_over(out, 0,
+                        "", 0, sizeof out), template_text);
 }
 
 /* One variable that isn't as its kind asks, behind one that is. */
@@ -79,16 +80,23 @@ static size_t check_variable(struct irikit_variable second, uint8_t status, cons
 static size_t check_variables(void) {
     const struct irikit_text nothing = {NULL, 0}, no_utf8 = {"\xff", 1}, both[] = {TEXT("a"), {"\xc3", 1}};
     size_t failed = 0;
-    failed += check_variable((struct irikit_variable){{NULL, 0}, IRIKIT_UNDEFINED, NULL, 0}, IRIKIT_OK, "a name that is NULL");
-    failed += check_variable((struct irikit_variable){TEXT("w"), IRIKIT_STRING, &nothing, 1}, IRIKIT_OK, "a text that is NULL");
+    failed += check_variable((struct irikit_variable){{NULL, 0}, IRIKIT_UNDEFINED, NULL, 0}, IRIKIT_OK,
+                        "a name that is NULL");
+    failed += check_variable((struct irikit_variable){TEXT("w"), IRIKIT_STRING, &nothing, 1}, IRIKIT_OK,
+                        "a text that is NULL");
     failed += check_variable((struct irikit_variable){TEXT("w"), IRIKIT_LIST, NULL, 0}, IRIKIT_OK, "a list that is NULL");
     failed += check_variable((struct irikit_variable)STRING("v", "7"), IRIKIT_OK, "a second variable of a name");
-    failed += check_variable((struct irikit_variable){TEXT("w"), IRIKIT_UNDEFINED, both, 1}, IRIKIT_BAD_VARIABLE, "a text too many");
-    failed += check_variable((struct irikit_variable){TEXT("w"), IRIKIT_STRING, NULL, 0}, IRIKIT_BAD_VARIABLE, "a string of none");
-    failed += check_variable((struct irikit_variable){TEXT("w"), IRIKIT_PAIRS, both, 1}, IRIKIT_BAD_VARIABLE, "half a pair");
+    failed += check_variable((struct irikit_variable){TEXT("w"), IRIKIT_UNDEFINED, both, 1}, IRIKIT_BAD_VARIABLE,
+                        "a text too many");
+    failed += check_variable((struct irikit_variable){TEXT("w"), IRIKIT_STRING, NULL, 0}, IRIKIT_BAD_VARIABLE,
+                        "a string of none");
+    failed += check_variable((struct irikit_variable){TEXT("w"), IRIKIT_PAIRS, both, 1}, IRIKIT_BAD_VARIABLE,
+                        "half a pair");
     failed += check_variable((struct irikit_variable){TEXT("w"), 4, NULL, 0}, IRIKIT_BAD_VARIABLE, "a kind that is none");
-    failed += check_variable((struct irikit_variable){TEXT("w"), IRIKIT_STRING, &no_utf8, 1}, IRIKIT_BAD_VARIABLE, "no UTF-8");
-    failed += check_variable((struct irikit_variable){TEXT("w"), IRIKIT_LIST, both, 2}, IRIKIT_BAD_VARIABLE, "an item of no UTF-8");
+    failed += check_variable((struct irikit_variable){TEXT("w"), IRIKIT_STRING, &no_utf8, 1}, IRIKIT_BAD_VARIABLE,
+                        "no UTF-8");
+    failed += check_variable((struct irikit_variable){TEXT("w"), IRIKIT_LIST, both, 2}, IRIKIT_BAD_VARIABLE,
+                        "an item of no UTF-8");
     return failed;
 }
 
@@ -97,12 +105,16 @@ static size_t check_others(void) {
     const struct irikit_variable empty = {TEXT("e"), IRIKIT_STRING, &word, 1};
     char out[8];
     size_t failed = 0, told = 9, place = 9;
-    failed += wrong(irikit_expand(2, "", 0, NULL, 0, out, 8, &told, &place) == IRIKIT_UNKNOWN && !told && !place, "a grammar that is none");
-    failed += wrong(irikit_expand(0, NULL, 0, NULL, 0, NULL, 0, &told, &place) == IRIKIT_OK && !told && !place, "NULL as a template");
+    failed += wrong(irikit_expand(2, "", 0, NULL, 0, out, 8, &told, &place) == IRIKIT_UNKNOWN && !told && !place,
+                        "a grammar that is none");
+    failed += wrong(irikit_expand(0, NULL, 0, NULL, 0, NULL, 0, &told, &place) == IRIKIT_OK && !told && !place,
+                        "NULL as a template");
     failed += wrong(irikit_expand(0, "{e}a{?e}", 8, &empty, 1, out, 8, &told, &place) == IRIKIT_OK && told == 4
                         && !memcmp(out, "a?e=", 4), "a value that is NULL");
-    failed += wrong(irikit_expand(1, "\xc3\xa9", 2, NULL, 0, out, 8, &told, &place) == IRIKIT_OK && told == 2, "an IRI's literal");
-    failed += wrong(irikit_expand(0, "\xc3\xa9", 2, NULL, 0, out, 8, &told, &place) == IRIKIT_OK && told == 6, "a URI's literal");
+    failed += wrong(irikit_expand(1, "\xc3\xa9", 2, NULL, 0, out, 8, &told, &place) == IRIKIT_OK && told == 2,
+                        "an IRI's literal");
+    failed += wrong(irikit_expand(0, "\xc3\xa9", 2, NULL, 0, out, 8, &told, &place) == IRIKIT_OK && told == 6,
+                        "a URI's literal");
     failed += wrong(sizeof(struct irikit_text) == 2 * sizeof(size_t) && sizeof(struct irikit_variable) == 5 * sizeof(size_t)
                         && offsetof(struct irikit_variable, kind) == 2 * sizeof(size_t)
                         && offsetof(struct irikit_variable, values) == 3 * sizeof(size_t), "the layout of the structs");
@@ -115,8 +127,10 @@ int main(int argc, char **argv) {
         return 2;
     failed += check_rows(argv[1], &rows) + check_variables() + check_others();
     failed += check_refused("ab{", IRIKIT_EXPRESSION_NOT_CLOSED, 2) + check_refused("a}", IRIKIT_INVALID_CHARACTER, 1);
-    failed += check_refused("\xff", IRIKIT_TEMPLATE_INVALID_UTF8, 0) + check_refused("{=v}", IRIKIT_UNSUPPORTED_OPERATOR, 1);
-    failed += check_refused("a%4", IRIKIT_INVALID_PERCENT_ENCODING, 1) + check_refused("a{list:1}", IRIKIT_UNEXPECTED_VALUE_TYPE, 2);
+    failed += check_refused("\xff", IRIKIT_TEMPLATE_INVALID_UTF8, 0) + check_refused("{=v}", IRIKIT_UNSUPPORTED_OPERATOR,
+                        1);
+    failed += check_refused("a%4", IRIKIT_INVALID_PERCENT_ENCODING, 1) + check_refused("a{list:1}",
+                        IRIKIT_UNEXPECTED_VALUE_TYPE, 2);
     printf("C: %zu templates, %zu failed\n", rows, failed);
     return failed || !rows;
 }

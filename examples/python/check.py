@@ -1,5 +1,5 @@
-"""check.py: the rows of examples/rows.txt one by one and in one call, the templates of examples/expansions.txt, a buffer of each size,
-empty texts, parts and eight threads. Names each row that fails."""
+"""check.py: the rows of examples/rows.txt one by one and in one call, the templates of examples/expansions.txt, edits, runs, a
+buffer of each size, empty texts, parts and eight threads. Names each row that fails."""
 import ctypes
 import pathlib
 import sys
@@ -80,6 +80,7 @@ def check_texts():
     same("a normal form", "http://a:80", links.normalized("HTTP://a:80"))
     same("a normal form by scheme rules", "http://a/", links.normalized("HTTP://a:80", irikit.BY_SCHEME))
     same("a masked text", "http://u:@h/", links.mask_password("http://u:pw@h/"))
+    same("another password", "http://u:***@h/", links.with_password("http://u:pw@h/", "***"))
     same("another fragment", "a?b#d", links.with_fragment("a?b#c", "d"))
     same("no fragment", "a?b", links.with_fragment("a?b#c", None))
     same("a fragment that is none", (8, 7, "invalid fragment"), refusal(links.with_fragment, "a", "#"))

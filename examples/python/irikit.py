@@ -51,6 +51,7 @@ _normalize = _call("irikit_normalize", _byte, _byte, _text, _size, _text, _size,
 _encode = _call("irikit_encode", _byte, _byte, _text, _size, _text, _size, _told)
 _decode = _call("irikit_decode", _text, _size, _text, _size, _told)
 _mask_password = _call("irikit_mask_password", _byte, _text, _size, _text, _size, _told)
+_replace_password = _call("irikit_replace_password", _byte, _text, _size, _text, _size, _text, _size, _told)
 _remove_fragment = _call("irikit_remove_fragment", _byte, _text, _size, _text, _size, _told)
 _set_fragment = _call("irikit_set_fragment", _byte, _text, _size, _text, _size, _text, _size, _told)
 _run = _call("irikit_run", _text, _size, _text, _size, _text, _size, _told)
@@ -60,8 +61,8 @@ _expand = _call("irikit_expand", _byte, _text, _size, ctypes.POINTER(_Variable),
 
 
 class Refused(ValueError):
-    """A text is refused: `status` says which one, `fault` is the kind of its first fault, and the words name that. `place` is the
-    place of a template's fault in bytes, or the index of a variable."""
+    """A text is refused: `status` says which one, `fault` is the kind of its first fault, and the words name that. `place` is
+    the place of a template's fault in bytes, or the index of a variable."""
 
     def __init__(self, status, fault, place=None):
         super().__init__(_words(status, fault, place))
@@ -123,7 +124,7 @@ class Links:
         return self.canonical_bytes(_bytes(reference), mode).decode()
 
     def answers(self, lines, mode=NORMAL):
-        """The answers to lines, each ended by an LF, as bytes: `ok TEXT` or `bad WORDS` for each, in as few calls as there is room."""
+        """The answers to lines, each ended by an LF, as bytes: `ok TEXT` or `bad WORDS` for each."""
         base, at, end, used = self.base, 0, len(lines), _size()
         room = min(end + lines.count(b"\n") * (len(base) + 64), 1 << 20) + len(base) + end
         out, pieces, status = ctypes.create_string_buffer(room), [], SHORT
@@ -179,6 +180,12 @@ class Links:
         text = _bytes(text)
         return _written(len(text), _mask_password, self.grammar, text, len(text)).decode()
 
+    def with_password(self, text, password):
+        """A reference with another text in place of its password."""
+        text, password = _bytes(text), _bytes(password)
+        room = len(text) + len(password)
+        return _written(room, _replace_password, self.grammar, text, len(text), password, len(password)).decode()
+
     def with_fragment(self, text, fragment):
         """A reference with another fragment, or with none where that is None."""
         text = _bytes(text)
@@ -218,8 +225,8 @@ def map_to_uri(text):
 
 
 def run(words, lines, room=None):
-    """The output and the status of the program `irikit` with these words and this input, as bytes; in as much room as is given, or as
-    much as it wants."""
+    """The output, as bytes, and the status of the program `irikit` with these words and this input; in as much room as is
+    given, or as much as it wants."""
     words, size, told = _bytes(words), 4 * len(lines) + 65536 if room is None else room, _size()
     while True:
         out = ctypes.create_string_buffer(size + 1)

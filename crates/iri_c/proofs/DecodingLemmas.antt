@@ -1,5 +1,5 @@
 -- A decoding has at most as many bytes as its text, and is written fragment by fragment.
-use Rattle.std.proofs.Common.{◌≡◌, ◌≤◌, ◌+◌, ℕ, List, [], ◌∷◌, ◌++◌, length, true, false, cond, refl, ap, sym, ◌∙◌, arith, length-append}
+use Rattle.std.proofs.Common.{◌≡◌, ◌≤◌, ◌+◌, ℕ, List, [], ◌∷◌, length, true, false, cond, refl, ap, sym, ◌∙◌, arith, length-append}
 use Rattle.std.specs.List.{flat_map}
 use Rattle.iri_percent.specs.Decoding.{decoding, Fragment, fragments, fragment_bytes}
 use Rattle.iri_percent.proofs.DecodingLemmas.{fragments-joined}

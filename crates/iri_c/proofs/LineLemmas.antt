@@ -1,6 +1,6 @@
 -- Lines that an LF ends, and batches of their answers.
-use Rattle.std.proofs.Common.{◌≡◌, ◌≢◌, ◌+◌, ◌-◌, ◌<◌, ◌≤◌, ℕ, List, [], ◌∷◌, ◌++◌, length, get_or, take, drop, refl, sym, ◌∙◌, ap, arith, cond, true, false}
-use Rattle.std.proofs.Common.{add-one, zero-add, add-zero, add_assoc, eq-eqb, eqb-true, append_assoc, take-append-drop, drop-cons, Option, None, Some, MatchOption, nat_lt, subst, length-append}
+use Rattle.std.proofs.Common.{◌≡◌, ◌≢◌, ◌+◌, ◌-◌, ◌<◌, ◌≤◌, ℕ, List, [], ◌∷◌, ◌++◌, length, get_or, take, drop, refl, sym, ◌∙◌, ap, arith}
+use Rattle.std.proofs.Common.{add-one, zero-add, add-zero, add_assoc, eq-eqb, eqb-true, append_assoc, take-append-drop, drop-cons, Option, None, Some, MatchOption}
 use Rattle.std.specs.List.{flat_map}
 use Rattle.std.proofs.lemmas.List.{append-nil}
 use Rattle.std.proofs.lemmas.Bool.Decides.{nat_tests}

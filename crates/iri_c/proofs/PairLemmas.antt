@@ -1,5 +1,5 @@
 -- The pairs of a list of texts.
-use Rattle.std.proofs.Common.{◌≡◌, ◌+◌, ◌*◌, ◌/◌, ◌<◌, ◌≤◌, ℕ, zero, suc, List, [], ◌∷◌, length, get_or, refl, ap, arith, ◌∙◌, sym}
+use Rattle.std.proofs.Common.{◌≡◌, ◌+◌, ◌*◌, ◌/◌, ◌<◌, ◌≤◌, ℕ, zero, suc, List, [], ◌∷◌, length, get_or, refl, ap, arith, ◌∙◌}
 use Rattle.iri_c.specs.Variables.{paired}
 use Rattle.iri_c.specs.declared.variables.Text.{Text}
 

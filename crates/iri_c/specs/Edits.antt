@@ -1,10 +1,11 @@
 -- What edits come to.
 use Rattle.std.specs.Prelude.{ℕ, List, Some, None}
 use Rattle.iri_edit.specs.Fragment.{with_fragment}
-use Rattle.iri_edit.specs.Password.{masked}
+use Rattle.iri_edit.specs.Password.{masked, with_password}
 use Rattle.iri_grammar.specs.Classes.{Tests}
 use Rattle.iri_grammar.specs.Fault.{bytes_fault, fragment_fault}
 use Rattle.iri_grammar.specs.WholeFault.{reference_fault}
+use Rattle.iri_c.specs.Encodings.{no_fault}
 use Rattle.iri_c.specs.Numbers.{bad_text, bad_part, grammar_of}
 use Rattle.iri_c.specs.Outcome.{Outcome}
 use Rattle.iri_c.specs.Outcome.Outcome.{text}
@@ -20,6 +21,13 @@ masked_in t s = of_reference t s (text (masked t))
 
 abbrev pub masked_outcome : ℕ → List ℕ → Outcome
 masked_outcome grammar t = in_grammar (grammar_of grammar) (masked_in t)
+
+-- a reference with another text, in UTF-8, in place of its password: the reference is judged first
+abbrev pub password_in : List ℕ → List ℕ → Tests → Outcome
+password_in t w s = of_reference t s (unless_fault bad_part (bytes_fault no_fault w) (text (with_password t w)))
+
+abbrev pub password_outcome : ℕ → List ℕ → List ℕ → Outcome
+password_outcome grammar t w = in_grammar (grammar_of grammar) (password_in t w)
 
 -- a reference without its fragment
 abbrev pub cut_in : List ℕ → Tests → Outcome

@@ -1,6 +1,7 @@
 // References with one part changed (RFC 3986 sections 3.2.1, 3.5 and 7.5).
 ghost use Rattle.std.specs.Prelude.{◌≡◌};
 ghost use Rattle.iri_c.specs.Edits.{masked_in, masked_outcome, cut_in, cut_outcome, fragment_in, fragment_outcome};
+ghost use Rattle.iri_c.specs.Edits.{password_in, password_outcome};
 ghost use Rattle.iri_c.specs.Outcome.{Answered};
 ghost use Rattle.iri_grammar.specs.Cut.{before};
 ghost use Rattle.iri_types.specs.Texts.{text};
@@ -11,6 +12,7 @@ use crate::grammar::{IRI, URI};
 use crate::status::{BAD_PART, BAD_TEXT, UNKNOWN};
 use iri_edit::password::MaskPassword;
 use iri_grammar::cutting::cut_before;
+use iri_grammar::error::ErrorKind;
 use iri_grammar::spec::{IriSpec, Spec, UriSpec};
 use iri_text::{Show, Stop, TextSink, show_three};
 use iri_types::view::{RiFragmentStr, RiReferenceStr};
@@ -38,6 +40,43 @@ pub extern "C" fn irikit_mask_password(
     match grammar {
         URI => mask_in::<UriSpec>(text, out, told),
         IRI => mask_in::<IriSpec>(text, out, told),
+        _ => answer(UNKNOWN, told),
+    }
+}
+
+// The text with another password in one grammar.
+fn replace_password_in<S: Spec>(
+    text: &[u8],
+    password: &[u8],
+    out: &mut [u8],
+    told: &mut usize,
+) -> u8
+    ensures { Answered (password_in text.now password.now S.tests) out.old out.new told.new result }
+{
+    let view = match RiReferenceStr::<S>::try_from_bytes(text) {
+        Ok(view) => view,
+        Err(error) => return answer_fault(BAD_TEXT, error.kind(), told),
+    };
+    match str::from_utf8(password) {
+        Ok(password) => answer_text(out, &view.mask_password().replace_password(password), told),
+        Err(_) => answer_fault(BAD_PART, ErrorKind::InvalidUtf8, told),
+    }
+}
+
+/// A reference with another text in place of its password.
+#[unsafe(no_mangle)]
+pub extern "C" fn irikit_replace_password(
+    grammar: u8,
+    text: &[u8],
+    password: &[u8],
+    out: &mut [u8],
+    told: &mut usize,
+) -> u8
+    ensures { Answered (password_outcome grammar text.now password.now) out.old out.new told.new result }
+{
+    match grammar {
+        URI => replace_password_in::<UriSpec>(text, password, out, told),
+        IRI => replace_password_in::<IriSpec>(text, password, out, told),
         _ => answer(UNKNOWN, told),
     }
 }

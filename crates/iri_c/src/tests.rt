@@ -1,7 +1,9 @@
 // What the calls answer: rows of the RFCs, room for each length, and unknown numbers.
 use crate::canonical::irikit_canonical;
 use crate::decoding::irikit_decode;
-use crate::edits::{irikit_mask_password, irikit_remove_fragment, irikit_set_fragment};
+use crate::edits::{
+    irikit_mask_password, irikit_remove_fragment, irikit_replace_password, irikit_set_fragment,
+};
 use crate::encoding::irikit_encode;
 use crate::fault::irikit_fault_words;
 use crate::lines::irikit_canonical_lines;
@@ -230,6 +232,8 @@ fn edits(rt: HostRuntime) {
     let mut told = 9;
     assert!(rt; irikit_mask_password(0, b"http://u:pw@h/", &mut out, &mut told) == 0);
     assert!(rt; out.starts_with(b"http://u:@h/."));
+    assert!(rt; irikit_replace_password(0, b"//u:p@h", b"***", &mut out, &mut told) == 0);
+    assert!(rt; told == 9 && out.starts_with(b"//u:***@h"));
     assert!(rt; irikit_remove_fragment(0, b"a?b#c", &mut out, &mut told) == 0 && told == 3);
     assert!(rt; irikit_set_fragment(0, b"a?b#c", b"d", &mut out, &mut told) == 0 && told == 5);
     assert!(rt; out.starts_with(b"a?b#d"));

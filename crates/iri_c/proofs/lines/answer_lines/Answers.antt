@@ -1,5 +1,4 @@
-use Rattle.std.proofs.Common.{arith, ap, length, ◌∙◌, ◌≡◌, ◌<◌, ◌+◌, sym, subst, ℕ, List}
-use Rattle.std.proofs.lemmas.Grind.{common_steps}
+use Rattle.std.proofs.Common.{arith, ap, ◌∙◌, sym, subst}
 use Rattle.iri_normal.specs.Resolver.{base_text}
 use Rattle.iri_c.specs.Lines.{answer_in, line_answer, batch, ended}
 use Rattle.iri_c.specs.inside.BufferText.{BufferPuts, BufferHalts}

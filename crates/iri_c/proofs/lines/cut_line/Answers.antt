@@ -1,5 +1,4 @@
-use Rattle.std.proofs.Common.{None, Some, arith, ◌∙◌, ◌≡◌, ◌+◌, ◌-◌, ◌∷◌, ap, length, take, drop, sym, List, ℕ}
-use Rattle.std.proofs.lemmas.List.{take_all}
+use Rattle.std.proofs.Common.{None, Some, arith, ◌∙◌, ◌≡◌, ◌+◌, ◌-◌, ◌∷◌, ap, length, take, drop, sym}
 use Rattle.std.proofs.lemmas.Grind.{common_steps}
 use Rattle.iri_c.specs.Lines.{ended}
 use Rattle.iri_c.proofs.LineLemmas.{first-lf, ended-at, ended-none}

@@ -1,7 +1,6 @@
-use Rattle.std.proofs.Common.{Some, None, [], ◌∷◌, ◌∙◌, sym, ap, length}
+use Rattle.std.proofs.Common.{Some, None, [], ◌∷◌, ◌∙◌, sym, ap}
 use Rattle.std.proofs.Math.Seq.{take-length}
 use Rattle.std.proofs.lemmas.Bool.Decides.{Decides-eqb}
-use Rattle.std.proofs.lemmas.List.{take_at}
 use Rattle.std.proofs.lemmas.Slice.Eq.{strip_suffix_is}
 use Rattle.iri_text.specs.Lines.{no_cr}
 use Rattle.iri_text.proofs.Parts.{no_cr-cr, other-len}

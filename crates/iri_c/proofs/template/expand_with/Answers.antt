@@ -1,4 +1,4 @@
-use Rattle.std.proofs.Common.{◌≡◌, ℕ, List, Option, None, Some, ap, sym, subst, refl, ◌∙◌}
+use Rattle.std.proofs.Common.{◌≡◌, ℕ, List, None, Some, ap, sym, subst, refl, ◌∙◌}
 use Rattle.iri_grammar.specs.Classes.{Tests}
 use Rattle.iri_template.specs.Expansion.{expansion}
 use Rattle.iri_template.specs.Fault.{template_fault, first}
