@@ -1,9 +1,11 @@
-//! The library for C and for what calls C: canonical texts, tests, splits and mappings over slices, which cross as a pointer and a
-//! length. `include/irikit.h` has the declarations and the numbers. Nothing here takes memory or keeps anything.
+//! The library for C and for what calls C: canonical texts of one reference or many lines, resolution, normal forms, tests, splits,
+//! mappings, encodings, edits and templates over slices, which cross as a pointer and a length. `include/irikit.h` has the
+//! declarations and the numbers. Nothing here takes memory or keeps anything.
 //!
 //! Proved: each call answers by its outcome (`Answered`), which is a function of what is passed: an unknown number, the first fault
 //! and whose it is, or a text. A text is written over the start of the caller's buffer as far as there is room, what lies behind it
-//! stays, and its whole length is told; the status says whether it had room. The texts, tests and splits are those of the crates below.
+//! stays, and its whole length is told; the status says whether it had room. The texts, tests and splits are those of the crates
+//! below. Of many lines those are told whose answers have room together (`Batched`).
 //!
 //! Not proved: that a caller in C passes what the header asks for.
 #![tactic(auto)]

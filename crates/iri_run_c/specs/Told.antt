@@ -1,14 +1,13 @@
 -- What a run over memory comes to.
 use Rattle.std.specs.Str.{IsUtf8}
 use Rattle.iri_grammar.specs.Pieces.{pieces}
-use Rattle.std.specs.Prelude.{◌≡◌, ◌⊎◌, ℕ, length, List, [], ◌∷◌, Option, Some}
-use Rattle.iri_percent.specs.declared.canon_mode.CanonMode.{CanonMode}
+use Rattle.std.specs.Prelude.{◌≡◌, ◌⊎◌, ℕ, length, take, drop, List, [], ◌++◌, Option, Some}
 use Rattle.iri_cli.specs.Gen.{gen_text}
 use Rattle.iri_cli.specs.Notices.{Tells, notice_text}
 use Rattle.iri_cli.specs.Run.{Outside, outside, RunsLines}
 use Rattle.iri_cli.specs.Words.{IsCommand, IsRobots, robots_rules, rules_of, tests_of}
 use Rattle.iri_cli.specs.declared.command.Command.{Command}
-use Rattle.iri_cli.specs.declared.command.Command.TheVariants.{Lines, Robots, Gen, Tell}
+use Rattle.iri_cli.specs.declared.command.Command.TheVariants.{Lines, Gen, Tell}
 use Rattle.iri_cli.specs.declared.command.Grammar.{Grammar}
 use Rattle.iri_cli.specs.declared.command.LineCommand.{LineCommand}
 use Rattle.iri_cli.specs.declared.notice.Notice.{Notice}
@@ -17,10 +16,8 @@ abbrev pub space : ℕ
 space = 32
 
 -- the bytes of the text, and behind them what stood there; what the buffer has no room for is cut off
-unfoldable pub over : List ℕ → List ℕ → List ℕ
-over [] buffer = buffer
-over (x ∷ text) [] = []
-over (x ∷ text) (y ∷ buffer) = x ∷ over text buffer
+abbrev pub over : List ℕ → List ℕ → List ℕ
+over text buffer = take (length buffer) text ++ drop (length text) buffer
 
 -- The contract of the program's `run`.
 pub record RunsWords (words : List (List ℕ)) (old new : Outside) (room_old room_new : Option ℕ) (status : ℕ) : Type 0 where

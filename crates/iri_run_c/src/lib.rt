@@ -1,7 +1,8 @@
-//! The program's commands for C, over memory: what `irikit` would do with words and an input, its output in the caller's buffer.
+//! The program's commands for C, over memory: what `irikit` would do with words and an input, its output in the caller's
+//! buffer.
 //!
-//! Proved: `irikit_run` keeps the contract of the program's `run`, over a source that has the input and never fails, and a sink that has
-//! as much room as the buffer; or allocation failed before anything was read.
+//! Proved: `irikit_run` keeps the contract of the program's `run`, over a source that has the input and never fails, and a sink
+//! that has as much room as the buffer; or allocation failed before anything was read.
 //!
 //! Not proved: that memory is there, and that a caller in C passes what the header asks for.
 #![tactic(auto)]
@@ -41,8 +42,11 @@ fn words_in(alloc: Global, text: &str) -> Result<Vec<String>, AllocError>
 fn copy_over(buf: &mut [u8], bytes: &[u8])
     ensures { buf.new ≡ over bytes.now buf.old }
 {
-    let n = buf.len().min(bytes.len());
-    buf[..n].copy_from_slice(&bytes[..n]);
+    if bytes.len() <= buf.len() {
+        buf[..bytes.len()].copy_from_slice(bytes);
+    } else {
+        buf.copy_from_slice(&bytes[..buf.len()]);
+    }
 }
 
 // Does what words say with an input, in a buffer of its own.

@@ -1,7 +1,7 @@
-use Rattle.std.proofs.Common.{◌≡◌, [], ◌∷◌, length, map, string_bytes, Some, ap, sym, subst, refl, ◌∙◌, inl}
+use Rattle.std.proofs.Common.{◌≡◌, [], length, map, string_bytes, Some, ap, sym, subst, refl, ◌∙◌, inl}
 use Rattle.iri_text.specs.Memory.{room_left_of}
-use Rattle.iri_cli.specs.Run.{Outside, outside}
-use Rattle.iri_run_c.specs.Told.{RunsWords, Ran, begun}
+use Rattle.iri_cli.specs.Run.{outside}
+use Rattle.iri_run_c.specs.Told.{RunsWords, begun}
 use Rattle.iri_run_c.proofs.run_words.Goals as goal
 
 pub returns : goal.returns
