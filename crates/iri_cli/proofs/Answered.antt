@@ -13,15 +13,15 @@ use Rattle.iri_text.specs.declared.streams.reader.LineFault.{LineFault}
 use Rattle.iri_text.specs.declared.streams.reader.LineFault.TheVariants.{Source, LineTooLong as FaultLineTooLong}
 use Rattle.iri_text.specs.declared.streams.reader.LineFault.TheVariants.{InputTooLong as FaultInputTooLong}
 use Rattle.iri_text.proofs.Puts.{Appends-append, Appends-none, front-after, front-longer, room-then, room-longer, room-so}
-use Rattle.iri_cli.specs.Ending.{Rules, Ending, answers, answered, IsBaseTaken, ending}
-use Rattle.iri_cli.specs.Read.{HasRead, ReadsAll, ReadsSome, ReadsPast, IsGoing}
-use Rattle.iri_cli.specs.Run.{outside, Finishes, Decides, StopsShort, RanTo, Ran}
-use Rattle.iri_cli.specs.Steps.{end_at}
-use Rattle.iri_cli.specs.Answering.{Answering, AnswersLine, PutsAnswer, ClosesRun, end_of_error}
-use Rattle.iri_cli.specs.declared.answers.AnswerError.{AnswerError}
-use Rattle.iri_cli.specs.declared.answers.AnswerError.TheVariants.{SinkFailed as AnswerFailed, Memory as AnswerMemory}
-use Rattle.iri_cli.specs.declared.end.End.{End}
-use Rattle.iri_cli.specs.declared.end.End.TheVariants.{Done, SomeBad, BadBase, SourceFailed, SinkFailed, Memory, LineTooLong, InputTooLong}
+use Rattle.iri_cli.specs.run.Ending.{Rules, Ending, answers, answered, IsBaseTaken, ending}
+use Rattle.iri_cli.specs.run.Read.{HasRead, ReadsAll, ReadsSome, ReadsPast, IsGoing}
+use Rattle.iri_cli.specs.run.Run.{outside, Finishes, Decides, StopsShort, RanTo, Ran}
+use Rattle.iri_cli.specs.run.Steps.{end_at}
+use Rattle.iri_cli.specs.run.Answering.{Answering, AnswersLine, PutsAnswer, ClosesRun, end_of_error}
+use Rattle.iri_cli.specs.declared.run.answers.AnswerError.{AnswerError}
+use Rattle.iri_cli.specs.declared.run.answers.AnswerError.TheVariants.{SinkFailed as AnswerFailed, Memory as AnswerMemory}
+use Rattle.iri_cli.specs.declared.run.end.End.{End}
+use Rattle.iri_cli.specs.declared.run.end.End.TheVariants.{Done, SomeBad, BadBase, SourceFailed, SinkFailed, Memory, LineTooLong, InputTooLong}
 use Rattle.iri_cli.proofs.Reading.{left_is, reads_line, reads_all, reads_some, reads_long, reads_over, goes_on, counts_more}
 use Rattle.iri_cli.proofs.Ends.{one_more, one_more_good, first_read, first_lines, ends_all, ends_past}
 

@@ -12,14 +12,14 @@ use Rattle.iri_text.specs.declared.streams.reader.LineFault.{LineFault}
 use Rattle.iri_text.specs.declared.streams.reader.LineFault.TheVariants.{Source, LineTooLong as FaultLineTooLong}
 use Rattle.iri_text.specs.declared.streams.reader.LineFault.TheVariants.{InputTooLong as FaultInputTooLong}
 use Rattle.iri_text.proofs.Puts.{Appends-none, room-same}
-use Rattle.iri_cli.specs.Ending.{Rules, Ending, Passed, base_line, unless_refused, first_passed, ended_lines, completed, completed_lines}
-use Rattle.iri_cli.specs.Ending.{stopped, answered, IsBaseTaken, ending_by, ending}
-use Rattle.iri_cli.specs.Read.{IsOpen, HasRead, ReadsSome, ReadsPast, IsGoing}
-use Rattle.iri_cli.specs.Run.{outside, Decides, StopsShort, RanTo, Ran}
-use Rattle.iri_cli.specs.Steps.{end_at, IsNew, GivesBase, ReadsBase}
-use Rattle.iri_cli.specs.Answering.{RefusesBase}
-use Rattle.iri_cli.specs.declared.end.End.{End}
-use Rattle.iri_cli.specs.declared.end.End.TheVariants.{Done, SomeBad, BadBase, SourceFailed, SinkFailed, Memory, LineTooLong, InputTooLong}
+use Rattle.iri_cli.specs.run.Ending.{Rules, Ending, Passed, base_line, unless_refused, first_passed, ended_lines, completed, completed_lines}
+use Rattle.iri_cli.specs.run.Ending.{stopped, answered, IsBaseTaken, ending_by, ending}
+use Rattle.iri_cli.specs.run.Read.{IsOpen, HasRead, ReadsSome, ReadsPast, IsGoing}
+use Rattle.iri_cli.specs.run.Run.{outside, Decides, StopsShort, RanTo, Ran}
+use Rattle.iri_cli.specs.run.Steps.{end_at, IsNew, GivesBase, ReadsBase}
+use Rattle.iri_cli.specs.run.Answering.{RefusesBase}
+use Rattle.iri_cli.specs.declared.run.end.End.{End}
+use Rattle.iri_cli.specs.declared.run.end.End.TheVariants.{Done, SomeBad, BadBase, SourceFailed, SinkFailed, Memory, LineTooLong, InputTooLong}
 use Rattle.iri_cli.proofs.Reading.{left_is, read_none, reads_line, reads_all, reads_some, reads_long, reads_over, goes_on}
 use Rattle.iri_cli.proofs.LineSteps.{place_later}
 use Rattle.iri_cli.proofs.Ends.{ends_past_none}

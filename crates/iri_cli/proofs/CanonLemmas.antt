@@ -10,19 +10,19 @@ use Rattle.iri_text.specs.declared.Failed.{Failed}
 use Rattle.iri_percent.specs.declared.canon_mode.CanonMode.{CanonMode}
 use Rattle.iri_normal.proofs.LengthLaws.{length-canonical_in}
 use Rattle.iri_normal.specs.NormalForm.{canonical_in}
-use Rattle.iri_cli.specs.Limits.{longest_line, answer_room}
-use Rattle.iri_cli.specs.Answer.{refusal, answer_in}
-use Rattle.iri_cli.specs.Answering.{IsReady, Answering, AnswersLine, PutsAnswer}
+use Rattle.iri_cli.specs.run.Limits.{longest_line, answer_room}
+use Rattle.iri_cli.specs.canon.Answer.{refusal, answer_in}
+use Rattle.iri_cli.specs.run.Answering.{IsReady, Answering, AnswersLine, PutsAnswer}
 use Rattle.iri_text.specs.Line.{LineState}
-use Rattle.iri_cli.specs.Buffers.{AreBuffers}
-use Rattle.iri_cli.specs.Steps.{IsNew, GivesBase}
-use Rattle.iri_cli.specs.Read.{HasRead, IsGoing}
-use Rattle.iri_cli.specs.CanonAnswers.{PutsLine, told_of, IsCanonAt}
-use Rattle.iri_cli.specs.Words.{canon_rules_in, is_ok}
-use Rattle.iri_cli.specs.declared.answers.AnswerError.{AnswerError}
-use Rattle.iri_cli.specs.declared.answers.AnswerError.TheVariants.{SinkFailed, Memory}
-use Rattle.iri_cli.specs.Ending.{Rules}
-use Rattle.iri_cli.specs.Prepared.{prepared}
+use Rattle.iri_cli.specs.run.Buffers.{AreBuffers}
+use Rattle.iri_cli.specs.run.Steps.{IsNew, GivesBase}
+use Rattle.iri_cli.specs.run.Read.{HasRead, IsGoing}
+use Rattle.iri_cli.specs.canon.Puts.{PutsLine, told_of, IsCanonAt}
+use Rattle.iri_cli.specs.run.Words.{canon_rules_in, is_ok}
+use Rattle.iri_cli.specs.declared.run.answers.AnswerError.{AnswerError}
+use Rattle.iri_cli.specs.declared.run.answers.AnswerError.TheVariants.{SinkFailed, Memory}
+use Rattle.iri_cli.specs.run.Ending.{Rules}
+use Rattle.iri_cli.specs.canon.Prepared.{prepared}
 use Rattle.iri_cli.proofs.PreparedLaws.{same_answer, prepared_taken}
 use Rattle.std.specs.Prelude.{OnOk}
 use Rattle.iri_cli.proofs.BytesLemmas.{base_absolute, line_reference, refused_none}

@@ -8,9 +8,9 @@ use Rattle.std.proofs.Math.Seq.{take-append-add}
 use Rattle.iri_text.specs.Lines.{lines}
 use Rattle.iri_text.specs.Source.{Consumes, IsAtEnd}
 use Rattle.iri_text.specs.Line.{LineState}
-use Rattle.iri_cli.specs.Ending.{Rules, Ending, Passed, unless_refused, ended_lines, first_passed, answers_behind, answers, completed}
-use Rattle.iri_cli.specs.Ending.{completed_lines, stopped, ending_by, ending}
-use Rattle.iri_cli.specs.Read.{IsOpen, HasRead, ReadsAll, ReadsPast}
+use Rattle.iri_cli.specs.run.Ending.{Rules, Ending, Passed, unless_refused, ended_lines, first_passed, answers_behind, answers, completed}
+use Rattle.iri_cli.specs.run.Ending.{completed_lines, stopped, ending_by, ending}
+use Rattle.iri_cli.specs.run.Read.{IsOpen, HasRead, ReadsAll, ReadsPast}
 use Rattle.iri_cli.proofs.LineSteps.{place_later}
 use Rattle.iri_cli.proofs.Reading.{left_is}
 

@@ -22,19 +22,19 @@ use Rattle.iri_template.specs.ShownValues.{optional}
 use Rattle.iri_template.specs.TypeFaults.{type_fault}
 use Rattle.iri_template.specs.declared.error.Error.{Error}
 use Rattle.iri_template.specs.declared.simple_context.SimpleContext.{SimpleContext}
-use Rattle.iri_cli.specs.Limits.{answer_room}
-use Rattle.iri_cli.specs.Answer.{answer, answer_by, answer_in, refusal}
-use Rattle.iri_cli.specs.Answering.{Answering, AnswersLine, IsReady, PutsAnswer}
-use Rattle.iri_cli.specs.CanonAnswers.{PutsLine, told_of}
-use Rattle.iri_cli.specs.Ending.{Rules}
-use Rattle.iri_cli.specs.ExpandAnswers.{answer_to, expansion_answer, template_answer, template_refusal}
-use Rattle.iri_cli.specs.ExpandAnswers.{too_long, unless_fault}
-use Rattle.iri_cli.specs.ExpandLines.{ExpandLine, Values, after_line, line_of, values_behind}
-use Rattle.iri_cli.specs.Words.{expand_rules, is_ok, is_ok_or_none}
+use Rattle.iri_cli.specs.run.Limits.{answer_room}
+use Rattle.iri_cli.specs.canon.Answer.{answer, answer_by, answer_in, refusal}
+use Rattle.iri_cli.specs.run.Answering.{Answering, AnswersLine, IsReady, PutsAnswer}
+use Rattle.iri_cli.specs.canon.Puts.{PutsLine, told_of}
+use Rattle.iri_cli.specs.run.Ending.{Rules}
+use Rattle.iri_cli.specs.expand.Answers.{answer_to, expansion_answer, template_answer, template_refusal}
+use Rattle.iri_cli.specs.expand.Answers.{too_long, unless_fault}
+use Rattle.iri_cli.specs.expand.Lines.{ExpandLine, Values, after_line, line_of, values_behind}
+use Rattle.iri_cli.specs.run.Words.{expand_rules, is_ok, is_ok_or_none}
 use Rattle.iri_cli.specs.inside.ExpandAt.{IsExpandAt}
 use Rattle.iri_cli.specs.inside.Opening.{BeginsAsCanon, IsOpened}
-use Rattle.iri_cli.specs.declared.answers.AnswerError.{AnswerError}
-use Rattle.iri_cli.specs.declared.answers.AnswerError.TheVariants.{SinkFailed, Memory}
+use Rattle.iri_cli.specs.declared.run.answers.AnswerError.{AnswerError}
+use Rattle.iri_cli.specs.declared.run.answers.AnswerError.TheVariants.{SinkFailed, Memory}
 use Rattle.iri_cli.proofs.CanonLemmas.{line_room, puts_line}
 use Rattle.iri_cli.proofs.VariableLemmas.{values-more}
 

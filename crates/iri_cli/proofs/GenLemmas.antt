@@ -2,9 +2,9 @@
 use Rattle.std.proofs.Common.{◌≡◌, ◌≢◌, ℕ, suc, ◌+◌, ◌-◌, ◌<◌, ◌/◌, ◌%◌, List, ◌∷◌, ◌++◌, [], ap, arith, refl, sym, ◌∙◌}
 use Rattle.std.proofs.Common.{append_assoc, ◌⊎◌, ⊎_elim, inl, inr, Option}
 use Rattle.iri_text.specs.Sink.{KeepsRoom}
-use Rattle.iri_cli.specs.Gen.{gen_segment, more_segments}
-use Rattle.iri_cli.specs.Notices.{PutsText, Tells}
-use Rattle.iri_cli.specs.Run.{outside}
+use Rattle.iri_cli.specs.generator.References.{gen_segment, more_segments}
+use Rattle.iri_cli.specs.help.Notices.{PutsText, Tells}
+use Rattle.iri_cli.specs.run.Run.{outside}
 
 pub more_step : (count i number : ℕ) → i < count → more_segments (count - i) number
     ≡ 47 ∷ (gen_segment (number % 16) ++ more_segments (count - (i + 1)) (number / 16))

@@ -4,7 +4,7 @@ use Rattle.std.proofs.Common.{Option, None, Some, add-zero, refl, sym, ◌∙◌
 use Rattle.std.proofs.lemmas.List.{append-nil}
 use Rattle.std.proofs.lemmas.Bool.Decides.{nat_tests}
 use Rattle.iri_text.specs.Lines.{NoLf, no_cr, lines_from}
-use Rattle.iri_cli.specs.Ending.{Rules, Passed, passed_from, ended_from}
+use Rattle.iri_cli.specs.run.Ending.{Rules, Passed, passed_from, ended_from}
 
 module _ (rules : Rules) where
   step : (place len b : ℕ) (y : List ℕ) → b ≢ 10 → place < rules.input_limit → len < rules.line_limit

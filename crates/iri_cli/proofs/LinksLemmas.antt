@@ -11,8 +11,8 @@ use Rattle.iri_link.proofs.FieldLemmas.{links_of_faultless}
 use Rattle.iri_link.proofs.NoFaultLemmas.{links_without_fault}
 use Rattle.iri_link.proofs.OneListLemmas.{field-given}
 use Rattle.iri_link.proofs.WrittenLemmas.{read_again}
-use Rattle.iri_cli.specs.Answer.{good_answer, refusal}
-use Rattle.iri_cli.specs.LinksAnswers.{field_refusal, links_answer, links_line, unless_told}
+use Rattle.iri_cli.specs.canon.Answer.{good_answer, refusal}
+use Rattle.iri_cli.specs.links.Answers.{field_refusal, links_answer, links_line, unless_told}
 use Rattle.iri_cli.proofs.BytesLemmas.{base_absolute}
 
 -- the answer to a field value with these link-values

@@ -4,16 +4,16 @@ use Rattle.iri_grammar.specs.Classes.{Tests}
 use Rattle.iri_text.specs.Line.{LineState}
 use Rattle.iri_text.specs.Reader.{Advances}
 use Rattle.iri_text.proofs.Puts.{Appends-none, room-same}
-use Rattle.iri_cli.specs.Limits.{longest_line, longest_input}
-use Rattle.iri_cli.specs.Answer.{refusal}
-use Rattle.iri_cli.specs.Answering.{AnswersLines}
-use Rattle.iri_cli.specs.Ending.{Rules, ending}
+use Rattle.iri_cli.specs.run.Limits.{longest_line, longest_input}
+use Rattle.iri_cli.specs.canon.Answer.{refusal}
+use Rattle.iri_cli.specs.run.Answering.{AnswersLines}
+use Rattle.iri_cli.specs.run.Ending.{Rules, ending}
 use Rattle.iri_cli.specs.inside.Opening.{BeginsAsCanon, EndsAtBase, IsOpened}
-use Rattle.iri_cli.specs.Read.{HasRead}
-use Rattle.iri_cli.specs.Run.{outside, Ran}
-use Rattle.iri_cli.specs.Steps.{GivesBase, IsNew}
-use Rattle.iri_cli.specs.declared.end.End.{End}
-use Rattle.iri_cli.specs.declared.end.End.TheVariants.{Memory}
+use Rattle.iri_cli.specs.run.Read.{HasRead}
+use Rattle.iri_cli.specs.run.Run.{outside, Ran}
+use Rattle.iri_cli.specs.run.Steps.{GivesBase, IsNew}
+use Rattle.iri_cli.specs.declared.run.end.End.{End}
+use Rattle.iri_cli.specs.declared.run.end.End.TheVariants.{Memory}
 use Rattle.iri_cli.proofs.BaseLine.{line_short, new_going, refuses}
 use Rattle.iri_cli.proofs.Reading.{goes_on, read_none, reads_all, reads_line}
 

@@ -24,7 +24,7 @@ use Rattle.iri_normal.proofs.SlashLemmas.{at_last_slash, ends}
 use Rattle.iri_normal.proofs.StableLaws.{guarded-stable, no_dots-same}
 use Rattle.iri_normal.proofs.TargetLaws.{cut_over}
 use Rattle.iri_normal.proofs.WrittenLemmas.{written-dots, written-ends, written-two}
-use Rattle.iri_cli.specs.Prepared.{prepared_path}
+use Rattle.iri_cli.specs.canon.Prepared.{prepared_path}
 
 -- ---- the front: what stands before the last segment
 abbrev front_of : Bool → List ℕ → List ℕ

@@ -8,8 +8,8 @@ use Rattle.iri_text.specs.Line.{LineState}
 use Rattle.iri_text.specs.Reader.{Advances}
 use Rattle.iri_text.specs.declared.streams.reader.LineFault.TheVariants.{Source, LineTooLong, InputTooLong}
 use Rattle.iri_text.proofs.Moved.{Consumes-append, still_at_end}
-use Rattle.iri_cli.specs.Ending.{Rules, passed_from, first_passed, ended_lines}
-use Rattle.iri_cli.specs.Read.{IsOpen, HasRead, ReadsAll, ReadsSome, ReadsPast, IsGoing}
+use Rattle.iri_cli.specs.run.Ending.{Rules, passed_from, first_passed, ended_lines}
+use Rattle.iri_cli.specs.run.Read.{IsOpen, HasRead, ReadsAll, ReadsSome, ReadsPast, IsGoing}
 use Rattle.iri_cli.proofs.LineSteps.{past_line, past_bytes, past_long, past_over, lines_along, ended_along, none_ended, one_line}
 
 -- what was taken before and now

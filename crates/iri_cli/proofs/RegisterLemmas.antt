@@ -12,18 +12,18 @@ use Rattle.iri_register.specs.Commands.{entries_of_commands}
 use Rattle.iri_register.specs.Entries.{Entry, entry_at}
 use Rattle.iri_register.specs.Kept.{Kept}
 use Rattle.iri_register.proofs.CommandLemmas.{obeyed_from}
-use Rattle.iri_cli.specs.RegisterAnswers.{answer_to, entry_line, entry_lines, more_numbers}
-use Rattle.iri_cli.specs.RegisterLines.{line_of, command_of, commands_from, entries_behind}
+use Rattle.iri_cli.specs.register.Answers.{answer_to, entry_line, entry_lines, more_numbers}
+use Rattle.iri_cli.specs.register.Lines.{line_of, command_of, commands_from, entries_behind}
 use Rattle.iri_text.specs.Sink.{KeepsRoom, PutsAll}
 use Rattle.iri_text.specs.declared.Failed.{Failed}
 use Rattle.iri_text.specs.Line.{LineState}
-use Rattle.iri_cli.specs.Answering.{Answering, AnswersLine, IsReady, PutsAnswer}
-use Rattle.iri_cli.specs.CanonAnswers.{told_of}
-use Rattle.iri_cli.specs.Ending.{Rules}
-use Rattle.iri_cli.specs.Read.{IsGoing}
-use Rattle.iri_cli.specs.Refused.{is_not_bad}
-use Rattle.iri_cli.specs.Words.{register_rules}
-use Rattle.iri_cli.specs.declared.answers.AnswerError.TheVariants.{SinkFailed}
+use Rattle.iri_cli.specs.run.Answering.{Answering, AnswersLine, IsReady, PutsAnswer}
+use Rattle.iri_cli.specs.canon.Puts.{told_of}
+use Rattle.iri_cli.specs.run.Ending.{Rules}
+use Rattle.iri_cli.specs.run.Read.{IsGoing}
+use Rattle.iri_cli.specs.run.Refused.{is_not_bad}
+use Rattle.iri_cli.specs.run.Words.{register_rules}
+use Rattle.iri_cli.specs.declared.run.answers.AnswerError.TheVariants.{SinkFailed}
 use Rattle.iri_cli.specs.inside.Opening.{BeginsAsCanon}
 use Rattle.iri_cli.specs.inside.RegisterAt.{IsRegisterAt}
 use Rattle.iri_cli.specs.inside.Replies.{obeyed_by}

@@ -15,16 +15,16 @@ use Rattle.iri_text.specs.Line.{LineState}
 use Rattle.iri_text.specs.Sink.{KeepsRoom, PutsAll}
 use Rattle.iri_text.specs.declared.Failed.{Failed}
 use Rattle.iri_text.proofs.Puts.{Appends-none, room-same}
-use Rattle.iri_cli.specs.Answering.{Answering, AnswersLine, IsReady, PutsAnswer}
-use Rattle.iri_cli.specs.CanonAnswers.{told_of}
-use Rattle.iri_cli.specs.Ending.{Rules}
-use Rattle.iri_cli.specs.Read.{IsGoing}
-use Rattle.iri_cli.specs.Refused.{is_not_bad}
-use Rattle.iri_cli.specs.RobotsAnswers.{answer_to, normal_base, verdict_word}
-use Rattle.iri_cli.specs.RobotsLines.{RobotsLine, line_of, fed, records_behind}
-use Rattle.iri_cli.specs.Words.{robots_rules}
-use Rattle.iri_cli.specs.declared.answers.AnswerError.{AnswerError}
-use Rattle.iri_cli.specs.declared.answers.AnswerError.TheVariants.{SinkFailed, Memory}
+use Rattle.iri_cli.specs.run.Answering.{Answering, AnswersLine, IsReady, PutsAnswer}
+use Rattle.iri_cli.specs.canon.Puts.{told_of}
+use Rattle.iri_cli.specs.run.Ending.{Rules}
+use Rattle.iri_cli.specs.run.Read.{IsGoing}
+use Rattle.iri_cli.specs.run.Refused.{is_not_bad}
+use Rattle.iri_cli.specs.robots.Answers.{answer_to, normal_base, verdict_word}
+use Rattle.iri_cli.specs.robots.Lines.{RobotsLine, line_of, fed, records_behind}
+use Rattle.iri_cli.specs.run.Words.{robots_rules}
+use Rattle.iri_cli.specs.declared.run.answers.AnswerError.{AnswerError}
+use Rattle.iri_cli.specs.declared.run.answers.AnswerError.TheVariants.{SinkFailed, Memory}
 use Rattle.iri_cli.specs.inside.Opening.{BeginsAsCanon}
 use Rattle.iri_cli.specs.inside.RobotsAt.{IsRobotsAt, Replies, PutsReply}
 use Rattle.iri_cli.proofs.CanonLemmas.{line_room}

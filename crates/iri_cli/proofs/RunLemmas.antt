@@ -5,11 +5,11 @@ use Rattle.iri_text.specs.Count.{Rose}
 use Rattle.iri_text.specs.Source.{Consumes, IsAtEnd}
 use Rattle.iri_text.specs.Sink.{Appends, KeepsRoom}
 use Rattle.iri_text.proofs.Puts.{room-so, room-less}
-use Rattle.iri_cli.specs.Ending.{Rules, ending}
-use Rattle.iri_cli.specs.Run.{Outside, outside, Finishes, Decides, StopsShort, RunsOut, RanTo, Ran, Runs, status_of, IsDecided}
-use Rattle.iri_cli.specs.Closes.{Closes}
-use Rattle.iri_cli.specs.declared.end.End.{End}
-use Rattle.iri_cli.specs.declared.end.End.TheVariants.{Done, SomeBad, BadBase, SourceFailed, SinkFailed, Memory, LineTooLong, InputTooLong}
+use Rattle.iri_cli.specs.run.Ending.{Rules, ending}
+use Rattle.iri_cli.specs.run.Run.{Outside, outside, Finishes, Decides, StopsShort, RunsOut, RanTo, Ran, Runs, status_of, IsDecided}
+use Rattle.iri_cli.specs.run.Closes.{Closes}
+use Rattle.iri_cli.specs.declared.run.end.End.{End}
+use Rattle.iri_cli.specs.declared.run.end.End.TheVariants.{Done, SomeBad, BadBase, SourceFailed, SinkFailed, Memory, LineTooLong, InputTooLong}
 use Rattle.iri_cli.proofs.Reading.{left_is}
 use Rattle.iri_cli.proofs.Answered.{taken_is}
 

@@ -4,13 +4,13 @@ use Rattle.iri_grammar.specs.Classes.{Tests}
 use Rattle.iri_text.specs.Line.{LineState}
 use Rattle.iri_text.specs.Sink.{KeepsRoom}
 use Rattle.iri_text.proofs.Puts.{room-same}
-use Rattle.iri_cli.specs.Answering.{Answering, AnswersLine, IsReady}
-use Rattle.iri_cli.specs.CanonAnswers.{PutsLine}
-use Rattle.iri_cli.specs.Ending.{Rules}
-use Rattle.iri_cli.specs.Read.{IsGoing}
-use Rattle.iri_cli.specs.Words.{stateless_rules}
-use Rattle.iri_cli.specs.declared.answers.AnswerError.{AnswerError}
-use Rattle.iri_cli.specs.declared.answers.AnswerError.TheVariants.{SinkFailed, Memory}
+use Rattle.iri_cli.specs.run.Answering.{Answering, AnswersLine, IsReady}
+use Rattle.iri_cli.specs.canon.Puts.{PutsLine}
+use Rattle.iri_cli.specs.run.Ending.{Rules}
+use Rattle.iri_cli.specs.run.Read.{IsGoing}
+use Rattle.iri_cli.specs.run.Words.{stateless_rules}
+use Rattle.iri_cli.specs.declared.run.answers.AnswerError.{AnswerError}
+use Rattle.iri_cli.specs.declared.run.answers.AnswerError.TheVariants.{SinkFailed, Memory}
 use Rattle.iri_cli.specs.inside.Opening.{BeginsAsCanon}
 use Rattle.iri_cli.specs.inside.StatelessAt.{IsStatelessAt}
 use Rattle.iri_cli.proofs.CanonLemmas.{on_ok, puts_answer}

@@ -3,7 +3,7 @@ use Rattle.std.proofs.Common.{◌≡◌, ℕ, Bool, true, false, cond, List, [],
 use Rattle.std.specs.Str.{bytes_eq}
 use Rattle.std.proofs.Math.Path.{fun_ext}
 use Rattle.iri_template.specs.ShownValues.{ShownValue}
-use Rattle.iri_cli.specs.ExpandLines.{Values, after_line, line_of, values_from, with_value}
+use Rattle.iri_cli.specs.expand.Lines.{Values, after_line, line_of, values_from, with_value}
 
 -- a value that takes the place of another
 pub with_value-again : (values : Values) (name : List ℕ) (old value : ShownValue)

@@ -2,10 +2,10 @@
 use Rattle.std.proofs.Common.{◌≡◌, ◌∙◌, ℕ, List, [], ap, arith, refl, sym}
 use Rattle.std.specs.Prelude.{get_or}
 use Rattle.std.proofs.lemmas.Fmt.{decimal_injective}
-use Rattle.iri_cli.specs.Words.{IsCommand, word_of}
-use Rattle.iri_cli.specs.declared.command.Command.TheVariants.{Gen}
-use Rattle.iri_cli.specs.declared.command.Grammar.{Grammar}
-use Rattle.iri_cli.specs.declared.command.Grammar.TheVariants.{Uri, Iri}
+use Rattle.iri_cli.specs.run.Words.{IsCommand, word_of}
+use Rattle.iri_cli.specs.declared.run.words.Command.TheVariants.{Gen}
+use Rattle.iri_cli.specs.declared.run.words.Grammar.{Grammar}
+use Rattle.iri_cli.specs.declared.run.words.Grammar.TheVariants.{Uri, Iri}
 
 one_grammar : (a b : Grammar) → word_of a ≡ word_of b → a ≡ b
 one_grammar Uri Uri e = refl

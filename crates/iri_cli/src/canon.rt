@@ -6,14 +6,17 @@ ghost use Rattle.iri_types.specs.SplitText.{split_text};
 ghost use Rattle.iri_types.specs.Texts.{text};
 ghost use Rattle.iri_normal.specs.NormalForm.{canonical_in};
 ghost use Rattle.iri_normal.specs.Resolver.{base_text};
-ghost use Rattle.iri_cli.specs.Answer.{refusal, answer_in};
-ghost use Rattle.iri_cli.specs.CanonAnswers.{PutsLine};
-ghost use Rattle.iri_cli.specs.declared.answers.AnswerError.TheVariants.{SinkFailed};
+ghost use Rattle.iri_cli.specs.canon.Answer.{refusal, answer_in};
+ghost use Rattle.iri_cli.specs.canon.Puts.{PutsLine};
+ghost use Rattle.iri_cli.specs.declared.run.answers.AnswerError.TheVariants.{SinkFailed};
 ghost use Rattle.iri_text.specs.LineEnds.{line_feed};
 
-use crate::answers::{AnswerError, Answers};
-use crate::buffers::room_for;
-use crate::puts::{put_bad, told};
+pub(crate) mod lines;
+pub(crate) mod prepared;
+
+use crate::run::answers::{AnswerError, Answers};
+use crate::run::buffers::room_for;
+use crate::run::puts::{put_bad, told};
 use iri_grammar::spec::Spec;
 use iri_normal::canonical::show_canonical_in;
 use iri_normal::mode::CanonMode;
@@ -24,7 +27,7 @@ use iri_types::split::SplitView;
 use iri_types::view::RiAbsoluteStr;
 
 /// The base of a base line, or in words why it is refused.
-#[tactic(auto, unfolding(crate::specs::Answer::refusal))]
+#[tactic(auto, unfolding(crate::specs::canon::Answer::refusal))]
 pub fn base_of<S: Spec>(line: &[u8]) -> Result<RiAbsoluteStr<'_, S>, &'static str>
     ensures { MatchResult result (λ base. (text base ≡ line.now) × (refusal S.tests line.now ≡ None))
         (λ words. refusal S.tests line.now ≡ Some words.now) }
@@ -121,7 +124,7 @@ pub struct Canon<'a, S: Spec> {
 impl<'a, S: Spec> Answers for Canon<'a, S> {
     ghost use Rattle.std.specs.Vec.{vec_capacity};
     ghost use Rattle.iri_normal.specs.Resolver.{base_text};
-    ghost use Rattle.iri_cli.specs.CanonAnswers.{IsCanonAt};
+    ghost use Rattle.iri_cli.specs.canon.Puts.{IsCanonAt};
 
     ghost stands_at = { λ c at. IsCanonAt S.tests c.mode (base_text c.resolver) (vec_capacity c.output) at };
 

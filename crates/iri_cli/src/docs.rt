@@ -2,9 +2,9 @@
 ghost use Rattle.std.specs.Prelude.{◌≡◌, IfOk, string_bytes};
 ghost use Rattle.iri_docs.specs.Held.{held};
 ghost use Rattle.iri_types.specs.Texts.{text};
-ghost use Rattle.iri_cli.specs.DocsAnswers.{docs_answer, document_answer};
+ghost use Rattle.iri_cli.specs.docs.Answers.{docs_answer, document_answer};
 
-use crate::stateless::{Stateless, shown_line};
+use crate::run::stateless::{Stateless, shown_line};
 use iri_docs::doc_error::DocError;
 use iri_docs::document::Document;
 use iri_docs::expand::expand_document;
@@ -35,7 +35,7 @@ pub enum Docs {}
 impl Stateless for Docs {
     ghost answer = { docs_answer };
 
-    #[tactic(auto, unfolding(crate::specs::DocsAnswers::docs_answer))]
+    #[tactic(auto, unfolding(crate::specs::docs::Answers::docs_answer))]
     fn answer_to<S: Spec>(
         alloc: Global,
         base: RiAbsoluteStr<'_, S>,

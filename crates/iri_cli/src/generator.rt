@@ -4,7 +4,7 @@ ghost use Rattle.std.specs.Prelude.{string_bytes};
 ghost use Rattle.iri_grammar.specs.WholeFault.{reference_fault};
 ghost use Rattle.iri_normal.specs.NormalForm.{canonical};
 ghost use Rattle.iri_normal.specs.Resolver.{base_text};
-ghost use Rattle.iri_cli.specs.Gen.{gen_segment, more_segments, gen_reference, gen_base, gen_bytes, gen_sum, gen_text};
+ghost use Rattle.iri_cli.specs.generator.References.{gen_segment, more_segments, gen_reference, gen_base, gen_bytes, gen_sum, gen_text};
 
 use crate::canon::resolver_of;
 use iri_grammar::spec::Spec;

@@ -1,7 +1,7 @@
 // The answers of `links`.
-ghost use Rattle.iri_cli.specs.LinksAnswers.{links_answer};
+ghost use Rattle.iri_cli.specs.links.Answers.{links_answer};
 
-use crate::stateless::{Stateless, shown_line};
+use crate::run::stateless::{Stateless, shown_line};
 use iri_grammar::spec::Spec;
 use iri_link::{LinkError, read_links};
 use iri_types::view::RiAbsoluteStr;

@@ -4,15 +4,18 @@ ghost use Rattle.iri_grammar.specs.declared.error.ErrorKind.{ErrorKind};
 ghost use Rattle.iri_text.specs.Sink.{PutsAll};
 ghost use Rattle.iri_register.specs.Entries.{Entry, entry_at};
 ghost use Rattle.iri_register.specs.Refusals.{CausedBy};
-ghost use Rattle.iri_cli.specs.Refused.{is_not_bad};
-ghost use Rattle.iri_cli.specs.RegisterAnswers.{answer_to, entry_line, entry_lines, joined, more_numbers, numbered};
-ghost use Rattle.iri_cli.specs.RegisterLines.{command_of};
+ghost use Rattle.iri_cli.specs.run.Refused.{is_not_bad};
+ghost use Rattle.iri_cli.specs.register.Answers.{answer_to, entry_line, entry_lines, joined, more_numbers, numbered};
+ghost use Rattle.iri_cli.specs.register.Lines.{command_of};
 ghost use Rattle.iri_cli.specs.inside.Asked.{asked};
 ghost use Rattle.iri_cli.specs.inside.Replies.{IsRefusal, reply_text, obeyed_by};
 
-use crate::answers::{AnswerError, Answers};
-use crate::puts::{put_bad, put_bad_line, put_number, told};
-use crate::register_line::{Asked, line_of};
+pub(crate) mod line;
+pub(crate) mod lines;
+
+use crate::register::line::{Asked, line_of};
+use crate::run::answers::{AnswerError, Answers};
+use crate::run::puts::{put_bad, put_bad_line, put_number, told};
 use iri_grammar::error::ErrorKind;
 use iri_grammar::spec::Spec;
 use iri_register::added::Added;

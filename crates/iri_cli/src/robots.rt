@@ -12,14 +12,18 @@ ghost use Rattle.iri_robots.specs.Compared.{subject};
 ghost use Rattle.iri_robots.specs.Decided.{is_allowed};
 ghost use Rattle.iri_robots.specs.Records.{rules_for};
 ghost use Rattle.iri_robots.specs.Stored.{record_texts};
-ghost use Rattle.iri_cli.specs.RobotsAnswers.{answer_to, normal_base, same_site, target_answer, verdict_word};
-ghost use Rattle.iri_cli.specs.RobotsLines.{asks};
+ghost use Rattle.iri_cli.specs.robots.Answers.{answer_to, normal_base, same_site, target_answer, verdict_word};
+ghost use Rattle.iri_cli.specs.robots.Lines.{asks};
 ghost use Rattle.iri_cli.specs.inside.RobotsAt.{PutsReply};
 
-use crate::answers::{AnswerError, Answers};
-use crate::puts::{put_bad, put_bad_line, told};
-use crate::robots_line::{Said, line_of};
-use crate::site::is_of_site;
+pub(crate) mod line;
+pub(crate) mod lines;
+pub(crate) mod sites;
+
+use crate::robots::line::{Said, line_of};
+use crate::robots::sites::is_of_site;
+use crate::run::answers::{AnswerError, Answers};
+use crate::run::puts::{put_bad, put_bad_line, told};
 use iri_grammar::spec::Spec;
 use iri_normal::resolver::FixedBaseResolver;
 use iri_owned::owned::RiAbsoluteString;

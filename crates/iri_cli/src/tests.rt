@@ -8,10 +8,10 @@ mod link_fields;
 mod registers;
 mod schemes;
 
-use crate::buffers::{CanonBuffers, LINE, OUTPUT};
-use crate::canon_lines::canon_lines;
-use crate::notice::HELP;
-use crate::prepared::prepare_base;
+use crate::canon::lines::canon_lines;
+use crate::canon::prepared::prepare_base;
+use crate::help::HELP;
+use crate::run::buffers::{CanonBuffers, LINE, OUTPUT};
 use crate::run::{MEMORY, run};
 use iri_grammar::spec::UriSpec;
 use iri_text::{Failed, MemorySink, MemorySource, PlainSource, Sink, Source};
@@ -140,7 +140,16 @@ fn failing_devices(rt: HostRuntime) -> Result<(), Fail> {
         )?
     );
     let mut source = PlainSource::new(input);
-    assert!(rt; answers(&rt, &["canon", "uri"], &mut source, &[2], 5, b"ok http://a/b\n")?);
+    assert!(rt;
+        answers(
+            &rt,
+            &["canon", "uri"],
+            &mut source,
+            &[2],
+            5,
+            b"ok http://a/b\n"
+        )?
+    );
     Ok(())
 }
 

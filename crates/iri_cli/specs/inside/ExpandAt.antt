@@ -1,12 +1,12 @@
 -- Where `expand` stands behind lines.
 use Rattle.std.specs.Prelude.{◌≡◌, ◌≤◌, ℕ, List, length, None}
 use Rattle.iri_grammar.specs.Classes.{Tests}
-use Rattle.iri_cli.specs.Limits.{longest_line, answer_room}
-use Rattle.iri_cli.specs.Answer.{refusal}
-use Rattle.iri_cli.specs.Answering.{Answering}
+use Rattle.iri_cli.specs.run.Limits.{longest_line, answer_room}
+use Rattle.iri_cli.specs.canon.Answer.{refusal}
+use Rattle.iri_cli.specs.run.Answering.{Answering}
 use Rattle.iri_docs.specs.Expanded.{expansion_limit}
-use Rattle.iri_cli.specs.ExpandLines.{Values, values_behind}
-use Rattle.iri_cli.specs.Words.{expand_rules}
+use Rattle.iri_cli.specs.expand.Lines.{Values, values_behind}
+use Rattle.iri_cli.specs.run.Words.{expand_rules}
 
 -- It has the base, which is taken, and the values behind the lines that were answered. Its buffers have room for each expansion, and
 -- the capacity for each answer.

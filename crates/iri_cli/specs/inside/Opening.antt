@@ -3,13 +3,13 @@ use Rattle.std.specs.Prelude.{◌≡◌, ◌≢◌, ◌≤◌, ℕ, true, List, 
 use Rattle.iri_grammar.specs.Classes.{Tests}
 use Rattle.iri_text.specs.Line.{LineState}
 use Rattle.iri_text.specs.Sink.{KeepsRoom}
-use Rattle.iri_cli.specs.Answer.{refusal}
-use Rattle.iri_cli.specs.Answering.{RefusesBase}
-use Rattle.iri_cli.specs.Ending.{Rules, base_line}
-use Rattle.iri_cli.specs.Read.{HasRead, IsGoing}
-use Rattle.iri_cli.specs.Words.{canon_rules}
-use Rattle.iri_cli.specs.declared.end.End.{End}
-use Rattle.iri_cli.specs.declared.end.End.TheVariants.{SinkFailed}
+use Rattle.iri_cli.specs.canon.Answer.{refusal}
+use Rattle.iri_cli.specs.run.Answering.{RefusesBase}
+use Rattle.iri_cli.specs.run.Ending.{Rules, base_line}
+use Rattle.iri_cli.specs.run.Read.{HasRead, IsGoing}
+use Rattle.iri_cli.specs.run.Words.{canon_rules}
+use Rattle.iri_cli.specs.declared.run.end.End.{End}
+use Rattle.iri_cli.specs.declared.run.end.End.TheVariants.{SinkFailed}
 
 -- Limits and base of a command are those of `canon`, and its answers take memory.
 pub record BeginsAsCanon (s : Tests) (rules : Rules) : Type 0 where

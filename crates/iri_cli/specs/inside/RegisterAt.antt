@@ -2,9 +2,9 @@
 use Rattle.std.specs.Prelude.{◌≡◌, ℕ, length}
 use Rattle.iri_grammar.specs.Classes.{Tests}
 use Rattle.iri_register.specs.Kept.{Kept}
-use Rattle.iri_cli.specs.Answering.{Answering}
-use Rattle.iri_cli.specs.RegisterLines.{entries_behind}
-use Rattle.iri_cli.specs.Words.{register_rules}
+use Rattle.iri_cli.specs.run.Answering.{Answering}
+use Rattle.iri_cli.specs.register.Lines.{entries_behind}
+use Rattle.iri_cli.specs.run.Words.{register_rules}
 
 -- It has the base, the entries behind the lines that were answered, and their count.
 pub record IsRegisterAt (s : Tests) (kept : Kept) (answered : ℕ) (at : Answering) : Type 0 where

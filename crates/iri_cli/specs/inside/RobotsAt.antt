@@ -3,13 +3,13 @@ use Rattle.std.specs.Prelude.{◌≡◌, ◌≢◌, ℕ, Bool, List, Option, Res
 use Rattle.iri_grammar.specs.Classes.{Tests}
 use Rattle.iri_robots.specs.Records.{FileRecord}
 use Rattle.iri_text.specs.Sink.{Appends, KeepsRoom}
-use Rattle.iri_cli.specs.Answering.{Answering, FailsWithin}
-use Rattle.iri_cli.specs.Refused.{is_not_bad}
-use Rattle.iri_cli.specs.RobotsAnswers.{normal_base}
-use Rattle.iri_cli.specs.RobotsLines.{records_behind}
-use Rattle.iri_cli.specs.Words.{robots_rules}
-use Rattle.iri_cli.specs.declared.answers.AnswerError.{AnswerError}
-use Rattle.iri_cli.specs.declared.answers.AnswerError.TheVariants.{SinkFailed, Memory}
+use Rattle.iri_cli.specs.run.Answering.{Answering, FailsWithin}
+use Rattle.iri_cli.specs.run.Refused.{is_not_bad}
+use Rattle.iri_cli.specs.robots.Answers.{normal_base}
+use Rattle.iri_cli.specs.robots.Lines.{records_behind}
+use Rattle.iri_cli.specs.run.Words.{robots_rules}
+use Rattle.iri_cli.specs.declared.run.answers.AnswerError.{AnswerError}
+use Rattle.iri_cli.specs.declared.run.answers.AnswerError.TheVariants.{SinkFailed, Memory}
 
 -- It has the token, the base as it stands and in normal form, and the records behind the lines that were answered.
 pub record IsRobotsAt (s : Tests) (token base normal : List ℕ) (records : List FileRecord) (at : Answering) : Type 0 where

@@ -1,7 +1,7 @@
 -- What the code reads of a line of `robots`, in the terms of the definitions.
-use Rattle.iri_cli.specs.RobotsLines.{RobotsLine, feeds, asks, bad}
-use Rattle.iri_cli.specs.declared.robots_line.Said.{Said}
-use Rattle.iri_cli.specs.declared.robots_line.Said.TheVariants.{Feeds, Asks, Bad}
+use Rattle.iri_cli.specs.robots.Lines.{RobotsLine, feeds, asks, bad}
+use Rattle.iri_cli.specs.declared.robots.line.Said.{Said}
+use Rattle.iri_cli.specs.declared.robots.line.Said.TheVariants.{Feeds, Asks, Bad}
 
 abbrev pub said : Said → RobotsLine
 said (Feeds line) = feeds line.now

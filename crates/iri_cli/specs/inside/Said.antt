@@ -2,11 +2,11 @@
 use Rattle.std.specs.Prelude.{ℕ, List, Option, None, Some}
 use denote.Ref.{Bor}
 use Rattle.iri_template.specs.declared.var_name.VarName.{VarName}
-use Rattle.iri_cli.specs.ExpandLines.{Change, sets, adds_item, adds_pair, unsets, ExpandLine, changes, expands, bad}
-use Rattle.iri_cli.specs.declared.expand_line.Change as code
-use Rattle.iri_cli.specs.declared.expand_line.Change.TheVariants.{Sets, AddsItem, AddsPair, Unsets}
-use Rattle.iri_cli.specs.declared.expand_line.Said.{Said}
-use Rattle.iri_cli.specs.declared.expand_line.Said.TheVariants.{Changes, Expands, Bad}
+use Rattle.iri_cli.specs.expand.Lines.{Change, sets, adds_item, adds_pair, unsets, ExpandLine, changes, expands, bad}
+use Rattle.iri_cli.specs.declared.expand.line.Change as code
+use Rattle.iri_cli.specs.declared.expand.line.Change.TheVariants.{Sets, AddsItem, AddsPair, Unsets}
+use Rattle.iri_cli.specs.declared.expand.line.Said.{Said}
+use Rattle.iri_cli.specs.declared.expand.line.Said.TheVariants.{Changes, Expands, Bad}
 
 -- a variable's name and what is behind it
 abbrev pub named_now : Option (VarName × Bor (List ℕ)) → Option (List ℕ × List ℕ)

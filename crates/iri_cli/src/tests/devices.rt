@@ -1,6 +1,6 @@
 // Sources that give few bytes at a time or fail, sinks that fail, and deep paths.
 use super::{answers, canon_uri};
-use crate::buffers::LINE;
+use crate::run::buffers::LINE;
 use iri_text::{MemorySource, PlainSource};
 use std::test::Fail;
 

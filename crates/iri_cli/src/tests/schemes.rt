@@ -1,8 +1,8 @@
 // The rows of `canon` by scheme rules.
 
 use super::{answers, right_rows};
-use crate::buffers::CanonBuffers;
-use crate::canon_lines::canon_lines_in;
+use crate::canon::lines::canon_lines_in;
+use crate::run::buffers::CanonBuffers;
 use iri_grammar::spec::IriSpec;
 use iri_normal::mode::CanonMode;
 use iri_text::{MemorySink, PlainSource};

@@ -1,12 +1,12 @@
 use Rattle.std.proofs.Common.{◌≢◌, ◌≤◌, ◌+◌, ◌++◌, ◌∷◌, [], ◌∙◌, Some, Err, true, false, ap, arith, length, refl, subst, sym}
 use Rattle.std.specs.Prelude.{codes}
 use Rattle.iri_text.specs.Sink.{PutsAll, KeepsRoom}
-use Rattle.iri_cli.specs.declared.answers.AnswerError.TheVariants.{SinkFailed}
+use Rattle.iri_cli.specs.declared.run.answers.AnswerError.TheVariants.{SinkFailed}
 use Rattle.iri_types.specs.SplitText.{split_text}
 use Rattle.iri_normal.specs.NormalForm.{canonical_in}
 use Rattle.iri_normal.specs.Resolver.{base_text}
-use Rattle.iri_cli.specs.Answer.{answer_in, good_answer, bad_answer}
-use Rattle.iri_cli.specs.CanonAnswers.{PutsLine, told_of}
+use Rattle.iri_cli.specs.canon.Answer.{answer_in, good_answer, bad_answer}
+use Rattle.iri_cli.specs.canon.Puts.{PutsLine, told_of}
 use Rattle.iri_cli.proofs.AnswerLemmas.{answer_of_reference, answer_of_fault}
 use Rattle.iri_cli.proofs.CanonLemmas.{puts_line, line_room, has_room}
 use Rattle.iri_cli.proofs.canon.put_answer.Goals as goal

@@ -4,10 +4,10 @@ use Rattle.iri_normal.specs.Resolver.{base_text}
 use Rattle.iri_template.specs.Contexts.{value_in}
 use Rattle.iri_template.specs.ExpandedTexts.{expanded_text}
 use Rattle.iri_docs.specs.Expanded.{expansion_limit}
-use Rattle.iri_cli.specs.Answer.{answer}
-use Rattle.iri_cli.specs.CanonAnswers.{PutsLine}
-use Rattle.iri_cli.specs.ExpandAnswers.{too_long}
-use Rattle.iri_cli.specs.declared.answers.AnswerError.TheVariants.{SinkFailed}
+use Rattle.iri_cli.specs.canon.Answer.{answer}
+use Rattle.iri_cli.specs.canon.Puts.{PutsLine}
+use Rattle.iri_cli.specs.expand.Answers.{too_long}
+use Rattle.iri_cli.specs.declared.run.answers.AnswerError.TheVariants.{SinkFailed}
 use Rattle.iri_cli.proofs.ExpandLemmas.{long_answer, short_answer, told_line, told_room}
 use Rattle.iri_cli.proofs.expand.put_expansion.Goals as goal
 

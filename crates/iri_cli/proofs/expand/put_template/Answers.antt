@@ -8,10 +8,10 @@ use Rattle.iri_template.specs.Fault.{first, template_fault}
 use Rattle.iri_template.specs.Reading.{pieces_of}
 use Rattle.iri_template.specs.TypeFaults.{type_fault}
 use Rattle.iri_template.specs.declared.error.Error.{Error}
-use Rattle.iri_cli.specs.CanonAnswers.{PutsLine}
-use Rattle.iri_cli.specs.ExpandAnswers.{expansion_answer, template_answer, template_refusal}
-use Rattle.iri_cli.specs.ExpandLines.{Values}
-use Rattle.iri_cli.specs.declared.answers.AnswerError.TheVariants.{SinkFailed}
+use Rattle.iri_cli.specs.canon.Puts.{PutsLine}
+use Rattle.iri_cli.specs.expand.Answers.{expansion_answer, template_answer, template_refusal}
+use Rattle.iri_cli.specs.expand.Lines.{Values}
+use Rattle.iri_cli.specs.declared.run.answers.AnswerError.TheVariants.{SinkFailed}
 use Rattle.iri_cli.proofs.ExpandLemmas.{template_expanded, template_refused, told_line, told_room}
 use Rattle.iri_cli.proofs.expand.put_template.Goals as goal
 

@@ -1,5 +1,5 @@
 use Rattle.std.proofs.Common.{◌≡◌, ◌≤◌, ◌*◌, ◌^◌}
-use Rattle.iri_cli.specs.Gen.{gen_state, gen_bytes, gen_sum}
+use Rattle.iri_cli.specs.generator.References.{gen_state, gen_bytes, gen_sum}
 use Rattle.iri_cli.proofs.generator.totals_of.Given as goal
 
 abbrev pub invariant-loop-i : goal.invariant-loop-i

@@ -1,6 +1,6 @@
 use Rattle.std.proofs.Common.{Ok, take}
 use Rattle.iri_text.specs.Sink.{PutsAll}
-use Rattle.iri_cli.specs.RegisterAnswers.{entry_lines}
+use Rattle.iri_cli.specs.register.Answers.{entry_lines}
 use Rattle.iri_cli.proofs.register.put_entries.Given as goal
 
 abbrev pub invariant-loop-index : goal.invariant-loop-index

@@ -1,6 +1,6 @@
 use Rattle.std.proofs.Common.{Ok, take}
 use Rattle.iri_text.specs.Sink.{PutsAll}
-use Rattle.iri_cli.specs.RegisterAnswers.{more_numbers}
+use Rattle.iri_cli.specs.register.Answers.{more_numbers}
 use Rattle.iri_cli.proofs.register.put_more.Given as goal
 
 abbrev pub invariant-loop-number : goal.invariant-loop-number

@@ -7,7 +7,7 @@ use Rattle.iri_robots.specs.Records.{rules_for}
 use Rattle.iri_robots.specs.Stored.{record_texts}
 use Rattle.iri_robots.specs.declared.robots.Verdict.TheVariants.{Allow}
 use Rattle.iri_types.specs.Texts.{text}
-use Rattle.iri_cli.specs.RobotsAnswers.{same_site}
+use Rattle.iri_cli.specs.robots.Answers.{same_site}
 use Rattle.iri_cli.proofs.RobotsLemmas.{allow_told, disallow_told, word_is}
 use Rattle.iri_cli.proofs.robots.verdict_word.Goals as goal
 

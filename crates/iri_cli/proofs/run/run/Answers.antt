@@ -1,11 +1,11 @@
 use Rattle.std.proofs.Common.{◌≡◌, ◌⊎◌, ℕ, map, string_bytes, subst, sym}
-use Rattle.iri_cli.specs.Words.{IsCommand, tests_of}
-use Rattle.iri_cli.specs.declared.command.Command.TheVariants.{Lines, Robots, Gen, Tell}
+use Rattle.iri_cli.specs.run.Words.{IsCommand, tests_of}
+use Rattle.iri_cli.specs.declared.run.words.Command.TheVariants.{Lines, Robots, Gen, Tell}
 use Rattle.iri_cli.proofs.BytesLemmas.{canonical_answers, grammar_is_spec}
-use Rattle.iri_cli.specs.Gen.{gen_text}
-use Rattle.iri_cli.specs.Notices.{Tells}
-use Rattle.iri_cli.specs.Run.{outside}
-use Rattle.iri_cli.specs.declared.command.Grammar.{Grammar}
+use Rattle.iri_cli.specs.generator.References.{gen_text}
+use Rattle.iri_cli.specs.help.Notices.{Tells}
+use Rattle.iri_cli.specs.run.Run.{outside}
+use Rattle.iri_cli.specs.declared.run.words.Grammar.{Grammar}
 use Rattle.iri_cli.proofs.GenLemmas.{told}
 use Rattle.iri_cli.proofs.WordLemmas.{one_gen}
 use Rattle.iri_cli.proofs.run.run.Goals as goal

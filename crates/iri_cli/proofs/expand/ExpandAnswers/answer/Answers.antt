@@ -2,8 +2,8 @@ use Rattle.std.proofs.Common.{◌∙◌, arith, false, refl, sym}
 use Rattle.std.specs.Vec.{vec_capacity, with_items}
 use Rattle.iri_normal.specs.Resolver.{base_text}
 use Rattle.iri_template.specs.Contexts.{value_in}
-use Rattle.iri_cli.specs.Refused.{bad_line}
-use Rattle.iri_cli.specs.ExpandLines.{bad, changes, expands}
+use Rattle.iri_cli.specs.run.Refused.{bad_line}
+use Rattle.iri_cli.specs.expand.Lines.{bad, changes, expands}
 use Rattle.iri_cli.specs.inside.Said.{change_of}
 use Rattle.iri_cli.proofs.ExpandLemmas.{answers_memory, answers_nothing, answers_text, template_good, told_line, told_room}
 use Rattle.iri_cli.proofs.expand.ExpandAnswers.answer.Goals as goal

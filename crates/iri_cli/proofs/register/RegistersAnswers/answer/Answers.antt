@@ -1,7 +1,7 @@
 use Rattle.std.proofs.Common.{◌+◌, ◌∙◌, ap, refl, subst, sym}
-use Rattle.iri_cli.specs.Answering.{AnswersLine}
-use Rattle.iri_cli.specs.RegisterAnswers.{answer_to}
-use Rattle.iri_cli.specs.RegisterLines.{command_of}
+use Rattle.iri_cli.specs.run.Answering.{AnswersLine}
+use Rattle.iri_cli.specs.register.Answers.{answer_to}
+use Rattle.iri_cli.specs.register.Lines.{command_of}
 use Rattle.iri_cli.specs.inside.RegisterAt.{IsRegisterAt}
 use Rattle.iri_cli.specs.inside.Replies.{obeyed_by, reply_text}
 use Rattle.iri_cli.proofs.RegisterLemmas.{answers_line}

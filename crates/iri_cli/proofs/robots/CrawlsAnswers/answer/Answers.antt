@@ -1,10 +1,10 @@
 use Rattle.std.proofs.Common.{◌++◌, ◌∙◌, [], Ok, ap, false, refl, string_bytes, subst, sym, true}
 use Rattle.iri_robots.specs.Stored.{record_texts}
-use Rattle.iri_cli.specs.Answering.{AnswersLine}
-use Rattle.iri_cli.specs.CanonAnswers.{told_of}
-use Rattle.iri_cli.specs.Refused.{bad_line}
-use Rattle.iri_cli.specs.RobotsAnswers.{answer_to}
-use Rattle.iri_cli.specs.RobotsLines.{asks, bad, fed}
+use Rattle.iri_cli.specs.run.Answering.{AnswersLine}
+use Rattle.iri_cli.specs.canon.Puts.{told_of}
+use Rattle.iri_cli.specs.run.Refused.{bad_line}
+use Rattle.iri_cli.specs.robots.Answers.{answer_to}
+use Rattle.iri_cli.specs.robots.Lines.{asks, bad, fed}
 use Rattle.iri_cli.specs.inside.RobotsAt.{IsRobotsAt}
 use Rattle.iri_cli.proofs.RobotsLemmas.{answers_line, no_reply, replies, unfed}
 use Rattle.iri_cli.proofs.robots.CrawlsAnswers.answer.Goals as goal

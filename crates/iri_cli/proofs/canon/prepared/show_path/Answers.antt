@@ -1,0 +1,11 @@
+use Rattle.std.proofs.Common.{◌≡◌, ◌∙◌, true, sym, subst}
+use Rattle.iri_grammar.specs.Classes.{path_char}
+use Rattle.iri_grammar.specs.Components.{is_path}
+use Rattle.iri_normal.proofs.TargetLaws.{cut_over}
+use Rattle.iri_cli.proofs.canon.prepared.show_path.Goals as goal
+
+pub show_guarded-requires : goal.show_guarded-requires
+show_guarded-requires g c =
+    let s = g.S.Spec.tests in
+    subst (λ z. is_path s z ≡ true) (sym (c.of.ensures ∙ c.cut_last_segment.ensures.front))
+    (cut_over (path_char s) c.args.path.now c.requires).0

@@ -1,0 +1,34 @@
+-- What the answers of `canon` do to a sink.
+use Rattle.std.specs.Prelude.{◌≡◌, ◌≤◌, ℕ, Bool, List, length, Option, None, Result, Ok, Err}
+use Rattle.iri_grammar.specs.Classes.{Tests}
+use Rattle.iri_text.specs.Sink.{Appends}
+use Rattle.iri_text.specs.declared.Failed.{Failed}
+use Rattle.iri_percent.specs.declared.canon_mode.CanonMode.{CanonMode}
+use Rattle.iri_cli.specs.run.Limits.{longest_line, answer_room}
+use Rattle.iri_cli.specs.canon.Answer.{refusal, answer_in}
+use Rattle.iri_cli.specs.run.Answering.{Answering, FailsWithin}
+use Rattle.iri_cli.specs.run.Words.{canon_rules_in, is_ok}
+use Rattle.iri_cli.specs.declared.run.answers.AnswerError.{AnswerError}
+use Rattle.iri_cli.specs.declared.run.answers.AnswerError.TheVariants.{SinkFailed, Memory}
+
+-- The whole answer was written, and it is said whether it is good; or the sink failed, and a prefix of it was written.
+abbrev pub PutsLine : (written_old written_new : Option (List ℕ)) → (faults_old faults_new : ℕ) → List ℕ → Result Bool AnswerError → Type 0
+PutsLine written_old written_new faults_old faults_new answer (Ok good) =
+    Appends written_old written_new answer × (faults_new ≡ faults_old) × (good ≡ is_ok answer)
+PutsLine written_old written_new faults_old faults_new answer (Err SinkFailed) =
+    FailsWithin written_old written_new faults_old faults_new answer
+PutsLine written_old written_new faults_old faults_new answer (Err Memory) = ⊥
+
+-- what is said of an answer that is good or not, where its pieces were put or the sink failed
+abbrev pub told_of : Bool → Result (Unit {0}) Failed → Result Bool AnswerError
+told_of good (Ok x) = Ok good
+told_of good (Err failed) = Err SinkFailed
+
+-- `canon` stands at a base that is taken, holds a text that has the same answers, and its output buffer has the capacity for each of
+-- them.
+pub record IsCanonAt (s : Tests) (mode : CanonMode) (base : List ℕ) (output : ℕ) (at : Answering) : Type 0 where
+  pub rules : at.rules ≡ canon_rules_in s mode
+  pub same : (line : List ℕ) → answer_in s mode base line ≡ answer_in s mode at.base line
+  pub taken : refusal s base ≡ None
+  pub short : length base ≤ longest_line
+  pub room : answer_room ≤ output

@@ -1,0 +1,3 @@
+-- The command `docs`.
+pub mod Answers
+pub mod Examples

@@ -1,0 +1,4 @@
+-- The command `expand`.
+pub mod Lines
+pub mod Answers
+pub mod Examples

@@ -1,0 +1,3 @@
+-- The command `gen`.
+pub mod References
+pub mod Examples

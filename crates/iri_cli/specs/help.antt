@@ -1,0 +1,2 @@
+-- `--help` and `--version`.
+pub mod Notices

@@ -1,0 +1,3 @@
+-- The command `links`.
+pub mod Answers
+pub mod Examples

@@ -1,0 +1,5 @@
+-- The command `register`.
+pub mod Lines
+pub mod Shared
+pub mod Answers
+pub mod Examples

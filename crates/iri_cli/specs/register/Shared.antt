@@ -1,0 +1,34 @@
+-- The command `register`: lines that are live, and share an entry.
+use Rattle.std.specs.Prelude.{◌≡◌, ℕ, ◌+◌, List, ◌∷◌, ◌++◌, length, None, Some}
+use Rattle.std.specs.List.{All}
+use Rattle.iri_grammar.specs.Classes.{Tests}
+use Rattle.iri_grammar.specs.Fault.{bytes_fault}
+use Rattle.iri_grammar.specs.WholeFault.{reference_fault}
+use Rattle.iri_normal.specs.NormalForm.{canonical}
+use Rattle.iri_register.specs.Entries.{place}
+use Rattle.iri_cli.specs.register.Lines.{RegisterLine, adds, removes, finds, bad, line_of, entries_behind}
+
+module _ (s : Tests) (base : List ℕ) where
+  -- the line takes the entry of this target out: it removes a reference without a fault that has this target
+  abbrev pub TakesOut : List ℕ → RegisterLine → Type 0
+  TakesOut target (removes r) = (bytes_fault (reference_fault s) r ≡ None) × (canonical s base r ≡ target)
+  TakesOut target (adds r) = ⊥
+  TakesOut target (finds r) = ⊥
+  TakesOut target bad = ⊥
+
+  -- Of the lines behind the base, which has number 1, the one of this number adds this reference, which has no fault, and no line after it
+  -- takes the entry of its target out.
+  pub record IsLiveLine (lines : List (List ℕ)) (number : ℕ) (reference : List ℕ) : Type 0 where
+    pub before : List (List ℕ)
+    pub line : List ℕ
+    pub after : List (List ℕ)
+    pub split : lines ≡ before ++ line ∷ after
+    pub numbered : number ≡ 2 + length before
+    pub asks : line_of line ≡ adds reference
+    pub faultless : bytes_fault (reference_fault s) reference ≡ None
+    pub stays : All (λ l. ¬ (TakesOut (canonical s base reference) (line_of l))) after
+
+  -- behind these lines one entry has the targets of both references
+  abbrev pub ShareEntry : List (List ℕ) → List ℕ → List ℕ → Type 0
+  ShareEntry lines q r = (k : ℕ) × (place (entries_behind s base lines) (canonical s base q) ≡ Some k)
+      × (place (entries_behind s base lines) (canonical s base r) ≡ Some k)

@@ -1,0 +1,11 @@
+-- The run over the lines of an input.
+pub mod Limits
+pub mod Ending
+pub mod Words
+pub mod Run
+pub mod Buffers
+pub mod Read
+pub mod Steps
+pub mod Answering
+pub mod Closes
+pub mod Refused

@@ -1,0 +1,81 @@
+-- What answers the lines behind a base, and what its calls do to a sink.
+use Rattle.std.specs.Prelude.{◌≡◌, ◌≢◌, ◌≤◌, ℕ, Bool, true, false, List, [], ◌∷◌, ◌++◌, Option, None, Result, Ok, Err, OnOk}
+use Rattle.iri_text.specs.Count.{Rose}
+use Rattle.iri_text.specs.Sink.{Appends, AppendsPrefix, KeepsRoom}
+use Rattle.iri_text.specs.Line.{LineState}
+use Rattle.iri_cli.specs.run.Ending.{Rules, base_line}
+use Rattle.iri_cli.specs.run.Read.{HasRead, IsGoing}
+use Rattle.iri_cli.specs.run.Run.{Outside, outside, Ran}
+use Rattle.iri_cli.specs.declared.run.answers.AnswerError.{AnswerError}
+use Rattle.iri_cli.specs.declared.run.answers.AnswerError.TheVariants.{SinkFailed as AnswerFailed, Memory as AnswerMemory}
+use Rattle.iri_cli.specs.declared.run.end.End.{End}
+use Rattle.iri_cli.specs.declared.run.end.End.TheVariants.{Done, SomeBad, BadBase, SinkFailed, Memory}
+
+-- the command that answers, the base, and the lines that were answered behind it
+pub record Answering : Type 0 where
+  pub rules : Rules
+  pub base : List ℕ
+  pub between : List (List ℕ)
+
+-- a prefix of these bytes was written, and the sink failed
+abbrev pub FailsWithin : (written_old written_new : Option (List ℕ)) → (faults_old faults_new : ℕ) → List ℕ → Type 0
+FailsWithin written_old written_new faults_old faults_new bytes =
+    AppendsPrefix written_old written_new bytes × Rose faults_old faults_new × (faults_old ≤ faults_new)
+
+-- the line that says why a base line is refused was written, or the sink failed
+abbrev pub RefusesBase : (words : List ℕ) → (written_old written_new : Option (List ℕ)) → (faults_old faults_new : ℕ) → End → Type 0
+RefusesBase words written_old written_new faults_old faults_new BadBase =
+    Appends written_old written_new (base_line words) × (faults_new ≡ faults_old)
+RefusesBase words written_old written_new faults_old faults_new SinkFailed =
+    FailsWithin written_old written_new faults_old faults_new (base_line words)
+RefusesBase words written_old written_new faults_old faults_new end = ⊥
+
+module _ (rules : Rules) (written_old written_new : Option (List ℕ)) (faults_old faults_new : ℕ) where
+  -- allocation failed, and nothing was written
+  abbrev pub IsRefusedMemory : Type 0
+  IsRefusedMemory = (rules.takes_memory ≡ true) × (written_new ≡ written_old) × (faults_new ≡ faults_old)
+
+  -- The whole answer was written, and it is said whether it is good; or the sink failed; or allocation failed.
+  abbrev pub PutsAnswer : List ℕ → Result Bool AnswerError → Type 0
+  PutsAnswer answer (Ok good) = Appends written_old written_new answer × (faults_new ≡ faults_old) × (good ≡ rules.is_good answer)
+  PutsAnswer answer (Err AnswerFailed) = FailsWithin written_old written_new faults_old faults_new answer
+  PutsAnswer answer (Err AnswerMemory) = IsRefusedMemory
+
+  -- The same of the text behind all answers.
+  abbrev pub PutsClosing : List ℕ → Result (Unit {0}) AnswerError → Type 0
+  PutsClosing text (Ok x) = Appends written_old written_new text × (faults_new ≡ faults_old)
+  PutsClosing text (Err AnswerFailed) = FailsWithin written_old written_new faults_old faults_new text
+  PutsClosing text (Err AnswerMemory) = IsRefusedMemory
+
+  -- The same, and the end of the run.
+  abbrev pub ClosesRun : Bool → List ℕ → End → Type 0
+  ClosesRun good text Done = (good ≡ true) × Appends written_old written_new text × (faults_new ≡ faults_old)
+  ClosesRun good text SomeBad = (good ≡ false) × Appends written_old written_new text × (faults_new ≡ faults_old)
+  ClosesRun good text SinkFailed = FailsWithin written_old written_new faults_old faults_new text
+  ClosesRun good text Memory = IsRefusedMemory
+  ClosesRun good text end = ⊥
+
+-- A line was answered, and is then one of those between. A sink that is known to have room for the answer didn't fail.
+pub record AnswersLine (is_new : Answering → Type 0) (old : Answering) (line : List ℕ) (written_old written_new : Option (List ℕ))
+    (faults_old faults_new : ℕ) (room_old room_new : Option ℕ) (result : Result Bool AnswerError) : Type 0 where
+  pub puts : PutsAnswer old.rules written_old written_new faults_old faults_new (old.rules.answer old.base old.between line) result
+  pub next : OnOk result (is_new (record old { between = old.between ++ line ∷ [] }))
+  pub room : KeepsRoom room_old room_new (old.rules.answer old.base old.between line) (result ≢ Err AnswerFailed)
+
+-- A base line that is taken was read, no line behind it was answered, and the reader goes on.
+pub record IsReady (stands_at : Answering → Type 0) (start : Answering) (reader : LineState) : Type 0 where
+  pub at : stands_at start
+  pub first : start.between ≡ []
+  pub base_taken : start.rules.refusal start.base ≡ None
+  pub going : IsGoing start.rules reader
+
+-- The lines behind the base were answered, whatever the source had left before the base line was read.
+abbrev pub AnswersLines : Answering → LineState → Outside → Outside → Option ℕ → Option ℕ → End → Type 0
+AnswersLines answering reader old new room_old room_new end =
+    (left : Option (List ℕ)) (faults : ℕ) → HasRead answering.rules left old.left reader (answering.base ∷ []) → faults ≤ old.source_faults
+    → Ran answering.rules (outside left old.written faults old.sink_faults) new room_old room_new end
+
+-- the end of a run at an answer that failed
+abbrev pub end_of_error : AnswerError → End
+end_of_error AnswerFailed = SinkFailed
+end_of_error AnswerMemory = Memory

@@ -1,0 +1,45 @@
+-- The ends of a run by what its steps answer, and the base line.
+use Rattle.std.specs.Prelude.{◌≡◌, ◌⊎◌, ◌≤◌, ℕ, Bool, true, false, List, [], ◌∷◌, length, Option, Result, Ok, Err}
+use Rattle.iri_text.specs.Line.{LineState}
+use Rattle.iri_cli.specs.run.Ending.{Rules}
+use Rattle.iri_cli.specs.run.Read.{HasRead, ReadsAll, IsGoing}
+use Rattle.iri_cli.specs.run.Run.{outside, Ran}
+use Rattle.iri_text.specs.declared.streams.reader.LineFault.{LineFault}
+use Rattle.iri_text.specs.declared.streams.reader.LineFault.TheVariants.{Source, LineTooLong as FaultLineTooLong}
+use Rattle.iri_text.specs.declared.streams.reader.LineFault.TheVariants.{InputTooLong as FaultInputTooLong}
+use Rattle.iri_cli.specs.declared.run.end.End.{End}
+use Rattle.iri_cli.specs.declared.run.end.End.TheVariants.{Done, SomeBad, SourceFailed, LineTooLong, InputTooLong}
+
+-- the end of a run at a fault of its reader
+abbrev pub end_at : LineFault → End
+end_at Source = SourceFailed
+end_at FaultLineTooLong = LineTooLong
+end_at FaultInputTooLong = InputTooLong
+
+-- the end of a run whose answers are all good, or not
+abbrev pub end_of_all : Bool → End
+end_of_all true = Done
+end_of_all false = SomeBad
+
+-- a reader that took nothing yet
+pub record IsNew (rules : Rules) (reader : LineState) : Type 0 where
+  pub held : reader.held ≡ []
+  pub taken : reader.taken ≡ 0
+  pub ended : reader.ended ≡ false
+  pub going : reader.done ≡ false
+  pub line_limit : reader.line_limit ≡ rules.line_limit
+  pub input_limit : reader.input_limit ≡ rules.input_limit
+
+-- This is the base line, and lines may follow; or there is no line, and the base is the empty text.
+abbrev pub GivesBase : Rules → Option (List ℕ) → Option (List ℕ) → LineState → List ℕ → Type 0
+GivesBase rules left_old left_new reader base =
+    (HasRead rules left_old left_new reader (base ∷ []) × IsGoing rules reader) ⊎ (ReadsAll rules left_old left_new [] × (base ≡ []))
+
+-- This base line was read; or the run ended, and nothing was written.
+abbrev pub ReadsBase : Rules → Option (List ℕ) → Option (List ℕ) → ℕ → ℕ → LineState → List ℕ → Result (Unit {0}) LineFault → Type 0
+ReadsBase rules left_old left_new faults_old faults_new reader base (Ok x) =
+    GivesBase rules left_old left_new reader base × (length base ≤ rules.line_limit) × (faults_old ≤ faults_new)
+ReadsBase rules left_old left_new faults_old faults_new reader base (Err fault) =
+    (written : Option (List ℕ)) (sink_faults : ℕ) (sink_room : Option ℕ)
+    → Ran rules (outside left_old written faults_old sink_faults) (outside left_new written faults_new sink_faults) sink_room sink_room
+    (end_at fault)

@@ -1,0 +1,109 @@
+// The lines behind the base line.
+ghost use Rattle.std.specs.Prelude.{◌≡◌, ◌≢◌, ◌≤◌, length};
+ghost use Rattle.iri_text.specs.Sink.{KeepsRoom};
+ghost use Rattle.iri_cli.specs.run.Run.{outside};
+ghost use Rattle.iri_cli.specs.run.Steps.{end_at, end_of_all};
+ghost use Rattle.iri_cli.specs.run.Answering.{Answering, AnswersLine, AnswersLines, IsReady, ClosesRun, end_of_error};
+ghost use Rattle.iri_cli.specs.declared.run.end.End.TheVariants.{SinkFailed};
+
+use crate::run::answers::{AnswerError, Answers};
+use crate::run::end::End;
+use iri_text::{Failed, LineFault, LineReader, Sink, Source};
+
+/// The end of a run at a fault of its reader.
+pub fn fault_end(fault: LineFault) -> End
+    ensures { result ≡ end_at fault }
+{
+    match fault {
+        LineFault::Source => End::SourceFailed,
+        LineFault::LineTooLong => End::LineTooLong,
+        LineFault::InputTooLong => End::InputTooLong,
+    }
+}
+
+// The end of a run that answered all lines.
+fn last_end(all_good: bool) -> End
+    ensures { result ≡ end_of_all all_good }
+{
+    if all_good { End::Done } else { End::SomeBad }
+}
+
+// The end of a run at an answer that failed.
+fn error_end(error: AnswerError) -> End
+    ensures { result ≡ end_of_error error }
+{
+    match error {
+        AnswerError::SinkFailed => End::SinkFailed,
+        AnswerError::Memory => End::Memory,
+    }
+}
+
+// Answers the line that the reader has. Where no LF is held behind it, the sink then hands on what it holds back.
+fn answer_line<A: Answers, O: Sink>(
+    answers: &mut A,
+    reader: &LineReader,
+    sink: &mut O,
+) -> Result<bool, AnswerError>
+    requires { (at : Answering) × (A.stands_at answers.old at) × (length reader.now.line ≤ at.rules.line_limit)
+        × (length at.between ≤ at.rules.input_limit) }
+    ensures { (at : Answering) → A.stands_at answers.old at
+        → AnswersLine (A.stands_at answers.new) at reader.now.line (O.written sink.old) (O.written sink.new)
+        (O.faults sink.old) (O.faults sink.new) (O.room_left sink.old) (O.room_left sink.new) result }
+{
+    let answer = answers.answer(reader.line(), sink);
+    if reader.holds_lf() {
+        return answer;
+    }
+    match answer {
+        Ok(good) => match sink.flush() {
+            Ok(()) => Ok(good),
+            Err(Failed) => Err(AnswerError::SinkFailed),
+        },
+        Err(error) => Err(error),
+    }
+}
+
+// Puts the text behind all answers.
+fn close_lines<A: Answers, O: Sink>(answers: &mut A, all_good: bool, sink: &mut O) -> End
+    ensures closes { (at : Answering) → A.stands_at answers.old at
+        → ClosesRun at.rules (O.written sink.old) (O.written sink.new) (O.faults sink.old) (O.faults sink.new) all_good
+        (at.rules.closing at.base at.between) result }
+    ensures room { (at : Answering) → A.stands_at answers.old at
+        → KeepsRoom (O.room_left sink.old) (O.room_left sink.new) (at.rules.closing at.base at.between)
+        (result ≢ SinkFailed) }
+{
+    match answers.close(sink) {
+        Ok(()) => last_end(all_good),
+        Err(error) => error_end(error),
+    }
+}
+
+/// Answers the lines behind a base line that is taken, which the reader gave before.
+pub fn answer_lines<A: Answers, I: Source, O: Sink>(
+    answers: &mut A,
+    mut reader: LineReader,
+    source: &mut I,
+    sink: &mut O,
+) -> End
+    requires { (start : Answering) × IsReady (A.stands_at answers.old) start reader }
+    ensures { (start : Answering) → IsReady (A.stands_at answers.old) start reader
+        → AnswersLines start reader (outside (I.left source.old) (O.written sink.old) (I.faults source.old)
+        (O.faults sink.old))
+        (outside (I.left source.new) (O.written sink.new) (I.faults source.new) (O.faults sink.new))
+        (O.room_left sink.old) (O.room_left sink.new) result }
+{
+    if let Err(Failed) = sink.flush() {
+        return End::SinkFailed;
+    }
+    let mut all_good = true;
+    loop {
+        match reader.advance(source) {
+            Ok(true) => match answer_line(answers, &reader, sink) {
+                Ok(good) => all_good &= good,
+                Err(error) => return error_end(error),
+            },
+            Ok(false) => return close_lines(answers, all_good, sink),
+            Err(fault) => return fault_end(fault),
+        }
+    }
+}

@@ -1,0 +1,49 @@
+// What several commands put, and say of it.
+ghost use Rattle.std.specs.Prelude.{◌≡◌, [], ◌∷◌, ◌++◌, codes, decimal};
+ghost use Rattle.iri_text.specs.LineEnds.{line_feed};
+ghost use Rattle.iri_text.specs.Sink.{PutsAll};
+ghost use Rattle.iri_cli.specs.canon.Puts.{told_of};
+ghost use Rattle.iri_cli.specs.run.Refused.{bad_line};
+
+use crate::run::answers::AnswerError;
+use iri_text::{Failed, Sink, write_to_slice};
+
+/// Puts a number in decimal.
+pub(crate) fn put_number<O: Sink>(sink: &mut O, number: usize) -> Result<(), Failed>
+    ensures { PutsAll (O.written sink.old) (O.written sink.new) (O.faults sink.old) (O.faults sink.new)
+        (O.room_left sink.old) (O.room_left sink.new) result (decimal number) }
+{
+    let mut digits = [0u8; 20];
+    match write_to_slice(&mut digits, &number) {
+        Ok(text) => sink.put_all(text.as_bytes()),
+        Err(_) => unreachable!(),
+    }
+}
+
+/// Puts the prefix of a refused reference, the words for its fault and an LF.
+pub(crate) fn put_bad<O: Sink>(sink: &mut O, words: &str) -> Result<(), Failed>
+    ensures { PutsAll (O.written sink.old) (O.written sink.new) (O.faults sink.old) (O.faults sink.new)
+        (O.room_left sink.old) (O.room_left sink.new) result (codes "bad " ++ (words.now ++ line_feed ∷ [])) }
+{
+    sink.put_all(b"bad ")?;
+    sink.put_all(words.as_bytes())?;
+    sink.put_all(b"\n")
+}
+
+/// Puts the answer to a line that asks nothing.
+pub(crate) fn put_bad_line<O: Sink>(sink: &mut O) -> Result<(), Failed>
+    ensures { PutsAll (O.written sink.old) (O.written sink.new) (O.faults sink.old) (O.faults sink.new)
+        (O.room_left sink.old) (O.room_left sink.new) result bad_line }
+{
+    sink.put_all(b"bad line\n")
+}
+
+/// What is answered beside what was put.
+pub(crate) fn told(good: bool, put: Result<(), Failed>) -> Result<bool, AnswerError>
+    ensures { result ≡ told_of good put }
+{
+    match put {
+        Ok(()) => Ok(good),
+        Err(Failed) => Err(AnswerError::SinkFailed),
+    }
+}

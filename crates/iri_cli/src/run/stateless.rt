@@ -1,0 +1,93 @@
+// Answers that depend on the base and their line alone.
+ghost use Rattle.std.specs.Prelude.{◌≡◌, ◌≢◌, ◌++◌, ◌∷◌, [], ℕ, List, Err, IfOk, string_bytes};
+ghost use Rattle.iri_grammar.specs.Classes.{Tests};
+ghost use Rattle.iri_text.specs.LineEnds.{line_feed};
+ghost use Rattle.iri_text.specs.Sink.{KeepsRoom};
+ghost use Rattle.iri_types.specs.Texts.{text};
+ghost use Rattle.iri_cli.specs.canon.Puts.{PutsLine};
+ghost use Rattle.iri_cli.specs.declared.run.answers.AnswerError.TheVariants.{SinkFailed};
+
+use crate::run::answers::{AnswerError, Answers};
+use crate::run::puts::told;
+use iri_grammar::spec::Spec;
+use iri_owned::owned::RiAbsoluteString;
+use iri_text::{Show, Sink, try_append_to_string};
+use iri_types::view::RiAbsoluteStr;
+use std::alloc::{AllocError, Global};
+use std::marker::PhantomData;
+
+/// A command that answers a line by the base and that line alone.
+pub trait Stateless {
+    /// The answer, with its LF, by a grammar and the base.
+    ghost answer: { Tests → List ℕ → List ℕ → List ℕ };
+
+    /// The answer to a line, with its LF. It fails on allocation failure alone.
+    fn answer_to<S: Spec>(
+        alloc: Global,
+        base: RiAbsoluteStr<'_, S>,
+        line: &[u8],
+    ) -> Result<String, AllocError>
+        ensures { IfOk result (λ t. string_bytes t ≡ answer S.tests (text base.entry) line.now) };
+}
+
+/// A line of words and a shown text, with its LF.
+pub(crate) fn shown_line<T: Show>(
+    alloc: Global,
+    words: &str,
+    shown: &T,
+) -> Result<String, AllocError>
+    ensures { IfOk result (λ t. string_bytes t ≡ words.now ++ (T.text shown.now ++ line_feed ∷ [])) }
+{
+    let mut line = String::from_str(alloc, words)?;
+    try_append_to_string(&mut line, shown)?;
+    line.push('\n')?;
+    Ok(line)
+}
+
+// Puts an answer, and says whether it is good.
+fn put_answer<O: Sink>(sink: &mut O, answer: &str) -> Result<bool, AnswerError>
+    ensures puts { PutsLine (O.written sink.old) (O.written sink.new) (O.faults sink.old) (O.faults sink.new)
+        answer.now result }
+    ensures room { KeepsRoom (O.room_left sink.old) (O.room_left sink.new) answer.now (result ≢ Err SinkFailed) }
+{
+    let answer = answer.as_bytes();
+    told(answer.starts_with(b"ok "), sink.put_all(answer))
+}
+
+/// Answers each line by the base and that line alone, and keeps nothing of it.
+#[derive(Drop)]
+pub struct StatelessAnswers<S: Spec, C: Stateless> {
+    pub(crate) alloc: Global,
+    pub(crate) base: RiAbsoluteString<S>,
+    pub(crate) command: PhantomData<C>,
+}
+
+impl<S: Spec, C: Stateless> StatelessAnswers<S, C> {
+    /// The answers by a base.
+    pub(crate) fn new(alloc: Global, base: RiAbsoluteString<S>) -> Self
+        ensures { result.base.text ≡ base.text }
+    {
+        StatelessAnswers {
+            alloc,
+            base,
+            command: PhantomData,
+        }
+    }
+}
+
+impl<S: Spec, C: Stateless> Answers for StatelessAnswers<S, C> {
+    ghost use Rattle.iri_cli.specs.inside.StatelessAt.{IsStatelessAt};
+
+    ghost stands_at = { λ c at. IsStatelessAt C.answer S.tests c.base.text at };
+
+    fn answer<O: Sink>(&mut self, line: &[u8], sink: &mut O) -> Result<bool, AnswerError> {
+        match C::answer_to(self.alloc, self.base.as_slice(), line) {
+            Ok(answer) => put_answer(sink, answer.as_str()),
+            Err(_) => Err(AnswerError::Memory),
+        }
+    }
+
+    fn close<O: Sink>(&mut self, _sink: &mut O) -> Result<(), AnswerError> {
+        Ok(())
+    }
+}
