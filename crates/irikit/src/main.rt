@@ -4,6 +4,7 @@
 //! built program: that `main` makes a source of standard input and a sink of standard output, and hands over the words.
 #![tactic(auto)]
 
+use iri_cli::run::words::command_of;
 use iri_cli::run::{MEMORY, NO_COMMAND, run};
 use iri_text::{ReadSource, WriteSink};
 use std::alloc::AllocError;
@@ -14,15 +15,21 @@ use std::process::ExitCode;
 // How many bytes of output are written at once.
 const BLOCK: usize = 65536;
 
-// Runs over standard input and standard output. A word that isn't UTF-8 is of no command.
+// Runs over standard input and standard output. A word that isn't UTF-8 is of no command. Words are looked at before more memory is
+// taken, so that those of no command end in their status where it is refused.
 fn main(rt: HostRuntime) -> ExitCode {
     let words: Result<Vec<String>, AllocError> = match env::args(&rt) {
         Ok(args) => args.skip(1).collect(rt.alloc()),
         Err(error) if error.kind() == ErrorKind::OutOfMemory => return ExitCode::from(MEMORY),
         Err(_) => return ExitCode::from(NO_COMMAND),
     };
-    let writer = BufWriter::with_capacity(rt.alloc(), BLOCK, rt.stdout());
-    let (Ok(words), Ok(writer)) = (words, writer) else {
+    let Ok(words) = words else {
+        return ExitCode::from(MEMORY);
+    };
+    if command_of(&words).is_none() {
+        return ExitCode::from(NO_COMMAND);
+    }
+    let Ok(writer) = BufWriter::with_capacity(rt.alloc(), BLOCK, rt.stdout()) else {
         return ExitCode::from(MEMORY);
     };
     let mut source = ReadSource::new(rt.stdin());
