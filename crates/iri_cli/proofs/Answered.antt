@@ -197,7 +197,7 @@ module _ (stands_at : Answering → Type 0) (start : Answering) (reader0 old new
 
     -- There is no further line.
     pub finishes : (wn : Option (List ℕ)) (kn : ℕ) (rn : Option ℕ) (end : End) → Advances old new lm ln sm sn (Ok false)
-        → ((at : Answering) → stands_at at → ClosesRun at.rules wm wn km kn good (at.rules.closing at.base at.between) end)
+        → ((at : Answering) → stands_at at → ClosesRun wm wn km kn good (at.rules.closing at.base at.between) end)
         → ((at : Answering) → stands_at at → KeepsRoom rm rn (at.rules.closing at.base at.between) (end ≢ SinkFailed)) → Ends wn kn rn end
     finishes wn kn rn end a p k = by_end end (p (record start { between = go.between }) go.at)
         (k (record start { between = go.between }) go.at)
@@ -245,7 +245,7 @@ module _ (stands_at : Answering → Type 0) (start : Answering) (reader0 old new
         source : faults ≤ sn
         source = omega (arith, earlier, go.source_later, a.later)
 
-        by_end : (e : End) → ClosesRun start.rules wm wn km kn good (start.rules.closing start.base go.between) e
+        by_end : (e : End) → ClosesRun wm wn km kn good (start.rules.closing start.base go.between) e
             → KeepsRoom rm rn (start.rules.closing start.base go.between) (e ≢ SinkFailed) → Ends wn kn rn e
         by_end Done q f = record {
           to = finished true q.0 q.1 q.2;
@@ -268,21 +268,7 @@ module _ (stands_at : Answering → Type 0) (start : Answering) (reader0 old new
           sink_later = omega (arith, q.2, go.sink_same);
           room = room_of SinkFailed f;
         }
-        by_end Memory q f = record {
-          to = record {
-            takes_memory = q.0;
-            whole = start.base ∷ go.between;
-            first = first_lines start.rules before lm old (start.base ∷ go.between) (go.read before first);
-            base_taken = taken;
-            writes = subst (λ (w : Option (List ℕ)). Appends wo w out) (sym q.1) go.writes;
-            sink = q.2 ∙ go.sink_same;
-          };
-          front = front_of (front-longer (start.rules.closing start.base go.between)
-              (whole_front (subst (λ (w : Option (List ℕ)). Appends wo w out) (sym q.1) go.writes)));
-          source_later = source;
-          sink_later = omega (arith, q.2, go.sink_same);
-          room = room_of Memory f;
-        }
+        by_end Memory q f = absurd q
         by_end BadBase q f = absurd q
         by_end SourceFailed q f = absurd q
         by_end LineTooLong q f = absurd q

@@ -1,32 +1,44 @@
 -- The answers of `canon`.
 use Rattle.std.proofs.Common.{◌≡◌, ◌≢◌, ℕ, ◌+◌, ◌≤◌, Bool, List, [], ◌∷◌, length, Option, None, Result, Ok, Err, refl, sym, ap, subst}
-use Rattle.std.proofs.Common.{arith, ◌∙◌, ⊎_elim}
+use Rattle.std.proofs.Common.{arith, ◌∙◌}
 use Rattle.iri_grammar.specs.Classes.{Tests, IsSpec}
 use Rattle.iri_grammar.specs.Fault.{bytes_fault}
-use Rattle.iri_grammar.specs.WholeFault.{absolute_fault, reference_fault}
+use Rattle.iri_grammar.specs.WholeFault.{reference_fault}
 use Rattle.iri_text.specs.Sink.{PutsAll, KeepsRoom}
-use Rattle.iri_text.proofs.Puts.{room-so}
+use Rattle.iri_text.proofs.Puts.{Appends-none, room-same, room-so}
 use Rattle.iri_text.specs.declared.Failed.{Failed}
 use Rattle.iri_percent.specs.declared.canon_mode.CanonMode.{CanonMode}
 use Rattle.iri_normal.proofs.LengthLaws.{length-canonical_in}
 use Rattle.iri_normal.specs.NormalForm.{canonical_in}
 use Rattle.iri_cli.specs.run.Limits.{longest_line, answer_room}
 use Rattle.iri_cli.specs.canon.Answer.{refusal, answer_in}
-use Rattle.iri_cli.specs.run.Answering.{IsReady, Answering, AnswersLine, PutsAnswer}
-use Rattle.iri_text.specs.Line.{LineState}
-use Rattle.iri_cli.specs.run.Buffers.{AreBuffers}
-use Rattle.iri_cli.specs.run.Steps.{IsNew, GivesBase}
-use Rattle.iri_cli.specs.run.Read.{HasRead, IsGoing}
+use Rattle.iri_cli.specs.run.Answering.{Answering, AnswersLine, PutsAnswer}
 use Rattle.iri_cli.specs.canon.Puts.{PutsLine, told_of, IsCanonAt}
 use Rattle.iri_cli.specs.run.Words.{canon_rules_in, is_ok}
 use Rattle.iri_cli.specs.declared.run.answers.AnswerError.{AnswerError}
 use Rattle.iri_cli.specs.declared.run.answers.AnswerError.TheVariants.{SinkFailed, Memory}
 use Rattle.iri_cli.specs.run.Ending.{Rules}
 use Rattle.iri_cli.specs.canon.Prepared.{prepared}
+use Rattle.iri_cli.specs.inside.Opening.{begun}
 use Rattle.iri_cli.proofs.PreparedLaws.{same_answer, prepared_taken}
 use Rattle.std.specs.Prelude.{OnOk}
-use Rattle.iri_cli.proofs.BytesLemmas.{base_absolute, line_reference, refused_none}
-use Rattle.iri_normal.proofs.CanonLemmas.{fault_none}
+use Rattle.iri_cli.proofs.BytesLemmas.{base_absolute, line_reference}
+
+-- nothing was put
+puts_nothing : (w : Option (List ℕ)) (f : ℕ) (r : Option ℕ) → PutsAll w w f f r r (Ok tt) []
+puts_nothing w f r = record {
+  whole = Appends-none w;
+  same = refl;
+  later = omega arith;
+  cause = tt;
+  front = tt;
+  room = room-same r [] (λ _. refl);
+}
+
+-- a command that writes nothing behind all answers
+pub closes_nothing : (at : Answering) (w : Option (List ℕ)) (f : ℕ) (r : Option ℕ) → at.rules.closing at.base at.between ≡ []
+    → PutsAll w w f f r r (Ok tt) (at.rules.closing at.base at.between)
+closes_nothing at w f r none = subst (λ t. PutsAll w w f f r r (Ok tt) t) (sym none) (puts_nothing w f r)
 
 -- pieces that were put, and what is said of them
 pub puts_line : {wo wn : Option (List ℕ)} {fo fn : ℕ} {ro rn : Option ℕ} (good : Bool) (r : Result (Unit {0}) Failed) (text : List ℕ)
@@ -48,49 +60,21 @@ has_room s m base line text output l taken none is room =
     let e : length (canonical_in s m base text) ≡ length (canonical_in s m base line) = ap (λ (t : List ℕ). length (canonical_in s m base t)) is in
     omega (arith, h, e, room)
 
--- the buffers have a new reader
-pub new_reader : (s : Tests) (m : CanonMode) (reader : LineState) (base output : ℕ) → AreBuffers reader base output → IsNew (canon_rules_in s m) reader
-new_reader s m reader base output b = record {
-  held = b.held;
-  taken = b.taken;
-  ended = b.ended;
-  going = b.going;
-  line_limit = b.line_limit;
-  input_limit = b.input_limit;
-}
-
--- the empty text is no base
-pub refuses_empty : (s : Tests) → refusal s [] ≡ None → ⊥
-unfolding refusal
-refuses_empty s h = let e : absolute_fault s [] ≡ None =
-    fault_none (absolute_fault s) [] (refused_none (bytes_fault (absolute_fault s) []) h) in cc e
-
--- the base line is the base, and the reader goes on
-pub base_read : (s : Tests) (m : CanonMode) (lo lm : Option (List ℕ)) (reader : LineState) (base text : List ℕ)
-    → GivesBase (canon_rules_in s m) lo lm reader base → text ≡ base → refusal s base ≡ None
-    → HasRead (canon_rules_in s m) lo lm reader (text ∷ []) × IsGoing (canon_rules_in s m) reader
-base_read s m lo lm reader base text gives is taken =
-    ⊎_elim
-    (λ h. (subst (λ (t : List ℕ). HasRead (canon_rules_in s m) lo lm reader (t ∷ [])) (sym is) h.0, h.1))
-    (λ h. absurd (refuses_empty s (subst (λ (t : List ℕ). refusal s t ≡ None) h.1 taken)))
-    gives
-
--- `canon` stands behind the base line
-pub canon_ready : (s : Tests) (m : CanonMode) (lo lm : Option (List ℕ)) (reader : LineState) (base text : List ℕ) (output : ℕ) → IsSpec s
-    → GivesBase (canon_rules_in s m) lo lm reader base → text ≡ prepared s base → refusal s base ≡ None → length text ≤ longest_line
-    → answer_room ≤ output → IsReady (IsCanonAt s m text output) (record { rules = canon_rules_in s m; base = base; between = [] }) reader
-canon_ready s m lo lm reader base text output k gives is taken short room = record {
-  at = record {
-    rules = refl;
-    same = λ line. ap (λ (t : List ℕ). answer_in s m t line) is ∙ same_answer s m base line k taken;
-    taken = ap (refusal s) is ∙ prepared_taken s base k taken;
-    short = short;
-    room = room;
-  };
-  first = refl;
-  base_taken = taken;
-  going = (base_read s m lo lm reader base base gives refl taken).1;
-}
+-- `canon` stands behind a base line that it prepared
+pub canon_opened : (s : Tests) (m : CanonMode) (line text : List ℕ) (output : ℕ) → IsSpec s → text ≡ prepared s line
+    → refusal s line ≡ None → length text ≤ longest_line → answer_room ≤ output
+    → (refusal s text ≡ None) × IsCanonAt s m text output (begun (canon_rules_in s m) line)
+canon_opened s m line text output k is taken short room =
+    let same : refusal s text ≡ None = ap (refusal s) is ∙ prepared_taken s line k taken in (
+      same,
+      record {
+        rules = refl;
+        same = λ r. ap (λ (t : List ℕ). answer_in s m t r) is ∙ same_answer s m line r k taken;
+        taken = same;
+        short = short;
+        room = room;
+      },
+    )
 
 -- the answer to a line
 pub puts_answer : (rules : Rules) (wo wn : Option (List ℕ)) (fo fn : ℕ) (r : Result Bool AnswerError) (text : List ℕ) → rules.is_good ≡ is_ok

@@ -8,7 +8,6 @@ use Rattle.iri_grammar.specs.Fault.{bytes_fault}
 use Rattle.iri_grammar.specs.WholeFault.{reference_fault}
 use Rattle.iri_grammar.specs.declared.error.ErrorKind.{ErrorKind}
 use Rattle.iri_normal.specs.NormalForm.{canonical}
-use Rattle.iri_text.specs.Line.{LineState}
 use Rattle.iri_text.specs.Sink.{KeepsRoom, PutsAll}
 use Rattle.iri_text.specs.declared.Failed.{Failed}
 use Rattle.iri_text.proofs.Puts.{Appends-none, room-same}
@@ -22,9 +21,9 @@ use Rattle.iri_template.specs.ShownValues.{optional}
 use Rattle.iri_template.specs.TypeFaults.{type_fault}
 use Rattle.iri_template.specs.declared.error.Error.{Error}
 use Rattle.iri_template.specs.declared.simple_context.SimpleContext.{SimpleContext}
-use Rattle.iri_cli.specs.run.Limits.{answer_room}
+use Rattle.iri_cli.specs.run.Limits.{answer_room, longest_line}
 use Rattle.iri_cli.specs.canon.Answer.{answer, answer_by, answer_in, refusal}
-use Rattle.iri_cli.specs.run.Answering.{Answering, AnswersLine, IsReady, PutsAnswer}
+use Rattle.iri_cli.specs.run.Answering.{Answering, AnswersLine, PutsAnswer}
 use Rattle.iri_cli.specs.canon.Puts.{PutsLine, told_of}
 use Rattle.iri_cli.specs.run.Ending.{Rules}
 use Rattle.iri_cli.specs.expand.Answers.{answer_to, expansion_answer, template_answer, template_refusal}
@@ -32,7 +31,7 @@ use Rattle.iri_cli.specs.expand.Answers.{too_long, unless_fault}
 use Rattle.iri_cli.specs.expand.Lines.{ExpandLine, Values, after_line, line_of, values_behind}
 use Rattle.iri_cli.specs.run.Words.{expand_rules, is_ok, is_ok_or_none}
 use Rattle.iri_cli.specs.inside.ExpandAt.{IsExpandAt}
-use Rattle.iri_cli.specs.inside.Opening.{BeginsAsCanon, IsOpened}
+use Rattle.iri_cli.specs.inside.Opening.{begun}
 use Rattle.iri_cli.specs.declared.run.answers.AnswerError.{AnswerError}
 use Rattle.iri_cli.specs.declared.run.answers.AnswerError.TheVariants.{SinkFailed, Memory}
 use Rattle.iri_cli.proofs.CanonLemmas.{line_room, puts_line}
@@ -178,26 +177,17 @@ module _ (s : Tests) (base expansion : List ℕ) (output : ℕ) (values : Values
       room = room-same r text (λ _ h. cc h);
     }
 
--- ---- the start
-pub expand_begins : (s : Tests) → BeginsAsCanon s (expand_rules s)
-expand_begins s = record { line_limit = refl; input_limit = refl; refusal = refl; takes_memory = refl }
-
--- `expand` stands behind an opened base line, with buffers and no values
-pub expand_ready : (s : Tests) (lo lm : Option (List ℕ)) (fo fm : ℕ) (reader : LineState) (base text expansion : List ℕ)
-    (output : ℕ) (context : SimpleContext) → IsOpened (expand_rules s) lo lm fo fm reader base → text ≡ base → length expansion ≡ expansion_limit
-    → answer_room ≤ output → ((q : List ℕ) → value_at context q ≡ None)
-    → IsReady (IsExpandAt s text expansion output (value_in context)) (record { rules = expand_rules s; base = base; between = [] }) reader
-expand_ready s lo lm fo fm reader base text expansion output context o is expansion_room output_room none = record {
-  at = record {
-    rules = refl;
-    base_is = sym is;
-    values_are = fun_ext (λ q. ap (optional shown_value) (none q));
-    taken = ap (refusal s) is ∙ o.base_taken;
-    short = omega (arith, ap length is, o.short);
-    expansion_room = expansion_room;
-    output_room = output_room;
-  };
-  first = refl;
-  base_taken = o.base_taken;
-  going = o.going;
+-- `expand` stands behind a base line, with buffers and no values
+pub expand_opened : (s : Tests) (line expansion : List ℕ) (output : ℕ) (context : SimpleContext) → refusal s line ≡ None
+    → length line ≤ longest_line → length expansion ≡ expansion_limit → answer_room ≤ output
+    → ((q : List ℕ) → value_at context q ≡ None)
+    → IsExpandAt s line expansion output (value_in context) (begun (expand_rules s) line)
+expand_opened s line expansion output context taken short expansion_room output_room none = record {
+  rules = refl;
+  base_is = refl;
+  values_are = fun_ext (λ q. ap (optional shown_value) (none q));
+  taken = taken;
+  short = short;
+  expansion_room = expansion_room;
+  output_room = output_room;
 }

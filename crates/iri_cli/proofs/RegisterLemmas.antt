@@ -16,15 +16,13 @@ use Rattle.iri_cli.specs.register.Answers.{answer_to, entry_line, entry_lines, m
 use Rattle.iri_cli.specs.register.Lines.{line_of, command_of, commands_from, entries_behind}
 use Rattle.iri_text.specs.Sink.{KeepsRoom, PutsAll}
 use Rattle.iri_text.specs.declared.Failed.{Failed}
-use Rattle.iri_text.specs.Line.{LineState}
-use Rattle.iri_cli.specs.run.Answering.{Answering, AnswersLine, IsReady, PutsAnswer}
+use Rattle.iri_cli.specs.run.Answering.{Answering, AnswersLine, PutsAnswer}
 use Rattle.iri_cli.specs.canon.Puts.{told_of}
 use Rattle.iri_cli.specs.run.Ending.{Rules}
-use Rattle.iri_cli.specs.run.Read.{IsGoing}
 use Rattle.iri_cli.specs.run.Refused.{is_not_bad}
 use Rattle.iri_cli.specs.run.Words.{register_rules}
 use Rattle.iri_cli.specs.declared.run.answers.AnswerError.TheVariants.{SinkFailed}
-use Rattle.iri_cli.specs.inside.Opening.{BeginsAsCanon}
+use Rattle.iri_cli.specs.inside.Opening.{begun}
 use Rattle.iri_cli.specs.inside.RegisterAt.{IsRegisterAt}
 use Rattle.iri_cli.specs.inside.Replies.{obeyed_by}
 use Rattle.iri_cli.proofs.CanonLemmas.{line_room}
@@ -185,20 +183,8 @@ answers_line s kept new answered count at line text wo wn fo fn ro rn good r is 
       room = subst (λ t. KeepsRoom ro rn t (told_of good r ≢ Err SinkFailed)) e (line_room good r text p);
     }
 
--- ---- the beginning
-
-pub begins : (s : Tests) → BeginsAsCanon s (register_rules s)
-begins s = record { line_limit = refl; input_limit = refl; refusal = refl; takes_memory = refl }
-
-abbrev pub start : Tests → List ℕ → Answering
-start s base = record { rules = register_rules s; base = base; between = [] }
-
--- an empty register stands behind a base line that was opened
-pub ready : (s : Tests) (kept : Kept) (base : List ℕ) (reader : LineState) → kept.base ≡ base → kept.entries ≡ []
-    → (register_rules s).refusal base ≡ None → IsGoing (register_rules s) reader → IsReady (IsRegisterAt s kept 0) (start s base) reader
-ready s kept base reader own none taken going = record {
-  at = record { rules = refl; base_is = own; entries_are = none ∙ sym (entries_none s base); counted = refl };
-  first = refl;
-  base_taken = taken;
-  going = going;
-}
+-- an empty register stands behind a base line
+pub register_opened : (s : Tests) (kept : Kept) (line : List ℕ) → kept.base ≡ line → kept.entries ≡ []
+    → IsRegisterAt s kept 0 (begun (register_rules s) line)
+register_opened s kept line own none =
+    record { rules = refl; base_is = own; entries_are = none ∙ sym (entries_none s line); counted = refl }

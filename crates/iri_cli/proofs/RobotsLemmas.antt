@@ -11,21 +11,19 @@ use Rattle.iri_robots.specs.Records.{FileRecord, FileRule}
 use Rattle.iri_robots.specs.declared.robots.Verdict.{Verdict}
 use Rattle.iri_robots.specs.declared.robots.Verdict.TheVariants.{Allow, Disallow}
 use Rattle.iri_robots.proofs.Decisions.{allowed_is}
-use Rattle.iri_text.specs.Line.{LineState}
 use Rattle.iri_text.specs.Sink.{KeepsRoom, PutsAll}
 use Rattle.iri_text.specs.declared.Failed.{Failed}
 use Rattle.iri_text.proofs.Puts.{Appends-none, room-same}
-use Rattle.iri_cli.specs.run.Answering.{Answering, AnswersLine, IsReady, PutsAnswer}
+use Rattle.iri_cli.specs.run.Answering.{Answering, AnswersLine, PutsAnswer}
 use Rattle.iri_cli.specs.canon.Puts.{told_of}
 use Rattle.iri_cli.specs.run.Ending.{Rules}
-use Rattle.iri_cli.specs.run.Read.{IsGoing}
 use Rattle.iri_cli.specs.run.Refused.{is_not_bad}
 use Rattle.iri_cli.specs.robots.Answers.{answer_to, normal_base, verdict_word}
 use Rattle.iri_cli.specs.robots.Lines.{RobotsLine, line_of, fed, records_behind}
 use Rattle.iri_cli.specs.run.Words.{robots_rules}
 use Rattle.iri_cli.specs.declared.run.answers.AnswerError.{AnswerError}
 use Rattle.iri_cli.specs.declared.run.answers.AnswerError.TheVariants.{SinkFailed, Memory}
-use Rattle.iri_cli.specs.inside.Opening.{BeginsAsCanon}
+use Rattle.iri_cli.specs.inside.Opening.{begun}
 use Rattle.iri_cli.specs.inside.RobotsAt.{IsRobotsAt, Replies, PutsReply}
 use Rattle.iri_cli.proofs.CanonLemmas.{line_room}
 
@@ -112,29 +110,12 @@ unfed (Ok good) records said line is none =
     sym (append-nil records) ∙ ap (λ t. records ++ t) (sym none ∙ ap fed is)
 unfed (Err x) records said line is none = tt
 
--- ---- the beginning
-
-pub begins : (s : Tests) (token : List ℕ) → BeginsAsCanon s (robots_rules s token)
-begins s token = record { line_limit = refl; input_limit = refl; refusal = refl; takes_memory = refl }
-
-abbrev pub start : Tests → List ℕ → List ℕ → Answering
-start s token base = record { rules = robots_rules s token; base = base; between = [] }
-
 records_none : records_behind [] ≡ []
 unfolding records_behind
 records_none = refl
 
-pub ready : (s : Tests) (token own base normal : List ℕ) (records : List FileRecord) (reader : LineState) → own ≡ token → records ≡ []
-    → normal ≡ normal_base s base → (robots_rules s token).refusal base ≡ None → IsGoing (robots_rules s token) reader
-    → IsReady (IsRobotsAt s own base normal records) (start s token base) reader
-ready s token own base normal records reader own_is none normal_is taken going = record {
-  at = record {
-    rules = ap (robots_rules s) (sym own_is);
-    base_is = refl;
-    normal_is = normal_is;
-    records_are = none ∙ sym records_none;
-  };
-  first = refl;
-  base_taken = taken;
-  going = going;
-}
+-- a crawler that was fed no line stands behind a base line
+pub robots_opened : (s : Tests) (token line normal : List ℕ) (records : List FileRecord) → records ≡ [] → normal ≡ normal_base s line
+    → IsRobotsAt s token line normal records (begun (robots_rules s token) line)
+robots_opened s token line normal records none normal_is =
+    record { rules = refl; base_is = refl; normal_is = normal_is; records_are = none ∙ sym records_none }

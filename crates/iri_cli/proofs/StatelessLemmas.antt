@@ -1,34 +1,18 @@
 -- The answers of commands that answer each line alone.
 use Rattle.std.proofs.Common.{◌≡◌, ◌≢◌, ◌∙◌, ℕ, Bool, List, [], ◌∷◌, ◌++◌, Option, None, Result, Err, refl, sym, ap, subst}
 use Rattle.iri_grammar.specs.Classes.{Tests}
-use Rattle.iri_text.specs.Line.{LineState}
 use Rattle.iri_text.specs.Sink.{KeepsRoom}
 use Rattle.iri_text.proofs.Puts.{room-same}
-use Rattle.iri_cli.specs.run.Answering.{Answering, AnswersLine, IsReady}
+use Rattle.iri_cli.specs.run.Answering.{Answering, AnswersLine}
 use Rattle.iri_cli.specs.canon.Puts.{PutsLine}
 use Rattle.iri_cli.specs.run.Ending.{Rules}
-use Rattle.iri_cli.specs.run.Read.{IsGoing}
 use Rattle.iri_cli.specs.run.Words.{stateless_rules}
 use Rattle.iri_cli.specs.declared.run.answers.AnswerError.{AnswerError}
 use Rattle.iri_cli.specs.declared.run.answers.AnswerError.TheVariants.{SinkFailed, Memory}
-use Rattle.iri_cli.specs.inside.Opening.{BeginsAsCanon}
 use Rattle.iri_cli.specs.inside.StatelessAt.{IsStatelessAt}
 use Rattle.iri_cli.proofs.CanonLemmas.{on_ok, puts_answer}
 
 module _ (answer : Tests → List ℕ → List ℕ → List ℕ) (s : Tests) where
-  -- ---- the start
-  pub begins : BeginsAsCanon s (stateless_rules answer s)
-  begins = record { line_limit = refl; input_limit = refl; refusal = refl; takes_memory = refl }
-
-  abbrev pub start : List ℕ → Answering
-  start base = record { rules = stateless_rules answer s; base = base; between = [] }
-
-  pub ready : (kept base : List ℕ) (reader : LineState) → kept ≡ base → (stateless_rules answer s).refusal base ≡ None
-      → IsGoing (stateless_rules answer s) reader → IsReady (IsStatelessAt answer s kept) (start base) reader
-  ready kept base reader kept_is taken going =
-      record { at = record { rules = refl; base_is = kept_is }; first = refl; base_taken = taken; going = going }
-
-  -- ---- one line more
   module _ (base : List ℕ) (at : Answering) (is : IsStatelessAt answer s base at) (line : List ℕ) where
     answer_is : answer s base line ≡ at.rules.answer at.base at.between line
     answer_is = ap (λ b. answer s b line) is.base_is ∙ ap (λ (r : Rules). r.answer at.base at.between line) (sym is.rules)

@@ -14,7 +14,8 @@ ghost use Rattle.iri_text.specs.LineEnds.{line_feed};
 pub(crate) mod lines;
 pub(crate) mod prepared;
 
-use crate::run::answers::{AnswerError, Answers};
+use crate::canon::prepared::prepare_base;
+use crate::run::answers::{AnswerError, Answers, BaseError};
 use crate::run::buffers::room_for;
 use crate::run::puts::{put_bad, told};
 use iri_grammar::spec::Spec;
@@ -115,24 +116,42 @@ pub(crate) fn put_answer<S: Spec, O: Sink>(
 
 /// Answers each line by its canonical text against a base, by the rules of a mode.
 #[derive(Drop)]
-pub struct Canon<'a, S: Spec> {
-    pub(crate) mode: CanonMode,
-    pub(crate) resolver: FixedBaseResolver<'a, S>,
-    pub(crate) output: Vec<u8>,
+pub struct Canon {
+    mode: CanonMode,
+    output: Vec<u8>,
 }
 
-impl<'a, S: Spec> Answers for Canon<'a, S> {
+impl<S: Spec> Answers<S> for Canon {
+    type Start = CanonMode;
+
+    ghost use Rattle.std.specs.Prelude.{refl};
     ghost use Rattle.std.specs.Vec.{vec_capacity};
-    ghost use Rattle.iri_normal.specs.Resolver.{base_text};
     ghost use Rattle.iri_cli.specs.canon.Puts.{IsCanonAt};
+    ghost use Rattle.iri_cli.specs.run.Words.{canon_rules_in};
 
-    ghost stands_at = { λ c at. IsCanonAt S.tests c.mode (base_text c.resolver) (vec_capacity c.output) at };
+    ghost rules = { λ mode. canon_rules_in S.tests mode };
 
-    fn answer<O: Sink>(&mut self, line: &[u8], sink: &mut O) -> Result<bool, AnswerError> {
-        put_answer::<S, O>(sink, &mut self.output, self.mode, &self.resolver, line)
+    ghost begins = { λ mode. record { line_limit = refl; input_limit = refl; refusal = refl } };
+
+    ghost stands_at = { λ c base at. IsCanonAt S.tests c.mode base (vec_capacity c.output) at };
+
+    fn open(mode: CanonMode, base: &mut Vec<u8>, mut output: Vec<u8>) -> Result<Self, BaseError> {
+        match prepare_base::<S>(base, &mut output) {
+            Ok(()) => Ok(Canon { mode, output }),
+            Err(words) => Err(BaseError::Refused(words)),
+        }
     }
 
-    fn close<O: Sink>(&mut self, _sink: &mut O) -> Result<(), AnswerError> {
+    fn answer<O: Sink>(
+        &mut self,
+        resolver: &FixedBaseResolver<'_, S>,
+        line: &[u8],
+        sink: &mut O,
+    ) -> Result<bool, AnswerError> {
+        put_answer::<S, O>(sink, &mut self.output, self.mode, resolver, line)
+    }
+
+    fn close<O: Sink>(&mut self, _sink: &mut O) -> Result<(), Failed> {
         Ok(())
     }
 }

@@ -13,14 +13,14 @@ ghost use Rattle.iri_docs.specs.Expanded.{expansion_limit};
 ghost use Rattle.iri_cli.specs.declared.run.answers.AnswerError.TheVariants.{SinkFailed};
 
 pub(crate) mod line;
-pub(crate) mod lines;
 pub(crate) mod variables;
 
-use crate::canon::put_answer;
+use crate::canon::{base_of, put_answer};
 use crate::expand::line::{Said, line_of};
 use crate::expand::variables::apply;
-use crate::run::answers::{AnswerError, Answers};
+use crate::run::answers::{AnswerError, Answers, BaseError};
 use crate::run::puts::{put_bad_line, put_number, told};
+use iri_docs::expand::EXPANSION_LIMIT;
 use iri_grammar::spec::Spec;
 use iri_normal::mode::CanonMode;
 use iri_normal::resolver::FixedBaseResolver;
@@ -105,24 +105,50 @@ fn put_template<'a, S: Spec, O: Sink>(
 
 /// Keeps the values of variables, and answers each template by the canonical text of its expansion against a base.
 #[derive(Drop)]
-pub struct Expand<'a, S: Spec> {
-    pub(crate) alloc: Global,
-    pub(crate) resolver: FixedBaseResolver<'a, S>,
-    pub(crate) values: SimpleContext,
-    pub(crate) expansion: Vec<u8>,
-    pub(crate) output: Vec<u8>,
+pub struct Expand {
+    alloc: Global,
+    values: SimpleContext,
+    expansion: Vec<u8>,
+    output: Vec<u8>,
 }
 
-impl<'a, S: Spec> Answers for Expand<'a, S> {
+impl<S: Spec> Answers<S> for Expand {
+    type Start = Global;
+
+    ghost use Rattle.std.specs.Prelude.{refl};
     ghost use Rattle.std.specs.Vec.{vec_capacity};
     ghost use Rattle.iri_template.specs.Contexts.{value_in};
-    ghost use Rattle.iri_normal.specs.Resolver.{base_text};
     ghost use Rattle.iri_cli.specs.inside.ExpandAt.{IsExpandAt};
+    ghost use Rattle.iri_cli.specs.run.Words.{expand_rules};
 
-    ghost stands_at = { λ e at. IsExpandAt S.tests (base_text e.resolver) e.expansion.items (vec_capacity e.output)
+    ghost rules = { λ alloc. expand_rules S.tests };
+
+    ghost begins = { λ alloc. record { line_limit = refl; input_limit = refl; refusal = refl } };
+
+    ghost stands_at = { λ e base at. IsExpandAt S.tests base e.expansion.items (vec_capacity e.output)
         (value_in e.values) at };
 
-    fn answer<O: Sink>(&mut self, line: &[u8], sink: &mut O) -> Result<bool, AnswerError> {
+    fn open(alloc: Global, base: &mut Vec<u8>, output: Vec<u8>) -> Result<Self, BaseError> {
+        match base_of::<S>(base) {
+            Ok(_) => match vec![in alloc; 0; EXPANSION_LIMIT] {
+                Ok(expansion) => Ok(Expand {
+                    alloc,
+                    values: SimpleContext::new(alloc),
+                    expansion,
+                    output,
+                }),
+                Err(_) => Err(BaseError::Memory),
+            },
+            Err(words) => Err(BaseError::Refused(words)),
+        }
+    }
+
+    fn answer<O: Sink>(
+        &mut self,
+        resolver: &FixedBaseResolver<'_, S>,
+        line: &[u8],
+        sink: &mut O,
+    ) -> Result<bool, AnswerError> {
         match line_of(line) {
             Said::Changes(change) => match apply(self.alloc, &mut self.values, change) {
                 Ok(()) => Ok(true),
@@ -132,7 +158,7 @@ impl<'a, S: Spec> Answers for Expand<'a, S> {
                 sink,
                 &mut self.output,
                 &mut self.expansion,
-                self.resolver,
+                *resolver,
                 &self.values,
                 template,
             ),
@@ -140,7 +166,7 @@ impl<'a, S: Spec> Answers for Expand<'a, S> {
         }
     }
 
-    fn close<O: Sink>(&mut self, _sink: &mut O) -> Result<(), AnswerError> {
+    fn close<O: Sink>(&mut self, _sink: &mut O) -> Result<(), Failed> {
         Ok(())
     }
 }

@@ -11,18 +11,19 @@ ghost use Rattle.iri_cli.specs.inside.Asked.{asked};
 ghost use Rattle.iri_cli.specs.inside.Replies.{IsRefusal, reply_text, obeyed_by};
 
 pub(crate) mod line;
-pub(crate) mod lines;
 
 use crate::register::line::{Asked, line_of};
-use crate::run::answers::{AnswerError, Answers};
+use crate::run::answers::{AnswerError, Answers, BaseError};
+use crate::run::opening::own_base;
 use crate::run::puts::{put_bad, put_bad_line, put_number, told};
 use iri_grammar::error::ErrorKind;
 use iri_grammar::spec::Spec;
+use iri_normal::resolver::FixedBaseResolver;
 use iri_register::added::Added;
 use iri_register::error::RegisterError;
 use iri_register::register::Register;
 use iri_text::{Failed, Sink};
-use std::alloc::AllocError;
+use std::alloc::{AllocError, Global};
 
 // What is answered to a line.
 #[derive(Clone, Copy)]
@@ -191,17 +192,40 @@ fn put_entries<S: Spec, O: Sink>(sink: &mut O, register: &Register<S>) -> Result
 /// Answers each line by what it asks of a register of links.
 #[derive(Drop)]
 pub struct Registers<S: Spec> {
-    pub(crate) register: Register<S>,
+    register: Register<S>,
     // How many lines behind the base line were answered.
-    pub(crate) answered: u64,
+    answered: u64,
 }
 
-impl<S: Spec> Answers for Registers<S> {
+impl<S: Spec> Answers<S> for Registers<S> {
+    type Start = Global;
+
+    ghost use Rattle.std.specs.Prelude.{refl};
     ghost use Rattle.iri_cli.specs.inside.RegisterAt.{IsRegisterAt};
+    ghost use Rattle.iri_cli.specs.run.Words.{register_rules};
 
-    ghost stands_at = { λ r at. IsRegisterAt S.tests r.register r.answered at };
+    ghost rules = { λ alloc. register_rules S.tests };
 
-    fn answer<O: Sink>(&mut self, line: &[u8], sink: &mut O) -> Result<bool, AnswerError> {
+    ghost begins = { λ alloc. record { line_limit = refl; input_limit = refl; refusal = refl } };
+
+    ghost stands_at = { λ r base at. IsRegisterAt S.tests r.register r.answered at };
+
+    fn open(alloc: Global, base: &mut Vec<u8>, _output: Vec<u8>) -> Result<Self, BaseError> {
+        match own_base::<S>(alloc, base) {
+            Ok(base) => Ok(Registers {
+                register: Register::new(alloc, base),
+                answered: 0,
+            }),
+            Err(error) => Err(error),
+        }
+    }
+
+    fn answer<O: Sink>(
+        &mut self,
+        _resolver: &FixedBaseResolver<'_, S>,
+        line: &[u8],
+        sink: &mut O,
+    ) -> Result<bool, AnswerError> {
         // The base line has number 1.
         match reply_to(&mut self.register, line_of(line), self.answered + 2) {
             Ok(reply) => {
@@ -212,10 +236,7 @@ impl<S: Spec> Answers for Registers<S> {
         }
     }
 
-    fn close<O: Sink>(&mut self, sink: &mut O) -> Result<(), AnswerError> {
-        match put_entries(sink, &self.register) {
-            Ok(()) => Ok(()),
-            Err(Failed) => Err(AnswerError::SinkFailed),
-        }
+    fn close<O: Sink>(&mut self, sink: &mut O) -> Result<(), Failed> {
+        put_entries(sink, &self.register)
     }
 }

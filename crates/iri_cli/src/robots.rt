@@ -1,5 +1,6 @@
 // The answers of `robots`.
-ghost use Rattle.std.specs.Prelude.{◌≡◌, ◌++◌, ◌∷◌, [], None, IfOk, OnOk, string_bytes};
+ghost use Rattle.std.specs.Prelude.{◌≡◌, ◌++◌, ◌∷◌, [], true, None, IfOk, OnOk, string_bytes};
+ghost use Rattle.iri_robots.specs.FileLines.{is_token};
 ghost use Rattle.iri_grammar.specs.Split.{split_of};
 ghost use Rattle.iri_grammar.specs.WholeFault.{iri_fault};
 ghost use Rattle.iri_normal.specs.NormalForm.{canonical};
@@ -17,30 +18,43 @@ ghost use Rattle.iri_cli.specs.robots.Lines.{asks};
 ghost use Rattle.iri_cli.specs.inside.RobotsAt.{PutsReply};
 
 pub(crate) mod line;
-pub(crate) mod lines;
 pub(crate) mod sites;
 
+use crate::canon::base_of;
 use crate::robots::line::{Said, line_of};
-use crate::robots::sites::is_of_site;
-use crate::run::answers::{AnswerError, Answers};
+use crate::robots::sites::{is_of_site, normal_base};
+use crate::run::answers::{AnswerError, Answers, BaseError};
 use crate::run::puts::{put_bad, put_bad_line, told};
 use iri_grammar::spec::Spec;
 use iri_normal::resolver::FixedBaseResolver;
 use iri_owned::owned::RiAbsoluteString;
-use iri_robots::{Robots, Verdict, subject_of};
+use iri_robots::{Robots, RobotsError, Verdict, subject_of};
 use iri_text::{Failed, Sink, try_append_to_string};
 use iri_types::kind::Reference;
 use iri_types::split::SplitView;
 use iri_types::view::{RiAbsoluteStr, RiStr};
 use std::alloc::{AllocError, Global};
 
-/// What a crawler knows of a site: the base, as it stands and in normal form, and the rules of a robots file.
+/// The crawler of a product token, which was fed no line of a robots file.
 #[derive(Drop)]
-pub struct Site<S: Spec> {
-    pub(crate) alloc: Global,
-    pub(crate) base: RiAbsoluteString<S>,
-    pub(crate) normal: RiAbsoluteString<S>,
-    pub(crate) robots: Robots,
+pub struct Crawler {
+    alloc: Global,
+    robots: Robots,
+    ghost unfed: { robots.records.items ≡ [] },
+}
+
+impl Crawler {
+    /// The crawler of this token. It fails on allocation failure alone.
+    pub(crate) fn new(alloc: Global, token: &str) -> Result<Self, AllocError>
+        requires { is_token token.now ≡ true }
+        ensures { IfOk result (λ c. string_bytes c.robots.token ≡ token.now) }
+    {
+        match Robots::new(alloc, token) {
+            Ok(robots) => Ok(Crawler { alloc, robots }),
+            Err(RobotsError::Memory(error)) => Err(error),
+            Err(RobotsError::Token) => unreachable!(),
+        }
+    }
 }
 
 // The word before a target, by a base in normal form.
@@ -111,64 +125,102 @@ fn write_target<'a, S: Spec>(
 // Puts the answer to a reference, whose canonical text comes into the buffer.
 fn put_answer<S: Spec, O: Sink>(
     sink: &mut O,
+    resolver: &FixedBaseResolver<'_, S>,
     site: &Site<S>,
     buffer: &mut String,
     reference: &[u8],
 ) -> Result<bool, AnswerError>
-    requires { site.now.normal.text ≡ normal_base S.tests site.now.base.text }
+    requires { site.now.normal.text ≡ normal_base S.tests (base_text resolver.now) }
     ensures { PutsReply (O.written sink.old) (O.written sink.new) (O.faults sink.old) (O.faults sink.new)
         (O.room_left sink.old) (O.room_left sink.new) (answer_to S.tests (string_bytes site.now.robots.token)
-        site.now.base.text (record_texts site.now.robots.records.items) (asks reference.now)) result }
+        (base_text resolver.now) (record_texts site.now.robots.records.items) (asks reference.now)) result }
 {
     match SplitView::<S, Reference>::try_from_bytes(reference) {
-        Ok(reference) => {
-            let resolver = FixedBaseResolver::new(site.base.as_slice());
-            match write_target(buffer, &resolver, &reference) {
-                Ok(()) => {
-                    let target = RiStr::<S>::from_valid(buffer);
-                    put_verdict(
-                        sink,
-                        site.alloc,
-                        site.normal.as_slice(),
-                        &site.robots,
-                        target,
-                    )
-                }
-                Err(_) => Err(AnswerError::Memory),
+        Ok(reference) => match write_target(buffer, resolver, &reference) {
+            Ok(()) => {
+                let target = RiStr::<S>::from_valid(buffer);
+                put_verdict(
+                    sink,
+                    site.alloc,
+                    site.normal.as_slice(),
+                    &site.robots,
+                    target,
+                )
             }
-        }
+            Err(_) => Err(AnswerError::Memory),
+        },
         Err(error) => told(false, put_bad(sink, error.kind().description())),
     }
+}
+
+/// What a crawler knows of a site: the base in normal form, and the rules of a robots file.
+#[derive(Drop)]
+pub struct Site<S: Spec> {
+    alloc: Global,
+    normal: RiAbsoluteString<S>,
+    robots: Robots,
 }
 
 /// Answers each line by the rules of a robots file for one crawler.
 #[derive(Drop)]
 pub struct Crawls<S: Spec> {
-    pub(crate) site: Site<S>,
+    site: Site<S>,
     // The canonical text of the last reference.
-    pub(crate) target: String,
+    target: String,
 }
 
-impl<S: Spec> Answers for Crawls<S> {
-    ghost use Rattle.std.specs.Prelude.{string_bytes};
+impl<S: Spec> Answers<S> for Crawls<S> {
+    type Start = Crawler;
+
+    ghost use Rattle.std.specs.Prelude.{refl, string_bytes};
     ghost use Rattle.iri_robots.specs.Stored.{record_texts};
     ghost use Rattle.iri_cli.specs.inside.RobotsAt.{IsRobotsAt};
+    ghost use Rattle.iri_cli.specs.run.Words.{robots_rules};
 
-    ghost stands_at = { λ c at. IsRobotsAt S.tests (string_bytes c.site.robots.token) c.site.base.text c.site.normal.text
+    ghost rules = { λ crawler. robots_rules S.tests (string_bytes crawler.robots.token) };
+
+    ghost begins = { λ crawler. record { line_limit = refl; input_limit = refl; refusal = refl } };
+
+    ghost stands_at = { λ c base at. IsRobotsAt S.tests (string_bytes c.site.robots.token) base c.site.normal.text
         (record_texts c.site.robots.records.items) at };
 
-    fn answer<O: Sink>(&mut self, line: &[u8], sink: &mut O) -> Result<bool, AnswerError> {
+    fn open(crawler: Crawler, base: &mut Vec<u8>, _output: Vec<u8>) -> Result<Self, BaseError> {
+        let Crawler { alloc, robots } = crawler;
+        match base_of::<S>(base) {
+            Ok(view) => match normal_base(alloc, view) {
+                Ok(normal) => Ok(Crawls {
+                    site: Site {
+                        alloc,
+                        normal,
+                        robots,
+                    },
+                    target: String::new(alloc),
+                }),
+                Err(_) => Err(BaseError::Memory),
+            },
+            Err(words) => Err(BaseError::Refused(words)),
+        }
+    }
+
+    fn answer<O: Sink>(
+        &mut self,
+        resolver: &FixedBaseResolver<'_, S>,
+        line: &[u8],
+        sink: &mut O,
+    ) -> Result<bool, AnswerError> {
         match line_of(line) {
             Said::Feeds(line) => match self.site.robots.feed_line(line) {
                 Ok(()) => Ok(true),
                 Err(_) => Err(AnswerError::Memory),
             },
-            Said::Asks(reference) => put_answer(sink, &self.site, &mut self.target, reference),
+            Said::Asks(reference) => {
+                put_answer(sink, resolver, &self.site, &mut self.target, reference)
+            }
             Said::Bad => told(false, put_bad_line(sink)),
         }
     }
 
-    fn close<O: Sink>(&mut self, _sink: &mut O) -> Result<(), AnswerError> {
+    fn close<O: Sink>(&mut self, _sink: &mut O) -> Result<(), Failed> {
         Ok(())
     }
 }

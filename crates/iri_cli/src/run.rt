@@ -1,7 +1,7 @@
 //! The run of the program.
 ghost use Rattle.std.specs.Prelude.{◌≡◌, ◌≢◌, ◌⊎◌, ◌≤◌, ℕ, List, true, IfOk, map, string_bytes};
 ghost use Rattle.iri_text.specs.Sink.{KeepsRoom};
-ghost use Rattle.iri_cli.specs.run.Words.{IsCommand, IsRobots, canon_rules_in, robots_rules, rules_of, tests_of};
+ghost use Rattle.iri_cli.specs.run.Words.{HasToken, IsCommand, robots_rules, rules_of, tests_of};
 ghost use Rattle.iri_robots.specs.FileLines.{is_token};
 ghost use Rattle.iri_cli.specs.canon.Answer.{AnswersAreCanonicalIn};
 ghost use Rattle.iri_cli.specs.run.Run.{RunsLines, outside};
@@ -20,19 +20,19 @@ pub(crate) mod lines;
 pub(crate) mod opening;
 pub(crate) mod puts;
 pub(crate) mod stateless;
-mod stateless_lines;
 pub mod words;
 
 use crate::canon::lines::canon_lines_in;
 use crate::docs::Docs;
-use crate::expand::lines::expand_lines;
+use crate::expand::Expand;
 use crate::generator::gen_lines;
 use crate::help::{put_text, tell};
 use crate::links::Links;
-use crate::register::lines::register_lines;
-use crate::robots::lines::robots_lines;
+use crate::register::Registers;
+use crate::robots::{Crawler, Crawls};
 use crate::run::buffers::CanonBuffers;
-use crate::run::stateless_lines::stateless_lines;
+use crate::run::opening::run_lines;
+use crate::run::stateless::StatelessAnswers;
 use crate::run::words::{Command, Grammar, LineCommand, command_of};
 use iri_grammar::spec::{IriSpec, Spec, UriSpec};
 use iri_normal::mode::CanonMode;
@@ -45,54 +45,68 @@ pub const NO_COMMAND: u8 = 2;
 /// The status where allocation failed.
 pub const MEMORY: u8 = 6;
 
-// `canon` in a mode: makes the buffers, and answers the lines of the source in them.
-fn canon<S: Spec, I: Source, O: Sink>(
+// The lines of `robots`, for the crawler of a token.
+fn robots_lines<S: Spec, I: Source, O: Sink>(
     alloc: Global,
-    mode: CanonMode,
+    token: &str,
+    buffers: CanonBuffers,
     source: &mut I,
     sink: &mut O,
 ) -> u8
-    ensures { RunsLines (canon_rules_in S.tests mode)
+    requires { is_token token.now ≡ true }
+    ensures { RunsLines (robots_rules S.tests token.now)
         (outside (I.left source.old) (O.written sink.old) (I.faults source.old) (O.faults sink.old))
         (outside (I.left source.new) (O.written sink.new) (I.faults source.new) (O.faults sink.new))
         (O.room_left sink.old) (O.room_left sink.new) result }
 {
-    match CanonBuffers::new(alloc) {
-        Ok(buffers) => canon_lines_in::<S, I, O>(mode, buffers, source, sink),
+    match Crawler::new(alloc, token) {
+        Ok(crawler) => run_lines::<S, Crawls<S>, I, O>(crawler, buffers, source, sink),
         Err(_) => MEMORY,
     }
 }
 
-// The lines of a command in a grammar.
+// The lines of a command in a grammar, once there are buffers.
 fn lines_in<S: Spec, I: Source, O: Sink>(
     alloc: Global,
-    command: LineCommand,
+    command: LineCommand<'_>,
     source: &mut I,
     sink: &mut O,
 ) -> u8
-    ensures { RunsLines (rules_of command S.tests)
+    requires { HasToken command }
+    ensures { RunsLines (rules_of command.entry S.tests)
         (outside (I.left source.old) (O.written sink.old) (I.faults source.old) (O.faults sink.old))
         (outside (I.left source.new) (O.written sink.new) (I.faults source.new) (O.faults sink.new))
         (O.room_left sink.old) (O.room_left sink.new) result }
 {
+    let Ok(buffers) = CanonBuffers::new(alloc) else {
+        return MEMORY;
+    };
     match command {
-        LineCommand::Canon(mode) => canon::<S, I, O>(alloc, mode, source, sink),
-        LineCommand::Expand => expand_lines::<S, I, O>(alloc, source, sink),
-        LineCommand::Register => register_lines::<S, I, O>(alloc, source, sink),
-        LineCommand::Links => stateless_lines::<S, Links, I, O>(alloc, source, sink),
-        LineCommand::Docs => stateless_lines::<S, Docs, I, O>(alloc, source, sink),
+        LineCommand::Canon(mode) => canon_lines_in::<S, I, O>(mode, buffers, source, sink),
+        LineCommand::Expand => run_lines::<S, Expand, I, O>(alloc, buffers, source, sink),
+        LineCommand::Register => run_lines::<S, Registers<S>, I, O>(alloc, buffers, source, sink),
+        LineCommand::Links => {
+            run_lines::<S, StatelessAnswers<Links>, I, O>(alloc, buffers, source, sink)
+        }
+        LineCommand::Docs => {
+            run_lines::<S, StatelessAnswers<Docs>, I, O>(alloc, buffers, source, sink)
+        }
+        LineCommand::Robots(token) => {
+            robots_lines::<S, I, O>(alloc, token, buffers, source, sink)
+        }
     }
 }
 
 // The lines of a command by a grammar.
 fn lines_by<I: Source, O: Sink>(
     alloc: Global,
-    command: LineCommand,
+    command: LineCommand<'_>,
     grammar: Grammar,
     source: &mut I,
     sink: &mut O,
 ) -> u8
-    ensures { RunsLines (rules_of command (tests_of grammar))
+    requires { HasToken command }
+    ensures { RunsLines (rules_of command.entry (tests_of grammar))
         (outside (I.left source.old) (O.written sink.old) (I.faults source.old) (O.faults sink.old))
         (outside (I.left source.new) (O.written sink.new) (I.faults source.new) (O.faults sink.new))
         (O.room_left sink.old) (O.room_left sink.new) result }
@@ -100,26 +114,6 @@ fn lines_by<I: Source, O: Sink>(
     match grammar {
         Grammar::Uri => lines_in::<UriSpec, I, O>(alloc, command, source, sink),
         Grammar::Iri => lines_in::<IriSpec, I, O>(alloc, command, source, sink),
-    }
-}
-
-// The lines of `robots` by a grammar, for the crawler of a token.
-fn robots_by<I: Source, O: Sink>(
-    alloc: Global,
-    grammar: Grammar,
-    token: &str,
-    source: &mut I,
-    sink: &mut O,
-) -> u8
-    requires { is_token token.now ≡ true }
-    ensures { RunsLines (robots_rules (tests_of grammar) token.now)
-        (outside (I.left source.old) (O.written sink.old) (I.faults source.old) (O.faults sink.old))
-        (outside (I.left source.new) (O.written sink.new) (I.faults source.new) (O.faults sink.new))
-        (O.room_left sink.old) (O.room_left sink.new) result }
-{
-    match grammar {
-        Grammar::Uri => robots_lines::<UriSpec, I, O>(alloc, token, source, sink),
-        Grammar::Iri => robots_lines::<IriSpec, I, O>(alloc, token, source, sink),
     }
 }
 
@@ -183,13 +177,6 @@ pub fn run<I: Source, O: Sink>(alloc: Global, words: &[String], source: &mut I, 
         (outside (I.left source.new) (O.written sink.new) (I.faults source.new) (O.faults sink.new))
         (O.room_left sink.old) (O.room_left sink.new) result }
 
-    // `robots`: the same, by the rules for the crawler of the token.
-    ensures robots { (grammar : Grammar) (token : List ℕ) → IsRobots (map string_bytes words.now) grammar token
-        → RunsLines (robots_rules (tests_of grammar) token)
-        (outside (I.left source.old) (O.written sink.old) (I.faults source.old) (O.faults sink.old))
-        (outside (I.left source.new) (O.written sink.new) (I.faults source.new) (O.faults sink.new))
-        (O.room_left sink.old) (O.room_left sink.new) result }
-
     // `gen`: the three lines are written, and nothing is read; or allocation failed, and nothing was written.
     ensures gens { (grammar : Grammar) (count : ℕ) → IsCommand (map string_bytes words.now) (Command.Gen grammar count)
         → (let old = outside (I.left source.old) (O.written sink.old) (I.faults source.old) (O.faults sink.old) in
@@ -204,9 +191,6 @@ pub fn run<I: Source, O: Sink>(alloc: Global, words: &[String], source: &mut I, 
 {
     match command_of(words) {
         Some(Command::Lines(command, grammar)) => lines_by(alloc, command, grammar, source, sink),
-        Some(Command::Robots(grammar)) => {
-            robots_by(alloc, grammar, words[2].as_str(), source, sink)
-        }
         Some(Command::Gen(grammar, count)) => generate(alloc, grammar, count, sink),
         Some(Command::Tell(notice)) => tell(notice, sink),
         None => NO_COMMAND,

@@ -28,10 +28,10 @@ use Rattle.iri_cli.specs.declared.run.words.Grammar.TheVariants.{Uri}
 use Rattle.iri_cli.specs.declared.run.words.LineCommand.TheVariants.{Canon}
 
 pub words_by_scheme : IsCommand (codes "canon" ∷ codes "uri" ∷ codes "scheme" ∷ []) (Lines (Canon Scheme) Uri)
-words_by_scheme = refl
+words_by_scheme = (refl, tt)
 
 pub words_by_default : IsCommand (codes "canon" ∷ codes "uri" ∷ []) (Lines (Canon Default) Uri)
-words_by_default = refl
+words_by_default = (refl, tt)
 
 -- two links with one text, another port, a port that isn't the same text, a scheme without a default port, no authority, and a fault
 pub answers_to_some_lines : answers (rules_of (Canon Scheme) uri_tests) (codes "HTTP://H:80")

@@ -41,19 +41,15 @@ module _ (rules : Rules) (written_old written_new : Option (List ℕ)) (faults_o
   PutsAnswer answer (Err AnswerFailed) = FailsWithin written_old written_new faults_old faults_new answer
   PutsAnswer answer (Err AnswerMemory) = IsRefusedMemory
 
-  -- The same of the text behind all answers.
-  abbrev pub PutsClosing : List ℕ → Result (Unit {0}) AnswerError → Type 0
-  PutsClosing text (Ok x) = Appends written_old written_new text × (faults_new ≡ faults_old)
-  PutsClosing text (Err AnswerFailed) = FailsWithin written_old written_new faults_old faults_new text
-  PutsClosing text (Err AnswerMemory) = IsRefusedMemory
-
-  -- The same, and the end of the run.
-  abbrev pub ClosesRun : Bool → List ℕ → End → Type 0
-  ClosesRun good text Done = (good ≡ true) × Appends written_old written_new text × (faults_new ≡ faults_old)
-  ClosesRun good text SomeBad = (good ≡ false) × Appends written_old written_new text × (faults_new ≡ faults_old)
-  ClosesRun good text SinkFailed = FailsWithin written_old written_new faults_old faults_new text
-  ClosesRun good text Memory = IsRefusedMemory
-  ClosesRun good text end = ⊥
+-- The text behind all answers was written, which ends the run; or the sink failed within it.
+abbrev pub ClosesRun : (written_old written_new : Option (List ℕ)) → (faults_old faults_new : ℕ) → Bool → List ℕ → End → Type 0
+ClosesRun written_old written_new faults_old faults_new good text Done =
+    (good ≡ true) × Appends written_old written_new text × (faults_new ≡ faults_old)
+ClosesRun written_old written_new faults_old faults_new good text SomeBad =
+    (good ≡ false) × Appends written_old written_new text × (faults_new ≡ faults_old)
+ClosesRun written_old written_new faults_old faults_new good text SinkFailed =
+    FailsWithin written_old written_new faults_old faults_new text
+ClosesRun written_old written_new faults_old faults_new good text end = ⊥
 
 -- A line was answered, and is then one of those between. A sink that is known to have room for the answer didn't fail.
 pub record AnswersLine (is_new : Answering → Type 0) (old : Answering) (line : List ℕ) (written_old written_new : Option (List ℕ))

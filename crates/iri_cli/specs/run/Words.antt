@@ -17,9 +17,9 @@ use Rattle.iri_robots.specs.FileLines.{is_token}
 use Rattle.iri_cli.specs.declared.run.words.Grammar.{Grammar}
 use Rattle.iri_cli.specs.declared.run.words.Grammar.TheVariants.{Uri, Iri}
 use Rattle.iri_cli.specs.declared.run.words.Command.{Command}
-use Rattle.iri_cli.specs.declared.run.words.Command.TheVariants.{Lines, Robots, Gen, Tell}
+use Rattle.iri_cli.specs.declared.run.words.Command.TheVariants.{Lines, Gen, Tell}
 use Rattle.iri_cli.specs.declared.run.words.LineCommand.{LineCommand}
-use Rattle.iri_cli.specs.declared.run.words.LineCommand.TheVariants.{Canon, Expand, Register, Links, Docs}
+use Rattle.iri_cli.specs.declared.run.words.LineCommand.TheVariants.{Canon, Expand, Register, Links, Docs, Robots}
 use Rattle.iri_cli.specs.declared.help.Notice.{Notice}
 use Rattle.iri_cli.specs.declared.help.Notice.TheVariants.{Help, Version}
 
@@ -40,6 +40,7 @@ command_word Expand = codes "expand"
 command_word Register = codes "register"
 command_word Links = codes "links"
 command_word Docs = codes "docs"
+command_word (Robots token) = codes "robots"
 
 -- how the mode of `canon` is named
 abbrev pub mode_words : CanonMode → List (List ℕ)
@@ -53,6 +54,16 @@ words_behind Expand = []
 words_behind Register = []
 words_behind Links = []
 words_behind Docs = []
+words_behind (Robots token) = token.now ∷ []
+
+-- the token of `robots` is a product token (RFC 9309 section 2.2.1)
+abbrev pub HasToken : LineCommand → Type 0
+HasToken (Canon mode) = Unit {0}
+HasToken Expand = Unit {0}
+HasToken Register = Unit {0}
+HasToken Links = Unit {0}
+HasToken Docs = Unit {0}
+HasToken (Robots token) = is_token token.now ≡ true
 
 -- a number from 1 to 100000 in decimal, without a leading zero
 pub record IsCount (word : List ℕ) (count : ℕ) : Type 0 where
@@ -60,15 +71,9 @@ pub record IsCount (word : List ℕ) (count : ℕ) : Type 0 where
   pub least : 1 ≤ count
   pub most : count ≤ 100000
 
--- These words are `robots` by a grammar, for the crawler of a product token.
-pub record IsRobots (words : List (List ℕ)) (grammar : Grammar) (token : List ℕ) : Type 0 where
-  pub spelled : words ≡ codes "robots" ∷ word_of grammar ∷ token ∷ []
-  pub a_token : is_token token ≡ true
-
 -- These words, in UTF-8, are this command.
 abbrev pub IsCommand : List (List ℕ) → Command → Type 0
-IsCommand words (Lines command grammar) = words ≡ command_word command ∷ word_of grammar ∷ words_behind command
-IsCommand words (Robots grammar) = (token : List ℕ) × IsRobots words grammar token
+IsCommand words (Lines command grammar) = (words ≡ command_word command ∷ word_of grammar ∷ words_behind command) × HasToken command
 IsCommand words (Gen grammar count) = (number : List ℕ) × (words ≡ codes "gen" ∷ word_of grammar ∷ number ∷ []) × IsCount number count
 IsCommand words (Tell notice) = words ≡ notice_word notice ∷ []
 
@@ -140,3 +145,4 @@ rules_of Expand s = expand_rules s
 rules_of Register s = register_rules s
 rules_of Links s = links_rules s
 rules_of Docs s = docs_rules s
+rules_of (Robots token) s = robots_rules s token.now

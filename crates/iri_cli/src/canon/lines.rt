@@ -1,73 +1,15 @@
 //! The lines of `canon`.
 ghost use Rattle.std.specs.Prelude.{◌≢◌};
-ghost use Rattle.std.specs.Vec.{vec_capacity};
 ghost use Rattle.iri_cli.specs.canon.Answer.{AnswersAreCanonical, AnswersAreCanonicalIn};
-ghost use Rattle.iri_cli.specs.run.Buffers.{AreBuffers};
-ghost use Rattle.iri_cli.specs.run.Run.{outside, Ran, Runs};
+ghost use Rattle.iri_cli.specs.run.Run.{Runs, outside};
 ghost use Rattle.iri_cli.specs.run.Words.{canon_rules, canon_rules_in};
 
-use crate::canon::prepared::prepare_base;
-use crate::canon::{Canon, resolver_of};
-use crate::run::base::{read_base, refuse_base};
+use crate::canon::Canon;
 use crate::run::buffers::CanonBuffers;
-use crate::run::end::{End, finish};
-use crate::run::lines::{answer_lines, fault_end};
+use crate::run::opening::run_lines;
 use iri_grammar::spec::Spec;
 use iri_normal::mode::CanonMode;
-use iri_text::{LineReader, Sink, Source};
-
-// Reads the base line into a buffer, prepares it there, and answers the lines behind it.
-fn answer_with<S: Spec, I: Source, O: Sink>(
-    mode: CanonMode,
-    mut reader: LineReader,
-    buffer: &mut Vec<u8>,
-    mut output: Vec<u8>,
-    source: &mut I,
-    sink: &mut O,
-) -> End
-    requires { AreBuffers reader (vec_capacity buffer.old) (vec_capacity output) }
-    ensures { Ran (canon_rules_in S.tests mode) (outside (I.left source.old) (O.written sink.old) (I.faults source.old)
-        (O.faults sink.old))
-        (outside (I.left source.new) (O.written sink.new) (I.faults source.new) (O.faults sink.new))
-        (O.room_left sink.old) (O.room_left sink.new) result }
-{
-    match read_base(&mut reader, source, buffer) {
-        Ok(()) => (),
-        Err(fault) => return fault_end(fault),
-    }
-    match prepare_base::<S>(buffer, &mut output) {
-        Ok(()) => {
-            let resolver = resolver_of::<S>(buffer);
-            let mut canon = Canon {
-                mode,
-                resolver,
-                output,
-            };
-            answer_lines(&mut canon, reader, source, sink)
-        }
-        Err(words) => refuse_base(sink, words),
-    }
-}
-
-// Answers the lines of the source in these buffers.
-fn answer_all<S: Spec, I: Source, O: Sink>(
-    mode: CanonMode,
-    buffers: CanonBuffers,
-    source: &mut I,
-    sink: &mut O,
-) -> End
-    ensures { Ran (canon_rules_in S.tests mode) (outside (I.left source.old) (O.written sink.old) (I.faults source.old)
-        (O.faults sink.old))
-        (outside (I.left source.new) (O.written sink.new) (I.faults source.new) (O.faults sink.new))
-        (O.room_left sink.old) (O.room_left sink.new) result }
-{
-    let CanonBuffers {
-        reader,
-        mut base,
-        output,
-    } = buffers;
-    answer_with::<S, I, O>(mode, reader, &mut base, output, source, sink)
-}
+use iri_text::{Sink, Source};
 
 /// Reads a base line and reference lines, answers each reference line by its canonical text, and gives the program's status. It
 /// takes no memory but the buffers.
@@ -112,6 +54,5 @@ pub fn canon_lines_in<S: Spec, I: Source, O: Sink>(
     // Each good answer is a URI of the spec that splits into exactly the normal form of the target, and is its own canonical text.
     ensures canonical { AnswersAreCanonicalIn S.tests mode }
 {
-    let end = answer_all::<S, I, O>(mode, buffers, source, sink);
-    finish(sink, end)
+    run_lines::<S, Canon, I, O>(mode, buffers, source, sink)
 }

@@ -1,10 +1,25 @@
 // What answers lines.
-ghost use Rattle.std.specs.Prelude.{◌≢◌, ◌≤◌, Err, length};
-ghost use Rattle.iri_text.specs.Sink.{KeepsRoom};
-ghost use Rattle.iri_cli.specs.run.Answering.{Answering, AnswersLine, PutsClosing};
-ghost use Rattle.iri_cli.specs.declared.run.answers.AnswerError.TheVariants.{SinkFailed};
+ghost use Rattle.std.specs.Prelude.{◌≤◌, ℕ, List, length};
+ghost use Rattle.std.specs.Vec.{vec_capacity};
+ghost use Rattle.iri_text.specs.Sink.{PutsAll};
+ghost use Rattle.iri_normal.specs.Resolver.{base_text};
+ghost use Rattle.iri_cli.specs.run.Answering.{Answering, AnswersLine};
+ghost use Rattle.iri_cli.specs.run.Ending.{Rules};
+ghost use Rattle.iri_cli.specs.run.Limits.{answer_room, longest_line};
+ghost use Rattle.iri_cli.specs.inside.Opening.{BeginsAsCanon, Opens};
 
-use iri_text::Sink;
+use iri_grammar::spec::Spec;
+use iri_normal::resolver::FixedBaseResolver;
+use iri_text::{Failed, Sink};
+
+/// Why no lines are answered behind a base line.
+#[derive(Clone, Copy)]
+pub enum BaseError {
+    /// The base line is refused, for what these words say.
+    Refused(&'static str),
+    /// Allocation failed.
+    Memory,
+}
 
 /// Why an answer was not put, or not whole.
 #[derive(Clone, Copy)]
@@ -15,25 +30,45 @@ pub enum AnswerError {
     Memory,
 }
 
-/// Answers lines behind a base, one after the other.
-pub trait Answers {
-    /// Whether it stands at these: the command, the base, and the lines that were answered.
-    ghost stands_at: { Self → Answering → Type 0 };
+/// Answers the lines of a command behind a base, one after the other.
+pub trait Answers<S: Spec>: Drop + Sized {
+    /// What it is made of before the base line is read.
+    type Start: Drop;
+
+    /// What the command says of lines.
+    ghost rules: { Self.Start → Rules };
+
+    /// Whether it stands at these, where references are resolved against this text: the command, the base, and the lines that
+    /// were answered.
+    ghost stands_at: { Self → List ℕ → Answering → Type 0 };
+
+    /// Takes the base line, which it may change into a base that has the same answers, and a buffer that has the capacity for
+    /// each answer.
+    fn open(start: Self::Start, base: &mut Vec<u8>, output: Vec<u8>) -> Result<Self, BaseError>
+        requires short { length base.old.items ≤ longest_line }
+        requires room { answer_room ≤ vec_capacity output }
+        ensures { Opens S.tests (rules start) base.old.items base.new.items stands_at result };
 
     /// Puts the answer to a line within the limits, and says whether a run with it may end in status 0.
-    fn answer<O: Sink>(&mut self, line: &[u8], sink: &mut O) -> Result<bool, AnswerError>
-        requires { (at : Answering) × (stands_at self.old at) × (length line.now ≤ at.rules.line_limit)
-            × (length at.between ≤ at.rules.input_limit) }
-        ensures { (at : Answering) → stands_at self.old at
-            → AnswersLine (stands_at self.new) at line.now (O.written sink.old) (O.written sink.new) (O.faults sink.old)
-            (O.faults sink.new) (O.room_left sink.old) (O.room_left sink.new) result };
+    fn answer<O: Sink>(
+        &mut self,
+        resolver: &FixedBaseResolver<'_, S>,
+        line: &[u8],
+        sink: &mut O,
+    ) -> Result<bool, AnswerError>
+        requires { (at : Answering) × (stands_at self.old (base_text resolver.now) at)
+            × (length line.now ≤ at.rules.line_limit) × (length at.between ≤ at.rules.input_limit) }
+        ensures { (at : Answering) → stands_at self.old (base_text resolver.now) at
+            → AnswersLine (stands_at self.new (base_text resolver.now)) at line.now (O.written sink.old)
+            (O.written sink.new) (O.faults sink.old) (O.faults sink.new) (O.room_left sink.old)
+            (O.room_left sink.new) result };
 
-    /// Puts the text behind all answers.
-    fn close<O: Sink>(&mut self, sink: &mut O) -> Result<(), AnswerError>
-        ensures puts { (at : Answering) → stands_at self.old at
-            → PutsClosing at.rules (O.written sink.old) (O.written sink.new) (O.faults sink.old) (O.faults sink.new)
-            (at.rules.closing at.base at.between) result }
-        ensures room { (at : Answering) → stands_at self.old at
-            → KeepsRoom (O.room_left sink.old) (O.room_left sink.new) (at.rules.closing at.base at.between)
-            (result ≢ Err SinkFailed) };
+    /// Puts the text behind all answers. It takes no memory.
+    fn close<O: Sink>(&mut self, sink: &mut O) -> Result<(), Failed>
+        ensures { (text : List ℕ) (at : Answering) → stands_at self.old text at
+            → PutsAll (O.written sink.old) (O.written sink.new) (O.faults sink.old) (O.faults sink.new)
+            (O.room_left sink.old) (O.room_left sink.new) result (at.rules.closing at.base at.between) };
+
+    /// Limits and base of the command are those of every command.
+    ghost begins: { (start : Self.Start) → BeginsAsCanon S.tests (rules start) };
 }

@@ -1,66 +1,83 @@
-// How a run begins whose answers take memory.
-ghost use Rattle.std.specs.Prelude.{◌≡◌, ◌⊎◌, None, MatchResult};
+// The run of a command over the lines of a source.
+ghost use Rattle.std.specs.Prelude.{◌≡◌, None, MatchResult};
+ghost use Rattle.std.specs.Vec.{vec_capacity};
 ghost use Rattle.iri_cli.specs.canon.Answer.{refusal};
-ghost use Rattle.iri_cli.specs.run.Ending.{Rules};
-ghost use Rattle.iri_cli.specs.inside.Opening.{BeginsAsCanon, EndsAtBase, IsOpened};
-ghost use Rattle.iri_cli.specs.run.Run.{Ran, outside};
-ghost use Rattle.iri_cli.specs.declared.run.end.End.TheVariants.{Memory};
+ghost use Rattle.iri_cli.specs.run.Buffers.{AreBuffers};
+ghost use Rattle.iri_cli.specs.run.Run.{Ran, Runs, outside};
+ghost use Rattle.iri_cli.specs.inside.Opening.{RefusesLine};
 
-use crate::canon::base_of;
-use crate::run::base::refuse_base;
-use crate::run::buffers::{INPUT, LINE};
-use crate::run::end::End;
-use crate::run::lines::fault_end;
+use crate::canon::{base_of, resolver_of};
+use crate::run::answers::{Answers, BaseError};
+use crate::run::base::{read_base, refuse_base};
+use crate::run::buffers::CanonBuffers;
+use crate::run::end::{End, finish};
+use crate::run::lines::{answer_lines, fault_end};
 use iri_grammar::spec::Spec;
 use iri_owned::owned::RiAbsoluteString;
 use iri_text::{LineReader, Sink, Source};
 use std::alloc::Global;
 
-// The base of a base line, owned. A line that is refused is answered so, which ends the run; so does allocation failure.
-fn base_of_line<S: Spec, O: Sink>(
+/// The base of a base line, owned.
+pub(crate) fn own_base<S: Spec>(
     alloc: Global,
     line: &[u8],
-    sink: &mut O,
-) -> Result<RiAbsoluteString<S>, End>
-    ensures { MatchResult result
-        (λ base. (base.text ≡ line.now) × (refusal S.tests line.now ≡ None) × (sink.new ≡ sink.old))
-        (λ end. EndsAtBase (refusal S.tests line.now) (O.written sink.old) (O.written sink.new) (O.faults sink.old)
-        (O.faults sink.new) (O.room_left sink.old) (O.room_left sink.new) end
-        ⊎ ((end ≡ Memory) × (sink.new ≡ sink.old))) }
+) -> Result<RiAbsoluteString<S>, BaseError>
+    ensures { MatchResult result (λ base. (base.text ≡ line.now) × (refusal S.tests line.now ≡ None))
+        (RefusesLine S.tests line.now) }
 {
     match base_of::<S>(line) {
-        Ok(base) => RiAbsoluteString::from_view(alloc, base).map_err(|_| End::Memory),
-        Err(words) => Err(refuse_base(sink, words)),
+        Ok(base) => RiAbsoluteString::from_view(alloc, base).map_err(|_| BaseError::Memory),
+        Err(words) => Err(BaseError::Refused(words)),
     }
 }
 
-/// Reads the base line, and gives its base with the reader of the lines behind it. Otherwise the run ends so: the base line is
-/// refused, which is written; the source or the sink failed; a limit is passed; or allocation failed.
-pub fn open_lines<S: Spec, I: Source, O: Sink>(
-    alloc: Global,
+// Reads the base line into a buffer, and answers the lines behind it.
+fn answer_with<S: Spec, A: Answers<S>, I: Source, O: Sink>(
+    start: A::Start,
+    mut reader: LineReader,
+    base: &mut Vec<u8>,
+    output: Vec<u8>,
     source: &mut I,
     sink: &mut O,
-) -> Result<(LineReader, RiAbsoluteString<S>), End>
-    ensures { (rules : Rules) → BeginsAsCanon S.tests rules
-        → MatchResult result
-        (λ opened. IsOpened rules (I.left source.old) (I.left source.new) (I.faults source.old) (I.faults source.new)
-        opened.0 opened.1.text × (sink.new ≡ sink.old))
-        (λ end. Ran rules (outside (I.left source.old) (O.written sink.old) (I.faults source.old) (O.faults sink.old))
+) -> End
+    requires { AreBuffers reader (vec_capacity base.old) (vec_capacity output) }
+    ensures { Ran (A.rules start) (outside (I.left source.old) (O.written sink.old) (I.faults source.old)
+        (O.faults sink.old))
         (outside (I.left source.new) (O.written sink.new) (I.faults source.new) (O.faults sink.new))
-        (O.room_left sink.old) (O.room_left sink.new) end) }
+        (O.room_left sink.old) (O.room_left sink.new) result }
 {
-    let Ok(mut reader) = LineReader::new(alloc, LINE, INPUT) else {
-        return Err(End::Memory);
-    };
-    match reader.advance(source) {
-        Ok(true) => match base_of_line::<S, O>(alloc, reader.line(), sink) {
-            Ok(base) => Ok((reader, base)),
-            Err(end) => Err(end),
-        },
-        Ok(false) => match base_of_line::<S, O>(alloc, b"", sink) {
-            Ok(base) => Ok((reader, base)),
-            Err(end) => Err(end),
-        },
-        Err(fault) => Err(fault_end(fault)),
+    match read_base(&mut reader, source, base) {
+        Ok(()) => (),
+        Err(fault) => return fault_end(fault),
     }
+    match A::open(start, base, output) {
+        Ok(mut answers) => {
+            let resolver = resolver_of::<S>(base);
+            answer_lines::<S, A, I, O>(&mut answers, &resolver, reader, source, sink)
+        }
+        Err(BaseError::Refused(words)) => refuse_base(sink, words),
+        Err(BaseError::Memory) => End::Memory,
+    }
+}
+
+/// Reads a base line and the lines of a command behind it, answers each, and gives the program's status. It takes no memory
+/// but the buffers and what the command takes.
+pub(crate) fn run_lines<S: Spec, A: Answers<S>, I: Source, O: Sink>(
+    start: A::Start,
+    buffers: CanonBuffers,
+    source: &mut I,
+    sink: &mut O,
+) -> u8
+    ensures { Runs (A.rules start)
+        (outside (I.left source.old) (O.written sink.old) (I.faults source.old) (O.faults sink.old))
+        (outside (I.left source.new) (O.written sink.new) (I.faults source.new) (O.faults sink.new))
+        (O.room_left sink.old) (O.room_left sink.new) result }
+{
+    let CanonBuffers {
+        reader,
+        mut base,
+        output,
+    } = buffers;
+    let end = answer_with::<S, A, I, O>(start, reader, &mut base, output, source, sink);
+    finish(sink, end)
 }

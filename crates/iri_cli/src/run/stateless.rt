@@ -7,11 +7,12 @@ ghost use Rattle.iri_types.specs.Texts.{text};
 ghost use Rattle.iri_cli.specs.canon.Puts.{PutsLine};
 ghost use Rattle.iri_cli.specs.declared.run.answers.AnswerError.TheVariants.{SinkFailed};
 
-use crate::run::answers::{AnswerError, Answers};
+use crate::canon::base_of;
+use crate::run::answers::{AnswerError, Answers, BaseError};
 use crate::run::puts::told;
 use iri_grammar::spec::Spec;
-use iri_owned::owned::RiAbsoluteString;
-use iri_text::{Show, Sink, try_append_to_string};
+use iri_normal::resolver::FixedBaseResolver;
+use iri_text::{Failed, Show, Sink, try_append_to_string};
 use iri_types::view::RiAbsoluteStr;
 use std::alloc::{AllocError, Global};
 use std::marker::PhantomData;
@@ -56,38 +57,47 @@ fn put_answer<O: Sink>(sink: &mut O, answer: &str) -> Result<bool, AnswerError>
 
 /// Answers each line by the base and that line alone, and keeps nothing of it.
 #[derive(Drop)]
-pub struct StatelessAnswers<S: Spec, C: Stateless> {
-    pub(crate) alloc: Global,
-    pub(crate) base: RiAbsoluteString<S>,
-    pub(crate) command: PhantomData<C>,
+pub struct StatelessAnswers<C: Stateless> {
+    alloc: Global,
+    command: PhantomData<C>,
 }
 
-impl<S: Spec, C: Stateless> StatelessAnswers<S, C> {
-    /// The answers by a base.
-    pub(crate) fn new(alloc: Global, base: RiAbsoluteString<S>) -> Self
-        ensures { result.base.text ≡ base.text }
-    {
-        StatelessAnswers {
-            alloc,
-            base,
-            command: PhantomData,
+impl<S: Spec, C: Stateless> Answers<S> for StatelessAnswers<C> {
+    type Start = Global;
+
+    ghost use Rattle.std.specs.Prelude.{refl};
+    ghost use Rattle.iri_cli.specs.inside.StatelessAt.{IsStatelessAt};
+    ghost use Rattle.iri_cli.specs.run.Words.{stateless_rules};
+
+    ghost rules = { λ alloc. stateless_rules C.answer S.tests };
+
+    ghost begins = { λ alloc. record { line_limit = refl; input_limit = refl; refusal = refl } };
+
+    ghost stands_at = { λ c base at. IsStatelessAt C.answer S.tests base at };
+
+    fn open(alloc: Global, base: &mut Vec<u8>, _output: Vec<u8>) -> Result<Self, BaseError> {
+        match base_of::<S>(base) {
+            Ok(_) => Ok(StatelessAnswers {
+                alloc,
+                command: PhantomData,
+            }),
+            Err(words) => Err(BaseError::Refused(words)),
         }
     }
-}
 
-impl<S: Spec, C: Stateless> Answers for StatelessAnswers<S, C> {
-    ghost use Rattle.iri_cli.specs.inside.StatelessAt.{IsStatelessAt};
-
-    ghost stands_at = { λ c at. IsStatelessAt C.answer S.tests c.base.text at };
-
-    fn answer<O: Sink>(&mut self, line: &[u8], sink: &mut O) -> Result<bool, AnswerError> {
-        match C::answer_to(self.alloc, self.base.as_slice(), line) {
+    fn answer<O: Sink>(
+        &mut self,
+        resolver: &FixedBaseResolver<'_, S>,
+        line: &[u8],
+        sink: &mut O,
+    ) -> Result<bool, AnswerError> {
+        match C::answer_to(self.alloc, resolver.base(), line) {
             Ok(answer) => put_answer(sink, answer.as_str()),
             Err(_) => Err(AnswerError::Memory),
         }
     }
 
-    fn close<O: Sink>(&mut self, _sink: &mut O) -> Result<(), AnswerError> {
+    fn close<O: Sink>(&mut self, _sink: &mut O) -> Result<(), Failed> {
         Ok(())
     }
 }

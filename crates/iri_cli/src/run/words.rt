@@ -1,6 +1,6 @@
 //! The commands.
 ghost use Rattle.std.specs.Prelude.{◌≡◌, ◌≢◌, ◌↔◌, ℕ, decimal, true, [], ◌∷◌, map, string_bytes, MatchOption};
-ghost use Rattle.iri_cli.specs.run.Words.{IsCommand, IsCount, command_word, word_of, words_behind};
+ghost use Rattle.iri_cli.specs.run.Words.{HasToken, IsCommand, IsCount, command_word, word_of, words_behind};
 ghost use Rattle.iri_cli.specs.declared.run.words.Command.{Command};
 ghost use Rattle.iri_cli.specs.declared.run.words.Grammar.{Grammar};
 ghost use Rattle.iri_cli.specs.declared.run.words.LineCommand.{LineCommand};
@@ -21,7 +21,7 @@ pub enum Grammar {
 
 /// A command over the lines of an input, of which the first is the base.
 #[derive(Clone, Copy)]
-pub enum LineCommand {
+pub enum LineCommand<'a> {
     /// To answer each reference line by its canonical text, by the rules of a mode.
     Canon(CanonMode),
     /// To answer each template by the canonical text of its expansion, with the values that lines before give variables.
@@ -32,15 +32,15 @@ pub enum LineCommand {
     Links,
     /// To answer a template document in JSON by the canonical text of its expansion.
     Docs,
+    /// To say what the crawler of a product token may fetch.
+    Robots(&'a str),
 }
 
 /// What the program is told to do.
 #[derive(Clone, Copy)]
-pub enum Command {
+pub enum Command<'a> {
     /// To work on the lines of an input.
-    Lines(LineCommand, Grammar),
-    /// To say what the crawler of the product token that is the third word may fetch.
-    Robots(Grammar),
+    Lines(LineCommand<'a>, Grammar),
     /// To make so many references by a counter, and to tell of their canonical texts.
     Gen(Grammar, u32),
     /// To write what is told of the program.
@@ -62,9 +62,9 @@ fn grammar_of(word: &str) -> Option<Grammar>
 }
 
 // The command over lines of this name, without a word behind that of its grammar.
-fn line_command_of(word: &str) -> Option<LineCommand>
-    ensures { MatchOption result ((command : LineCommand) → word.now ≢ command_word command)
-        (λ command. (word.now ≡ command_word command) × (words_behind command ≡ [])) }
+fn line_command_of(word: &str) -> Option<LineCommand<'static>>
+    ensures { MatchOption result ((command : LineCommand) → words_behind command ≡ [] → word.now ≢ command_word command)
+        (λ command. (word.now ≡ command_word command) × (words_behind command ≡ []) × HasToken command) }
 {
     if word == "canon" {
         Some(LineCommand::Canon(CanonMode::Default))
@@ -106,7 +106,7 @@ fn count_of(word: &str) -> Option<u32>
 }
 
 // The command of one word.
-fn command_of_one(word: &str) -> Option<Command>
+fn command_of_one(word: &str) -> Option<Command<'static>>
     ensures { MatchOption result ((command : Command) → ¬ (IsCommand (word.now ∷ []) command))
         (IsCommand (word.now ∷ [])) }
 {
@@ -117,7 +117,7 @@ fn command_of_one(word: &str) -> Option<Command>
 }
 
 // The command of two words.
-fn command_of_two(name: &str, grammar: &str) -> Option<Command>
+fn command_of_two(name: &str, grammar: &str) -> Option<Command<'static>>
     ensures { MatchOption result ((command : Command) → ¬ (IsCommand (name.now ∷ grammar.now ∷ []) command))
         (IsCommand (name.now ∷ grammar.now ∷ [])) }
 {
@@ -127,7 +127,7 @@ fn command_of_two(name: &str, grammar: &str) -> Option<Command>
 }
 
 // The command of three words.
-fn command_of_three(name: &str, grammar: &str, third: &str) -> Option<Command>
+fn command_of_three<'a>(name: &str, grammar: &str, third: &'a str) -> Option<Command<'a>>
     ensures { MatchOption result ((command : Command)
         → ¬ (IsCommand (name.now ∷ grammar.now ∷ third.now ∷ []) command))
         (IsCommand (name.now ∷ grammar.now ∷ third.now ∷ [])) }
@@ -137,7 +137,7 @@ fn command_of_three(name: &str, grammar: &str, third: &str) -> Option<Command>
         return Some(Command::Lines(LineCommand::Canon(CanonMode::Scheme), grammar));
     }
     if name == "robots" && is_product_token(third) {
-        return Some(Command::Robots(grammar));
+        return Some(Command::Lines(LineCommand::Robots(third), grammar));
     }
     if name != "gen" {
         return None;
@@ -147,7 +147,7 @@ fn command_of_three(name: &str, grammar: &str, third: &str) -> Option<Command>
 }
 
 /// The command of these words, where they are one.
-pub fn command_of(words: &[String]) -> Option<Command>
+pub fn command_of(words: &[String]) -> Option<Command<'_>>
     ensures { MatchOption result ((command : Command) → ¬ (IsCommand (map string_bytes words.now) command))
         (IsCommand (map string_bytes words.now)) }
 {

@@ -1,13 +1,13 @@
 use Rattle.std.proofs.Common.{◌≡◌, ◌⊎◌, ℕ, map, string_bytes, subst, sym}
 use Rattle.iri_cli.specs.run.Words.{IsCommand, tests_of}
-use Rattle.iri_cli.specs.declared.run.words.Command.TheVariants.{Lines, Robots, Gen, Tell}
+use Rattle.iri_cli.specs.declared.run.words.Command.TheVariants.{Lines, Gen, Tell}
 use Rattle.iri_cli.proofs.BytesLemmas.{canonical_answers, grammar_is_spec}
 use Rattle.iri_cli.specs.generator.References.{gen_text}
 use Rattle.iri_cli.specs.help.Notices.{Tells}
-use Rattle.iri_cli.specs.run.Run.{outside}
+use Rattle.iri_cli.specs.run.Run.{RunsLines, outside}
 use Rattle.iri_cli.specs.declared.run.words.Grammar.{Grammar}
 use Rattle.iri_cli.proofs.GenLemmas.{told}
-use Rattle.iri_cli.proofs.WordLemmas.{one_gen}
+use Rattle.iri_cli.proofs.WordLemmas.{one_gen, one_lines}
 use Rattle.iri_cli.proofs.run.run.Goals as goal
 
 pub returns-in-Some-Lines-clause-canonical : goal.returns-in-Some-Lines-clause-canonical
@@ -26,14 +26,23 @@ pub returns-in-None-clause-canonical : goal.returns-in-None-clause-canonical
 returns-in-None-clause-canonical g c = λ mode grammar _ base line taken none. canonical_answers (tests_of grammar) mode
     (grammar_is_spec grammar) base line taken none
 
+pub returns-in-Some-Lines-clause-lines : goal.returns-in-Some-Lines-clause-lines
+returns-in-Some-Lines-clause-lines g c = λ command grammar is.
+    let words = map string_bytes c.args.words.now in
+    let found : IsCommand words (Lines c.in-Some-Lines.command c.in-Some-Lines.grammar) =
+    subst (IsCommand words) c.in-Some-Lines.field-0-is c.in-Some-Lines.ensures in
+    subst (λ rules. RunsLines rules (outside (g.I.Source.left c.args.source.now) (g.O.Sink.written c.args.sink.now)
+    (g.I.Source.faults c.args.source.now) (g.O.Sink.faults c.args.sink.now))
+    (outside (g.I.Source.left c.lines_by.new.source) (g.O.Sink.written c.lines_by.new.sink) (g.I.Source.faults c.lines_by.new.source)
+    (g.O.Sink.faults c.lines_by.new.sink))
+    (g.O.Sink.room_left c.args.sink.now) (g.O.Sink.room_left c.lines_by.new.sink) c.lines_by.result)
+    (one_lines words c.in-Some-Lines.command command c.in-Some-Lines.grammar grammar found is) c.lines_by.ensures
+
 pub returns-in-None-clause-tells : goal.returns-in-None-clause-tells
 returns-in-None-clause-tells g c = λ notice is. absurd (c.in-None.ensures (Tell notice) is)
 
 pub returns-in-None-clause-lines : goal.returns-in-None-clause-lines
 returns-in-None-clause-lines g c = λ command grammar is. absurd (c.in-None.ensures (Lines command grammar) is)
-
-pub returns-in-None-clause-robots : goal.returns-in-None-clause-robots
-returns-in-None-clause-robots g c = λ grammar token is. absurd (c.in-None.ensures (Robots grammar) (token, is))
 
 pub returns-in-None-clause-gens : goal.returns-in-None-clause-gens
 returns-in-None-clause-gens g c = λ grammar count is. absurd (c.in-None.ensures (Gen grammar count) is)

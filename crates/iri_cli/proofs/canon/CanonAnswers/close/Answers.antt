@@ -1,5 +1,7 @@
-use Rattle.iri_text.proofs.Puts.{room-same}
+use Rattle.std.proofs.Common.{ap}
+use Rattle.iri_cli.specs.run.Ending.{Rules}
+use Rattle.iri_cli.proofs.CanonLemmas.{closes_nothing}
 use Rattle.iri_cli.proofs.canon.CanonAnswers.close.Goals as goal
 
-pub returns-clause-room : goal.returns-clause-room
-returns-clause-room g c = λ at is. room-same _ _ (λ _ h. cc h)
+pub returns : goal.returns
+returns g c = λ text at is. closes_nothing at _ _ _ (ap (λ (r : Rules). r.closing at.base at.between) is.rules)

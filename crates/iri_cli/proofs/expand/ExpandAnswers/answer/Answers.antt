@@ -11,14 +11,14 @@ use Rattle.iri_cli.proofs.expand.ExpandAnswers.answer.Goals as goal
 pub returns-in-Ok : goal.returns-in-Ok
 returns-in-Ok g c = λ at is.
     let self = c.args.self.now in
-    answers_nothing g.S.Spec.tests (base_text self.resolver) self.expansion.items (vec_capacity self.output) (value_in self.values) at is c.args.line.now
+    answers_nothing g.S.Spec.tests (base_text c.args.resolver.now) self.expansion.items (vec_capacity self.output) (value_in self.values) at is c.args.line.now
     (changes (change_of c.in-Changes.change)) (sym (c.in-Changes.ensures {u = tt})) (g.O.Sink.written c.args.sink.now)
     (g.O.Sink.faults c.args.sink.now) (g.O.Sink.room_left c.args.sink.now) refl (value_in c.apply.new.values) (c.in-Ok.ensures {u = tt})
 
 pub returns-in-Err : goal.returns-in-Err
 returns-in-Err g c = λ at is.
     let self = c.args.self.now in
-    answers_memory g.S.Spec.tests (base_text self.resolver) self.expansion.items (vec_capacity self.output) (value_in self.values) at is c.args.line.now
+    answers_memory g.S.Spec.tests (base_text c.args.resolver.now) self.expansion.items (vec_capacity self.output) (value_in self.values) at is c.args.line.now
     (changes (change_of c.in-Changes.change)) (sym (c.in-Changes.ensures {u = tt})) (g.O.Sink.written c.args.sink.now)
     (g.O.Sink.faults c.args.sink.now) (g.O.Sink.room_left c.args.sink.now) refl _
 
@@ -26,7 +26,7 @@ pub returns-in-Expands : goal.returns-in-Expands
 returns-in-Expands g c = λ at is.
     let s = g.S.Spec.tests in
     let self = c.args.self.now in
-    let base = base_text self.resolver in
+    let base = base_text c.args.resolver.now in
     let values = value_in self.values in
     let template = c.in-Expands.template.now in
     let expansion = with_items self.expansion c.put_template.new.expansion in
@@ -41,7 +41,7 @@ returns-in-Bad g c = λ at is.
     let self = c.args.self.now in
     let puts = told_line false c.put_bad_line.result bad_line bad_line c.told.result c.told.ensures refl refl c.put_bad_line.ensures in
     let room = told_room false c.put_bad_line.result bad_line bad_line c.told.result c.told.ensures refl c.put_bad_line.ensures in
-    answers_text g.S.Spec.tests (base_text self.resolver) self.expansion.items (vec_capacity self.output) (value_in self.values) at is c.args.line.now bad
+    answers_text g.S.Spec.tests (base_text c.args.resolver.now) self.expansion.items (vec_capacity self.output) (value_in self.values) at is c.args.line.now bad
     (sym (c.in-Bad.ensures {u = tt})) (g.O.Sink.written c.args.sink.now) (g.O.Sink.written c.put_bad_line.new.sink)
     (g.O.Sink.faults c.args.sink.now) (g.O.Sink.faults c.put_bad_line.new.sink) (g.O.Sink.room_left c.args.sink.now)
     (g.O.Sink.room_left c.put_bad_line.new.sink) self.expansion.items (vec_capacity self.output) c.told.result refl (omega arith) refl refl puts room

@@ -1,4 +1,5 @@
 use Rattle.std.proofs.Common.{◌++◌, ◌∙◌, [], Ok, ap, false, refl, string_bytes, subst, sym, true}
+use Rattle.iri_normal.specs.Resolver.{base_text}
 use Rattle.iri_robots.specs.Stored.{record_texts}
 use Rattle.iri_cli.specs.run.Answering.{AnswersLine}
 use Rattle.iri_cli.specs.canon.Puts.{told_of}
@@ -13,33 +14,36 @@ pub returns-in-Ok : goal.returns-in-Ok
 returns-in-Ok g c = λ at is.
     let s = g.S.Spec.tests in
     let site = c.args.self.now.site in
+    let base = base_text c.args.resolver.now in
     let token = string_bytes site.robots.token in
     let records = record_texts site.robots.records.items in
     let new = record_texts c.feed_line.new.self.records.items in
     let wo = g.O.Sink.written c.args.sink.now in
     let fo = g.O.Sink.faults c.args.sink.now in
     let ro = g.O.Sink.room_left c.args.sink.now in
-    subst (λ t. AnswersLine (IsRobotsAt s t site.base.text site.normal.text new) at c.args.line.now wo wo fo fo ro ro (Ok true))
+    subst (λ t. AnswersLine (IsRobotsAt s t base site.normal.text new) at c.args.line.now wo wo fo fo ro ro (Ok true))
     (sym c.in-Ok.ensures.token)
-    (answers_line s token site.base.text site.normal.text records new at c.args.line.now [] wo wo fo fo ro ro (Ok true) is
-    (ap (answer_to s token site.base.text records) c.in-Feeds.ensures)
+    (answers_line s token base site.normal.text records new at c.args.line.now [] wo wo fo fo ro ro (Ok true) is
+    (ap (answer_to s token base records) c.in-Feeds.ensures)
     (c.in-Ok.ensures.records ∙ ap (λ l. records ++ fed l) c.in-Feeds.ensures) (no_reply wo fo ro))
 
 pub returns-in-Asks : goal.returns-in-Asks
 returns-in-Asks g c = λ at is.
     let s = g.S.Spec.tests in
     let site = c.args.self.now.site in
+    let base = base_text c.args.resolver.now in
     let token = string_bytes site.robots.token in
     let records = record_texts site.robots.records.items in
     let reference = asks c.in-Asks.reference.now in
-    answers_line s token site.base.text site.normal.text records records at c.args.line.now (answer_to s token site.base.text records reference)
-    _ _ _ _ _ _ c.put_answer.result is (ap (answer_to s token site.base.text records) c.in-Asks.ensures)
+    answers_line s token base site.normal.text records records at c.args.line.now (answer_to s token base records reference)
+    _ _ _ _ _ _ c.put_answer.result is (ap (answer_to s token base records) c.in-Asks.ensures)
     (unfed c.put_answer.result records reference c.args.line.now c.in-Asks.ensures refl) c.put_answer.ensures
 
 pub returns-in-Bad : goal.returns-in-Bad
 returns-in-Bad g c = λ at is.
     let s = g.S.Spec.tests in
     let site = c.args.self.now.site in
+    let base = base_text c.args.resolver.now in
     let token = string_bytes site.robots.token in
     let records = record_texts site.robots.records.items in
     let wo = g.O.Sink.written c.args.sink.now in
@@ -49,7 +53,7 @@ returns-in-Bad g c = λ at is.
     let ro = g.O.Sink.room_left c.args.sink.now in
     let rn = g.O.Sink.room_left c.put_bad_line.new.sink in
     let told = told_of false c.put_bad_line.result in
-    subst (AnswersLine (IsRobotsAt s token site.base.text site.normal.text records) at c.args.line.now wo wn fo fn ro rn) (sym c.told.ensures)
-    (answers_line s token site.base.text site.normal.text records records at c.args.line.now bad_line wo wn fo fn ro rn told is
-    (ap (answer_to s token site.base.text records) c.in-Bad.ensures) (unfed told records bad c.args.line.now c.in-Bad.ensures refl)
+    subst (AnswersLine (IsRobotsAt s token base site.normal.text records) at c.args.line.now wo wn fo fn ro rn) (sym c.told.ensures)
+    (answers_line s token base site.normal.text records records at c.args.line.now bad_line wo wn fo fn ro rn told is
+    (ap (answer_to s token base records) c.in-Bad.ensures) (unfed told records bad c.args.line.now c.in-Bad.ensures refl)
     (replies false c.put_bad_line.result bad_line c.put_bad_line.ensures refl))

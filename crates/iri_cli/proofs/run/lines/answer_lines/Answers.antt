@@ -1,4 +1,5 @@
 use Rattle.std.proofs.Common.{arith}
+use Rattle.iri_normal.specs.Resolver.{base_text}
 use Rattle.iri_text.proofs.Puts.{room-so}
 use Rattle.iri_cli.proofs.Answered.{start_lines, one_line_more, line_fits, fails_at, finishes, stops_at, fails_first}
 use Rattle.iri_cli.proofs.Reading.{falls}
@@ -43,7 +44,8 @@ pub returns-in-Ok-false : goal.returns-in-Ok-false
 returns-in-Ok-false g c = λ start ready before faults first earlier.
     let n = rw c.in-Ok-false.field-0-test at c.in-Ok-false.ensures.advances in
     finishes _ _ _ _ _ _ _ _ _ _ _ _ _ _ _ _ _ _ ready.base_taken
-    (c.loop-answers.invariant start ready) before faults first earlier _ _ _ _ n c.close_lines.ensures.closes c.close_lines.ensures.room
+    (c.loop-answers.invariant start ready) before faults first earlier _ _ _ _ n (c.close_lines.ensures.closes (base_text c.args.resolver.now))
+    (c.close_lines.ensures.room (base_text c.args.resolver.now))
 
 pub returns-in-Err-advance : goal.returns-in-Err-advance
 returns-in-Err-advance g c = λ start ready before faults first earlier.

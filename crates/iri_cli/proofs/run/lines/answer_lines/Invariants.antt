@@ -1,12 +1,13 @@
 use Rattle.std.proofs.Common.{◌+◌, ◌-◌, length}
+use Rattle.iri_normal.specs.Resolver.{base_text}
 use Rattle.iri_cli.specs.run.Answering.{Answering, IsReady}
 use Rattle.iri_cli.proofs.Answered.{Goes}
 use Rattle.iri_cli.proofs.run.lines.answer_lines.Given as goal
 
 abbrev pub invariant-loop-answers : goal.invariant-loop-answers
 invariant-loop-answers g l =
-    (start : Answering) → IsReady (g.A.Answers.stands_at l.fn.answers) start l.fn.reader
-    → Goes (g.A.Answers.stands_at l.answers) start l.fn.reader l.reader (g.I.Source.left l.fn.source) (g.I.Source.left l.source)
+    (start : Answering) → IsReady (g.A.Answers.stands_at l.fn.answers (base_text l.resolver)) start l.fn.reader
+    → Goes (g.A.Answers.stands_at l.answers (base_text l.resolver)) start l.fn.reader l.reader (g.I.Source.left l.fn.source) (g.I.Source.left l.source)
     (g.O.Sink.written l.fn.sink) (g.O.Sink.written l.sink)
     (g.I.Source.faults l.fn.source) (g.I.Source.faults l.source) (g.O.Sink.faults l.fn.sink) (g.O.Sink.faults l.sink)
     (g.O.Sink.room_left l.fn.sink) (g.O.Sink.room_left l.sink) l.all_good

@@ -1,0 +1,84 @@
+use Rattle.std.proofs.Common.{◌≡◌, ◌∙◌, Err, arith, subst, sym}
+use Rattle.std.specs.Vec.{vec_capacity}
+use Rattle.iri_normal.specs.Resolver.{base_text}
+use Rattle.iri_cli.specs.inside.Opening.{Opens, begun}
+use Rattle.iri_cli.specs.run.Limits.{longest_line}
+use Rattle.iri_cli.specs.run.Run.{outside, Ran}
+use Rattle.iri_cli.proofs.BaseLine.{refuses}
+use Rattle.iri_cli.proofs.OpeningLemmas.{base_read, ends_in_memory, new_reader, ready, refusal_is}
+use Rattle.iri_cli.proofs.run.opening.answer_with.Goals as goal
+
+pub returns-in-Err : goal.returns-in-Err
+returns-in-Err g c =
+    let rules = g.A.Answers.rules c.args.start in
+    let begins = g.met.A.Answers.begins c.args.start in
+    let is_new = new_reader g.S.Spec.tests rules begins c.args.reader (vec_capacity c.args.base.now) (vec_capacity c.args.output) c.requires in
+    let sink = c.args.sink.now in
+    subst (λ e. Ran rules (outside (g.I.Source.left c.args.source.now) (g.O.Sink.written sink) (g.I.Source.faults c.args.source.now)
+    (g.O.Sink.faults sink))
+    (outside (g.I.Source.left c.read_base.new.source) (g.O.Sink.written sink) (g.I.Source.faults c.read_base.new.source) (g.O.Sink.faults sink))
+    (g.O.Sink.room_left sink) (g.O.Sink.room_left sink) e) (sym c.fault_end.ensures)
+    (c.in-Err.ensures rules is_new (g.O.Sink.written sink) (g.O.Sink.faults sink) (g.O.Sink.room_left sink))
+
+pub open-requires-clause-short : goal.open-requires-clause-short
+open-requires-clause-short g c =
+    let rules = g.A.Answers.rules c.args.start in
+    let begins = g.met.A.Answers.begins c.args.start in
+    let is_new = new_reader g.S.Spec.tests rules begins c.args.reader (vec_capacity c.args.base.now) (vec_capacity c.args.output) c.requires in
+    let limit : rules.line_limit ≡ longest_line = begins.line_limit in
+    omega (arith, (c.in-Ok.ensures rules is_new).1, limit)
+
+pub answer_lines-requires : goal.answer_lines-requires
+answer_lines-requires g c =
+    let s = g.S.Spec.tests in
+    let rules = g.A.Answers.rules c.args.start in
+    let begins = g.met.A.Answers.begins c.args.start in
+    let is_new = new_reader s rules begins c.args.reader (vec_capacity c.args.base.now) (vec_capacity c.args.output) c.requires in
+    let n = c.in-Ok.ensures rules is_new in
+    let line = c.read_base.new.buffer.items in
+    let o = c.in-Ok-open.ensures in
+    let stands_at = g.A.Answers.stands_at c.in-Ok-open.answers in
+    let at = subst (λ t. stands_at t (begun rules line)) (sym (c.resolver_of-resolver.ensures ∙ c.deref.ensures.value)) o.2 in (
+      begun rules line,
+      ready s rules begins line o.0 _ _ c.read_base.new.reader n.0 (stands_at (base_text c.resolver_of-resolver.result)) at,
+    )
+
+pub returns-in-Ok-open : goal.returns-in-Ok-open
+returns-in-Ok-open g c =
+    let s = g.S.Spec.tests in
+    let rules = g.A.Answers.rules c.args.start in
+    let begins = g.met.A.Answers.begins c.args.start in
+    let is_new = new_reader s rules begins c.args.reader (vec_capacity c.args.base.now) (vec_capacity c.args.output) c.requires in
+    let n = c.in-Ok.ensures rules is_new in
+    let line = c.read_base.new.buffer.items in
+    let o = c.in-Ok-open.ensures in
+    let stands_at = g.A.Answers.stands_at c.in-Ok-open.answers in
+    let at = subst (λ t. stands_at t (begun rules line)) (sym (c.resolver_of-resolver.ensures ∙ c.deref.ensures.value)) o.2 in
+    c.answer_lines.ensures (begun rules line)
+    (ready s rules begins line o.0 _ _ c.read_base.new.reader n.0 (stands_at (base_text c.resolver_of-resolver.result)) at)
+    (g.I.Source.left c.args.source.now) (g.I.Source.faults c.args.source.now)
+    (base_read s rules begins line o.0 _ _ c.read_base.new.reader n.0).0 n.2
+
+pub returns-in-Err-Refused : goal.returns-in-Err-Refused
+returns-in-Err-Refused g c =
+    let s = g.S.Spec.tests in
+    let rules = g.A.Answers.rules c.args.start in
+    let begins = g.met.A.Answers.begins c.args.start in
+    let is_new = new_reader s rules begins c.args.reader (vec_capacity c.args.base.now) (vec_capacity c.args.output) c.requires in
+    let n = c.in-Ok.ensures rules is_new in
+    let line = c.read_base.new.buffer.items in
+    let refused = subst (λ e. Opens s rules line c.open.new.base.items g.A.Answers.stands_at (Err e)) c.in-Err-Refused.field-0-is
+    c.in-Err-Refused.ensures in
+    refuses rules line c.in-Err-Refused.words.now (refusal_is s rules begins line ∙ refused) _ _ _ _ _ _ _ _ _ _ c.read_base.new.reader _ n.0 n.2
+    c.refuse_base.ensures.refuses c.refuse_base.ensures.room
+
+pub returns : goal.returns
+returns g c =
+    let s = g.S.Spec.tests in
+    let rules = g.A.Answers.rules c.args.start in
+    let begins = g.met.A.Answers.begins c.args.start in
+    let is_new = new_reader s rules begins c.args.reader (vec_capacity c.args.base.now) (vec_capacity c.args.output) c.requires in
+    let n = c.in-Ok.ensures rules is_new in
+    let takes = subst (λ e. Opens s rules c.read_base.new.buffer.items c.open.new.base.items g.A.Answers.stands_at (Err e))
+    c.in-Err-Memory.field-0-is c.in-Err-Memory.ensures in
+    ends_in_memory rules _ _ _ _ _ _ _ takes n.2
