@@ -2,20 +2,20 @@
 use Rattle.std.specs.Str.{IsUtf8}
 use Rattle.iri_grammar.specs.Pieces.{pieces}
 use Rattle.std.specs.Prelude.{◌≡◌, ◌⊎◌, ℕ, length, take, drop, List, [], ◌++◌, Option, Some}
-use Rattle.iri_cli.specs.Gen.{gen_text}
-use Rattle.iri_cli.specs.Notices.{Tells, notice_text}
-use Rattle.iri_cli.specs.Run.{Outside, outside, RunsLines}
-use Rattle.iri_cli.specs.Words.{IsCommand, IsRobots, robots_rules, rules_of, tests_of}
-use Rattle.iri_cli.specs.declared.command.Command.{Command}
-use Rattle.iri_cli.specs.declared.command.Command.TheVariants.{Lines, Gen, Tell}
-use Rattle.iri_cli.specs.declared.command.Grammar.{Grammar}
-use Rattle.iri_cli.specs.declared.command.LineCommand.{LineCommand}
-use Rattle.iri_cli.specs.declared.notice.Notice.{Notice}
+use Rattle.iri_cli.specs.generator.References.{gen_text}
+use Rattle.iri_cli.specs.help.Notices.{Tells, notice_text}
+use Rattle.iri_cli.specs.run.Run.{Outside, outside, RunsLines}
+use Rattle.iri_cli.specs.run.Words.{IsCommand, rules_of, tests_of}
+use Rattle.iri_cli.specs.declared.run.words.Command.{Command}
+use Rattle.iri_cli.specs.declared.run.words.Command.TheVariants.{Lines, Gen, Tell}
+use Rattle.iri_cli.specs.declared.run.words.Grammar.{Grammar}
+use Rattle.iri_cli.specs.declared.run.words.LineCommand.{LineCommand}
+use Rattle.iri_cli.specs.declared.help.Notice.{Notice}
 
 abbrev pub space : ℕ
 space = 32
 
--- the bytes of the text, and behind them what stood there; what the buffer has no room for is cut off
+-- the bytes of the text, and after them what stood there; what the buffer has no room for is cut off
 abbrev pub over : List ℕ → List ℕ → List ℕ
 over text buffer = take (length buffer) text ++ drop (length text) buffer
 
@@ -25,8 +25,6 @@ pub record RunsWords (words : List (List ℕ)) (old new : Outside) (room_old roo
   pub tells : (notice : Notice) → IsCommand words (Tell notice) → Tells (notice_text notice) old new room_old room_new status
   pub lines : (command : LineCommand) (grammar : Grammar) → IsCommand words (Lines command grammar)
       → RunsLines (rules_of command (tests_of grammar)) old new room_old room_new status
-  pub robots : (grammar : Grammar) (token : List ℕ) → IsRobots words grammar token
-      → RunsLines (robots_rules (tests_of grammar) token) old new room_old room_new status
   pub gens : (grammar : Grammar) (count : ℕ) → IsCommand words (Gen grammar count)
       → Tells (gen_text (tests_of grammar) count) old new room_old room_new status ⊎ ((status ≡ 6) × (new ≡ old))
 

@@ -23,7 +23,7 @@ fn words_in(alloc: Global, text: &str) -> Result<Vec<String>, AllocError>
     let mut words = Vec::new(alloc);
     let mut rest = text;
     'words: loop {
-        let (word, behind) = cut(rest, b' ');
+        let (word, after) = cut(rest, b' ');
         match String::from_str(alloc, word) {
             Ok(word) => match words.push(word) {
                 Ok(()) => (),
@@ -31,8 +31,8 @@ fn words_in(alloc: Global, text: &str) -> Result<Vec<String>, AllocError>
             },
             Err(error) => return Err(error),
         }
-        match behind {
-            Some(behind) => rest = behind,
+        match after {
+            Some(after) => rest = after,
             None => return Ok(words),
         }
     }

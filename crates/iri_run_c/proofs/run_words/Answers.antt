@@ -1,6 +1,6 @@
 use Rattle.std.proofs.Common.{◌≡◌, [], length, map, string_bytes, Some, ap, sym, subst, refl, ◌∙◌, inl}
 use Rattle.iri_text.specs.Memory.{room_left_of}
-use Rattle.iri_cli.specs.Run.{outside}
+use Rattle.iri_cli.specs.run.Run.{outside}
 use Rattle.iri_run_c.specs.Told.{RunsWords, begun}
 use Rattle.iri_run_c.proofs.run_words.Goals as goal
 
@@ -28,7 +28,6 @@ returns c =
             no_command = run.no_command;
             tells = run.tells;
             lines = run.lines;
-            robots = run.robots;
             gens = run.gens;
           }));
       out = c.copy_over.ensures;

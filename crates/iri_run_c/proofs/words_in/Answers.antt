@@ -23,12 +23,12 @@ pushed ws all w rest whole o e f b h =
 
 pub words-smaller : goal.words-smaller
 words-smaller c =
-    omega (arith, behind_shorter space c.words.rest.now c.in-Some.behind.now (sym c.cut.ensures.behind ∙ ap now_of c.in-Some.is))
+    omega (arith, behind_shorter space c.words.rest.now c.in-Some.after.now (sym c.cut.ensures.behind ∙ ap now_of c.in-Some.is))
 
 pub words-preserved : goal.words-preserved
 words-preserved c = record {
   utf8 = search rules;
-  words = pushed c.words.words.items c.push.new.self.items c.in-Ok.word c.words.rest.now c.args.text.now (Some c.in-Some.behind.now)
+  words = pushed c.words.words.items c.push.new.self.items c.in-Ok.word c.words.rest.now c.args.text.now (Some c.in-Some.after.now)
       c.in-Ok-push.ensures.items (c.in-Ok.ensures.ok ∙ c.cut.ensures.before) (sym c.cut.ensures.behind ∙ ap now_of c.in-Some.is) c.words.invariant.words;
 }
 
