@@ -1,12 +1,11 @@
 -- The answers of commands that answer each line alone.
-use Rattle.std.proofs.Common.{◌≡◌, ◌≢◌, ◌∙◌, ℕ, Bool, List, [], ◌∷◌, ◌++◌, Option, None, Result, Err, refl, sym, ap, subst}
+use Rattle.std.proofs.Common.{◌≡◌, ◌≢◌, ◌∙◌, ℕ, Bool, List, [], ◌∷◌, ◌++◌, Option, Result, Err, refl, sym, ap, subst}
 use Rattle.iri_grammar.specs.Classes.{Tests}
 use Rattle.iri_text.specs.Sink.{KeepsRoom}
 use Rattle.iri_text.proofs.Puts.{room-same}
 use Rattle.iri_cli.specs.run.Answering.{Answering, AnswersLine}
 use Rattle.iri_cli.specs.canon.Puts.{PutsLine}
 use Rattle.iri_cli.specs.run.Ending.{Rules}
-use Rattle.iri_cli.specs.run.Words.{stateless_rules}
 use Rattle.iri_cli.specs.declared.run.answers.AnswerError.{AnswerError}
 use Rattle.iri_cli.specs.declared.run.answers.AnswerError.TheVariants.{SinkFailed, Memory}
 use Rattle.iri_cli.specs.inside.StatelessAt.{IsStatelessAt}

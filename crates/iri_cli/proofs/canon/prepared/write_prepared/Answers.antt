@@ -1,6 +1,5 @@
-use Rattle.std.proofs.Common.{◌≡◌, ◌∙◌, refl, ap, arith, length}
+use Rattle.std.proofs.Common.{◌∙◌, refl, ap, arith, length}
 use Rattle.iri_types.specs.Texts.{text}
-use Rattle.iri_types.specs.SplitText.{split_text}
 use Rattle.iri_cli.proofs.BytesLemmas.{base_absolute}
 use Rattle.iri_cli.proofs.PreparedLaws.{shown_text, prepared_text, prepared_short}
 use Rattle.iri_cli.proofs.canon.prepared.write_prepared.Goals as goal
