@@ -9,8 +9,14 @@ fn runs(rt: HostRuntime) {
     let status = irikit_run(rt.alloc(), b"canon uri", input, &mut out, &mut told);
     assert!(rt; status == 1 && told == 31);
     assert!(rt; out.starts_with(b"ok http://a/c\nbad invalid path\n..."));
-    let status = irikit_run(rt.alloc(), b"canon uri scheme", b"http://a:80\n\n", &mut out, &mut told);
-    assert!(rt; status == 0 && told == 13 && out.starts_with(b"ok http://a/\nb"));
+    let status = irikit_run(
+        rt.alloc(),
+        b"canon uri scheme",
+        b"http://a:80\n\n",
+        &mut out,
+        &mut told,
+    );
+    assert!(rt; status == 0 && told == 13 && out.starts_with(b"ok http://a/\n\nbad"));
     let status = irikit_run(rt.alloc(), b"canon uri", b"", &mut out, &mut told);
     assert!(rt; status == 3);
 }
@@ -30,7 +36,13 @@ fn rooms(rt: HostRuntime) {
 #[test]
 fn words(rt: HostRuntime) {
     let mut told = 9;
-    for words in [&b""[..], b"canon", b"canon  uri", b"canon uri ", b"canon \xff"] {
+    for words in [
+        &b""[..],
+        b"canon",
+        b"canon  uri",
+        b"canon uri ",
+        b"canon \xff",
+    ] {
         let status = irikit_run(rt.alloc(), words, b"a:\n", &mut [], &mut told);
         assert!(rt; status == 2 && told == 0);
     }
