@@ -4,10 +4,10 @@ ghost use Rattle.std.specs.Str.{chars};
 
 use iri_text::{Show, Stop, TextSink};
 
-/// Counts the bytes of what is put, and stops where they are more than so many.
+// Counts the bytes of what is put, and stops where they are more than so many.
 #[derive(Drop)]
 pub(crate) struct ByteCount {
-    /// How many bytes more it takes.
+    // How many bytes more it takes.
     pub(crate) room: usize,
     pub(crate) stops: u64,
 }
@@ -33,7 +33,7 @@ impl TextSink for ByteCount {
     }
 }
 
-/// Whether the text of a value has at most so many bytes. One with more has characters.
+// Whether the text of a value has at most so many bytes. One with more has characters.
 pub(crate) fn is_within<T: Show>(value: &T, limit: usize) -> bool
     ensures within { result ≡ nat_le (length (T.text value.now)) limit }
     ensures longer { result ≡ false → 0 < length (chars (T.text value.now)) }

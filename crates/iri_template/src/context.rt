@@ -13,8 +13,12 @@ pub trait Context {
     /// The value of the variable of this name.
     ghost value_of: { Self → List ℕ → ShownValue };
 
-    /// Tells the visitor, which was told nothing yet, the value of the variable that it names. It answers `Stop` only where the visitor
-    /// did.
+    /// Tells the visitor the value of the variable that it names. It has a condition: the visitor was told nothing yet,
+    /// as one that an expansion hands in.
+    ///
+    /// # Errors
+    ///
+    /// Only where the visitor answered `Stop`.
     fn visit<V: Visitor>(&self, visitor: &mut V) -> Result<(), Stop>
         requires { V.phase visitor.old ≡ Fresh }
         ensures { Visits V.name V.aim V.phase V.hears V.halts V.stops visitor.old

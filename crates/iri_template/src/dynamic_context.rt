@@ -21,8 +21,12 @@ pub trait DynamicContext {
     /// How many expansions were ended, where it is told.
     ghost ends: { Self → Option ℕ };
 
-    /// Tells the visitor, which was told nothing yet, the value of the variable that it names. It answers `Stop` only where the visitor
-    /// did.
+    /// Tells the visitor the value of the variable that it names. It has a condition: the visitor was told nothing yet,
+    /// as one that an expansion hands in.
+    ///
+    /// # Errors
+    ///
+    /// Only where the visitor answered `Stop`.
     fn visit_dynamic<V: Visitor>(&mut self, visitor: &mut V) -> Result<(), Stop>
         requires { V.phase visitor.old ≡ Fresh }
         ensures visit { VisitsNext V.name V.aim V.phase V.hears V.halts V.stops (tells self.old) visitor.old visitor.new

@@ -63,7 +63,7 @@ impl Error {
         Error { kind, location }
     }
 
-    /// The same where the sink was a string: it stops on allocation failure alone.
+    // The same where the sink was a string: it stops on allocation failure alone.
     pub(crate) fn in_memory(self) -> Self
         ensures { result ≡ record { kind = in_memory self.kind; location = self.location } }
     {

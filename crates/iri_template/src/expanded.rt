@@ -19,8 +19,22 @@ use std::alloc::{AllocError, Global};
 use std::fmt;
 use std::marker::PhantomData;
 
-/// A template whose expansion for a URI or an IRI is shown, with the values of a context (RFC 6570 section 3). It
-/// takes no memory, and the values may put their texts in any pieces.
+/// A template whose expansion for a URI or an IRI is shown, with the values of a context (RFC 6570 section 3). It takes
+/// no memory until it is made owned, and the values may put their texts in any pieces.
+///
+/// ```
+/// use iri::format::{Text, ToStringFallible};
+/// use iri::spec::UriSpec;
+/// use iri::template::UriTemplateStr;
+/// use iri::template::simple_context::{SimpleContext, Value};
+/// let mut values = SimpleContext::new(rt.alloc());
+/// let name = String::from_str(rt.alloc(), "hello")?;
+/// let value = Text::from_string(String::from_str(rt.alloc(), "Hello World!")?);
+/// assert!(rt; values.insert(name, Value::String(value)).is_ok());
+/// let template = UriTemplateStr::new("{+hello}")?;
+/// let text = template.expand::<UriSpec, SimpleContext>(&values)?.try_to_string(rt.alloc())?;
+/// assert_eq!(rt; text.as_str(), "Hello%20World!");
+/// ```
 pub struct Expanded<'a, S, C: Context> {
     pub(crate) template: UriTemplateStr<'a>,
     pub(crate) context: &'a C,
@@ -82,7 +96,7 @@ impl<'a, S: Spec, C: Context> fmt::Display for Expanded<'a, S, C> {
 impl<'a, S: Spec, C: Context> Expanded<'a, S, C> {
     ghost use Rattle.iri_template.specs.ExpandedTexts.{expanded_text, RefusedAs, IsWithin};
 
-    /// The expansion as an owned text of a kind.
+    // The expansion as an owned text of a kind.
     fn into_owned<K: Kind>(&self, alloc: Global) -> Result<Owned<S, K>, ExpandedError>
         ensures { MatchResult result (λ t. t.text ≡ expanded_text S.tests C.value_of self.now)
             (λ e. RefusedAs e (expanded_text S.tests C.value_of self.now)
@@ -97,7 +111,22 @@ impl<'a, S: Spec, C: Context> Expanded<'a, S, C> {
         }
     }
 
-    /// The expansion as a reference: otherwise the text, with its first fault, or `Memory`.
+    /// The expansion as a reference.
+    ///
+    /// # Errors
+    ///
+    /// - `Invalid` exactly where it is none: its first fault, with the text handed back.
+    /// - `Memory` where allocation fails.
+    ///
+    /// ```
+    /// use iri::spec::UriSpec;
+    /// use iri::template::UriTemplateStr;
+    /// use iri::template::simple_context::SimpleContext;
+    /// let values = SimpleContext::new(rt.alloc());
+    /// let template = UriTemplateStr::new("/search{?q}")?;
+    /// let address = template.expand::<UriSpec, SimpleContext>(&values)?.try_into_reference(rt.alloc())?;
+    /// assert_eq!(rt; address.as_str(), "/search");
+    /// ```
     pub fn try_into_reference(&self, alloc: Global) -> Result<RiReferenceString<S>, ExpandedError>
         ensures { MatchResult result (λ t. t.text ≡ expanded_text S.tests C.value_of self.now)
             (λ e. RefusedAs e (expanded_text S.tests C.value_of self.now)
@@ -106,7 +135,12 @@ impl<'a, S: Spec, C: Context> Expanded<'a, S, C> {
         self.into_owned(alloc)
     }
 
-    /// The expansion as an IRI: otherwise the text, with its first fault, or `Memory`.
+    /// The expansion as an IRI of the grammar, which has a scheme.
+    ///
+    /// # Errors
+    ///
+    /// - `Invalid` exactly where it is none: its first fault, with the text handed back.
+    /// - `Memory` where allocation fails.
     pub fn try_into_iri(&self, alloc: Global) -> Result<RiString<S>, ExpandedError>
         ensures { MatchResult result (λ t. t.text ≡ expanded_text S.tests C.value_of self.now)
             (λ e. RefusedAs e (expanded_text S.tests C.value_of self.now)
@@ -115,7 +149,12 @@ impl<'a, S: Spec, C: Context> Expanded<'a, S, C> {
         self.into_owned(alloc)
     }
 
-    /// The expansion as an absolute IRI, which has no fragment: otherwise the text, with its first fault, or `Memory`.
+    /// The expansion as an absolute IRI of the grammar, which has a scheme and no fragment.
+    ///
+    /// # Errors
+    ///
+    /// - `Invalid` exactly where it is none: its first fault, with the text handed back.
+    /// - `Memory` where allocation fails.
     pub fn try_into_absolute(&self, alloc: Global) -> Result<RiAbsoluteString<S>, ExpandedError>
         ensures { MatchResult result (λ t. t.text ≡ expanded_text S.tests C.value_of self.now)
             (λ e. RefusedAs e (expanded_text S.tests C.value_of self.now)
@@ -124,7 +163,12 @@ impl<'a, S: Spec, C: Context> Expanded<'a, S, C> {
         self.into_owned(alloc)
     }
 
-    /// The expansion as a relative reference: otherwise the text, with its first fault, or `Memory`.
+    /// The expansion as a relative reference, which has no scheme.
+    ///
+    /// # Errors
+    ///
+    /// - `Invalid` exactly where it is none: its first fault, with the text handed back.
+    /// - `Memory` where allocation fails.
     pub fn try_into_relative(&self, alloc: Global) -> Result<RiRelativeString<S>, ExpandedError>
         ensures { MatchResult result (λ t. t.text ≡ expanded_text S.tests C.value_of self.now)
             (λ e. RefusedAs e (expanded_text S.tests C.value_of self.now)

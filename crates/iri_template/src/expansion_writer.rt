@@ -20,14 +20,15 @@ use iri_grammar::spec::Spec;
 use iri_percent::PercentEncoded;
 use iri_text::{Show, Stop, TextSink};
 
-/// Writes literals: what a reference of `S` can't hold becomes triplets.
+// Writes literals: what a reference of `S` can't hold becomes percent-encoded octets.
 fn write_literals<S: Spec, W: TextSink>(sink: &mut W, literals: &str) -> Result<(), Stop>
     ensures { Shows W.puts W.halts W.stops sink.old (encoded (keeps S.tests Any) literals.now) sink.new result }
 {
     PercentEncoded::<&str, S>::characters(literals).show(sink)
 }
 
-/// What is told of literals and triplets that begin at this place, where they were put or the sink stopped within them.
+// What is told of literals and percent-encoded octets that begin at this place, where they were put or the sink stopped
+// within them.
 fn told(put: Result<(), Stop>, begin: usize) -> Result<(), Error>
     ensures { result ≡ told_of begin put }
 {
@@ -37,7 +38,8 @@ fn told(put: Result<(), Stop>, begin: usize) -> Result<(), Error>
     }
 }
 
-/// Writes a part with this text. `begin` is the place of the literals and triplets to which it belongs, where it is one.
+// Writes a part with this text. `begin` is the place of the literals and percent-encoded octets to which it belongs, where
+// it is one.
 fn write_part<C: DynamicContext, S: Spec, W: TextSink>(
     sink: &mut W,
     context: &mut C,
@@ -70,7 +72,7 @@ fn write_part<C: DynamicContext, S: Spec, W: TextSink>(
     }
 }
 
-/// Where the literals and triplets after a part begin, which ends at `end`.
+// Where the literals and percent-encoded octets after a part begin, which ends at `end`.
 fn begin_after(part: Part<'_>, begin: usize, end: usize) -> usize
     ensures { result ≡ begin_after part.entry begin end }
 {
@@ -81,7 +83,7 @@ fn begin_after(part: Part<'_>, begin: usize, end: usize) -> usize
     }
 }
 
-/// Writes the expansion of a template.
+// Writes the expansion of a template.
 pub(crate) fn write_expansion<C: DynamicContext, S: Spec, W: TextSink>(
     sink: &mut W,
     context: &mut C,

@@ -26,7 +26,7 @@ use crate::varspec::VarSpec;
 use iri_grammar::spec::Spec;
 use iri_text::TextSink;
 
-/// Looks at the value that the context tells next: whether the varspec has no use for it.
+// Looks at the value that the context tells next: whether the varspec has no use for it.
 fn looks_mistyped<C: DynamicContext>(context: &mut C, varspec: VarSpec<'_>) -> bool
     ensures value { WhereTold (C.tells context.old)
         (λ f. result ≡ is_mistyped_as varspec.entry.modifier (f 0 varspec.entry.name.text.now Typecheck)) }
@@ -40,7 +40,7 @@ fn looks_mistyped<C: DynamicContext>(context: &mut C, varspec: VarSpec<'_>) -> b
     }
 }
 
-/// Tells a writer the value that the context tells next. `at` is the place of the varspec.
+// Tells a writer the value that the context tells next. `at` is the place of the varspec.
 fn tell_next<C: DynamicContext, S: Spec, W: TextSink>(
     visitor: &mut ValueWriter<S, W>,
     context: &mut C,
@@ -75,8 +75,8 @@ fn tell_next<C: DynamicContext, S: Spec, W: TextSink>(
     }
 }
 
-/// Looks at the value of a variable, and then writes it, after the operator's first text or its separator. `at` is the place
-/// of the varspec.
+// Looks at the value of a variable, and then writes it, after the operator's first text or its separator. `at` is the place
+// of the varspec.
 fn write_varspec<C: DynamicContext, S: Spec, W: TextSink>(
     sink: &mut W,
     context: &mut C,
@@ -118,7 +118,7 @@ fn write_varspec<C: DynamicContext, S: Spec, W: TextSink>(
     result
 }
 
-/// Writes the values of varspecs, which have no fault. `at` is their place, and a brace stands after them.
+// Writes the values of varspecs, which have no fault. `at` is their place, and a brace stands after them.
 pub(crate) fn write_varspecs<C: DynamicContext, S: Spec, W: TextSink>(
     sink: &mut W,
     context: &mut C,

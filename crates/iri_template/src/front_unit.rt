@@ -7,7 +7,7 @@ ghost use Rattle.iri_template.specs.inside.UnitViews.{IsUnit, TellsNone};
 use iri_grammar::spec::Spec;
 use iri_percent::character::triplets_char;
 
-/// A unit: how many bytes it has, and whether it stands as it is or is encoded.
+// A unit: how many bytes it has, and whether it stands as it is or is encoded.
 #[derive(Clone, Copy)]
 pub(crate) struct FrontUnit {
     pub(crate) len: usize,
@@ -23,7 +23,7 @@ fn begins_triplet(t: &[u8]) -> bool
     }
 }
 
-/// Whether the triplets at the start end within the text.
+// Whether the percent-encoded octets at the start end within the text.
 fn is_closed(t: &[u8]) -> bool
     ensures { result ≡ is_closed t.now }
 {
@@ -39,14 +39,14 @@ fn is_closed(t: &[u8]) -> bool
     }
 }
 
-/// Whether no more triplets may belong to those at the start.
+// Whether no more percent-encoded octets may belong to those at the start.
 fn is_settled(t: &[u8], end: bool) -> bool
     ensures { result ≡ (end || (nat_le 12 (length t.now) || is_closed t.now)) }
 {
     end || t.len() >= 12 || is_closed(t)
 }
 
-/// A triplet at the start, or the triplets of a character; none where more may follow.
+// A percent-encoded octet at the start, or the percent-encoded octets of a character; none where more may follow.
 fn front_triplets<S: Spec>(t: &[u8], end: bool) -> Option<FrontUnit>
     requires { begins_triplet t.now ≡ true }
     ensures { MatchOption result (TellsNone end t.now) (λ u. IsUnit S.tests end t.now u.len u.stands) }
@@ -69,7 +69,7 @@ fn front_triplets<S: Spec>(t: &[u8], end: bool) -> Option<FrontUnit>
     }
 }
 
-/// The unit at the start; none where the text is empty, or where more may follow that changes it.
+// The unit at the start; none where the text is empty, or where more may follow that changes it.
 pub(crate) fn front_unit<S: Spec>(t: &[u8], end: bool) -> Option<FrontUnit>
     requires { IsAscii t.now }
     ensures { MatchOption result (TellsNone end t.now) (λ u. IsUnit S.tests end t.now u.len u.stands) }

@@ -1,10 +1,12 @@
-//! What a sink holds back of a text: triplets, until the octets that tell their character have come, four of them at most.
+//! What a sink holds back of a text: percent-encoded octets, until the octets that tell their character have come, four of
+//! them at most.
 ghost use Rattle.std.specs.Prelude.{◌≡◌, ◌<◌, ◌≤◌, ◌++◌, ◌∷◌, [], length, take, drop};
 ghost use Rattle.std.specs.Str.{IsAscii};
 
 use std::marker::Model;
 
-/// At most twelve bytes, all in ASCII, since a character has no more than four triplets. It is seen as the list of them.
+// At most twelve bytes, all in ASCII, since a character has no more than four percent-encoded octets. It is seen as the list
+// of them.
 #[derive(Drop)]
 pub(crate) struct Held {
     buf: [u8; 12],
@@ -45,7 +47,7 @@ impl Held {
         &self.buf[..self.len]
     }
 
-    /// The first bytes.
+    // The first bytes.
     pub(crate) fn front(&self, n: usize) -> &str
         requires { n ≤ length self.now }
         ensures { result.now ≡ take n self.now }

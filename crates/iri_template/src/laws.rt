@@ -29,8 +29,8 @@ use iri_text::TextSink;
 use std::cmp::Ordering;
 use std::hash::{Hash, Hasher};
 
-/// Bytes have no fault exactly where they are a template, so where literals, triplets and expressions spell them
-/// (RFC 6570 section 2). At most one list of these does, and `pieces_of` is it.
+/// Bytes have no fault exactly where they are a template, so where literals, percent-encoded octets and expressions spell
+/// them (RFC 6570 section 2). At most one list of these does, and `pieces_of` is it.
 pub fn no_fault_of_templates()
     ensures template { (bs : List ℕ) → (template_fault bs ≡ None) ↔ IsTemplate bs }
     ensures pieces { (bs : List ℕ) → template_fault bs ≡ None → Spells (pieces_of bs) bs }
@@ -43,8 +43,8 @@ pub fn joined_templates()
     ensures { (a b : List ℕ) → template_fault a ≡ None → template_fault b ≡ None → template_fault (a ++ b) ≡ None }
 {}
 
-/// The units that an expansion counts and keeps are those of the text: each character outside triplets, each character
-/// in triplets, each other triplet, and each `%` that begins none.
+/// The units that an expansion counts and keeps are those of the text: each character outside percent-encoded octets, each
+/// character in percent-encoded octets, each other percent-encoded octet, and each `%` that begins none.
 pub fn units_of_values()
     ensures { (t : List ℕ) → IsUtf8 t → text_units t ≡ char_units t }
 {}

@@ -17,11 +17,11 @@
 //! [`expand_dynamic_to_string`](template::UriTemplateStr::expand_dynamic_to_string) gives it as a string. A
 //! [`Fixed`](dynamic_context::Fixed) is such a context whose values stay those of a `Context`.
 //!
-//! Proved: bytes have no fault exactly where literals, triplets and expressions spell them, and one list of these does
-//! (`laws::no_fault_of_templates`); each constructor refuses exactly the other texts, with the first fault and its
-//! place. `variables` gives the names from left to right, each as often as it stands there, and ends. An owned template
-//! is one; what is joined is one; after an allocation failure it is as it was. `SimpleContext` is a map: `insert` answers the
-//! old value, changes nothing where the key is no name, and hands key and value back where allocation fails. Equality,
+//! Proved: bytes have no fault exactly where literals, percent-encoded octets and expressions spell them, and one list of
+//! these does (`laws::no_fault_of_templates`); each constructor refuses exactly the other texts, with the first fault and
+//! its place. `variables` gives the names from left to right, each as often as it stands there, and ends. An owned template
+//! is one; what is joined is one; after an allocation failure it is as it was. `SimpleContext` is a map: `insert` answers
+//! the old value, changes nothing where the key is no name, and hands key and value back where allocation fails. Equality,
 //! order and hash of templates are those of their texts, and so is what is shown and displayed.
 //!
 //! `expand` refuses exactly where a varspec with a prefix has a list or an associative array that isn't empty, and
@@ -29,19 +29,19 @@
 //! in whatever pieces a value puts its text; it takes no memory, and where the sink stops, it stops within that text.
 //! The conversions refuse exactly what is outside their production, and `try_into_text_within` what is longer.
 //!
-//! `expand_dynamic` visits each varspec twice: its value is looked at, and then written. Of a context that tells which
-//! value comes at which call, the end is exact: all of the text was written; or the answer is `UnexpectedValueType` at
-//! the first varspec with a prefix that was told a list or an associative array that isn't empty, at either visit,
-//! after exactly the text before it; or it is `WriteFailed` at the varspec, or the literals and triplets between
-//! expressions, within whose text the sink stopped, after all text before it; no later varspec is visited then. Of any
-//! context: `WriteFailed` comes only where the sink's count of stops rose, and no third refusal comes; the callbacks at
-//! the start and at the end of an expansion are each called once, after a refusal too, where the context counts them.
-//! `expand_dynamic_to_string` gives that text, and alone answers `Memory`, with the places of `WriteFailed`. With
-//! `Fixed` both ways give the same text, or `UnexpectedValueType` at the same place (`laws::fixed_values`,
+//! `expand_dynamic` visits each varspec twice: its value is looked at, and then written. Of a context that tells which value
+//! comes at which call, the end is exact: all of the text was written; or the answer is `UnexpectedValueType` at the first
+//! varspec with a prefix that was told a list or an associative array that isn't empty, at either visit, after exactly the
+//! text before it; or it is `WriteFailed` at the varspec, or the literals and percent-encoded octets between expressions,
+//! within whose text the sink stopped, after all text before it; no later varspec is visited then. Of any context:
+//! `WriteFailed` comes only where the sink's count of stops rose, and no third refusal comes; the callbacks at the start and
+//! at the end of an expansion are each called once, after a refusal too, where the context counts them.
+//! `expand_dynamic_to_string` gives that text, and alone answers `Memory`, with the places of `WriteFailed`. With `Fixed`
+//! both ways give the same text, or `UnexpectedValueType` at the same place (`laws::fixed_values`,
 //! `laws::expanded_as_fixed`). Two values of each varspec alone decide what is written (`laws::numbered_calls`).
 //!
-//! Literals past ASCII are those of IRIs, `ucschar` and `iprivate`, whichever grammar an expansion is made for: where that is
-//! the grammar of URIs, they become triplets. Names, operators and lengths are ASCII.
+//! Literals past ASCII are those of IRIs, `ucschar` and `iprivate`, whichever grammar an expansion is made for: where that
+//! is the grammar of URIs, they become percent-encoded octets. Names, operators and lengths are ASCII.
 //!
 //! Not proved: the words of `CreateTemplateError`'s `Display`; that what takes memory gets it, which tests show with
 //! ample memory; the text of `Debug`.

@@ -14,14 +14,23 @@ pub trait VisitValueNaive {
     /// The value, with the texts of what is shown.
     ghost naive_value: { Self → ShownValue };
 
-    /// Tells the visitor, which was told nothing yet, the value. It answers `Stop` only where the visitor did.
+    /// Tells the visitor the value. It has a condition: the visitor was told nothing yet, as one that an expansion
+    /// hands in.
+    ///
+    /// # Errors
+    ///
+    /// Only where the visitor answered `Stop`.
     fn visit_value<V: Visitor>(&self, visitor: &mut V) -> Result<(), Stop>
         requires { V.phase visitor.old ≡ Fresh }
         ensures { Visits V.name V.aim V.phase V.hears V.halts V.stops visitor.old
             (telling (naive_value self.now)) Done visitor.new result };
 }
 
-/// Tells the visitor, which was told nothing yet, a value. It answers `Stop` only where the visitor did.
+/// Tells the visitor a value. It has a condition: the visitor was told nothing yet, as one that an expansion hands in.
+///
+/// # Errors
+///
+/// Only where the visitor answered `Stop`.
 pub fn visit_value_naive<V: Visitor, T: VisitValueNaive>(
     visitor: &mut V,
     value: &T,

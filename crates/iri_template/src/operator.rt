@@ -2,29 +2,29 @@
 ghost use Rattle.std.specs.Prelude.{◌≡◌};
 ghost use Rattle.iri_template.specs.Reading.{operator_at};
 
-/// What an expression begins with, and so how it is expanded (RFC 6570 section 3.2).
+// What an expression begins with, and so how it is expanded (RFC 6570 section 3.2).
 #[derive(Clone, Copy, Debug, PartialEq, Eq)]
 pub(crate) enum Operator {
-    /// None: simple string expansion.
+    // None: simple string expansion.
     Simple,
-    /// `+`: reserved characters and triplets stay.
+    // `+`: reserved characters and percent-encoded octets stay.
     Reserved,
-    /// `#`: a fragment.
+    // `#`: a fragment.
     Fragment,
-    /// `.`: labels, each with a dot before it.
+    // `.`: labels, each with a dot before it.
     Label,
-    /// `/`: segments of a path.
+    // `/`: segments of a path.
     PathSegment,
-    /// `;`: parameters of a path.
+    // `;`: parameters of a path.
     PathParameter,
-    /// `?`: the query of a form.
+    // `?`: the query of a form.
     FormQuery,
-    /// `&`: what continues the query of a form.
+    // `&`: what continues the query of a form.
     FormContinuation,
 }
 
 impl Operator {
-    /// The operator that this byte is.
+    // The operator that this byte is.
     pub(crate) fn at(b: u8) -> Operator
         ensures { result ≡ operator_at b }
     {

@@ -13,6 +13,13 @@ use std::marker::Model;
 
 /// A URI template, owned (RFC 6570 section 2). It is seen as its UTF-8 bytes and its capacity. Templates are equal,
 /// ordered and hashed as their texts.
+///
+/// ```
+/// use iri::template::{UriTemplateStr, UriTemplateString};
+/// let mut template = UriTemplateString::try_from_str(rt.alloc(), "/search")?;
+/// template.append(UriTemplateStr::new("{?q}")?)?;
+/// assert_eq!(rt; template.as_str(), "/search{?q}");
+/// ```
 #[derive(Debug, Drop)]
 pub struct UriTemplateString {
     text: String,
@@ -46,7 +53,12 @@ fn push_template(whole: &mut String, other: UriTemplateStr<'_>) -> Result<(), Al
 }
 
 impl UriTemplateString {
-    /// A copy of a text, where it is a template: otherwise its first fault. `Memory` comes on allocation failure alone.
+    /// A copy of a text that is a template.
+    ///
+    /// # Errors
+    ///
+    /// - `Invalid` exactly where it is none: its first fault.
+    /// - `Memory` where allocation fails.
     pub fn try_from_str(alloc: Global, s: &str) -> Result<Self, CreateTemplateError>
         ensures { MatchResult result (λ t. t.text ≡ s.now) (λ e. RefusedFor e (text_fault s.now)) }
     {
@@ -58,8 +70,13 @@ impl UriTemplateString {
         }
     }
 
-    /// A copy of bytes, where they are the UTF-8 of a template: otherwise `InvalidUtf8`, or the text's first fault. `Memory` comes on
-    /// allocation failure alone.
+    /// A copy of bytes that are the UTF-8 of a template.
+    ///
+    /// # Errors
+    ///
+    /// - `Invalid` with `InvalidUtf8` where the bytes aren't UTF-8, which is tested first.
+    /// - `Invalid` exactly where the text is no template: its first fault.
+    /// - `Memory` where allocation fails.
     pub fn try_from_bytes(alloc: Global, b: &[u8]) -> Result<Self, CreateTemplateError>
         ensures { MatchResult result (λ t. t.text ≡ b.now) (λ e. RefusedFor e (template_fault b.now)) }
     {
@@ -71,7 +88,11 @@ impl UriTemplateString {
         }
     }
 
-    /// The template of a string: otherwise its first fault, with the string handed back. It takes no memory.
+    /// A string whose text is a template. It takes no memory.
+    ///
+    /// # Errors
+    ///
+    /// Exactly where it is none: its first fault, with the string handed back.
     pub fn try_from_string(s: String) -> Result<Self, CreationError<String>>
         ensures { MatchResult result (λ t. t ≡ owned_text s)
             (λ e. (e.source ≡ s) × (text_fault (string_bytes s) ≡ Some e.error)) }
@@ -82,7 +103,11 @@ impl UriTemplateString {
         }
     }
 
-    /// A copy of a borrowed template. It fails on allocation failure alone.
+    /// A copy of a borrowed template.
+    ///
+    /// # Errors
+    ///
+    /// Where allocation fails.
     pub fn from_view(alloc: Global, view: UriTemplateStr<'_>) -> Result<Self, AllocError>
         ensures { IfOk result (λ t. t.text ≡ text view.entry) }
     {
@@ -121,8 +146,11 @@ impl UriTemplateString {
         self.text.capacity()
     }
 
-    /// Gives back memory that the text doesn't need, and all of it where the text is empty. It never fails: where a
-    /// smaller place is refused, the text stays in the one that it has.
+    /// Gives back memory that the text doesn't need, and all of it where the text is empty.
+    ///
+    /// # Errors
+    ///
+    /// None: where a smaller place is refused, the text stays in the one that it has.
     pub fn shrink_to_fit(&mut self) -> Result<(), AllocError>
         ensures succeeds { IsOk result }
         ensures text { self.new.text ≡ self.old.text }
@@ -133,7 +161,11 @@ impl UriTemplateString {
         Ok(())
     }
 
-    /// Puts another template after this one. Memory is taken first: where it is refused, nothing changes.
+    /// Puts another template after this one.
+    ///
+    /// # Errors
+    ///
+    /// Where allocation fails; nothing changes then.
     pub fn append(&mut self, other: UriTemplateStr<'_>) -> Result<(), AllocError>
         ensures text { OnOk result (self.new.text ≡ self.old.text ++ text other.entry) }
         ensures capacity { self.old.capacity ≤ self.new.capacity }
@@ -143,7 +175,11 @@ impl UriTemplateString {
         push_template(&mut self.text, other)
     }
 
-    /// A copy. It fails on allocation failure alone.
+    /// A copy.
+    ///
+    /// # Errors
+    ///
+    /// Where allocation fails.
     pub fn try_clone(&self, alloc: Global) -> Result<Self, AllocError>
         ensures { IfOk result (λ t. t.text ≡ self.now.text) }
     {

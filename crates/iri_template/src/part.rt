@@ -13,28 +13,28 @@ use iri_grammar::cutting::cut;
 use iri_grammar::over::past_run;
 use iri_grammar::spec::IriSpec;
 
-/// An expression, whose varspecs are still to be read.
+// An expression, whose varspecs are still to be read.
 #[derive(Clone, Copy, Debug)]
 pub(crate) struct Expression<'a> {
     pub(crate) operator: Operator,
-    /// The varspecs, parted by commas.
+    // The varspecs, parted by commas.
     pub(crate) varspecs: &'a str,
-    /// How many bytes of the template stand before them.
+    // How many bytes of the template stand before them.
     pub(crate) location: usize,
 }
 
-/// A part of a template.
+// A part of a template.
 #[derive(Clone, Copy, Debug)]
 pub(crate) enum Part<'a> {
-    /// Literals without triplets.
+    // Literals without percent-encoded octets.
     Literals(&'a str),
-    /// A literal triplet.
+    // A literal percent-encoded octet.
     Triplet(&'a str),
-    /// What stands in braces.
+    // What stands in braces.
     Expression(Expression<'a>),
 }
 
-/// What stands between braces, its varspecs apart. `at` is its place.
+// What stands between braces, its varspecs apart. `at` is its place.
 fn read_body(body: &str, at: usize) -> Result<Expression<'_>, Error>
     requires { at + length body.now + 1 < 2 ^ 64 }
     ensures fault { Answers result (moved at (operator_fault body.now)) }
@@ -63,7 +63,7 @@ fn read_body(body: &str, at: usize) -> Result<Expression<'_>, Error>
     }
 }
 
-/// Whether the byte is an operator that is reserved for later.
+// Whether the byte is an operator that is reserved for later.
 #[tactic(auto, using(std::proofs::lemmas::Bool::Decides::nat_tests), unfolding(crate::specs::Fault::is_reserved_operator))]
 fn is_reserved_operator(b: u8) -> bool
     ensures { result ≡ is_reserved_operator b }
@@ -71,7 +71,7 @@ fn is_reserved_operator(b: u8) -> bool
     b == b'=' || b == b',' || b == b'!' || b == b'@' || b == b'|'
 }
 
-/// The expression at the start, and what follows it. `at` is its place.
+// The expression at the start, and what follows it. `at` is its place.
 fn read_expression(s: &str, at: usize) -> Result<(Expression<'_>, &str), Error>
     requires brace { first_of s.now ≡ 123 }
     requires fits { at + length s.now < 2 ^ 64 }
@@ -87,7 +87,7 @@ fn read_expression(s: &str, at: usize) -> Result<(Expression<'_>, &str), Error>
     }
 }
 
-/// The triplet at the start, and what follows it. `at` is its place.
+// The percent-encoded octet at the start, and what follows it. `at` is its place.
 fn read_triplet(s: &str, at: usize) -> Result<(&str, &str), Error>
     requires percent { first_of s.now ≡ percent_sign }
     requires fits { at + length s.now < 2 ^ 64 }
@@ -107,7 +107,7 @@ fn read_triplet(s: &str, at: usize) -> Result<(&str, &str), Error>
     }
 }
 
-/// What follows the first character, where that is a literal, or the text as it is.
+// What follows the first character, where that is a literal, or the text as it is.
 fn past_literal(s: &str) -> &str
     ensures { IsPastLiterals s.now result.now }
 {
@@ -124,8 +124,8 @@ fn past_literal(s: &str) -> &str
     }
 }
 
-/// What follows literals at the start, as many as were found at once, or the text as it is where none stands
-/// there.
+// What follows literals at the start, as many as were found at once, or the text as it is where none stands
+// there.
 fn past_literals(s: &str) -> &str
     ensures { IsPastLiterals s.now result.now }
 {
@@ -137,8 +137,8 @@ fn past_literals(s: &str) -> &str
     }
 }
 
-/// The part at the start, which may still have faults where it is an expression, and what follows it. `at` is
-/// its place in the template.
+// The part at the start, which may still have faults where it is an expression, and what follows it. `at` is
+// its place in the template.
 pub(crate) fn read_part(s: &str, at: usize) -> Result<(Part<'_>, &str), Error>
     requires some { 0 < length s.now }
     requires fits { at + length s.now < 2 ^ 64 }

@@ -26,7 +26,7 @@ fn put_char<S: Spec, W: TextSink>(sink: &mut W, c: char) -> Result<(), Stop>
     put_encoded::<S, W>(sink, c.encode_utf8(&mut buf))
 }
 
-/// Writes so many characters. What is after them isn't looked at.
+// Writes so many characters. What is after them isn't looked at.
 fn put_prefix<S: Spec, W: TextSink>(sink: &mut W, left: &mut u16, text: &str) -> Result<(), Stop>
     ensures shows { Shows W.puts W.halts W.stops sink.old
         (texts prefix_step (char_text S.tests) left.old (chars text.now)) sink.new result }
@@ -58,7 +58,7 @@ impl<'s, S: Spec, W: TextSink> TextSink for PrefixSink<'s, S, W> {
     }
 }
 
-/// Shows a value to the sink after this one.
+// Shows a value to the sink after this one.
 fn show_through<T: Show, S: Spec, W: TextSink>(
     prefix_sink: &mut PrefixSink<S, W>,
     value: &T,
@@ -70,7 +70,7 @@ fn show_through<T: Show, S: Spec, W: TextSink>(
     value.show(prefix_sink)
 }
 
-/// Shows the first characters of a value, encoded.
+// Shows the first characters of a value, encoded.
 pub(crate) fn show_prefix<T: Show, S: Spec, W: TextSink>(
     sink: &mut W,
     value: &T,

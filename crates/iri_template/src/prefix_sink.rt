@@ -3,7 +3,7 @@ ghost use Rattle.std.specs.Prelude.{◌≡◌};
 
 use std::marker::PhantomData;
 
-/// Encodes so many characters of what is put, and writes no more of it, to another sink.
+// Encodes so many characters of what is put, and writes no more of it, to another sink.
 #[derive(Drop)]
 pub(crate) struct PrefixSink<'s, S, W> {
     pub(crate) to: &'s mut W,
@@ -12,7 +12,7 @@ pub(crate) struct PrefixSink<'s, S, W> {
 }
 
 impl<'s, S, W> PrefixSink<'s, S, W> {
-    /// The first characters go to this sink.
+    // The first characters go to this sink.
     pub(crate) fn new(to: &'s mut W, prefix: u16) -> PrefixSink<'s, S, W>
         ensures same { result.to.ghost_name ≡ to.entry.ghost_name }
         ensures now { result.to.now ≡ to.old }

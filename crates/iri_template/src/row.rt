@@ -5,7 +5,7 @@ ghost use Rattle.iri_template.specs.Led.{lead};
 
 use crate::operator::Operator;
 
-/// The operator's first text, or its separator where a text was written before.
+// The operator's first text, or its separator where a text was written before.
 pub(crate) fn lead(operator: Operator, written: bool) -> &'static str
     ensures { result.now ≡ lead (row_of operator) written }
 {
@@ -22,7 +22,7 @@ pub(crate) fn lead(operator: Operator, written: bool) -> &'static str
     }
 }
 
-/// Whether names are written.
+// Whether names are written.
 pub(crate) fn is_named(operator: Operator) -> bool
     ensures { result ≡ (row_of operator).named }
 {
@@ -32,7 +32,7 @@ pub(crate) fn is_named(operator: Operator) -> bool
     }
 }
 
-/// What follows the name of an empty string.
+// What follows the name of an empty string.
 pub(crate) fn if_empty(operator: Operator) -> &'static str
     ensures { result.now ≡ (row_of operator).ifemp }
 {
@@ -42,7 +42,7 @@ pub(crate) fn if_empty(operator: Operator) -> &'static str
     }
 }
 
-/// Whether reserved characters and triplets stay.
+// Whether reserved characters and percent-encoded octets stay.
 pub(crate) fn allows_reserved(operator: Operator) -> bool
     ensures { result ≡ (row_of operator).allow }
 {

@@ -11,7 +11,7 @@ use iri_percent::PercentEncoded;
 use iri_text::{Show, Stop, TextSink};
 use std::marker::PhantomData;
 
-/// A lent value.
+// A lent value.
 #[derive(Drop)]
 struct Lent<'v, T> {
     value: &'v T,
@@ -31,11 +31,11 @@ fn show_all<T: Show, S: Spec, W: TextSink>(sink: &mut W, value: &T) -> Result<()
     PercentEncoded::<Lent<'_, T>, S>::unreserve(Lent { value }).show(sink)
 }
 
-/// A value, or its first characters or units, encoded as it is shown.
+// A value, or its first characters or units, encoded as it is shown.
 #[derive(Drop)]
 pub(crate) struct Shown<'v, T, S> {
     value: &'v T,
-    /// Whether reserved characters and triplets stay.
+    // Whether reserved characters and percent-encoded octets stay.
     allow: bool,
     prefix: Option<u16>,
     spec: PhantomData<S>,
@@ -55,7 +55,7 @@ impl<'v, T: Show, S: Spec> Shown<'v, T, S> {
         }
     }
 
-    /// Whether its text is empty. Triplets don't stay.
+    // Whether its text is empty. Percent-encoded octets don't stay.
     pub(crate) fn is_empty(&self) -> bool
         requires { self.now.allow ≡ false }
         ensures { result ≡ (length (shown_text S.tests self.now.allow self.now.prefix (T.text self.now.value.now)) == 0) }

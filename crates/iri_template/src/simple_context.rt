@@ -15,6 +15,15 @@ use std::alloc::Global;
 use std::collections::BTreeMap;
 
 /// A map from the names of variables to their values. A name that it hasn't has no value.
+///
+/// ```
+/// use iri::template::context::VarName;
+/// use iri::template::simple_context::{SimpleContext, Value};
+/// let mut values = SimpleContext::new(rt.alloc());
+/// let name = String::from_str(rt.alloc(), "undef")?;
+/// assert!(rt; values.insert(name, Value::Undefined).is_ok());
+/// assert!(rt; values.get(VarName::new("undef")?).is_none());
+/// ```
 #[derive(Drop)]
 pub struct SimpleContext {
     map: BTreeMap<String, Value>,
@@ -50,9 +59,13 @@ impl SimpleContext {
         }
     }
 
-    /// Gives a name a value, or takes the name out where the value is `Undefined`, and answers the old value. Where
-    /// the key is no variable's name, it answers none and nothing changes. It fails on allocation failure alone, only for
-    /// a name that the map hasn't: then key and value are handed back, and nothing changes.
+    /// Gives a name a value, or takes the name out where the value is `Undefined`, and answers the old value. Where the
+    /// key is no variable's name, it answers `None` and nothing changes.
+    ///
+    /// # Errors
+    ///
+    /// Where allocation fails, only for a name that the map hasn't; key and value are handed back then, and nothing
+    /// changes.
     pub fn insert(&mut self, key: String, value: Value) -> Result<Option<Value>, InsertError>
         ensures old { IfOk result (λ o. o ≡ cond (is_varname (string_bytes key))
             (value_at self.old (string_bytes key)) None) }
@@ -85,7 +98,7 @@ impl SimpleContext {
         self.map.clear();
     }
 
-    /// The value of a name: none where the map hasn't the name.
+    /// The value of a name: `None` exactly where the map hasn't the name.
     pub fn get(&self, key: VarName<'_>) -> Option<&Value>
         ensures { option_copied result ≡ value_at self.now key.entry.text.now }
     {

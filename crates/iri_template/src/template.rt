@@ -24,7 +24,7 @@ use std::alloc::{AllocError, Global};
 use std::marker::PhantomData;
 use std::{fmt, str};
 
-/// Whether the text is a template: otherwise its first fault.
+// Whether the text is a template: otherwise its first fault.
 pub(crate) fn validate(s: &str) -> Result<(), Error>
     ensures { Answers result (text_fault s.now) }
 {
@@ -43,7 +43,7 @@ pub(crate) fn validate(s: &str) -> Result<(), Error>
     Ok(())
 }
 
-/// Ends an expansion that came out like this.
+// Ends an expansion that came out like this.
 fn end_expansion<C: DynamicContext>(
     context: &mut C,
     outcome: Result<(), Error>,
@@ -58,6 +58,16 @@ fn end_expansion<C: DynamicContext>(
 
 /// A URI template, borrowed (RFC 6570 section 2). It is as small as a `&str`. Templates are equal, ordered and hashed
 /// as their texts.
+///
+/// ```
+/// use iri::template::UriTemplateStr;
+/// let template = UriTemplateStr::new("http://example.com/~{username}/{term:1}/{term}{?q*,lang}")?;
+/// let mut names = template.variables();
+/// for name in ["username", "term", "term", "q", "lang"] {
+///     assert_eq!(rt; names.next().ok_or("a name")?.as_str(), name);
+/// }
+/// assert!(rt; names.next().is_none());
+/// ```
 #[derive(Debug, PartialEq, Eq, PartialOrd, Ord, Hash)]
 pub struct UriTemplateStr<'a> {
     text: &'a str,
@@ -79,7 +89,17 @@ impl Copy for UriTemplateStr<'_> {}
 impl<'a> UriTemplateStr<'a> {
     ghost use Rattle.iri_template.specs.Texts.{text};
 
-    /// The template with this text: otherwise the text's first fault, with its place in bytes.
+    /// The template with this text.
+    ///
+    /// # Errors
+    ///
+    /// Exactly where it is none: its first fault, and the place of that in bytes.
+    ///
+    /// ```
+    /// use iri::template::UriTemplateStr;
+    /// let error = UriTemplateStr::new("/a/{b").err().ok_or("a fault")?;
+    /// assert_eq!(rt; error.location(), 3);
+    /// ```
     pub fn new(s: &'a str) -> Result<Self, Error>
         ensures fault { Answers result (text_fault s.now) }
         ensures text { IfOk result (λ v. text v ≡ s.now) }
@@ -90,8 +110,12 @@ impl<'a> UriTemplateStr<'a> {
         }
     }
 
-    /// The template of bytes, where they are the UTF-8 of its text: otherwise `InvalidUtf8` after the longest prefix
-    /// that is UTF-8, or the text's first fault.
+    /// The template of bytes that are the UTF-8 of its text.
+    ///
+    /// # Errors
+    ///
+    /// - `InvalidUtf8` where the bytes aren't UTF-8; its place is after the longest prefix that is.
+    /// - Otherwise the first fault of the text, exactly where it is no template, and its place in bytes.
     pub fn try_from_bytes(b: &'a [u8]) -> Result<Self, Error>
         ensures fault { Answers result (template_fault b.now) }
         ensures text { IfOk result (λ v. text v ≡ b.now) }
@@ -102,7 +126,7 @@ impl<'a> UriTemplateStr<'a> {
         }
     }
 
-    /// The template with this text, which is one: `new` tells whether it is.
+    /// The template with this text, without a test. It has a condition: the text is a template, which `new` tests.
     pub fn from_valid(s: &'a str) -> Self
         requires { text_fault s.now ≡ None }
         ensures { text result ≡ s.now }
@@ -139,9 +163,28 @@ impl<'a> UriTemplateStr<'a> {
         UriTemplateVariables::of(self.text)
     }
 
-    /// The expansion for URIs or IRIs, with the values of a context (RFC 6570 section 3). It is refused by
-    /// `UnexpectedValueType` exactly where a variable with a prefix has a list or an associative array that
-    /// isn't empty, at the first byte of the first such varspec. Nothing is written and no memory is taken.
+    /// The expansion for URIs or IRIs, with the values of a context (RFC 6570 section 3). Nothing is written and no
+    /// memory is taken.
+    ///
+    /// # Errors
+    ///
+    /// `UnexpectedValueType` exactly where a variable with a prefix length has a list or an associative array that
+    /// isn't empty (RFC 6570 section 2.4.1); its place is the first byte of the first such varspec.
+    ///
+    /// ```
+    /// use iri::format::{Text, ToStringFallible};
+    /// use iri::spec::UriSpec;
+    /// use iri::template::UriTemplateStr;
+    /// use iri::template::simple_context::{SimpleContext, Value};
+    /// let mut values = SimpleContext::new(rt.alloc());
+    /// let name = String::from_str(rt.alloc(), "var")?;
+    /// let value = Text::from_string(String::from_str(rt.alloc(), "value")?);
+    /// assert!(rt; values.insert(name, Value::String(value)).is_ok());
+    /// for (template, text) in [("{var}", "value"), ("{var:3}", "val"), ("{?var}", "?var=value"), ("{;var:3}", ";var=val")] {
+    ///     let expanded = UriTemplateStr::new(template)?.expand::<UriSpec, SimpleContext>(&values)?;
+    ///     assert_eq!(rt; expanded.try_to_string(rt.alloc())?.as_str(), text);
+    /// }
+    /// ```
     pub fn expand<S: Spec, C: Context>(self, context: &'a C) -> Result<Expanded<'a, S, C>, Error>
         ensures fault { Answers result (type_fault (C.value_of context.now) (pieces_of (text self.entry))) }
         ensures expanded { IfOk result (λ e. (text e.template ≡ text self.entry) × (e.context.now ≡ context.now)) }
@@ -157,11 +200,15 @@ impl<'a> UriTemplateStr<'a> {
     }
 
     /// Writes the expansion with the values of a context that may change from call to call, to any sink (RFC 6570
-    /// section 3). Each varspec's value is looked at, and then written; it takes no memory. `UnexpectedValueType` comes
-    /// exactly where one with a prefix was told a list or an associative array that isn't empty, at either of the
-    /// two, at its first byte; then exactly the text before that varspec was written. `WriteFailed` comes only where the
-    /// sink stopped, at the first byte of the varspec, or of the literals and triplets between expressions, within whose
-    /// text it stopped; all text before it was written.
+    /// section 3). Each varspec's value is looked at, and then written; it takes no memory.
+    ///
+    /// # Errors
+    ///
+    /// - `UnexpectedValueType` exactly where a varspec with a prefix length was told a list or an associative array
+    ///   that isn't empty, at either of the two, at its first byte; exactly the text before that varspec was written
+    ///   then.
+    /// - `WriteFailed` only where the sink stopped, at the first byte of the varspec, or of the literals and
+    ///   percent-encoded octets between expressions, within whose text it stopped; all text before it was written.
     pub fn expand_dynamic<S: Spec, W: TextSink, C: DynamicContext>(
         self,
         writer: &mut W,
@@ -185,8 +232,24 @@ impl<'a> UriTemplateStr<'a> {
         end_expansion(context, result)
     }
 
-    /// That expansion as a string. `UnexpectedValueType` comes as there; `Memory` comes where allocation failed, with the
-    /// places of `WriteFailed`, which never comes.
+    /// That expansion as a string.
+    ///
+    /// # Errors
+    ///
+    /// - `UnexpectedValueType` as there.
+    /// - `Memory` where allocation fails, at the places of `WriteFailed`, which never comes.
+    ///
+    /// ```
+    /// use iri::spec::UriSpec;
+    /// use iri::template::UriTemplateStr;
+    /// use iri::template::context::Fixed;
+    /// use iri::template::simple_context::SimpleContext;
+    /// let values = SimpleContext::new(rt.alloc());
+    /// let template = UriTemplateStr::new("/search{?q}")?;
+    /// let mut fixed = Fixed::new(&values);
+    /// let text = template.expand_dynamic_to_string::<UriSpec, Fixed<'_, SimpleContext>>(rt.alloc(), &mut fixed)?;
+    /// assert_eq!(rt; text.as_str(), "/search");
+    /// ```
     pub fn expand_dynamic_to_string<S: Spec, C: DynamicContext>(
         self,
         alloc: Global,

@@ -9,7 +9,7 @@ use crate::var_name::VarName;
 use crate::visitor::{Phase, VisitPurpose, Visitor};
 use iri_text::{Show, Stop};
 
-/// A visitor that keeps of a value only whether it is a list or an associative array that isn't empty.
+// A visitor that keeps of a value only whether it is a list or an associative array that isn't empty.
 #[derive(Drop)]
 pub(crate) struct TypeCheck<'a> {
     name: VarName<'a>,
@@ -18,7 +18,7 @@ pub(crate) struct TypeCheck<'a> {
 }
 
 impl<'a> TypeCheck<'a> {
-    /// A visitor for the variable of this name.
+    // A visitor for the variable of this name.
     pub(crate) fn new(name: VarName<'a>) -> TypeCheck<'a>
         ensures name { result.name.text.now ≡ name.entry.text.now }
         ensures phase { result.phase ≡ Fresh }
@@ -108,7 +108,7 @@ impl<'a> Visitor for TypeCheck<'a> {
     }
 }
 
-/// Whether the value of a variable is a list or an associative array that isn't empty.
+// Whether the value of a variable is a list or an associative array that isn't empty.
 #[tactic(auto, using(crate::specs::inside::Members::told_members))]
 pub(crate) fn value_has_members<C: Context>(context: &C, name: VarName) -> bool
     ensures { result ≡ has_members (C.value_of context.now name.entry.text.now) }

@@ -23,7 +23,7 @@ fn is_mistyped<C: Context>(context: &C, varspec: VarSpec<'_>) -> bool
     }
 }
 
-/// The first of varspecs without fault that has such a value. `at` is their place, and a brace stands after them.
+// The first of varspecs without fault that has such a value. `at` is their place, and a brace stands after them.
 fn find_mistyped<C: Context>(context: &C, varspecs: &str, at: usize) -> Option<Error>
     requires fine { varspecs_fault 0 (pieces 44 varspecs.now) ≡ None }
     requires fits { at + length varspecs.now + 1 < 2 ^ 64 }
@@ -47,7 +47,7 @@ fn find_mistyped<C: Context>(context: &C, varspecs: &str, at: usize) -> Option<E
     }
 }
 
-/// The first such value in a part.
+// The first such value in a part.
 fn find_in_part<C: Context>(context: &C, part: Part<'_>, at: usize) -> Option<Error>
     requires fine { part_fault part ≡ None }
     requires placed { IsPlaced part at }
@@ -63,7 +63,7 @@ fn find_in_part<C: Context>(context: &C, part: Part<'_>, at: usize) -> Option<Er
     }
 }
 
-/// The first such value in a template.
+// The first such value in a template.
 pub(crate) fn find_type_fault<C: Context>(context: &C, template: &str) -> Option<Error>
     requires { text_fault template.now ≡ None }
     ensures { result ≡ type_fault (C.value_of context.now) (pieces_of template.now) }

@@ -6,14 +6,14 @@ use crate::dynamic_context::DynamicContext;
 use crate::visitor::{VisitPurpose, Visitor};
 use iri_text::Stop;
 
-/// A dynamic context that tells the values of a `Context` where they are written, and none where a type is asked for.
+// A dynamic context that tells the values of a `Context` where they are written, and none where a type is asked for.
 #[derive(Drop)]
 pub(crate) struct Typechecked<'a, C> {
     context: &'a C,
 }
 
 impl<'a, C: Context> Typechecked<'a, C> {
-    /// It tells what this context tells.
+    // It tells what this context tells.
     pub(crate) fn new(context: &'a C) -> Typechecked<'a, C>
         ensures { result.context.now ≡ context.now }
     {

@@ -1,4 +1,5 @@
-//! Texts in which triplets and reserved characters are kept (RFC 6570 section 3.2.1), in whatever pieces they come.
+//! Texts in which percent-encoded octets and reserved characters are kept (RFC 6570 section 3.2.1), in whatever pieces they
+//! come.
 ghost use Rattle.std.specs.Prelude.{◌≡◌, ◌≤◌, ◌<◌, ◌∷◌, ◌++◌, [], ◌||◌, ◌==◌, true, cond, length, None, OnOk, OnErr};
 ghost use Rattle.std.specs.Prelude.{MatchOption};
 ghost use Rattle.std.specs.Bool.{OnTrue};
@@ -56,7 +57,7 @@ fn put_as<S: Spec, W: TextSink>(sink: &mut W, text: &str, stands: bool) -> Resul
     }
 }
 
-/// Writes a unit if one more may be written.
+// Writes a unit if one more may be written.
 fn put_unit<S: Spec, W: TextSink>(
     sink: &mut W,
     left: Option<u16>,
@@ -73,7 +74,7 @@ fn put_unit<S: Spec, W: TextSink>(
     }
 }
 
-/// Writes the units that are settled, or all, and holds the rest back.
+// Writes the units that are settled, or all, and holds the rest back.
 fn drain<S: Spec, W: TextSink>(
     sink: &mut W,
     held: &mut Held,
@@ -108,7 +109,7 @@ fn drain<S: Spec, W: TextSink>(
     Ok(())
 }
 
-/// Writes a character that is no part of a triplet.
+// Writes a character that is no part of a percent-encoded octet.
 fn put_plain<S: Spec, W: TextSink>(
     sink: &mut W,
     left: &mut Option<u16>,
@@ -128,7 +129,7 @@ fn put_plain<S: Spec, W: TextSink>(
     }
 }
 
-/// Writes what a character settles.
+// Writes what a character settles.
 fn put_char<S: Spec, W: TextSink>(
     sink: &mut W,
     held: &mut Held,
@@ -175,14 +176,14 @@ fn put_chars<S: Spec, W: TextSink>(
     Ok(())
 }
 
-/// Whether a text without `%` is written whole, each of its characters a unit.
+// Whether a text without `%` is written whole, each of its characters a unit.
 fn is_plain(held: &Held, left: Option<u16>) -> bool
     ensures { OnTrue result ((held.now ≡ []) × (left ≡ None)) }
 {
     held.as_bytes().is_empty() && left.is_none()
 }
 
-/// The first character, and what follows.
+// The first character, and what follows.
 fn cut_char(text: &str) -> Option<(&str, &str)>
     ensures { MatchOption result (length text.now ≡ 0) (λ p. IsCut text.now p.0.now p.1.now) }
 {
@@ -196,7 +197,7 @@ fn cut_char(text: &str) -> Option<(&str, &str)>
     }
 }
 
-/// What is written next, and what follows: a character, and in a plain state the run before the next `%`.
+// What is written next, and what follows: a character, and in a plain state the run before the next `%`.
 fn next_piece(text: &str, plain: bool) -> Option<(&str, &str)>
     ensures { MatchOption result (length text.now ≡ 0) (λ p. IsCut text.now p.0.now p.1.now) }
 {
@@ -230,8 +231,8 @@ fn put_piece<S: Spec, W: TextSink>(
     }
 }
 
-/// Writes what a text settles: runs without `%` as one, as long as nothing is held and all units are written. Behind the last unit
-/// that may be written, the text isn't looked at.
+// Writes what a text settles: runs without `%` as one, as long as nothing is held and all units are written. Behind the last unit
+// that may be written, the text isn't looked at.
 fn put_text<S: Spec, W: TextSink>(
     sink: &mut W,
     held: &mut Held,
@@ -273,7 +274,7 @@ impl<'s, S: Spec, W: TextSink> TextSink for UnitSink<'s, S, W> {
     }
 }
 
-/// Shows a value, and writes what is held back at its end.
+// Shows a value, and writes what is held back at its end.
 fn show_units<T: Show, S: Spec, W: TextSink>(
     units: &mut UnitSink<S, W>,
     value: &T,
@@ -289,7 +290,7 @@ fn show_units<T: Show, S: Spec, W: TextSink>(
     }
 }
 
-/// Shows a value, or its first units, encoded but for reserved characters and triplets.
+// Shows a value, or its first units, encoded but for reserved characters and percent-encoded octets.
 pub(crate) fn show_kept<T: Show, S: Spec, W: TextSink>(
     sink: &mut W,
     value: &T,

@@ -12,6 +12,14 @@ use std::alloc::Global;
 use std::marker::Model;
 
 /// A list of texts, which is seen as the list of their UTF-8 bytes.
+///
+/// ```
+/// use iri::template::simple_context::TextList;
+/// let mut colors = TextList::new(rt.alloc());
+/// assert!(rt; colors.push(String::from_str(rt.alloc(), "red")?).is_ok());
+/// assert_eq!(rt; colors.len(), 1);
+/// assert_eq!(rt; colors.get(0), Some("red"));
+/// ```
 #[derive(Drop)]
 pub struct TextList {
     items: Vec<String>,
@@ -36,7 +44,11 @@ impl TextList {
         }
     }
 
-    /// Puts an item at the end. It fails on allocation failure alone: then the item is handed back, and nothing changes.
+    /// Puts an item at the end.
+    ///
+    /// # Errors
+    ///
+    /// The item handed back where allocation fails; nothing changes then.
     pub fn push(&mut self, item: String) -> Result<(), String>
         ensures pushed { OnOk result (self.new ≡ self.old ++ string_bytes item ∷ []) }
         ensures same { OnErr result (self.new ≡ self.old) }
@@ -55,7 +67,7 @@ impl TextList {
         self.items.len()
     }
 
-    /// The item of this number, from 0: none where there are no more than so many.
+    /// The item of this number, from 0: `None` exactly where there are no more than so many.
     pub fn get(&self, i: usize) -> Option<&str>
         ensures { now_of result ≡ slice_get self.now i }
     {
@@ -98,8 +110,19 @@ impl PairList {
         }
     }
 
-    /// Puts a pair at the end. It fails on allocation failure alone: then key and value are handed back, and nothing
-    /// changes.
+    /// Puts a pair at the end.
+    ///
+    /// # Errors
+    ///
+    /// Key and value handed back where allocation fails; nothing changes then.
+    ///
+    /// ```
+    /// use iri::template::simple_context::PairList;
+    /// let mut keys = PairList::new(rt.alloc());
+    /// let (key, value) = (String::from_str(rt.alloc(), "semi")?, String::from_str(rt.alloc(), ";")?);
+    /// assert!(rt; keys.push(key, value).is_ok());
+    /// assert_eq!(rt; keys.get(0), Some(("semi", ";")));
+    /// ```
     pub fn push(&mut self, key: String, value: String) -> Result<(), (String, String)>
         ensures pushed { OnOk result (self.new ≡ self.old ++ (string_bytes key, string_bytes value) ∷ []) }
         ensures same { OnErr result (self.new ≡ self.old) }
@@ -118,7 +141,7 @@ impl PairList {
         self.pairs.len()
     }
 
-    /// The pair of this number, from 0: none where there are no more than so many.
+    /// The pair of this number, from 0: `None` exactly where there are no more than so many.
     pub fn get(&self, i: usize) -> Option<(&str, &str)>
         ensures { lent_pair result ≡ slice_get self.now i }
     {
@@ -135,7 +158,7 @@ impl PairList {
     }
 }
 
-/// The value of a variable.
+/// The value of a variable (RFC 6570 section 2.3).
 #[derive(Drop)]
 pub enum Value {
     /// None.

@@ -6,8 +6,8 @@ use crate::place::Place;
 use crate::visitor::Phase;
 use std::marker::PhantomData;
 
-/// Writes the value that it is told to a sink. Where a prefix stands, it takes the members of a value and writes none of
-/// them: the value is mistyped.
+// Writes the value that it is told to a sink. Where a prefix stands, it takes the members of a value and writes none of
+// them: the value is mistyped.
 #[derive(Drop)]
 pub(crate) struct ValueWriter<'w, S, W> {
     pub(crate) to: &'w mut W,
@@ -18,7 +18,7 @@ pub(crate) struct ValueWriter<'w, S, W> {
 }
 
 impl<'w, S, W> ValueWriter<'w, S, W> {
-    /// What the variable is told goes to the sink.
+    // What the variable is told goes to the sink.
     pub(crate) fn new(to: &'w mut W, place: Place<'w>) -> ValueWriter<'w, S, W>
         ensures same { result.to.ghost_name ≡ to.entry.ghost_name }
         ensures now { result.to.now ≡ to.old }

@@ -7,8 +7,8 @@ ghost use Rattle.iri_template.specs.Fault.{Answers, name_fault};
 use crate::error::{Error, ErrorKind};
 use std::alloc::AllocError;
 
-/// The name of a variable (RFC 6570 section 2.3): letters, digits, `_`, triplets and dots, of which no dot
-/// is the first. Names are equal and hashed as their texts.
+/// The name of a variable (RFC 6570 section 2.3): letters, digits, `_`, percent-encoded octets and dots, of which no
+/// dot is the first. Names are equal and hashed as their texts.
 #[derive(Debug, PartialEq, Eq, Hash)]
 pub struct VarName<'a> {
     text: &'a str,
@@ -28,7 +28,17 @@ impl Clone for VarName<'_> {
 impl Copy for VarName<'_> {}
 
 impl<'a> VarName<'a> {
-    /// The name with this text: otherwise `InvalidExpression` at byte 0.
+    /// The name with this text.
+    ///
+    /// # Errors
+    ///
+    /// `InvalidExpression` at byte 0, exactly where the text is no name.
+    ///
+    /// ```
+    /// use iri::template::context::VarName;
+    /// assert_eq!(rt; VarName::new("a.b_c")?.as_str(), "a.b_c");
+    /// assert!(rt; VarName::new(".a").is_err());
+    /// ```
     pub fn new(s: &'a str) -> Result<Self, Error>
         ensures fault { Answers result (name_fault s.now) }
         ensures text { IfOk result (λ v. v.text.now ≡ s.now) }
@@ -56,11 +66,11 @@ fn is_name_byte(b: u8) -> bool
     b.is_ascii_alphanumeric() || b == b'_' || b == b'.'
 }
 
-/// Whether the bytes are a name's characters and triplets.
+// Whether the bytes are a name's characters and percent-encoded octets.
 fn is_over_name(bytes: &[u8]) -> bool
     ensures { result ≡ over is_name_char bytes.now }
 {
-    // How many hex digits of a triplet are still to come.
+    // How many hex digits of a percent-encoded octet are still to come.
     let mut due = 0u8;
     for b in bytes {
         if due > 0 {
@@ -77,7 +87,7 @@ fn is_over_name(bytes: &[u8]) -> bool
     due == 0
 }
 
-/// Whether the bytes are a name.
+// Whether the bytes are a name.
 #[tactic(auto, unfolding(crate::specs::Names::is_varname))]
 pub(crate) fn is_varname(bytes: &[u8]) -> bool
     ensures { result ≡ is_varname bytes.now }

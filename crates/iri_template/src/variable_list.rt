@@ -11,8 +11,8 @@ use crate::error::Error;
 use crate::varspec::{VarSpec, read_varspec};
 use iri_grammar::cutting::cut;
 
-/// The first varspec, and the others, where there are some. `at` is its place, and a brace stands after all of
-/// them.
+// The first varspec, and the others, where there are some. `at` is its place, and a brace stands after all of
+// them.
 pub(crate) fn read_first(varspecs: &str, at: usize) -> Result<(VarSpec<'_>, Option<&str>), Error>
     requires { at + length varspecs.now + 1 < 2 ^ 64 }
     ensures fault { Answers result (moved at (varspec_fault (before 44 varspecs.now))) }
@@ -26,8 +26,8 @@ pub(crate) fn read_first(varspecs: &str, at: usize) -> Result<(VarSpec<'_>, Opti
     }
 }
 
-/// Whether all varspecs are well-formed: otherwise the first fault. `at` is their place, and a brace stands after
-/// them.
+// Whether all varspecs are well-formed: otherwise the first fault. `at` is their place, and a brace stands after
+// them.
 pub(crate) fn check(varspecs: &str, at: usize) -> Result<(), Error>
     requires { at + length varspecs.now + 1 < 2 ^ 64 }
     ensures { Answers result (varspecs_fault at (pieces 44 varspecs.now)) }

@@ -37,7 +37,7 @@ impl Clone for UriTemplateVariables<'_> {
 impl<'a> UriTemplateVariables<'a> {
     ghost use Rattle.iri_template.specs.Variables.{names_left};
 
-    /// The variables of a template with this text.
+    // The variables of a template with this text.
     pub(crate) fn of(text: &'a str) -> Self
         requires { text_fault text.now ≡ None }
         ensures { names_left result ≡ names_of (pieces_of text.now) }
@@ -49,7 +49,7 @@ impl<'a> UriTemplateVariables<'a> {
     }
 }
 
-/// The varspecs of an expression.
+// The varspecs of an expression.
 fn varspecs_within(part: Part<'_>) -> Option<&str>
     ensures { Has part.entry result }
 {
@@ -60,7 +60,7 @@ fn varspecs_within(part: Part<'_>) -> Option<&str>
     }
 }
 
-/// The varspecs of the first expression, and what follows it; none where there is no expression.
+// The varspecs of the first expression, and what follows it; none where there is no expression.
 fn find_varspecs(text: &str) -> (Option<&str>, &str)
     requires { text_fault text.now ≡ None }
     ensures fine { AreFine result.0 result.1.now }
@@ -83,7 +83,7 @@ fn find_varspecs(text: &str) -> (Option<&str>, &str)
     (None, "")
 }
 
-/// The name in the first varspec, and the other varspecs, where there are some.
+// The name in the first varspec, and the other varspecs, where there are some.
 fn take_name(varspecs: Option<&str>) -> Option<(VarName<'_>, Option<&str>)>
     requires { varspecs_fault 0 (varspecs_left varspecs) ≡ None }
     ensures { MatchOption result (varspecs_left varspecs.entry ≡ [])

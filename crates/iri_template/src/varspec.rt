@@ -9,25 +9,25 @@ ghost use Rattle.iri_template.specs.VarSpecs.{number_of, held, IsHeld};
 use crate::error::{Error, ErrorKind};
 use crate::var_name::VarName;
 
-/// How much of a value is meant (RFC 6570 section 2.4).
+// How much of a value is meant (RFC 6570 section 2.4).
 #[derive(Clone, Copy, Debug, PartialEq, Eq)]
 pub(crate) enum Modifier {
-    /// All of it.
+    // All of it.
     Whole,
-    /// Its members one by one.
+    // Its members one by one.
     Explode,
-    /// Its first characters, at most so many.
+    // Its first characters, at most so many.
     Prefix(u16),
 }
 
-/// A variable's name and a modifier.
+// A variable's name and a modifier.
 #[derive(Clone, Copy, Debug)]
 pub(crate) struct VarSpec<'a> {
     pub(crate) name: VarName<'a>,
     pub(crate) modifier: Modifier,
 }
 
-/// How many bytes stand before the first `:` or `*`.
+// How many bytes stand before the first `:` or `*`.
 fn name_len(bytes: &[u8]) -> usize
     ensures within { result ≤ length bytes.now }
     ensures name { take result bytes.now ≡ name_of bytes.now }
@@ -42,7 +42,7 @@ fn name_len(bytes: &[u8]) -> usize
     bytes.len()
 }
 
-/// The length of a prefix: one to four digits without leading zero. `at` is the place of the colon.
+// The length of a prefix: one to four digits without leading zero. `at` is the place of the colon.
 fn read_max_length(digits: &[u8], at: usize) -> Result<u16, Error>
     requires { at + length digits.now + 2 < 2 ^ 64 }
     ensures fault { Answers result (moved at (max_length_fault digits.now)) }
@@ -64,7 +64,7 @@ fn read_max_length(digits: &[u8], at: usize) -> Result<u16, Error>
     Ok(n)
 }
 
-/// What follows a name: nothing, `*`, or `:` and a prefix. `at` is its place.
+// What follows a name: nothing, `*`, or `:` and a prefix. `at` is its place.
 fn read_modifier(bytes: &[u8], at: usize) -> Result<Modifier, Error>
     requires { at + length bytes.now + 1 < 2 ^ 64 }
     ensures fault { Answers result (moved at (modifier_fault bytes.now)) }
@@ -84,7 +84,7 @@ fn read_modifier(bytes: &[u8], at: usize) -> Result<Modifier, Error>
     }
 }
 
-/// The varspec with this text. `at` is its place, and a comma or a brace stands after it.
+// The varspec with this text. `at` is its place, and a comma or a brace stands after it.
 pub(crate) fn read_varspec(s: &str, at: usize) -> Result<VarSpec<'_>, Error>
     requires { at + length s.now + 1 < 2 ^ 64 }
     ensures fault { Answers result (moved at (varspec_fault s.now)) }

@@ -66,45 +66,77 @@ pub trait Visitor {
     fn purpose(&self) -> VisitPurpose
         ensures { result ≡ aim self.now };
 
-    /// The variable has no value.
+    /// The variable has no value. It has a condition: nothing was told yet.
+    ///
+    /// # Errors
+    ///
+    /// Only where the count of stops rises.
     fn visit_undefined(&mut self) -> Result<(), Stop>
         requires { phase self.old ≡ Fresh }
         ensures { Visits name aim phase hears halts stops self.old (Undefined ∷ []) Done self.new result };
 
-    /// The value is a string.
+    /// The value is a string. It has a condition: nothing was told yet.
+    ///
+    /// # Errors
+    ///
+    /// Only where the count of stops rises.
     fn visit_string<T: Show>(&mut self, value: &T) -> Result<(), Stop>
         requires { phase self.old ≡ Fresh }
         ensures { Visits name aim phase hears halts stops self.old
             (StringTold (T.text value.now) ∷ []) Done self.new result };
 
-    /// The value is a list, whose items follow.
+    /// The value is a list, whose items follow. It has a condition: nothing was told yet.
+    ///
+    /// # Errors
+    ///
+    /// Only where the count of stops rises.
     fn visit_list(&mut self) -> Result<(), Stop>
         requires { phase self.old ≡ Fresh }
         ensures { Visits name aim phase hears halts stops self.old (ListBegun ∷ []) InList self.new result };
 
-    /// An item of the list.
+    /// An item of the list. It has a condition: a list was begun, and hasn't ended.
+    ///
+    /// # Errors
+    ///
+    /// Only where the count of stops rises.
     fn visit_item<T: Show>(&mut self, item: &T) -> Result<(), Stop>
         requires { phase self.old ≡ InList }
         ensures { Visits name aim phase hears halts stops self.old
             (Item (T.text item.now) ∷ []) InList self.new result };
 
-    /// The value is a list of pairs, which follow.
+    /// The value is a list of pairs, which follow. It has a condition: nothing was told yet.
+    ///
+    /// # Errors
+    ///
+    /// Only where the count of stops rises.
     fn visit_assoc(&mut self) -> Result<(), Stop>
         requires { phase self.old ≡ Fresh }
         ensures { Visits name aim phase hears halts stops self.old (PairsBegun ∷ []) InPairs self.new result };
 
-    /// A pair of the list of pairs.
+    /// A pair of the list of pairs. It has a condition: a list of pairs was begun, and hasn't ended.
+    ///
+    /// # Errors
+    ///
+    /// Only where the count of stops rises.
     fn visit_entry<K: Show, T: Show>(&mut self, key: &K, value: &T) -> Result<(), Stop>
         requires { phase self.old ≡ InPairs }
         ensures { Visits name aim phase hears halts stops self.old
             (Entry (K.text key.now) (T.text value.now) ∷ []) InPairs self.new result };
 
-    /// The list, or the list of pairs, ends.
+    /// The list, or the list of pairs, ends. It has a condition: one was begun, and hasn't ended.
+    ///
+    /// # Errors
+    ///
+    /// Only where the count of stops rises.
     fn finish(&mut self) -> Result<(), Stop>
         requires { (phase self.old ≡ InList) ⊎ (phase self.old ≡ InPairs) }
         ensures { Visits name aim phase hears halts stops self.old (Finished ∷ []) Done self.new result };
 
-    /// The value is a list of these items.
+    /// The value is a list of these items. It has a condition: nothing was told yet.
+    ///
+    /// # Errors
+    ///
+    /// Only where the count of stops rises.
     fn visit_list_direct<T: Show>(&mut self, items: &[T]) -> Result<(), Stop>
         requires { phase self.old ≡ Fresh }
         ensures { Visits name aim phase hears halts stops self.old
@@ -117,7 +149,11 @@ pub trait Visitor {
         self.finish()
     }
 
-    /// The value is a list of these pairs.
+    /// The value is a list of these pairs. It has a condition: nothing was told yet.
+    ///
+    /// # Errors
+    ///
+    /// Only where the count of stops rises.
     fn visit_assoc_direct<K: Show, T: Show>(&mut self, entries: &[(K, T)]) -> Result<(), Stop>
         requires { phase self.old ≡ Fresh }
         ensures { Visits name aim phase hears halts stops self.old

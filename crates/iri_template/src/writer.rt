@@ -17,7 +17,7 @@ use crate::visitor::{Phase, VisitPurpose, Visitor};
 use iri_grammar::spec::Spec;
 use iri_text::{Show, Stop, TextSink, show_four, show_three, show_two};
 
-/// The phase after a call that goes on to this one.
+// The phase after a call that goes on to this one.
 fn phase_after(shown: &Result<(), Stop>, phase: Phase) -> Phase
     ensures { MatchResult shown.now (λ _. result ≡ phase) (λ _. result ≡ Halted) }
 {
@@ -27,7 +27,7 @@ fn phase_after(shown: &Result<(), Stop>, phase: Phase) -> Phase
     }
 }
 
-/// Shows the operator's first text or its separator, and the name where names are written.
+// Shows the operator's first text or its separator, and the name where names are written.
 fn show_lead<W: TextSink>(sink: &mut W, place: Place<'_>) -> Result<(), Stop>
     ensures { Shows W.puts W.halts W.stops sink.old
         (lead (row_of place.entry.operator) place.entry.written
