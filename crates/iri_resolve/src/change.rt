@@ -17,7 +17,7 @@ use iri_percent::character::decoded_char;
 use std::alloc::AllocError;
 use std::mem;
 
-// A change of triplets.
+// A change of percent-encoded octets.
 #[derive(Clone, Copy)]
 pub(crate) enum Change {
     CapitalDigit,
@@ -45,7 +45,7 @@ fn is_percent_before(text: &[u8], n: usize, i: usize) -> bool
     i >= n && text[i - n] == b'%'
 }
 
-// Whether the byte at i stands inside a triplet.
+// Whether the byte at i stands inside a percent-encoded octet.
 fn is_in_triplet(text: &[u8], i: usize) -> bool
     requires { (whole_triplets text.now ≡ true) × (i ≤ length text.now) }
     ensures { result ≡ is_in_triplet i text.now }
@@ -95,7 +95,7 @@ pub(crate) fn small_letter(text: &mut String, i: usize) -> bool
     true
 }
 
-// The capital at i, outside triplets, becomes small.
+// The capital at i, outside percent-encoded octets, becomes small.
 pub(crate) fn small_host_letter(text: &mut String, i: usize) -> bool
     requires { whole_triplets (string_bytes text.old) ≡ true }
     ensures { went result (string_bytes text.new) ≡ with_small_host_letter i (string_bytes text.old) }
@@ -109,7 +109,7 @@ pub(crate) fn small_host_letter(text: &mut String, i: usize) -> bool
     small_letter(text, i)
 }
 
-// The small hex digit at i, inside a triplet, becomes a capital.
+// The small hex digit at i, inside a percent-encoded octet, becomes a capital.
 fn capital_digit(text: &mut String, i: usize) -> bool
     requires { whole_triplets (string_bytes text.old) ≡ true }
     ensures { went result (string_bytes text.new) ≡ with_capital_digit i (string_bytes text.old) }
@@ -125,7 +125,7 @@ fn capital_digit(text: &mut String, i: usize) -> bool
     true
 }
 
-// The unreserved character that the triplets from i on spell.
+// The unreserved character that the percent-encoded octets from i on spell.
 fn spelled_at<S: Spec>(text: &[u8], i: usize) -> Option<char>
     ensures { result ≡ decoded S.tests (octets (drop i text.now)) }
 {
@@ -135,7 +135,7 @@ fn spelled_at<S: Spec>(text: &[u8], i: usize) -> Option<char>
     decoded_char::<S>(&text[i..])
 }
 
-// The triplets from i on that spell an unreserved character become that character.
+// The percent-encoded octets from i on that spell an unreserved character become that character.
 fn decoded<S: Spec>(text: &mut String, i: usize) -> Result<bool, AllocError>
     ensures { IfOk result (λ b. went b (string_bytes text.new) ≡ with_decoded S.tests i (string_bytes text.old)) }
 {
@@ -149,7 +149,7 @@ fn decoded<S: Spec>(text: &mut String, i: usize) -> Result<bool, AllocError>
     }
 }
 
-// A change of triplets at i.
+// A change of percent-encoded octets at i.
 pub(crate) fn changed<S: Spec>(
     text: &mut String,
     change: Change,

@@ -42,7 +42,7 @@ fn push_digit(steps: &mut StepList, part: Part, at: usize, digit: u8) -> Result<
     steps.push(Step::HexDigit(part, at))
 }
 
-// The hex digits of a triplet that stays become capitals.
+// The hex digits of a percent-encoded octet that stays become capitals.
 fn push_digits(
     steps: &mut StepList,
     part: Part,
@@ -57,7 +57,7 @@ fn push_digits(
     push_digit(steps, part, at + 2, low)
 }
 
-// Triplets become the character that they spell, and this a small letter, where it is a capital of a host.
+// Percent-encoded octets become the character that they spell, and this a small letter, where it is a capital of a host.
 fn push_decoded(
     steps: &mut StepList,
     part: Part,
@@ -108,8 +108,8 @@ fn push_prefix<S: Spec>(
     })
 }
 
-/// Appends the steps of a text that begins at this place of the part, and says where its normal form ends. Allocation failure
-/// is the only error.
+// Appends the steps of a text that begins at this place of the part, and says where its normal form ends. Allocation failure
+// is the only error.
 pub(crate) fn push_component<S: Spec>(
     steps: &mut StepList,
     part: Part,

@@ -47,8 +47,24 @@ fn have_one_normal_text<S: Spec>(
     Ok(first.as_str() == second.as_str())
 }
 
-/// Two lists of steps, one from each target, that lead to one target: their common normal form. There are none exactly where no
-/// two lists of steps lead to one target, which is where their canonical texts differ. Allocation failure is the only error.
+/// Two lists of steps, one from each target, that lead to one target: their common normal form (RFC 3986 section
+/// 6.2.2). `None` exactly where no two lists of steps lead to one target, which is where their canonical texts differ.
+///
+/// # Errors
+///
+/// Where allocation fails.
+///
+/// ```
+/// use iri::resolve::FixedBaseResolver;
+/// use iri::steps::join_steps;
+/// use iri::types::{UriAbsoluteStr, UriReferenceStr};
+/// let page = FixedBaseResolver::new(UriAbsoluteStr::new("http://a/b")?);
+/// let one = page.target(rt.alloc(), UriReferenceStr::new("%7eg")?)?;
+/// let other = page.target(rt.alloc(), UriReferenceStr::new("/~g")?)?;
+/// let (from_one, from_other) = join_steps(rt.alloc(), &one, &other)?.ok_or("one target")?;
+/// assert_eq!(rt; from_one.len(), 1);
+/// assert_eq!(rt; from_other.len(), 0);
+/// ```
 pub fn join_steps<S: Spec>(
     alloc: Global,
     a: &Target<S>,
@@ -61,6 +77,10 @@ pub fn join_steps<S: Spec>(
 }
 
 /// The same with the steps and the canonical texts of a mode.
+///
+/// # Errors
+///
+/// Where allocation fails.
 pub fn join_steps_in<S: Spec>(
     alloc: Global,
     mode: CanonMode,

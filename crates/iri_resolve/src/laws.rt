@@ -25,7 +25,7 @@ pub fn steps_change_something<S: Spec>()
     ensures { (mode : CanonMode) (t u : Parts) (x : Step) → step_in S.tests mode t x ≡ Some u → u ≢ t }
 {}
 
-/// Where triplets are decoded, an unreserved character stands among the units of the text.
+/// Where percent-encoded octets are decoded, an unreserved character stands among the units of the text.
 pub fn decoded_places_are_characters<S: Spec>()
     ensures { (t u : List ℕ) (i : ℕ) → whole_triplets t ≡ true → with_decoded S.tests i t ≡ Some u
         → IsCharacterAt S.tests i t }

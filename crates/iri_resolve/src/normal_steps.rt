@@ -153,7 +153,7 @@ fn loses_dots(path: &str, authority_stands: bool) -> bool
     has_dot_segment(path) && (authority_stands || !is_guard_alone(path))
 }
 
-// The steps of the triplets of a part that may stand.
+// The steps of the percent-encoded octets of a part that may stand.
 fn push_triplets<S: Spec>(
     steps: &mut StepList,
     part: Part,
@@ -169,7 +169,7 @@ fn push_triplets<S: Spec>(
     Ok(())
 }
 
-// The steps of a path: those of its triplets on the path as it stands, and then that of its dot segments.
+// The steps of a path: those of its percent-encoded octets on the path as it stands, and then that of its dot segments.
 fn push_path<S: Spec>(
     steps: &mut StepList,
     path: &str,
@@ -227,8 +227,23 @@ fn push_slash(steps: &mut StepList, go: bool) -> Result<(), AllocError>
     steps.push(Step::SlashPath)
 }
 
-/// The steps that lead from a target to its normal form, part by part and from left to right; the dot segments go after the
-/// other steps of the path. Places count bytes of what is in normal form already. Allocation failure is the only error.
+/// Steps that lead from a target to its normal form (RFC 3986 section 6.2.2), part by part and from left to right; the
+/// dot segments go after the other steps of the path. Places count bytes of what is in normal form already.
+///
+/// # Errors
+///
+/// Where allocation fails.
+///
+/// ```
+/// use iri::resolve::FixedBaseResolver;
+/// use iri::steps::{Part, Step, steps_to_normal};
+/// use iri::types::{UriAbsoluteStr, UriReferenceStr};
+/// let page = FixedBaseResolver::new(UriAbsoluteStr::new("http://a/b")?);
+/// let target = page.target(rt.alloc(), UriReferenceStr::new("%7eg")?)?;
+/// let steps = steps_to_normal(rt.alloc(), &target)?;
+/// assert_eq!(rt; steps.len(), 1);
+/// assert!(rt; matches!(steps.get(0), Some(Step::Decode(Part::Path, 1))));
+/// ```
 pub fn steps_to_normal<S: Spec>(alloc: Global, target: &Target<S>) -> Result<StepList, AllocError>
     ensures list { IfOk result (λ l. l ≡ steps_of S.tests Default target.now) }
     ensures leads { IfOk result (λ l. replayed S.tests target.now l ≡ Some (normal_form S.tests target.now)) }
@@ -236,7 +251,12 @@ pub fn steps_to_normal<S: Spec>(alloc: Global, target: &Target<S>) -> Result<Ste
     steps_to_normal_in(alloc, CanonMode::Default, target)
 }
 
-/// The same with the steps of a mode: those of every scheme, and then the default port and the empty path.
+/// The same with the steps of a mode: those of every scheme, and then the default port and the empty path (RFC 3986
+/// section 6.2.3).
+///
+/// # Errors
+///
+/// Where allocation fails.
 pub fn steps_to_normal_in<S: Spec>(
     alloc: Global,
     mode: CanonMode,

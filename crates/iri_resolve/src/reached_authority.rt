@@ -131,7 +131,7 @@ fn host_start(authority: &ReachedAuthority) -> usize
     }
 }
 
-// A change of triplets at i, in the userinfo or the host.
+// A change of percent-encoded octets at i, in the userinfo or the host.
 fn changed_in_parts<S: Spec>(
     authority: &mut ReachedAuthority,
     change: Change,
@@ -167,7 +167,7 @@ pub(crate) fn changed_in_authority<S: Spec>(
     Ok(went)
 }
 
-// The capital at i becomes small, in an ASCII host and outside triplets.
+// The capital at i becomes small, in an ASCII host and outside percent-encoded octets.
 fn small_letter_in_host<S: Spec>(authority: &mut ReachedAuthority, i: usize) -> bool
     requires { IsRead S.tests authority.old }
     ensures { ReadOn S.tests (with_small_letter_in_host i) result authority.old authority.new }

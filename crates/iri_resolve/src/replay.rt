@@ -86,9 +86,24 @@ fn take_numbered<S: Spec>(
     Ok(())
 }
 
-/// The parts after all of these steps, one after the other. `Illegal(k)` comes exactly where step k, from 0, is the first that is no
-/// step from the parts reached (RFC 3986 section 6.2.2); the other error is allocation failure. A step that keeps the length looks
+/// The parts after all of these steps, one after the other (RFC 3986 section 6.2.2). A step that keeps the length looks
 /// only at its place; one that changes it moves what follows there, and one that removes dot segments reads the path.
+///
+/// # Errors
+///
+/// - `Illegal(k)` exactly where step `k`, from 0, is the first that is no step from the parts reached.
+/// - `Memory` where allocation fails.
+///
+/// ```
+/// use iri::resolve::FixedBaseResolver;
+/// use iri::steps::{Step, StepList, replay};
+/// use iri::types::{UriAbsoluteStr, UriReferenceStr};
+/// let page = FixedBaseResolver::new(UriAbsoluteStr::new("http://a/b")?);
+/// let target = page.target(rt.alloc(), UriReferenceStr::new("c/../g")?)?;
+/// let mut steps = StepList::new(rt.alloc());
+/// steps.push(Step::Dots)?;
+/// assert_eq!(rt; replay(rt.alloc(), &target, &steps)?.path(), "/g");
+/// ```
 pub fn replay<S: Spec>(
     alloc: Global,
     target: &Target<S>,
@@ -100,7 +115,11 @@ pub fn replay<S: Spec>(
     replay_in(alloc, CanonMode::Default, target, steps)
 }
 
-/// The same with the steps of a mode (section 6.2.3).
+/// The same with the steps of a mode (RFC 3986 section 6.2.3).
+///
+/// # Errors
+///
+/// Those of [`replay`].
 pub fn replay_in<S: Spec>(
     alloc: Global,
     mode: CanonMode,

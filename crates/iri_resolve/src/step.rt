@@ -1,6 +1,6 @@
 //! Steps that change parts towards their normal form.
 
-/// A part that may hold triplets.
+/// A part that may hold percent-encoded octets.
 #[derive(Clone, Copy, PartialEq, Eq)]
 pub enum Part {
     /// The userinfo, host and port.
@@ -18,11 +18,11 @@ pub enum Part {
 pub enum Step {
     /// The capital at this place of the scheme becomes small.
     SchemeLetter(usize),
-    /// The capital at this place of the authority, outside triplets and in an ASCII host, becomes small.
+    /// The capital at this place of the authority, outside percent-encoded octets and in an ASCII host, becomes small.
     HostLetter(usize),
-    /// The small hex digit at this place, inside a triplet of the part, becomes a capital.
+    /// The small hex digit at this place, inside a percent-encoded octet of the part, becomes a capital.
     HexDigit(Part, usize),
-    /// The unreserved character that the triplets from this place on spell becomes itself.
+    /// The unreserved character that the percent-encoded octets from this place on spell becomes itself.
     Decode(Part, usize),
     /// The empty port goes with its colon.
     EmptyPort,

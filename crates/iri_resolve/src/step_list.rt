@@ -30,7 +30,11 @@ impl StepList {
         }
     }
 
-    /// Puts a step at the end. After allocation failure the list is as it was.
+    /// Puts a step at the end.
+    ///
+    /// # Errors
+    ///
+    /// Where allocation fails; the list is as it was then.
     pub fn push(&mut self, step: Step) -> Result<(), AllocError>
         ensures ok { IfOk result (λ _. self.new ≡ self.old ++ step ∷ []) }
         ensures err { IfErr result (λ _. self.new ≡ self.old) }
@@ -46,7 +50,7 @@ impl StepList {
         self.steps.len()
     }
 
-    /// The step of this number, from 0 on; none after the last one.
+    /// The step of this number, from 0; `None` exactly where there are no more than so many.
     pub fn get(&self, i: usize) -> Option<Step>
         ensures { result ≡ slice_get self.now i }
     {

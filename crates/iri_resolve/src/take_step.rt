@@ -73,7 +73,7 @@ fn with_slash(alloc: Global, path: &mut String, becomes: bool) -> Result<bool, A
     Ok(true)
 }
 
-// A change of triplets at i of a part.
+// A change of percent-encoded octets at i of a part.
 fn triplet_step<S: Spec>(
     reached: &mut Reached,
     change: Change,
@@ -134,7 +134,7 @@ fn slash_step<S: Spec>(
     with_slash(alloc, &mut reached.path, becomes)
 }
 
-/// Takes a step of a mode. The answer is whether it is one from the parts reached. Allocation failure is the only error.
+// Takes a step of a mode. The answer is whether it is one from the parts reached. Allocation failure is the only error.
 pub(crate) fn take_step<S: Spec>(
     alloc: Global,
     mode: CanonMode,
