@@ -13,6 +13,18 @@ use std::marker::{Model, PhantomData};
 
 /// Five parts with a scheme that fit the grammar of `S`: they recompose to a URI of `S`, and are its split (RFC 3986
 /// section 5.2.2). It is seen as these parts.
+///
+/// ```
+/// use iri::resolve::FixedBaseResolver;
+/// use iri::types::{UriAbsoluteStr, UriReferenceStr};
+/// let page = FixedBaseResolver::new(UriAbsoluteStr::new("http://a/b/c/d;p?q")?);
+/// let target = page.target(rt.alloc(), UriReferenceStr::new("g?y#s")?)?;
+/// assert_eq!(rt; target.scheme(), "http");
+/// assert_eq!(rt; target.authority(), Some("a"));
+/// assert_eq!(rt; target.path(), "/b/c/g");
+/// assert_eq!(rt; target.query(), Some("y"));
+/// assert_eq!(rt; target.fragment(), Some("s"));
+/// ```
 #[derive(Drop)]
 pub struct Target<S: Spec> {
     scheme: String,

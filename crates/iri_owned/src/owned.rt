@@ -246,24 +246,72 @@ impl<S: Spec, K: Kind> Owned<S, K> {
 }
 
 /// A `URI-reference` of `S`, owned (RFC 3986 section 4.1).
+///
+/// ```
+/// use iri::spec::{IriSpec, UriSpec};
+/// use iri::types::RiReferenceString;
+/// assert!(rt; RiReferenceString::<IriSpec>::try_from_str(rt.alloc(), "../rosé").is_ok());
+/// assert!(rt; RiReferenceString::<UriSpec>::try_from_str(rt.alloc(), "../rosé").is_err());
+/// ```
 pub type RiReferenceString<S> = Owned<S, Reference>;
 
 /// A `URI` of `S`, with a scheme, owned (RFC 3986 section 3).
+///
+/// ```
+/// use iri::spec::{IriSpec, UriSpec};
+/// use iri::types::RiString;
+/// assert!(rt; RiString::<IriSpec>::try_from_str(rt.alloc(), "urn:rosé").is_ok());
+/// assert!(rt; RiString::<UriSpec>::try_from_str(rt.alloc(), "urn:rosé").is_err());
+/// ```
 pub type RiString<S> = Owned<S, Iri>;
 
 /// An `absolute-URI` of `S`, with a scheme and without a fragment, owned (RFC 3986 section 4.3).
+///
+/// ```
+/// use iri::spec::{IriSpec, UriSpec};
+/// use iri::types::RiAbsoluteString;
+/// assert!(rt; RiAbsoluteString::<IriSpec>::try_from_str(rt.alloc(), "urn:rosé?q").is_ok());
+/// assert!(rt; RiAbsoluteString::<UriSpec>::try_from_str(rt.alloc(), "urn:rosé?q").is_err());
+/// ```
 pub type RiAbsoluteString<S> = Owned<S, Absolute>;
 
 /// A `relative-ref` of `S`, without a scheme, owned (RFC 3986 section 4.2).
+///
+/// ```
+/// use iri::spec::{IriSpec, UriSpec};
+/// use iri::types::RiRelativeString;
+/// assert!(rt; RiRelativeString::<IriSpec>::try_from_str(rt.alloc(), "/rosé").is_ok());
+/// assert!(rt; RiRelativeString::<UriSpec>::try_from_str(rt.alloc(), "/rosé").is_err());
+/// ```
 pub type RiRelativeString<S> = Owned<S, Relative>;
 
 /// A `query` of `S`, without its `?`, owned (RFC 3986 section 3.4).
+///
+/// ```
+/// use iri::spec::{IriSpec, UriSpec};
+/// use iri::types::RiQueryString;
+/// assert!(rt; RiQueryString::<IriSpec>::try_from_str(rt.alloc(), "q=rosé").is_ok());
+/// assert!(rt; RiQueryString::<UriSpec>::try_from_str(rt.alloc(), "q=rosé").is_err());
+/// ```
 pub type RiQueryString<S> = Owned<S, Query>;
 
 /// A `fragment` of `S`, without its `#`, owned (RFC 3986 section 3.5).
+///
+/// ```
+/// use iri::spec::{IriSpec, UriSpec};
+/// use iri::types::RiFragmentString;
+/// assert!(rt; RiFragmentString::<IriSpec>::try_from_str(rt.alloc(), "rosé").is_ok());
+/// assert!(rt; RiFragmentString::<UriSpec>::try_from_str(rt.alloc(), "rosé").is_err());
+/// ```
 pub type RiFragmentString<S> = Owned<S, Fragment>;
 
 /// An `IRI-reference`, owned (RFC 3987 section 2.2).
+///
+/// ```
+/// use iri::types::IriReferenceString;
+/// assert_eq!(rt; IriReferenceString::try_from_str(rt.alloc(), "../rosé")?.as_str(), "../rosé");
+/// assert!(rt; IriReferenceString::try_from_str(rt.alloc(), "1:rosé").is_err());
+/// ```
 pub type IriReferenceString = RiReferenceString<IriSpec>;
 
 /// An `IRI`, owned (RFC 3987 section 2.2).
@@ -276,15 +324,39 @@ pub type IriReferenceString = RiReferenceString<IriSpec>;
 pub type IriString = RiString<IriSpec>;
 
 /// An `absolute-IRI`: an IRI without a fragment, owned (RFC 3987 section 2.2).
+///
+/// ```
+/// use iri::types::IriAbsoluteString;
+/// assert_eq!(rt; IriAbsoluteString::try_from_str(rt.alloc(), "http://a/rosé")?.as_str(), "http://a/rosé");
+/// assert!(rt; IriAbsoluteString::try_from_str(rt.alloc(), "http://a/#rosé").is_err());
+/// ```
 pub type IriAbsoluteString = RiAbsoluteString<IriSpec>;
 
 /// An `irelative-ref`: a reference without a scheme, owned (RFC 3987 section 2.2).
+///
+/// ```
+/// use iri::types::IriRelativeString;
+/// assert_eq!(rt; IriRelativeString::try_from_str(rt.alloc(), "/rosé")?.as_str(), "/rosé");
+/// assert!(rt; IriRelativeString::try_from_str(rt.alloc(), "a:rosé").is_err());
+/// ```
 pub type IriRelativeString = RiRelativeString<IriSpec>;
 
 /// An `iquery`, without its `?`, owned (RFC 3987 section 2.2).
+///
+/// ```
+/// use iri::types::IriQueryString;
+/// assert_eq!(rt; IriQueryString::try_from_str(rt.alloc(), "q=rosé")?.as_str(), "q=rosé");
+/// assert!(rt; IriQueryString::try_from_str(rt.alloc(), "a#b").is_err());
+/// ```
 pub type IriQueryString = RiQueryString<IriSpec>;
 
 /// An `ifragment`, without its `#`, owned (RFC 3987 section 2.2).
+///
+/// ```
+/// use iri::types::IriFragmentString;
+/// assert_eq!(rt; IriFragmentString::try_from_str(rt.alloc(), "rosé")?.as_str(), "rosé");
+/// assert!(rt; IriFragmentString::try_from_str(rt.alloc(), "a#b").is_err());
+/// ```
 pub type IriFragmentString = RiFragmentString<IriSpec>;
 
 /// A `URI-reference`, owned (RFC 3986 section 4.1).
@@ -306,13 +378,37 @@ pub type UriReferenceString = RiReferenceString<UriSpec>;
 pub type UriString = RiString<UriSpec>;
 
 /// An `absolute-URI`: a URI without a fragment, as a base is, owned (RFC 3986 section 4.3).
+///
+/// ```
+/// use iri::types::UriAbsoluteString;
+/// assert_eq!(rt; UriAbsoluteString::try_from_str(rt.alloc(), "http://a/b/c/d;p?q")?.as_str(), "http://a/b/c/d;p?q");
+/// assert!(rt; UriAbsoluteString::try_from_str(rt.alloc(), "http://a/b#c").is_err());
+/// ```
 pub type UriAbsoluteString = RiAbsoluteString<UriSpec>;
 
 /// A `relative-ref`: a reference without a scheme, owned (RFC 3986 section 4.2).
+///
+/// ```
+/// use iri::types::UriRelativeString;
+/// assert_eq!(rt; UriRelativeString::try_from_str(rt.alloc(), "./g:h")?.as_str(), "./g:h");
+/// assert!(rt; UriRelativeString::try_from_str(rt.alloc(), "g:h").is_err());
+/// ```
 pub type UriRelativeString = RiRelativeString<UriSpec>;
 
 /// A `query`, without its `?`, owned (RFC 3986 section 3.4).
+///
+/// ```
+/// use iri::types::UriQueryString;
+/// assert_eq!(rt; UriQueryString::try_from_str(rt.alloc(), "objectClass?one")?.as_str(), "objectClass?one");
+/// assert!(rt; UriQueryString::try_from_str(rt.alloc(), "a#b").is_err());
+/// ```
 pub type UriQueryString = RiQueryString<UriSpec>;
 
 /// A `fragment`, without its `#`, owned (RFC 3986 section 3.5).
+///
+/// ```
+/// use iri::types::UriFragmentString;
+/// assert_eq!(rt; UriFragmentString::try_from_str(rt.alloc(), "nose")?.as_str(), "nose");
+/// assert!(rt; UriFragmentString::try_from_str(rt.alloc(), "#nose").is_err());
+/// ```
 pub type UriFragmentString = RiFragmentString<UriSpec>;

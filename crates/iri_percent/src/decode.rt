@@ -16,6 +16,13 @@ use thiserror::Error;
 mod tests;
 
 /// Bytes that are read decoded. They are equal, ordered and hashed as they are given, not as what they decode to.
+///
+/// ```
+/// use iri::percent_encode::decode::decode_whatwg_bytes;
+/// let bytes = decode_whatwg_bytes(b"%41");
+/// assert_eq!(rt; bytes.not_yet_decoded(), b"%41".as_slice());
+/// assert_eq!(rt; bytes.into_string(rt.alloc())?.as_str(), "A");
+/// ```
 #[derive(Clone, Copy, Debug, PartialEq, Eq, PartialOrd, Ord, Hash)]
 pub struct PercentDecodedWhatwgBytes<'a> {
     source: &'a [u8],

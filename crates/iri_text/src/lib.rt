@@ -95,6 +95,16 @@ pub trait Source {
 }
 
 /// Where bytes go. `put_all` alone is to be given.
+///
+/// ```
+/// use iri::streams::{MemorySink, Sink};
+/// let mut buffer = [0; 8];
+/// let mut sink = MemorySink::new(&mut buffer, &[]);
+/// assert!(rt; sink.put_all(b"ok ").is_ok());
+/// assert!(rt; sink.put_all(b"a\n").is_ok());
+/// assert!(rt; sink.flush().is_ok());
+/// assert_eq!(rt; sink.written(), b"ok a\n".as_slice());
+/// ```
 pub trait Sink {
     /// The bytes that were written, where the sink tells them. Those that it buffers are among them.
     ghost written: { Self → Option (List ℕ) };

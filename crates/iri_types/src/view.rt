@@ -156,21 +156,63 @@ impl<S: Spec, K: Kind> fmt::Display for View<'_, S, K> {
 }
 
 /// A `URI-reference` of `S` (RFC 3986 section 4.1).
+///
+/// ```
+/// use iri::spec::{IriSpec, UriSpec};
+/// use iri::types::RiReferenceStr;
+/// assert!(rt; RiReferenceStr::<IriSpec>::new("../rosé").is_ok());
+/// assert!(rt; RiReferenceStr::<UriSpec>::new("../rosé").is_err());
+/// ```
 pub type RiReferenceStr<'a, S> = View<'a, S, Reference>;
 
 /// A `URI` of `S`, with a scheme (RFC 3986 section 3).
+///
+/// ```
+/// use iri::spec::{IriSpec, UriSpec};
+/// use iri::types::RiStr;
+/// assert!(rt; RiStr::<IriSpec>::new("urn:rosé").is_ok());
+/// assert!(rt; RiStr::<UriSpec>::new("urn:rosé").is_err());
+/// ```
 pub type RiStr<'a, S> = View<'a, S, Iri>;
 
 /// An `absolute-URI` of `S`, with a scheme and without a fragment (RFC 3986 section 4.3).
+///
+/// ```
+/// use iri::spec::{IriSpec, UriSpec};
+/// use iri::types::RiAbsoluteStr;
+/// assert!(rt; RiAbsoluteStr::<IriSpec>::new("urn:rosé?q").is_ok());
+/// assert!(rt; RiAbsoluteStr::<UriSpec>::new("urn:rosé?q").is_err());
+/// ```
 pub type RiAbsoluteStr<'a, S> = View<'a, S, Absolute>;
 
 /// A `relative-ref` of `S`, without a scheme (RFC 3986 section 4.2).
+///
+/// ```
+/// use iri::spec::{IriSpec, UriSpec};
+/// use iri::types::RiRelativeStr;
+/// assert!(rt; RiRelativeStr::<IriSpec>::new("/rosé").is_ok());
+/// assert!(rt; RiRelativeStr::<UriSpec>::new("/rosé").is_err());
+/// ```
 pub type RiRelativeStr<'a, S> = View<'a, S, Relative>;
 
 /// A `query` of `S`, without its `?` (RFC 3986 section 3.4).
+///
+/// ```
+/// use iri::spec::{IriSpec, UriSpec};
+/// use iri::types::RiQueryStr;
+/// assert!(rt; RiQueryStr::<IriSpec>::new("q=rosé").is_ok());
+/// assert!(rt; RiQueryStr::<UriSpec>::new("q=rosé").is_err());
+/// ```
 pub type RiQueryStr<'a, S> = View<'a, S, Query>;
 
 /// A `fragment` of `S`, without its `#` (RFC 3986 section 3.5).
+///
+/// ```
+/// use iri::spec::{IriSpec, UriSpec};
+/// use iri::types::RiFragmentStr;
+/// assert!(rt; RiFragmentStr::<IriSpec>::new("rosé").is_ok());
+/// assert!(rt; RiFragmentStr::<UriSpec>::new("rosé").is_err());
+/// ```
 pub type RiFragmentStr<'a, S> = View<'a, S, Fragment>;
 
 /// An `IRI-reference`: an IRI or a relative reference (RFC 3987 section 2.2).
@@ -191,15 +233,39 @@ pub type IriReferenceStr<'a> = RiReferenceStr<'a, IriSpec>;
 pub type IriStr<'a> = RiStr<'a, IriSpec>;
 
 /// An `absolute-IRI`: an IRI without a fragment, as a base is (RFC 3987 section 2.2).
+///
+/// ```
+/// use iri::types::IriAbsoluteStr;
+/// assert!(rt; IriAbsoluteStr::new("http://a/rosé").is_ok());
+/// assert!(rt; IriAbsoluteStr::new("http://a/#rosé").is_err());
+/// ```
 pub type IriAbsoluteStr<'a> = RiAbsoluteStr<'a, IriSpec>;
 
 /// An `irelative-ref`: a reference without a scheme (RFC 3987 section 2.2).
+///
+/// ```
+/// use iri::types::IriRelativeStr;
+/// assert!(rt; IriRelativeStr::new("/rosé").is_ok());
+/// assert!(rt; IriRelativeStr::new("a:rosé").is_err());
+/// ```
 pub type IriRelativeStr<'a> = RiRelativeStr<'a, IriSpec>;
 
 /// An `iquery`, without its `?` (RFC 3987 section 2.2).
+///
+/// ```
+/// use iri::types::IriQueryStr;
+/// assert!(rt; IriQueryStr::new("q=rosé").is_ok());
+/// assert!(rt; IriQueryStr::new("a#b").is_err());
+/// ```
 pub type IriQueryStr<'a> = RiQueryStr<'a, IriSpec>;
 
 /// An `ifragment`, without its `#` (RFC 3987 section 2.2).
+///
+/// ```
+/// use iri::types::IriFragmentStr;
+/// assert!(rt; IriFragmentStr::new("rosé").is_ok());
+/// assert!(rt; IriFragmentStr::new("a#b").is_err());
+/// ```
 pub type IriFragmentStr<'a> = RiFragmentStr<'a, IriSpec>;
 
 /// A `URI-reference`: a URI or a relative reference, as a page has it (RFC 3986 section 4.1).

@@ -65,6 +65,12 @@ impl fmt::Display for Text {
 }
 
 /// Owns bytes, and is seen as their list.
+///
+/// ```
+/// use iri::format::Bytes;
+/// let bytes = Bytes::from_vec(vec![in rt.alloc(); 1, 2]?);
+/// assert_eq!(rt; bytes.as_slice(), [1, 2].as_slice());
+/// ```
 #[derive(Debug, Drop)]
 pub struct Bytes {
     vec: Vec<u8>,

@@ -8,6 +8,15 @@ use std::fmt;
 use std::marker::Model;
 
 /// A sink over a slice of bytes, which it fills from the start.
+///
+/// ```
+/// use iri::format::{SliceSink, TextSink};
+/// let mut buffer = [0; 4];
+/// let mut sink = SliceSink::new(&mut buffer);
+/// assert!(rt; sink.put("ab").is_ok());
+/// assert!(rt; sink.put("cde").is_err());
+/// assert_eq!(rt; sink.as_str(), "ab");
+/// ```
 #[derive(Drop)]
 pub struct SliceSink<'b> {
     buf: &'b mut [u8],

@@ -8,6 +8,13 @@ use crate::{Show, Stop, TextSink};
 use std::alloc::AllocError;
 
 /// A sink at the end of a string. It stops where allocation fails, only where the string would have to grow.
+///
+/// ```
+/// use iri::format::{StringSink, TextSink};
+/// let mut text = String::from_str(rt.alloc(), "GET ")?;
+/// assert!(rt; StringSink::new(&mut text).put("/over/there").is_ok());
+/// assert_eq!(rt; text.as_str(), "GET /over/there");
+/// ```
 #[derive(Drop)]
 pub struct StringSink<'b> {
     dest: &'b mut String,

@@ -6,6 +6,16 @@ use crate::{Failed, Source};
 use std::marker::Model;
 
 /// A source that gives the bytes of a slice in pieces, and fails as it is told.
+///
+/// ```
+/// use iri::streams::{MemorySource, Source};
+/// let mut source = MemorySource::new(b"abcde", &[2], &[2]);
+/// let mut buffer = [0; 4];
+/// assert!(rt; matches!(source.take(&mut buffer), Ok(2)));
+/// assert!(rt; source.take(&mut buffer).is_err());
+/// assert!(rt; matches!(source.take(&mut buffer), Ok(2)));
+/// assert!(rt; matches!(source.take(&mut buffer), Ok(1)));
+/// ```
 #[derive(Drop)]
 pub struct MemorySource<'a> {
     bytes: &'a [u8],

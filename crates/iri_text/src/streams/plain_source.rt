@@ -5,6 +5,19 @@ use crate::{Failed, Source};
 use std::marker::Model;
 
 /// A source that gives the bytes of a slice, and never fails.
+///
+/// ```
+/// use iri::streams::{LineReader, PlainSource};
+/// let mut source = PlainSource::new(b"a\nb");
+/// let mut reader = LineReader::new(rt.alloc(), 10, 10)?;
+/// let mut count = 0;
+/// for _ in 0..3 {
+///     if !reader.is_done() && matches!(reader.advance(&mut source), Ok(true)) {
+///         count += 1;
+///     }
+/// }
+/// assert_eq!(rt; count, 2);
+/// ```
 #[derive(Drop)]
 pub struct PlainSource<'a> {
     bytes: &'a [u8],
