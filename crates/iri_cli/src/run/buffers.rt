@@ -28,7 +28,11 @@ pub struct CanonBuffers {
 
 impl CanonBuffers {
     /// Takes the memory: 65,536 bytes and a line for a reader that took nothing yet, a line for the base, and two lines and seven bytes
-    /// for an answer. It fails only where that is refused.
+    /// for an answer.
+    ///
+    /// # Errors
+    ///
+    /// Where that is refused, and only there.
     pub fn new(alloc: Global) -> Result<CanonBuffers, AllocError>
         ensures { IfOk result (λ b. AreBuffers b.reader (vec_capacity b.base) (vec_capacity b.output)) }
     {
