@@ -75,19 +75,6 @@ static void check_without_rules(struct soak *soak)
 	check(soak, &asked, soak->reading.base, "canon", NULL);
 }
 
-/* RFC 3987 section 3.1: octets past ASCII as percent-encoded octets. */
-static struct text mapped(struct text text, struct bytes *to)
-{
-	char octet[8];
-	to->len = 0;
-	for (size_t i = 0; i < text.len; i++)
-		if (text.at[i] < 0x80)
-			put_byte(to, text.at[i]);
-		else
-			put(to, octet, snprintf(octet, sizeof octet, "%%%02X", text.at[i]));
-	return (struct text){to->at, to->len};
-}
-
 /* The text of an IRI, mapped to a URI, is that of base and line, both mapped. */
 static void check_mapped(struct soak *soak)
 {
@@ -218,7 +205,7 @@ int main(int argc, char **argv)
 {
 	if (argc != 6)
 		return 2;
-	struct soak soak = {.program = argv[1], .grammar = argv[2], .mode = argv[3], .seed = strtoull(argv[4], NULL, 10)};
+	struct soak soak = {.program = argv[1], .grammar = argv[2], .mode = argv[3], .seconds = 120, .seed = strtoull(argv[4], NULL, 10)};
 	soak.reading = (struct reading){.iri = argv[2][0] == 'i', .by_scheme = argv[3][0] == 's'};
 	soak.making.state = soak.seed * 0x9fb21c651e98df25;
 	soak.spelling.state = ~soak.making.state;

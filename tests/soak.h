@@ -1,5 +1,5 @@
 /* tests/soak: its lines (tests/soak_lines.c), other spellings of them (tests/soak_spellings.c), how the program is asked
- * (tests/soak_asks.c), and what is asked (tests/soak.c). */
+ * (tests/soak_asks.c), and what is asked (tests/soak.c, and of inputs from afl-fuzz tests/fuzz.c). */
 #ifndef SOAK_H
 #define SOAK_H
 
@@ -70,6 +70,9 @@ void put_base(struct numbers *numbers, int iri, struct bytes *to);
 /* Puts another spelling of a reference that is in the grammar: its canonical text against the base is the same. */
 void put_spelling(struct numbers *numbers, const struct reading *reading, struct text reference, struct bytes *to);
 
+/* Puts octets past ASCII as percent-encoded octets (RFC 3987 section 3.1), over what was there. */
+struct text mapped(struct text text, struct bytes *to);
+
 /* Whether a text with a scheme may be an answer: it has nothing that normal form takes out. */
 int is_normal(const struct reading *reading, struct text text);
 
@@ -89,9 +92,18 @@ struct asked {
 	size_t count, room;
 };
 
-/* A part: its lines, their first answers, and how many were good, how many answers were asked for, and the faults. */
+struct output {
+	int status;
+	uint8_t *at;
+	struct text *lines;
+	size_t count;
+};
+
+/* A part: its lines, their first answers, and how many were good, how many answers were asked for, and the faults. A run may take so
+ * many seconds of a processor. */
 struct soak {
 	const char *program, *grammar, *mode;
+	unsigned seconds;
 	uint64_t seed;
 	struct reading reading;
 	struct numbers making, spelling;
@@ -103,6 +115,9 @@ void *taken(void *block, size_t size);
 int is_good(struct text answer);
 struct text text_of(struct text answer);
 void fault(struct soak *soak, const char *property, struct text base, struct text line, struct text wanted, struct text got);
+
+/* Runs a command over an input, of which the last LF may go. Where a signal ended it, the status is 128 more than its number. */
+struct output run(struct soak *soak, const char *command, const char *mode, const struct bytes *input);
 
 /* Makes the lines and a base, and asks for their answers. */
 void begin(struct soak *soak);

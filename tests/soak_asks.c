@@ -5,19 +5,12 @@
 #include <stdio.h>
 #include <stdlib.h>
 #include <sys/mman.h>
+#include <sys/resource.h>
 #include <sys/wait.h>
 #include <unistd.h>
 
-/* The seconds after which a run is ended, and how many faults of a part are shown. */
-#define SECONDS 120
+/* How many faults of a part are shown. */
 #define SHOWN 10
-
-struct output {
-	int status;
-	uint8_t *at;
-	struct text *lines;
-	size_t count;
-};
 
 void *taken(void *block, size_t size)
 {
@@ -82,8 +75,7 @@ static struct output read_output(int file)
 	return output;
 }
 
-/* Runs a command over an input, of which the last LF may go. */
-static struct output run(struct soak *soak, const char *command, const char *mode, const struct bytes *input)
+struct output run(struct soak *soak, const char *command, const char *mode, const struct bytes *input)
 {
 	int in = memfd_create("input", MFD_CLOEXEC), out = memfd_create("output", MFD_CLOEXEC), status = 0;
 	size_t len = input->len;
@@ -96,7 +88,7 @@ static struct output run(struct soak *soak, const char *command, const char *mod
 	if (child == 0) {
 		dup2(in, 0);
 		dup2(out, 1);
-		alarm(SECONDS);
+		setrlimit(RLIMIT_CPU, &(struct rlimit){soak->seconds, soak->seconds + 1});
 		execl(soak->program, soak->program, command, soak->grammar, mode, (char *)NULL);
 		_exit(127);
 	}

@@ -1,5 +1,6 @@
-/* Other spellings of a reference, for tests/soak. */
+/* Other spellings of a reference, for tests/soak and tests/fuzz. */
 #include "soak.h"
+#include <stdio.h>
 
 static uint8_t other_case(struct numbers *numbers, uint8_t byte)
 {
@@ -125,4 +126,17 @@ void put_spelling(struct numbers *numbers, const struct reading *reading, struct
 		put_byte(to, '#');
 		respell(numbers, reading->iri, 0, parts.fragment, to);
 	}
+}
+
+/* RFC 3987 section 3.1: octets past ASCII as percent-encoded octets. */
+struct text mapped(struct text text, struct bytes *to)
+{
+	char octet[8];
+	to->len = 0;
+	for (size_t i = 0; i < text.len; i++)
+		if (text.at[i] < 0x80)
+			put_byte(to, text.at[i]);
+		else
+			put(to, octet, snprintf(octet, sizeof octet, "%%%02X", text.at[i]));
+	return (struct text){to->at, to->len};
 }

@@ -1,5 +1,5 @@
-/* check ROWS: the rows of a file of grammars, bases, references and answers; a buffer of each size; empty and NULL
- * pieces; eight threads. Names each row that fails. */
+/* check ROWS [TURNS]: the rows of a file of grammars, bases, references and answers; a buffer of each size; empty and NULL
+ * pieces; eight threads, each so many times over the rows (2000). Names each row that fails. */
 #define _GNU_SOURCE
 #include "check.h"
 #include <pthread.h>
@@ -13,7 +13,7 @@ struct row {
 };
 
 static struct row rows[MOST_ROWS];
-static size_t count;
+static size_t count, turns = 2000;
 
 static void read_rows(const char *name) {
     FILE *file = fopen(name, "r");
@@ -64,25 +64,41 @@ static size_t check_rows(void) {
 static void *check_often(void *unused) {
     size_t failed = 0;
     (void)unused;
-    for (int i = 0; i < 2000; i++)
+    for (size_t i = 0; i < turns; i++)
         failed += check_rows();
     return (void *)failed;
 }
 
-/* A buffer of each size, with bytes behind it that are to stay. */
-static size_t check_sizes(void) {
-    const char *base = "http://a/b/c/d;p?q", *text = "http://a/b/g?y#s";
-    size_t failed = 0, len = strlen(text);
-    for (size_t size = 0; size <= len; size++) {
-        char *out = malloc(len + 1);
+/* A call that writes a text of a row, by a number. */
+static uint8_t write_text(int call, const struct row *row, char *out, size_t size, size_t *told) {
+    const char *reference = row->reference;
+    if (call == 0)
+        return irikit_canonical(row->grammar, IRIKIT_NORMAL, row->base, strlen(row->base), reference, strlen(reference), out,
+                                size, told);
+    if (call == 1)
+        return irikit_map_to_uri(reference, strlen(reference), out, size, told);
+    return irikit_fault_words(row - rows, out, size, told);
+}
+
+/* A buffer of each size up to two more than is wanted, which the text fills as far as it goes; the bytes after it stay. */
+static size_t check_sizes(const struct row *row, int call) {
+    size_t failed = 0, len = 0;
+    uint8_t whole = write_text(call, row, NULL, 0, &len);
+    int has_text = whole == IRIKIT_OK || whole == IRIKIT_SHORT;
+    len = has_text ? len : 0;
+    char *text = malloc(len + 2), *out = malloc(len + 2);
+    for (size_t size = len + 2; size-- > 0;) {
         size_t told = 9;
-        memset(out, '.', len + 1);
-        uint8_t status = irikit_canonical(IRIKIT_URI, IRIKIT_NORMAL, base, strlen(base), "../g?y#s", 8, out, size, &told);
-        failed += wrong(status == (size < len ? IRIKIT_SHORT : IRIKIT_OK), "the status of a size");
-        failed += wrong(told == len, "the length that is wanted");
-        failed += wrong(is_over(out, size, text, len, len + 1), "a byte behind the buffer");
-        free(out);
+        memset(out, '.', len + 2);
+        uint8_t status = write_text(call, row, out, size, &told);
+        if (size == len + 1)
+            memcpy(text, out, len + 2);
+        failed += wrong(status == (!has_text ? whole : size < len ? IRIKIT_SHORT : IRIKIT_OK), "the status of a size");
+        failed += wrong(!has_text || told == len, "the length that is wanted");
+        failed += wrong(is_over(out, size, text, len, len + 2), "the text as far as it goes, and nothing after it");
     }
+    free(text);
+    free(out);
     return failed;
 }
 
@@ -129,10 +145,13 @@ static size_t check_parts(void) {
 int main(int argc, char **argv) {
     pthread_t threads[THREADS];
     size_t failed = 0;
-    if (argc != 2)
+    if (argc < 2)
         return 2;
     read_rows(argv[1]);
-    failed += check_rows() + check_sizes() + check_empty() + check_parts();
+    turns = argc > 2 ? strtoul(argv[2], NULL, 10) : turns;
+    failed += check_rows() + check_empty() + check_parts();
+    for (size_t i = 0; i < 3 * count; i++)
+        failed += check_sizes(&rows[i / 3], i % 3);
     for (int i = 0; i < THREADS; i++)
         failed += wrong(!pthread_create(&threads[i], NULL, check_often, NULL), "a thread");
     for (int i = 0; i < THREADS; i++) {
