@@ -8,9 +8,10 @@
 const URI = 0, IRI = 1;
 const NORMAL = 0, BY_SCHEME = 1;
 const REFERENCE = 0, WITH_SCHEME = 1, ABSOLUTE = 2, RELATIVE = 3;
+const IN_REG_NAME = 0, IN_USER = 1, IN_SEGMENT = 2, IN_PATH = 3, IN_QUERY = 4, IN_FRAGMENT = 5, ANYWHERE = 6, IN_REFERENCE = 7;
 
-const OK = 0, NOT_NORMAL = 2, BAD_TEXT = 3, BAD_BASE = 4, BAD_REFERENCE = 5;
-const WHOSE = { [BAD_TEXT]: "text", [BAD_BASE]: "base", [BAD_REFERENCE]: "reference" };
+const OK = 0, SHORT = 1, NOT_NORMAL = 2, BAD_TEXT = 3, BAD_BASE = 4, BAD_REFERENCE = 5, BAD_PART = 8;
+const WHOSE = { [BAD_TEXT]: "text", [BAD_BASE]: "base", [BAD_REFERENCE]: "reference", [BAD_PART]: "part" };
 const PARTS = ["scheme", "authority", "path", "query", "fragment", "userinfo", "host", "port"];
 // The offset of a part that doesn't stand has ones alone; its lower half does for a memory below 4 GiB.
 const NOWHERE = 2 ** 32 - 1;
@@ -114,11 +115,22 @@ class Kit {
   }
 
   canonical(base, reference, grammar = URI, mode = NORMAL) {
-    this.#room(most(base), most(reference));
+    return this.#madeOfTwo(this.#calls.irikit_canonical, base, reference, grammar, mode);
+  }
+
+  canonicalLines(base, lines, grammar = URI, mode = NORMAL) {
+    this.#room(most(base) + 64, most(lines));
     this.#keep(base);
-    const len = put(reference, this.#textBytes);
-    return this.#written(this.#calls.irikit_canonical(
-      grammar, mode, this.#baseAt, this.#baseLen, this.#textAt, len, this.#outAt, this.#outSize, this.#told));
+    let left = put(lines, this.#textBytes), at = this.#textAt, answers = "";
+    for (;;) {
+      const status = this.#calls.irikit_canonical_lines(
+        grammar, mode, this.#baseAt, this.#baseLen, at, left, this.#outAt, this.#outSize, this.#slots, this.#told);
+      if (status !== OK && status !== SHORT) throw this.#refusal(status);
+      answers += this.#read(this.#out, this.#words[0]);
+      if (status === OK) return answers;
+      at += BigInt(this.#words[2]);
+      left -= BigInt(this.#words[2]);
+    }
   }
 
   validate(text, kind = REFERENCE, grammar = URI) {
@@ -145,9 +157,52 @@ class Kit {
     return status === OK;
   }
 
-  mapToUri(text) {
+  // Calls what writes a text made of one text: what stands before that comes first.
+  #made(call, text, ...before) {
     const len = this.#put(text);
-    return this.#written(this.#calls.irikit_map_to_uri(this.#textAt, len, this.#outAt, this.#outSize, this.#told));
+    return this.#written(call(...before, this.#textAt, len, this.#outAt, this.#outSize, this.#told));
+  }
+
+  // Calls what writes a text made of two: the first one is put where a base is.
+  #madeOfTwo(call, base, text, ...before) {
+    this.#room(most(base), most(text));
+    this.#keep(base);
+    const len = put(text, this.#textBytes);
+    return this.#written(call(...before, this.#baseAt, this.#baseLen, this.#textAt, len, this.#outAt, this.#outSize, this.#told));
+  }
+
+  resolve(base, reference, grammar = URI) {
+    return this.#madeOfTwo(this.#calls.irikit_resolve, base, reference, grammar);
+  }
+
+  setFragment(text, fragment, grammar = URI) {
+    return this.#madeOfTwo(this.#calls.irikit_set_fragment, text, fragment, grammar);
+  }
+
+  normalize(text, grammar = URI, mode = NORMAL) {
+    return this.#made(this.#calls.irikit_normalize, text, grammar, mode);
+  }
+
+  encode(text, place, grammar = URI) {
+    return this.#made(this.#calls.irikit_encode, text, grammar, place);
+  }
+
+  decode(text) {
+    const len = this.#put(text);
+    this.#calls.irikit_decode(this.#textAt, len, this.#outAt, this.#outSize, this.#told);
+    return this.#bytes.slice(this.#out, this.#out + this.#words[0]);
+  }
+
+  maskPassword(text, grammar = URI) {
+    return this.#made(this.#calls.irikit_mask_password, text, grammar);
+  }
+
+  removeFragment(text, grammar = URI) {
+    return this.#made(this.#calls.irikit_remove_fragment, text, grammar);
+  }
+
+  mapToUri(text) {
+    return this.#made(this.#calls.irikit_map_to_uri, text);
   }
 
   faultWords(fault) {
@@ -155,4 +210,7 @@ class Kit {
   }
 }
 
-export { open, Kit, Refused, URI, IRI, NORMAL, BY_SCHEME, REFERENCE, WITH_SCHEME, ABSOLUTE, RELATIVE };
+export {
+  open, Kit, Refused, URI, IRI, NORMAL, BY_SCHEME, REFERENCE, WITH_SCHEME, ABSOLUTE, RELATIVE,
+  IN_REG_NAME, IN_USER, IN_SEGMENT, IN_PATH, IN_QUERY, IN_FRAGMENT, ANYWHERE, IN_REFERENCE,
+};

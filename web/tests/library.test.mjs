@@ -4,7 +4,8 @@ import { readFileSync } from "node:fs";
 import { test } from "node:test";
 import { folder, kit, library, rows } from "./kit.mjs";
 
-const { open, Refused, URI, IRI, NORMAL, REFERENCE, WITH_SCHEME, ABSOLUTE, RELATIVE } = library;
+const { open, Refused, URI, IRI, NORMAL, BY_SCHEME, REFERENCE, WITH_SCHEME, ABSOLUTE, RELATIVE } = library;
+const { IN_SEGMENT, IN_PATH, IN_QUERY, ANYWHERE } = library;
 const grammars = { uri: URI, iri: IRI };
 
 // The answer of `irikit canon`.
@@ -76,6 +77,43 @@ test("normal forms and the mapping to URIs", () => {
   assert.equal(kit.isNormalized("http://a/%C3%A9", URI), true);
   assert.equal(kit.isNormalized("http://a/%C3%A9", IRI, NORMAL), false);
   assert.equal(kit.mapToUri("http://a/\u00e9%41"), "http://a/%C3%A9%41");
+});
+
+// RFC 3986 section 5.4.
+test("references resolved", () => {
+  const wanted = {
+    "g:h": "g:h", g: "http://a/b/c/g", "../g": "http://a/b/g", "../../../g": "http://a/g", "?y": "http://a/b/c/d;p?y",
+    "%7e": "http://a/b/c/%7e",
+  };
+  for (const [reference, text] of Object.entries(wanted)) assert.equal(kit.resolve("http://a/b/c/d;p?q", reference), text);
+  assert.deepEqual(refusal(() => kit.resolve("http://a/", "1a:b")), ["reference", 5, "invalid path"]);
+});
+
+test("normal forms of texts, encoding, decoding and edits", () => {
+  assert.equal(kit.normalize("HTTP://a:/%7e/../b"), "http://a/b");
+  assert.equal(kit.normalize("HTTP://a:80", URI, BY_SCHEME), "http://a/");
+  assert.equal(kit.encode("50% off/a", IN_SEGMENT), "50%25%20off%2Fa");
+  assert.equal(kit.encode("\u00e9/?", IN_PATH), "%C3%A9/%3F");
+  assert.equal(kit.encode("\u00e9/?", IN_QUERY, IRI), "\u00e9/?");
+  assert.equal(kit.encode("a/b", ANYWHERE), "a%2Fb");
+  assert.deepEqual([...kit.decode("%ff%4x%41")], [255, 37, 52, 120, 65]);
+  assert.equal(kit.maskPassword("http://u:pw@h/"), "http://u:@h/");
+  assert.equal(kit.removeFragment("a?b#c"), "a?b");
+  assert.equal(kit.setFragment("a?b#c", "d"), "a?b#d");
+  assert.deepEqual(refusal(() => kit.setFragment("a", "#")), ["part", 7, "invalid fragment"]);
+  assert.deepEqual(refusal(() => kit.encode("a", 8)), ["call", null, "no such number"]);
+});
+
+test("many lines in one call", () => {
+  const all = rows("rows.txt").filter((row) => row[1] === "http://a/b/c/d;p?q" && row[0] === "uri");
+  const lines = all.map((row) => `${row[2]}\n`).join(""), answers = all.map((row) => `${row[3]}\n`).join("");
+  assert.ok(all.length > 30);
+  assert.equal(kit.canonicalLines("http://a/b/c/d;p?q", lines), answers);
+  assert.equal(kit.canonicalLines("http://a/b/c/d;p?q", lines.repeat(2000)), answers.repeat(2000));
+  assert.equal(kit.canonicalLines("http://a/", "b\r\nc"), "ok http://a/b\n");
+  assert.deepEqual(refusal(() => kit.canonicalLines("http://a/#f", "b\n")), ["base", 8, "unexpected fragment"]);
+  const base = `http://h/${"a/".repeat(5000)}`;
+  assert.equal(kit.canonicalLines(base, "b\n".repeat(100)), `ok ${base}b\n`.repeat(100));
 });
 
 test("a base stays between calls, and another takes its place", () => {
