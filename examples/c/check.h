@@ -12,12 +12,12 @@ static inline size_t wrong(int holds, const char *what) {
 }
 
 /* Whether a buffer of this size in which `told` bytes of a text of this length were to stand has its first bytes, and
- * behind them dots as before. */
+ * after them dots as before. */
 static inline int is_over(const char *out, size_t size, const char *text, size_t len, size_t room) {
-    size_t front = size < len ? size : len;
-    if (memcmp(out, text, front))
+    size_t prefix = size < len ? size : len;
+    if (memcmp(out, text, prefix))
         return 0;
-    for (size_t i = front; i < room; i++)
+    for (size_t i = prefix; i < room; i++)
         if (out[i] != '.')
             return 0;
     return 1;

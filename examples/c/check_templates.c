@@ -1,5 +1,5 @@
 /* check_templates ROWS: the examples of RFC 6570, each in a buffer of each size; faults and their places; variables that
- * aren't as their kind asks; pieces that are empty; the layout of the structs. Names each that fails. */
+ * aren't as their kind asks; pieces that are empty; names of variables. Names each that fails. */
 #define _GNU_SOURCE
 #include "check.h"
 
@@ -65,7 +65,7 @@ static size_t check_refused(const char *template_text, size_t fault, size_t want
                         "", 0, sizeof out), template_text);
 }
 
-/* One variable that isn't as its kind asks, behind one that is. */
+/* One variable that isn't as its kind asks, after one that is. */
 static size_t check_variable(struct irikit_variable second, uint8_t status, const char *what) {
     struct irikit_variable both[] = {STRING("v", "6"), second};
     char out[8];
@@ -115,9 +115,40 @@ static size_t check_others(void) {
                         "an IRI's literal");
     failed += wrong(irikit_expand(0, "\xc3\xa9", 2, NULL, 0, out, 8, &told, &place) == IRIKIT_OK && told == 6,
                         "a URI's literal");
-    failed += wrong(sizeof(struct irikit_text) == 2 * sizeof(size_t) && sizeof(struct irikit_variable) == 5 * sizeof(size_t)
-                        && offsetof(struct irikit_variable, kind) == 2 * sizeof(size_t)
-                        && offsetof(struct irikit_variable, values) == 3 * sizeof(size_t), "the layout of the structs");
+    return failed;
+}
+
+/* The names of variables in a buffer of each size. */
+static size_t check_names(const char *text, const char *wanted) {
+    size_t failed = 0, len = strlen(wanted);
+    for (size_t size = 0; size <= len + 1; size++) {
+        char out[64];
+        size_t told = 9, place = 9;
+        memset(out, '.', sizeof out);
+        uint8_t status = irikit_template_variables(text, strlen(text), out, size, &told, &place);
+        failed += wrong(status == (size < len ? IRIKIT_SHORT : IRIKIT_OK) && told == len && !place
+                            && is_over(out, size, wanted, len, sizeof out), text);
+    }
+    return failed;
+}
+
+/* The templates of RFC 6570 sections 1.1 and 1.2, and faults with their places. */
+static size_t check_variable_names(void) {
+    static const struct { const char *text; size_t fault, place; } refused[] = {
+        {"ab{", IRIKIT_EXPRESSION_NOT_CLOSED, 2}, {"a}", IRIKIT_INVALID_CHARACTER, 1}, {"\xff", IRIKIT_TEMPLATE_INVALID_UTF8, 0},
+        {"{=v}", IRIKIT_UNSUPPORTED_OPERATOR, 1}, {"a%4", IRIKIT_INVALID_PERCENT_ENCODING, 1},
+    };
+    size_t failed = 0, told = 9, place = 9;
+    failed += check_names("http://example.com/~{username}/", "username\n");
+    failed += check_names("http://example.com/dictionary/{term:1}/{term}", "term\nterm\n");
+    failed += check_names("http://www.example.com/foo{?query,number}", "query\nnumber\n");
+    failed += check_names("{+x,hello,y}{;list*}{a%41.b_}", "x\nhello\ny\nlist\na%41.b_\n") + check_names("/a", "");
+    for (size_t i = 0; i < sizeof refused / sizeof *refused; i++) {
+        const char *text = refused[i].text;
+        uint8_t status = irikit_template_variables(text, strlen(text), NULL, 0, &told, &place);
+        failed += wrong(status == IRIKIT_BAD_TEXT && told == refused[i].fault && place == refused[i].place, text);
+    }
+    failed += wrong(irikit_template_variables(NULL, 0, NULL, 0, &told, &place) == IRIKIT_OK && !told && !place, "NULL without names");
     return failed;
 }
 
@@ -125,7 +156,7 @@ int main(int argc, char **argv) {
     size_t failed = 0, rows = 0;
     if (argc != 2)
         return 2;
-    failed += check_rows(argv[1], &rows) + check_variables() + check_others();
+    failed += check_rows(argv[1], &rows) + check_variables() + check_others() + check_variable_names();
     failed += check_refused("ab{", IRIKIT_EXPRESSION_NOT_CLOSED, 2) + check_refused("a}", IRIKIT_INVALID_CHARACTER, 1);
     failed += check_refused("\xff", IRIKIT_TEMPLATE_INVALID_UTF8, 0) + check_refused("{=v}", IRIKIT_UNSUPPORTED_OPERATOR,
                         1);

@@ -14,6 +14,13 @@
 //! - [`format`](mod@format) shows values to sinks, [`streams`] reads lines and writes bytes.
 //! - [`prelude`] has the traits whose methods these give: `use iri::prelude::*;`.
 //!
+//! What a call may answer besides what was asked for stands in its docs with the cause, under `# Errors` where it is an
+//! error. *Exactly where* says that it comes there and nowhere else, but that it yields to an allocation that fails;
+//! *only where*, that it never comes without its cause. Every call returns, whatever texts, bytes and values it is given,
+//! and none panics. A call takes memory only where it takes an allocator, or adds to a value that keeps one; no clause
+//! says why an allocation fails, and tests show that there is none that fails with ample memory. A call with a condition
+//! names the call that tests it.
+//!
 //! Each example in the docs is the body of a test: `rt` is its runtime, and its first error ends it.
 //!
 //! ```

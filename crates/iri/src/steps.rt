@@ -2,7 +2,10 @@
 
 pub use iri_normal::owned_target::Target;
 pub use iri_resolve::join::{join_steps, join_steps_in};
-pub use iri_resolve::normal_steps::{steps_to_normal, steps_to_normal_in};
+pub use iri_resolve::normal_steps::{
+    put_steps_in, show_steps, show_steps_in, steps_to_normal, steps_to_normal_in,
+};
 pub use iri_resolve::replay::{ReplayError, replay, replay_in};
 pub use iri_resolve::step::{Part, Step};
 pub use iri_resolve::step_list::StepList;
+pub use iri_resolve::step_sink::StepSink;

@@ -1,14 +1,15 @@
 -- What edits come to.
-use Rattle.std.specs.Prelude.{ℕ, List, Some, None}
+use Rattle.std.specs.Prelude.{ℕ, Bool, true, false, List, Some, None}
 use Rattle.iri_edit.specs.Fragment.{with_fragment}
-use Rattle.iri_edit.specs.Password.{masked, with_password}
+use Rattle.iri_edit.specs.Host.{host_of_text, is_replaced, with_host}
+use Rattle.iri_edit.specs.Password.{masked, with_password, without_password}
 use Rattle.iri_grammar.specs.Classes.{Tests}
-use Rattle.iri_grammar.specs.Fault.{bytes_fault, fragment_fault}
+use Rattle.iri_grammar.specs.Fault.{bytes_fault, fragment_fault, host_fault}
 use Rattle.iri_grammar.specs.WholeFault.{reference_fault}
 use Rattle.iri_c.specs.Encodings.{no_fault}
-use Rattle.iri_c.specs.Numbers.{bad_text, bad_part, grammar_of}
+use Rattle.iri_c.specs.Numbers.{bad_text, bad_part, no_host, grammar_of}
 use Rattle.iri_c.specs.Outcome.{Outcome}
-use Rattle.iri_c.specs.Outcome.Outcome.{text}
+use Rattle.iri_c.specs.Outcome.Outcome.{text, plain}
 use Rattle.iri_c.specs.Outcomes.{unless_fault, in_grammar}
 
 -- what follows where a text is a reference
@@ -21,6 +22,13 @@ masked_in t s = of_reference t s (text (masked t))
 
 abbrev pub masked_outcome : ℕ → List ℕ → Outcome
 masked_outcome grammar t = in_grammar (grammar_of grammar) (masked_in t)
+
+-- a reference without its password and the colon before it
+abbrev pub removed_in : List ℕ → Tests → Outcome
+removed_in t s = of_reference t s (text (without_password t))
+
+abbrev pub removed_outcome : ℕ → List ℕ → Outcome
+removed_outcome grammar t = in_grammar (grammar_of grammar) (removed_in t)
 
 -- a reference with another text, in UTF-8, in place of its password: the reference is judged first
 abbrev pub password_in : List ℕ → List ℕ → Tests → Outcome
@@ -43,3 +51,18 @@ fragment_in t f s =
 
 abbrev pub fragment_outcome : ℕ → List ℕ → List ℕ → Outcome
 fragment_outcome grammar t f = in_grammar (grammar_of grammar) (fragment_in t f)
+
+-- the text with another host, where it is replaced
+abbrev pub where_replaced : Bool → List ℕ → Outcome
+where_replaced true t = text t
+where_replaced false t = plain no_host
+
+-- a reference with another host, of names alone or of any host: the reference is judged first, then the new host, then whether
+-- there is a host to replace
+abbrev pub host_in : Bool → List ℕ → List ℕ → Tests → Outcome
+host_in names_only t h s =
+    of_reference t s (unless_fault bad_part (bytes_fault (host_fault s) h)
+    (where_replaced (is_replaced s names_only h (host_of_text t)) (with_host t h)))
+
+abbrev pub host_outcome : ℕ → Bool → List ℕ → List ℕ → Outcome
+host_outcome grammar names_only t h = in_grammar (grammar_of grammar) (host_in names_only t h)

@@ -1,7 +1,9 @@
 pub mod Buffers
+pub mod Building
 pub mod Edits
 pub mod Encodings
 pub mod Examples
+pub mod Forms
 pub mod Lines
 pub mod Numbers
 pub mod Outcome

@@ -3,6 +3,8 @@ use Rattle.std.specs.Prelude.{ℕ, cond, nat_eq, List, [], ◌∷◌, Option, So
 use Rattle.iri_grammar.specs.Classes.{Tests, uri_tests, iri_tests}
 use Rattle.iri_percent.specs.declared.canon_mode.CanonMode.{CanonMode}
 use Rattle.iri_percent.specs.declared.canon_mode.CanonMode.TheVariants.{Default, Scheme}
+use Rattle.iri_normal.specs.declared.mode.Mode.{Mode}
+use Rattle.iri_normal.specs.declared.mode.Mode.TheVariants.{Normal, ByScheme, Preserving}
 use Rattle.iri_grammar.specs.declared.error.ErrorKind.{ErrorKind}
 use Rattle.iri_grammar.specs.declared.error.ErrorKind.TheVariants.{InvalidScheme, InvalidUserInfo, InvalidHost, InvalidRegName}
 use Rattle.iri_grammar.specs.declared.error.ErrorKind.TheVariants.{InvalidPort, InvalidPath, InvalidQuery, InvalidFragment}
@@ -36,6 +38,9 @@ bad_variable = 7
 abbrev pub bad_part : ℕ
 bad_part = 8
 
+abbrev pub no_host : ℕ
+no_host = 9
+
 -- the grammars: URIs and IRIs
 abbrev pub grammar_of : ℕ → Option Tests
 grammar_of n = cond (nat_eq n 0) (Some uri_tests) (cond (nat_eq n 1) (Some iri_tests) None)
@@ -43,6 +48,10 @@ grammar_of n = cond (nat_eq n 0) (Some uri_tests) (cond (nat_eq n 1) (Some iri_t
 -- the modes: the normal form by the rules of every scheme, and by scheme rules too
 abbrev pub mode_numbered : ℕ → Option CanonMode
 mode_numbered n = cond (nat_eq n 0) (Some Default) (cond (nat_eq n 1) (Some Scheme) None)
+
+-- the normal forms of one text: those of the modes, and the one that preserves relative paths
+abbrev pub form_numbered : ℕ → Option Mode
+form_numbered n = cond (nat_eq n 0) (Some Normal) (cond (nat_eq n 1) (Some ByScheme) (cond (nat_eq n 2) (Some Preserving) None))
 
 -- the kinds of faults, in the order of their numbers
 abbrev pub kinds : List ErrorKind

@@ -9,8 +9,8 @@ use Rattle.iri_percent.specs.Mapping.{mapped}
 use Rattle.iri_percent.specs.declared.canon_mode.CanonMode.{CanonMode}
 use Rattle.iri_normal.specs.IsNormalized.{IsInMode}
 use Rattle.iri_normal.specs.NormalForm.{canonical_in}
-use Rattle.iri_normal.specs.declared.mode.Mode.TheVariants.{Normal}
-use Rattle.iri_c.specs.Numbers.{ok, not_normal, bad_text, bad_base, bad_reference, unknown, grammar_of, kinds, mode_numbered}
+use Rattle.iri_normal.specs.declared.mode.Mode.{Mode}
+use Rattle.iri_c.specs.Numbers.{ok, not_normal, bad_text, bad_base, bad_reference, unknown, grammar_of, kinds, form_numbered, mode_numbered}
 use Rattle.iri_c.specs.Outcome.{Outcome, Told}
 use Rattle.iri_c.specs.Outcome.Outcome.{text, fault, plain}
 
@@ -66,18 +66,19 @@ words_of (Some kind) = text (description kind)
 abbrev pub fault_words : ℕ → Outcome
 fault_words number = words_of (slice_get kinds number)
 
--- whether a `URI` is its own normal form
-abbrev pub OwnForm : Option ErrorKind → Tests → List ℕ → ℕ → ℕ → Type 0
-OwnForm (Some kind) s t told status = Told (fault bad_text kind) told status
-OwnForm None s t told status =
-    (told ≡ 0) × (((status ≡ ok) × IsInMode s Normal t) ⊎ ((status ≡ not_normal) × ¬ IsInMode s Normal t))
+-- whether a `URI` is its own normal form, by the number of that form
+abbrev pub OwnForm : Option ErrorKind → Tests → Mode → List ℕ → ℕ → ℕ → Type 0
+OwnForm (Some kind) s form t told status = Told (fault bad_text kind) told status
+OwnForm None s form t told status =
+    (told ≡ 0) × (((status ≡ ok) × IsInMode s form t) ⊎ ((status ≡ not_normal) × ¬ IsInMode s form t))
 
-abbrev pub NormalToldIn : List ℕ → ℕ → ℕ → Tests → Type 0
-NormalToldIn t told status s = OwnForm (bytes_fault (iri_fault s) t) s t told status
+abbrev pub NormalToldIn : Tests → Mode → List ℕ → ℕ → ℕ → Type 0
+NormalToldIn s form t told status = OwnForm (bytes_fault (iri_fault s) t) s form t told status
 
-abbrev pub NormalToldBy : Option Tests → List ℕ → ℕ → ℕ → Type 0
-NormalToldBy None t told status = Told (plain unknown) told status
-NormalToldBy (Some s) t told status = NormalToldIn t told status s
+abbrev pub NormalToldBy : Option Tests → Option Mode → List ℕ → ℕ → ℕ → Type 0
+NormalToldBy (Some s) (Some form) t told status = NormalToldIn s form t told status
+NormalToldBy (Some s) None t told status = Told (plain unknown) told status
+NormalToldBy None form t told status = Told (plain unknown) told status
 
 abbrev pub NormalTold : ℕ → ℕ → List ℕ → ℕ → ℕ → Type 0
-NormalTold grammar mode t told status = NormalToldBy (cond (nat_eq mode 0) (grammar_of grammar) None) t told status
+NormalTold grammar form t told status = NormalToldBy (grammar_of grammar) (form_numbered form) t told status

@@ -1,7 +1,7 @@
 // References with one part changed (RFC 3986 sections 3.2.1, 3.5 and 7.5).
 ghost use Rattle.std.specs.Prelude.{◌≡◌};
 ghost use Rattle.iri_c.specs.Edits.{masked_in, masked_outcome, cut_in, cut_outcome, fragment_in, fragment_outcome};
-ghost use Rattle.iri_c.specs.Edits.{password_in, password_outcome};
+ghost use Rattle.iri_c.specs.Edits.{password_in, password_outcome, removed_in, removed_outcome};
 ghost use Rattle.iri_c.specs.Outcome.{Answered};
 ghost use Rattle.iri_grammar.specs.Cut.{before};
 ghost use Rattle.iri_types.specs.Texts.{text};
@@ -11,6 +11,7 @@ use crate::fault::{answer, answer_fault};
 use crate::grammar::{IRI, URI};
 use crate::status::{BAD_PART, BAD_TEXT, UNKNOWN};
 use iri_edit::password::MaskPassword;
+use iri_edit::shown_removal::without_password;
 use iri_grammar::cutting::cut_before;
 use iri_grammar::error::ErrorKind;
 use iri_grammar::spec::{IriSpec, Spec, UriSpec};
@@ -40,6 +41,33 @@ pub extern "C" fn irikit_mask_password(
     match grammar {
         URI => mask_in::<UriSpec>(text, out, told),
         IRI => mask_in::<IriSpec>(text, out, told),
+        _ => answer(UNKNOWN, told),
+    }
+}
+
+// The text without its password and the colon before it in one grammar.
+fn remove_password_in<S: Spec>(text: &[u8], out: &mut [u8], told: &mut usize) -> u8
+    ensures { Answered (removed_in text.now S.tests) out.old out.new told.new result }
+{
+    match RiReferenceStr::<S>::try_from_bytes(text) {
+        Ok(view) => answer_text(out, &without_password(view), told),
+        Err(error) => answer_fault(BAD_TEXT, error.kind(), told),
+    }
+}
+
+/// A reference without its password and the colon before it.
+#[unsafe(no_mangle)]
+pub extern "C" fn irikit_remove_password(
+    grammar: u8,
+    text: &[u8],
+    out: &mut [u8],
+    told: &mut usize,
+) -> u8
+    ensures { Answered (removed_outcome grammar text.now) out.old out.new told.new result }
+{
+    match grammar {
+        URI => remove_password_in::<UriSpec>(text, out, told),
+        IRI => remove_password_in::<IriSpec>(text, out, told),
         _ => answer(UNKNOWN, told),
     }
 }

@@ -15,7 +15,11 @@ pub const NORMAL: u8 = 0;
 
 /// That, by scheme rules too (section 6.2.3): without the scheme's default port, and with `/` for an empty path beside
 /// an authority.
-const BY_SCHEME: u8 = 1;
+pub const BY_SCHEME: u8 = 1;
+
+/// That of section 6.2.2, but a path without authority that doesn't begin with a slash keeps its dot segments. It is a form of
+/// one text alone, and no mode of canonical texts.
+pub const PRESERVING: u8 = 2;
 
 /// The mode of this number.
 pub fn mode_of(mode: u8) -> Option<CanonMode>

@@ -1,6 +1,6 @@
-//! The library for C and for what calls C: canonical texts of one reference or many lines, resolution, normal forms, tests, splits,
-//! mappings, encodings, edits and templates over slices, which cross as a pointer and a length. `include/irikit.h` has the
-//! declarations and the numbers. Nothing here takes memory or keeps anything.
+//! The library for C and for what calls C: canonical texts of one reference or many lines, resolution, normal forms and the steps to
+//! them, tests, splits, mappings, encodings, edits and templates over slices, which cross as a pointer and a length.
+//! `include/irikit.h` has the declarations and the numbers. Nothing here takes memory or keeps anything.
 //!
 //! Proved: each call answers by its outcome (`Answered`), which is a function of what is passed: an unknown number, the first fault
 //! and whose it is, or a text. A text is written over the start of the caller's buffer as far as there is room, what lies behind it
@@ -11,22 +11,28 @@
 #![tactic(auto)]
 
 mod buffer;
+mod building;
 mod canonical;
 mod decoding;
 mod edits;
 mod encoding;
 mod fault;
 mod grammar;
+mod hosts;
 mod lines;
 mod mapping;
+mod names;
 mod normal;
 mod parts;
 mod resolve;
 mod status;
+mod steps;
+mod target;
 mod template;
 mod validation;
 mod variables;
 
+pub use building::Part;
 pub use parts::{AuthoritySlots, Slot, Slots};
 pub use variables::{Text, Variable};
 

@@ -24,5 +24,8 @@ pub const UNKNOWN: u8 = 6;
 /// A variable hasn't as many texts as its kind asks, or has one that isn't UTF-8.
 pub const BAD_VARIABLE: u8 = 7;
 
-/// The text is valid, and what is to stand in it is refused.
+/// The text is valid, or there is none yet, and what is to stand in it is refused.
 pub const BAD_PART: u8 = 8;
+
+/// The text has no host, or none of the kind that may be replaced.
+pub const NO_HOST: u8 = 9;

@@ -30,7 +30,7 @@ fn number_of(kind: ErrorKind) -> usize
 }
 
 // Tells why a template is refused, and where.
-fn refuse(error: &Error, told: &mut usize, place: &mut usize) -> u8
+pub(crate) fn refuse(error: &Error, told: &mut usize, place: &mut usize) -> u8
     ensures { Refused error.now told.new place.new result }
 {
     *told = number_of(error.kind());

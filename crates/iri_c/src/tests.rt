@@ -1,16 +1,22 @@
 // What the calls answer: rows of the RFCs, room for each length, and unknown numbers.
+use crate::building::{Part, irikit_build};
 use crate::canonical::irikit_canonical;
 use crate::decoding::irikit_decode;
 use crate::edits::{
-    irikit_mask_password, irikit_remove_fragment, irikit_replace_password, irikit_set_fragment,
+    irikit_mask_password, irikit_remove_fragment, irikit_remove_password, irikit_replace_password,
+    irikit_set_fragment,
 };
 use crate::encoding::irikit_encode;
 use crate::fault::irikit_fault_words;
+use crate::hosts::{irikit_replace_host, irikit_replace_reg_name};
 use crate::lines::irikit_canonical_lines;
 use crate::mapping::irikit_map_to_uri;
+use crate::names::irikit_template_variables;
 use crate::normal::{irikit_is_normalized, irikit_normalize};
 use crate::parts::{AuthoritySlots, Slot, Slots, irikit_split};
 use crate::resolve::irikit_resolve;
+use crate::steps::irikit_steps;
+use crate::target::irikit_target;
 use crate::template::{irikit_expand, irikit_template_fault_words};
 use crate::validation::irikit_validate;
 use crate::variables::{Text, Variable};
@@ -129,7 +135,11 @@ fn normal_forms(rt: HostRuntime) {
     assert!(rt; irikit_is_normalized(0, 0, b"http://a/%2f", &mut told) == 2 && told == 0);
     assert!(rt; irikit_is_normalized(1, 0, b"http://a/%C3%A9", &mut told) == 2);
     assert!(rt; irikit_is_normalized(0, 0, b"a", &mut told) == 3 && told == 9);
-    assert!(rt; irikit_is_normalized(0, 1, b"a:", &mut told) == 6);
+    assert!(rt; irikit_is_normalized(0, 0, b"http://a:80/", &mut told) == 0);
+    assert!(rt; irikit_is_normalized(0, 1, b"http://a:80/", &mut told) == 2);
+    assert!(rt; irikit_is_normalized(0, 2, b"a:b/../c", &mut told) == 0);
+    assert!(rt; irikit_is_normalized(0, 0, b"a:b/../c", &mut told) == 2);
+    assert!(rt; irikit_is_normalized(0, 3, b"a:", &mut told) == 6);
     assert!(rt; irikit_is_normalized(2, 0, b"a:", &mut told) == 6);
 }
 
@@ -208,6 +218,8 @@ fn edits(rt: HostRuntime) {
     let mut told = 9;
     assert!(rt; irikit_mask_password(0, b"http://u:pw@h/", &mut out, &mut told) == 0);
     assert!(rt; out.starts_with(b"http://u:@h/."));
+    assert!(rt; irikit_remove_password(0, b"http://u:pw@h/", &mut out, &mut told) == 0);
+    assert!(rt; told == 11 && out.starts_with(b"http://u@h/"));
     assert!(rt; irikit_replace_password(0, b"//u:p@h", b"***", &mut out, &mut told) == 0);
     assert!(rt; told == 9 && out.starts_with(b"//u:***@h"));
     assert!(rt; irikit_remove_fragment(0, b"a?b#c", &mut out, &mut told) == 0 && told == 3);
@@ -218,4 +230,123 @@ fn edits(rt: HostRuntime) {
     assert!(rt; out.starts_with(b"http://A/%7e"));
     assert!(rt; irikit_normalize(0, 1, b"HTTP://a:80", &mut out, &mut told) == 0 && told == 9);
     assert!(rt; out.starts_with(b"http://a/"));
+}
+
+#[test]
+fn hosts(rt: HostRuntime) {
+    let mut out = [b'.'; 64];
+    let mut told = 9;
+    let text = b"http://u@192.0.2.16:80/?q";
+    assert!(rt; irikit_replace_host(0, text, b"[2001:db8::7]", &mut out, &mut told) == 0);
+    assert!(rt; told == 28 && out.starts_with(b"http://u@[2001:db8::7]:80/?q."));
+    assert!(rt; irikit_replace_reg_name(0, text, b"h", &mut out, &mut told) == 9 && told == 0);
+    assert!(rt; irikit_replace_reg_name(0, b"//a/", b"h", &mut out, &mut told) == 0);
+    assert!(rt; told == 4 && out.starts_with(b"//h/"));
+    assert!(rt; irikit_replace_host(0, b"a:b", b"h", &mut out, &mut told) == 9);
+    assert!(rt; irikit_replace_host(0, b"//a", b"[", &mut out, &mut told) == 8 && told == 2);
+    assert!(rt; irikit_replace_host(0, b"//a", b"\xff", &mut out, &mut told) == 8 && told == 10);
+    assert!(rt; irikit_replace_host(0, b"%", b"[", &mut out, &mut told) == 3 && told == 5);
+    assert!(rt; irikit_replace_host(2, b"//a", b"h", &mut out, &mut told) == 6);
+}
+
+// The example of RFC 3986 section 3.
+#[test]
+fn built(rt: HostRuntime) {
+    let mut out = [b'.'; 64];
+    let mut told = 9;
+    let rows: [(usize, &[u8]); 7] = [
+        (6, b"nose"),
+        (0, b"foo"),
+        (4, b"no path"),
+        (2, b"example.com"),
+        (3, b"8042"),
+        (5, b"name=ferret"),
+        (4, b"/over/there"),
+    ];
+    let parts = rows.map(|row| Part {
+        part: row.0,
+        text: Text { bytes: row.1 },
+    });
+    let text = b"foo://example.com:8042/over/there?name=ferret#nose";
+    assert!(rt; irikit_build(0, 1, &parts, &mut out, &mut told) == 0 && told == 50);
+    assert!(rt; out.starts_with(text));
+    assert!(rt; irikit_build(0, 2, &parts, &mut out, &mut told) == 8 && told == 8);
+    assert!(rt; irikit_build(0, 1, &parts[..1], &mut out, &mut told) == 8 && told == 9);
+    assert!(rt; irikit_build(0, 0, &parts[2..3], &mut out, &mut told) == 8 && told == 5);
+    assert!(rt; irikit_build(0, 0, &parts[3..4], &mut out, &mut told) == 0 && told == 13);
+    assert!(rt; irikit_build(0, 0, &[], &mut out, &mut told) == 0 && told == 0);
+    assert!(rt; irikit_build(0, 4, &parts, &mut out, &mut told) == 6 && told == 0);
+    let none = [Part {
+        part: 7,
+        text: Text { bytes: b"\xff" },
+    }];
+    assert!(rt; irikit_build(0, 0, &none, &mut out, &mut told) == 6);
+    let no_text = [Part {
+        part: 2,
+        text: Text { bytes: b"\xff" },
+    }];
+    assert!(rt; irikit_build(2, 0, &no_text, &mut out, &mut told) == 8 && told == 10);
+}
+
+// The example of RFC 6570 section 1.1, with a name twice.
+#[test]
+fn names(rt: HostRuntime) {
+    let mut out = [b'.'; 64];
+    let (mut told, mut place) = (9, 9);
+    let text = b"http://example.com/~{username}/{term:1}/{term}{?q*,lang}";
+    let status = irikit_template_variables(text, &mut out, &mut told, &mut place);
+    assert!(rt; status == 0 && told == 26 && place == 0);
+    assert!(rt; out.starts_with(b"username\nterm\nterm\nq\nlang\n."));
+    let status = irikit_template_variables(b"ab{", &mut out, &mut told, &mut place);
+    assert!(rt; status == 3 && told == 0 && place == 2);
+    let status = irikit_template_variables(b"ab", &mut [], &mut told, &mut place);
+    assert!(rt; status == 0 && told == 0 && place == 0);
+}
+
+// The example of RFC 3986 section 6.2.2; hosts and ports; the rules of schemes; what only IRIs decode.
+#[test]
+fn steps(rt: HostRuntime) {
+    let mut out = [b'.'; 128];
+    let mut told = 9;
+    let example = b"exAmple://a/./b/../b/%63/%7bfoo%7d";
+    let words =
+        b"scheme letter 2\ndecode path 10\nhex digit path 14\nhex digit path 20\ndot segments\n.";
+    assert!(rt; irikit_steps(0, 0, example, &mut out, &mut told) == 0 && told == 80);
+    assert!(rt; out.starts_with(words));
+    assert!(rt; irikit_steps(0, 0, example, &mut out[..5], &mut told) == 1 && told == 80);
+    let host = b"host letter 3\ndecode authority 4\nhost letter 4\nempty port\n";
+    let rows: [(u8, u8, &[u8], &[u8]); 8] = [
+        (0, 0, b"http://a:80", b""),
+        (0, 1, b"http://a:80", b"default port\nempty path\n"),
+        (0, 1, b"http://a:", b"empty port\nempty path\n"),
+        (0, 0, b"a://u@bC%41:", host),
+        (0, 0, b"a:?%7e", b"decode query 0\n"),
+        (0, 1, b"a:#%3a", b"hex digit fragment 2\n"),
+        (1, 1, b"a:/%c3%a9", b"decode path 1\n"),
+        (1, 0, b"a:/..//b", b"dot segments\n"),
+    ];
+    for (grammar, mode, text, wanted) in rows {
+        assert!(rt; irikit_steps(grammar, mode, text, &mut out, &mut told) == 0);
+        assert!(rt; told == wanted.len() && out.starts_with(wanted));
+    }
+    assert!(rt; irikit_steps(0, 0, b"a", &mut out, &mut told) == 3 && told == 9);
+    assert!(rt; irikit_steps(0, 2, b"a:", &mut out, &mut told) == 6 && told == 0);
+    assert!(rt; irikit_steps(2, 0, b"a:", &mut out, &mut told) == 6);
+}
+
+// Targets keep dot segments (RFC 3986 section 5.2.2).
+#[test]
+fn targets(rt: HostRuntime) {
+    let mut out = [b'.'; 64];
+    let mut told = 9;
+    let base = b"HTTP://a/b/c/d;p?q";
+    assert!(rt; irikit_target(0, base, b"../%7eg", &mut out, &mut told) == 0 && told == 20);
+    assert!(rt; out.starts_with(b"HTTP://a/b/c/../%7eg."));
+    assert!(rt; irikit_target(0, base, b"", &mut out, &mut told) == 0 && told == 18);
+    assert!(rt; out.starts_with(base));
+    assert!(rt; irikit_target(1, base, "/\u{e9}".as_bytes(), &mut out, &mut told) == 0);
+    assert!(rt; told == 11 && out.starts_with("HTTP://a/\u{e9}".as_bytes()));
+    assert!(rt; irikit_target(0, base, b"%", &mut out, &mut told) == 5 && told == 5);
+    assert!(rt; irikit_target(0, b"a", b"%", &mut out, &mut told) == 4 && told == 9);
+    assert!(rt; irikit_target(2, base, b"", &mut out, &mut told) == 6 && told == 0);
 }

@@ -11,16 +11,16 @@ use iri_types::kind::{Absolute, Iri, Kind, Reference, Relative};
 use iri_types::view::View;
 
 /// `URI-reference` (RFC 3986 section 4.1).
-const REFERENCE: u8 = 0;
+pub(crate) const REFERENCE: u8 = 0;
 
 /// `URI`, with a scheme (section 3).
-const WITH_SCHEME: u8 = 1;
+pub(crate) const WITH_SCHEME: u8 = 1;
 
 /// `absolute-URI`, with a scheme and without a fragment (section 4.3).
-const ABSOLUTE: u8 = 2;
+pub(crate) const ABSOLUTE: u8 = 2;
 
 /// `relative-ref`, without a scheme (section 4.2).
-const RELATIVE: u8 = 3;
+pub(crate) const RELATIVE: u8 = 3;
 
 // Whether a text is of a kind.
 fn validate_as<S: Spec, K: Kind>(text: &[u8], told: &mut usize) -> u8

@@ -30,7 +30,7 @@ impl Show for Text<'_> {
 }
 
 // The text of bytes, where they are UTF-8; otherwise none.
-fn as_str(bytes: &[u8]) -> &str
+pub(crate) fn as_str(bytes: &[u8]) -> &str
     ensures { result.now ≡ shown (record { bytes = bytes.entry }) }
 {
     match str::from_utf8(bytes) {
@@ -133,7 +133,7 @@ fn fits_kind(kind: usize, count: usize) -> bool
     }
 }
 
-fn is_utf8(bytes: &[u8]) -> bool
+pub(crate) fn is_utf8(bytes: &[u8]) -> bool
     ensures { result ≡ is_utf8 bytes.now }
 {
     match str::from_utf8(bytes) {

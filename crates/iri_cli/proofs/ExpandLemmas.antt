@@ -14,15 +14,14 @@ use Rattle.iri_text.proofs.Puts.{Appends-none, room-same}
 use Rattle.iri_docs.specs.Expanded.{expansion_limit}
 use Rattle.iri_template.specs.Contexts.{value_at, value_in}
 use Rattle.iri_template.specs.Expansion.{expansion}
-use Rattle.iri_template.specs.Fault.{first, template_fault}
 use Rattle.iri_template.specs.HeldValues.{shown_value}
 use Rattle.iri_template.specs.Reading.{pieces_of}
 use Rattle.iri_template.specs.ShownValues.{optional}
-use Rattle.iri_template.specs.TypeFaults.{type_fault}
+use Rattle.iri_template.specs.TypeFaults.{expansion_fault}
 use Rattle.iri_template.specs.declared.error.Error.{Error}
 use Rattle.iri_template.specs.declared.simple_context.SimpleContext.{SimpleContext}
 use Rattle.iri_cli.specs.run.Limits.{answer_room, longest_line}
-use Rattle.iri_cli.specs.canon.Answer.{answer, answer_by, answer_in, refusal}
+use Rattle.iri_cli.specs.canon.Answers.{answer, answer_by, answer_in, refusal}
 use Rattle.iri_cli.specs.run.Answering.{Answering, AnswersLine, PutsAnswer}
 use Rattle.iri_cli.specs.canon.Puts.{PutsLine, told_of}
 use Rattle.iri_cli.specs.run.Ending.{Rules}
@@ -48,15 +47,13 @@ unfolding expansion_answer
 long_answer s base text h = let e : nat_lt expansion_limit (length text) ≡ true = grind (arith, nat_tests) in rw e refl
 
 -- a template without a fault, and one with a fault
-pub template_expanded : (s : Tests) (base : List ℕ) (values : Values) (t : List ℕ) → template_fault t ≡ None
-    → type_fault values (pieces_of t) ≡ None
+pub template_expanded : (s : Tests) (base : List ℕ) (values : Values) (t : List ℕ) → expansion_fault values t ≡ None
     → expansion_answer s base (expansion s values (pieces_of t)) ≡ template_answer s base values t
 unfolding template_answer
-template_expanded s base values t text types =
-    ap (λ f. unless_fault f (expansion_answer s base (expansion s values (pieces_of t)))) (sym types ∙ ap (λ f. first f (type_fault values (pieces_of t))) (sym text))
+template_expanded s base values t none = ap (λ f. unless_fault f (expansion_answer s base (expansion s values (pieces_of t)))) (sym none)
 
-pub template_refused : (s : Tests) (base : List ℕ) (values : Values) (t : List ℕ) (e : Error)
-    → first (template_fault t) (type_fault values (pieces_of t)) ≡ Some e → template_refusal e ≡ template_answer s base values t
+pub template_refused : (s : Tests) (base : List ℕ) (values : Values) (t : List ℕ) (e : Error) → expansion_fault values t ≡ Some e
+    → template_refusal e ≡ template_answer s base values t
 unfolding template_answer
 template_refused s base values t e is = ap (λ f. unless_fault f (expansion_answer s base (expansion s values (pieces_of t)))) (sym is)
 
@@ -80,7 +77,7 @@ expansion_good s base text = by_test (nat_lt expansion_limit (length text))
 pub template_good : (s : Tests) (base : List ℕ) (values : Values) (t : List ℕ)
     → is_ok_or_none (template_answer s base values t) ≡ is_ok (template_answer s base values t)
 unfolding template_answer
-template_good s base values t = by_fault (first (template_fault t) (type_fault values (pieces_of t)))
+template_good s base values t = by_fault (expansion_fault values t)
   where
     text : List ℕ
     text = expansion s values (pieces_of t)

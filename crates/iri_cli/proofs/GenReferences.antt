@@ -29,7 +29,7 @@ use Rattle.iri_grammar.specs.WholeFault.{absolute_fault, reference_fault, fault_
 use Rattle.iri_grammar.proofs.FaultLaws.{absolute-law, of_bytes, reference-utf8}
 use Rattle.iri_grammar.proofs.UriLaws.{absolute-wider}
 use Rattle.iri_grammar.specs.inside.Laws.{uri_is_spec}
-use Rattle.iri_cli.specs.canon.Answer.{refusal, words_of_fault}
+use Rattle.iri_cli.specs.canon.Answers.{refusal, words_of_fault}
 use Rattle.iri_cli.specs.generator.References.{gen_segments, gen_segment, more_segments, gen_reference, gen_base}
 
 -- ---- the segments of the table

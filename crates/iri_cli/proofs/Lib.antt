@@ -17,7 +17,9 @@ pub mod StatelessLemmas
 pub mod LinksLemmas
 pub mod VariableLemmas
 pub mod ExpandLemmas
+pub mod DocsLemmas
 pub mod PutLemmas
 pub mod RegisterLemmas
 pub mod RegisterLaws
 pub mod RobotsLemmas
+pub mod ToolLaws

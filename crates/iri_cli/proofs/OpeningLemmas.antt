@@ -6,7 +6,7 @@ use Rattle.iri_grammar.specs.WholeFault.{absolute_fault}
 use Rattle.iri_normal.proofs.CanonLemmas.{fault_none}
 use Rattle.iri_text.specs.Line.{LineState}
 use Rattle.iri_text.proofs.Puts.{Appends-none, room-same}
-use Rattle.iri_cli.specs.canon.Answer.{refusal}
+use Rattle.iri_cli.specs.canon.Answers.{refusal}
 use Rattle.iri_cli.specs.run.Answering.{Answering, IsReady}
 use Rattle.iri_cli.specs.run.Buffers.{AreBuffers}
 use Rattle.iri_cli.specs.run.Ending.{Rules, ending}

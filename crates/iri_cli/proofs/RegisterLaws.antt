@@ -12,7 +12,7 @@ use Rattle.iri_register.specs.Commands.{Command, Add, Remove, Line, live, stays}
 use Rattle.iri_register.specs.Shared as shared
 use Rattle.iri_register.proofs.GroupLemmas.{is_same}
 use Rattle.iri_register.proofs.ShareLemmas.{share_exactly, share_joined}
-use Rattle.iri_cli.specs.canon.Answer.{refusal}
+use Rattle.iri_cli.specs.canon.Answers.{refusal}
 use Rattle.iri_cli.specs.register.Lines.{RegisterLine, adds, removes, finds, bad, line_of, command_of, commands_from, entries_behind, unless_fault}
 use Rattle.iri_cli.specs.register.Shared.{TakesOut, IsLiveLine, ShareEntry}
 use Rattle.iri_cli.proofs.BytesLemmas.{base_absolute, line_reference}

@@ -144,19 +144,20 @@ on_told : {X : Type 0} (good : Bool) (r : Result (Unit {0}) Failed) → X → On
 on_told good (Ok x) h = h
 on_told good (Err f) h = tt
 
-answer_is : (s : Tests) (kept : Kept) (answered : ℕ) (at : Answering) (line text : List ℕ) → IsRegisterAt s kept answered at
+answer_is : (s : Tests) (against : List ℕ) (kept : Kept) (answered : ℕ) (at : Answering) (line text : List ℕ) → IsRegisterAt s against kept answered at
     → text ≡ answer_to s kept.base kept.entries (line_of line) → text ≡ at.rules.answer at.base at.between line
-answer_is s kept answered at line text is e =
+answer_is s against kept answered at line text is e =
     e ∙ ap (λ b. answer_to s b kept.entries (line_of line)) is.base_is
     ∙ ap (λ es. answer_to s at.base es (line_of line)) is.entries_are
     ∙ ap (λ (rules : Rules). rules.answer at.base at.between line) (sym is.rules)
 
-next_at : (s : Tests) (kept new : Kept) (answered count : ℕ) (at : Answering) (line : List ℕ) → IsRegisterAt s kept answered at
+next_at : (s : Tests) (against : List ℕ) (kept new : Kept) (answered count : ℕ) (at : Answering) (line : List ℕ) → IsRegisterAt s against kept answered at
     → count ≡ answered + 1 → new.base ≡ kept.base
     → new.entries ≡ obeyed_by kept.entries (command_of s kept.base (answered + 2) (line_of line))
-    → IsRegisterAt s new count (record at { between = at.between ++ line ∷ [] })
-next_at s kept new answered count at line is counted base entries = record {
+    → IsRegisterAt s against new count (record at { between = at.between ++ line ∷ [] })
+next_at s against kept new answered count at line is counted base entries = record {
   rules = is.rules;
+  own = is.own ∙ sym base;
   base_is = base ∙ is.base_is;
   entries_are =
       let number : answered + 2 ≡ 2 + length at.between = omega (arith, is.counted) in
@@ -167,24 +168,24 @@ next_at s kept new answered count at line is counted base entries = record {
   counted = let size = length-append at.between (line ∷ []) in omega (arith, counted, is.counted, size);
 }
 
-pub answers_line : (s : Tests) (kept new : Kept) (answered count : ℕ) (at : Answering) (line text : List ℕ) (wo wn : Option (List ℕ))
-    (fo fn : ℕ) (ro rn : Option ℕ) (good : Bool) (r : Result (Unit {0}) Failed) → IsRegisterAt s kept answered at
+pub answers_line : (s : Tests) (against : List ℕ) (kept new : Kept) (answered count : ℕ) (at : Answering) (line text : List ℕ) (wo wn : Option (List ℕ))
+    (fo fn : ℕ) (ro rn : Option ℕ) (good : Bool) (r : Result (Unit {0}) Failed) → IsRegisterAt s against kept answered at
     → count ≡ answered + 1 → new.base ≡ kept.base
     → new.entries ≡ obeyed_by kept.entries (command_of s kept.base (answered + 2) (line_of line))
     → text ≡ answer_to s kept.base kept.entries (line_of line) → good ≡ is_not_bad text → PutsAll wo wn fo fn ro rn r text
-    → AnswersLine (IsRegisterAt s new count) at line wo wn fo fn ro rn (told_of good r)
-answers_line s kept new answered count at line text wo wn fo fn ro rn good r is counted base entries answer good_is p =
-    let e = answer_is s kept answered at line text is answer in
+    → AnswersLine (IsRegisterAt s against new count) at line wo wn fo fn ro rn (told_of good r)
+answers_line s against kept new answered count at line text wo wn fo fn ro rn good r is counted base entries answer good_is p =
+    let e = answer_is s against kept answered at line text is answer in
     let test : good ≡ at.rules.is_good text = good_is ∙ ap (λ (rules : Rules). rules.is_good text) (sym is.rules) in
     record {
       puts = subst (λ t. PutsAnswer at.rules wo wn fo fn t (told_of good r)) e
           (said_of at.rules wo wn fo fn ro rn good r text p test);
-      next = on_told good r (next_at s kept new answered count at line is counted base entries);
+      next = on_told good r (next_at s against kept new answered count at line is counted base entries);
       room = subst (λ t. KeepsRoom ro rn t (told_of good r ≢ Err SinkFailed)) e (line_room good r text p);
     }
 
 -- an empty register stands behind a base line
 pub register_opened : (s : Tests) (kept : Kept) (line : List ℕ) → kept.base ≡ line → kept.entries ≡ []
-    → IsRegisterAt s kept 0 (begun (register_rules s) line)
+    → IsRegisterAt s line kept 0 (begun (register_rules s) line)
 register_opened s kept line own none =
-    record { rules = refl; base_is = own; entries_are = none ∙ sym (entries_none s line); counted = refl }
+    record { rules = refl; own = sym own; base_is = own; entries_are = none ∙ sym (entries_none s line); counted = refl }

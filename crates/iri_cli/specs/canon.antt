@@ -1,5 +1,5 @@
 -- The command `canon`.
-pub mod Answer
+pub mod Answers
 pub mod Prepared
 pub mod Puts
 pub mod SchemeExamples

@@ -1,3 +1,4 @@
 -- The command `docs`.
 pub mod Answers
+pub mod Expansions
 pub mod Examples

@@ -1,5 +1,6 @@
 -- What private contracts cite.
 pub mod ExpandAt
+pub mod DocsAt
 pub mod Opening
 pub mod Said
 pub mod Asked

@@ -1,3 +1,4 @@
 -- The command `links`.
 pub mod Answers
+pub mod FieldValues
 pub mod Examples

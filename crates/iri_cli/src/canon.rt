@@ -6,12 +6,12 @@ ghost use Rattle.iri_types.specs.SplitText.{split_text};
 ghost use Rattle.iri_types.specs.Texts.{text};
 ghost use Rattle.iri_normal.specs.NormalForm.{canonical_in};
 ghost use Rattle.iri_normal.specs.Resolver.{base_text};
-ghost use Rattle.iri_cli.specs.canon.Answer.{refusal, answer_in};
+ghost use Rattle.iri_cli.specs.canon.Answers.{refusal, answer_in};
 ghost use Rattle.iri_cli.specs.canon.Puts.{PutsLine};
 ghost use Rattle.iri_cli.specs.declared.run.answers.AnswerError.TheVariants.{SinkFailed};
 ghost use Rattle.iri_text.specs.LineEnds.{line_feed};
 
-pub(crate) mod lines;
+pub(crate) mod calls;
 pub(crate) mod prepared;
 
 use crate::canon::prepared::prepare_base;
@@ -28,7 +28,7 @@ use iri_types::split::SplitView;
 use iri_types::view::RiAbsoluteStr;
 
 /// The base of a base line, or in words why it is refused.
-#[tactic(auto, unfolding(crate::specs::canon::Answer::refusal))]
+#[tactic(auto, unfolding(crate::specs::canon::Answers::refusal))]
 pub fn base_of<S: Spec>(line: &[u8]) -> Result<RiAbsoluteStr<'_, S>, &'static str>
     ensures { MatchResult result (λ base. (text base ≡ line.now) × (refusal S.tests line.now ≡ None))
         (λ words. refusal S.tests line.now ≡ Some words.now) }

@@ -1,50 +1,89 @@
 // The answers of `docs`.
-ghost use Rattle.std.specs.Prelude.{◌≡◌, IfOk, string_bytes};
-ghost use Rattle.iri_docs.specs.Held.{held};
-ghost use Rattle.iri_types.specs.Texts.{text};
-ghost use Rattle.iri_cli.specs.docs.Answers.{docs_answer, document_answer};
+ghost use Rattle.std.specs.Prelude.{◌++◌, ◌∷◌, []};
+ghost use Rattle.iri_docs.specs.ErrorTexts.{description};
+ghost use Rattle.iri_text.specs.LineEnds.{line_feed};
+ghost use Rattle.iri_text.specs.Sink.{PutsAll};
 
-use crate::run::stateless::{Stateless, shown_line};
+use crate::canon::base_of;
+use crate::expand::put_template;
+use crate::run::answers::{AnswerError, Answers, BaseError};
+use crate::run::puts::told;
 use iri_docs::doc_error::DocError;
-use iri_docs::document::Document;
-use iri_docs::expand::expand_document;
-use iri_docs::expand_error::DocExpandError;
+use iri_docs::expand::EXPANSION_LIMIT;
 use iri_docs::read::read_document;
 use iri_grammar::spec::Spec;
-use iri_types::view::RiAbsoluteStr;
-use std::alloc::{AllocError, Global};
+use iri_normal::resolver::FixedBaseResolver;
+use iri_text::{Failed, Sink};
+use std::alloc::Global;
 
-// The answer to a document.
-fn answer_to_document<S: Spec>(
-    alloc: Global,
-    base: RiAbsoluteStr<'_, S>,
-    document: &Document,
-) -> Result<String, AllocError>
-    ensures { IfOk result (λ t. string_bytes t ≡ document_answer S.tests (text base.entry) (held document.now)) }
+// Why a line is no document, and an LF.
+fn put_refusal<O: Sink>(sink: &mut O, error: DocError) -> Result<(), Failed>
+    ensures { PutsAll (O.written sink.old) (O.written sink.new) (O.faults sink.old) (O.faults sink.new)
+        (O.room_left sink.old) (O.room_left sink.new) result (description error ++ line_feed ∷ []) }
 {
-    match expand_document(alloc, base, document) {
-        Ok(expanded) => shown_line(alloc, "ok ", &expanded.as_str()),
-        Err(DocExpandError::Memory) => Err(AllocError),
-        Err(error) => shown_line(alloc, "", &error),
-    }
+    sink.put_all(error.description().as_bytes())?;
+    sink.put_all(b"\n")
 }
 
-/// Answers a template document in JSON by the canonical text of its expansion.
-pub enum Docs {}
+/// Answers each template document in JSON as `expand` answers its template, where variables have its values.
+#[derive(Drop)]
+pub struct Docs {
+    alloc: Global,
+    expansion: Vec<u8>,
+    output: Vec<u8>,
+}
 
-impl Stateless for Docs {
-    ghost answer = { docs_answer };
+impl<S: Spec> Answers<S> for Docs {
+    type Start = Global;
 
-    #[tactic(auto, unfolding(crate::specs::docs::Answers::docs_answer))]
-    fn answer_to<S: Spec>(
-        alloc: Global,
-        base: RiAbsoluteStr<'_, S>,
-        line: &[u8],
-    ) -> Result<String, AllocError> {
-        match read_document(alloc, line) {
-            Ok(document) => answer_to_document(alloc, base, &document),
-            Err(DocError::Memory) => Err(AllocError),
-            Err(error) => shown_line(alloc, "", &error),
+    ghost use Rattle.std.specs.Prelude.{refl};
+    ghost use Rattle.std.specs.Vec.{vec_capacity};
+    ghost use Rattle.iri_cli.specs.inside.DocsAt.{IsDocsAt};
+    ghost use Rattle.iri_cli.specs.run.Words.{docs_rules};
+
+    ghost rules = { λ alloc. docs_rules S.tests };
+
+    ghost begins = { λ alloc. record { line_limit = refl; input_limit = refl; refusal = refl } };
+
+    ghost stands_at = { λ d base at. IsDocsAt S.tests base d.expansion.items (vec_capacity d.output) at };
+
+    fn open(alloc: Global, base: &mut Vec<u8>, output: Vec<u8>) -> Result<Self, BaseError> {
+        match base_of::<S>(base) {
+            Ok(_) => match vec![in alloc; 0; EXPANSION_LIMIT] {
+                Ok(expansion) => Ok(Docs {
+                    alloc,
+                    expansion,
+                    output,
+                }),
+                Err(_) => Err(BaseError::Memory),
+            },
+            Err(words) => Err(BaseError::Refused(words)),
         }
+    }
+
+    fn answer<O: Sink>(
+        &mut self,
+        resolver: &FixedBaseResolver<'_, S>,
+        line: &[u8],
+        sink: &mut O,
+    ) -> Result<bool, AnswerError> {
+        match read_document(self.alloc, line) {
+            Ok(document) => put_template::<S, O>(
+                sink,
+                &mut self.output,
+                &mut self.expansion,
+                *resolver,
+                document.context(),
+                document.template().as_bytes(),
+            ),
+            Err(error) => match error {
+                DocError::Memory => Err(AnswerError::Memory),
+                _ => told(false, put_refusal(sink, error)),
+            },
+        }
+    }
+
+    fn close<O: Sink>(&mut self, _sink: &mut O) -> Result<(), Failed> {
+        Ok(())
     }
 }

@@ -6,7 +6,7 @@ ghost use Rattle.iri_template.specs.ExpandedTexts.{expanded_text};
 ghost use Rattle.iri_text.specs.Sink.{KeepsRoom, PutsAll};
 ghost use Rattle.iri_normal.specs.Resolver.{base_text};
 ghost use Rattle.iri_cli.specs.run.Limits.{longest_line, answer_room};
-ghost use Rattle.iri_cli.specs.canon.Answer.{refusal};
+ghost use Rattle.iri_cli.specs.canon.Answers.{refusal};
 ghost use Rattle.iri_cli.specs.canon.Puts.{PutsLine};
 ghost use Rattle.iri_cli.specs.expand.Answers.{expansion_answer, template_answer, template_refusal};
 ghost use Rattle.iri_docs.specs.Expanded.{expansion_limit};
@@ -27,7 +27,6 @@ use iri_normal::resolver::FixedBaseResolver;
 use iri_template::error::Error;
 use iri_template::expanded::Expanded;
 use iri_template::simple_context::SimpleContext;
-use iri_template::template::UriTemplateStr;
 use iri_text::{CapacityOverflowError, Failed, Sink, write_to_slice};
 use std::alloc::Global;
 
@@ -74,8 +73,8 @@ fn put_expansion<S: Spec, O: Sink>(
     }
 }
 
-// Puts the answer to a template, and says whether it is good.
-fn put_template<'a, S: Spec, O: Sink>(
+// Puts the answer to a template with these values, and says whether it is good.
+pub(crate) fn put_template<'a, S: Spec, O: Sink>(
     sink: &mut O,
     output: &mut Vec<u8>,
     expansion: &mut [u8],
@@ -94,11 +93,8 @@ fn put_template<'a, S: Spec, O: Sink>(
         (result ≢ Err SinkFailed) }
     ensures capacity { vec_capacity output.old ≤ vec_capacity output.new }
 {
-    match UriTemplateStr::try_from_bytes(template) {
-        Ok(template) => match template.expand::<S, SimpleContext>(values) {
-            Ok(expanded) => put_expansion(sink, output, expansion, resolver, &expanded),
-            Err(error) => told(false, put_refusal(sink, error)),
-        },
+    match Expanded::<'_, S, SimpleContext>::try_from_bytes(template, values) {
+        Ok(expanded) => put_expansion(sink, output, expansion, resolver, &expanded),
         Err(error) => told(false, put_refusal(sink, error)),
     }
 }

@@ -1,4 +1,5 @@
-// The command `gen`: references that are made by a counter, and what is told of their canonical texts.
+// The command `gen`: references that are made by a counter, and what is told of their canonical
+// texts.
 ghost use Rattle.std.specs.Prelude.{◌≡◌, ◌≤◌, ◌<◌, ◌+◌, ◌*◌, ◌%◌, ◌^◌, ◌++◌, None, OnOk, IfOk, length, sum};
 ghost use Rattle.std.specs.Prelude.{string_bytes};
 ghost use Rattle.iri_grammar.specs.WholeFault.{reference_fault};
@@ -9,7 +10,6 @@ ghost use Rattle.iri_cli.specs.generator.References.{gen_segment, more_segments,
 use crate::canon::resolver_of;
 use iri_grammar::spec::Spec;
 use iri_normal::resolver::FixedBaseResolver;
-use iri_text::try_append_to_string;
 use iri_types::kind::Reference;
 use iri_types::split::SplitView;
 use std::alloc::{AllocError, Global};
@@ -51,7 +51,8 @@ fn next_state(state: u64) -> u64
 
 // Writes so many segments, each behind a slash.
 fn push_segments(text: &mut String, count: u64, number: u64) -> Result<(), AllocError>
-    ensures { OnOk result (string_bytes text.new ≡ string_bytes text.old ++ more_segments count number) }
+    ensures { OnOk result
+        (string_bytes text.new ≡ string_bytes text.old ++ more_segments count number) }
 {
     let mut rest = number;
     for i in 0..count {
@@ -85,12 +86,13 @@ fn write_text<'a, S: Spec>(
     reference: &'a str,
 ) -> Result<(), AllocError>
     requires { reference_fault S.tests reference.now ≡ None }
-    ensures { OnOk result (string_bytes buffer.new ≡ canonical S.tests (base_text resolver.entry) reference.now) }
+    ensures { OnOk result
+        (string_bytes buffer.new ≡ canonical S.tests (base_text resolver.entry) reference.now) }
 {
     match SplitView::<S, Reference>::new(reference) {
         Ok(reference) => {
             buffer.clear();
-            try_append_to_string(buffer, &resolver.resolve_split(&reference).and_normalize())
+            resolver.canonical_into(buffer, &reference)
         }
         Err(_) => unreachable!(),
     }
@@ -116,7 +118,8 @@ fn totals_of<S: Spec>(
 ) -> Result<Totals, AllocError>
     requires base { base_text resolver ≡ gen_base }
     requires most { count ≤ 100000 }
-    ensures { IfOk result (λ t. (t.bytes ≡ gen_bytes S.tests count) × (t.sum ≡ gen_sum S.tests count)) }
+    ensures { IfOk result
+        (λ t. (t.bytes ≡ gen_bytes S.tests count) × (t.sum ≡ gen_sum S.tests count)) }
 {
     let mut reference = String::new(alloc);
     let mut text = String::new(alloc);

@@ -83,9 +83,10 @@ pub(crate) fn put_text<O: Sink>(text: &str, sink: &mut O) -> u8
 
 /// Writes a notice, flushes the sink, and gives the program's status.
 pub(crate) fn tell<O: Sink>(notice: Notice, sink: &mut O) -> u8
-    ensures puts { PutsText (notice_text notice) (O.written sink.old) (O.written sink.new) (O.faults sink.old)
-        (O.faults sink.new) result }
-    ensures room { KeepsRoom (O.room_left sink.old) (O.room_left sink.new) (notice_text notice) (result ≢ 5) }
+    ensures puts { PutsText (notice_text notice)
+        (O.written sink.old) (O.written sink.new) (O.faults sink.old) (O.faults sink.new) result }
+    ensures room { KeepsRoom (O.room_left sink.old) (O.room_left sink.new) (notice_text notice)
+        (result ≢ 5) }
 {
     put_text(text(notice), sink)
 }

@@ -1,17 +1,14 @@
-//! What holds of a run over memory, of a base that is prepared once, of the entries of `register`, and of the answers of `links`.
-ghost use Rattle.std.specs.Prelude.{◌≡◌, ◌↔◌, ◌≤◌, ◌+◌, ◌⊎◌, ℕ, List, [], ◌++◌, length, map, true, None, Some};
+//! What holds of a run over memory, of a base that is prepared once, of the entries of `register`,
+//! of the answers of `links`, and of the references of `gen`.
+ghost use Rattle.std.specs.Prelude.{◌≡◌, ◌≤◌, ◌+◌, ◌⊎◌, ℕ, List, [], ◌++◌, length, true, None, Some};
 ghost use Rattle.iri_grammar.specs.Parts.{IsAbsolute};
-ghost use Rattle.iri_link.specs.Fault.{Told, field_fault};
-ghost use Rattle.iri_link.specs.Field.{LinkValue};
-ghost use Rattle.iri_link.specs.Links.{HasLinks};
-ghost use Rattle.iri_link.specs.Resolved.{resolved};
-ghost use Rattle.iri_link.specs.Written.{written};
-ghost use Rattle.iri_register.specs.Shared.{TargetsJoin};
-ghost use Rattle.iri_normal.specs.NormalForm.{canonical, canonical_in};
-ghost use Rattle.iri_cli.specs.canon.Answer.{refusal, answer_in};
-ghost use Rattle.iri_cli.specs.links.Answers.{field_refusal, links_answer, links_line};
+ghost use Rattle.iri_grammar.specs.WholeFault.{reference_fault};
+ghost use Rattle.iri_normal.specs.NormalForm.{canonical_in};
+ghost use Rattle.iri_cli.specs.canon.Answers.{refusal, answer_in};
 ghost use Rattle.iri_cli.specs.canon.Prepared.{prepared};
-ghost use Rattle.iri_cli.specs.register.Shared.{IsLiveLine, ShareEntry};
+ghost use Rattle.iri_cli.specs.generator.References.{gen_base, gen_reference};
+ghost use Rattle.iri_cli.specs.links.FieldValues.{AnswersAreLinks};
+ghost use Rattle.iri_cli.specs.register.Shared.{LiveLinesShareEntries};
 ghost use Rattle.iri_text.specs.Memory.{SinkState, room_left_of};
 ghost use Rattle.iri_cli.specs.run.Ending.{Rules, ending};
 ghost use Rattle.iri_cli.specs.run.Run.{outside, Runs};
@@ -19,48 +16,52 @@ ghost use Rattle.iri_cli.specs.run.Run.{outside, Runs};
 use iri_grammar::spec::Spec;
 use iri_normal::mode::CanonMode;
 
-/// Over plain bytes, and a sink over memory that is told no failing calls and has room for the output of their ending, a
-/// run has that ending's status and writes its output, or allocation failed at a line.
+/// Over plain bytes, and a sink over memory that is told no failing calls and has room for the
+/// output of their ending, a run has that ending's status and writes its output, or allocation
+/// failed at a line.
 pub fn run_over_memory()
     ensures { (rules : Rules) (input left : List ℕ) (old new : SinkState) (status : ℕ)
         → Runs rules (outside (Some input) (Some old.written) 0 old.faults)
-        (outside (Some left) (Some new.written) 0 new.faults) (room_left_of old) (room_left_of new) status →
-        old.fails ≡ [] → length old.written + length (ending rules input).output ≤ old.room →
-        ((status ≡ (ending rules input).status) × (new.written ≡ old.written ++ (ending rules input).output))
+        (outside (Some left) (Some new.written) 0 new.faults)
+        (room_left_of old) (room_left_of new) status
+        → old.fails ≡ [] → length old.written + length (ending rules input).output ≤ old.room →
+        ((status ≡ (ending rules input).status)
+        × (new.written ≡ old.written ++ (ending rules input).output))
         ⊎ ((status ≡ 6) × (rules.takes_memory ≡ true)) }
 {}
 
-/// A base whose scheme and authority are put into normal form, and whose path loses the dot segments before its last
-/// segment, is an absolute URI again, is no longer than before, and has the same canonical texts in every mode. So each
-/// line has the same answer against it.
+/// A base whose scheme and authority are put into normal form, and whose path loses the dot
+/// segments before its last segment, is an absolute URI again, is no longer than before, and has
+/// the same canonical texts in every mode. So each line has the same answer against it.
 pub fn prepared_base_has_the_same_answers<S: Spec>()
-    ensures valid { (base : List ℕ) → IsAbsolute S.tests base → IsAbsolute S.tests (prepared S.tests base) }
-    ensures len { (base : List ℕ) → IsAbsolute S.tests base → length (prepared S.tests base) ≤ length base }
+    ensures valid { (base : List ℕ) → IsAbsolute S.tests base
+        → IsAbsolute S.tests (prepared S.tests base) }
+    ensures len { (base : List ℕ) → IsAbsolute S.tests base
+        → length (prepared S.tests base) ≤ length base }
     ensures texts { (mode : CanonMode) (base reference : List ℕ) → IsAbsolute S.tests base
-        → canonical_in S.tests mode (prepared S.tests base) reference ≡ canonical_in S.tests mode base reference }
+        → canonical_in S.tests mode (prepared S.tests base) reference
+        ≡ canonical_in S.tests mode base reference }
     ensures answers { (mode : CanonMode) (base line : List ℕ) → refusal S.tests base ≡ None
         → answer_in S.tests mode (prepared S.tests base) line ≡ answer_in S.tests mode base line }
 {}
 
-/// Two live lines of `register`, which add links that no line after them takes out, share an entry exactly where their canonical
-/// targets are equal, and that is exactly where steps join the targets of their references.
+/// Two live lines of `register`, which add links that no line after them takes out, share an entry
+/// exactly where their canonical targets are equal, and that is exactly where steps join the
+/// targets of their references.
 pub fn live_lines_share_an_entry<S: Spec>()
-    ensures targets { (base q r : List ℕ) (lines : List (List ℕ)) (m n : ℕ) → IsLiveLine S.tests base lines m q
-        → IsLiveLine S.tests base lines n r
-        → ShareEntry S.tests base lines q r ↔ (canonical S.tests base q ≡ canonical S.tests base r) }
-    ensures steps { (base q r : List ℕ) (lines : List (List ℕ)) (m n : ℕ) → refusal S.tests base ≡ None
-        → IsLiveLine S.tests base lines m q → IsLiveLine S.tests base lines n r
-        → ShareEntry S.tests base lines q r ↔ TargetsJoin S.tests base q r }
+    ensures { LiveLinesShareEntries S.tests }
 {}
 
-/// `links` answers a field value whose targets are URI-references by its one list of link-values, with their canonical targets, and
-/// every other line by a fault. What it writes of a field value is answered by itself, against every base.
+/// `links` answers a field value whose targets are URI-references by its one list of link-values,
+/// with their canonical targets, and every other line by a fault. What it writes of a field value
+/// is answered by itself, against every base.
 pub fn field_values_are_answered<S: Spec>()
-    ensures links { (base line : List ℕ) (links : List LinkValue) → HasLinks S.tests line links
-        → links_answer S.tests base line ≡ links_line S.tests base links }
-    ensures others { (base line : List ℕ) → ((links : List LinkValue) → HasLinks S.tests line links → ⊥)
-        → (t : Told) × (field_fault S.tests line ≡ Some t) × (links_answer S.tests base line ≡ field_refusal t) }
-    ensures again { (base other line : List ℕ) (links : List LinkValue) → refusal S.tests base ≡ None
-        → HasLinks S.tests line links
-        → links_answer S.tests other (written (map (resolved S.tests base) links)) ≡ links_answer S.tests base line }
+    ensures { AnswersAreLinks S.tests }
+{}
+
+/// Each reference that `gen` makes is a URI-reference, and its base is an absolute URI: so each has
+/// a canonical text.
+pub fn references_of_gen_have_no_fault<S: Spec>()
+    ensures references { (state : ℕ) → reference_fault S.tests (gen_reference state) ≡ None }
+    ensures base { refusal S.tests gen_base ≡ None }
 {}

@@ -1,36 +1,46 @@
 //! The work of the program `irikit`, for any source and any sink.
 //!
-//! - [`run`](run::run) does what the words after the program's name say, and gives the program's status.
+//! - [`run`](run::run) does what the words after the program's name say, and gives the program's
+//!   status.
 //! - [`CanonBuffers`](CanonBuffers) is all of the memory that `canon` needs, and
-//!   [`canon_lines`](canon_lines) answers the lines of a source with it: each reference line by its canonical text
-//!   against the base line (RFC 3986 section 5 and section 6.2.2; RFC 3987).
-//!   [`canon_lines_in`](canon_lines_in) does the same by the rules of a mode, which the word `scheme` names in the
-//!   commands `canon uri scheme` and `canon iri scheme` (section 6.2.3).
-//!   The base is prepared once for all its references in its buffer: its scheme and authority are put into normal form, and
-//!   its path loses the dot segments before its last segment.
-//! - `expand` keeps the values that lines give variables, and answers each URI template by the canonical text of its expansion
-//!   (RFC 6570) against the base line.
-//! - `register` keeps each canonical link once, with the numbers of its lines, and writes them at the end.
-//! - `links` answers the value of a `Link` field by its links with canonical targets (RFC 8288 section 3), and `docs` a template with
-//!   its variables in JSON by the canonical text of its expansion: both answer a line by the base and that line alone.
-//! - `robots` keeps the records of a robots file that lines feed, and tells of each link whether they allow the crawler of a product
-//!   token to fetch it (RFC 9309).
-//! - `gen` makes references by a counter, and tells how many bytes their canonical texts have and the sum of these bytes' values.
+//!   [`canon_lines`](canon_lines) answers the lines of a source with it: each reference line by its
+//!   canonical text against the base line (RFC 3986 section 5 and section 6.2.2; RFC 3987).
+//!   [`canon_lines_in`](canon_lines_in) does the same by the rules of a mode, which the word
+//!   `scheme` names in the commands `canon uri scheme` and `canon iri scheme` (section 6.2.3). The
+//!   base is prepared once for all its references in its buffer: its scheme and authority are put
+//!   into normal form, and its path loses the dot segments before its last segment.
+//! - `expand` keeps the values that lines give variables, and answers each URI template by the
+//!   canonical text of its expansion (RFC 6570) against the base line.
+//! - `register` keeps each canonical link once, with the numbers of its lines, and writes them at
+//!   the end.
+//! - `links` answers the value of a `Link` field by its links with canonical targets (RFC 8288
+//!   section 3), and `docs` a template with its variables in JSON by the canonical text of its
+//!   expansion: both answer a line by the base and that line alone.
+//! - `robots` keeps the records of a robots file that lines feed, and tells of each link whether
+//!   they allow the crawler of a product token to fetch it (RFC 9309).
+//! - `gen` makes references by a counter, and tells how many bytes their canonical texts have and
+//!   the sum of these bytes' values.
 //!
-//! Proved: the contracts of `run`, `canon_lines` and `canon_lines_in`. Each status comes only by its cause, and where the source
-//! tells its bytes, status and output are those of `ending` in specs/run/Ending.antt, which is defined by the lines of the input and
-//! the events that end a run, and by the rules of the command, which `rules_of` in specs/run/Words.antt gives: what `expand` answers
-//! to a line stands in specs/expand/Lines.antt and specs/expand/Answers.antt, what `register` answers in specs/register/Lines.antt
-//! and specs/register/Answers.antt, what `links` and `docs` answer in specs/links/Answers.antt and specs/docs/Answers.antt, and what
-//! `robots` answers in specs/robots/Lines.antt and specs/robots/Answers.antt; laws tie the answers of `links` to the relation
-//! between a field value and its links, and say which lines of `register` share an entry. `canon_lines` and `canon_lines_in` are
-//! given no allocator, and never answer that allocation failed; where it fails at a line of another command, the lines before it
-//! were answered. A sink that is known to have room for the output doesn't fail: over a `PlainSource` and a `MemorySink` that is
-//! told no failing calls and has that room, status and output are those of `ending` alone, but that allocation may fail. The text
-//! of `gen` is that of specs/generator/References.antt, and those of `--help` and `--version` are constants of `help`.
+//! Proved: the contracts of `run`, `canon_lines` and `canon_lines_in`. Each status comes only by
+//! its cause, and where the source tells its bytes, status and output are those of `ending` in
+//! specs/run/Ending.antt, which is defined by the lines of the input and the events that end a run,
+//! and by the rules of the command, which `rules_of` in specs/run/Words.antt gives: what `expand`
+//! answers to a line stands in specs/expand/Lines.antt and specs/expand/Answers.antt, what
+//! `register` answers in specs/register/Lines.antt and specs/register/Answers.antt, what `links`
+//! and `docs` answer in specs/links/Answers.antt and specs/docs/Answers.antt, and what `robots`
+//! answers in specs/robots/Lines.antt and specs/robots/Answers.antt. A clause of `run` each says
+//! what these answers are by the standard's relations: which lines of `register` share an entry,
+//! which links a field value has, what a document expands to, and what the patterns of a robots
+//! file allow. `canon_lines` and `canon_lines_in` are given no allocator, and never answer that
+//! allocation failed; where it fails at a line of another command, the lines before it were
+//! answered. A sink that is known to have room for the output doesn't fail: over a `PlainSource`
+//! and a `MemorySink` that is told no failing calls and has that room, status and output are those
+//! of `ending` alone, but that allocation may fail. The text of `gen` is that of
+//! specs/generator/References.antt, and those of `--help` and `--version` are constants of `help`.
 //!
-//! Not proved: that `CanonBuffers::new` and the other commands have their memory where there is some, which tests show; that answers
-//! are flushed before more bytes are taken, which tests/edges shows on the built program.
+//! Not proved: that `CanonBuffers::new` and the other commands have their memory where there is
+//! some, which tests show; that answers are flushed before more bytes are taken, which tests/edges
+//! shows on the built program.
 #![tactic(auto)]
 
 mod canon;
@@ -43,8 +53,6 @@ mod links;
 mod register;
 mod robots;
 pub mod run;
-#[cfg(test)]
-mod tests;
 
-pub use canon::lines::{canon_lines, canon_lines_in};
+pub use canon::calls::{canon_lines, canon_lines_in};
 pub use run::buffers::CanonBuffers;

@@ -1,6 +1,7 @@
 // The answers of `register`.
 ghost use Rattle.std.specs.Prelude.{◌≡◌, Option, Some, IfOk, OnOk};
 ghost use Rattle.iri_grammar.specs.declared.error.ErrorKind.{ErrorKind};
+ghost use Rattle.iri_normal.specs.Resolver.{base_text};
 ghost use Rattle.iri_text.specs.Sink.{PutsAll};
 ghost use Rattle.iri_register.specs.Entries.{Entry, entry_at};
 ghost use Rattle.iri_register.specs.Refusals.{CausedBy};
@@ -57,27 +58,28 @@ fn refused(error: RegisterError) -> Result<Reply, AllocError>
 // Does what the line of this number asks.
 fn reply_to<S: Spec>(
     register: &mut Register<S>,
+    resolver: &FixedBaseResolver<'_, S>,
     line: Asked<'_>,
     number: u64,
 ) -> Result<Reply, AllocError>
     ensures reply { IfOk result (λ reply. reply_text reply
-        ≡ answer_to S.tests register.old.base register.old.entries (asked line.entry)) }
+        ≡ answer_to S.tests (base_text resolver.now) register.old.entries (asked line.entry)) }
     ensures entries { OnOk result (register.new.entries
-        ≡ obeyed_by register.old.entries (command_of S.tests register.old.base number (asked line.entry))) }
+        ≡ obeyed_by register.old.entries (command_of S.tests (base_text resolver.now) number (asked line.entry))) }
     ensures base { register.new.base ≡ register.old.base }
 {
     match line {
-        Asked::Adds(reference) => match register.add(reference, number) {
+        Asked::Adds(reference) => match register.add_against(resolver, reference, number) {
             Ok(Added::New(place)) => Ok(Reply::New(place)),
             Ok(Added::Old(place)) => Ok(Reply::Old(place)),
             Err(error) => refused(error),
         },
-        Asked::Removes(reference) => match register.remove(reference) {
+        Asked::Removes(reference) => match register.remove_against(resolver, reference) {
             Ok(Some(count)) => Ok(Reply::Gone(count)),
             Ok(None) => Ok(Reply::NoEntry),
             Err(error) => refused(error),
         },
-        Asked::Finds(reference) => match register.find(reference) {
+        Asked::Finds(reference) => match register.find_against(resolver, reference) {
             Ok(Some(place)) => Ok(Reply::At(place)),
             Ok(None) => Ok(Reply::NoEntry),
             Err(error) => refused(error),
@@ -208,7 +210,7 @@ impl<S: Spec> Answers<S> for Registers<S> {
 
     ghost begins = { λ alloc. record { line_limit = refl; input_limit = refl; refusal = refl } };
 
-    ghost stands_at = { λ r base at. IsRegisterAt S.tests r.register r.answered at };
+    ghost stands_at = { λ r base at. IsRegisterAt S.tests base r.register r.answered at };
 
     fn open(alloc: Global, base: &mut Vec<u8>, _output: Vec<u8>) -> Result<Self, BaseError> {
         match own_base::<S>(alloc, base) {
@@ -222,12 +224,17 @@ impl<S: Spec> Answers<S> for Registers<S> {
 
     fn answer<O: Sink>(
         &mut self,
-        _resolver: &FixedBaseResolver<'_, S>,
+        resolver: &FixedBaseResolver<'_, S>,
         line: &[u8],
         sink: &mut O,
     ) -> Result<bool, AnswerError> {
         // The base line has number 1.
-        match reply_to(&mut self.register, line_of(line), self.answered + 2) {
+        match reply_to(
+            &mut self.register,
+            resolver,
+            line_of(line),
+            self.answered + 2,
+        ) {
             Ok(reply) => {
                 self.answered += 1;
                 told(is_good(reply), put_reply(sink, reply))

@@ -28,8 +28,8 @@ use crate::run::puts::{put_bad, put_bad_line, told};
 use iri_grammar::spec::Spec;
 use iri_normal::resolver::FixedBaseResolver;
 use iri_owned::owned::RiAbsoluteString;
-use iri_robots::{Robots, RobotsError, Verdict, subject_of};
-use iri_text::{Failed, Sink, try_append_to_string};
+use iri_robots::{Robots, RobotsError, Verdict, subject_of_split};
+use iri_text::{Failed, Sink};
 use iri_types::kind::Reference;
 use iri_types::split::SplitView;
 use iri_types::view::{RiAbsoluteStr, RiStr};
@@ -68,10 +68,12 @@ fn verdict_word<S: Spec>(
         (is_allowed (rules_for (string_bytes robots.now.token) (record_texts robots.now.records.items))
         (subject (split_of (text target.entry))))) }
 {
-    if !is_of_site(normal, target) {
+    let site = SplitView::of(normal);
+    let target = SplitView::of(target);
+    if !is_of_site(&site, &target) {
         return Ok("other ");
     }
-    match subject_of(alloc, target) {
+    match subject_of_split(alloc, &target) {
         Ok(subject) => match robots.verdict(subject.as_str()) {
             Verdict::Allow => Ok("allow "),
             Verdict::Disallow => Ok("disallow "),
@@ -119,7 +121,7 @@ fn write_target<'a, S: Spec>(
     ensures valid { OnOk result (iri_fault S.tests (string_bytes buffer.new) ≡ None) }
 {
     buffer.clear();
-    try_append_to_string(buffer, &resolver.resolve_split(reference).and_normalize())
+    resolver.canonical_into(buffer, reference)
 }
 
 // Puts the answer to a reference, whose canonical text comes into the buffer.

@@ -1,28 +1,33 @@
 //! The run of the program.
-ghost use Rattle.std.specs.Prelude.{◌≡◌, ◌≢◌, ◌⊎◌, ◌≤◌, ℕ, List, true, IfOk, map, string_bytes};
+ghost use Rattle.std.specs.Prelude.{◌≡◌, ◌≢◌, ◌⊎◌, ◌≤◌, ℕ, List, [], ◌∷◌, codes, true, IfOk};
+ghost use Rattle.std.specs.Prelude.{map, string_bytes};
 ghost use Rattle.iri_text.specs.Sink.{KeepsRoom};
-ghost use Rattle.iri_cli.specs.run.Words.{HasToken, IsCommand, robots_rules, rules_of, tests_of};
+ghost use Rattle.iri_cli.specs.run.Words.{HasToken, IsCommand, robots_rules, rules_of, tests_of, word_of};
+ghost use Rattle.iri_cli.specs.docs.Expansions.{AnswersAreExpansions};
+ghost use Rattle.iri_cli.specs.links.FieldValues.{AnswersAreLinks};
+ghost use Rattle.iri_cli.specs.register.Shared.{LiveLinesShareEntries};
+ghost use Rattle.iri_cli.specs.robots.Verdicts.{AnswersAreVerdicts};
 ghost use Rattle.iri_robots.specs.FileLines.{is_token};
-ghost use Rattle.iri_cli.specs.canon.Answer.{AnswersAreCanonicalIn};
+ghost use Rattle.iri_cli.specs.canon.Answers.{AnswersAreCanonicalIn};
 ghost use Rattle.iri_cli.specs.run.Run.{RunsLines, outside};
 ghost use Rattle.iri_cli.specs.generator.References.{gen_text};
-ghost use Rattle.iri_cli.specs.help.Notices.{PutsText, Tells, notice_text};
+ghost use Rattle.iri_cli.specs.help.Notices.{MakesText, PutsText, Tells, notice_text};
 ghost use Rattle.iri_cli.specs.declared.run.words.Command.{Command};
 ghost use Rattle.iri_cli.specs.declared.run.words.Grammar.{Grammar};
 ghost use Rattle.iri_cli.specs.declared.run.words.LineCommand.{LineCommand};
 ghost use Rattle.iri_cli.specs.declared.help.Notice.{Notice};
 
+pub(crate) mod answering;
 pub(crate) mod answers;
 pub(crate) mod base;
 pub(crate) mod buffers;
 pub(crate) mod end;
-pub(crate) mod lines;
 pub(crate) mod opening;
 pub(crate) mod puts;
 pub(crate) mod stateless;
 pub mod words;
 
-use crate::canon::lines::canon_lines_in;
+use crate::canon::calls::canon_lines_in;
 use crate::docs::Docs;
 use crate::expand::Expand;
 use crate::generator::gen_lines;
@@ -88,9 +93,7 @@ fn lines_in<S: Spec, I: Source, O: Sink>(
         LineCommand::Links => {
             run_lines::<S, StatelessAnswers<Links>, I, O>(alloc, buffers, source, sink)
         }
-        LineCommand::Docs => {
-            run_lines::<S, StatelessAnswers<Docs>, I, O>(alloc, buffers, source, sink)
-        }
+        LineCommand::Docs => run_lines::<S, Docs, I, O>(alloc, buffers, source, sink),
         LineCommand::Robots(token) => {
             robots_lines::<S, I, O>(alloc, token, buffers, source, sink)
         }
@@ -131,11 +134,12 @@ fn gen_lines_by(alloc: Global, grammar: Grammar, count: u32) -> Result<String, A
 // Makes the lines of `gen`, and writes them.
 fn generate<O: Sink>(alloc: Global, grammar: Grammar, count: u32, sink: &mut O) -> u8
     requires { count ≤ 100000 }
-    ensures puts { PutsText (gen_text (tests_of grammar) count) (O.written sink.old) (O.written sink.new)
-        (O.faults sink.old) (O.faults sink.new) result
-        ⊎ ((result ≡ 6) × (O.written sink.new ≡ O.written sink.old) × (O.faults sink.new ≡ O.faults sink.old)) }
-    ensures room { KeepsRoom (O.room_left sink.old) (O.room_left sink.new) (gen_text (tests_of grammar) count)
-        (result ≢ 5) }
+    ensures puts { PutsText (gen_text (tests_of grammar) count)
+        (O.written sink.old) (O.written sink.new) (O.faults sink.old) (O.faults sink.new) result
+        ⊎ ((result ≡ 6) × (O.written sink.new ≡ O.written sink.old)
+        × (O.faults sink.new ≡ O.faults sink.old)) }
+    ensures room { KeepsRoom (O.room_left sink.old) (O.room_left sink.new)
+        (gen_text (tests_of grammar) count) (result ≢ 5) }
 {
     match gen_lines_by(alloc, grammar, count) {
         Ok(lines) => put_text(&lines, sink),
@@ -145,31 +149,43 @@ fn generate<O: Sink>(alloc: Global, grammar: Grammar, count: u32, sink: &mut O) 
 
 /// Does what the words after the program's name say, and gives the program's status:
 ///
-/// - 0: the input was read to its end, and each answer is a good one (of `canon`, `expand`, `links` and `docs`: it begins with
-///   `ok `; of `register` and `robots`: it doesn't begin with `bad`); 1: the same, but some answer isn't
+/// - 0: the input was read to its end, and each answer is a good one (of `canon`, `expand`, `links`
+///   and `docs`: it begins with `ok `; of `register` and `robots`: it doesn't begin with `bad`); 1:
+///   the same, but some answer isn't
 /// - 2: the words are no command, and nothing was read or written
 /// - 3: the base line is refused
-/// - 4: the source failed; 5: the sink failed
-/// - 6: allocation failed; with `canon` nothing was read or written, with the other commands the lines before it were answered
-/// - 7: a line has more than 1,048,576 bytes before its LF; 8: the input has more than 1,073,741,824 bytes
+/// - 4: the source failed: exactly the lines that an LF ended in what was read were answered
+/// - 5: the sink failed: what was written is a prefix of the output. It never comes where the sink
+///   is known to have room
+/// - 6: allocation failed; with `canon` nothing was read or written, with the other commands the
+///   lines before it were answered
+/// - 7: a line has more than 1,048,576 bytes before its LF; 8: the input has more than
+///   1,073,741,824 bytes; the lines before are answered
 ///
-/// Of 3, 7 and 8 the first in the order of bytes decides, and 8 comes before 7 on one byte. `--help` and `--version`, each as the
-/// only word, read nothing and write their text: 0 where it was written, 5 where the sink failed. So does `gen`, whose text is
-/// three lines, and which answers 6 where allocation failed and nothing was written.
+/// 4 and 5 come only where the count of faults of the source, or of the sink, rose in this call;
+/// the others exactly where what is said of them holds, but that they yield to 5, and to 6. Of 3, 7
+/// and 8 the first in the order of bytes decides, and 8 comes before 7 on one byte. `--help` and
+/// `--version`, each as the only word, read nothing and write their text: 0 where it was written, 5
+/// where the sink failed. So does `gen`, whose text is three lines, and which answers 6 where
+/// allocation failed and nothing was written.
 pub fn run<I: Source, O: Sink>(alloc: Global, words: &[String], source: &mut I, sink: &mut O) -> u8
     // Words that are no command: nothing is read or written.
-    ensures no_command { ((command : Command) → ¬ (IsCommand (map string_bytes words.now) command)) → (result ≡ 2)
-        × (outside (I.left source.new) (O.written sink.new) (I.faults source.new) (O.faults sink.new) ≡ outside (I.left source.old) (O.written sink.old) (I.faults source.old) (O.faults sink.old)) }
+    ensures no_command { ((command : Command) → ¬ (IsCommand (map string_bytes words.now) command))
+        → (result ≡ 2)
+        × (outside (I.left source.new) (O.written sink.new) (I.faults source.new)
+        (O.faults sink.new)
+        ≡ outside (I.left source.old) (O.written sink.old) (I.faults source.old)
+        (O.faults sink.old)) }
 
     // `--help` and `--version`: the text is written, and nothing is read.
     ensures tells { (notice : Notice) → IsCommand (map string_bytes words.now) (Command.Tell notice)
-        → Tells (notice_text notice) (outside (I.left source.old) (O.written sink.old) (I.faults source.old)
-        (O.faults sink.old))
+        → Tells (notice_text notice)
+        (outside (I.left source.old) (O.written sink.old) (I.faults source.old) (O.faults sink.old))
         (outside (I.left source.new) (O.written sink.new) (I.faults source.new) (O.faults sink.new))
         (O.room_left sink.old) (O.room_left sink.new) result }
 
-    // A command over lines: each status comes only by its cause. Where its lines take no memory, as those of `canon`, allocation
-    // fails only before anything is read or written.
+    // A command over lines: each status comes only by its cause. Where its lines take no memory, as
+    // those of `canon`, allocation fails only before anything is read or written.
     ensures lines { (command : LineCommand) (grammar : Grammar)
         → IsCommand (map string_bytes words.now) (Command.Lines command grammar)
         → RunsLines (rules_of command (tests_of grammar))
@@ -177,17 +193,43 @@ pub fn run<I: Source, O: Sink>(alloc: Global, words: &[String], source: &mut I, 
         (outside (I.left source.new) (O.written sink.new) (I.faults source.new) (O.faults sink.new))
         (O.room_left sink.old) (O.room_left sink.new) result }
 
-    // `gen`: the three lines are written, and nothing is read; or allocation failed, and nothing was written.
-    ensures gens { (grammar : Grammar) (count : ℕ) → IsCommand (map string_bytes words.now) (Command.Gen grammar count)
-        → (let old = outside (I.left source.old) (O.written sink.old) (I.faults source.old) (O.faults sink.old) in
-        let new = outside (I.left source.new) (O.written sink.new) (I.faults source.new) (O.faults sink.new) in
-        Tells (gen_text (tests_of grammar) count) old new (O.room_left sink.old) (O.room_left sink.new) result ⊎ ((result ≡ 6) × (new ≡ old))) }
+    // `gen`: the three lines are written, and nothing is read; or allocation failed, and nothing
+    // was written.
+    ensures gens { (grammar : Grammar) (count : ℕ)
+        → IsCommand (map string_bytes words.now) (Command.Gen grammar count)
+        → MakesText (gen_text (tests_of grammar) count)
+        (outside (I.left source.old) (O.written sink.old) (I.faults source.old) (O.faults sink.old))
+        (outside (I.left source.new) (O.written sink.new) (I.faults source.new) (O.faults sink.new))
+        (O.room_left sink.old) (O.room_left sink.new) result }
 
-    // `canon`, in the mode that its words name: each good answer is a URI of the spec that splits into exactly the normal form of
-    // the target, and is its own canonical text.
+    // `canon`, in the mode that its words name: each good answer is a URI of the spec that splits
+    // into exactly the normal form of the target, and is its own canonical text.
     ensures canonical { (mode : CanonMode) (grammar : Grammar)
         → IsCommand (map string_bytes words.now) (Command.Lines (LineCommand.Canon mode) grammar)
         → AnswersAreCanonicalIn (tests_of grammar) mode }
+
+    // `register`: two live lines share an entry exactly where steps join the targets of their
+    // references.
+    ensures register { (grammar : Grammar)
+        → IsCommand (map string_bytes words.now) (Command.Lines LineCommand.Register grammar)
+        → LiveLinesShareEntries (tests_of grammar) }
+
+    // `links`: a field value is answered by its one list of link-values, with canonical targets.
+    ensures links { (grammar : Grammar)
+        → IsCommand (map string_bytes words.now) (Command.Lines LineCommand.Links grammar)
+        → AnswersAreLinks (tests_of grammar) }
+
+    // `docs`: a template document is answered by the canonical text of its expansion with its own
+    // values.
+    ensures docs { (grammar : Grammar)
+        → IsCommand (map string_bytes words.now) (Command.Lines LineCommand.Docs grammar)
+        → AnswersAreExpansions (tests_of grammar) }
+
+    // `robots`: a link is answered by what the longest patterns that match it say of the token's
+    // crawler.
+    ensures robots { (grammar : Grammar) (token : List ℕ)
+        → map string_bytes words.now ≡ codes "robots" ∷ word_of grammar ∷ token ∷ []
+        → AnswersAreVerdicts (tests_of grammar) token }
 {
     match command_of(words) {
         Some(Command::Lines(command, grammar)) => lines_by(alloc, command, grammar, source, sink),

@@ -4,10 +4,9 @@ use Rattle.iri_grammar.specs.Classes.{Tests}
 use Rattle.iri_grammar.specs.WholeFault.{reference_fault}
 use Rattle.iri_grammar.specs.declared.error.ErrorKind.{ErrorKind}
 use Rattle.iri_template.specs.Expansion.{expansion}
-use Rattle.iri_template.specs.Fault.{first, template_fault}
 use Rattle.iri_template.specs.Reading.{pieces_of}
 use Rattle.iri_template.specs.ShownValues.{ShownValue}
-use Rattle.iri_template.specs.TypeFaults.{type_fault}
+use Rattle.iri_template.specs.TypeFaults.{expansion_fault}
 use Rattle.iri_template.specs.declared.error.Error.{Error}
 use Rattle.iri_normal.specs.NormalForm.{canonical}
 use Rattle.iri_docs.specs.declared.expand_error.DocExpandError.{DocExpandError}
@@ -17,10 +16,6 @@ use Rattle.iri_docs.specs.declared.expand_error.DocExpandError.TheVariants.{Temp
 abbrev pub expansion_limit : ℕ
 expansion_limit = 1048576
 
--- the first fault of a template (RFC 6570 section 2), or of a value that a varspec with a length has no use for (section 2.4.1)
-abbrev pub expansion_fault : (List ℕ → ShownValue) → List ℕ → Option Error
-expansion_fault value template = first (template_fault template) (type_fault value (pieces_of template))
-
 abbrev pub within_limit : List ℕ → Result (List ℕ) DocExpandError
 within_limit text = if nat_lt expansion_limit (length text) then Err TooLong else Ok text
 
@@ -28,7 +23,7 @@ abbrev pub unless_fault : Option Error → Result (List ℕ) DocExpandError → 
 unless_fault None answer = answer
 unless_fault (Some e) answer = Err (Template e)
 
--- the expansion of a template where names have these values (section 3); it is refused for a fault, then for its length
+-- the expansion of a template where names have these values (RFC 6570 section 3); it is refused for a fault, then for its length
 abbrev pub expansion_within : Tests → (List ℕ → ShownValue) → List ℕ → Result (List ℕ) DocExpandError
 expansion_within s value template =
     unless_fault (expansion_fault value template) (within_limit (expansion s value (pieces_of template)))

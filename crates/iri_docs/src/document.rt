@@ -6,7 +6,7 @@ ghost use Rattle.iri_docs.specs.Held.{held};
 use iri_template::simple_context::SimpleContext;
 
 /// A text that is to be a template, and values of its variables.
-#[derive(Drop)]
+#[derive(Debug, Drop)]
 pub struct Document {
     pub(crate) template: String,
     pub(crate) context: SimpleContext,

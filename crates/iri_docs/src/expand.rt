@@ -1,5 +1,6 @@
 //! The canonical texts of documents.
 ghost use Rattle.std.specs.Prelude.{◌≡◌, string_bytes};
+ghost use Rattle.iri_normal.specs.Resolver.{base_text};
 ghost use Rattle.iri_types.specs.Texts.{text as text_of};
 ghost use Rattle.iri_template.specs.Contexts.{value_in};
 ghost use Rattle.iri_docs.specs.Answered.{AnswersBut};
@@ -11,9 +12,8 @@ use crate::expand_error::DocExpandError;
 use iri_grammar::spec::Spec;
 use iri_normal::resolver::FixedBaseResolver;
 use iri_owned::owned::RiString;
+use iri_template::expanded::Expanded;
 use iri_template::simple_context::SimpleContext;
-use iri_template::template::UriTemplateStr;
-use iri_text::ToDedicatedString;
 use iri_types::kind::Reference;
 use iri_types::split::SplitView;
 use iri_types::view::RiAbsoluteStr;
@@ -31,11 +31,7 @@ fn expand<S: Spec>(
     ensures { AnswersBut DocExpandError.Memory string_bytes result
         (expansion_within S.tests (value_in context.now) template.now) }
 {
-    let template = match UriTemplateStr::new(template) {
-        Ok(template) => template,
-        Err(error) => return Err(DocExpandError::Template(error)),
-    };
-    match template.expand::<S, SimpleContext>(context) {
+    match Expanded::<'_, S, SimpleContext>::try_from_bytes(template.as_bytes(), context) {
         Ok(expanded) => match expanded.try_into_text_within(alloc, EXPANSION_LIMIT) {
             Ok(Some(text)) => Ok(text),
             Ok(None) => Err(DocExpandError::TooLong),
@@ -48,17 +44,17 @@ fn expand<S: Spec>(
 // The canonical text of a text.
 fn canonicalize<S: Spec>(
     alloc: Global,
-    base: RiAbsoluteStr<'_, S>,
+    resolver: &FixedBaseResolver<'_, S>,
     text: &str,
 ) -> Result<RiString<S>, DocExpandError>
     ensures { AnswersBut DocExpandError.Memory (λ t. t.text) result
-        (canonical_or_fault S.tests (text_of base.entry) text.now) }
+        (canonical_or_fault S.tests (base_text resolver.now) text.now) }
 {
     match SplitView::<S, Reference>::new(text) {
         Ok(reference) => {
-            let target = FixedBaseResolver::new(base).resolve_split(&reference);
-            match target.and_normalize().try_to_dedicated_string(alloc) {
-                Ok(text) => Ok(text),
+            let mut canonical = String::new(alloc);
+            match resolver.canonical_into(&mut canonical, &reference) {
+                Ok(()) => Ok(RiString::from_valid(canonical)),
                 Err(_) => Err(DocExpandError::Memory),
             }
         }
@@ -94,6 +90,33 @@ pub fn expand_document<S: Spec>(
     ensures { AnswersBut DocExpandError.Memory (λ t. t.text) result
         (expanded S.tests (text_of base.entry) (held document.now).value_of (held document.now).template) }
 {
+    expand_document_against(alloc, &FixedBaseResolver::new(base), document)
+}
+
+/// The same against a resolver's base, which a program that expands many documents prepares once.
+///
+/// # Errors
+///
+/// Those of [`expand_document`].
+///
+/// ```
+/// use iri::docs::{expand_document_against, read_document};
+/// use iri::resolve::FixedBaseResolver;
+/// use iri::types::UriAbsoluteStr;
+/// let page = FixedBaseResolver::new(UriAbsoluteStr::new("http://a/")?);
+/// for (line, text) in [("{\"template\":\"x\"}", "http://a/x"), ("{\"template\":\"%79\"}", "http://a/y")] {
+///     let document = read_document(rt.alloc(), line.as_bytes())?;
+///     assert_eq!(rt; expand_document_against(rt.alloc(), &page, &document)?.as_str(), text);
+/// }
+/// ```
+pub fn expand_document_against<S: Spec>(
+    alloc: Global,
+    resolver: &FixedBaseResolver<'_, S>,
+    document: &Document,
+) -> Result<RiString<S>, DocExpandError>
+    ensures { AnswersBut DocExpandError.Memory (λ t. t.text) result
+        (expanded S.tests (base_text resolver.now) (held document.now).value_of (held document.now).template) }
+{
     let text = expand::<S>(alloc, document.template(), document.context())?;
-    canonicalize::<S>(alloc, base, text.as_str())
+    canonicalize::<S>(alloc, resolver, text.as_str())
 }

@@ -27,7 +27,5 @@ pub mod expand;
 pub mod expand_error;
 pub mod laws;
 pub mod read;
-#[cfg(test)]
-mod tests;
 pub mod values;
 pub mod variables;

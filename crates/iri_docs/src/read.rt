@@ -57,7 +57,7 @@ fn read_vars(alloc: Global, vars: Option<&Json>) -> Result<SimpleContext, DocErr
 /// The first of these:
 ///
 /// - `Shape` exactly where the value isn't such an object.
-/// - The fault of the first member of `vars` that has one.
+/// - Those of [`read_variables`] for `vars`.
 /// - `Memory` where allocation fails, which may come at any place, and says nothing of the value.
 pub fn document_of(alloc: Global, value: &Json) -> Result<Document, DocError>
     ensures { AnswersBut DocError.Memory held result (document (view value.now)) }

@@ -22,7 +22,7 @@ use std::alloc::Global;
 /// # Errors
 ///
 /// `Name` exactly where the key is no variable's name (RFC 6570 section 2.3), before its value is looked at; then those
-/// of `read_value`.
+/// of [`read_value`]. `Memory` where allocation fails, which may come at any place, and says nothing of the variable.
 pub fn read_variable(alloc: Global, key: &str, value: &Json) -> Result<(String, Value), DocError>
     ensures { AnswersBut DocError.Memory entry_of result (variable key.now (view value.now)) }
 {
@@ -50,7 +50,7 @@ fn insert(context: &mut SimpleContext, name: String, value: Value) -> Result<(),
 ///
 /// # Errors
 ///
-/// That of the first member that has one, in the order in which the map has its members.
+/// Those of [`read_variable`]: that of the first member that has one, in the order in which the map has its members.
 pub fn read_variables(alloc: Global, object: &Map<String, Json>) -> Result<SimpleContext, DocError>
     ensures { AnswersBut DocError.Memory value_in result
         (result_map value_by_name (variables (members_view object.now.entries))) }

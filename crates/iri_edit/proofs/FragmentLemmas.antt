@@ -1,5 +1,5 @@
 -- Where a fragment stands in a text.
-use Rattle.std.proofs.Common.{◌≡◌, ℕ, ◌+◌, ◌≤◌, true, List, [], ◌∷◌, ◌++◌, length, Option, Some, None, refl, sym, ◌∙◌, ap, subst, arith}
+use Rattle.std.proofs.Common.{◌≡◌, ℕ, ◌+◌, true, List, [], ◌∷◌, ◌++◌, length, Option, Some, None, refl, sym, ◌∙◌, ap, subst, arith}
 use Rattle.std.proofs.Common.{append_assoc, length-append}
 use Rattle.std.specs.Str.{IsCharBoundary, chars, is_utf8}
 use Rattle.std.proofs.lemmas.List.{append-nil}
@@ -58,13 +58,13 @@ fragment-place t =
           ∙ ap (λ z. before 35 t ++ z) (append-nil new);
     }
 
--- a text put behind another
+-- a text put after another
 pub spliced-end : (t new : List ℕ) (n : ℕ) → n ≡ length t → spliced t n n new ≡ t ++ new
 spliced-end t new n e =
     let all : t ++ ([] ++ []) ≡ t = append-nil t in
     spliced-at t [] [] new t n n all (sym e) (omega arith) ∙ ap (λ z. t ++ z) (append-nil new)
 
--- a fragment put behind a text that ends with a number sign
+-- a fragment put after a text that ends with a number sign
 pub put-behind : (s : Tests) → IsSpec s → (t : List ℕ) → reference_fault s t ≡ None → (signed f : List ℕ) (n : ℕ)
     → signed ≡ before 35 t ++ 35 ∷ [] → n ≡ length signed → spliced signed n n f ≡ with_fragment t (Some f)
 put-behind s k t h signed f n e l = spliced-end signed f n l

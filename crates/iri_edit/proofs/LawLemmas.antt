@@ -1,5 +1,5 @@
 -- What edits keep of a text.
-use Rattle.std.proofs.Common.{◌≡◌, ℕ, true, List, [], ◌∷◌, ◌++◌, Option, Some, None, refl, ◌∙◌, ap}
+use Rattle.std.proofs.Common.{◌≡◌, ℕ, true, List, [], Option, Some, None, refl, ◌∙◌, ap}
 use Rattle.iri_grammar.specs.Authority.{AuthorityParts, FitsAuthority, authority_parts, is_authority, recompose_authority}
 use Rattle.iri_grammar.proofs.AuthorityLaws.{reads}
 use Rattle.iri_grammar.specs.Classes.{Tests, IsSpec}

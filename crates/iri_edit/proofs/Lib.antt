@@ -1,6 +1,7 @@
 pub mod PlaceLemmas
 pub mod SpliceLemmas
 pub mod SameLemmas
+pub mod ShownLemmas
 pub mod KindLemmas
 pub mod FragmentLemmas
 pub mod UserLemmas

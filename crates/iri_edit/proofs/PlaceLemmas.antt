@@ -49,7 +49,7 @@ module _ (t a : List ℕ) (u : IsUtf8 t) (l : length t < 2 ^ 64) (h : (split_of 
       }
 
 -- ---- the userinfo
--- what stands behind the `@`
+-- what comes after the `@`
 rest_of : List ℕ → List ℕ
 rest_of a = (authority_parts a).host ++ marked 58 (authority_parts a).port
 

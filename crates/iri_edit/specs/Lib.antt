@@ -1,6 +1,8 @@
 pub mod Edited
 pub mod Password
 pub mod Host
+pub mod ShownHost
+pub mod ShownRemoval
 pub mod Fragment
 pub mod Shown
 pub mod Built

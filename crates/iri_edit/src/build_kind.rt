@@ -16,7 +16,8 @@ pub trait BuildKind: WholeKind {
     /// What the kind refuses, by whether a scheme and a fragment are given.
     ghost refusal: { Bool → Bool → Option ErrorKind };
 
-    /// What the kind refuses of parts that are each in their production, by whether a scheme and a fragment are given.
+    /// What the kind refuses of parts that are each in their production, by whether a scheme and a fragment are given;
+    /// `None` exactly where it refuses nothing.
     fn refuse(scheme: bool, fragment: bool) -> Option<ErrorKind>
         ensures { result ≡ refusal scheme fragment };
 

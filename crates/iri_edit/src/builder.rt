@@ -1,18 +1,20 @@
 //! Whole texts built from parts (RFC 3986 section 5.3).
-ghost use Rattle.std.specs.Prelude.{◌≡◌, ◌++◌, ◌||◌, ◌&&◌, IfOk, MatchResult, None, OnOk, Some, is_some, string_bytes};
+ghost use Rattle.std.specs.Prelude.{◌≡◌, ◌||◌, ◌&&◌, IfOk, MatchResult, None, Some, is_some, string_bytes};
 ghost use Rattle.std.specs.Prelude.{true, false};
 ghost use Rattle.iri_edit.specs.Built.{absolute_refusal, built_fault, built_text, components_fault, given_authority};
 ghost use Rattle.iri_edit.specs.Built.{given_parts, iri_refusal, nothing_given, reference_refusal, relative_refusal};
 ghost use Rattle.iri_grammar.specs.Fault.{Answers, part_fault};
 ghost use Rattle.iri_grammar.specs.Parts.{Fits, authority_text, recompose};
 ghost use Rattle.iri_grammar.specs.OptionalSlices.{now_of};
+ghost use Rattle.iri_text.specs.Shown.{Shows};
 
 use crate::build_kind::{BuildKind, Host, Port, Scheme, Userinfo};
-use crate::recomposed::{keeps_rules, normal_text, or_nothing, push_ended, push_marked};
+use crate::recomposed::{keeps_rules, normal_text, or_nothing, show_ended, show_marked};
 use iri_grammar::error::{Error, ErrorKind};
 use iri_grammar::spec::Spec;
 use iri_grammar::validate;
 use iri_owned::owned::{Owned, RiAbsoluteString, RiReferenceString, RiRelativeString, RiString};
+use iri_text::{Show, Stop, TextSink, ToStringFallible};
 use iri_types::kind::{Absolute, Fragment, Iri, Kind, Query, Reference, Relative};
 use std::alloc::{AllocError, Global};
 
@@ -192,6 +194,37 @@ impl<'a> Builder<'a> {
         self.normal = false;
     }
 
+    /// Whether the parts make a text of the kind `K`. It takes no memory; what is shown of the builder is that text then.
+    ///
+    /// # Errors
+    ///
+    /// Exactly where they make none: the first fault, in the order of `build`.
+    ///
+    /// ```
+    /// use iri::build::Builder;
+    /// use iri::format::ToStringFallible;
+    /// use iri::spec::UriSpec;
+    /// use iri::types::kind::Reference;
+    /// let mut parts = Builder::new();
+    /// parts.host("a");
+    /// parts.path("/b");
+    /// parts.validate::<UriSpec, Reference>()?;
+    /// assert_eq!(rt; parts.try_to_string(rt.alloc())?.as_str(), "//a/b");
+    /// ```
+    pub fn validate<S: Spec, K: BuildKind>(&self) -> Result<(), Error>
+        ensures { Answers result (built_fault S.tests K.refusal (given self.now)) }
+    {
+        self.judge_components::<S>()?;
+        if let Some(kind) = K::refuse(self.scheme.is_some(), self.fragment.is_some()) {
+            return Err(Error::new(kind));
+        }
+        if keeps_rules(self.scheme.is_some(), self.has_authority(), self.path) {
+            Ok(())
+        } else {
+            Err(Error::new(ErrorKind::InvalidPath))
+        }
+    }
+
     /// The text of the kind `K` that the parts make.
     ///
     /// # Errors
@@ -199,13 +232,13 @@ impl<'a> Builder<'a> {
     /// - `Invalid` exactly where they make none, with the first fault in this order: the parts one by one, scheme,
     ///   userinfo, host, port, path, query, fragment; what the kind refuses (`build_iri` and its kin say it);
     ///   `InvalidPath` where the path breaks the rules of its place (RFC 3986 section 3.3).
-    /// - `Memory` where allocation fails.
+    /// - `Memory` where allocation fails; the parts have no fault then.
     pub fn build<S: Spec, K: BuildKind>(self, alloc: Global) -> Result<Owned<S, K>, BuildError>
         ensures { MatchResult result (λ t. (built_fault S.tests K.refusal (given self.entry) ≡ None)
             × (t.text ≡ built_text S.tests (given self.entry)))
             (λ e. RefusedFor e (built_fault S.tests K.refusal (given self.entry))) }
     {
-        match self.judge_whole::<S, K>() {
+        match self.validate::<S, K>() {
             Ok(()) => self.text_of::<S, K>(alloc).map_err(BuildError::Memory),
             Err(error) => Err(BuildError::Invalid(error)),
         }
@@ -324,48 +357,18 @@ impl<'a> Builder<'a> {
         judge::<S, Fragment>(self.fragment)
     }
 
-    // The first fault.
-    fn judge_whole<S: Spec, K: BuildKind>(&self) -> Result<(), Error>
-        ensures { Answers result (built_fault S.tests K.refusal (given self.now)) }
-    {
-        self.judge_components::<S>()?;
-        if let Some(kind) = K::refuse(self.scheme.is_some(), self.fragment.is_some()) {
-            return Err(Error::new(kind));
-        }
-        if keeps_rules(self.scheme.is_some(), self.has_authority(), self.path) {
-            Ok(())
-        } else {
-            Err(Error::new(ErrorKind::InvalidPath))
-        }
-    }
-
     // `//` and the authority, where there is one.
     #[tactic(auto, unfolding(iri_grammar::specs::Authority::recompose_authority))]
-    fn push_authority(&self, text: &mut String) -> Result<(), AllocError>
-        ensures { OnOk result (string_bytes text.new
-            ≡ string_bytes text.old ++ authority_text (given_authority (given self.now))) }
+    fn show_authority<W: TextSink>(&self, sink: &mut W) -> Result<(), Stop>
+        ensures { Shows W.puts W.halts W.stops sink.old (authority_text (given_authority (given self.now))) sink.new result }
     {
         if !self.has_authority() {
             return Ok(());
         }
-        text.push_str("//")?;
-        push_ended(text, self.userinfo, "@", b'@')?;
-        text.push_str(or_nothing(self.host))?;
-        push_marked(text, ":", b':', self.port)
-    }
-
-    // The parts recomposed.
-    #[tactic(auto, unfolding(iri_grammar::specs::Parts::recompose))]
-    fn recomposed(&self, alloc: Global) -> Result<String, AllocError>
-        ensures { IfOk result (λ text. string_bytes text ≡ recompose (given_parts (given self.now))) }
-    {
-        let mut text = String::new(alloc);
-        push_ended(&mut text, self.scheme, ":", b':')?;
-        self.push_authority(&mut text)?;
-        text.push_str(self.path)?;
-        push_marked(&mut text, "?", b'?', self.query)?;
-        push_marked(&mut text, "#", b'#', self.fragment)?;
-        Ok(text)
+        sink.put("//")?;
+        show_ended(sink, self.userinfo, "@", b'@')?;
+        sink.put(or_nothing(self.host))?;
+        show_marked(sink, ":", b':', self.port)
     }
 
     // Whether the normal form is asked for, and a scheme is set.
@@ -393,7 +396,7 @@ impl<'a> Builder<'a> {
         requires { built_fault S.tests K.refusal (given self.now) ≡ None }
         ensures { IfOk result (λ t. t.text ≡ built_text S.tests (given self.now)) }
     {
-        let plain = self.recomposed(alloc)?;
+        let plain = self.try_to_string(alloc)?;
         let text = self.normal_where_asked::<S>(alloc, plain)?;
         Ok(Owned::from_valid(text))
     }
@@ -403,6 +406,22 @@ impl<'a> Builder<'a> {
             || (is_some (given self.now).host || is_some (given self.now).port)) }
     {
         self.userinfo.is_some() || self.host.is_some() || self.port.is_some()
+    }
+}
+
+/// What is shown are the parts recomposed (RFC 3986 section 5.3), whether they make a text or not, and never their normal form.
+impl Show for Builder<'_> {
+    ghost use Rattle.iri_edit.specs.Builders.{given};
+
+    ghost text = { λ b. recompose (given_parts (given b)) };
+
+    #[tactic(auto, unfolding(iri_grammar::specs::Parts::recompose))]
+    fn show<W: TextSink>(&self, sink: &mut W) -> Result<(), Stop> {
+        show_ended(sink, self.scheme, ":", b':')?;
+        self.show_authority(sink)?;
+        sink.put(self.path)?;
+        show_marked(sink, "?", b'?', self.query)?;
+        show_marked(sink, "#", b'#', self.fragment)
     }
 }
 

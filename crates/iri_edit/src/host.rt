@@ -28,7 +28,7 @@ pub trait ReplaceHost: Show {
     ///
     /// # Errors
     ///
-    /// Where allocation fails; the text is as it was then.
+    /// Where allocation fails, and only where the host would be replaced; the text is as it was then.
     ///
     /// ```
     /// use iri::edit::ReplaceHost;
@@ -45,7 +45,7 @@ pub trait ReplaceHost: Show {
     ///
     /// # Errors
     ///
-    /// Where allocation fails; the text is as it was then.
+    /// Where allocation fails, and only where the host would be replaced; the text is as it was then.
     ///
     /// ```
     /// use iri::edit::ReplaceHost;
@@ -59,7 +59,7 @@ pub trait ReplaceHost: Show {
 }
 
 // Whether the host may be replaced by the new one.
-fn may_replace<S: Spec>(host: &str, new_host: &str, names_only: bool) -> bool
+pub(crate) fn may_replace<S: Spec>(host: &str, new_host: &str, names_only: bool) -> bool
     requires { is_host S.tests host.now ≡ true }
     ensures { result ≡ (is_host S.tests new_host.now && (not names_only || is_named host.now)) }
 {

@@ -3,6 +3,7 @@
 //!
 //! `password` shows a view without its password ([`MaskPassword`](password::MaskPassword)), or with another text in its place;
 //! `removal` takes it out of an owned text. `host` and `fragment` put another host or fragment into an owned text.
+//! `shown_host` and `shown_removal` show a reference with another host, or without its password, and take no memory.
 //! [`Builder`](builder::Builder) makes a text of each whole kind from parts, and tells the first part that is wrong.
 //! `laws` says what else of a text an edit keeps.
 //!
@@ -27,5 +28,5 @@ pub mod password;
 mod place;
 mod recomposed;
 pub mod removal;
-#[cfg(test)]
-mod tests;
+pub mod shown_host;
+pub mod shown_removal;

@@ -1,5 +1,5 @@
 // Parts written one after the other (RFC 3986 section 5.3), and the normal form of a text.
-ghost use Rattle.std.specs.Prelude.{◌≡◌, ◌++◌, [], ◌∷◌, ◌||◌, IfOk, None, OnOk, string_bytes};
+ghost use Rattle.std.specs.Prelude.{◌≡◌, [], ◌∷◌, ◌||◌, IfOk, None, string_bytes};
 ghost use Rattle.iri_edit.specs.Built.{or_empty};
 ghost use Rattle.iri_edit.specs.inside.Rules.{ended, rules_by};
 ghost use Rattle.iri_grammar.specs.Authority.{recompose_authority};
@@ -9,46 +9,47 @@ ghost use Rattle.iri_grammar.specs.Split.{split_of};
 ghost use Rattle.iri_grammar.specs.OptionalSlices.{now_of};
 ghost use Rattle.iri_grammar.specs.WholeFault.{iri_fault};
 ghost use Rattle.iri_normal.specs.NormalForm.{normal_form};
+ghost use Rattle.iri_text.specs.Shown.{Shows};
 
 use iri_grammar::cutting::{cut_before, lacks};
 use iri_grammar::spec::Spec;
 use iri_normal::views::Normalize;
-use iri_text::ToStringFallible;
+use iri_text::{Stop, TextSink, ToStringFallible};
 use iri_types::view::RiStr;
 use std::alloc::{AllocError, Global};
 
 // A part and the delimiter after it, where there is one.
-pub(crate) fn push_ended(
-    text: &mut String,
+pub(crate) fn show_ended<W: TextSink>(
+    sink: &mut W,
     part: Option<&str>,
     mark: &str,
     code: u8,
-) -> Result<(), AllocError>
+) -> Result<(), Stop>
     requires { mark.now ≡ code ∷ [] }
-    ensures { OnOk result (string_bytes text.new ≡ string_bytes text.old ++ ended code (now_of part.entry)) }
+    ensures { Shows W.puts W.halts W.stops sink.old (ended code (now_of part.entry)) sink.new result }
 {
     let Some(part) = part else {
         return Ok(());
     };
-    text.push_str(part)?;
-    text.push_str(mark)
+    sink.put(part)?;
+    sink.put(mark)
 }
 
 // A delimiter and the part after it, where there is one.
-pub(crate) fn push_marked(
-    text: &mut String,
+pub(crate) fn show_marked<W: TextSink>(
+    sink: &mut W,
     mark: &str,
     code: u8,
     part: Option<&str>,
-) -> Result<(), AllocError>
+) -> Result<(), Stop>
     requires { mark.now ≡ code ∷ [] }
-    ensures { OnOk result (string_bytes text.new ≡ string_bytes text.old ++ marked code (now_of part.entry)) }
+    ensures { Shows W.puts W.halts W.stops sink.old (marked code (now_of part.entry)) sink.new result }
 {
     let Some(part) = part else {
         return Ok(());
     };
-    text.push_str(mark)?;
-    text.push_str(part)
+    sink.put(mark)?;
+    sink.put(part)
 }
 
 // A part that may be absent, or the empty text.

@@ -118,6 +118,20 @@ read_back s k (Some u) h p f t d =
     let r = host_port s k h p t d in
     rw (append_assoc u (64 ∷ []) rest, front, back, r.0, r.1) refl
 
+-- of a name and a port
+name_port : (h : List ℕ) (p : Option (List ℕ)) → lacks 58 h ≡ true → if_there is_port p ≡ true
+    → (host_of (h ++ marked 58 p) ≡ h) × (port_of (h ++ marked 58 p) ≡ p)
+name_port h None c d = subst (λ z. (host_of z ≡ h) × (port_of z ≡ None)) (sym (nothing_behind h)) (no_colon h c)
+name_port h (Some p) c d = host_then_port h p d
+
+pub name_parts : (h : List ℕ) (p : Option (List ℕ)) → lacks 64 h ≡ true → lacks 58 h ≡ true → if_there is_port p ≡ true
+    → authority_parts (h ++ marked 58 p) ≡ record { userinfo = None; host = h; port = p }
+unfolding authority_parts
+name_parts h p a c d =
+    let gone = no_userinfo (h ++ marked 58 p) (lacks-append 64 h (marked 58 p) a (port_no_at p d)) in
+    let r = name_port h p c d in
+    rw (gone, r.0, r.1) refl
+
 pub reading_is : (s : Tests) → IsSpec s → (t : List ℕ) (a : AuthorityParts) → ReadsAuthority s t a → authority_parts t ≡ a
 unfolding recompose_authority
 reading_is s k t a r = ap authority_parts (sym r.1) ∙ read_back s k a.userinfo a.host a.port r.0.userinfo r.0.host r.0.port

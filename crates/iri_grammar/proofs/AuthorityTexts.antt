@@ -149,7 +149,7 @@ literal-below : (c : ℕ) → is_literal_char c ≡ true → c < 128
 unfolding is_literal_char is_ascii_userinfo is_ascii_reg_name is_ascii_unreserved is_sub_delim
 literal-below c h = grind (arith, nat_tests)
 
-digit-below : (c : ℕ) → is_ascii_digit c ≡ true → c < 128
+pub digit-below : (c : ℕ) → is_ascii_digit c ≡ true → c < 128
 digit-below c h = grind (arith, nat_tests)
 
 pub text_over-utf8 : (p : ℕ → Bool) (xs : List ℕ) → text_over p xs ≡ true → IsUtf8 xs

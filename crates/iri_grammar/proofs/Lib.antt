@@ -5,6 +5,8 @@ pub mod UnitRuns
 pub mod HexDigits
 pub mod MarkLemmas
 pub mod PlainTails
+pub mod PlainAuthorities
+pub mod DotPlaces
 pub mod Octets
 pub mod Marks
 pub mod Groups

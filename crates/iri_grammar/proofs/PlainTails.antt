@@ -7,7 +7,7 @@ use Rattle.std.specs.Str.{chars}
 use Rattle.std.proofs.lemmas.Str.{IsUtf8-from_ascii}
 use Rattle.std.proofs.lemmas.Bool.{eqb-true}
 use Rattle.iri_grammar.specs.Authority.{recompose_authority}
-use Rattle.iri_grammar.specs.Classes.{Tests, IsSpec, path_char, is_ascii_reg_name, is_ascii_unreserved, is_sub_delim}
+use Rattle.iri_grammar.specs.Classes.{Tests, IsSpec, path_char, is_ascii_reg_name, is_ascii_userinfo, is_ascii_unreserved, is_sub_delim}
 use Rattle.iri_grammar.specs.Marks.{before_any, from_any}
 use Rattle.iri_grammar.specs.inside.Marks.{ends_at_start, ends_authority}
 use Rattle.iri_grammar.specs.ClassTests.{ascii_test, class_test}
@@ -24,7 +24,7 @@ use Rattle.iri_grammar.specs.declared.error.ErrorKind.{ErrorKind}
 use Rattle.iri_grammar.specs.declared.error.ErrorKind.TheVariants.{InvalidFragment, InvalidPath, InvalidQuery}
 use Rattle.iri_grammar.specs.inside.Tails.{AreOver, IsOverTail, IsTail}
 use Rattle.iri_grammar.specs.declared.class.Class.{Class}
-use Rattle.iri_grammar.specs.declared.class.Class.TheVariants.{RegName}
+use Rattle.iri_grammar.specs.declared.class.Class.TheVariants.{RegName, Userinfo}
 use Rattle.iri_grammar.specs.declared.tail.Tail.{Tail}
 use Rattle.iri_grammar.proofs.AuthorityTexts.{all_below, over_text-lacks}
 use Rattle.iri_grammar.proofs.SplitUnique.{path_apart, queries-lack}
@@ -115,31 +115,25 @@ plain_name s l a h = authority-no_fault s a (passes s l a (record { userinfo = N
     or-true true = refl
     or-true false = refl
 
-plain-names : (s : Tests) → IsSpec s → (o : Option (List ℕ)) → if_there (list_all (ascii_test RegName)) o ≡ true
-    → part_fault (authority_fault s) o ≡ None
-plain-names s l None h = refl
-plain-names s l (Some a) h = plain_name s l a h
+-- beside an authority without a fault, only a colon out of its place is left to be one
+pub colon-fault : (s : Tests) (p : Parts) → part_fault (authority_fault s) p.authority ≡ None → AreOver s p.path p.query p.fragment
+    → unless (colon_allowed p) InvalidPath ≡ parts_fault s (fragment_fault s) p
+colon-fault s p n h = ap (λ o. first o (unless (colon_allowed p) InvalidPath)) (sym n) ∙ over-fault s p h
 
--- then only a colon out of its place is left to be a fault
-pub colon-fault : (s : Tests) (p : Parts) → IsSpec s → if_there (list_all (ascii_test RegName)) p.authority ≡ true
-    → AreOver s p.path p.query p.fragment → unless (colon_allowed p) InvalidPath ≡ parts_fault s (fragment_fault s) p
-colon-fault s p l n h =
-    ap (λ o. first o (unless (colon_allowed p) InvalidPath)) (sym (plain-names s l p.authority n)) ∙ over-fault s p h
-
--- what ends a name: none of its characters
-name-goes_on : (x : ℕ) → ascii_test RegName x ≡ true → ends_authority x ≡ false
-unfolding is_ascii_reg_name is_ascii_unreserved is_sub_delim
+-- what ends a name and a port: none of their characters
+name-goes_on : (x : ℕ) → ascii_test Userinfo x ≡ true → ends_authority x ≡ false
+unfolding is_ascii_userinfo is_ascii_reg_name is_ascii_unreserved is_sub_delim
 name-goes_on x h = rw (
-  test_apart (ascii_test RegName) 47 x refl h,
-  test_apart (ascii_test RegName) 63 x refl h,
-  test_apart (ascii_test RegName) 35 x refl h,
+  test_apart (ascii_test Userinfo) 47 x refl h,
+  test_apart (ascii_test Userinfo) 63 x refl h,
+  test_apart (ascii_test Userinfo) 35 x refl h,
 ) refl
 
-pub name-ends : (a r : List ℕ) → list_all (ascii_test RegName) a ≡ true → ends_at_start r ≡ true
+pub name-ends : (a r : List ℕ) → list_all (ascii_test Userinfo) a ≡ true → ends_at_start r ≡ true
     → (a ≡ before_any ends_authority (a ++ r)) × (r ≡ from_any ends_authority (a ++ r))
 name-ends [] [] h e = (refl, refl)
 name-ends [] (x ∷ xs) h e = rw e (refl, refl)
 name-ends (x ∷ xs) r h e =
-    let k = both (ascii_test RegName x) (list_all (ascii_test RegName) xs) h in
+    let k = both (ascii_test Userinfo x) (list_all (ascii_test Userinfo) xs) h in
     let n = name-ends xs r k.1 e in
     rw (name-goes_on x k.0) (ap (λ l. x ∷ l) n.0, n.1)

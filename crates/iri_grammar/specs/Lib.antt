@@ -20,7 +20,7 @@ pub mod HostExamples
 pub mod Parts
 pub mod Split
 pub mod WholeFault
-pub mod Triplets
+pub mod Seen
 pub mod Splitters
 pub mod Examples
 pub mod Marks

@@ -1,7 +1,7 @@
 -- What a splitter holds.
-use Rattle.std.specs.Prelude.{Bool, ◌==◌}
 use Rattle.iri_grammar.specs.Parts.{Parts}
 use Rattle.iri_grammar.specs.OptionalSlices.{now_of}
+use Rattle.iri_grammar.specs.declared.seen.Seen.{Seen}
 use Rattle.iri_grammar.specs.declared.splitter.Splitter.{Splitter}
 
 -- its five parts
@@ -14,6 +14,6 @@ parts s = record {
   fragment = now_of s.fragment;
 }
 
--- whether path, query and fragment were found to be without triplets
-abbrev pub found_no_triplet : Splitter → Bool
-found_no_triplet s = s.triplets == 0
+-- the notes of its scan
+abbrev pub seen : Splitter → Seen
+seen s = s.seen

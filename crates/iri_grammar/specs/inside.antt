@@ -4,5 +4,6 @@ pub mod LastColon
 pub mod Laws
 pub mod Marks
 pub mod PiecesLaws
+pub mod PlainAuthority
 pub mod Runs
 pub mod Tails

@@ -1,20 +1,26 @@
 //! The parts of an authority (RFC 3986 section 3.2).
-ghost use Rattle.std.specs.Prelude.{◌≡◌, true, MatchOption};
+ghost use Rattle.std.specs.Prelude.{◌≡◌, ◌≤◌, ◌++◌, not, false, length, true, MatchOption};
+ghost use Rattle.std.specs.List.{list_all};
 ghost use Rattle.memchr.specs.Find.{IsLastByte, is_byte};
 ghost use Rattle.iri_grammar.specs.Components.{is_port};
 ghost use Rattle.iri_grammar.specs.Authority.{is_authority, authority_parts, userinfo_of, after_userinfo, host_of};
 ghost use Rattle.iri_grammar.specs.Authority.{port_of};
+ghost use Rattle.iri_grammar.specs.ClassTests.{ascii_test};
+ghost use Rattle.iri_grammar.specs.Seen.{is_plain_authority, is_small};
+ghost use Rattle.iri_grammar.specs.declared.class.Class.TheVariants.{Userinfo};
 ghost use Rattle.iri_grammar.specs.inside.LastColon.{LastColon, NoColon};
+ghost use Rattle.iri_grammar.specs.inside.PlainAuthority.{is_small_name, name_len, plain_len, port_len};
 ghost use Rattle.iri_grammar.specs.Spans.{span_parts};
 ghost use Rattle.iri_grammar.specs.OptionalSlices.{now_of};
 
+use crate::class::Class;
 use crate::cutting::cut;
-use crate::digits::all_digits;
+use crate::digits::{all_digits, digits_len};
 use crate::spec::Spec;
 use memchr::memrchr;
 
 /// The parts of an authority, as slices of its text (RFC 3986 section 3.2).
-#[derive(Clone, Copy)]
+#[derive(Clone, Copy, Debug)]
 pub struct AuthoritySpan<'a> {
     userinfo: Option<&'a str>,
     host: &'a str,
@@ -41,6 +47,61 @@ pub(crate) fn is_port(s: &str) -> bool
     ensures { result ≡ is_port s.now }
 {
     all_digits(s.as_bytes())
+}
+
+// How many bytes at the start are ASCII characters of a name, and whether a capital letter is among them.
+#[inline(always)]
+fn name_len(bytes: &[u8]) -> (usize, bool)
+    ensures len { result.0 ≡ name_len bytes.now }
+    ensures within { result.0 ≤ length bytes.now }
+    ensures capitals { result.1 ≡ not (is_small_name bytes.now) }
+{
+    let mut capitals = false;
+    for (i, b) in bytes.iter().enumerate() {
+        if !Class::RegName.has_byte(*b) {
+            return (i, capitals);
+        }
+        capitals |= b.is_ascii_uppercase();
+    }
+    (bytes.len(), capitals)
+}
+
+// How many bytes a colon and digits after it have at the start; 0 where there are none.
+fn port_len(bytes: &[u8]) -> usize
+    ensures len { result ≡ port_len bytes.now }
+    ensures within { result ≤ length bytes.now }
+{
+    match bytes {
+        [b':', rest @ ..] => match digits_len(rest) {
+            0 => 0,
+            digits => digits + 1,
+        },
+        _ => 0,
+    }
+}
+
+// How many bytes a name in ASCII without percent-encoded octets has at the start, with a port that isn't empty, where one
+// follows; and whether a capital letter is among them.
+#[inline(always)]
+fn plain_len(bytes: &[u8]) -> (usize, bool)
+    ensures len { result.0 ≡ plain_len bytes.now }
+    ensures within { result.0 ≤ length bytes.now }
+    ensures capitals { result.1 ≡ not (is_small_name bytes.now) }
+{
+    let (name, capitals) = name_len(bytes);
+    (name + port_len(&bytes[name..]), capitals)
+}
+
+// Such a name and port, what follows them, and whether a capital letter may be among them.
+#[inline(always)]
+pub(crate) fn cut_plain(s: &str) -> (&str, &str, bool)
+    ensures whole { s.now ≡ result.0.now ++ result.1.now }
+    ensures chars { list_all (ascii_test Userinfo) result.0.now ≡ true }
+    ensures plain { is_plain_authority result.0.now ≡ true }
+    ensures capitals { result.2 ≡ false → list_all is_small result.0.now ≡ true }
+{
+    let (end, capitals) = plain_len(s.as_bytes());
+    (&s[..end], &s[end..], capitals)
 }
 
 // The userinfo, where there is an `@`, and what follows it.

@@ -12,8 +12,8 @@ pub fn find(s: &str, mark: u8) -> Option<usize>
     memchr(mark, s.as_bytes())
 }
 
-/// What comes before the first delimiter, or all, and what comes after it. It has a condition: the delimiter is ASCII
-/// (`u8::is_ascii`).
+/// What comes before the first delimiter, or all, and what comes after it, `None` exactly where it is nowhere. It has a
+/// condition: the delimiter is ASCII (`u8::is_ascii`).
 pub fn cut(s: &str, mark: u8) -> (&str, Option<&str>)
     requires { mark < 128 }
     ensures before { result.0.now ≡ before mark s.now }

@@ -30,16 +30,6 @@ pub fn past_run(class: Class, s: &str) -> &str
     &s[run_len(class, s.as_bytes())..]
 }
 
-// The ASCII characters of the class at the start, and what follows them.
-#[inline(always)]
-pub(crate) fn cut_run(class: Class, s: &str) -> (&str, &str)
-    ensures whole { s.now ≡ result.0.now ++ result.1.now }
-    ensures run { list_all (ascii_test class) result.0.now ≡ true }
-{
-    let end = run_len(class, s.as_bytes());
-    (&s[..end], &s[end..])
-}
-
 // Whether the text is made of ASCII characters of the class alone.
 #[tactic(auto, using(crate::proofs::MarkLemmas::run_of_all))]
 pub(crate) fn is_run(class: Class, s: &str) -> bool

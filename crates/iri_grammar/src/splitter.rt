@@ -1,43 +1,47 @@
 //! The split of a reference into its five parts (RFC 3986 section 3).
-ghost use Rattle.std.specs.Prelude.{◌≡◌, None, IfOk, MatchOption, true};
+ghost use Rattle.std.specs.Prelude.{◌≡◌, None, IfOk, MatchOption, false, true};
 ghost use Rattle.std.specs.List.{list_all};
-ghost use Rattle.iri_grammar.specs.ClassTests.{ascii_test};
 ghost use Rattle.iri_grammar.specs.Components.{if_there, is_scheme, is_scheme_char};
-ghost use Rattle.iri_grammar.specs.declared.class.Class.TheVariants.{RegName};
 ghost use Rattle.iri_grammar.specs.Fault.{Answers};
 ghost use Rattle.iri_grammar.specs.Marks.{before_any, from_any};
 ghost use Rattle.iri_grammar.specs.inside.Marks.{ends_scheme, SchemeAt, NoScheme, ends_authority, AuthorityEndAt};
 ghost use Rattle.iri_grammar.specs.inside.Marks.{NoAuthorityEnd, IsPastAuthority, ends_at_start};
-ghost use Rattle.iri_grammar.specs.inside.Tails.{AreOver, LacksTripletsInTail};
+ghost use Rattle.iri_grammar.specs.inside.Tails.{AreOver};
 ghost use Rattle.iri_grammar.specs.Parts.{Splits};
 ghost use Rattle.iri_grammar.specs.Runs.{run_of};
 ghost use Rattle.iri_grammar.specs.Split.{split_of, relative_split_of, parts_of, scheme_of, after_scheme, authority_of};
 ghost use Rattle.iri_grammar.specs.Split.{hier_of};
-ghost use Rattle.iri_grammar.specs.Triplets.{LackTriplets};
+ghost use Rattle.iri_grammar.specs.Seen.{Promises, is_plain_authority, is_small};
 ghost use Rattle.std.proofs.Props.{props};
 ghost use Rattle.iri_grammar.specs.OptionalSlices.{now_of};
 ghost use Rattle.iri_grammar.specs.WholeFault.{reference_fault};
 
-use crate::class::Class;
+use crate::authority::cut_plain;
+use crate::dots::may_have_dots;
 use crate::error::Error;
-use crate::over::cut_run;
+use crate::seen::Seen;
 use crate::spec::Spec;
 use crate::tail::Tail;
-use crate::validate::judge;
+use crate::validate::{judge, judge_front};
 use memchr::memchr3;
 use std::alloc::AllocError;
 
 /// The five parts of a reference, as slices of its text (RFC 3986 section 3).
+#[derive(Debug)]
 pub struct Splitter<'a> {
     scheme: Option<&'a str>,
     authority: Option<&'a str>,
     path: &'a str,
     query: Option<&'a str>,
     fragment: Option<&'a str>,
-    // 0 where path, query and fragment were found to be without percent-encoded octets, otherwise 1. After a `bool` each
-    // copy would copy padding.
-    triplets: usize,
-    pub ghost told: { triplets ≡ 0 → LackTriplets path.now (now_of query) (now_of fragment) } by { Prim.hlevel props },
+    seen: Seen,
+    pub ghost told: { Promises seen (record {
+      scheme = now_of scheme;
+      authority = now_of authority;
+      path = path.now;
+      query = now_of query;
+      fragment = now_of fragment;
+    }) } by { Prim.hlevel props },
 }
 
 impl Clone for Splitter<'_> {
@@ -79,6 +83,13 @@ fn scheme_run(bytes: &[u8]) -> usize
         }
     }
     bytes.len()
+}
+
+// Whether no byte is a capital letter.
+fn are_small(bytes: &[u8]) -> bool
+    ensures { result ≡ list_all is_small bytes.now }
+{
+    bytes.iter().all(|b| !b.is_ascii_uppercase())
 }
 
 // Whether each byte may be in a scheme.
@@ -162,40 +173,73 @@ fn ends_at_start(bytes: &[u8]) -> bool
     }
 }
 
-// What comes before the end of an authority, the rest from it on, and whether the first was found to be a plain name.
-#[inline(always)]
-fn look_before_end(s: &str) -> (&str, &str, bool)
-    ensures front { result.0.now ≡ before_any ends_authority s.now }
-    ensures rest { result.1.now ≡ from_any ends_authority s.now }
-    ensures name { result.2 ≡ true → list_all (ascii_test RegName) result.0.now ≡ true }
-{
-    // Most are a name alone: one look, and no search for the end.
-    let (name, rest) = cut_run(Class::RegName, s);
-    if ends_at_start(rest.as_bytes()) {
-        return (name, rest, true);
-    }
-    let (front, rest) = cut_before_end(s);
-    (front, rest, false)
+// The authority, where there is one, what follows it, and what was noted of it.
+#[derive(Clone, Copy)]
+struct AuthorityCut<'a> {
+    authority: Option<&'a str>,
+    rest: &'a str,
+    capitals: bool,
+    other: bool,
 }
 
-// The authority, what follows it, or all, and whether there is none or it was found to be a plain name.
+// What comes before the end of an authority, the rest from it on, and what was noted of the first.
 #[inline(always)]
-fn cut_authority(s: &str) -> (Option<&str>, &str, bool)
-    ensures authority { now_of result.0 ≡ authority_of (hier_of s.now) }
-    ensures past { IsPastAuthority s.now result.1.now }
-    ensures name { result.2 ≡ true → if_there (list_all (ascii_test RegName)) (now_of result.0) ≡ true }
+fn look_before_end(s: &str) -> AuthorityCut<'_>
+    ensures front { now_of result.authority ≡ Some (before_any ends_authority s.now) }
+    ensures rest { result.rest.now ≡ from_any ends_authority s.now }
+    ensures capitals { result.capitals ≡ false → if_there (list_all is_small) (now_of result.authority) ≡ true }
+    ensures plain { result.other ≡ false → if_there is_plain_authority (now_of result.authority) ≡ true }
+{
+    // Most are a name and perhaps a port: one look, and no search for the end.
+    let (front, rest, capitals) = cut_plain(s);
+    if ends_at_start(rest.as_bytes()) {
+        return AuthorityCut {
+            authority: Some(front),
+            rest,
+            capitals,
+            other: false,
+        };
+    }
+    let (front, rest) = cut_before_end(s);
+    AuthorityCut {
+        authority: Some(front),
+        rest,
+        capitals: true,
+        other: true,
+    }
+}
+
+// The authority, and what follows it, or all.
+#[inline(always)]
+fn cut_authority(s: &str) -> AuthorityCut<'_>
+    ensures authority { now_of result.authority ≡ authority_of (hier_of s.now) }
+    ensures past { IsPastAuthority s.now result.rest.now }
+    ensures capitals { result.capitals ≡ false → if_there (list_all is_small) (now_of result.authority) ≡ true }
+    ensures plain { result.other ≡ false → if_there is_plain_authority (now_of result.authority) ≡ true }
 {
     match s.strip_prefix("//") {
-        Some(rest) => {
-            let (authority, path, named) = look_before_end(rest);
-            (Some(authority), path, named)
-        }
-        None => (None, s, true),
+        Some(rest) => look_before_end(rest),
+        None => AuthorityCut {
+            authority: None,
+            rest: s,
+            capitals: false,
+            other: false,
+        },
+    }
+}
+
+// Whether no letter of the scheme, where there is one, is a capital.
+fn lacks_capitals(scheme: Option<&str>) -> bool
+    ensures { result ≡ if_there (list_all is_small) (now_of scheme.entry) }
+{
+    match scheme {
+        Some(scheme) => are_small(scheme.as_bytes()),
+        None => true,
     }
 }
 
 impl<'a> Splitter<'a> {
-    ghost use Rattle.iri_grammar.specs.Splitters.{found_no_triplet, parts};
+    ghost use Rattle.iri_grammar.specs.Splitters.{parts};
 
     /// The split of a text that is a reference of `S`: the same as `validate::iri_reference` and `of`, in one scan of
     /// the text.
@@ -208,8 +252,22 @@ impl<'a> Splitter<'a> {
         ensures fault { Answers result (reference_fault S.tests text.now) }
         ensures value { IfOk result (λ p. parts p ≡ split_of text.now) }
     {
-        let (parts, named, over) = Splitter::look_at::<S>(text);
-        match judge::<S>(&parts, named, over) {
+        match Splitter::scan::<S>(text) {
+            Some(parts) => {
+                judge_front::<S>(&parts)?;
+                Ok(parts)
+            }
+            None => Splitter::judged::<S>(text),
+        }
+    }
+
+    // The same part by part: it tells the fault of a text in which the scan found one.
+    fn judged<S: Spec>(text: &'a str) -> Result<Splitter<'a>, Error>
+        ensures fault { Answers result (reference_fault S.tests text.now) }
+        ensures value { IfOk result (λ p. parts p ≡ split_of text.now) }
+    {
+        let parts = Splitter::cut(text);
+        match judge::<S>(&parts) {
             Ok(()) => Ok(parts),
             Err(error) => Err(error),
         }
@@ -224,28 +282,32 @@ impl<'a> Splitter<'a> {
         Splitter::cut(text)
     }
 
-    // The parts of any text read as a reference, whether the authority was found to be a plain name or none, and whether path,
-    // query and fragment were found to be each in its production.
+    // The parts of a text read as a reference, where path, query and fragment are each in its production.
     #[tactic(auto, unfolding(crate::specs::Split::split_of))]
     #[inline(always)]
-    fn look_at<S: Spec>(text: &'a str) -> (Splitter<'a>, bool, bool)
-        ensures split { parts result.0 ≡ split_of text.now }
-        ensures name { result.1 ≡ true → if_there (list_all (ascii_test RegName)) (parts result.0).authority ≡ true }
-        ensures over { result.2 ≡ true → AreOver S.tests (parts result.0).path (parts result.0).query (parts result.0).fragment }
+    fn scan<S: Spec>(text: &'a str) -> Option<Splitter<'a>>
+        ensures { MatchOption result (Unit {0}) (λ p. (parts p ≡ split_of text.now)
+            × AreOver S.tests (parts p).path (parts p).query (parts p).fragment) }
     {
         let (scheme, rest) = cut_scheme(text);
-        let (authority, rest, named) = cut_authority(rest);
-        match Tail::look_at::<S>(rest) {
-            Some((tail, bare)) => (
-                Splitter::with_tail(scheme, authority, tail, bare),
-                named,
-                true,
-            ),
-            None => (
-                Splitter::with_tail(scheme, authority, Tail::of(rest), false),
-                named,
-                false,
-            ),
+        let cut = cut_authority(rest);
+        match Tail::look_at::<S>(cut.rest) {
+            Some(tail) => Some(Splitter {
+                scheme,
+                authority: cut.authority,
+                path: tail.path,
+                query: tail.query,
+                fragment: tail.fragment,
+                seen: Seen {
+                    path_triplets: tail.path_triplets,
+                    query_triplets: tail.query_triplets,
+                    fragment_triplets: tail.fragment_triplets,
+                    dots: may_have_dots(tail.path.as_bytes()),
+                    capitals: !lacks_capitals(scheme) || cut.capitals,
+                    other_authority: cut.other,
+                },
+            }),
+            None => None,
         }
     }
 
@@ -270,42 +332,23 @@ impl<'a> Splitter<'a> {
     fn behind(scheme: Option<&'a str>, rest: &'a str) -> Splitter<'a>
         ensures { parts result ≡ parts_of (now_of scheme.entry) rest.now }
     {
-        let (authority, rest, _) = cut_authority(rest);
-        Splitter::with_tail(scheme, authority, Tail::of(rest), false)
-    }
-
-    // `bare` says that there is no percent-encoded octet in path, query and fragment.
-    fn with_tail(
-        scheme: Option<&'a str>,
-        authority: Option<&'a str>,
-        tail: Tail<'a>,
-        bare: bool,
-    ) -> Splitter<'a>
-        requires { bare ≡ true → LacksTripletsInTail tail }
-        ensures { parts result ≡ record {
-          scheme = now_of scheme.entry;
-          authority = now_of authority.entry;
-          path = tail.entry.path.now;
-          query = now_of tail.entry.query;
-          fragment = now_of tail.entry.fragment;
-        } }
-    {
+        let cut = cut_authority(rest);
+        let tail = Tail::of(cut.rest);
         Splitter {
             scheme,
-            authority,
+            authority: cut.authority,
             path: tail.path,
             query: tail.query,
             fragment: tail.fragment,
-            triplets: usize::from(!bare),
+            seen: Seen::nothing_promised(),
         }
     }
 
-    /// Whether `new` found path, query and fragment to have no percent-encoded octet. `of` doesn't look.
-    pub fn lacks_triplets(&self) -> bool
-        ensures found { result ≡ found_no_triplet self.now }
-        ensures bare { result ≡ true → LackTriplets (parts self.now).path (parts self.now).query (parts self.now).fragment }
+    /// What the scan of `new` noted. `of` notes nothing, and then all notes are true.
+    pub fn seen(&self) -> Seen
+        ensures promises { Promises result (parts self.now) }
     {
-        self.triplets == 0
+        self.seen
     }
 
     /// The scheme, without its `:`; `None` exactly where there is none (RFC 3986 section 3.1).
@@ -343,3 +386,6 @@ impl<'a> Splitter<'a> {
         self.fragment
     }
 }
+
+#[cfg(test)]
+mod tests;

@@ -5,7 +5,7 @@ ghost use Rattle.iri_grammar.specs.Components.{if_there, is_fragment, is_query};
 ghost use Rattle.iri_grammar.specs.Cut.{lacks, marked};
 ghost use Rattle.iri_grammar.specs.OptionalSlices.{now_of};
 ghost use Rattle.iri_grammar.specs.inside.Marks.{TailAt, NoTail};
-ghost use Rattle.iri_grammar.specs.inside.Tails.{IsTail, IsOverTail, LacksTripletsInTail};
+ghost use Rattle.iri_grammar.specs.inside.Tails.{IsTail, IsOverTail, KeepsNotes};
 
 use crate::class::Class;
 use crate::cutting::cut;
@@ -13,12 +13,15 @@ use crate::spec::Spec;
 use crate::unit::cut_units;
 use memchr::memchr2;
 
-// Path, query and fragment, as slices of a text.
+// Path, query and fragment, as slices of a text, and which of them may have percent-encoded octets.
 #[derive(Clone, Copy)]
 pub(crate) struct Tail<'a> {
     pub path: &'a str,
     pub query: Option<&'a str>,
     pub fragment: Option<&'a str>,
+    pub path_triplets: bool,
+    pub query_triplets: bool,
+    pub fragment_triplets: bool,
 }
 
 // Where the first `?` or `#` is.
@@ -62,42 +65,46 @@ fn cut_fragment<S: Spec>(s: &str) -> (Option<&str>, &str, bool)
 }
 
 impl<'a> Tail<'a> {
+    // Parts that weren't looked at.
+    fn unseen(path: &'a str, query: Option<&'a str>, fragment: Option<&'a str>) -> Tail<'a>
+        ensures path { result.path.now ≡ path.now }
+        ensures query { now_of result.query ≡ now_of query.entry }
+        ensures fragment { now_of result.fragment ≡ now_of fragment.entry }
+        ensures notes { KeepsNotes result }
+    {
+        Tail {
+            path,
+            query,
+            fragment,
+            path_triplets: true,
+            query_triplets: true,
+            fragment_triplets: true,
+        }
+    }
+
     // The parts of any text.
     pub(crate) fn of(s: &'a str) -> Tail<'a>
-        ensures { IsTail s.now result }
+        ensures tail { IsTail s.now result }
+        ensures notes { KeepsNotes result }
     {
         match find_tail(s.as_bytes()) {
             Some(i) => {
                 let rest = &s[i + 1..];
                 if s.as_bytes()[i] == b'?' {
                     let (query, fragment) = cut(rest, b'#');
-                    Tail {
-                        path: &s[..i],
-                        query: Some(query),
-                        fragment,
-                    }
+                    Tail::unseen(&s[..i], Some(query), fragment)
                 } else {
-                    Tail {
-                        path: &s[..i],
-                        query: None,
-                        fragment: Some(rest),
-                    }
+                    Tail::unseen(&s[..i], None, Some(rest))
                 }
             }
-            None => Tail {
-                path: s,
-                query: None,
-                fragment: None,
-            },
+            None => Tail::unseen(s, None, None),
         }
     }
 
-    // The parts of a text, where each is in its production, and whether no percent-encoded octet was found in them: its
-    // bytes are looked at once.
+    // The parts of a text, where each is in its production: its bytes are looked at once.
     #[inline(always)]
-    pub(crate) fn look_at<S: Spec>(s: &'a str) -> Option<(Tail<'a>, bool)>
-        ensures { MatchOption result (Unit {0}) (λ r. IsTail s.now r.0 × IsOverTail S.tests r.0
-            × (r.1 ≡ true → LacksTripletsInTail r.0)) }
+    pub(crate) fn look_at<S: Spec>(s: &'a str) -> Option<Tail<'a>>
+        ensures { MatchOption result (Unit {0}) (λ p. IsTail s.now p × IsOverTail S.tests p × KeepsNotes p) }
     {
         let (path, rest, bare_path) = cut_units::<S>(Class::Path, s);
         let (query, rest, bare_query) = cut_query::<S>(rest);
@@ -105,11 +112,13 @@ impl<'a> Tail<'a> {
         if !rest.is_empty() {
             return None;
         }
-        let tail = Tail {
+        Some(Tail {
             path,
             query,
             fragment,
-        };
-        Some((tail, bare_path & bare_query & bare_fragment))
+            path_triplets: !bare_path,
+            query_triplets: !bare_query,
+            fragment_triplets: !bare_fragment,
+        })
     }
 }

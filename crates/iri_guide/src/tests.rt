@@ -1,5 +1,18 @@
 use crate::{check, compare, contract, encode, expand, host, map, mask, normalize, parts, resolve};
-use iri::types::{IriStr, UriAbsoluteStr, UriReferenceStr, UriStr, UriString};
+use iri::components::AuthorityComponents;
+use iri::docs::{Document, read_document};
+use iri::link::{LinkSet, read_links};
+use iri::normalize::Normalized;
+use iri::prelude::*;
+use iri::register::Register;
+use iri::resolve::FixedBaseResolver;
+use iri::robots::Robots;
+use iri::spec::UriSpec;
+use iri::steps::{StepList, Target, steps_to_normal};
+use iri::types::kind::Reference;
+use iri::types::{
+    IriStr, SplitView, UriAbsoluteStr, UriAbsoluteString, UriReferenceStr, UriStr, UriString,
+};
 use iri::validate::ErrorKind;
 use std::test::Fail;
 
@@ -91,5 +104,77 @@ fn a_template_is_expanded(rt: HostRuntime) -> Result<(), Fail> {
     let words = String::from_str(rt.alloc(), "Hello World!")?;
     let address = expand::search(rt.alloc(), words).ok_or("memory")?;
     assert_eq!(rt; address.as_str(), "/search?q=Hello%20World%21");
+    Ok(())
+}
+
+// A user's own types, which derive `Debug` over what the library gives.
+#[derive(Debug, Drop)]
+struct Link<'a> {
+    text: UriReferenceStr<'a>,
+    split: SplitView<'a, UriSpec, Reference>,
+    authority: Option<AuthorityComponents<'a>>,
+    base: FixedBaseResolver<'a, UriSpec>,
+    target: Normalized<'a, UriSpec>,
+}
+
+#[derive(Debug, Drop)]
+struct Site {
+    home: UriString,
+    target: Target<UriSpec>,
+    steps: StepList,
+    document: Document,
+    fields: LinkSet<UriSpec>,
+    links: Register<UriSpec>,
+    rules: Robots,
+}
+
+#[test]
+fn a_struct_over_borrowed_types_is_printed(rt: HostRuntime) -> Result<(), Fail> {
+    let base = UriAbsoluteStr::new("http://a/b/c/d;p?q")?;
+    let text = UriReferenceStr::new("//g:1/")?;
+    let base = FixedBaseResolver::new(base);
+    let link = Link {
+        text,
+        split: SplitView::new("//g:1/")?,
+        authority: AuthorityComponents::from_iri(text),
+        base,
+        target: base.resolve(text),
+    };
+    let told = format!(in rt.alloc(); "{link:?}")?;
+    assert!(rt; told.as_str().contains("\"//g:1/\""));
+    assert!(rt; told.as_str().contains("\"http://a/b/c/d;p?q\""));
+    Ok(())
+}
+
+#[test]
+fn a_struct_over_owned_types_is_printed(rt: HostRuntime) -> Result<(), Fail> {
+    let base = UriAbsoluteStr::new("http://a/")?;
+    let target = FixedBaseResolver::new(base).target(
+        rt.alloc(),
+        UriReferenceStr::new("x/../%7e")?,
+    )?;
+    let steps = steps_to_normal(rt.alloc(), &target)?;
+    let document = read_document(rt.alloc(), b"{\"template\":\"{v}\",\"vars\":{\"v\":[1]}}").ok();
+    let site = Site {
+        home: UriString::try_from_str(rt.alloc(), "http://home.example/")?,
+        target,
+        steps,
+        document: document.ok_or("a document")?,
+        fields: read_links(rt.alloc(), base, b"<n>; rel=next")
+            .ok()
+            .ok_or("links")?,
+        links: Register::new(rt.alloc(), UriAbsoluteString::from_view(rt.alloc(), base)?),
+        rules: Robots::new(rt.alloc(), "ExampleBot").ok().ok_or("rules")?,
+    };
+    let told = format!(in rt.alloc(); "{site:?}")?;
+    for part in [
+        "\"http://home.example/\"",
+        "\"/x/../%7e\"",
+        "Dots",
+        "\"{v}\"",
+        "ExampleBot",
+    ] {
+        assert!(rt; told.as_str().contains(part));
+    }
     Ok(())
 }

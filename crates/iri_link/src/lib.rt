@@ -35,7 +35,4 @@ mod value;
 mod written;
 
 pub use error::{LinkError, LinkKind};
-pub use set::{LinkSet, read_links};
-
-#[cfg(test)]
-mod tests;
+pub use set::{LinkSet, read_links, read_links_against};

@@ -19,7 +19,6 @@ use crate::runs::{Run, cut_run, past};
 use iri_grammar::cutting::cut;
 use iri_grammar::spec::Spec;
 use iri_normal::resolver::FixedBaseResolver;
-use iri_text::ToStringFallible;
 use iri_types::kind::Reference;
 use iri_types::split::SplitView;
 use std::alloc::{AllocError, Global};
@@ -59,10 +58,9 @@ fn canonical_target<'a, S: Spec>(
     ensures { IfOk result (λ t. string_bytes t
         ≡ canonical S.tests (base_text resolver.now) (split_text reference.now)) }
 {
-    resolver
-        .resolve_split(reference)
-        .and_normalize()
-        .try_to_string(alloc)
+    let mut target = String::new(alloc);
+    resolver.canonical_into(&mut target, reference)?;
+    Ok(target)
 }
 
 // A link-value and what follows it and blanks: nothing, or a comma. `s` comes after its `<`.

@@ -1,5 +1,6 @@
 // The link-values of a field value.
 ghost use Rattle.std.specs.Prelude.{◌≡◌, MatchResult};
+ghost use Rattle.iri_normal.specs.Resolver.{base_text};
 ghost use Rattle.iri_types.specs.Texts.{text};
 ghost use Rattle.iri_link.specs.Refusals.{RefusedBy};
 ghost use Rattle.iri_link.specs.Resolved.{IsRead};
@@ -22,8 +23,10 @@ use std::marker::{Model, PhantomData};
 /// The link-values of a field value, in their order (RFC 8288 section 3). Each has a target, in canonical form, and
 /// parameters, each of which has a name in lower case and may have a value. It is seen as their list.
 #[derive(Drop)]
+#[derive_where(Debug)]
 pub struct LinkSet<S: Spec> {
     links: Vec<Link>,
+    #[derive_where(skip(Debug))]
     spec: PhantomData<S>,
 }
 
@@ -40,14 +43,13 @@ impl<S: Spec> Model for LinkSet<S> {
 // The link-values of a text.
 fn read_valid<S: Spec>(
     alloc: Global,
-    base: RiAbsoluteStr<'_, S>,
+    resolver: &FixedBaseResolver<'_, S>,
     field: &str,
 ) -> Result<LinkSet<S>, LinkError>
-    ensures { MatchResult result (λ l. ReadsField S.tests (text base.entry) field.now l)
+    ensures { MatchResult result (λ l. ReadsField S.tests (base_text resolver.now) field.now l)
         (IsTold S.tests field.now) }
 {
-    let resolver = FixedBaseResolver::new(base);
-    match read_text(alloc, &resolver, field) {
+    match read_text(alloc, resolver, field) {
         Ok(links) => Ok(LinkSet {
             links,
             spec: PhantomData,
@@ -88,8 +90,34 @@ pub fn read_links<S: Spec>(
 ) -> Result<LinkSet<S>, LinkError>
     ensures { MatchResult result (IsRead S.tests (text base.entry) field.now) (RefusedBy S.tests field.now) }
 {
+    read_links_against(alloc, &FixedBaseResolver::new(base), field)
+}
+
+/// The same against a resolver's base, which a program that reads many field values prepares once.
+///
+/// # Errors
+///
+/// Those of [`read_links`].
+///
+/// ```
+/// use iri::link::read_links_against;
+/// use iri::resolve::FixedBaseResolver;
+/// use iri::types::UriAbsoluteStr;
+/// let page = FixedBaseResolver::new(UriAbsoluteStr::new("http://example.com/TheBook/chapter3")?);
+/// for (field, target) in [("<chapter2>", "http://example.com/TheBook/chapter2"), ("</>", "http://example.com/")] {
+///     let links = read_links_against(rt.alloc(), &page, field.as_bytes())?;
+///     assert_eq!(rt; links.target(0), Some(target));
+/// }
+/// ```
+pub fn read_links_against<S: Spec>(
+    alloc: Global,
+    resolver: &FixedBaseResolver<'_, S>,
+    field: &[u8],
+) -> Result<LinkSet<S>, LinkError>
+    ensures { MatchResult result (IsRead S.tests (base_text resolver.now) field.now) (RefusedBy S.tests field.now) }
+{
     match str::from_utf8(field) {
-        Ok(text) => read_valid(alloc, base, text),
+        Ok(text) => read_valid(alloc, resolver, text),
         Err(error) => Err(LinkError::Fault(LinkKind::NotUtf8, error.valid_up_to())),
     }
 }

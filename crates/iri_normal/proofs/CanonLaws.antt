@@ -10,8 +10,9 @@ use Rattle.iri_percent.specs.declared.canon_mode.CanonMode.TheVariants.{Default,
 use Rattle.iri_normal.specs.Target.{target, target_under}
 use Rattle.iri_normal.specs.Modes.{mode_of}
 use Rattle.iri_normal.specs.Normalized.{written_text}
-use Rattle.iri_normal.specs.NormalForm.{form, normal_form, normal_form_in, canonical_parts_in, canonical, canonical_in}
-use Rattle.iri_normal.proofs.SchemeForm.{normal_in-fits, normal_in-stable}
+use Rattle.iri_normal.specs.NormalForm.{normal_form_in, canonical_parts_in, canonical, canonical_in}
+use Rattle.iri_normal.proofs.FormLaws.{normal_in-fits, normal_in-stable}
+use Rattle.iri_normal.proofs.SchemeForm.{form-is}
 use Rattle.iri_normal.proofs.TargetLaws.{target-fits}
 
 -- ---- the canonical text
@@ -25,9 +26,8 @@ canonical_in-text s Scheme base reference = refl
 pub written-canonical : (s : Tests) (m : CanonMode) (whole : Bool) (base reference : List ℕ)
     → written_text s (record { parts = target (split_of base) (split_of reference); whole = whole; mode = mode_of m })
     ≡ canonical_in s m base reference
-unfolding canonical normal_form form
-written-canonical s Default whole base reference = refl
-written-canonical s Scheme whole base reference = refl
+written-canonical s m whole base reference =
+    ap recompose (form-is s m whole (target (split_of base) (split_of reference))) ∙ canonical_in-text s m base reference
 
 parts-fit : (s : Tests) (m : CanonMode) (base reference : List ℕ) → IsSpec s → IsAbsolute s base → IsReference s reference
     → Fits s (canonical_parts_in s m base reference) × IsSome (canonical_parts_in s m base reference).scheme

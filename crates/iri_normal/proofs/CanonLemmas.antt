@@ -5,8 +5,7 @@ use Rattle.std.specs.Str.{is_utf8}
 use Rattle.iri_grammar.specs.Classes.{Tests, IsSpec}
 use Rattle.iri_grammar.specs.Fault.{bytes_fault}
 use Rattle.iri_grammar.proofs.FaultLaws.{absolute-law, reference-law}
-use Rattle.iri_grammar.specs.Parts.{Parts, IsAbsolute, IsReference, recompose}
-use Rattle.iri_grammar.specs.Split.{split_of}
+use Rattle.iri_grammar.specs.Parts.{IsAbsolute, IsReference}
 use Rattle.iri_grammar.specs.WholeFault.{absolute_fault, reference_fault}
 use Rattle.iri_grammar.specs.declared.error.ErrorKind.{ErrorKind}
 use Rattle.iri_grammar.specs.declared.error.ErrorKind.TheVariants.{InvalidUtf8}
@@ -14,15 +13,8 @@ use Rattle.iri_owned.specs.OwnedText.{OwnedText}
 use Rattle.iri_percent.specs.declared.canon_mode.CanonMode.{CanonMode}
 use Rattle.iri_normal.specs.Canonicalized.{IsCanonicalTextIn, CausedBy}
 use Rattle.iri_normal.proofs.CanonLaws.{canonical_in-iri, canonical_in-split, canonical_in-own}
-use Rattle.iri_normal.specs.NormalForm.{normal_form, canonical, canonical_in}
-use Rattle.iri_normal.specs.Target.{target}
+use Rattle.iri_normal.specs.NormalForm.{canonical_in}
 use Rattle.iri_normal.specs.declared.canonical.CanonError.{CanonError}
-
--- the recomposition of the normal form of a target is the canonical text
-pub canonical_is : (s : Tests) (b r : List ℕ) (p : Parts) → p ≡ target (split_of b) (split_of r)
-    → recompose (normal_form s p) ≡ canonical s b r
-unfolding canonical
-canonical_is s b r p e = ap (λ q. recompose (normal_form s q)) e
 
 absolute : (s : Tests) → IsSpec s → (b : List ℕ) → absolute_fault s b ≡ None → IsAbsolute s b
 absolute s l b h = (absolute-law s l b).0 h

@@ -1,12 +1,15 @@
 -- Dot segments, byte by byte.
 use Rattle.std.proofs.Common.{◌≡◌, ℕ, ◌≢◌, Bool, true, false, cond, ◌&&◌, ◌||◌, List, [], ◌∷◌, Option, Some, None, ◌≤◌, ◌<◌, length, drop}
 use Rattle.std.proofs.Common.{refl, sym, ◌∙◌, ap, subst, arith}
+use mathlib.Core.Bool.{and_assoc}
 use Rattle.std.specs.Prelude.{◌==◌}
 use Rattle.iri_grammar.specs.Cut.{before, behind}
 use Rattle.iri_grammar.proofs.CutLaws.{by_test}
 use Rattle.iri_grammar.specs.Parts.{is_empty}
+use Rattle.iri_grammar.specs.Seen.{begins_dot, has_slash_and_dot, may_have_dots, slash_and_dot}
 use Rattle.iri_grammar.specs.inside.PiecesLaws.{more_pieces}
 use Rattle.iri_grammar.proofs.PiecesLaws.{pieces_cut}
+use Rattle.iri_normal.proofs.EndedLemmas.{neither}
 use Rattle.iri_normal.specs.Dots.{behind_dot, is_dot_segment, is_dot_segment_behind, is_dot_or_nothing, any_dot_segment, has_dot_segment}
 use Rattle.iri_normal.specs.inside.DotSearch.{dots_in_front, slash_and_dots, dots_behind}
 
@@ -100,6 +103,33 @@ pub no_dot_first : (t : List ℕ) → None ≡ behind_dot t → is_dot_segment (
 unfolding is_dot_segment
 no_dot_first t h = ap is_dot_segment_behind (dot_cut t ∙ ap cut_rest (sym h))
 
+-- ---- no segment begins with what begins a dot
+none_there : (t : List ℕ) → begins_dot t ≡ false → behind_dot t ≡ None
+none_there [] h = refl
+none_there (x ∷ []) h = rw (neither (x == 46) (x == 37 && false) h).0 refl
+none_there (x ∷ y ∷ []) h = rw (neither (x == 46) (x == 37 && false) h).0 refl
+none_there (x ∷ y ∷ z ∷ xs) h =
+    let k = neither (x == 46) (x == 37 && (y == 50 && (z == 69 || z == 101))) h in
+    let miss = and_assoc (x == 37) (y == 50) (z == 69 || z == 101) ∙ k.1 in
+    rw (k.0, miss) refl
+
+begins_none : (t : List ℕ) → begins_dot t ≡ false → dots_in_front t ≡ false
+begins_none t h = no_dot_first t (sym (none_there t h))
+
+none_behind : (t : List ℕ) → has_slash_and_dot t ≡ false → dots_behind t ≡ false
+none_behind [] h = refl
+none_behind (x ∷ xs) h =
+    let k = neither (slash_and_dot (x ∷ xs)) (has_slash_and_dot xs) h in
+    let first : slash_and_dots (x ∷ xs) ≡ false = elim (x == 47) as (λ b. (b && begins_dot xs) ≡ false → (b && dots_in_front xs) ≡ false) [
+      | true ↦ λ e. begins_none xs e
+      | false ↦ λ _. refl
+    ] k.0 in
+    one_step x xs ∙ rw first (none_behind xs k.1)
+
+pub no_dots : (t : List ℕ) → may_have_dots t ≡ false → has_dot_segment t ≡ false
+no_dots t h = let k = neither (begins_dot t) (has_slash_and_dot t) h in first_or_behind t ∙ rw (begins_none t k.0) (none_behind t k.1)
+
+-- ---- one dot or two
 dot_or_nothing : (xs : List ℕ) → is_empty xs ≡ true → is_dot_or_nothing xs ≡ true
 dot_or_nothing [] h = refl
 dot_or_nothing (x ∷ xs) h = cc

@@ -1,23 +1,32 @@
--- The normal form of parts fits and is stable; the canonical text is valid, splits into the normal parts, and is its own canonical form.
-use Rattle.std.proofs.Common.{◌≡◌, ℕ, true, List, [], ◌∷◌, Option, Some, None, refl, ◌∙◌, ap, arith}
+-- The normal form of parts fits and is stable, whatever port is dropped.
+use Rattle.std.proofs.Common.{◌≡◌, ℕ, true, false, List, [], ◌∷◌, Option, Some, None, refl, sym, ◌∙◌, ap, subst, arith}
 use Rattle.std.specs.Prelude.{IsSome}
 use Rattle.std.specs.Char.{to_ascii_lowercase}
 use Rattle.std.specs.List.{list_all}
 use Rattle.std.proofs.lemmas.Bool.Decides.{nat_tests}
-use Rattle.iri_grammar.specs.Classes.{Tests, IsSpec}
-use Rattle.iri_grammar.specs.Components.{if_there, is_scheme, is_scheme_char, is_letter, is_query, is_fragment}
+use Rattle.iri_grammar.specs.Classes.{Tests, IsSpec, path_char}
+use Rattle.iri_grammar.specs.Components.{if_there, is_scheme, is_scheme_char, is_letter, is_path, is_query, is_fragment}
 use Rattle.iri_grammar.specs.Authority.{is_authority}
 use Rattle.iri_grammar.proofs.CutLaws.{both}
-use Rattle.iri_grammar.specs.Parts.{Parts, Fits, path_rules}
-use Rattle.iri_percent.specs.Triplets.{pct}
-use Rattle.iri_percent.specs.NormalHost.{normal_authority}
-use Rattle.iri_percent.proofs.Stability.{lower-case, pct-stable}
-use Rattle.iri_normal.specs.LowerCase.{lowered, where_there}
-use Rattle.iri_normal.specs.NormalForm.{normal_path, normal_form, form}
+use Rattle.iri_grammar.specs.Parts.{Parts, Fits, path_rules, is_empty}
+use Rattle.iri_percent.specs.Triplets.{as_it_is, pct}
+use Rattle.iri_percent.specs.NormalHost.{normal_authority, normal_authority_in}
+use Rattle.iri_percent.specs.SchemeRules.{dropped_port}
+use Rattle.iri_percent.specs.declared.canon_mode.CanonMode.{CanonMode}
+use Rattle.iri_percent.specs.declared.canon_mode.CanonMode.TheVariants.{Default}
 use Rattle.iri_percent.proofs.ClassLaws.{pct-query, pct-fragment}
+use Rattle.iri_percent.proofs.NormalLaws.{normal_nil, normal_plain}
+use Rattle.iri_percent.proofs.Stability.{pct-stable}
 use Rattle.iri_percent.proofs.WholeLaws.{query-whole, fragment-whole}
+use Rattle.iri_normal.specs.DotRemoval.{dots}
+use Rattle.iri_normal.specs.Dots.{is_dot_segment}
+use Rattle.iri_normal.specs.LowerCase.{lowered, where_there}
+use Rattle.iri_normal.specs.NormalForm.{becomes_slash, normal_form, normal_form_in, normal_parts, normal_path, slash_or}
+use Rattle.iri_normal.proofs.AuthorityForm.{authority_in-fits, authority_in-stable}
 use Rattle.iri_normal.proofs.PathLaws.{path-over, path-rules, path-stable}
-use Rattle.iri_normal.proofs.AuthorityForm.{authority-fits, authority-stable}
+use Rattle.iri_normal.proofs.SchemeForm.{dropped-still, lowered-twice, normal-empty, normal-is}
+use Rattle.iri_normal.proofs.TargetLaws.{slash_in_path}
+use Rattle.iri_normal.proofs.TextLaws.{slash_over}
 
 -- ---- the scheme
 pub lower-letter : (c : ℕ) → is_letter c ≡ true → is_letter (to_ascii_lowercase c) ≡ true
@@ -37,25 +46,26 @@ scheme-fits None h = refl
 scheme-fits (Some []) h = cc
 scheme-fits (Some (x ∷ xs)) h = let k = both (is_letter x) (list_all is_scheme_char xs) h in rw (lower-letter x k.0) (lower-all xs k.1)
 
-pub lowered-twice : (xs : List ℕ) → lowered (lowered xs) ≡ lowered xs
-lowered-twice [] = refl
-lowered-twice (x ∷ xs) = ap (λ y. y ∷ lowered (lowered xs)) (lower-case.twice x) ∙ ap (λ ys. to_ascii_lowercase x ∷ ys) (lowered-twice xs)
-
 pub scheme-stable : (o : Option (List ℕ)) → where_there lowered (where_there lowered o) ≡ where_there lowered o
 scheme-stable None = refl
 scheme-stable (Some x) = ap Some (lowered-twice x)
 
--- ---- the other parts
-authorities-fit : (s : Tests) (o : Option (List ℕ)) → IsSpec s → if_there (is_authority s) o ≡ true
-    → if_there (is_authority s) (where_there (normal_authority s) o) ≡ true
-authorities-fit s None k h = refl
-authorities-fit s (Some x) k h = authority-fits s x k h
+-- ---- the authority
+authorities_in-fit : (s : Tests) (d o : Option (List ℕ)) → IsSpec s → if_there (is_authority s) o ≡ true
+    → if_there (is_authority s) (where_there (normal_authority_in s d) o) ≡ true
+authorities_in-fit s d None k h = refl
+authorities_in-fit s d (Some x) k h = authority_in-fits s d x k h
+
+authorities_in-stable : (s : Tests) (d o : Option (List ℕ)) → IsSpec s → if_there (is_authority s) o ≡ true
+    → where_there (normal_authority_in s d) (where_there (normal_authority_in s d) o) ≡ where_there (normal_authority_in s d) o
+authorities_in-stable s d None k h = refl
+authorities_in-stable s d (Some x) k h = ap Some (authority_in-stable s d x k h)
 
 pub authorities-stable : (s : Tests) (o : Option (List ℕ)) → IsSpec s → if_there (is_authority s) o ≡ true
     → where_there (normal_authority s) (where_there (normal_authority s) o) ≡ where_there (normal_authority s) o
-authorities-stable s None k h = refl
-authorities-stable s (Some x) k h = ap Some (authority-stable s x k h)
+authorities-stable s o k h = authorities_in-stable s None o k h
 
+-- ---- query and fragment
 pub query-fits : (s : Tests) (o : Option (List ℕ)) → IsSpec s → if_there (is_query s) o ≡ true
     → if_there (is_query s) (where_there (pct s) o) ≡ true
 query-fits s None k h = refl
@@ -76,38 +86,88 @@ pub fragment-stable : (s : Tests) (o : Option (List ℕ)) → IsSpec s → if_th
 fragment-stable s None k h = refl
 fragment-stable s (Some x) k h = ap Some (pct-stable s x k (fragment-whole s x k h))
 
-rules-fit : (s : Tests) (t : Parts) (o : Option (List ℕ)) → IsSome o → path_rules o t.authority t.path ≡ true
-    → path_rules (where_there lowered o) (where_there (normal_authority s) t.authority) (normal_path s t.authority t.path) ≡ true
-rules-fit s t None i h = cc
-rules-fit s t (Some x) i h = path-rules s (normal_authority s) x (lowered x) t.authority t.path h
+-- ---- the path
+abbrev slashed : Tests → Option (List ℕ) → Option (List ℕ) → List ℕ → List ℕ
+slashed s d a p = slash_or (becomes_slash d a p) (normal_path s a p)
 
-pub still-there : (o : Option (List ℕ)) → IsSome o → IsSome (where_there lowered o)
+dots-of_slash : dots (47 ∷ []) ≡ 47 ∷ []
+unfolding dots is_dot_segment
+dots-of_slash = refl
+
+pub normal-slash : (s : Tests) (z : List ℕ) → normal_path s (Some z) (47 ∷ []) ≡ 47 ∷ []
+unfolding normal_path
+normal-slash s z = ap (pct s) dots-of_slash ∙ (normal_plain s as_it_is 47 [] refl ∙ ap (λ l. 47 ∷ l) (normal_nil s as_it_is))
+
+path-slashed : (s : Tests) (d a : Option (List ℕ)) (p : List ℕ) → IsSpec s → is_path s p ≡ true → is_path s (slashed s d a p) ≡ true
+path-slashed s d a p k h = elim (becomes_slash d a p) as (λ b. is_path s (slash_or b (normal_path s a p)) ≡ true) [
+  | true ↦ slash_over (path_char s) (slash_in_path s)
+  | false ↦ path-over s a p k h
+]
+
+rules-slashed : (s : Tests) (f : List ℕ → List ℕ) (x y : List ℕ) (d a : Option (List ℕ)) (p : List ℕ) → path_rules (Some x) a p ≡ true
+    → path_rules (Some y) (where_there f a) (slashed s d a p) ≡ true
+rules-slashed s f x y None a p h = path-rules s f x y a p h
+rules-slashed s f x y (Some d) None p h = path-rules s f x y None p h
+rules-slashed s f x y (Some d) (Some z) p h = elim (is_empty p) as (λ b. path_rules (Some y) (Some (f z))
+    (slash_or b (normal_path s (Some z) p)) ≡ true) [ true ↦ refl | false ↦ path-rules s f x y (Some z) p h ]
+
+path-slashed-stable : (s : Tests) (f : List ℕ → List ℕ) (o d a : Option (List ℕ)) (p : List ℕ) → IsSpec s → is_path s p ≡ true
+    → path_rules o a p ≡ true → slashed s d (where_there f a) (slashed s d a p) ≡ slashed s d a p
+path-slashed-stable s f o None a p k h r = path-stable s f a p k h
+path-slashed-stable s f o (Some d) None p k h r = path-stable s f None p k h
+path-slashed-stable s f o (Some d) (Some z) [] k h r = normal-slash s (f z)
+path-slashed-stable s f o (Some d) (Some z) (x ∷ xs) k h r =
+    rw (normal-empty s z (x ∷ xs) r) (path-stable s f (Some z) (x ∷ xs) k h)
+
+rules-fit : (s : Tests) (f : List ℕ → List ℕ) (d : Option (List ℕ)) (t : Parts) (o : Option (List ℕ)) → IsSome o
+    → path_rules o t.authority t.path ≡ true
+    → path_rules (where_there lowered o) (where_there f t.authority) (slashed s d t.authority t.path) ≡ true
+rules-fit s f d t None i h = cc
+rules-fit s f d t (Some x) i h = rules-slashed s f x (lowered x) d t.authority t.path h
+
+still-there : (o : Option (List ℕ)) → IsSome o → IsSome (where_there lowered o)
 still-there None h = h
 still-there (Some x) h = refl
 
--- ---- the normal form
-pub form-fits : (s : Tests) (t : Parts) → IsSpec s → Fits s t → IsSome t.scheme → Fits s (normal_form s t) × IsSome (normal_form s t).scheme
-unfolding normal_form form
-form-fits s t k f i = (
+-- ---- the normal form, whatever port is dropped
+pub parts-fit : (s : Tests) (d : Option (List ℕ)) (t : Parts) → IsSpec s → Fits s t → IsSome t.scheme
+    → Fits s (normal_parts s d t) × IsSome (normal_parts s d t).scheme
+parts-fit s d t k f i = (
   record {
     scheme = scheme-fits t.scheme f.scheme;
-    authority = authorities-fit s t.authority k f.authority;
-    path = path-over s t.authority t.path k f.path;
+    authority = authorities_in-fit s d t.authority k f.authority;
+    path = path-slashed s d t.authority t.path k f.path;
     query = query-fits s t.query k f.query;
     fragment = fragment-fits s t.fragment k f.fragment;
-    rules = rules-fit s t t.scheme i f.rules;
+    rules = rules-fit s (normal_authority_in s d) d t t.scheme i f.rules;
   },
   still-there t.scheme i,
 )
 
-pub form-stable : (s : Tests) (t : Parts) → IsSpec s → Fits s t → normal_form s (normal_form s t) ≡ normal_form s t
-unfolding normal_form form
-form-stable s t k f =
+parts-stable : (s : Tests) (d : Option (List ℕ)) (t : Parts) → IsSpec s → Fits s t → normal_parts s d (normal_parts s d t) ≡ normal_parts s d t
+parts-stable s d t k f =
     rw (
       scheme-stable t.scheme,
-      authorities-stable s t.authority k f.authority,
-      path-stable s (normal_authority s) t.authority t.path k f.path,
+      authorities_in-stable s d t.authority k f.authority,
+      path-slashed-stable s (normal_authority_in s d) t.scheme d t.authority t.path k f.path f.rules,
       query-stable s t.query k f.query,
       fragment-stable s t.fragment k f.fragment,
     )
     refl
+
+-- ---- in a mode
+pub normal_in-fits : (s : Tests) (m : CanonMode) (t : Parts) → IsSpec s → Fits s t → IsSome t.scheme
+    → Fits s (normal_form_in s m t) × IsSome (normal_form_in s m t).scheme
+normal_in-fits s m t k f i =
+    subst (λ (p : Parts). Fits s p × IsSome p.scheme) (sym (normal-is s m t)) (parts-fit s (dropped_port m t.scheme) t k f i)
+
+pub normal_in-stable : (s : Tests) (m : CanonMode) (t : Parts) → IsSpec s → Fits s t
+    → normal_form_in s m (normal_form_in s m t) ≡ normal_form_in s m t
+normal_in-stable s m t k f =
+    let d = dropped_port m t.scheme in
+    let e = normal-is s m t in
+    ap (normal_form_in s m) e ∙ normal-is s m (normal_parts s d t)
+    ∙ ap (λ o. normal_parts s o (normal_parts s d t)) (dropped-still m t.scheme) ∙ parts-stable s d t k f ∙ sym e
+
+pub form-fits : (s : Tests) (t : Parts) → IsSpec s → Fits s t → IsSome t.scheme → Fits s (normal_form s t) × IsSome (normal_form s t).scheme
+form-fits s t k f i = normal_in-fits s Default t k f i

@@ -1,6 +1,6 @@
 -- The canonical text has at most 3 bytes more than base and reference together.
 use Rattle.std.proofs.Common.{◌≡◌, ℕ, ◌+◌, ◌≤◌, Bool, true, false, cond, ◌&&◌, ◌||◌, not, List, [], ◌∷◌, ◌++◌, Option, Some, None, length}
-use Rattle.std.proofs.Common.{map, refl, ap, subst, arith, length-append}
+use Rattle.std.proofs.Common.{map, refl, sym, ap, subst, arith, length-append}
 use Rattle.std.specs.Prelude.{is_some}
 use Rattle.std.specs.Char.{to_ascii_uppercase, to_ascii_lowercase, encode_utf8}
 use Rattle.iri_grammar.specs.Classes.{Tests, IsSpec, unreserved, path_char}
@@ -18,7 +18,6 @@ use Rattle.iri_percent.specs.NormalHost.{is_ascii_host, is_dropped, normal_host,
 use Rattle.iri_percent.specs.NormalHost.{normal_authority, normal_authority_in}
 use Rattle.iri_percent.specs.SchemeRules.{dropped_port}
 use Rattle.iri_percent.specs.declared.canon_mode.CanonMode.{CanonMode}
-use Rattle.iri_percent.specs.declared.canon_mode.CanonMode.TheVariants.{Default, Scheme}
 use Rattle.iri_percent.proofs.Authorities.{authority_in}
 use Rattle.iri_percent.proofs.UnitLaws.{length-spelled}
 use Rattle.iri_percent.proofs.NormalLaws.{normal_nil, normal_plain, normal_lone, normal_char}
@@ -27,9 +26,9 @@ use Rattle.iri_normal.specs.LowerCase.{lowered, where_there}
 use Rattle.iri_normal.specs.Dots.{is_dot_segment}
 use Rattle.iri_normal.specs.DotRemoval.{is_two_dots, without_last, dots}
 use Rattle.iri_normal.specs.Target.{target, target_under, target_path, target_query, merged, merge_prefix, to_last_slash, or_base}
-use Rattle.iri_normal.specs.NormalForm.{becomes_slash, canonical_in, canonical_parts_in, form, normal_form, normal_form_in, normal_path, slash_or}
-use Rattle.iri_normal.specs.declared.mode.Mode.TheVariants.{ByScheme}
+use Rattle.iri_normal.specs.NormalForm.{becomes_slash, canonical_in, canonical_parts_in, normal_parts, normal_path, slash_or}
 use Rattle.iri_normal.proofs.CanonLaws.{canonical_in-text}
+use Rattle.iri_normal.proofs.SchemeForm.{normal-is}
 use Rattle.iri_normal.proofs.OutputLaws.{closed_text, text_behind, text_from, dots-text}
 use Rattle.iri_normal.proofs.StableLaws.{slashed, unsplit, unsplit-pieces}
 use Rattle.iri_normal.proofs.TargetLaws.{target-fits, slash_in_path}
@@ -192,40 +191,22 @@ length-fragment : (s : Tests) (o : Option (List ℕ)) → IsSpec s → if_there 
 length-fragment s None k h = omega arith
 length-fragment s (Some x) k h = let l = length-pct s x (fragment-whole s x k h) in omega arith
 
-pub length-form : (s : Tests) (t : Parts) → IsSpec s → Fits s t → length (recompose (normal_form s t)) ≤ length (recompose t) + 2
-unfolding normal_form form
-length-form s t k f =
-    let a = length-scheme t.scheme in
-    let b = length-authorities s t.authority k f.authority in
-    let c = length-path s t.authority t.path k f.path in
-    let d = length-query s t.query k f.query in
-    let e = length-fragment s t.fragment k f.fragment in
-    let left = length-parts (normal_form s t) in
-    let right = length-parts t in
-    omega arith
-
 length-slashed : (s : Tests) (b : Bool) (a : Option (List ℕ)) (p : List ℕ) → IsSpec s → is_path s p ≡ true
     → length (slash_or b (normal_path s a p)) ≤ length p + 2
 length-slashed s true a p k h = omega arith
 length-slashed s false a p k h = length-path s a p k h
 
-length-by_scheme : (s : Tests) (t : Parts) → IsSpec s → Fits s t → length (recompose (form s ByScheme false t)) ≤ length (recompose t) + 2
-unfolding form
-length-by_scheme s t k f =
-    let port = dropped_port Scheme t.scheme in
+length-normal : (s : Tests) (d : Option (List ℕ)) (t : Parts) → IsSpec s → Fits s t
+    → length (recompose (normal_parts s d t)) ≤ length (recompose t) + 2
+length-normal s d t k f =
     let a = length-scheme t.scheme in
-    let b = length-authorities_in s port t.authority k f.authority in
-    let c = length-slashed s (becomes_slash port t.authority t.path) t.authority t.path k f.path in
-    let d = length-query s t.query k f.query in
+    let b = length-authorities_in s d t.authority k f.authority in
+    let c = length-slashed s (becomes_slash d t.authority t.path) t.authority t.path k f.path in
+    let q = length-query s t.query k f.query in
     let e = length-fragment s t.fragment k f.fragment in
-    let left = length-parts (form s ByScheme false t) in
+    let left = length-parts (normal_parts s d t) in
     let right = length-parts t in
     omega arith
-
-length-normal : (s : Tests) (m : CanonMode) (t : Parts) → IsSpec s → Fits s t
-    → length (recompose (normal_form_in s m t)) ≤ length (recompose t) + 2
-length-normal s Default t k f = length-form s t k f
-length-normal s Scheme t k f = length-by_scheme s t k f
 
 -- ---- the target
 length-to_last_slash : (xs : List ℕ) → length (to_last_slash xs) ≤ length xs
@@ -287,7 +268,8 @@ length-canonical_in s m base reference k b r =
     let eb = split_is s base b.0 k b.1 in
     let er = split_is s reference r.0 k r.1 in
     let t = target-fits s b.0 r.0 b.1.fits b.2 r.1.fits in
-    let form = length-normal s m (target b.0 r.0) k t.0 in
+    let form = subst (λ (p : Parts). length (recompose p) ≤ length (recompose (target b.0 r.0)) + 2)
+    (sym (normal-is s m (target b.0 r.0))) (length-normal s (dropped_port m (target b.0 r.0).scheme) (target b.0 r.0) k t.0) in
     let whole = length-target b.0 r.0 in
     let lb : length (recompose b.0) ≡ length base = ap length b.1.text in
     let lr : length (recompose r.0) ≡ length reference = ap length r.1.text in

@@ -14,7 +14,6 @@ pub mod WrittenLemmas
 pub mod NextLemmas
 pub mod OutputLemmas
 pub mod LongLemmas
-pub mod LaneLemmas
 pub mod BeginningLemmas
 pub mod MapPaths
 pub mod MapForms

@@ -38,9 +38,9 @@ use Rattle.iri_percent.proofs.MapForms.{mapped-normal, mapped-normal_text}
 use Rattle.iri_normal.specs.DotRemoval.{dots}
 use Rattle.iri_normal.proofs.HostLaws.{ascii-plains, ascii-spelled, ascii-triplet}
 use Rattle.iri_normal.specs.LowerCase.{lowered, where_there}
-use Rattle.iri_normal.specs.NormalForm.{becomes_slash, canonical_in, form, normal_form, normal_form_in, normal_path, slash_or}
-use Rattle.iri_normal.specs.declared.mode.Mode.TheVariants.{ByScheme}
+use Rattle.iri_normal.specs.NormalForm.{becomes_slash, canonical_in, normal_form_in, normal_parts, normal_path, slash_or}
 use Rattle.iri_normal.proofs.CanonLaws.{canonical_in-text}
+use Rattle.iri_normal.proofs.SchemeForm.{normal-is}
 use Rattle.iri_normal.proofs.PathLaws.{dots-over}
 use Rattle.iri_normal.specs.Target.{target, target_under, target_path, target_query, merged, merge_prefix, or_base, to_last_slash}
 use Rattle.iri_normal.proofs.TargetLaws.{target-fits, slash_in_path}
@@ -177,23 +177,10 @@ mapped-normal_path s a p k h =
     sym (mapped-guard (pct s (dots p)) (is_some a)) ∙ rw (e, mapped-stands a) refl
 
 -- ---- parts
-pub mapped-form : (s : Tests) (t : Parts) → IsSpec s → Fits s t → mapped_parts (normal_form s t) ≡ normal_form uri_tests (mapped_parts t)
-unfolding normal_form form
-mapped-form s t k f =
-    rw (
-      scheme-there t.scheme f.scheme,
-      authority-there s None t.authority k f.authority,
-      mapped-normal_path s t.authority t.path k f.path,
-      query-there s t.query k f.query,
-      fragment-there s t.fragment k f.fragment,
-    )
-    refl
-
--- by scheme rules
-mapped-dropped : (o : Option (List ℕ)) → if_there is_scheme o ≡ true
-    → dropped_port Scheme (option_map mapped o) ≡ dropped_port Scheme o
-mapped-dropped None h = refl
-mapped-dropped (Some x) h = ap default_port (mapped-scheme x h)
+mapped-default : (m : CanonMode) (o : Option (List ℕ)) → if_there is_scheme o ≡ true → dropped_port m (option_map mapped o) ≡ dropped_port m o
+mapped-default Default o h = refl
+mapped-default Scheme None h = refl
+mapped-default Scheme (Some x) h = ap default_port (mapped-scheme x h)
 
 mapped-becomes : (d a : Option (List ℕ)) (p : List ℕ) → becomes_slash d (option_map mapped a) (mapped p) ≡ becomes_slash d a p
 mapped-becomes None a p = refl
@@ -204,13 +191,10 @@ mapped-slashed : (s : Tests) (b : Bool) (a : Option (List ℕ)) (p : List ℕ) �
 mapped-slashed s true a p k h = refl
 mapped-slashed s false a p k h = mapped-normal_path s a p k h
 
-mapped-by_scheme : (s : Tests) (t : Parts) → IsSpec s → Fits s t
-    → mapped_parts (form s ByScheme false t) ≡ form uri_tests ByScheme false (mapped_parts t)
-unfolding form
-mapped-by_scheme s t k f =
-    let d = dropped_port Scheme t.scheme in
+mapped-parts : (s : Tests) (d : Option (List ℕ)) (t : Parts) → IsSpec s → Fits s t
+    → mapped_parts (normal_parts s d t) ≡ normal_parts uri_tests d (mapped_parts t)
+mapped-parts s d t k f =
     rw (
-      mapped-dropped t.scheme f.scheme,
       mapped-becomes d t.authority t.path,
       scheme-there t.scheme f.scheme,
       authority-there s d t.authority k f.authority,
@@ -222,8 +206,10 @@ mapped-by_scheme s t k f =
 
 pub mapped-normal_in : (s : Tests) (m : CanonMode) (t : Parts) → IsSpec s → Fits s t
     → mapped_parts (normal_form_in s m t) ≡ normal_form_in uri_tests m (mapped_parts t)
-mapped-normal_in s Default t k f = mapped-form s t k f
-mapped-normal_in s Scheme t k f = mapped-by_scheme s t k f
+mapped-normal_in s m t k f =
+    ap mapped_parts (normal-is s m t) ∙ mapped-parts s (dropped_port m t.scheme) t k f
+    ∙ ap (λ d. normal_parts uri_tests d (mapped_parts t)) (sym (mapped-default m t.scheme f.scheme))
+    ∙ sym (normal-is uri_tests m (mapped_parts t))
 
 -- ---- targets
 target_path-some : (base : Parts) (p : List ℕ) → is_empty p ≡ false → target_path base p ≡ merged base p

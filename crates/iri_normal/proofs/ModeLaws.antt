@@ -11,14 +11,16 @@ use Rattle.iri_percent.proofs.ClassLaws.{pct-path}
 use Rattle.iri_percent.specs.NormalHost.{normal_authority}
 use Rattle.iri_percent.proofs.Stability.{pct-stable}
 use Rattle.iri_percent.specs.Triplets.{pct}
+use Rattle.iri_percent.specs.declared.canon_mode.CanonMode.{CanonMode}
+use Rattle.iri_percent.specs.declared.canon_mode.CanonMode.TheVariants.{Default, Scheme}
 use Rattle.iri_percent.proofs.WholeLaws.{path-whole}
 use Rattle.iri_normal.specs.DotRemoval.{dots}
-use Rattle.iri_normal.proofs.SchemeForm.{by_scheme-fits}
-use Rattle.iri_normal.proofs.FormLaws.{form-fits, scheme-stable, authorities-stable, query-stable, fragment-stable}
+use Rattle.iri_normal.proofs.SchemeForm.{form-is}
+use Rattle.iri_normal.proofs.FormLaws.{normal_in-fits, parts-fit, scheme-stable, authorities-stable, query-stable, fragment-stable}
 use Rattle.iri_normal.specs.Guard.{guard}
-use Rattle.iri_normal.specs.Modes.{is_normalizing}
+use Rattle.iri_normal.specs.Modes.{is_normalizing, mode_of}
 use Rattle.iri_normal.specs.LowerCase.{lowered, where_there}
-use Rattle.iri_normal.specs.NormalForm.{form, normal_form, normal_path, preserved_path, part_in}
+use Rattle.iri_normal.specs.NormalForm.{form, normal_path, preserved_path, part_in}
 use Rattle.iri_normal.proofs.PathLaws.{path-over, path-rules, path-stable, plain-over, plain-rules, pct-unrooted, normal-rooted}
 use Rattle.iri_normal.specs.declared.mode.Mode.{Mode}
 use Rattle.iri_normal.specs.declared.mode.Mode.TheVariants.{Plain, Normal, Preserving, ByScheme}
@@ -48,9 +50,9 @@ preserved-rules s x y None p k w h =
 -- ---- parts in a mode fit
 preserving-fits : (s : Tests) (whole : Bool) (t : Parts) → IsSpec s → Fits s t → IsSome t.scheme
     → Fits s (form s Preserving whole t) × IsSome (form s Preserving whole t).scheme
-unfolding form normal_form
+unfolding form
 preserving-fits s whole t k f i =
-    let n = form-fits s t k f i in (
+    let n = parts-fit s None t k f i in (
       record {
         scheme = n.0.scheme;
         authority = n.0.authority;
@@ -66,6 +68,11 @@ preserving-fits s whole t k f i =
         → path_rules (where_there lowered o) (where_there (normal_authority s) t.authority) (preserved_path s t.authority t.path) ≡ true
     rules None j h = cc
     rules (Some x) j h = preserved-rules s x (lowered x) t.authority t.path k f.path h
+
+-- parts as they stand, where the path is taken whole
+pub whole-plain : (s : Tests) (t : Parts) → form s Plain true t ≡ t
+unfolding form
+whole-plain s t = refl
 
 plain-fits : (s : Tests) (whole : Bool) (t : Parts) → IsSpec s → Fits s t → IsSome t.scheme
     → Fits s (form s Plain whole t) × IsSome (form s Plain whole t).scheme
@@ -88,17 +95,17 @@ plain-fits s false t k f i = (
     rules None j h = cc
     rules (Some x) j h = plain-rules x t.authority t.path h
 
--- the whole flag means nothing where parts are put into normal form
-pub normal-form : (s : Tests) (whole : Bool) (t : Parts) → form s Normal whole t ≡ normal_form s t
-unfolding form normal_form
-normal-form s whole t = refl
+normal-fits : (s : Tests) (m : CanonMode) (whole : Bool) (t : Parts) → IsSpec s → Fits s t → IsSome t.scheme
+    → Fits s (form s (mode_of m) whole t) × IsSome (form s (mode_of m) whole t).scheme
+normal-fits s m whole t k f i =
+    subst (λ (p : Parts). Fits s p × IsSome p.scheme) (sym (form-is s m whole t)) (normal_in-fits s m t k f i)
 
 pub mode-fits : (s : Tests) (mode : Mode) (whole : Bool) (t : Parts) → IsSpec s → Fits s t → IsSome t.scheme
     → Fits s (form s mode whole t) × IsSome (form s mode whole t).scheme
 mode-fits s Plain whole t k f i = plain-fits s whole t k f i
-mode-fits s Normal whole t k f i = subst (λ (p : Parts). Fits s p × IsSome p.scheme) (sym (normal-form s whole t)) (form-fits s t k f i)
+mode-fits s Normal whole t k f i = normal-fits s Default whole t k f i
 mode-fits s Preserving whole t k f i = preserving-fits s whole t k f i
-mode-fits s ByScheme whole t k f i = by_scheme-fits s whole t k f i
+mode-fits s ByScheme whole t k f i = normal-fits s Scheme whole t k f i
 
 -- ---- they stay texts of their kind
 pub iri-stays : (s : Tests) → IsSpec s → (mode : Mode) (whole : Bool) (t : Parts) → Fits s t → iri_fault s (recompose t) ≡ None

@@ -1,27 +1,26 @@
 -- Texts written in a mode.
-use Rattle.std.proofs.Common.{◌≡◌, ℕ, Bool, false, List, Option, None, refl, sym, ◌∙◌, ap, subst}
+use Rattle.std.proofs.Common.{◌≡◌, ℕ, Bool, List, Option, None, refl, sym, ◌∙◌, ap, subst}
 use Rattle.std.proofs.Math.Logic.{∥∥₁_elim}
 use Rattle.std.proofs.Props.{props}
 use Rattle.std.specs.Prelude.{IsSome}
 use Rattle.iri_grammar.specs.Classes.{Tests, IsSpec}
 use Rattle.iri_grammar.proofs.FaultLaws.{iri-law, no_fault_where_splits, splits_where_no_fault}
-use Rattle.iri_grammar.specs.Parts.{Parts, Fits, recompose}
+use Rattle.iri_grammar.specs.Parts.{Fits, recompose}
 use Rattle.iri_grammar.specs.Split.{split_of}
 use Rattle.iri_grammar.proofs.SplitLaws.{recompose_split}
 use Rattle.iri_grammar.proofs.SplitUnique.{split_is}
 use Rattle.iri_grammar.specs.WholeFault.{reference_fault, iri_fault}
 use Rattle.iri_grammar.specs.declared.error.ErrorKind.{ErrorKind}
 use Rattle.iri_percent.specs.declared.canon_mode.CanonMode.{CanonMode}
-use Rattle.iri_percent.specs.declared.canon_mode.CanonMode.TheVariants.{Default, Scheme}
-use Rattle.iri_normal.proofs.ModeLaws.{normal-form}
+use Rattle.iri_percent.specs.declared.canon_mode.CanonMode.TheVariants.{Default}
+use Rattle.iri_normal.proofs.CanonLaws.{written-canonical as targets-canonical}
 use Rattle.iri_normal.specs.Normalized.{AreSound, Written, written_text}
-use Rattle.iri_normal.specs.NormalForm.{canonical, canonical_in, form}
+use Rattle.iri_normal.specs.NormalForm.{canonical, canonical_in}
 use Rattle.iri_normal.specs.Modes.{mode_of}
 use Rattle.iri_normal.specs.Slices.{slices}
 use Rattle.iri_normal.specs.Target.{target}
-use Rattle.iri_normal.specs.declared.mode.Mode.TheVariants.{ByScheme, Normal}
+use Rattle.iri_normal.specs.declared.mode.Mode.TheVariants.{Normal}
 use Rattle.iri_normal.specs.declared.target.TargetSlices.{TargetSlices}
-use Rattle.iri_normal.proofs.CanonLemmas.{canonical_is}
 
 -- ---- what sound slices are
 pub sound-fits : (s : Tests) (fault : Tests → List ℕ → Option ErrorKind) (t : TargetSlices) → IsSpec s → ∥ AreSound s fault t ∥₁
@@ -50,24 +49,17 @@ view-sound s fault t x e f h =
     ∣ record { fits = f; valid = subst (λ y. fault s y ≡ None) (sym whole) h } ∣₁
 
 -- ---- the canonical text
-abbrev pub made-normal : Written → Written
-made-normal w = record w { mode = Normal }
-
-pub written-canonical : (s : Tests) (b r : List ℕ) (whole : Bool) (w : Written)
-    → w ≡ record { parts = target (split_of b) (split_of r); whole = whole; mode = Normal } → written_text s w ≡ canonical s b r
-written-canonical s b r whole w e =
-    let t = target (split_of b) (split_of r) in
-    ap (written_text s) e ∙ (ap recompose (normal-form s whole t) ∙ canonical_is s b r t refl)
-
--- ---- in either normal form
 abbrev pub made-normal_in : CanonMode → Written → Written
 made-normal_in m w = record w { mode = mode_of m }
 
-by_scheme-whole : (s : Tests) (whole : Bool) (t : Parts) → form s ByScheme whole t ≡ form s ByScheme false t
-unfolding form
-by_scheme-whole s whole t = refl
-
 pub written-canonical_in : (s : Tests) (m : CanonMode) (b r : List ℕ) (whole : Bool) (w : Written)
     → w ≡ record { parts = target (split_of b) (split_of r); whole = whole; mode = mode_of m } → written_text s w ≡ canonical_in s m b r
-written-canonical_in s Default b r whole w e = written-canonical s b r whole w e
-written-canonical_in s Scheme b r whole w e = ap (written_text s) e ∙ ap recompose (by_scheme-whole s whole (target (split_of b) (split_of r)))
+written-canonical_in s m b r whole w e = ap (written_text s) e ∙ targets-canonical s m whole b r
+
+-- by the rules of every scheme
+abbrev pub made-normal : Written → Written
+made-normal w = made-normal_in Default w
+
+pub written-canonical : (s : Tests) (b r : List ℕ) (whole : Bool) (w : Written)
+    → w ≡ record { parts = target (split_of b) (split_of r); whole = whole; mode = Normal } → written_text s w ≡ canonical s b r
+written-canonical s b r whole w e = written-canonical_in s Default b r whole w e

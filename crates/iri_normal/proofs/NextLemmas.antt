@@ -116,22 +116,6 @@ none-there t i l f n =
     none-before t [] refl (ap (λ u. is_dot_segment (before 47 u)) whole ∙ f)
     (λ k m. ap (λ u. slash_and_dots (drop k u)) whole ∙ n k (omega arith))
 
--- a dot segment after a slash is one of the path
-behind-there : (t : List ℕ) (k : ℕ) → k + 1 < length t → slash_and_dots (drop k t) ≡ true → dots_behind t ≡ true
-behind-there t zero l h = next_place t (omega arith) ∙ rw h refl
-behind-there [] (suc k) l h = absurd (omega arith)
-behind-there (x ∷ xs) (suc k) l h =
-    next_place (x ∷ xs) (omega arith) ∙ or_right (slash_and_dots (x ∷ xs)) (behind-there xs k (omega arith) h)
-
-pub some-there : (t : List ℕ) (k : ℕ) → k + 1 < length t → slash_and_dots (drop k t) ≡ true → has_dot_segment t ≡ true
-some-there t k l h = first_or_behind t ∙ or_right (dots_in_front t) (behind-there t k l h)
-
--- an answer about what stands after slashes is one about the path
-pub told : (t : List ℕ) (b : Bool) → is_dot_segment (before 47 t) ≡ false
-    → (b ≡ false → (k : ℕ) → k + 1 < length t → slash_and_dots (drop k t) ≡ false) → (b ≡ true → has_dot_segment t ≡ true) → b ≡ has_dot_segment t
-told t true f n s = sym (s refl)
-told t false f n s = sym (none-there t (length t) (omega arith) f (n refl))
-
 -- the first one
 pub found : (t : List ℕ) (i : ℕ) (two : Bool) (r : List ℕ) → 1 ≤ i → i < length t → is_dot_segment (before 47 t) ≡ false
     → ((k : ℕ) → k + 1 < i → slash_and_dots (drop k t) ≡ false) → slash_and_dots (drop (i - 1) t) ≡ true

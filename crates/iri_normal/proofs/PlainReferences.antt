@@ -1,28 +1,48 @@
 -- References in which nothing changes.
 use Rattle.std.proofs.Common.{◌≡◌, ℕ, Bool, true, false, cond, not, ◌||◌, List, [], ◌∷◌, ◌++◌, Option, Some, None, refl, sym, ◌∙◌, ap}
-use Rattle.std.proofs.Common.{length, append_assoc, append-nil}
+use Rattle.std.proofs.Common.{◌<◌, ◌≤◌, append_assoc, append-nil, arith, drop, length, map, subst, suc, zero}
+use Rattle.std.specs.Char.{to_ascii_lowercase}
+use Rattle.std.specs.Str.{IsAscii}
+use Rattle.std.proofs.lemmas.List.{map-append}
+use Rattle.std.proofs.lemmas.List.Folds.{list_all-append}
+use Rattle.std.proofs.lemmas.Str.Ascii.{lowercase_ascii}
+use Rattle.std.proofs.Math.Seq.{drop-append_seam}
+use Rattle.std.proofs.lemmas.Bool.Decides.{nat_tests}
 use Rattle.std.specs.Prelude.{◌==◌, is_some, MatchOption}
-use Rattle.iri_grammar.specs.Classes.{Tests}
-use Rattle.iri_grammar.specs.Components.{if_there}
+use Rattle.std.specs.List.{list_all}
+use Rattle.iri_grammar.specs.Classes.{Tests, IsSpec}
+use Rattle.iri_grammar.specs.Components.{if_there, is_fragment, is_query, is_scheme, is_scheme_char}
 use Rattle.iri_grammar.specs.Cut.{lacks, marked}
-use Rattle.iri_grammar.specs.Parts.{Parts, Fits, is_empty, path_rules, starts_with_slash}
+use Rattle.iri_grammar.specs.Parts.{Parts, Fits, authority_text, is_empty, path_rules, recompose, scheme_text, starts_with_slash}
 use Rattle.iri_grammar.specs.Parts.{starts_with_slashes}
+use Rattle.iri_grammar.specs.Seen.{is_plain_authority, is_small}
 use Rattle.iri_grammar.specs.Split.{split_of}
-use Rattle.iri_grammar.proofs.CutLaws.{both, lacks-append}
+use Rattle.iri_grammar.proofs.CutLaws.{both, lacks-append, lacks-other}
+use Rattle.iri_grammar.proofs.SplitLaws.{scheme-chars, scheme-lacks}
+use Rattle.iri_grammar.proofs.SplitUnique.{scheme_char-below}
+use Rattle.iri_grammar.proofs.AuthorityTexts.{all_below}
+use Rattle.iri_percent.specs.MarkLaws.{IsMark}
+use Rattle.iri_percent.specs.NormalHost.{normal_authority}
 use Rattle.iri_percent.specs.Triplets.{pct}
-use Rattle.iri_percent.proofs.PlainTexts.{pct-same}
+use Rattle.iri_percent.specs.Units.{whole_triplets}
+use Rattle.iri_percent.proofs.MarkLaws.{pct_mark}
+use Rattle.iri_percent.proofs.PlainTexts.{pct-front, pct-marked, plain-ascii, plain-lacks, plain_authority, small-lowered}
+use Rattle.iri_percent.proofs.Reading.{whole_plain}
+use Rattle.iri_percent.proofs.WholeLaws.{fragment-whole, lacks-whole, path-whole, query-whole, whole-append}
 use Rattle.iri_normal.specs.Dots.{has_dot_segment}
 use Rattle.iri_normal.specs.Guard.{guard}
-use Rattle.iri_normal.specs.LowerCase.{where_there}
+use Rattle.iri_normal.specs.LowerCase.{lowered, where_there}
 use Rattle.iri_normal.specs.NormalForm.{canonical, normal_form, normal_path}
 use Rattle.iri_normal.specs.Prefix.{IsPrefix, prefix_in}
 use Rattle.iri_normal.specs.Target.{ends_at_slash, merge_prefix, target, target_path}
 use Rattle.iri_normal.specs.declared.mode.Mode.TheVariants.{Normal}
-use Rattle.iri_normal.specs.inside.Unchanged.{IsPlainReference, StandBefore, lacks_triplets_and_dots, is_plain_front}
+use Rattle.iri_normal.specs.inside.Unchanged.{EndsCanonical, IsLowered, KeepsPrefix, LacksTriplets, StandBefore, is_plain_front, lacks_triplets_and_dots}
+use Rattle.iri_normal.proofs.EndedLemmas.{neither}
 use Rattle.iri_normal.proofs.PieceLaws.{nothing-is_no_dot}
 use Rattle.iri_normal.proofs.PrefixLemmas.{prefix-form, rest, text-cut}
 use Rattle.iri_normal.proofs.SegmentLemmas.{dot_in_parts}
 use Rattle.iri_normal.proofs.StableLaws.{no_dots-same}
+use Rattle.iri_normal.proofs.TripletHeads.{pct-heads}
 
 -- ---- tests
 pub not-true : (b : Bool) → not b ≡ true → b ≡ false
@@ -33,72 +53,175 @@ or-true : (b : Bool) → (b || true) ≡ true
 or-true true = refl
 or-true false = refl
 
--- ---- parts without triplets
-part-same : (s : Tests) (o : Option (List ℕ)) → if_there (lacks 37) o ≡ true → where_there (pct s) o ≡ o
-part-same s None h = refl
-part-same s (Some x) h = ap Some (pct-same s x h)
+pub none-noted : (a b : Bool) → not (a || b) ≡ true → (a ≡ false) × (b ≡ false)
+none-noted a b h = neither a b (not-true (a || b) h)
 
--- ---- paths
-path-same : (s : Tests) (a : Option (List ℕ)) (p : List ℕ) → has_dot_segment p ≡ false → lacks 37 p ≡ true
-    → (is_some a || not (starts_with_slashes p)) ≡ true → normal_path s a p ≡ p
+-- ---- scheme and authority that stay
+scheme-percent : (o : Option (List ℕ)) → if_there is_scheme o ≡ true → lacks 37 (scheme_text o) ≡ true
+unfolding is_scheme_char
+scheme-percent None h = refl
+scheme-percent (Some x) h = lacks-append 37 x (58 ∷ []) (scheme-lacks 37 x refl h) refl
+
+authority-percent : (o : Option (List ℕ)) → if_there is_plain_authority o ≡ true → lacks 37 (authority_text o) ≡ true
+authority-percent None h = refl
+authority-percent (Some a) h = plain-lacks a h
+
+-- ---- scheme and authority in lower case
+scheme-ascii : (x : List ℕ) → is_scheme x ≡ true → IsAscii x
+scheme-ascii x h = all_below is_scheme_char scheme_char-below x (scheme-chars x h)
+
+both-ascii : (xs ys : List ℕ) → IsAscii xs → IsAscii ys → IsAscii (xs ++ ys)
+both-ascii [] ys h k i = k i
+both-ascii (x ∷ xs) ys h k zero = h zero
+both-ascii (x ∷ xs) ys h k (suc i) = both-ascii xs ys (λ j. h (suc j)) k i
+
+some-ascii : (x : ℕ) (xs : List ℕ) → x < 128 → IsAscii xs → IsAscii (x ∷ xs)
+some-ascii x xs l h zero = l
+some-ascii x xs l h (suc i) = h i
+
+nothing-ascii : IsAscii []
+nothing-ascii i = omega arith
+
+scheme_text-ascii : (o : Option (List ℕ)) → if_there is_scheme o ≡ true → IsAscii (scheme_text o)
+scheme_text-ascii None h = nothing-ascii
+scheme_text-ascii (Some x) h = both-ascii x (58 ∷ []) (scheme-ascii x h) (some-ascii 58 [] (omega arith) nothing-ascii)
+
+authority_text-ascii : (o : Option (List ℕ)) → if_there is_plain_authority o ≡ true → IsAscii (authority_text o)
+authority_text-ascii None h = nothing-ascii
+authority_text-ascii (Some a) h = some-ascii 47 (47 ∷ a) (omega arith) (some-ascii 47 a (omega arith) (plain-ascii a h))
+
+scheme_text-lowered : (o : Option (List ℕ)) → scheme_text (where_there lowered o) ≡ lowered (scheme_text o)
+scheme_text-lowered None = refl
+scheme_text-lowered (Some x) = sym (map-append to_ascii_lowercase x (58 ∷ []))
+
+authority_text-lowered : (s : Tests) (o : Option (List ℕ)) → if_there is_plain_authority o ≡ true
+    → authority_text (where_there (normal_authority s) o) ≡ lowered (authority_text o)
+authority_text-lowered s None h = refl
+authority_text-lowered s (Some a) h = ap (λ x. 47 ∷ 47 ∷ x) (plain_authority s a h)
+
+prefix-lowered : (s : Tests) (r : Parts) → if_there is_plain_authority r.authority ≡ true → prefix_in s true r ≡ lowered (prefix_in s false r)
+prefix-lowered s r h =
+    ap (λ x. x ++ authority_text (where_there (normal_authority s) r.authority)) (scheme_text-lowered r.scheme)
+    ∙ (ap (λ x. lowered (scheme_text r.scheme) ++ x) (authority_text-lowered s r.authority h)
+    ∙ sym (map-append to_ascii_lowercase (scheme_text r.scheme) (authority_text r.authority)))
+
+prefix-percent : (s : Tests) (r : Parts) → Fits s r → if_there is_plain_authority r.authority ≡ true → lacks 37 (prefix_in s false r) ≡ true
+prefix-percent s r f h =
+    lacks-append 37 (scheme_text r.scheme) (authority_text r.authority) (scheme-percent r.scheme f.scheme) (authority-percent r.authority h)
+
+small-append : (xs ys : List ℕ) → list_all is_small xs ≡ true → list_all is_small ys ≡ true → list_all is_small (xs ++ ys) ≡ true
+small-append xs ys h k = list_all-append is_small xs ys ∙ rw (h, k) refl
+
+scheme_text-small : (o : Option (List ℕ)) → if_there (list_all is_small) o ≡ true → list_all is_small (scheme_text o) ≡ true
+scheme_text-small None h = refl
+scheme_text-small (Some x) h = small-append x (58 ∷ []) h refl
+
+authority_text-small : (o : Option (List ℕ)) → if_there (list_all is_small) o ≡ true → list_all is_small (authority_text o) ≡ true
+authority_text-small None h = refl
+authority_text-small (Some a) h = h
+
+pub plain-prefix : (s : Tests) (r : Parts) → Fits s r → if_there (list_all is_small) r.scheme ≡ true → if_there (list_all is_small) r.authority ≡ true
+    → if_there is_plain_authority r.authority ≡ true → KeepsPrefix s r
+plain-prefix s r f a b p = (
+  prefix-lowered s r p ∙ small-lowered (prefix_in s false r)
+      (small-append (scheme_text r.scheme) (authority_text r.authority) (scheme_text-small r.scheme a) (authority_text-small r.authority b)),
+  prefix-percent s r f p,
+)
+
+-- ---- paths without dot segments
+path-form : (s : Tests) (a : Option (List ℕ)) (p : List ℕ) → IsSpec s → has_dot_segment p ≡ false → whole_triplets p ≡ true
+    → (is_some a || not (starts_with_slashes p)) ≡ true → normal_path s a p ≡ pct s p
 unfolding normal_path
-path-same s a p d l g =
-    ap (λ q. guard (pct s q) (is_some a)) (no_dots-same p d) ∙ (ap (λ q. guard q (is_some a)) (pct-same s p l)
-    ∙ ap (λ b. cond b p (47 ∷ 46 ∷ p)) g)
-
--- ---- the canonical text
-record Plain (s : Tests) (r : Parts) (front : List ℕ) : Type 0 where
-  dots : has_dot_segment (front ++ r.path) ≡ false
-  percent : lacks 37 (front ++ r.path) ≡ true
-  query : where_there (pct s) r.query ≡ r.query
-  fragment : where_there (pct s) r.fragment ≡ r.fragment
+path-form s a p k d w g =
+    ap (λ q. guard (pct s q) (is_some a)) (no_dots-same p d)
+    ∙ (ap (λ b. cond (is_some a || not b) (pct s p) (47 ∷ 46 ∷ pct s p)) (pct-heads s p k w)
+    ∙ ap (λ b. cond b (pct s p) (47 ∷ 46 ∷ pct s p)) g)
 
 no_dots : (front path : List ℕ) → has_dot_segment front ≡ false → ends_at_slash front ≡ true → has_dot_segment path ≡ false
     → has_dot_segment (front ++ path) ≡ false
 no_dots front path f e d = dot_in_parts front path (ap (λ b. is_empty path || b) e ∙ or-true (is_empty path)) ∙ rw (f, d) refl
 
-plain : (s : Tests) (r : Parts) (front : List ℕ) → lacks_triplets_and_dots front front ≡ true → ends_at_slash front ≡ true → IsPlainReference r
-    → Plain s r front
-plain s r front f e h =
-    let base = both (lacks 37 front) (not (has_dot_segment front)) f in
-    record {
-      dots = no_dots front r.path (not-true _ base.1) e h.0;
-      percent = lacks-append 37 front r.path base.0 h.1;
-      query = part-same s r.query h.2;
-      fragment = part-same s r.fragment h.3;
-    }
+-- ---- what follows scheme and authority
+query_mark : IsMark 63
+query_mark = record { percent = refl; digit = refl }
 
+fragment_mark : IsMark 35
+fragment_mark = record { percent = refl; digit = refl }
+
+rest-form : (s : Tests) (p : List ℕ) (q f : Option (List ℕ)) → pct s (p ++ (marked 63 q ++ marked 35 f))
+    ≡ pct s p ++ (marked 63 (where_there (pct s) q) ++ marked 35 (where_there (pct s) f))
+rest-form s p None f = pct-marked s 35 p f fragment_mark
+rest-form s p (Some q) f = pct_mark s 63 p (q ++ marked 35 f) query_mark ∙ ap (λ l. pct s p ++ 63 ∷ l) (pct-marked s 35 q f fragment_mark)
+
+marked-whole : (m : ℕ) (t : List ℕ → Bool) (o : Option (List ℕ)) → (m == 37) ≡ false → ((x : List ℕ) → t x ≡ true → whole_triplets x ≡ true)
+    → if_there t o ≡ true → whole_triplets (marked m o) ≡ true
+marked-whole m t None n w h = lacks-whole [] refl
+marked-whole m t (Some x) n w h = whole_plain m x n ∙ w x h
+
+rest-whole : (s : Tests) (r : Parts) → IsSpec s → Fits s r → whole_triplets (rest r) ≡ true
+rest-whole s r k f =
+    whole-append r.path (marked 63 r.query ++ marked 35 r.fragment) (path-whole s r.path k f.path)
+    (whole-append (marked 63 r.query) (marked 35 r.fragment)
+    (marked-whole 63 (is_query s) r.query refl (λ x h. query-whole s x k h) f.query)
+    (marked-whole 35 (is_fragment s) r.fragment refl (λ x h. fragment-whole s x k h) f.fragment))
+
+marked-lacks : (m : ℕ) (o : Option (List ℕ)) → (m == 37) ≡ false → if_there (lacks 37) o ≡ true → lacks 37 (marked m o) ≡ true
+marked-lacks m None n h = refl
+marked-lacks m (Some x) n h = lacks-other 37 m x n h
+
+rest-lacks : (r : Parts) → LacksTriplets r → lacks 37 (rest r) ≡ true
+rest-lacks r h =
+    lacks-append 37 r.path (marked 63 r.query ++ marked 35 r.fragment) h.0
+    (lacks-append 37 (marked 63 r.query) (marked 35 r.fragment) (marked-lacks 63 r.query refl h.1) (marked-lacks 35 r.fragment refl h.2))
+
+-- ---- the canonical text
 -- prefix and path of the base, the prefix of the reference and the rest of it
 shift : (p f h q tail : List ℕ) → q ++ f ≡ p ++ (f ++ h) → q ++ ((f ++ tail)) ≡ p ++ (f ++ (h ++ tail))
 shift p f h q tail e =
     sym (append_assoc q f tail) ∙ (ap (λ l. l ++ tail) e ∙ (append_assoc p (f ++ h) tail ∙ ap (λ l. p ++ l) (append_assoc f h tail)))
 
-pub unchanged : (s : Tests) (base t prefix front : List ℕ) → StandBefore s (split_of base) (split_of t) prefix front
-    → IsPlainReference (split_of t) → canonical s base t ≡ prefix ++ (front ++ t)
-unfolding canonical normal_form
-unchanged s base t prefix front b h =
-    let r = split_of t in
-    let u = target (split_of base) r in
-    let k = plain s r front b.plain b.ends h in
-    let path : normal_path s u.authority u.path ≡ front ++ r.path =
-    ap (normal_path s u.authority) b.path ∙ path-same s u.authority (front ++ r.path) k.dots k.percent b.unguarded in
-    let query : where_there (pct s) u.query ≡ r.query = ap (where_there (pct s)) b.query ∙ k.query in
-    let fragment : where_there (pct s) u.fragment ≡ r.fragment = ap (where_there (pct s)) b.fragment ∙ k.fragment in
-    let tail = marked 63 r.query ++ marked 35 r.fragment in
+whole-form : (s : Tests) (base r : Parts) (prefix front own : List ℕ) → IsSpec s → Fits s r → StandBefore s base r prefix front own
+    → has_dot_segment r.path ≡ false → recompose (normal_form s (target base r))
+    ≡ prefix ++ (front ++ (own ++ (pct s r.path ++ (marked 63 (where_there (pct s) r.query) ++ marked 35 (where_there (pct s) r.fragment)))))
+unfolding normal_form
+whole-form s base r prefix front own k f b n =
+    let u = target base r in
+    let plain = both (lacks 37 front) (not (has_dot_segment front)) b.plain in
+    let dots = no_dots front r.path (not-true (has_dot_segment front) plain.1) b.ends n in
+    let whole = whole-append front r.path (lacks-whole front plain.0) (path-whole s r.path k f.path) in
+    let path : normal_path s u.authority u.path ≡ front ++ pct s r.path =
+    ap (normal_path s u.authority) b.path
+    ∙ (path-form s u.authority (front ++ r.path) k dots whole b.unguarded ∙ pct-front s front r.path plain.0) in
+    let tail = marked 63 (where_there (pct s) r.query) ++ marked 35 (where_there (pct s) r.fragment) in
     sym (prefix-form s Normal false u (prefix_in s true u) refl refl)
     ∙ (ap (λ x. prefix_in s true u ++ (x ++ (marked 63 (where_there (pct s) u.query) ++ marked 35 (where_there (pct s) u.fragment)))) path
-    ∙ (ap (λ x. prefix_in s true u ++ ((front ++ r.path) ++ (marked 63 x ++ marked 35 (where_there (pct s) u.fragment)))) query
-    ∙ (ap (λ x. prefix_in s true u ++ ((front ++ r.path) ++ (marked 63 r.query ++ marked 35 x))) fragment
-    ∙ (ap (λ x. prefix_in s true u ++ x) (append_assoc front r.path tail)
-    ∙ (shift prefix front (prefix_in s false r) (prefix_in s true u) (rest r) b.text
-    ∙ ap (λ x. prefix ++ (front ++ x)) (sym (text-cut t)))))))
+    ∙ (ap (λ x. prefix_in s true u ++ ((front ++ pct s r.path) ++ (marked 63 (where_there (pct s) x)
+    ++ marked 35 (where_there (pct s) u.fragment)))) b.query
+    ∙ (ap (λ x. prefix_in s true u ++ ((front ++ pct s r.path) ++ (marked 63 (where_there (pct s) r.query)
+    ++ marked 35 (where_there (pct s) x)))) b.fragment
+    ∙ (ap (λ x. prefix_in s true u ++ x) (append_assoc front (pct s r.path) tail)
+    ∙ shift prefix front own (prefix_in s true u) (pct s r.path ++ tail) b.text))))
+
+pub unchanged : (s : Tests) (base t prefix front : List ℕ) → IsSpec s → Fits s (split_of t)
+    → StandBefore s (split_of base) (split_of t) prefix front (prefix_in s false (split_of t)) → has_dot_segment (split_of t).path ≡ false
+    → EndsCanonical s base t prefix front
+unfolding canonical
+unchanged s base t prefix front k f b n =
+    let r = split_of t in
+    let own = prefix_in s false r in
+    let form = ap (pct s) (text-cut t) ∙ (pct-front s own (rest r) b.percent ∙ ap (λ x. own ++ x) (rest-form s r.path r.query r.fragment)) in
+    record {
+      text = whole-form s (split_of base) r prefix front own k f b n ∙ ap (λ x. prefix ++ (front ++ x)) (sym form);
+      whole = ap whole_triplets (text-cut t) ∙ whole-append own (rest r) (lacks-whole own b.percent) (rest-whole s r k f);
+      bare = λ h. ap (lacks 37) (text-cut t) ∙ lacks-append 37 own (rest r) b.percent (rest-lacks r h);
+    }
 
 -- ---- what stands before
--- a reference with a scheme, whose own prefix stays
-pub own-before : (s : Tests) (b r : Parts) (x : List ℕ) → r.scheme ≡ Some x → Fits s r → prefix_in s true r ≡ prefix_in s false r
-    → StandBefore s b r [] []
+-- a reference with a scheme
+own-stands : (s : Tests) (b r : Parts) (x own : List ℕ) → r.scheme ≡ Some x → Fits s r → prefix_in s true r ≡ own
+    → lacks 37 (prefix_in s false r) ≡ true → StandBefore s b r [] [] own
 unfolding target
-own-before s b r x e f p =
+own-stands s b r x own e f p l =
     let same : target b r ≡ r = rw e refl in
     record {
       path = ap (λ (q : Parts). q.path) same;
@@ -109,11 +232,48 @@ own-before s b r x e f p =
       unguarded = ap (λ (q : Parts). is_some q.authority || not (starts_with_slashes r.path)) same
           ∙ own-rules x r.authority r.path (ap (λ o. path_rules o r.authority r.path) (sym e) ∙ f.rules);
       text = ap (λ (q : Parts). prefix_in s true q ++ []) same ∙ (append-nil (prefix_in s true r) ∙ p);
+      percent = l;
     }
   where
     own-rules : (x : List ℕ) (a : Option (List ℕ)) (p : List ℕ) → path_rules (Some x) a p ≡ true → (is_some a || not (starts_with_slashes p)) ≡ true
     own-rules x (Some a) p h = refl
     own-rules x None p h = h
+
+-- its own prefix stays
+pub own-before : (s : Tests) (b r : Parts) (x : List ℕ) → r.scheme ≡ Some x → Fits s r → KeepsPrefix s r
+    → StandBefore s b r [] [] (prefix_in s false r)
+own-before s b r x e f p = own-stands s b r x (prefix_in s false r) e f p.0 p.1
+
+-- its own prefix is put into lower case
+cut-rest : (a b c d : List ℕ) → a ≡ c → a ++ b ≡ c ++ d → b ≡ d
+cut-rest a b c d e h =
+    sym (drop-append_seam c b) ∙ (ap (λ x. drop (length c) (x ++ b)) (sym e) ∙ (ap (drop (length c)) h ∙ drop-append_seam c d))
+
+pub lowered-before : (s : Tests) (t first second x : List ℕ) → IsSpec s → Fits s (split_of t) → (split_of t).scheme ≡ Some x
+    → if_there is_plain_authority (split_of t).authority ≡ true → has_dot_segment (split_of t).path ≡ false → t ≡ first ++ second
+    → first ≡ prefix_in s false (split_of t) → length first ≤ 64 → IsLowered s t first second
+unfolding canonical
+lowered-before s t first second x k f e a n w p short =
+    let r = split_of t in
+    let own = prefix_in s false r in
+    let percent = prefix-percent s r f a in
+    let last : second ≡ rest r = cut-rest first second own (rest r) p (sym w ∙ text-cut t) in
+    record {
+      text = λ base. whole-form s (split_of base) r [] [] (lowered own) k f
+          (own-stands s (split_of base) r x (lowered own) e f (prefix-lowered s r a) percent) n
+          ∙ (ap (λ y. lowered own ++ y) (sym (rest-form s r.path r.query r.fragment))
+          ∙ (ap (λ y. lowered y ++ pct s (rest r)) (sym p) ∙ ap (λ y. lowered first ++ pct s y) (sym last)));
+      ascii = subst IsAscii (sym p) (both-ascii (scheme_text r.scheme) (authority_text r.authority) (scheme_text-ascii r.scheme f.scheme)
+          (authority_text-ascii r.authority a));
+      short = short;
+      whole = ap whole_triplets last ∙ rest-whole s r k f;
+      bare = λ h. ap (lacks 37) last ∙ rest-lacks r h;
+    }
+
+pub lowered-ascii : (t : List ℕ) → IsAscii t → IsAscii (map to_ascii_lowercase t)
+lowered-ascii [] h i = h i
+lowered-ascii (x ∷ xs) h zero = lowercase_ascii x (h zero)
+lowered-ascii (x ∷ xs) h (suc i) = lowered-ascii xs (λ j. h (suc j)) i
 
 -- a reference with neither scheme nor authority
 record HasPath (r : Parts) : Type 0 where
@@ -131,7 +291,8 @@ path-merged b (x ∷ xs) n h = rw h refl
 
 -- what the base puts before it
 base-before : (s : Tests) (b r : Parts) (p f : List ℕ) → HasPath r → IsPrefix s b (Some p) → lacks_triplets_and_dots f f ≡ true → ends_at_slash f ≡ true
-    → target_path b r.path ≡ f ++ r.path → (is_some b.authority || not (starts_with_slashes (f ++ r.path))) ≡ true → StandBefore s b r p f
+    → target_path b r.path ≡ f ++ r.path → (is_some b.authority || not (starts_with_slashes (f ++ r.path))) ≡ true
+    → StandBefore s b r p f (prefix_in s false r)
 unfolding target
 base-before s b r p f h i plain e path g =
     record {
@@ -142,6 +303,7 @@ base-before s b r p f h i plain e path g =
       ends = e;
       unguarded = rw (h.scheme, h.authority) g;
       text = rw (h.scheme, h.authority) (sym (ap (λ l. p ++ l) (append-nil f) ∙ ap (λ l. l ++ f) i.1));
+      percent = rw (h.scheme, h.authority) refl;
     }
 
 rooted-rules : (b : Option (List ℕ)) (r : Parts) → r.scheme ≡ None → r.authority ≡ None → path_rules r.scheme r.authority r.path ≡ true
@@ -152,14 +314,14 @@ rooted-rules b r h k f =
     rw (both (not (starts_with_slashes r.path)) _ own).0 (or-true (is_some b))
 
 pub rooted-before : (s : Tests) (b r : Parts) (p : List ℕ) → r.scheme ≡ None → r.authority ≡ None → is_empty r.path ≡ false
-    → starts_with_slash r.path ≡ true → Fits s r → IsPrefix s b (Some p) → StandBefore s b r p []
+    → starts_with_slash r.path ≡ true → Fits s r → IsPrefix s b (Some p) → StandBefore s b r p [] (prefix_in s false r)
 rooted-before s b r p h k n st f i =
     base-before s b r p [] (record { scheme = h; authority = k; some = n }) i (rw nothing-is_no_dot refl) refl (path-rooted b r.path n st)
     (rooted-rules b.authority r h k f.rules)
 
 pub merged-before : (s : Tests) (b r : Parts) (p f : List ℕ) → r.scheme ≡ None → r.authority ≡ None → is_empty r.path ≡ false
     → starts_with_slash r.path ≡ false → IsPrefix s b (Some p) → f ≡ merge_prefix b → ends_at_slash f ≡ true → is_plain_front b f ≡ true
-    → StandBefore s b r p f
+    → StandBefore s b r p f (prefix_in s false r)
 merged-before s b r p f h k n st i m e plain =
     let both-of = both (is_some b.authority) (lacks_triplets_and_dots f f) plain in
     base-before s b r p f (record { scheme = h; authority = k; some = n }) i both-of.1 e

@@ -1,5 +1,5 @@
 -- Forms of parts, the normal ones among them, and canonical texts (RFC 3986 sections 5.2, 6.2.2 and 6.2.3, RFC 3987 section 5.3.2).
-use Rattle.std.specs.Prelude.{ℕ, Bool, false, cond, not, ◌&&◌, ◌||◌, List, [], ◌∷◌, Option, Some, None, is_some}
+use Rattle.std.specs.Prelude.{ℕ, Bool, true, false, cond, not, ◌&&◌, ◌||◌, List, [], ◌∷◌, Option, Some, None, is_some}
 use Rattle.iri_grammar.specs.Classes.{Tests}
 use Rattle.iri_grammar.specs.Characters.{slash}
 use Rattle.iri_grammar.specs.Parts.{Parts, is_empty, recompose, starts_with_slash, starts_with_slashes}
@@ -48,27 +48,31 @@ slash_or slashed path = cond slashed (slash ∷ []) path
 abbrev pub part_in : Bool → (List ℕ → List ℕ) → Option (List ℕ) → Option (List ℕ)
 part_in normal f part = cond normal (where_there f part) part
 
--- parts in a mode: the scheme in lower case, the authority in normal form, query and fragment with their triplets in normal form,
--- or all of these as they stand; and the path. By scheme rules the default port goes, and an empty path becomes `/`. `whole` says that
--- the path is the base's, taken whole
-unfoldable pub form : Tests → Mode → Bool → Parts → Parts
-form s mode whole t =
-    let normal = is_normalizing mode in
-    let dropped = dropped_in mode t.scheme in
-    record {
-      scheme = part_in normal lowered t.scheme;
-      authority = part_in normal (normal_authority_in s dropped) t.authority;
-      path = slash_or (becomes_slash dropped t.authority t.path) (path_in s mode whole t.authority t.path);
-      query = part_in normal (pct s) t.query;
-      fragment =
-          part_in normal (pct s) t.fragment;
-    }
+-- parts with this path, and the others in normal form or as they stand: the scheme in lower case, the authority in normal form without the
+-- port that is dropped, query and fragment with their triplets in normal form. Where the rules know a port to drop, an empty path beside an
+-- authority becomes `/`
+abbrev pub parts_with : Tests → Bool → Option (List ℕ) → List ℕ → Parts → Parts
+parts_with s normal dropped path t = record {
+  scheme = part_in normal lowered t.scheme;
+  authority = part_in normal (normal_authority_in s dropped) t.authority;
+  path = slash_or (becomes_slash dropped t.authority t.path) path;
+  query = part_in normal (pct s) t.query;
+  fragment = part_in normal (pct s) t.fragment;
+}
 
--- the normal form
+-- parts in normal form by rules that drop this port; the rules of every scheme drop none
+abbrev pub normal_parts : Tests → Option (List ℕ) → Parts → Parts
+normal_parts s dropped t = parts_with s true dropped (normal_path s t.authority t.path) t
+
+-- parts in a mode. `whole` says that the path is the base's, taken whole
+unfoldable pub form : Tests → Mode → Bool → Parts → Parts
+form s mode whole t = parts_with s (is_normalizing mode) (dropped_in mode t.scheme) (path_in s mode whole t.authority t.path) t
+
+-- the normal form, by the rules of every scheme
 unfoldable pub normal_form : Tests → Parts → Parts
 normal_form s t = form s Normal false t
 
--- the normal form, by the rules of every scheme or by scheme rules too
+-- the same, or by scheme rules too
 abbrev pub normal_form_in : Tests → CanonMode → Parts → Parts
 normal_form_in s Default t = normal_form s t
 normal_form_in s Scheme t = form s ByScheme false t

@@ -11,7 +11,7 @@ ghost use Rattle.iri_normal.specs.Resolver.{base_text};
 
 use crate::mode::CanonMode;
 use crate::resolver::FixedBaseResolver;
-use crate::unchanged::show_behind;
+use crate::unchanged::{cut_lowered, lacks_triplets, show_behind, show_lowered};
 use iri_grammar::error::Error as GrammarError;
 use iri_grammar::spec::Spec;
 use iri_owned::owned::RiString;
@@ -81,8 +81,12 @@ pub fn show_canonical_in<'a, S: Spec, W: TextSink>(
 {
     if let CanonMode::Default = mode {
         if let Some(before) = resolver.before_unchanged(reference) {
-            let text = reference.view().as_str();
-            return show_behind(sink, before.prefix, before.front, text);
+            let bare = lacks_triplets(reference.parts());
+            return show_behind::<S, W>(sink, before, reference.view().as_str(), bare);
+        }
+        if let Some((prefix, rest)) = cut_lowered(reference) {
+            let bare = lacks_triplets(reference.parts());
+            return show_lowered::<S, W>(sink, prefix, rest, bare);
         }
     }
     resolver

@@ -1,5 +1,5 @@
 // Dot segments.
-ghost use Rattle.std.specs.Prelude.{◌≡◌, ◌<◌, ◌≤◌, ◌+◌, ◌-◌, ℕ, MatchOption, length, drop, false, true};
+ghost use Rattle.std.specs.Prelude.{◌≡◌, ◌<◌, ◌≤◌, ◌-◌, MatchOption, length, drop, false, true};
 ghost use Rattle.iri_grammar.specs.Characters.{slash};
 ghost use Rattle.iri_grammar.specs.Cut.{before, behind};
 ghost use Rattle.iri_grammar.specs.OptionalSlices.{now_of};
@@ -10,7 +10,7 @@ ghost use Rattle.iri_normal.specs.inside.DotSearch.{slash_and_dots};
 ghost use Rattle.iri_normal.specs.inside.NextDots.{IsInFront, IsNext};
 ghost use Rattle.iri_normal.specs.inside.Written.{or_nothing};
 
-use std::simd::prelude::*;
+use iri_grammar::dots::may_have_dots;
 
 // What follows a dot at the start, in any spelling.
 #[inline(always)]
@@ -89,62 +89,6 @@ pub(crate) struct NextDots<'a> {
     pub(crate) rest: &'a [u8],
 }
 
-// Whether eight places have no slash with what begins a dot after it: the place before `i`, and seven more.
-#[inline(always)]
-fn are_plain(path: &[u8], i: usize) -> bool
-    requires { (1 ≤ i) × (i + 8 ≤ length path.now) }
-    ensures { result ≡ true → (k : ℕ) → k < 8 → slash_and_dots (drop (i - 1 + k) path.now) ≡ false }
-{
-    let next = u8x8::from_slice(&path[i..]);
-    let slashes = u8x8::from_slice(&path[i - 1..]).simd_eq(u8x8::splat(b'/'));
-    let dots = next.simd_eq(u8x8::splat(b'.')) | next.simd_eq(u8x8::splat(b'%'));
-    !(slashes & dots).any()
-}
-
-// Whether a dot segment begins at one of eight places.
-fn has_dots_near(path: &[u8], i: usize) -> bool
-    requires { (1 ≤ i) × (i + 8 ≤ length path.now) }
-    ensures none { result ≡ false → (k : ℕ) → k < 8 → slash_and_dots (drop (i - 1 + k) path.now) ≡ false }
-    ensures some { result ≡ true → has_dot_segment path.now ≡ true }
-{
-    let mut k = 0;
-    'places: while k < 8 {
-        if let Some(_) = dots_at(path, i + k) {
-            return true;
-        }
-        k += 1;
-    }
-    false
-}
-
-// The same, and mostly eight places are passed at once.
-#[inline(always)]
-fn has_dots_in(path: &[u8], i: usize) -> bool
-    requires { (1 ≤ i) × (i + 8 ≤ length path.now) }
-    ensures none { result ≡ false → (k : ℕ) → k < 8 → slash_and_dots (drop (i - 1 + k) path.now) ≡ false }
-    ensures some { result ≡ true → has_dot_segment path.now ≡ true }
-{
-    !are_plain(path, i) && has_dots_near(path, i)
-}
-
-// Whether a dot segment comes after a slash. Places are looked at by eight, and the last ones perhaps twice: by twos,
-// percent-encoded octets cost two instructions a byte more.
-fn has_dots_after_slash(path: &[u8]) -> bool
-    requires { 9 ≤ length path.now }
-    ensures none { result ≡ false → (k : ℕ) → k + 1 < length path.now → slash_and_dots (drop k path.now) ≡ false }
-    ensures some { result ≡ true → has_dot_segment path.now ≡ true }
-{
-    let last = path.len() - 8;
-    let mut i = 1;
-    'places: while i < last {
-        if has_dots_in(path, i) {
-            return true;
-        }
-        i += 8;
-    }
-    has_dots_in(path, last)
-}
-
 // The first dot segment of a path. A byte above `/` is no slash and begins no dot, so that the next place is passed with it.
 #[inline(always)]
 pub(crate) fn next_dots(path: &[u8]) -> Option<NextDots<'_>>
@@ -203,26 +147,16 @@ pub fn is_two_dots(segment: &str) -> bool
     }
 }
 
-// Whether there is a dot segment in a short path.
-fn has_dots_in_short(path: &[u8]) -> bool
-    ensures { result ≡ has_dot_segment path.now }
-{
-    match next_dots(path) {
-        Some(_) => true,
-        None => false,
-    }
-}
-
 /// Whether there is a dot segment in the path.
 pub fn has_dot_segment(path: &str) -> bool
     ensures { result ≡ has_dot_segment path.now }
 {
     let bytes = path.as_bytes();
-    if bytes.len() < 9 {
-        return has_dots_in_short(bytes);
+    if !may_have_dots(bytes) {
+        return false;
     }
-    match dots_in_front(bytes) {
+    match next_dots(bytes) {
         Some(_) => true,
-        None => has_dots_after_slash(bytes),
+        None => false,
     }
 }

@@ -56,7 +56,10 @@ pub trait IsNormalized: Sized {
 }
 
 // Whether what is shown of a view is its text.
-fn is_same<S: Spec, K: NormalKind>(view: View<'_, S, K>, shown: NormalizedText<'_, S, K>) -> bool
+pub(crate) fn is_same<S: Spec, K: NormalKind>(
+    view: View<'_, S, K>,
+    shown: NormalizedText<'_, S, K>,
+) -> bool
     ensures { (result ≡ true) ↔ (written_text S.tests (written shown.entry) ≡ text view.entry) }
 {
     is_text(&shown, view.as_str())

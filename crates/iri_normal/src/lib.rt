@@ -7,7 +7,8 @@
 //! empty paths become `/`. It also gives the reference's [`Target`](owned_target::Target), owned, with its dots kept. `views` has the
 //! same for views: `normalize` and `resolve_against`.
 //! [`canonicalize`](canonical::canonicalize) answers the canonical text of two texts of bytes, and
-//! [`show_canonical`](canonical::show_canonical) shows that of a reference against a resolver's base.
+//! [`show_canonical`](canonical::show_canonical) shows that of a reference against a resolver's base, and
+//! [`show_target`](target_text::show_target) its target.
 //! [`IsNormalized`](is_normalized::IsNormalized) tells whether a text is in normal form. The calls that end with `_in` take a
 //! [`CanonMode`](mode::CanonMode): the normal form by the rules of every scheme, or by scheme rules too. `laws` has what holds of all
 //! targets, forms and canonical texts. The steps from a target to its normal form are `iri_resolve`'s, which stands on this crate.
@@ -21,7 +22,7 @@
 //! 5.2.4, and is stable; each form fits the grammar again, and the normal ones and the preserving one are stable; a
 //! canonical text has at most three bytes more than base and reference together. A text is found to be in normal form
 //! exactly where it is, without memory. What is said of shown texts and canonical texts holds of the mode by scheme rules
-//! too; the tests of being in normal form have no such mode.
+//! too, and `is_normalized_in` tests it.
 //!
 //! Not proved: that memory is allocated, so that a call that always answered `Memory` would keep its contract; tests show
 //! that each succeeds with ample memory. The words of `Display` of `CanonError`, which `thiserror` makes. Any bound on time:
@@ -33,6 +34,7 @@
 
 mod beginning;
 pub mod canonical;
+mod canonical_string;
 mod comparison;
 mod dots;
 mod form;
@@ -43,12 +45,14 @@ mod merged_path;
 pub mod mode;
 pub mod normal_kind;
 pub mod normalized;
+pub mod normalized_in;
 pub mod owned_target;
 mod path_writer;
 mod prefix;
 mod remove_dot_segments;
 pub mod resolver;
 mod target;
+pub mod target_text;
 mod unchanged;
 pub mod unresolvable;
 pub mod views;

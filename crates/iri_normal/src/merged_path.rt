@@ -4,7 +4,7 @@ ghost use Rattle.iri_grammar.specs.Parts.{is_empty};
 ghost use Rattle.iri_normal.specs.Target.{ends_at_slash};
 
 /// What the base gives of a path, and the reference's path after it. The first piece ends where a segment ends, or nothing follows it.
-#[derive(Clone, Copy)]
+#[derive(Clone, Copy, Debug)]
 pub struct MergedPath<'a> {
     pub base: &'a str,
     pub reference: &'a str,

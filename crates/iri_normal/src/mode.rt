@@ -6,7 +6,7 @@ ghost use Rattle.iri_normal.specs.Modes.{dropped_in, is_by_scheme, is_normalizin
 pub use iri_percent::CanonMode;
 
 /// How the parts of a reference are written.
-#[derive(Clone, Copy)]
+#[derive(Clone, Copy, Debug)]
 pub enum Mode {
     /// As they stand, and the path without its dot segments (RFC 3986 section 5.2.4), with `/.` before it where it would be read as an
     /// authority. A base's path that is taken whole stays as it is.

@@ -24,12 +24,15 @@ use std::marker::PhantomData;
 
 /// Parts, borrowed, that show themselves as one text of the kind `K` in a mode: without dot segments alone, or in a
 /// normal form. It takes no memory until it is made a string.
+#[derive_where(Debug)]
 pub struct NormalizedText<'a, S: Spec, K: NormalKind> {
     prefix: Option<&'a str>,
     target: TargetSlices<'a>,
     whole: bool,
     mode: Mode,
+    #[derive_where(skip(Debug))]
     spec: PhantomData<S>,
+    #[derive_where(skip(Debug))]
     kind: PhantomData<K>,
     pub ghost sound: { ∥ AreSound S.tests K.fault target ∥₁ },
     pub ghost prefixed: { IsPrefix S.tests (slices target) (now_of prefix) } by { Prim.hlevel props },

@@ -26,12 +26,14 @@ use std::marker::{Model, PhantomData};
 /// assert_eq!(rt; target.fragment(), Some("s"));
 /// ```
 #[derive(Drop)]
+#[derive_where(Debug)]
 pub struct Target<S: Spec> {
     scheme: String,
     authority: Option<String>,
     path: String,
     query: Option<String>,
     fragment: Option<String>,
+    #[derive_where(skip(Debug))]
     spec: PhantomData<S>,
 }
 

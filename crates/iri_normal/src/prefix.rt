@@ -10,7 +10,7 @@ use crate::comparison::is_text;
 use crate::form::show_prefix;
 use iri_grammar::spec::Spec;
 use iri_text::{Show, Stop, TextSink};
-use iri_types::kind::Absolute;
+use iri_types::kind::{Absolute, WholeKind};
 use iri_types::split::SplitView;
 
 /// The prefix of a base in normal form: its scheme in lower case with the colon, and `//` with its authority.
@@ -54,21 +54,24 @@ fn prefix_len(scheme: Option<&str>, authority: Option<&str>) -> usize
     scheme_len(scheme) + authority_len(authority)
 }
 
-// The prefix of a base as it is.
-fn prefix<'a, S: Spec>(base: &SplitView<'a, S, Absolute>) -> &'a str
-    ensures { result.now ≡ prefix_in S.tests false (split_of (split_text base.now)) }
+// The prefix of a text as it is, and what follows it.
+pub(crate) fn cut_prefix<'a, S: Spec, K: WholeKind>(
+    text: &SplitView<'a, S, K>,
+) -> (&'a str, &'a str)
+    ensures whole { split_text text.now ≡ result.0.now ++ result.1.now }
+    ensures prefix { result.0.now ≡ prefix_in S.tests false (split_of (split_text text.now)) }
 {
-    let text = base.view().as_str();
-    let parts = base.parts();
+    let whole = text.view().as_str();
+    let parts = text.parts();
     let len = prefix_len(parts.scheme(), parts.authority());
-    &text[..len]
+    (&whole[..len], &whole[len..])
 }
 
 /// The prefix of a base, where it is in normal form.
 pub fn normal_prefix<'a, S: Spec>(base: &SplitView<'a, S, Absolute>) -> Option<&'a str>
     ensures { IsPrefix S.tests (split_of (split_text base.now)) (now_of result) }
 {
-    let text = prefix(base);
+    let (text, _) = cut_prefix(base);
     if is_text(&NormalPrefix { base: *base }, text) {
         Some(text)
     } else {

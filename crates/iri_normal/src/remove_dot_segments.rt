@@ -29,6 +29,7 @@ use self::segments::{cut_eighth, taken, without_first_dots};
 use crate::dots::has_dot_segment;
 use crate::merged_path::MergedPath;
 use iri_grammar::cutting::cut;
+use iri_grammar::dots::may_have_dots;
 use iri_grammar::spec::Spec;
 use iri_percent::PctCaseNormalized;
 use iri_text::{Show, Stop, TextSink};
@@ -75,6 +76,7 @@ fn text_of(buf: &[u8; SHORT], start: usize, len: usize) -> &str
 }
 
 // A short path.
+#[inline(always)]
 fn show_short<S: Spec, W: TextSink>(
     sink: &mut W,
     path: &MergedPath<'_>,
@@ -197,11 +199,14 @@ fn show_long<S: Spec, W: TextSink>(
     show_from_first::<S, W>(sink, base, path.reference, normal)
 }
 
-// Whether there is a dot segment in a path.
-fn has_dots(path: &MergedPath<'_>) -> bool
-    ensures { result ≡ has_dot_segment (merged path.now) }
+// Whether no segment of a path begins with a dot, so that none is a dot segment.
+fn lacks_dots(path: &MergedPath<'_>) -> bool
+    ensures { result ≡ true → has_dot_segment (merged path.now) ≡ false }
 {
-    has_dot_segment(path.reference) || has_dot_segment(path.base)
+    if may_have_dots(path.reference.as_bytes()) {
+        return false;
+    }
+    !may_have_dots(path.base.as_bytes())
 }
 
 /// A path without its dot segments.
@@ -214,7 +219,7 @@ pub fn show_without_dots<S: Spec, W: TextSink>(
     requires { is_path S.tests (merged path.now) ≡ true }
     ensures { Shows W.puts W.halts W.stops sink.old (in_form S.tests normal (dots (merged path.now))) sink.new result }
 {
-    if !has_dots(path) {
+    if lacks_dots(path) {
         return show_as_it_stands::<S, W>(sink, path, normal);
     }
     if path.base.len() <= SHORT && path.reference.len() <= SHORT - path.base.len() {

@@ -1,14 +1,13 @@
 //! References against one base (RFC 3986 section 5.2).
-ghost use Rattle.std.specs.Prelude.{◌≡◌, ◌++◌, IfOk, IsSome, MatchOption, None, Some, true};
+ghost use Rattle.std.specs.Prelude.{◌≡◌, ◌++◌, IfOk, IsSome, MatchOption, None, Some, false, true};
 ghost use Rattle.iri_grammar.specs.Parts.{Fits, Parts};
 ghost use Rattle.iri_grammar.specs.Split.{split_of};
 ghost use Rattle.iri_grammar.specs.Splitters.{parts};
 ghost use Rattle.iri_grammar.specs.OptionalSlices.{now_of};
 ghost use Rattle.iri_types.specs.SplitText.{split_text};
 ghost use Rattle.iri_types.specs.Texts.{text, text_of};
-ghost use Rattle.iri_normal.specs.NormalForm.{canonical};
-ghost use Rattle.iri_normal.specs.Prefix.{IsPrefix};
-ghost use Rattle.iri_normal.specs.inside.Unchanged.{StandBefore, is_plain_front};
+ghost use Rattle.iri_normal.specs.Prefix.{IsPrefix, prefix_in};
+ghost use Rattle.iri_normal.specs.inside.Unchanged.{EndsCanonical, StandBefore, is_plain_front};
 ghost use Rattle.iri_normal.specs.Slices.{slices};
 ghost use Rattle.iri_normal.specs.Target.{ends_at_slash, merge_prefix, target, takes_base_path};
 ghost use Rattle.std.proofs.Props.{props};
@@ -19,7 +18,7 @@ use crate::normalized::{Normalized, NormalizedText};
 use crate::owned_target::Target;
 use crate::prefix::normal_prefix;
 use crate::target::{TargetSlices, merge_prefix, starts_with_slash, takes_base_path, target};
-use crate::unchanged::{Before, is_plain_reference, keeps_prefix, lacks_triplets_and_dots};
+use crate::unchanged::{Before, keeps_prefix, lacks_triplets_and_dots};
 use iri_grammar::spec::Spec;
 use iri_grammar::splitter::Splitter;
 use iri_types::kind::{Absolute, Reference};
@@ -40,6 +39,7 @@ use std::alloc::{AllocError, Global};
 ///     assert_eq!(rt; resolved.try_to_string(rt.alloc())?.as_str(), target);
 /// }
 /// ```
+#[derive_where(Debug)]
 pub struct FixedBaseResolver<'a, S: Spec> {
     base: SplitView<'a, S, Absolute>,
     front: &'a str,
@@ -148,10 +148,11 @@ impl<'a, S: Spec> FixedBaseResolver<'a, S> {
         }
     }
 
-    // What the base puts before the path of a plain reference that has neither scheme nor authority. An empty path is the base's.
+    // What the base puts before the path of a reference without dot segments that has neither scheme nor authority. An empty path is the base's.
     fn base_before(&self, path: &str) -> Option<Before<'a>>
         ensures { MatchOption result (Unit {0}) (λ b. (r : Parts) → r.path ≡ path.now → r.scheme ≡ None → r.authority ≡ None
-            → Fits S.tests r → StandBefore S.tests (split_of (base_text self.now)) r b.prefix.now b.front.now) }
+            → Fits S.tests r → StandBefore S.tests (split_of (base_text self.now)) r b.prefix.now b.front.now
+            (prefix_in S.tests false r)) }
     {
         let prefix = self.prefix?;
         if path.is_empty() {
@@ -168,11 +169,11 @@ impl<'a, S: Spec> FixedBaseResolver<'a, S> {
         }
     }
 
-    // The same for the parts of any plain reference.
+    // The same for the parts of any such reference.
     fn before(&self, reference: &Splitter<'_>) -> Option<Before<'a>>
         requires { Fits S.tests (parts reference.now) }
         ensures { MatchOption result (Unit {0}) (λ b. StandBefore S.tests (split_of (base_text self.now)) (parts reference.now)
-            b.prefix.now b.front.now) }
+            b.prefix.now b.front.now (prefix_in S.tests false (parts reference.now))) }
     {
         match (reference.scheme(), reference.authority()) {
             (Some(_), _) if keeps_prefix::<S>(reference) => Some(Before {
@@ -184,20 +185,20 @@ impl<'a, S: Spec> FixedBaseResolver<'a, S> {
         }
     }
 
-    // What comes before a reference in its canonical text, where nothing in the reference changes: after these two its own text
-    // follows. `None` says nothing.
+    // What comes before a reference in its canonical text, where nothing in the reference changes but its percent-encoded octets:
+    // after these two its own text follows. `None` says nothing.
     pub(crate) fn before_unchanged(
         &self,
         reference: &SplitView<'a, S, Reference>,
     ) -> Option<Before<'a>>
-        ensures { MatchOption result (Unit {0}) (λ b. canonical S.tests (base_text self.now) (split_text reference.now)
-            ≡ b.prefix.now ++ (b.front.now ++ split_text reference.now)) }
+        ensures { MatchOption result (Unit {0}) (λ b. EndsCanonical S.tests (base_text self.now) (split_text reference.now)
+            b.prefix.now b.front.now) }
     {
         let parts = reference.parts();
-        if is_plain_reference(parts) {
-            self.before(parts)
-        } else {
+        if parts.seen().dots {
             None
+        } else {
+            self.before(parts)
         }
     }
 

@@ -14,7 +14,7 @@ use iri_grammar::splitter::Splitter;
 use memchr::memrchr;
 
 /// A target as slices of the base and the reference.
-#[derive(Clone, Copy)]
+#[derive(Clone, Copy, Debug)]
 pub struct TargetSlices<'a> {
     pub scheme: Option<&'a str>,
     pub authority: Option<&'a str>,

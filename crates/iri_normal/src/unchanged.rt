@@ -1,19 +1,26 @@
-// References that end their canonical text as they are: nothing in them changes.
-ghost use Rattle.std.specs.Prelude.{◌≡◌, ◌++◌, false, true};
-ghost use Rattle.iri_grammar.specs.OptionalSlices.{now_of};
+// References whose text ends their canonical text: nothing in them changes but their percent-encoded octets.
+ghost use Rattle.std.specs.Prelude.{◌≡◌, ◌≤◌, ◌++◌, length, true, MatchOption};
+ghost use Rattle.std.specs.Str.{IsAscii};
+ghost use Rattle.iri_grammar.specs.Cut.{lacks};
+ghost use Rattle.iri_grammar.specs.Characters.{percent_sign};
+ghost use Rattle.iri_grammar.specs.Parts.{Fits};
 ghost use Rattle.iri_grammar.specs.Splitters.{parts};
-ghost use Rattle.iri_percent.specs.NormalHost.{normal_authority};
-ghost use Rattle.iri_normal.specs.LowerCase.{lowered, where_there};
-ghost use Rattle.iri_normal.specs.Prefix.{prefix_in};
-ghost use Rattle.iri_normal.specs.inside.Unchanged.{IsPlainReference, lacks_triplets_and_dots};
+ghost use Rattle.iri_percent.specs.Triplets.{pct};
+ghost use Rattle.iri_percent.specs.Units.{whole_triplets};
+ghost use Rattle.iri_normal.specs.inside.Unchanged.{IsLowered, KeepsPrefix, LacksTriplets, lacks_triplets_and_dots};
+ghost use Rattle.iri_normal.specs.LowerCase.{lowered};
+ghost use Rattle.iri_types.specs.SplitText.{split_text};
 ghost use Rattle.iri_text.specs.Shown.{Shows};
 
 use crate::dots::has_dot_segment;
+use crate::prefix::cut_prefix;
 use iri_grammar::cutting::lacks;
 use iri_grammar::spec::Spec;
 use iri_grammar::splitter::Splitter;
-use iri_percent::is_plain as is_plain_text;
-use iri_text::{Stop, TextSink};
+use iri_percent::PctCaseNormalized;
+use iri_text::{Show, Stop, TextSink};
+use iri_types::kind::Reference;
+use iri_types::split::SplitView;
 
 // What comes before such a reference: the prefix of the base and the path that relative ones are put after, or nothing.
 #[derive(Clone, Copy)]
@@ -29,46 +36,21 @@ pub(crate) fn lacks_triplets_and_dots(text: &str, path: &str) -> bool
     lacks(text, b'%') && !has_dot_segment(path)
 }
 
-// Whether a reference was found to have no percent-encoded octet after its authority, and its path has no dot segment.
-pub(crate) fn is_plain_reference(reference: &Splitter<'_>) -> bool
-    ensures { result ≡ true → IsPlainReference (parts reference.now) }
+// Whether the scan saw no percent-encoded octet after the authority.
+pub(crate) fn lacks_triplets(reference: &Splitter<'_>) -> bool
+    ensures { result ≡ true → LacksTriplets (parts reference.now) }
 {
-    reference.lacks_triplets() && !has_dot_segment(reference.path())
-}
-
-fn keeps_scheme(scheme: Option<&str>) -> bool
-    ensures { result ≡ true → where_there lowered (now_of scheme.entry) ≡ now_of scheme.entry }
-{
-    match scheme {
-        Some(scheme) => is_plain_text(scheme.as_bytes()),
-        None => true,
-    }
-}
-
-// An authority with a colon at its end loses it.
-fn is_plain_authority<S: Spec>(authority: &str) -> bool
-    ensures { result ≡ true → normal_authority S.tests authority.now ≡ authority.now }
-{
-    match authority.strip_suffix(':') {
-        Some(_) => false,
-        None => is_plain_text(authority.as_bytes()),
-    }
-}
-
-fn keeps_authority<S: Spec>(authority: Option<&str>) -> bool
-    ensures { result ≡ true → where_there (normal_authority S.tests) (now_of authority.entry) ≡ now_of authority.entry }
-{
-    match authority {
-        Some(authority) => is_plain_authority::<S>(authority),
-        None => true,
-    }
+    let seen = reference.seen();
+    !(seen.path_triplets | seen.query_triplets | seen.fragment_triplets)
 }
 
 // Whether scheme and authority are in normal form as they are. Others may be too.
 pub(crate) fn keeps_prefix<S: Spec>(reference: &Splitter<'_>) -> bool
-    ensures { result ≡ true → prefix_in S.tests true (parts reference.now) ≡ prefix_in S.tests false (parts reference.now) }
+    requires { Fits S.tests (parts reference.now) }
+    ensures { result ≡ true → KeepsPrefix S.tests (parts reference.now) }
 {
-    keeps_scheme(reference.scheme()) && keeps_authority::<S>(reference.authority())
+    let seen = reference.seen();
+    !(seen.capitals | seen.other_authority)
 }
 
 // A text, where it isn't empty.
@@ -82,17 +64,86 @@ fn show_some<W: TextSink>(sink: &mut W, text: &str) -> Result<(), Stop>
     sink.put(text)
 }
 
-// Shows a text after what comes before it, of which one or both are often empty.
+// A text with its percent-encoded octets in normal form. `bare` says that it has none.
 #[inline(always)]
-pub(crate) fn show_behind<W: TextSink>(
-    sink: &mut W,
-    prefix: &str,
-    front: &str,
-    text: &str,
-) -> Result<(), Stop>
-    ensures { Shows W.puts W.halts W.stops sink.old (prefix.now ++ (front.now ++ text.now)) sink.new result }
+fn show_text<S: Spec, W: TextSink>(sink: &mut W, text: &str, bare: bool) -> Result<(), Stop>
+    requires whole { whole_triplets text.now ≡ true }
+    requires bare { bare ≡ true → lacks percent_sign text.now ≡ true }
+    ensures { Shows W.puts W.halts W.stops sink.old (pct S.tests text.now) sink.new result }
 {
-    show_some(sink, prefix)?;
-    show_some(sink, front)?;
-    sink.put(text)
+    if bare {
+        return sink.put(text);
+    }
+    PctCaseNormalized::<S>::new(text).show(sink)
+}
+
+// Shows a text, its percent-encoded octets in normal form, after what comes before it, of which one or both are often empty.
+#[inline(always)]
+pub(crate) fn show_behind<S: Spec, W: TextSink>(
+    sink: &mut W,
+    before: Before<'_>,
+    text: &str,
+    bare: bool,
+) -> Result<(), Stop>
+    requires whole { whole_triplets text.now ≡ true }
+    requires bare { bare ≡ true → lacks percent_sign text.now ≡ true }
+    ensures { Shows W.puts W.halts W.stops sink.old
+        (before.entry.prefix.now ++ (before.entry.front.now ++ pct S.tests text.now)) sink.new result }
+{
+    show_some(sink, before.prefix)?;
+    show_some(sink, before.front)?;
+    show_text::<S, W>(sink, text, bare)
+}
+
+// A reference with a scheme that changes in nothing but its percent-encoded octets and the case of letters before its path: scheme
+// and authority, and what follows them. `None` says nothing.
+pub(crate) fn cut_lowered<'a, S: Spec>(
+    reference: &SplitView<'a, S, Reference>,
+) -> Option<(&'a str, &'a str)>
+    ensures { MatchOption result (Unit {0}) (λ p. IsLowered S.tests (split_text reference.now) p.0.now p.1.now) }
+{
+    let parts = reference.parts();
+    let seen = parts.seen();
+    let Some(_) = parts.scheme() else {
+        return None;
+    };
+    if seen.dots | seen.other_authority {
+        return None;
+    }
+    let (prefix, rest) = cut_prefix(reference);
+    if prefix.len() > 64 {
+        return None;
+    }
+    Some((prefix, rest))
+}
+
+// A text of at most 64 ASCII characters in lower case.
+fn show_in_lower_case<W: TextSink>(sink: &mut W, text: &str) -> Result<(), Stop>
+    requires ascii { IsAscii text.now }
+    requires short { length text.now ≤ 64 }
+    ensures { Shows W.puts W.halts W.stops sink.old (lowered text.now) sink.new result }
+{
+    let mut buffer = [0u8; 64];
+    let lower = &mut buffer[..text.len()];
+    lower.copy_from_slice(text.as_bytes());
+    lower.make_ascii_lowercase();
+    sink.put(unsafe { str::from_utf8_unchecked(lower) })
+}
+
+// Shows the first piece in lower case, and the second with its percent-encoded octets in normal form. `bare` says that it has none.
+#[inline(never)]
+pub(crate) fn show_lowered<S: Spec, W: TextSink>(
+    sink: &mut W,
+    first: &str,
+    second: &str,
+    bare: bool,
+) -> Result<(), Stop>
+    requires ascii { IsAscii first.now }
+    requires short { length first.now ≤ 64 }
+    requires whole { whole_triplets second.now ≡ true }
+    requires bare { bare ≡ true → lacks percent_sign second.now ≡ true }
+    ensures { Shows W.puts W.halts W.stops sink.old (lowered first.now ++ pct S.tests second.now) sink.new result }
+{
+    show_in_lower_case(sink, first)?;
+    show_text::<S, W>(sink, second, bare)
 }

@@ -1,4 +1,4 @@
--- A list with a part of it overwritten, and what stood behind moved up.
+-- A list with a part of it overwritten, and what came after it moved up.
 use Rattle.std.proofs.Common.{◌≡◌, ℕ, ◌+◌, ◌-◌, ◌≤◌, List, ◌++◌, take, drop, length, sym, ◌∙◌, ap, subst, arith, append_assoc}
 use Rattle.std.proofs.Math.Seq.{paste}
 use Rattle.std.proofs.lemmas.List.{take_all, drop-drop, length-drop}
@@ -21,7 +21,7 @@ module _ (old new : List ℕ) (start end : ℕ) (fits : start + length new ≤ e
   front = take-paste old start new (length new) (omega arith) (omega arith)
       ∙ ap (λ z. take start old ++ z) (take_all (length new) new (omega arith))
 
-  -- what stands behind the part
+  -- what comes after the part
   rest : drop end one ≡ drop end old
   unfolding one
   rest =

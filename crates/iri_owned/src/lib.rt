@@ -4,8 +4,8 @@
 //! An [`Owned`](owned::Owned) holds a string that is in the production of its kind, in a grammar `S`, and
 //! is seen as its text, in UTF-8 bytes, and its capacity. Its names are the six of `owned`, as
 //! `RiString<S>`, and their aliases for IRIs and URIs, as `IriString`. The getters are those of its view,
-//! by `as_slice`. `conversions` has the ways from kind to kind by value, `splice` the edits in place,
-//! `error` what refused texts answer.
+//! by `as_slice`. `conversions` has the ways from kind to kind by value, `std_conversions` std's traits of conversion,
+//! `splice` the edits in place, `error` what refused texts answer.
 //!
 //! Proved: an owned text is in its production; texts outside it are refused with their first fault, and
 //! handed back by the calls that took a string or another kind. After allocation failure a text and its capacity
@@ -27,5 +27,4 @@ pub mod conversions;
 pub mod error;
 pub mod owned;
 pub mod splice;
-#[cfg(test)]
-mod tests;
+pub mod std_conversions;

@@ -26,7 +26,9 @@ use std::mem;
 #[derive_where(Debug)]
 pub struct Owned<S: Spec, K: Kind> {
     pub(crate) text: String,
+    #[derive_where(skip(Debug))]
     spec: PhantomData<S>,
+    #[derive_where(skip(Debug))]
     kind: PhantomData<K>,
 }
 
@@ -48,7 +50,7 @@ impl<S: Spec, K: Kind> Owned<S, K> {
     /// # Errors
     ///
     /// - `Invalid` exactly where the text isn't: its first fault.
-    /// - `Memory` where allocation fails.
+    /// - `Memory` where allocation fails; the text has no fault then.
     ///
     /// ```
     /// use iri::types::{CreateError, UriString};
@@ -71,7 +73,7 @@ impl<S: Spec, K: Kind> Owned<S, K> {
     ///
     /// - `Invalid` with `InvalidUtf8` where the bytes aren't UTF-8, which is tested first.
     /// - `Invalid` exactly where the text isn't in its production: its first fault.
-    /// - `Memory` where allocation fails.
+    /// - `Memory` where allocation fails; the text has no fault then.
     pub fn try_from_bytes(alloc: Global, b: &[u8]) -> Result<Self, CreateError>
         ensures { MatchResult result (λ t. t.text ≡ b.now) (λ e. RefusedFor e (bytes_fault (K.fault S.tests) b.now)) }
     {

@@ -14,9 +14,6 @@ use std::alloc::AllocError;
 use std::mem;
 use std::ops::Range;
 
-#[cfg(test)]
-mod tests;
-
 // Writes bytes over those from `start` on.
 fn write_at(bytes: &mut [u8], start: usize, new: &[u8])
     requires { start + length new.now ≤ length bytes.old }

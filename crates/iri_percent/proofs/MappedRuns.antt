@@ -59,7 +59,7 @@ runs-shorter (x ∷ xs) h =
     ] refl
 
 -- ---- ASCII
-low : (x : ℕ) → x < 128 → nat_lt x 128 ≡ true
+pub low : (x : ℕ) → x < 128 → nat_lt x 128 ≡ true
 low x h = grind (arith, nat_tests)
 
 pub mapped-of_ascii : (t : List ℕ) → IsAscii t → mapped t ≡ t

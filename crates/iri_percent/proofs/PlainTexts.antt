@@ -1,81 +1,165 @@
--- Texts that are in normal form as they stand.
-use Rattle.std.proofs.Common.{◌≡◌, ℕ, zero, suc, true, false, not, ◌&&◌, List, [], ◌∷◌, ◌++◌, Option, Some, None, refl, sym}
-use Rattle.std.proofs.Common.{◌∙◌, ap, arith, map, append_assoc, length}
-use Rattle.std.specs.Prelude.{◌==◌, nat_lt}
+-- Texts that are in normal form as they stand, or in lower case.
+use Rattle.std.proofs.Common.{◌≡◌, ℕ, zero, suc, ◌<◌, Bool, true, false, not, ◌&&◌, List, [], ◌∷◌, ◌++◌, Option, Some, None, refl, sym}
+use Rattle.std.proofs.Common.{◌∙◌, ap, arith, map, append-nil, length, subst}
+use Rattle.std.specs.Prelude.{◌==◌, is_some, nat_lt, option_map}
 use Rattle.std.specs.List.{list_all}
-use Rattle.std.specs.Char.{is_ascii_uppercase, to_ascii_lowercase}
+use Rattle.std.specs.Str.{IsAscii}
+use Rattle.std.specs.Char.{is_ascii_digit, to_ascii_lowercase}
 use Rattle.std.proofs.lemmas.Bool.Decides.{nat_tests}
-use Rattle.std.proofs.lemmas.List.Folds.{list_all-append}
+use Rattle.std.proofs.lemmas.List.{map-append}
 use Rattle.iri_grammar.specs.Classes.{Tests}
-use Rattle.iri_grammar.specs.Authority.{AuthorityParts, authority_parts, recompose_authority, userinfo_text}
+use Rattle.iri_grammar.specs.ClassTests.{ascii_test}
+use Rattle.iri_grammar.specs.Components.{if_there, is_port}
+use Rattle.iri_grammar.specs.Authority.{AuthorityParts, after_userinfo, authority_parts, recompose_authority, userinfo_text}
 use Rattle.iri_grammar.specs.Cut.{lacks, marked}
+use Rattle.iri_grammar.specs.Seen.{is_kept_port, is_plain_authority, is_small}
+use Rattle.iri_grammar.specs.declared.class.Class.TheVariants.{RegName}
 use Rattle.iri_grammar.proofs.AuthorityLaws.{authority_recomposed}
-use Rattle.iri_grammar.proofs.CutLaws.{both}
-use Rattle.iri_percent.specs.Triplets.{pct}
-use Rattle.iri_percent.specs.NormalHost.{is_plain_byte, normal_authority, normal_authority_parts, normal_host, normal_port, normal_userinfo}
-use Rattle.iri_percent.specs.inside.Pieces.{NoMark}
+use Rattle.iri_grammar.proofs.AuthorityTexts.{all_below, digit-below, port-digits}
+use Rattle.iri_grammar.proofs.ClassLaws.{ascii_test_below, no_percent}
+use Rattle.iri_grammar.proofs.CutLaws.{all-lacks, both, lacks-append, test_apart}
+use Rattle.iri_grammar.proofs.PlainAuthorities.{port_small}
+use Rattle.iri_percent.specs.MarkLaws.{IsMark}
+use Rattle.iri_percent.specs.NormalHost.{is_ascii_host, normal_authority, normal_authority_parts, normal_host, normal_port, normal_userinfo}
+use Rattle.iri_percent.specs.Triplets.{as_it_is, normal, pct}
+use Rattle.iri_percent.specs.inside.Pieces.{NoMark, case_of}
 use Rattle.iri_percent.proofs.Changes.{run_all}
-use Rattle.iri_percent.proofs.Hosts.{plain_host}
+use Rattle.iri_percent.proofs.Hosts.{host_case}
+use Rattle.iri_percent.proofs.MappedRuns.{low}
+use Rattle.iri_percent.proofs.MarkLaws.{pct_mark}
+use Rattle.iri_percent.proofs.NormalLaws.{normal_nil, normal_plains}
 
 -- ---- without a triplet
-no_percent : (x : ℕ) (xs : List ℕ) → lacks 37 (x ∷ xs) ≡ true → (not (x == 37) ≡ true) × (lacks 37 xs ≡ true)
-no_percent x xs h = both (not (x == 37)) (lacks 37 xs) h
+percent_apart : (x : ℕ) (xs : List ℕ) → lacks 37 (x ∷ xs) ≡ true → (not (x == 37) ≡ true) × (lacks 37 xs ≡ true)
+percent_apart x xs h = both (not (x == 37)) (lacks 37 xs) h
 
 lacks-stays : (t : List ℕ) → lacks 37 t ≡ true → NoMark false t (length t)
 lacks-stays [] h k j = absurd (omega arith)
-lacks-stays (x ∷ xs) h zero j = rw (no_percent x xs h).0 refl
-lacks-stays (x ∷ xs) h (suc k) j = lacks-stays xs (no_percent x xs h).1 k (omega arith)
+lacks-stays (x ∷ xs) h zero j = rw (percent_apart x xs h).0 refl
+lacks-stays (x ∷ xs) h (suc k) j = lacks-stays xs (percent_apart x xs h).1 k (omega arith)
 
 pub pct-same : (s : Tests) (t : List ℕ) → lacks 37 t ≡ true → pct s t ≡ t
 pct-same s t h = run_all s false t (lacks-stays t h)
 
--- ---- plain bytes
-pub plain-front : (xs ys : List ℕ) → list_all is_plain_byte (xs ++ ys) ≡ true
-    → (list_all is_plain_byte xs ≡ true) × (list_all is_plain_byte ys ≡ true)
-plain-front xs ys h = both (list_all is_plain_byte xs) (list_all is_plain_byte ys) (sym (list_all-append is_plain_byte xs ys) ∙ h)
+-- what has no triplet stays in front of what follows
+same : (t : List ℕ) → map as_it_is t ≡ t
+same [] = refl
+same (x ∷ xs) = ap (λ l. x ∷ l) (same xs)
 
-plain-lacks : (t : List ℕ) → list_all is_plain_byte t ≡ true → lacks 37 t ≡ true
-plain-lacks [] h = refl
-plain-lacks (x ∷ xs) h =
-    let k = both (is_plain_byte x) (list_all is_plain_byte xs) h in
-    let j = both (nat_lt x 128) (not (x == 37) && not (is_ascii_uppercase x)) k.0 in
-    rw (both (not (x == 37)) (not (is_ascii_uppercase x)) j.1).0 (plain-lacks xs k.1)
+pub pct-front : (s : Tests) (t r : List ℕ) → lacks 37 t ≡ true → pct s (t ++ r) ≡ t ++ pct s r
+pct-front s t r h = normal_plains s as_it_is t r h ∙ ap (λ l. l ++ pct s r) (same t)
 
-plain_low : (x : ℕ) → is_plain_byte x ≡ true → to_ascii_lowercase x ≡ x
-plain_low x h = grind (arith, nat_tests)
+-- a part behind its delimiter
+pub pct-marked : (s : Tests) (m : ℕ) (a : List ℕ) (o : Option (List ℕ)) → IsMark m
+    → pct s (a ++ marked m o) ≡ pct s a ++ marked m (option_map (pct s) o)
+pct-marked s m a None k = ap (pct s) (append-nil a) ∙ sym (append-nil (pct s a))
+pct-marked s m a (Some b) k = pct_mark s m a b k
 
-pub plain-lowered : (t : List ℕ) → list_all is_plain_byte t ≡ true → map to_ascii_lowercase t ≡ t
-plain-lowered [] h = refl
-plain-lowered (x ∷ xs) h =
-    let k = both (is_plain_byte x) (list_all is_plain_byte xs) h in
-    ap (λ y. y ∷ map to_ascii_lowercase xs) (plain_low x k.0) ∙ ap (λ ys. x ∷ ys) (plain-lowered xs k.1)
+-- ---- letters in lower case
+small_low : (x : ℕ) → is_small x ≡ true → to_ascii_lowercase x ≡ x
+small_low x h = grind (arith, nat_tests)
 
--- ---- authorities
-userinfo-same : (s : Tests) (o : Option (List ℕ)) → list_all is_plain_byte (userinfo_text o) ≡ true → normal_userinfo s o ≡ o
-userinfo-same s None h = refl
-userinfo-same s (Some u) h = ap Some (pct-same s u (plain-lacks u (plain-front u (64 ∷ []) h).0))
+pub small-lowered : (t : List ℕ) → list_all is_small t ≡ true → map to_ascii_lowercase t ≡ t
+small-lowered [] h = refl
+small-lowered (x ∷ xs) h =
+    let k = both (is_small x) (list_all is_small xs) h in
+    ap (λ y. y ∷ map to_ascii_lowercase xs) (small_low x k.0) ∙ ap (λ ys. x ∷ ys) (small-lowered xs k.1)
 
--- a port that stands isn't empty
-port-same : (front : List ℕ) (o : Option (List ℕ)) → ((init : List ℕ) → front ++ marked 58 o ≡ init ++ 58 ∷ [] → ⊥) → normal_port o ≡ o
-port-same front None n = refl
-port-same front (Some []) n = absurd (n front refl)
-port-same front (Some (x ∷ xs)) n = refl
+lowered-alone : (s : Tests) (t : List ℕ) → lacks 37 t ≡ true → normal s to_ascii_lowercase t ≡ map to_ascii_lowercase t
+lowered-alone s t h =
+    ap (normal s to_ascii_lowercase) (sym (append-nil t)) ∙ (normal_plains s to_ascii_lowercase t [] h
+    ∙ (ap (λ l. map to_ascii_lowercase t ++ l) (normal_nil s to_ascii_lowercase) ∙ append-nil (map to_ascii_lowercase t)))
 
-parts-same : (s : Tests) (a : AuthorityParts) → list_all is_plain_byte (recompose_authority a) ≡ true
-    → ((init : List ℕ) → recompose_authority a ≡ init ++ 58 ∷ [] → ⊥) → recompose_authority (normal_authority_parts s a) ≡ recompose_authority a
+-- ---- names in ASCII without triplets
+name-lacks : (t : List ℕ) → list_all (ascii_test RegName) t ≡ true → lacks 37 t ≡ true
+name-lacks t h = all-lacks (ascii_test RegName) 37 t (no_percent RegName) h
+
+name_ascii : (t : List ℕ) → list_all (ascii_test RegName) t ≡ true → is_ascii_host t ≡ true
+unfolding is_ascii_host
+name_ascii [] h = refl
+name_ascii (x ∷ xs) h =
+    let k = both (ascii_test RegName x) (list_all (ascii_test RegName) xs) h in
+    rw (low x (ascii_test_below RegName x k.0), test_apart (ascii_test RegName) 37 x (no_percent RegName) k.0) (name_ascii xs k.1)
+
+name-lowered : (s : Tests) (t : List ℕ) → list_all (ascii_test RegName) t ≡ true → normal_host s t ≡ map to_ascii_lowercase t
+name-lowered s t h = host_case s t ∙ (ap (λ b. normal s (case_of b) t) (name_ascii t h) ∙ lowered-alone s t (name-lacks t h))
+
+-- ---- plain authorities
+record PlainParts (a : List ℕ) : Type 0 where
+  userinfo : (authority_parts a).userinfo ≡ None
+  name : list_all (ascii_test RegName) (authority_parts a).host ≡ true
+  digits : if_there is_port (authority_parts a).port ≡ true
+  kept : normal_port (authority_parts a).port ≡ (authority_parts a).port
+  whole : (authority_parts a).host ++ marked 58 (authority_parts a).port ≡ a
+
+nothing-there : (o : Option (List ℕ)) → not (is_some o) ≡ true → o ≡ None
+nothing-there None h = refl
+nothing-there (Some x) h = cc
+
+port-kept : (o : Option (List ℕ)) → is_kept_port o ≡ true → normal_port o ≡ o
+port-kept None h = refl
+port-kept (Some []) h = cc
+port-kept (Some (x ∷ xs)) h = refl
+
+plain-digits : (a : List ℕ) → if_there is_port (authority_parts a).port ≡ true
+unfolding authority_parts
+plain-digits a = port-digits (after_userinfo a)
+
+plain-whole : (p : AuthorityParts) (a : List ℕ) → p.userinfo ≡ None → recompose_authority p ≡ a → p.host ++ marked 58 p.port ≡ a
 unfolding recompose_authority
-parts-same s a h n =
-    let first = plain-front (userinfo_text a.userinfo) (a.host ++ marked 58 a.port) h in
-    let second = plain-front a.host (marked 58 a.port) first.1 in
-    let port = port-same (userinfo_text a.userinfo ++ a.host) a.port
-    (λ init e. n init (sym (append_assoc (userinfo_text a.userinfo) a.host (marked 58 a.port)) ∙ e)) in
-    ap (λ u. userinfo_text u ++ (normal_host s a.host ++ marked 58 (normal_port a.port))) (userinfo-same s a.userinfo first.0)
-    ∙ (ap (λ x. userinfo_text a.userinfo ++ (x ++ marked 58 (normal_port a.port))) (plain_host s a.host second.0)
-    ∙ ap (λ p. userinfo_text a.userinfo ++ (a.host ++ marked 58 p)) port)
+plain-whole p a e h = ap (λ u. userinfo_text u ++ (p.host ++ marked 58 p.port)) (sym e) ∙ h
 
-pub plain_authority : (s : Tests) (a : List ℕ) → list_all is_plain_byte a ≡ true → ((init : List ℕ) → a ≡ init ++ 58 ∷ [] → ⊥)
-    → normal_authority s a ≡ a
+plain-parts : (a : List ℕ) → is_plain_authority a ≡ true → PlainParts a
+unfolding is_plain_authority
+plain-parts a h =
+    let p = authority_parts a in
+    let k = both (not (is_some p.userinfo)) (list_all (ascii_test RegName) p.host && is_kept_port p.port) h in
+    let m = both (list_all (ascii_test RegName) p.host) (is_kept_port p.port) k.1 in
+    let none = nothing-there p.userinfo k.0 in
+    record {
+      userinfo = none;
+      name = m.0;
+      digits = plain-digits a;
+      kept = port-kept p.port m.1;
+      whole = plain-whole p a none (authority_recomposed a);
+    }
+
+port-lowered : (o : Option (List ℕ)) → if_there is_port o ≡ true → map to_ascii_lowercase (marked 58 o) ≡ marked 58 o
+port-lowered o h = small-lowered (marked 58 o) (port_small o h)
+
+normal-plain : (s : Tests) (p : AuthorityParts) → p.userinfo ≡ None → recompose_authority (normal_authority_parts s p)
+    ≡ normal_host s p.host ++ marked 58 (normal_port p.port)
+unfolding recompose_authority
+normal-plain s p e = ap (λ u. userinfo_text (normal_userinfo s u) ++ (normal_host s p.host ++ marked 58 (normal_port p.port))) e
+
+-- such an authority is put into lower case
+pub plain_authority : (s : Tests) (a : List ℕ) → is_plain_authority a ≡ true → normal_authority s a ≡ map to_ascii_lowercase a
 unfolding normal_authority
-plain_authority s a h n =
-    let whole = authority_recomposed a in
-    parts-same s (authority_parts a) (ap (list_all is_plain_byte) whole ∙ h) (λ init e. n init (sym whole ∙ e)) ∙ whole
+plain_authority s a h =
+    let p = authority_parts a in
+    let k = plain-parts a h in
+    normal-plain s p k.userinfo
+    ∙ (ap (λ x. x ++ marked 58 (normal_port p.port)) (name-lowered s p.host k.name)
+    ∙ (ap (λ o. map to_ascii_lowercase p.host ++ marked 58 o) k.kept
+    ∙ (ap (λ l. map to_ascii_lowercase p.host ++ l) (sym (port-lowered p.port k.digits))
+    ∙ (sym (map-append to_ascii_lowercase p.host (marked 58 p.port)) ∙ ap (map to_ascii_lowercase) k.whole))))
+
+port-lacks : (o : Option (List ℕ)) → if_there is_port o ≡ true → lacks 37 (marked 58 o) ≡ true
+port-lacks None h = refl
+port-lacks (Some d) h = all-lacks is_ascii_digit 37 d refl h
+
+pub plain-lacks : (a : List ℕ) → is_plain_authority a ≡ true → lacks 37 a ≡ true
+plain-lacks a h =
+    let p = authority_parts a in
+    let k = plain-parts a h in
+    ap (lacks 37) (sym k.whole) ∙ lacks-append 37 p.host (marked 58 p.port) (name-lacks p.host k.name) (port-lacks p.port k.digits)
+
+plain-chars : (h : List ℕ) (o : Option (List ℕ)) → list_all (ascii_test RegName) h ≡ true → if_there is_port o ≡ true → IsAscii (h ++ marked 58 o)
+plain-chars [] None n d i = omega arith
+plain-chars [] (Some p) n d zero = omega arith
+plain-chars [] (Some p) n d (suc i) = all_below is_ascii_digit digit-below p d i
+plain-chars (x ∷ xs) o n d zero = ascii_test_below RegName x (both (ascii_test RegName x) (list_all (ascii_test RegName) xs) n).0
+plain-chars (x ∷ xs) o n d (suc i) = plain-chars xs o (both (ascii_test RegName x) (list_all (ascii_test RegName) xs) n).1 d i
+
+pub plain-ascii : (a : List ℕ) → is_plain_authority a ≡ true → IsAscii a
+plain-ascii a h = let k = plain-parts a h in subst IsAscii k.whole (plain-chars (authority_parts a).host (authority_parts a).port k.name k.digits)

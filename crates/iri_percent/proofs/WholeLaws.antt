@@ -1,5 +1,5 @@
 -- Each part of a reference has whole triplets.
-use Rattle.std.proofs.Common.{◌≡◌, ℕ, ◌<◌, Bool, true, false, not, ◌&&◌, ◌||◌, List, [], ◌∷◌, ◌++◌, refl, sym, ◌∙◌, ap, arith}
+use Rattle.std.proofs.Common.{◌≡◌, ℕ, ◌<◌, Bool, true, false, cond, not, ◌&&◌, ◌||◌, List, [], ◌∷◌, ◌++◌, refl, sym, ◌∙◌, ap, arith}
 use Rattle.std.specs.Prelude.{◌==◌}
 use Rattle.std.specs.Char.{is_ascii_hexdigit}
 use Rattle.std.specs.Str.{chars, is_utf8}
@@ -17,7 +17,7 @@ use Rattle.iri_grammar.specs.IpLiteral.{is_ip_literal}
 use Rattle.iri_grammar.proofs.LiteralChars.{is_literal_char, ip_literal-chars}
 use Rattle.iri_grammar.specs.Over.{over, text_over, IsOver, done, plain, triplet}
 use Rattle.iri_grammar.proofs.OverLaws.{units-from_over}
-use Rattle.iri_percent.specs.Units.{whole_triplets}
+use Rattle.iri_percent.specs.Units.{two_digits, whole_triplets}
 use Rattle.iri_percent.proofs.Reading.{whole_plain, whole_triplet}
 use Rattle.iri_percent.proofs.Stability.{encode_percent, whole_plains}
 
@@ -30,6 +30,21 @@ lacks-whole [] h = whole_nil
 lacks-whole (x ∷ xs) h =
     elim (x == 37) as (λ b. (x == 37) ≡ b → (not b && lacks 37 xs) ≡ true
     → whole_triplets (x ∷ xs) ≡ true) [ true ↦ λ _ l. cc | false ↦ λ e l. whole_plain x xs e ∙ lacks-whole xs l ] refl h
+
+-- texts put together
+digits-append : (xs ys : List ℕ) → two_digits xs ≡ true → two_digits (xs ++ ys) ≡ true
+digits-append [] ys h = cc
+digits-append (a ∷ []) ys h = cc
+digits-append (a ∷ b ∷ xs) ys h = h
+
+pub whole-append : (xs ys : List ℕ) → whole_triplets xs ≡ true → whole_triplets ys ≡ true → whole_triplets (xs ++ ys) ≡ true
+unfolding whole_triplets
+whole-append [] ys h k = k
+whole-append (x ∷ xs) ys h k =
+    let w = both (cond (x == 37) (two_digits xs) true) (whole_triplets xs) h in
+    let first : cond (x == 37) (two_digits (xs ++ ys)) true ≡ true = elim (x == 37) as (λ b. cond b (two_digits xs) true ≡ true
+    → cond b (two_digits (xs ++ ys)) true ≡ true) [ true ↦ λ d. digits-append xs ys d | false ↦ λ _. refl ] w.0 in
+    rw first (whole-append xs ys w.1 k)
 
 -- a text over a class without `%`
 over_whole : (p : ℕ → Bool) (cs : List ℕ) → p 37 ≡ false → IsOver p cs → whole_triplets (encodes cs) ≡ true

@@ -32,9 +32,11 @@ use std::marker::PhantomData;
 /// let authority = NormalizedAuthority::<UriSpec>::new("%7eU@HOST:80", Some("80"));
 /// assert_eq!(rt; authority.try_to_string(rt.alloc())?.as_str(), "~U@host");
 /// ```
+#[derive_where(Debug)]
 pub struct NormalizedAuthority<'a, S: Spec> {
     authority: &'a str,
     dropped_port: Option<&'a str>,
+    #[derive_where(skip(Debug))]
     spec: PhantomData<S>,
     pub ghost valid: { is_authority S.tests authority.now ≡ true },
 }

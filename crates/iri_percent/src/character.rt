@@ -66,7 +66,7 @@ fn front_char(lead: u8, rest: &[u8]) -> Option<char>
     }
 }
 
-/// The percent-encoded character with which the text begins.
+/// The percent-encoded character with which the text begins; `None` exactly where it begins with none.
 pub fn triplets_char(text: &[u8]) -> Option<char>
     ensures { result ≡ first_char (octets text.now) }
 {
@@ -87,7 +87,7 @@ pub(crate) fn char_past_ascii<S: Spec>(lead: u8, rest: &[u8]) -> Option<char>
     }
 }
 
-/// The unreserved percent-encoded character with which the text begins.
+/// The unreserved percent-encoded character with which the text begins; `None` exactly where it begins with none.
 pub fn decoded_char<S: Spec>(text: &[u8]) -> Option<char>
     ensures { result ≡ decoded S.tests (octets text.now) }
 {

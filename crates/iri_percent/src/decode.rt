@@ -12,9 +12,6 @@ use memchr::memchr;
 use std::alloc::{AllocError, Global};
 use thiserror::Error;
 
-#[cfg(test)]
-mod tests;
-
 /// Bytes that are read decoded. They are equal, ordered and hashed as they are given, not as what they decode to.
 ///
 /// ```

@@ -88,6 +88,7 @@ impl<'a> Iterator for PercentDecodedBytesFragments<'a> {
 
     ghost remaining = { item_count fragments_left };
 
+    /// The next fragment; `None` exactly where every fragment was given.
     fn next(&mut self) -> Option<DecodedFragment<'a>> {
         if self.rest.is_empty() {
             return None;
@@ -97,6 +98,7 @@ impl<'a> Iterator for PercentDecodedBytesFragments<'a> {
         Some(fragment)
     }
 
+    /// From one fragment to as many as bytes are left, and none where none is.
     fn size_hint(&self) -> (usize, Option<usize>) {
         let bytes = self.rest.len();
         (bytes.min(1), Some(bytes))

@@ -23,8 +23,10 @@ use std::marker::PhantomData;
 /// let host = NormalizedHost::<UriSpec>::new("EXAMPLE%2Dsite.com");
 /// assert_eq!(rt; host.try_to_string(rt.alloc())?.as_str(), "example-site.com");
 /// ```
+#[derive_where(Debug)]
 pub struct NormalizedHost<'a, S: Spec> {
     host: &'a str,
+    #[derive_where(skip(Debug))]
     spec: PhantomData<S>,
     pub ghost valid: { is_host S.tests host.now ≡ true },
 }

@@ -46,6 +46,3 @@ pub use percent_encoded::{PercentEncoded, PercentEncodedForIri, PercentEncodedFo
 pub use spelling::capital_digit;
 pub use triplets::PctCaseNormalized;
 pub use uris::{IntoUri, ToUri};
-
-#[cfg(test)]
-mod tests;

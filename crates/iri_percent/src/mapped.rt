@@ -17,13 +17,10 @@ use std::alloc::{AllocError, Global};
 use std::fmt;
 use std::marker::PhantomData;
 
-#[cfg(test)]
-mod tests;
-
 /// A view that shows itself mapped to a URI (RFC 3987 section 3.1): each character past ASCII is written as the
 /// percent-encoded octets of its UTF-8, with capital hex digits; the rest stays. `V` is a view of any kind and any
 /// grammar.
-#[derive(Clone, Copy)]
+#[derive(Clone, Copy, Debug)]
 pub struct MappedToUri<'a, V> {
     view: V,
     lifetime: PhantomData<&'a ()>,

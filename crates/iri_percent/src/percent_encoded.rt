@@ -194,6 +194,3 @@ impl<T: Show, S: Spec> fmt::Display for PercentEncoded<T, S> {
         FormatSink::new(f).display(self)
     }
 }
-
-#[cfg(test)]
-mod tests;

@@ -21,8 +21,10 @@ use std::marker::PhantomData;
 /// let path = PctCaseNormalized::<UriSpec>::new("/%7ebob/%3aa");
 /// assert_eq!(rt; path.try_to_string(rt.alloc())?.as_str(), "/~bob/%3Aa");
 /// ```
+#[derive_where(Debug)]
 pub struct PctCaseNormalized<'a, S: Spec> {
     part: &'a str,
+    #[derive_where(skip(Debug))]
     spec: PhantomData<S>,
     pub ghost whole: { whole_triplets part.now ≡ true },
 }

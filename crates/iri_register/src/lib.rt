@@ -30,5 +30,3 @@ pub mod error;
 mod hasher;
 pub mod laws;
 pub mod register;
-#[cfg(test)]
-mod tests;

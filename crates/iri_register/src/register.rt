@@ -5,8 +5,8 @@ ghost use Rattle.std.specs.List.{IsDistinct};
 ghost use Rattle.std.specs.Str.{bytes_eq};
 ghost use Rattle.iri_grammar.specs.Fault.{bytes_fault};
 ghost use Rattle.iri_grammar.specs.WholeFault.{reference_fault};
-ghost use Rattle.iri_types.specs.Texts.{text};
 ghost use Rattle.iri_normal.specs.NormalForm.{canonical};
+ghost use Rattle.iri_normal.specs.Resolver.{base_text};
 ghost use Rattle.iri_register.specs.Entries.{added, removed, place, line_count, entry_at, IsAdded};
 ghost use Rattle.iri_register.specs.Refusals.{CausedBy};
 
@@ -16,9 +16,7 @@ use crate::error::RegisterError;
 use iri_grammar::spec::Spec;
 use iri_normal::resolver::FixedBaseResolver;
 use iri_owned::owned::RiAbsoluteString;
-use iri_text::try_append_to_string;
 use iri_types::split::SplitView;
-use iri_types::view::RiAbsoluteStr;
 use std::alloc::Global;
 use std::marker::Model;
 
@@ -38,12 +36,11 @@ use std::marker::Model;
 /// assert_eq!(rt; links.lines_at(1).ok_or("an entry")?, [2, 3].as_slice());
 /// ```
 #[derive(Drop)]
+#[derive_where(Debug)]
 pub struct Register<S: Spec> {
-    alloc: Global,
     base: RiAbsoluteString<S>,
-    // The target of the last line, for the look-up.
-    target: String,
-    entries: Entries,
+    #[derive_where(skip(Debug))]
+    links: Links,
 }
 
 impl<S: Spec> Model for Register<S> {
@@ -51,25 +48,32 @@ impl<S: Spec> Model for Register<S> {
 
     ghost Value = { Kept };
 
-    ghost view = { λ r. record { base = r.base.text; entries = r.entries } };
+    ghost view = { λ r. record { base = r.base.text; entries = r.links.entries } };
+}
+
+// The entries of targets.
+#[derive(Drop)]
+struct Links {
+    alloc: Global,
+    // The target of the last line, for the look-up.
+    target: String,
+    entries: Entries,
 }
 
 // Writes the canonical target of a reference in place of what the buffer holds.
 fn write_target<S: Spec>(
     buffer: &mut String,
-    base: RiAbsoluteStr<'_, S>,
+    resolver: &FixedBaseResolver<'_, S>,
     reference: &[u8],
 ) -> Result<(), RegisterError>
     ensures causes { MatchResult result (λ _. bytes_fault (reference_fault S.tests) reference.now ≡ None)
         (λ e. CausedBy e (bytes_fault (reference_fault S.tests) reference.now)) }
-    ensures text { OnOk result (string_bytes buffer.new ≡ canonical S.tests (text base.entry) reference.now) }
+    ensures text { OnOk result (string_bytes buffer.new ≡ canonical S.tests (base_text resolver.now) reference.now) }
 {
     match SplitView::try_from_bytes(reference) {
         Ok(reference) => {
-            let resolver = FixedBaseResolver::new(base);
             buffer.clear();
-            let canonical = resolver.resolve_split(&reference).and_normalize();
-            match try_append_to_string(buffer, &canonical) {
+            match resolver.canonical_into(buffer, &reference) {
                 Ok(()) => Ok(()),
                 Err(_) => Err(RegisterError::Memory),
             }
@@ -91,6 +95,83 @@ fn none_there<S: Spec>(reference: &[u8]) -> Result<Option<usize>, RegisterError>
     }
 }
 
+impl Links {
+    // The place of the entry that has the reference's target.
+    fn find<S: Spec>(
+        &self,
+        resolver: &FixedBaseResolver<'_, S>,
+        reference: &[u8],
+    ) -> Result<Option<usize>, RegisterError>
+        ensures causes { MatchResult result (λ _. bytes_fault (reference_fault S.tests) reference.now ≡ None)
+            (λ e. CausedBy e (bytes_fault (reference_fault S.tests) reference.now)) }
+        ensures answer { IfOk result (λ k. k
+            ≡ place self.now.entries (canonical S.tests (base_text resolver.now) reference.now)) }
+        ensures memory { self.now.entries ≡ [] → result ≢ Err RegisterError.Memory }
+    {
+        if entries::len(&self.entries) == 0 {
+            return none_there::<S>(reference);
+        }
+        let mut target = String::new(self.alloc);
+        match write_target(&mut target, resolver, reference) {
+            Ok(()) => Ok(entries::find(&self.entries, target.as_str())),
+            Err(error) => Err(error),
+        }
+    }
+
+    // Puts a line of a reference.
+    fn add<S: Spec>(
+        &mut self,
+        resolver: &FixedBaseResolver<'_, S>,
+        reference: &[u8],
+        line: u64,
+    ) -> Result<Added, RegisterError>
+        ensures causes { MatchResult result (λ _. bytes_fault (reference_fault S.tests) reference.now ≡ None)
+            (λ e. CausedBy e (bytes_fault (reference_fault S.tests) reference.now)) }
+        ensures answer { IfOk result (IsAdded self.old.entries
+            (canonical S.tests (base_text resolver.now) reference.now)) }
+        ensures entries { OnOk result (self.new.entries
+            ≡ added self.old.entries (canonical S.tests (base_text resolver.now) reference.now) line) }
+        ensures unchanged { OnErr result (self.new.entries ≡ self.old.entries) }
+    {
+        match write_target(&mut self.target, resolver, reference) {
+            Ok(()) => match entries::add(
+                self.alloc,
+                &mut self.entries,
+                self.target.as_str(),
+                line,
+            ) {
+                Ok(answer) => Ok(answer),
+                Err(_) => Err(RegisterError::Memory),
+            },
+            Err(error) => Err(error),
+        }
+    }
+
+    // Takes out the entry that has the reference's target.
+    fn remove<S: Spec>(
+        &mut self,
+        resolver: &FixedBaseResolver<'_, S>,
+        reference: &[u8],
+    ) -> Result<Option<usize>, RegisterError>
+        ensures causes { MatchResult result (λ _. bytes_fault (reference_fault S.tests) reference.now ≡ None)
+            (λ e. CausedBy e (bytes_fault (reference_fault S.tests) reference.now)) }
+        ensures answer { IfOk result (λ n. n
+            ≡ line_count self.old.entries (canonical S.tests (base_text resolver.now) reference.now)) }
+        ensures entries { OnOk result (self.new.entries
+            ≡ removed self.old.entries (canonical S.tests (base_text resolver.now) reference.now)) }
+        ensures unchanged { OnErr result (self.new.entries ≡ self.old.entries) }
+        ensures memory { self.old.entries ≡ [] → result ≢ Err RegisterError.Memory }
+    {
+        if entries::len(&self.entries) == 0 {
+            return none_there::<S>(reference);
+        }
+        match write_target(&mut self.target, resolver, reference) {
+            Ok(()) => Ok(entries::remove(self.alloc, &mut self.entries, self.target.as_str())),
+            Err(error) => Err(error),
+        }
+    }
+}
+
 impl<S: Spec> Register<S> {
     /// The register of a base, with no entries. Targets are hashed with the key 0: who picks the references can make
     /// look-ups slow. It takes no memory.
@@ -108,10 +189,12 @@ impl<S: Spec> Register<S> {
         ensures entries { result.entries ≡ [] }
     {
         Register {
-            alloc,
             base,
-            target: String::new(alloc),
-            entries: entries::none(alloc, key),
+            links: Links {
+                alloc,
+                target: String::new(alloc),
+                entries: entries::none(alloc, key),
+            },
         }
     }
 
@@ -120,7 +203,7 @@ impl<S: Spec> Register<S> {
         ensures len { result ≡ length self.now.entries }
         ensures once { IsDistinct bytes_eq (map (λ e. e.target) self.now.entries) }
     {
-        entries::len(&self.entries)
+        entries::len(&self.links.entries)
     }
 
     /// The place, from 1, of the entry that has the reference's canonical target; `None` exactly where no entry has it.
@@ -145,14 +228,28 @@ impl<S: Spec> Register<S> {
         ensures answer { IfOk result (λ k. k ≡ place self.now.entries (canonical S.tests self.now.base reference.now)) }
         ensures memory { self.now.entries ≡ [] → result ≢ Err RegisterError.Memory }
     {
-        if entries::len(&self.entries) == 0 {
-            return none_there::<S>(reference);
-        }
-        let mut target = String::new(self.alloc);
-        match write_target(&mut target, self.base.as_slice(), reference) {
-            Ok(()) => Ok(entries::find(&self.entries, target.as_str())),
-            Err(error) => Err(error),
-        }
+        let page = FixedBaseResolver::new(self.base.as_slice());
+        self.links.find(&page, reference)
+    }
+
+    /// The same for a reference against a resolver's base, whatever the register's is. A program that asks for many
+    /// references prepares that once.
+    ///
+    /// # Errors
+    ///
+    /// Those of [`find`](Register::find).
+    pub fn find_against(
+        &self,
+        resolver: &FixedBaseResolver<'_, S>,
+        reference: &[u8],
+    ) -> Result<Option<usize>, RegisterError>
+        ensures causes { MatchResult result (λ _. bytes_fault (reference_fault S.tests) reference.now ≡ None)
+            (λ e. CausedBy e (bytes_fault (reference_fault S.tests) reference.now)) }
+        ensures answer { IfOk result (λ k. k
+            ≡ place self.now.entries (canonical S.tests (base_text resolver.now) reference.now)) }
+        ensures memory { self.now.entries ≡ [] → result ≢ Err RegisterError.Memory }
+    {
+        self.links.find(resolver, reference)
     }
 
     /// Puts a line: at the end of the lines of the entry that has the reference's canonical target, or into a new entry
@@ -174,18 +271,46 @@ impl<S: Spec> Register<S> {
         ensures base { self.new.base ≡ self.old.base }
         ensures unchanged { OnErr result (self.new ≡ self.old) }
     {
-        match write_target(&mut self.target, self.base.as_slice(), reference) {
-            Ok(()) => match entries::add(
-                self.alloc,
-                &mut self.entries,
-                self.target.as_str(),
-                line,
-            ) {
-                Ok(answer) => Ok(answer),
-                Err(_) => Err(RegisterError::Memory),
-            },
-            Err(error) => Err(error),
-        }
+        let page = FixedBaseResolver::new(self.base.as_slice());
+        self.links.add(&page, reference, line)
+    }
+
+    /// The same for a reference against a resolver's base, whatever the register's is. A program that adds many
+    /// references prepares that once.
+    ///
+    /// # Errors
+    ///
+    /// Those of [`add`](Register::add).
+    ///
+    /// ```
+    /// use iri::register::Register;
+    /// use iri::resolve::FixedBaseResolver;
+    /// use iri::types::{UriAbsoluteStr, UriAbsoluteString};
+    /// let base = UriAbsoluteString::try_from_str(rt.alloc(), "http://a/")?;
+    /// let mut links = Register::new(rt.alloc(), base);
+    /// let page = FixedBaseResolver::new(UriAbsoluteStr::new("http://a/b/")?);
+    /// for (number, link) in ["c", "./%63", "../b/c"].iter().enumerate() {
+    ///     assert!(rt; links.add_against(&page, link.as_bytes(), number as u64).is_ok());
+    /// }
+    /// assert_eq!(rt; links.target_at(1), Some("http://a/b/c"));
+    /// assert_eq!(rt; links.lines_at(1).ok_or("an entry")?, [0, 1, 2].as_slice());
+    /// ```
+    pub fn add_against(
+        &mut self,
+        resolver: &FixedBaseResolver<'_, S>,
+        reference: &[u8],
+        line: u64,
+    ) -> Result<Added, RegisterError>
+        ensures causes { MatchResult result (λ _. bytes_fault (reference_fault S.tests) reference.now ≡ None)
+            (λ e. CausedBy e (bytes_fault (reference_fault S.tests) reference.now)) }
+        ensures answer { IfOk result (IsAdded self.old.entries
+            (canonical S.tests (base_text resolver.now) reference.now)) }
+        ensures entries { OnOk result (self.new.entries
+            ≡ added self.old.entries (canonical S.tests (base_text resolver.now) reference.now) line) }
+        ensures base { self.new.base ≡ self.old.base }
+        ensures unchanged { OnErr result (self.new ≡ self.old) }
+    {
+        self.links.add(resolver, reference, line)
     }
 
     /// Takes out the entry that has the reference's canonical target, and answers how many lines it had; `None` exactly
@@ -220,13 +345,32 @@ impl<S: Spec> Register<S> {
         ensures unchanged { OnErr result (self.new ≡ self.old) }
         ensures memory { self.old.entries ≡ [] → result ≢ Err RegisterError.Memory }
     {
-        if entries::len(&self.entries) == 0 {
-            return none_there::<S>(reference);
-        }
-        match write_target(&mut self.target, self.base.as_slice(), reference) {
-            Ok(()) => Ok(entries::remove(self.alloc, &mut self.entries, self.target.as_str())),
-            Err(error) => Err(error),
-        }
+        let page = FixedBaseResolver::new(self.base.as_slice());
+        self.links.remove(&page, reference)
+    }
+
+    /// The same for a reference against a resolver's base, whatever the register's is. A program that removes many
+    /// references prepares that once.
+    ///
+    /// # Errors
+    ///
+    /// Those of [`remove`](Register::remove).
+    pub fn remove_against(
+        &mut self,
+        resolver: &FixedBaseResolver<'_, S>,
+        reference: &[u8],
+    ) -> Result<Option<usize>, RegisterError>
+        ensures causes { MatchResult result (λ _. bytes_fault (reference_fault S.tests) reference.now ≡ None)
+            (λ e. CausedBy e (bytes_fault (reference_fault S.tests) reference.now)) }
+        ensures answer { IfOk result (λ n. n
+            ≡ line_count self.old.entries (canonical S.tests (base_text resolver.now) reference.now)) }
+        ensures entries { OnOk result (self.new.entries
+            ≡ removed self.old.entries (canonical S.tests (base_text resolver.now) reference.now)) }
+        ensures base { self.new.base ≡ self.old.base }
+        ensures unchanged { OnErr result (self.new ≡ self.old) }
+        ensures memory { self.old.entries ≡ [] → result ≢ Err RegisterError.Memory }
+    {
+        self.links.remove(resolver, reference)
     }
 
     /// The target of the entry at a place from 1; none exactly where the place is 0 or more than the number of entries.
@@ -234,7 +378,7 @@ impl<S: Spec> Register<S> {
     pub fn target_at(&self, place: usize) -> Option<&str>
         ensures { option_map (λ t. t.now) result ≡ option_map (λ e. e.target) (entry_at self.now.entries place) }
     {
-        entries::target_at(&self.entries, place)
+        entries::target_at(&self.links.entries, place)
     }
 
     /// The numbers of the lines of the entry at a place from 1, in order; none exactly where the place is 0 or more
@@ -242,6 +386,6 @@ impl<S: Spec> Register<S> {
     pub fn lines_at(&self, place: usize) -> Option<&[u64]>
         ensures { option_map (λ l. l.now) result ≡ option_map (λ e. e.lines) (entry_at self.now.entries place) }
     {
-        entries::lines_at(&self.entries, place)
+        entries::lines_at(&self.links.entries, place)
     }
 }

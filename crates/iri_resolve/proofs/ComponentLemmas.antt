@@ -1,6 +1,9 @@
 -- The steps of a text lead to its normal form, wherever it stands.
 use Rattle.std.proofs.Common.{◌≡◌, ℕ, zero, suc, ◌+◌, ◌-◌, ◌*◌, ◌<◌, ◌≤◌, Bool, true, false, ◌&&◌, List, [], ◌∷◌, ◌++◌, Option, Some, None}
 use Rattle.std.proofs.Common.{length, refl, sym, ◌∙◌, ap, subst, arith, cond, append_assoc, length-append, length-drop}
+use Rattle.iri_text.specs.Shown.{AreSinkLaws, Shows}
+use Rattle.iri_text.specs.declared.shown.show.Stop.{Stop}
+use Rattle.std.proofs.Common.{Result, Ok, Err, IsErr}
 use Rattle.std.specs.Prelude.{◌==◌, drop, slice_index}
 use Rattle.std.specs.Char.{is_ascii_hexdigit, is_ascii_uppercase, to_ascii_lowercase, to_ascii_uppercase, encode_utf8, len_utf8}
 use Rattle.std.proofs.Math.Seq.{get_or-append_seam, set-append_seam, take-append_seam}
@@ -26,6 +29,7 @@ use Rattle.iri_resolve.specs.Changes.{is_small_digit, with_capital_digit, with_d
 use Rattle.iri_resolve.specs.NormalSteps.{Prefix, byte_prefix, component_steps, digit_steps, letter_steps, prefix_of, triplet_prefix}
 use Rattle.iri_resolve.specs.Steps.{step_in}
 use Rattle.iri_resolve.proofs.ChangeKeeps.{capital-keeps, decoding-keeps}
+use Rattle.iri_resolve.proofs.Going.{Going, all_gone, going_on, gone_wrong}
 use Rattle.iri_resolve.proofs.Leads.{Led, led-nothing, led-step, led-on, not-whole, whole-append, whole_nil, whole_percent}
 use Rattle.iri_resolve.proofs.Leads.{capital-at, capital_same, decoded-at}
 use Rattle.iri_resolve.proofs.Places.{IsPlace}
@@ -278,29 +282,43 @@ module _ (s : Tests) (k : IsSpec s) (m : CanonMode) (part : Part) (lower : Bool)
       → Led s m ok put t (component_steps s part lower 0 start t) (normal s (case_of lower) t)
   component-led t w h = goes (length t) [] t start (omega arith) whole_nil w (omega arith) h
 
--- ---- as it is written: so much is done, and the steps of the rest follow
-pub record Walked (s : Tests) (part : Part) (lower : Bool) (start : ℕ) (x : List ℕ) (at : ℕ) (t : List ℕ) (l m : List Step) : Type 0 where
-  pub steps : l ++ component_steps s part lower 0 start x ≡ m ++ component_steps s part lower 0 at t
+-- ---- as it is written: the steps before the rest of a text have gone in
+pub record Walked {W : Type 0} (puts : W → List Step → W → Type 0) (stops : W → ℕ) (s : Tests) (part : Part) (lower : Bool) (start : ℕ)
+    (x : List ℕ) (at : ℕ) (t : List ℕ) (old new : W) : Type 0 where
+  pub steps : Going puts stops old (component_steps s part lower 0 start x) (component_steps s part lower 0 at t) new
   pub place : at + length (normal s (case_of lower) t) ≡ start + length (normal s (case_of lower) x)
   pub room : at + length t ≤ start + length x
   pub whole : whole_triplets t ≡ true
 
-pub walked-on : (s : Tests) (part : Part) (lower : Bool) (start : ℕ) (x : List ℕ) (at : ℕ) (t : List ℕ) (l m n : List Step) → IsSpec s
-    → 0 < length t → Walked s part lower start x at t l m → n ≡ m ++ (prefix_of s part lower at t).steps
-    → Walked s part lower start x (at + (prefix_of s part lower at t).normal_len) (drop (prefix_of s part lower at t).len t) l n
-walked-on s part lower start x at t l m n k h w e =
-    let f = case_of lower in
-    let p = prefix_of s part lower at t in
-    let q = prefix-is s k part lower at t w.whole h in
-    let r = drop p.len t in
-    record {
-      steps = w.steps ∙ ap (λ z. m ++ z) (next-steps s part lower at t h q.some)
-          ∙ sym (append_assoc m p.steps (component_steps s part lower 0 (at + p.normal_len) r))
-          ∙ ap (λ z. z ++ component_steps s part lower 0 (at + p.normal_len) r) (sym e);
-      place = omega (arith, w.place, ap length q.form, length-append q.text (normal s f r), q.long);
-      room = omega (arith, w.room, q.shorter, q.within, length-drop p.len t);
-      whole = q.whole_rest;
-    }
+module _ {W : Type 0} {puts halts : W → List Step → W → Type 0} {stops : W → ℕ} (laws : AreSinkLaws puts halts) (s : Tests) (part : Part) (lower : Bool)
+    (start : ℕ) (x : List ℕ) (at : ℕ) (t : List ℕ) (k : IsSpec s) where
+  pub walked-on : {a b c : W} {u : Unit {0}} → 0 < length t → Walked puts stops s part lower start x at t a b
+      → Shows puts halts stops b (prefix_of s part lower at t).steps c (Ok u)
+      → Walked puts stops s part lower start x (at + (prefix_of s part lower at t).normal_len) (drop (prefix_of s part lower at t).len t) a c
+  walked-on h w e =
+      let f = case_of lower in
+      let p = prefix_of s part lower at t in
+      let q = prefix-is s k part lower at t w.whole h in
+      let r = drop p.len t in
+      record {
+        steps = going_on laws (component_steps s part lower 0 at t) p.steps (component_steps s part lower 0 (at + p.normal_len) r)
+            (next-steps s part lower at t h q.some) w.steps e;
+        place = omega (arith, w.place, ap length q.form, length-append q.text (normal s f r), q.long);
+        room = omega (arith, w.room, q.shorter, q.within, length-drop p.len t);
+        whole = q.whole_rest;
+      }
+
+  pub walk-stopped : {a b c : W} {e : Stop} {r : Result (Unit {0}) Stop} → IsErr r → 0 < length t → Walked puts stops s part lower start x at t a b
+      → Shows puts halts stops b (prefix_of s part lower at t).steps c (Err e)
+      → Shows puts halts stops a (component_steps s part lower 0 start x) c r
+  walk-stopped is h w e =
+      let p = prefix_of s part lower at t in
+      gone_wrong laws (component_steps s part lower 0 at t) p.steps (component_steps s part lower 0 (at + p.normal_len) (drop p.len t))
+      (next-steps s part lower at t h (prefix-is s k part lower at t w.whole h).some) is w.steps e
+
+  pub walk-ended : {a b : W} {u : Unit {0}} → t ≡ [] → Walked puts stops s part lower start x at t a b
+      → Shows puts halts stops a (component_steps s part lower 0 start x) b (Ok u)
+  walk-ended e w = all_gone laws (component_steps s part lower 0 at t) (ap (component_steps s part lower 0 at) e ∙ no-steps s part lower at) w.steps
 
 pub something : (t : List ℕ) → (length t == 0) ≡ false → 0 < length t
 something t h = grind (arith, nat_tests)

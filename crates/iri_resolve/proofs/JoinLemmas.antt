@@ -5,7 +5,8 @@ use Rattle.std.proofs.lemmas.Slice.Eq.{bytes_eq-Decides}
 use Rattle.iri_grammar.specs.Classes.{Tests, IsSpec}
 use Rattle.iri_grammar.specs.Parts.{Parts, recompose}
 use Rattle.iri_percent.specs.declared.canon_mode.CanonMode.{CanonMode}
-use Rattle.iri_resolve.proofs.SchemeSteps.{form-in, joined_in-exactly, texts_in-exactly}
+use Rattle.iri_resolve.proofs.SchemeSteps.{joined_in-exactly, texts_in-exactly}
+use Rattle.iri_normal.proofs.SchemeForm.{form-is}
 use Rattle.iri_normal.specs.NormalForm.{form, normal_form_in}
 use Rattle.iri_normal.specs.Modes.{mode_of}
 use Rattle.iri_resolve.specs.Steps.{replayed_in, AreApartIn, LeadToOneIn}
@@ -15,8 +16,8 @@ use Rattle.iri_resolve.specs.declared.step.Step.{Step}
 -- the texts of two normal forms are those of two forms
 told : (s : Tests) (c : CanonMode) (t u : Parts) (b : Bool) → bytes_eq (recompose (form s (mode_of c) false t)) (recompose (form s (mode_of c) false u)) ≡ b
     → bytes_eq (recompose (normal_form_in s c t)) (recompose (normal_form_in s c u)) ≡ b
-told s c t u b h = ap (λ z. bytes_eq (recompose z) (recompose (normal_form_in s c u))) (form-in s c t)
-    ∙ (ap (λ z. bytes_eq (recompose (form s (mode_of c) false t)) (recompose z)) (form-in s c u) ∙ h)
+told s c t u b h = ap (λ z. bytes_eq (recompose z) (recompose (normal_form_in s c u))) (sym (form-is s c false t))
+    ∙ (ap (λ z. bytes_eq (recompose (form s (mode_of c) false t)) (recompose z)) (sym (form-is s c false u)) ∙ h)
 
 pub apart : (s : Tests) (c : CanonMode) (t u : Parts) → IsSpec s → Valid s t → Valid s u
     → bytes_eq (recompose (form s (mode_of c) false t)) (recompose (form s (mode_of c) false u)) ≡ false → AreApartIn s c t u

@@ -1,4 +1,5 @@
 pub mod Edits
+pub mod Going
 pub mod Replayed
 pub mod ReachedLemmas
 pub mod ComponentLemmas

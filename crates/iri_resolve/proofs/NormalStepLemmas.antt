@@ -31,7 +31,7 @@ use Rattle.iri_resolve.specs.NormalSteps.{authority_parts_steps, authority_steps
 use Rattle.iri_resolve.specs.NormalSteps.{scheme_letter_steps, scheme_steps, steps_there, triplet_steps}
 use Rattle.iri_resolve.specs.Steps.{host_start, placed, replayed_in, step_in}
 use Rattle.iri_resolve.proofs.ComponentLemmas.{component-led}
-use Rattle.iri_resolve.specs.inside.GuardAlone.{loses_dots}
+use Rattle.iri_resolve.specs.inside.GuardAlone.{dots_steps, loses_dots}
 use Rattle.iri_resolve.proofs.GuardLemmas.{dots-lost}
 use Rattle.iri_resolve.proofs.Leads.{Led, led-nothing, led-on, led-step, replayed_in-append}
 use Rattle.iri_resolve.proofs.Places.{ascii-place, fragment-place, host-place, is_host_in_ascii, path-place, query-place, userinfo-place, with_authority}
@@ -193,41 +193,26 @@ plain-led s m t k f =
     ∙ fragment-led s k m t4 t.fragment f.fragment)))
 
 -- ---- as they are written
-pub letters-on : (w : List ℕ) (i : ℕ) (l m n : List Step) → i < length w → l ≡ m ++ scheme_steps i (drop i w)
-    → n ≡ m ++ scheme_letter_steps i (slice_index w i) → l ≡ n ++ scheme_steps (i + 1) (drop (i + 1) w)
-letters-on w i l m n h e g =
-    e ∙ ap (λ z. m ++ z) (next-letter w i h)
-    ∙ sym (append_assoc m (scheme_letter_steps i (slice_index w i)) (scheme_steps (i + 1) (drop (i + 1) w)))
-    ∙ ap (λ z. z ++ scheme_steps (i + 1) (drop (i + 1) w)) (sym g)
-
-pub letters-end : (w : List ℕ) (i : ℕ) (l m : List Step) → length w ≤ i → l ≡ m ++ scheme_steps i (drop i w) → m ≡ l
+pub no-letters : (w : List ℕ) (i : ℕ) → length w ≤ i → scheme_steps i (drop i w) ≡ []
 unfolding scheme_steps
-letters-end w i l m h e = sym (append-nil m) ∙ ap (λ z. m ++ scheme_steps i z) (sym (drop_of_length-le w h)) ∙ sym e
-
-pub authority-pushed : (s : Tests) (a : List ℕ) (p : AuthorityParts) (start : ℕ) (l m n o : List Step) → p ≡ authority_parts a
-    → start ≡ length (userinfo_text (normal_userinfo s p.userinfo)) → m ≡ l ++ steps_there (triplet_steps s Authority) p.userinfo
-    → n ≡ m ++ host_steps s start p.host → o ≡ n ++ port_steps p.port → o ≡ l ++ authority_steps s a
-unfolding authority_steps
-authority-pushed s a p start l m n o e i hm hn ho =
-    let all : o ≡ ((l ++ steps_there (triplet_steps s Authority) p.userinfo) ++ host_steps s start p.host) ++ port_steps p.port =
-    ho ∙ ap (λ z. z ++ port_steps p.port) (hn ∙ ap (λ z. z ++ host_steps s start p.host) hm) in
-    all ∙ simp append_assoc (ap (λ z. l ++ (steps_there (triplet_steps s Authority) p.userinfo ++ (host_steps s z p.host ++ port_steps p.port))) i)
-    ∙ ap (λ q. l ++ authority_parts_steps s q) e
+no-letters w i h = ap (scheme_steps i) (drop_of_length-le w h)
 
 swapped : (b : Bool) → cond b (Dots ∷ []) [] ≡ cond (not b) [] (Dots ∷ [])
 swapped true = refl
 swapped false = refl
 
-pub path-pushed : (s : Tests) (p : List ℕ) (stands b : Bool) (l m n : List Step) → IsSpec s → is_path s p ≡ true
-    → (stands || not (starts_with_slashes p)) ≡ true → loses_dots p stands ≡ b → m ≡ l ++ triplet_steps s Path p
-    → n ≡ m ++ cond b (Dots ∷ []) [] → n ≡ l ++ path_steps s stands p
+-- the step of dot segments that go, told by the path as it stands
+pub path-pushed : (s : Tests) (p : List ℕ) (stands : Bool) → IsSpec s → is_path s p ≡ true → (stands || not (starts_with_slashes p)) ≡ true
+    → triplet_steps s Path p ++ dots_steps (loses_dots p stands) ≡ path_steps s stands p
 unfolding path_steps
-path-pushed s p stands b l m n k h g e hm hn =
-    let lost : bytes_eq (guard (dots (pct s p)) stands) (pct s p) ≡ not b = dots-lost s k p (path-whole s p k h) stands g ∙ ap not e in
-    hn ∙ ap (λ z. z ++ cond b (Dots ∷ []) []) hm ∙ append_assoc l (triplet_steps s Path p) (cond b (Dots ∷ []) [])
-    ∙ ap (λ z. l ++ (triplet_steps s Path p ++ z)) (swapped b ∙ ap (λ v. cond v [] (Dots ∷ [])) (sym lost))
+path-pushed s p stands k h g =
+    let lost : bytes_eq (guard (dots (pct s p)) stands) (pct s p) ≡ not (loses_dots p stands) = dots-lost s k p (path-whole s p k h) stands g in
+    ap (λ z. triplet_steps s Path p ++ z) (swapped (loses_dots p stands) ∙ ap (λ v. cond v [] (Dots ∷ [])) (sym lost))
 
-pub all-pushed : (m n o p q r l a b c d e f g : List Step) → m ≡ a → n ≡ m ++ b → o ≡ n ++ c → p ≡ o ++ d → q ≡ p ++ e → r ≡ q ++ f → l ≡ r ++ g
-    → l ≡ (a ++ (b ++ (c ++ (d ++ e)))) ++ (f ++ g)
-all-pushed m n o p q r l a b c d e f g hm hn ho hp hq hr hl =
-    let all : l ≡ (((((a ++ b) ++ c) ++ d) ++ e) ++ f) ++ g = cc in all ∙ simp append_assoc
+-- the steps of an authority, told by what is read of it
+pub authority-pushed : (s : Tests) (a : List ℕ) (p : AuthorityParts) (start : ℕ) (u o : Option (List ℕ)) (h : List ℕ) → p ≡ authority_parts a
+    → u ≡ p.userinfo → h ≡ p.host → o ≡ p.port → start ≡ length (userinfo_text (normal_userinfo s u))
+    → steps_there (triplet_steps s Authority) u ++ (host_steps s start h ++ port_steps o) ≡ authority_steps s a
+unfolding authority_steps
+authority-pushed s a p start u o h e hu hh ho i =
+    ap (λ n. steps_there (triplet_steps s Authority) u ++ (host_steps s n h ++ port_steps o)) i ∙ rw (hu, hh, ho) (ap (authority_parts_steps s) e)

@@ -1,6 +1,6 @@
--- Steps of either mode keep the parts valid, and their normal form, and lead to it.
-use Rattle.std.proofs.Common.{◌≡◌, ◌≢◌, ◌↔◌, ℕ, Bool, true, false, cond, List, [], ◌∷◌, ◌++◌, Option, Some, None, refl, sym}
-use Rattle.std.proofs.Common.{◌∙◌, ap, subst, append-nil}
+-- Steps of a mode keep the parts valid, and their normal form, and lead to it.
+use Rattle.std.proofs.Common.{◌≡◌, ◌≢◌, ◌↔◌, ℕ, Bool, true, false, cond, List, [], ◌∷◌, Option, Some, None, refl, sym}
+use Rattle.std.proofs.Common.{◌∙◌, ap, subst}
 use Rattle.std.specs.Prelude.{IsSome, codes}
 use Rattle.std.specs.Str.{str_eq_ignore_ascii_case}
 use Rattle.iri_grammar.specs.Authority.{AuthorityParts, FitsAuthority, authority_parts, is_authority, recompose_authority}
@@ -16,19 +16,22 @@ use Rattle.iri_percent.specs.declared.canon_mode.CanonMode.{CanonMode}
 use Rattle.iri_percent.specs.declared.canon_mode.CanonMode.TheVariants.{Default, Scheme}
 use Rattle.iri_percent.proofs.Authorities.{authority_in}
 use Rattle.iri_percent.proofs.MapKinds.{authority-reads as reads}
-use Rattle.iri_normal.specs.LowerCase.{lowered, where_there}
-use Rattle.iri_normal.specs.Modes.{mode_of}
-use Rattle.iri_normal.specs.NormalForm.{becomes_slash, form, normal_form, normal_form_in, normal_path, slash_or}
-use Rattle.iri_resolve.specs.Steps.{in_part, onward, placed, replayed_in, step_in, with_slash, without_dropped_port, Joined, JoinedIn}
+use Rattle.iri_normal.specs.LowerCase.{where_there}
+use Rattle.iri_normal.specs.NormalForm.{becomes_slash, normal_form, normal_form_in, normal_parts, normal_path, slash_or}
+use Rattle.iri_resolve.specs.Changes.{with_capital_digit, with_decoded, with_small_letter}
+use Rattle.iri_resolve.specs.Steps.{in_part, onward, placed, replayed_in, step_in, with_dots_removed, with_slash, with_small_letter_in_host}
+use Rattle.iri_resolve.specs.Steps.{without_dropped_port, without_empty_port, Joined, JoinedIn}
 use Rattle.iri_resolve.specs.NormalSteps.{default_port_steps, has_port, is_port_dropped, plain_steps, scheme_rule_steps, slash_steps, steps_of}
 use Rattle.iri_resolve.specs.declared.step.Step.{Step}
 use Rattle.iri_resolve.specs.declared.step.Step.TheVariants.{SchemeLetter, HostLetter, HexDigit, Decode, EmptyPort, Dots, DefaultPort, SlashPath}
 use Rattle.iri_normal.proofs.AuthorityForm.{normal-parts}
-use Rattle.iri_resolve.proofs.AuthoritySteps.{placed-is, in_part-is}
+use Rattle.iri_resolve.proofs.AuthoritySteps.{in_part-is, letter-changed, placed-is, port-changed}
 use Rattle.iri_resolve.proofs.NormalStepLemmas.{plain-led}
 use Rattle.iri_resolve.proofs.Leads.{replayed_in-append}
-use Rattle.iri_normal.proofs.SchemeForm.{by_scheme, dropped-lowered, form-by_scheme, kept_port, normal-slash, normal_in-fits, one-form, slash-normal, without}
-use Rattle.iri_resolve.proofs.StepsKept.{Kept, Valid, authority-fits, path-fits, step-kept}
+use Rattle.iri_normal.proofs.FormLaws.{normal-slash, normal_in-fits}
+use Rattle.iri_normal.proofs.SchemeForm.{by_mode, dropped-still, form-by_mode, kept_port, normal-is, one-form, slash-normal, without}
+use Rattle.iri_resolve.proofs.ChangeKeeps.{capital-keeps, decoding-keeps}
+use Rattle.iri_resolve.proofs.StepsKept.{Kept, Valid, authority-changed, authority-fits, change-kept, dots-removed, dots-step, path-fits, scheme-step}
 use Rattle.iri_normal.proofs.TargetLaws.{slash_in_path}
 use Rattle.iri_normal.proofs.TextLaws.{slash_over}
 
@@ -82,21 +85,22 @@ still-path : (s : Tests) (a b p : List ℕ) → normal_path s (Some a) p ≡ nor
 unfolding normal_path
 still-path s a b p = refl
 
-default_port-kept : (s : Tests) (t : Parts) (a b : List ℕ) → IsSpec s → Valid s t → t.authority ≡ Some a
-    → without_dropped_port (dropped_port Scheme t.scheme) (authority_parts a) (authority_parts a).port ≡ Some b
-    → KeptIn s Scheme t (record t { authority = Some b })
-unfolding form
-default_port-kept s t a b k v e h =
-    let d = dropped_port Scheme t.scheme in
+default_port-kept : (s : Tests) (m : CanonMode) (t : Parts) (a b : List ℕ) → IsSpec s → Valid s t → t.authority ≡ Some a
+    → without_dropped_port (dropped_port m t.scheme) (authority_parts a) (authority_parts a).port ≡ Some b
+    → KeptIn s m t (record t { authority = Some b })
+default_port-kept s m t a b k v e h =
+    let d = dropped_port m t.scheme in
+    let u : Parts = record t { authority = Some b } in
     let old : is_authority s a ≡ true = ap (if_there (is_authority s)) (sym e) ∙ v.fits.authority in
     let r = port-dropped d (authority_parts a) (authority_parts a).port b h in
     let kept = without-kept s d a k old r.0 in
     let new : is_authority s b ≡ true = subst (λ z. is_authority s z ≡ true) r.1 kept.0 in
     let same : normal_authority_in s d b ≡ normal_authority_in s d a = ap (normal_authority_in s d) (sym r.1) ∙ kept.1 in
+    let parts : normal_parts s d u ≡ normal_parts s d t = rw (e, same, still-stands d b a t.path, still-path s b a t.path) refl in
     record {
       fits = authority-fits s t a b v.fits e new;
       scheme = v.scheme;
-      form = rw (e, same, still-stands d b a t.path, still-path s b a t.path) refl;
+      form = normal-is s m u ∙ (parts ∙ sym (normal-is s m t));
     }
 
 -- ---- the empty path
@@ -118,39 +122,46 @@ not-empty None a = refl
 not-empty (Some d) None = refl
 not-empty (Some d) (Some z) = refl
 
-slash-kept : (s : Tests) (t : Parts) → IsSpec s → Valid s t → becomes_slash (dropped_port Scheme t.scheme) t.authority t.path ≡ true
-    → KeptIn s Scheme t (record t { path = 47 ∷ [] })
-unfolding form
-slash-kept s t k v h =
-    let d = dropped_port Scheme t.scheme in
+slash-kept : (s : Tests) (m : CanonMode) (t : Parts) → Valid s t → becomes_slash (dropped_port m t.scheme) t.authority t.path ≡ true
+    → KeptIn s m t (record t { path = 47 ∷ [] })
+slash-kept s m t v h =
+    let d = dropped_port m t.scheme in
+    let u : Parts = record t { path = 47 ∷ [] } in
     let z = slash-stands d t.authority t.path h in
     let normal : normal_path s t.authority (47 ∷ []) ≡ 47 ∷ [] = ap (λ a. normal_path s a (47 ∷ [])) z.1 ∙ normal-slash s z.0 in
+    let parts : normal_parts s d u ≡ normal_parts s d t = rw (h, not-empty d t.authority, normal) refl in
     record {
       fits = path-fits s t (47 ∷ []) v.fits (slash_over (path_char s) (slash_in_path s))
           (ap (λ a. path_rules t.scheme a (47 ∷ [])) z.1);
       scheme = v.scheme;
-      form = rw (h, not-empty d t.authority, normal) refl;
+      form = normal-is s m u ∙ (parts ∙ sym (normal-is s m t));
     }
 
 -- ---- each step
 pub step_in-kept : (s : Tests) (m : CanonMode) (t u : Parts) (x : Step) → IsSpec s → Valid s t → step_in s m t x ≡ Some u → KeptIn s m t u
 unfolding step_in
-step_in-kept s Default t u x k v h = kept_in s Default t u k v (step-kept s t u x k v h)
-step_in-kept s Scheme t u DefaultPort k v h =
-    let change : List ℕ → Option (List ℕ) = λ a. without_dropped_port (dropped_port Scheme t.scheme) (authority_parts a) (authority_parts a).port in
+step_in-kept s m t u (SchemeLetter i) k v h =
+    let r = placed-is (λ x. record t { scheme = Some x }) (in_part (with_small_letter i) t.scheme) u h in
+    let q = in_part-is (with_small_letter i) t.scheme r.0 r.1 in
+    kept_in s m t u k v (subst (λ z. Kept s t z) r.2 (scheme-step s t i q.0 r.0 v q.1 q.2))
+step_in-kept s m t u (HostLetter i) k v h = kept_in s m t u k v
+    (authority-changed s t u (λ a. with_small_letter_in_host i (authority_parts a)) k v (λ a b o e. letter-changed s i a b k o e) h)
+step_in-kept s m t u (HexDigit part i) k v h = kept_in s m t u k v (change-kept s with_capital_digit t u part i k (capital-keeps s) v h)
+step_in-kept s m t u (Decode part i) k v h = kept_in s m t u k v (change-kept s (with_decoded s) t u part i k (decoding-keeps s k) v h)
+step_in-kept s m t u EmptyPort k v h = kept_in s m t u k v
+    (authority-changed s t u (λ a. without_empty_port (authority_parts a) (authority_parts a).port) k v (λ a b o e. port-changed s a b k o e) h)
+step_in-kept s m t u Dots k v h =
+    let r = placed-is (λ p. record t { path = p }) (with_dots_removed t) u h in
+    kept_in s m t u k v (subst (λ z. Kept s t z) (ap (λ p. record t { path = p }) (dots-removed t r.0 r.1) ∙ r.2) (dots-step s t k v))
+step_in-kept s m t u DefaultPort k v h =
+    let change : List ℕ → Option (List ℕ) = λ a. without_dropped_port (dropped_port m t.scheme) (authority_parts a) (authority_parts a).port in
     let r = placed-is (λ a. record t { authority = Some a }) (in_part change t.authority) u h in
     let q = in_part-is change t.authority r.0 r.1 in
-    subst (λ z. KeptIn s Scheme t z) r.2 (default_port-kept s t q.0 r.0 k v q.1 q.2)
-step_in-kept s Scheme t u SlashPath k v h =
-    let r = placed-is (λ p. record t { path = p }) (with_slash (dropped_port Scheme t.scheme) t) u h in
-    let q = slash-given (dropped_port Scheme t.scheme) t r.0 r.1 in
-    subst (λ z. KeptIn s Scheme t z) (ap (λ p. record t { path = p }) (sym q.1) ∙ r.2) (slash-kept s t k v q.0)
-step_in-kept s Scheme t u (SchemeLetter i) k v h = kept_in s Scheme t u k v (step-kept s t u (SchemeLetter i) k v h)
-step_in-kept s Scheme t u (HostLetter i) k v h = kept_in s Scheme t u k v (step-kept s t u (HostLetter i) k v h)
-step_in-kept s Scheme t u (HexDigit part i) k v h = kept_in s Scheme t u k v (step-kept s t u (HexDigit part i) k v h)
-step_in-kept s Scheme t u (Decode part i) k v h = kept_in s Scheme t u k v (step-kept s t u (Decode part i) k v h)
-step_in-kept s Scheme t u EmptyPort k v h = kept_in s Scheme t u k v (step-kept s t u EmptyPort k v h)
-step_in-kept s Scheme t u Dots k v h = kept_in s Scheme t u k v (step-kept s t u Dots k v h)
+    subst (λ z. KeptIn s m t z) r.2 (default_port-kept s m t q.0 r.0 k v q.1 q.2)
+step_in-kept s m t u SlashPath k v h =
+    let r = placed-is (λ p. record t { path = p }) (with_slash (dropped_port m t.scheme) t) u h in
+    let q = slash-given (dropped_port m t.scheme) t r.0 r.1 in
+    subst (λ z. KeptIn s m t z) (ap (λ p. record t { path = p }) (sym q.1) ∙ r.2) (slash-kept s m t v q.0)
 
 -- ---- lists of steps
 pub valid_in : (s : Tests) (m : CanonMode) (t u : Parts) → KeptIn s m t u → Valid s u
@@ -192,9 +203,10 @@ port-some x h = at (is_either x (codes "http") (codes "ws")) (is_either x (codes
     at false false true j = cc
     at false false false j = cc
 
-dropped-some : (o : Option (List ℕ)) → dropped_port Scheme o ≢ Some []
-dropped-some None h = cc
-dropped-some (Some x) h = port-some x h
+dropped-some : (m : CanonMode) (o : Option (List ℕ)) → dropped_port m o ≢ Some []
+dropped-some Default o h = cc
+dropped-some Scheme None h = cc
+dropped-some Scheme (Some x) h = port-some x h
 
 port-normal : (d o : Option (List ℕ)) → d ≢ Some [] → is_port_dropped d (normal_port o) ≡ is_port_dropped d o
 port-normal d None n = refl
@@ -240,25 +252,25 @@ dropped-is : (d : Option (List ℕ)) (p : AuthorityParts) (o : Option (List ℕ)
 dropped-is d p None h = cc
 dropped-is d p (Some x) h = rw h refl
 
-abbrev without_port_of : Parts → Parts
-without_port_of t = record t { authority = where_there (without (dropped_port Scheme t.scheme)) t.authority }
+abbrev without_port_of : CanonMode → Parts → Parts
+without_port_of m t = record t { authority = where_there (without (dropped_port m t.scheme)) t.authority }
 
-port-led : (s : Tests) (t : Parts) (o : Option (List ℕ)) (b : Bool) → t.authority ≡ o → has_port (dropped_port Scheme t.scheme) o ≡ b
-    → replayed_in s Scheme t (default_port_steps b) ≡ Some (without_port_of t)
+port-led : (s : Tests) (m : CanonMode) (t : Parts) (o : Option (List ℕ)) (b : Bool) → t.authority ≡ o → has_port (dropped_port m t.scheme) o ≡ b
+    → replayed_in s m t (default_port_steps b) ≡ Some (without_port_of m t)
 unfolding step_in
-port-led s t o false e h =
-    let d = dropped_port Scheme t.scheme in
+port-led s m t o false e h =
+    let d = dropped_port m t.scheme in
     let same : where_there (without d) t.authority ≡ t.authority = without-same d t.authority (ap (has_port d) e ∙ h) in
-    no-step s Scheme t ∙ ap (λ z. Some (record t { authority = z })) (sym same)
-port-led s t None true e h = cc
-port-led s t (Some a) true e h =
-    let d = dropped_port Scheme t.scheme in
+    no-step s m t ∙ ap (λ z. Some (record t { authority = z })) (sym same)
+port-led s m t None true e h = cc
+port-led s m t (Some a) true e h =
+    let d = dropped_port m t.scheme in
     let p = authority_parts a in
     let change : List ℕ → Option (List ℕ) = λ a. without_dropped_port d (authority_parts a) (authority_parts a).port in
     let put : List ℕ → Parts = λ a. record t { authority = Some a } in
     let new : where_there (without d) t.authority ≡ Some (recompose_authority (record p { port = None })) =
     ap (where_there (without d)) e ∙ ap Some (without-other d a h) in
-    one-step s Scheme t (without_port_of t) DefaultPort
+    one-step s m t (without_port_of m t) DefaultPort
     (ap (λ z. placed put (in_part change z)) e ∙ (ap (placed put) (dropped-is d p p.port h)
     ∙ ap (λ z. Some (record t { authority = z })) (sym new)))
 
@@ -267,76 +279,44 @@ stands-on None a f p = refl
 stands-on (Some d) None f p = refl
 stands-on (Some d) (Some z) f p = refl
 
-slash-led : (s : Tests) (t : Parts) (b : Bool) → becomes_slash (dropped_port Scheme t.scheme) t.authority t.path ≡ b
-    → replayed_in s Scheme t (slash_steps b) ≡ Some (record t { path = slash_or b t.path })
+slash-led : (s : Tests) (m : CanonMode) (t : Parts) (b : Bool) → becomes_slash (dropped_port m t.scheme) t.authority t.path ≡ b
+    → replayed_in s m t (slash_steps b) ≡ Some (record t { path = slash_or b t.path })
 unfolding step_in
-slash-led s t false h = no-step s Scheme t
-slash-led s t true h = one-step s Scheme t (record t { path = 47 ∷ [] }) SlashPath
+slash-led s m t false h = no-step s m t
+slash-led s m t true h = one-step s m t (record t { path = 47 ∷ [] }) SlashPath
     (ap (λ b. placed (λ p. record t { path = p }) (cond b (Some (47 ∷ [])) None)) h)
 
-by_scheme-led : (s : Tests) (t : Parts) → replayed_in s Scheme t (scheme_rule_steps (dropped_port Scheme t.scheme) t) ≡ Some (by_scheme t)
-by_scheme-led s t =
-    let d = dropped_port Scheme t.scheme in
+by_mode-led : (s : Tests) (m : CanonMode) (t : Parts) → replayed_in s m t (scheme_rule_steps (dropped_port m t.scheme) t) ≡ Some (by_mode m t)
+by_mode-led s m t =
+    let d = dropped_port m t.scheme in
     let b = becomes_slash d t.authority t.path in
-    replayed_in-append s Scheme t (without_port_of t) (default_port_steps (has_port d t.authority)) (slash_steps b)
-    (port-led s t t.authority (has_port d t.authority) refl refl)
-    ∙ slash-led s (without_port_of t) b (stands-on d t.authority (without d) t.path)
+    replayed_in-append s m t (without_port_of m t) (default_port_steps (has_port d t.authority)) (slash_steps b)
+    (port-led s m t t.authority (has_port d t.authority) refl refl)
+    ∙ slash-led s m (without_port_of m t) b (stands-on d t.authority (without d) t.path)
 
--- a normal form is a form
-pub form-in : (s : Tests) (m : CanonMode) (t : Parts) → normal_form_in s m t ≡ form s (mode_of m) false t
-unfolding normal_form
-form-in s Default t = refl
-form-in s Scheme t = refl
-
-nothing-more : (t : Parts) → scheme_rule_steps None t ≡ []
-nothing-more t = ap (λ b. default_port_steps b ++ []) (none t.authority)
-  where
-    none-here : (o : Option (List ℕ)) → is_port_dropped None o ≡ false
-    none-here None = refl
-    none-here (Some p) = refl
-
-    none : (o : Option (List ℕ)) → has_port None o ≡ false
-    none None = refl
-    none (Some a) = none-here (authority_parts a).port
-
-normal-scheme : (s : Tests) (t : Parts) → (normal_form s t).scheme ≡ where_there lowered t.scheme
-unfolding normal_form form
-normal-scheme s t = refl
-
-normal-authority : (s : Tests) (t : Parts) → (normal_form s t).authority ≡ where_there (normal_authority s) t.authority
-unfolding normal_form form
-normal-authority s t = refl
-
-normal-path : (s : Tests) (t : Parts) → (normal_form s t).path ≡ normal_path s t.authority t.path
-unfolding normal_form form
-normal-path s t = refl
-
--- the steps of scheme rules are those of the normal form
-steps-normal : (s : Tests) (t : Parts) → IsSpec s → Fits s t → scheme_rule_steps (dropped_port Scheme (normal_form s t).scheme) (normal_form s t) ≡ scheme_rule_steps (dropped_port Scheme t.scheme) t
-steps-normal s t k f =
-    let d = dropped_port Scheme t.scheme in
+-- the steps by the rules of a mode are those of the normal form
+steps-normal : (s : Tests) (m : CanonMode) (t : Parts) → IsSpec s → Fits s t
+    → scheme_rule_steps (dropped_port m (normal_form s t).scheme) (normal_form s t) ≡ scheme_rule_steps (dropped_port m t.scheme) t
+steps-normal s m t k f =
+    let d = dropped_port m t.scheme in
+    let n = normal_parts s None t in
+    let same : scheme_rule_steps (dropped_port m n.scheme) n ≡ scheme_rule_steps d t =
     rw (
-      normal-scheme s t,
-      normal-authority s t,
-      normal-path s t,
-      dropped-lowered t.scheme,
-      has_port-normal s d t.authority k (dropped-some t.scheme) f.authority,
+      dropped-still m t.scheme,
+      has_port-normal s d t.authority k (dropped-some m t.scheme) f.authority,
       slash-normal s (normal_authority s) t.scheme d t.authority t.path f.rules,
     )
-    refl
+    refl in
+    ap (λ (p : Parts). scheme_rule_steps (dropped_port m p.scheme) p) (normal-is s Default t) ∙ same
 
 -- the steps to the normal form lead to it
 pub normal_in-leads : (s : Tests) (m : CanonMode) (t : Parts) → IsSpec s → Fits s t
     → replayed_in s m t (steps_of s m t) ≡ Some (normal_form_in s m t)
 unfolding steps_of
-normal_in-leads s Default t k f = ap (λ z. replayed_in s Default t (plain_steps s t ++ z)) (nothing-more t)
-    ∙ (ap (replayed_in s Default t) (append-nil (plain_steps s t)) ∙ plain-led s Default t k f)
-normal_in-leads s Scheme t k f =
-    let l = plain_steps s t in
-    let m = scheme_rule_steps (dropped_port Scheme t.scheme) t in
-    replayed_in-append s Scheme t (normal_form s t) l m (plain-led s Scheme t k f)
-    ∙ (ap (replayed_in s Scheme (normal_form s t)) (sym (steps-normal s t k f))
-    ∙ (by_scheme-led s (normal_form s t) ∙ ap Some (form-by_scheme s t k f)))
+normal_in-leads s m t k f =
+    replayed_in-append s m t (normal_form s t) (plain_steps s t) (scheme_rule_steps (dropped_port m t.scheme) t) (plain-led s m t k f)
+    ∙ (ap (replayed_in s m (normal_form s t)) (sym (steps-normal s m t k f))
+    ∙ (by_mode-led s m (normal_form s t) ∙ ap Some (form-by_mode s m t k f)))
 
 -- ---- steps join what has one normal form
 joined_in-form : (s : Tests) (m : CanonMode) (t u : Parts) → IsSpec s → Valid s t → Valid s u → JoinedIn s m t u

@@ -4,7 +4,7 @@ use Rattle.std.specs.Prelude.{IsSome, is_some, take}
 use Rattle.std.specs.Char.{to_ascii_lowercase}
 use Rattle.std.specs.List.{list_all}
 use Rattle.std.specs.Str.{bytes_eq}
-use Rattle.iri_grammar.specs.Authority.{AuthorityParts, authority_parts, is_authority}
+use Rattle.iri_grammar.specs.Authority.{authority_parts, is_authority}
 use Rattle.iri_grammar.specs.Classes.{Tests, IsSpec, path_char, query_char, fragment_char}
 use Rattle.iri_grammar.specs.Components.{if_there, is_scheme, is_scheme_char, is_letter, is_path, is_query, is_fragment}
 use Rattle.iri_grammar.proofs.CutLaws.{both}
@@ -18,17 +18,14 @@ use Rattle.iri_normal.proofs.PathLaws.{dots-over, dots-slash, dots-nothing}
 use Rattle.iri_normal.proofs.StableLaws.{guarded-stable}
 use Rattle.iri_normal.proofs.TargetLaws.{slash_in_path}
 use Rattle.iri_normal.proofs.TripletPaths.{dots-pct}
-use Rattle.iri_resolve.specs.Changes.{with_small_letter, with_capital_digit, with_decoded}
-use Rattle.iri_resolve.specs.Steps.{in_part, in_userinfo_or_host, without_dropped_port, without_empty_port, with_small_letter_in_host, with_dots_removed}
-use Rattle.iri_resolve.specs.Steps.{at_place, step, step_in}
+use Rattle.iri_resolve.specs.Changes.{with_small_letter}
+use Rattle.iri_resolve.specs.Steps.{at_place, in_part, in_userinfo_or_host, placed, with_dots_removed}
 use Rattle.iri_resolve.proofs.ByteLaws.{small_letter}
-use Rattle.iri_resolve.proofs.ChangeKeeps.{TripletChange, rules-same, capital-keeps, decoding-keeps}
-use Rattle.iri_resolve.proofs.AuthoritySteps.{AuthorityChange, authority-kept, triplets-changed, letter-changed, port-changed}
+use Rattle.iri_resolve.proofs.ChangeKeeps.{TripletChange, rules-same}
+use Rattle.iri_resolve.proofs.AuthoritySteps.{AuthorityChange, authority-kept, triplets-changed}
 use Rattle.iri_resolve.proofs.AuthoritySteps.{lowered-change, placed-is, in_part-is}
 use Rattle.iri_resolve.specs.declared.step.Part.{Part}
 use Rattle.iri_resolve.specs.declared.step.Part.TheVariants.{Authority, Path, Query, Fragment}
-use Rattle.iri_resolve.specs.declared.step.Step.{Step}
-use Rattle.iri_resolve.specs.declared.step.Step.TheVariants.{SchemeLetter, HostLetter, HexDigit, Decode, EmptyPort, Dots, DefaultPort, SlashPath}
 use Rattle.iri_percent.proofs.ClassLaws.{in_fragment}
 use Rattle.iri_percent.proofs.ClassLaws.{in_path}
 use Rattle.iri_percent.proofs.ClassLaws.{in_query}
@@ -155,7 +152,7 @@ dots-step s t k v = record {
   form = rw (guarded-stable t.path (is_some t.authority)) refl;
 }
 
-dots-removed : (t : Parts) (u : List ℕ) → with_dots_removed t ≡ Some u → guard (dots t.path) (is_some t.authority) ≡ u
+pub dots-removed : (t : Parts) (u : List ℕ) → with_dots_removed t ≡ Some u → guard (dots t.path) (is_some t.authority) ≡ u
 dots-removed t u h =
     let p = guard (dots t.path) (is_some t.authority) in
     elim (bytes_eq p t.path) as (λ b. cond b None (Some p) ≡ Some u → p ≡ u) [ true ↦ λ k. cc | false ↦ λ k. cc ] h
@@ -199,28 +196,19 @@ fragment-triplets s change t i q u k c v e h =
       form = rw (e, c.form as_it_is i q u h (fragment-whole s q k old) (fragment-whole s u k new)) refl;
     }
 
--- the steps by scheme rules are no steps by the rules of every scheme
-nothing-dropped : (a : AuthorityParts) (o : Option (List ℕ)) → without_dropped_port None a o ≡ None
-nothing-dropped a None = refl
-nothing-dropped a (Some p) = refl
-
-pub no_default_port : (s : Tests) (t u : Parts) → step s t DefaultPort ≡ Some u → ⊥
-unfolding step_in
-no_default_port s t u h =
-    let r = placed-is (λ a. record t { authority = Some a })
-    (in_part (λ a. without_dropped_port None (authority_parts a) (authority_parts a).port) t.authority) u h in
-    let q = in_part-is (λ a. without_dropped_port None (authority_parts a) (authority_parts a).port) t.authority r.0 r.1 in
-    let none : None ≡ Some r.0 = sym (nothing-dropped (authority_parts q.0) (authority_parts q.0).port) ∙ q.2 in
-    cc
-
 -- ---- each step
+pub authority-changed : (s : Tests) (t u : Parts) (change : List ℕ → Option (List ℕ)) → IsSpec s → Valid s t
+    → ((a b : List ℕ) → is_authority s a ≡ true → change a ≡ Some b → AuthorityChange s a b)
+    → placed (λ a. record t { authority = Some a }) (in_part change t.authority) ≡ Some u → Kept s t u
+authority-changed s t u change k v go h =
+    let r = placed-is (λ a. record t { authority = Some a }) (in_part change t.authority) u h in
+    let q = in_part-is change t.authority r.0 r.1 in
+    subst (λ z. Kept s t z) r.2 (authority-step s t q.0 r.0 k v q.1 (λ o. go q.0 r.0 o q.2))
+
 pub change-kept : (s : Tests) (change : ℕ → List ℕ → Option (List ℕ)) (t u : Parts) (part : Part) (i : ℕ) → IsSpec s
     → TripletChange s change → Valid s t → at_place change t part i ≡ Some u → Kept s t u
-change-kept s change t u Authority i k c v h =
-    let r = placed-is (λ a. record t { authority = Some a })
-    (in_part (λ a. in_userinfo_or_host change i (authority_parts a)) t.authority) u h in
-    let q = in_part-is (λ a. in_userinfo_or_host change i (authority_parts a)) t.authority r.0 r.1 in
-    subst (λ z. Kept s t z) r.2 (authority-step s t q.0 r.0 k v q.1 (λ o. triplets-changed s change i q.0 r.0 k c o q.2))
+change-kept s change t u Authority i k c v h = authority-changed s t u (λ a. in_userinfo_or_host change i (authority_parts a)) k v
+    (λ a b o e. triplets-changed s change i a b k c o e) h
 change-kept s change t u Path i k c v h =
     let r = placed-is (λ p. record t { path = p }) (change i t.path) u h in
     subst (λ z. Kept s t z) r.2 (path-triplets s change t i r.0 k c v r.1)
@@ -232,27 +220,3 @@ change-kept s change t u Fragment i k c v h =
     let r = placed-is (λ p. record t { fragment = Some p }) (in_part (change i) t.fragment) u h in
     let q = in_part-is (change i) t.fragment r.0 r.1 in
     subst (λ z. Kept s t z) r.2 (fragment-triplets s change t i q.0 r.0 k c v q.1 q.2)
-
-pub step-kept : (s : Tests) (t u : Parts) (x : Step) → IsSpec s → Valid s t → step s t x ≡ Some u → Kept s t u
-unfolding step_in
-step-kept s t u (SchemeLetter i) k v h =
-    let r = placed-is (λ x. record t { scheme = Some x }) (in_part (with_small_letter i) t.scheme) u h in
-    let q = in_part-is (with_small_letter i) t.scheme r.0 r.1 in
-    subst (λ z. Kept s t z) r.2 (scheme-step s t i q.0 r.0 v q.1 q.2)
-step-kept s t u (HostLetter i) k v h =
-    let r = placed-is (λ a. record t { authority = Some a })
-    (in_part (λ a. with_small_letter_in_host i (authority_parts a)) t.authority) u h in
-    let q = in_part-is (λ a. with_small_letter_in_host i (authority_parts a)) t.authority r.0 r.1 in
-    subst (λ z. Kept s t z) r.2 (authority-step s t q.0 r.0 k v q.1 (λ o. letter-changed s i q.0 r.0 k o q.2))
-step-kept s t u (HexDigit part i) k v h = change-kept s with_capital_digit t u part i k (capital-keeps s) v h
-step-kept s t u (Decode part i) k v h = change-kept s (with_decoded s) t u part i k (decoding-keeps s k) v h
-step-kept s t u EmptyPort k v h =
-    let r = placed-is (λ a. record t { authority = Some a })
-    (in_part (λ a. without_empty_port (authority_parts a) (authority_parts a).port) t.authority) u h in
-    let q = in_part-is (λ a. without_empty_port (authority_parts a) (authority_parts a).port) t.authority r.0 r.1 in
-    subst (λ z. Kept s t z) r.2 (authority-step s t q.0 r.0 k v q.1 (λ o. port-changed s q.0 r.0 k o q.2))
-step-kept s t u Dots k v h =
-    let r = placed-is (λ p. record t { path = p }) (with_dots_removed t) u h in
-    subst (λ z. Kept s t z) (ap (λ p. record t { path = p }) (dots-removed t r.0 r.1) ∙ r.2) (dots-step s t k v)
-step-kept s t u DefaultPort k v h = absurd (no_default_port s t u h)
-step-kept s t u SlashPath k v h = cc

@@ -3,6 +3,7 @@ pub mod Steps
 pub mod NormalSteps
 pub mod StepExamples
 pub mod StepTexts
+pub mod StepSinks
 pub mod DecodedPlace
 pub mod Replays
 pub mod inside

@@ -3,3 +3,4 @@ pub mod ChangeOf
 pub mod GuardAlone
 pub mod LookBack
 pub mod Reached
+pub mod StepSinkLaws

@@ -1,231 +1,29 @@
 //! Steps from a target to its normal form (RFC 3986 sections 6.2.2 and 6.2.3).
-ghost use Rattle.std.specs.Prelude.{◌≡◌, ◌<◌, ◌≤◌, ◌+◌, ◌^◌, ◌++◌, ◌&&◌, ◌||◌, IfOk, OnOk, Some, length, not, true};
-ghost use Rattle.iri_grammar.specs.Authority.{is_authority, userinfo_text};
-ghost use Rattle.iri_grammar.specs.Characters.{slash};
-ghost use Rattle.iri_grammar.specs.Components.{if_there, is_path};
-ghost use Rattle.iri_grammar.specs.Host.{is_host};
-ghost use Rattle.iri_grammar.specs.OptionalSlices.{now_of};
-ghost use Rattle.iri_grammar.specs.Parts.{is_empty, starts_with_slash, starts_with_slashes};
-ghost use Rattle.iri_grammar.specs.Pieces.{pieces};
-ghost use Rattle.iri_percent.specs.NormalHost.{normal_userinfo};
-ghost use Rattle.iri_percent.specs.Units.{whole_triplets};
-ghost use Rattle.iri_normal.specs.DotRemoval.{is_two_dots};
-ghost use Rattle.iri_normal.specs.Dots.{has_dot_segment, is_dot_segment};
-ghost use Rattle.iri_normal.specs.NormalForm.{normal_form, normal_form_in};
-ghost use Rattle.iri_resolve.specs.NormalSteps.{authority_steps, default_port_steps, has_port, host_steps, path_steps};
-ghost use Rattle.iri_resolve.specs.NormalSteps.{port_steps, scheme_letter_steps, scheme_steps, slash_steps, steps_of};
-ghost use Rattle.iri_resolve.specs.NormalSteps.{steps_there, triplet_steps};
-ghost use Rattle.iri_resolve.specs.Steps.{replayed, replayed_in};
-ghost use Rattle.iri_resolve.specs.inside.GuardAlone.{is_guard_alone, loses_dots};
+ghost use Rattle.std.specs.Prelude.{◌≡◌, IfOk, Some};
+ghost use Rattle.iri_text.specs.Shown.{Shows};
+ghost use Rattle.iri_grammar.specs.Parts.{Fits};
+ghost use Rattle.iri_grammar.specs.Split.{split_of};
+ghost use Rattle.iri_types.specs.Texts.{text};
 ghost use Rattle.iri_percent.specs.declared.canon_mode.CanonMode.TheVariants.{Default};
-ghost use Rattle.iri_resolve.specs.declared.step.Part.TheVariants.{Authority};
-ghost use Rattle.iri_resolve.specs.declared.step.Step.TheVariants.{Dots};
+ghost use Rattle.iri_normal.specs.NormalForm.{normal_form, normal_form_in};
+ghost use Rattle.iri_normal.specs.Slices.{slices};
+ghost use Rattle.iri_resolve.specs.NormalSteps.{steps_of};
+ghost use Rattle.iri_resolve.specs.StepSinks.{step_lines};
+ghost use Rattle.iri_resolve.specs.Steps.{replayed, replayed_in};
 
-use crate::component_steps::push_component;
-use crate::step::{Part, Step};
+use crate::part_steps::push_steps;
+use crate::step_lines::StepLines;
 use crate::step_list::StepList;
-use iri_grammar::authority::AuthoritySpan;
-use iri_grammar::cutting::cut;
+use crate::step_sink::StepSink;
 use iri_grammar::spec::Spec;
+use iri_normal::TargetSlices;
 use iri_normal::mode::CanonMode;
+use iri_normal::normal_kind::NormalKind;
 use iri_normal::owned_target::Target;
-use iri_normal::{becomes_slash, has_dot_segment, is_dot_segment, is_two_dots};
-use iri_percent::{is_ascii_host, is_dropped};
+use iri_text::{Stop, TextSink};
+use iri_types::split::SplitView;
+use iri_types::view::View;
 use std::alloc::{AllocError, Global};
-
-// A letter of the scheme becomes small, where it is a capital.
-fn push_scheme_letter(steps: &mut StepList, at: usize, letter: u8) -> Result<(), AllocError>
-    ensures { OnOk result (steps.new ≡ steps.old ++ scheme_letter_steps at letter) }
-{
-    if !letter.is_ascii_uppercase() {
-        return Ok(());
-    }
-    steps.push(Step::SchemeLetter(at))
-}
-
-// The steps of a scheme.
-fn push_scheme(steps: &mut StepList, scheme: &str) -> Result<(), AllocError>
-    ensures { OnOk result (steps.new ≡ steps.old ++ scheme_steps 0 scheme.now) }
-{
-    let letters = scheme.as_bytes();
-    for i in 0..letters.len() {
-        push_scheme_letter(steps, i, letters[i])?;
-    }
-    Ok(())
-}
-
-// The steps of a userinfo that may stand. The answer is where the host begins in normal form.
-fn push_userinfo<S: Spec>(steps: &mut StepList, userinfo: Option<&str>) -> Result<usize, AllocError>
-    requires { if_there whole_triplets (now_of userinfo) ≡ true }
-    ensures steps { OnOk result (steps.new ≡ steps.old
-        ++ steps_there (triplet_steps S.tests Authority) (now_of userinfo.entry)) }
-    ensures place { IfOk result (λ start. start
-        ≡ length (userinfo_text (normal_userinfo S.tests (now_of userinfo.entry)))) }
-    ensures shorter { IfOk result (λ start. start ≤ length (userinfo_text (now_of userinfo.entry))) }
-{
-    let Some(userinfo) = userinfo else {
-        return Ok(0);
-    };
-    let end = push_component::<S>(steps, Part::Authority, false, 0, userinfo)?;
-    Ok(end + 1)
-}
-
-// The steps of a host that begins at this place of the authority.
-fn push_host<S: Spec>(steps: &mut StepList, start: usize, host: &str) -> Result<(), AllocError>
-    requires host { is_host S.tests host.now ≡ true }
-    requires room { start + length host.now < 2 ^ 64 }
-    ensures { OnOk result (steps.new ≡ steps.old ++ host_steps S.tests start host.now) }
-{
-    let lower = is_ascii_host(host.as_bytes());
-    push_component::<S>(steps, Part::Authority, lower, start, host)?;
-    Ok(())
-}
-
-// The step of an empty port.
-fn push_port(steps: &mut StepList, port: Option<&str>) -> Result<(), AllocError>
-    ensures { OnOk result (steps.new ≡ steps.old ++ port_steps (now_of port.entry)) }
-{
-    let Some(port) = port else {
-        return Ok(());
-    };
-    if !port.is_empty() {
-        return Ok(());
-    }
-    steps.push(Step::EmptyPort)
-}
-
-// The steps of an authority that may stand.
-fn push_authority<S: Spec>(steps: &mut StepList, authority: Option<&str>) -> Result<(), AllocError>
-    requires { if_there (is_authority S.tests) (now_of authority) ≡ true }
-    ensures { OnOk result (steps.new ≡ steps.old ++ steps_there (authority_steps S.tests) (now_of authority.entry)) }
-{
-    let Some(authority) = authority else {
-        return Ok(());
-    };
-    let span = AuthoritySpan::of::<S>(authority);
-    let start = push_userinfo::<S>(steps, span.userinfo())?;
-    push_host::<S>(steps, start, span.host())?;
-    push_port(steps, span.port())?;
-    Ok(())
-}
-
-// Whether the segment is `.`, in any spelling.
-fn is_one_dot(segment: &str) -> bool
-    ensures { result ≡ (is_dot_segment segment.now && not (is_two_dots segment.now)) }
-{
-    is_dot_segment(segment) && !is_two_dots(segment)
-}
-
-// Whether a slash stands at the start, and no dot segment after it.
-fn begins_plain(path: &str) -> bool
-    ensures { result ≡ (starts_with_slash path.now && not (has_dot_segment path.now)) }
-{
-    path.as_bytes().first() == Some(&b'/') && !has_dot_segment(path)
-}
-
-// Whether these are the first segments of a guarded path, and what follows them has no dot segment.
-fn is_guard(first: &str, dot: &str, rest: &str) -> bool
-    ensures { result ≡ (is_empty first.now && (is_dot_segment dot.now && not (is_two_dots dot.now))
-        && (starts_with_slash rest.now && not (has_dot_segment rest.now))) }
-{
-    first.is_empty() && is_one_dot(dot) && begins_plain(rest)
-}
-
-// Whether the path begins with its guard, which is `/.` before `//`, in any spelling, and has no other dot segment.
-fn is_guard_alone(path: &str) -> bool
-    ensures { result ≡ is_guard_alone (pieces slash path.now) }
-{
-    let (first, after) = cut(path, b'/');
-    let Some(rest) = after else {
-        return false;
-    };
-    let (dot, after) = cut(rest, b'/');
-    let Some(rest) = after else {
-        return false;
-    };
-    is_guard(first, dot, rest)
-}
-
-// Whether the path loses dot segments. A guard stays, where it is needed.
-fn loses_dots(path: &str, authority_stands: bool) -> bool
-    ensures { result ≡ loses_dots path.now authority_stands }
-{
-    has_dot_segment(path) && (authority_stands || !is_guard_alone(path))
-}
-
-// The steps of the percent-encoded octets of a part that may stand.
-fn push_triplets<S: Spec>(
-    steps: &mut StepList,
-    part: Part,
-    text: Option<&str>,
-) -> Result<(), AllocError>
-    requires { if_there whole_triplets (now_of text) ≡ true }
-    ensures { OnOk result (steps.new ≡ steps.old ++ steps_there (triplet_steps S.tests part) (now_of text.entry)) }
-{
-    let Some(text) = text else {
-        return Ok(());
-    };
-    push_component::<S>(steps, part, false, 0, text)?;
-    Ok(())
-}
-
-// The steps of a path: those of its percent-encoded octets on the path as it stands, and then that of its dot segments.
-fn push_path<S: Spec>(
-    steps: &mut StepList,
-    path: &str,
-    authority_stands: bool,
-) -> Result<(), AllocError>
-    requires path { is_path S.tests path.now ≡ true }
-    requires unguarded { (authority_stands || not (starts_with_slashes path.now)) ≡ true }
-    ensures { OnOk result (steps.new ≡ steps.old ++ path_steps S.tests authority_stands path.now) }
-{
-    push_component::<S>(steps, Part::Path, false, 0, path)?;
-    if !loses_dots(path, authority_stands) {
-        return Ok(());
-    }
-    steps.push(Step::Dots)?;
-    Ok(())
-}
-
-// Whether the authority has the port that is dropped.
-fn has_port<S: Spec>(authority: &str, dropped: Option<&str>) -> bool
-    requires { is_authority S.tests authority.now ≡ true }
-    ensures { result ≡ has_port (now_of dropped.entry) (Some authority.now) }
-{
-    match AuthoritySpan::of::<S>(authority).port() {
-        Some(port) => is_dropped(port, dropped),
-        None => false,
-    }
-}
-
-// The step of the port that is dropped.
-fn push_default_port<S: Spec>(
-    steps: &mut StepList,
-    authority: Option<&str>,
-    dropped: Option<&str>,
-) -> Result<(), AllocError>
-    requires { if_there (is_authority S.tests) (now_of authority) ≡ true }
-    ensures { OnOk result (steps.new ≡ steps.old
-        ++ default_port_steps (has_port (now_of dropped.entry) (now_of authority.entry))) }
-{
-    let Some(authority) = authority else {
-        return Ok(());
-    };
-    if !has_port::<S>(authority, dropped) {
-        return Ok(());
-    }
-    steps.push(Step::DefaultPort)
-}
-
-// The step of an empty path that becomes `/`.
-fn push_slash(steps: &mut StepList, go: bool) -> Result<(), AllocError>
-    ensures { OnOk result (steps.new ≡ steps.old ++ slash_steps go) }
-{
-    if !go {
-        return Ok(());
-    }
-    steps.push(Step::SlashPath)
-}
 
 /// Steps that lead from a target to its normal form (RFC 3986 section 6.2.2), part by part and from left to right; the
 /// dot segments go after the other steps of the path. Places count bytes of what is in normal form already.
@@ -266,15 +64,86 @@ pub fn steps_to_normal_in<S: Spec>(
     ensures leads { IfOk result (λ l. replayed_in S.tests mode target.now l
         ≡ Some (normal_form_in S.tests mode target.now)) }
 {
-    let parts = target.slices();
-    let dropped = mode.dropped_port(Some(target.scheme()));
     let mut steps = StepList::new(alloc);
-    push_scheme(&mut steps, target.scheme())?;
-    push_authority::<S>(&mut steps, target.authority())?;
-    push_path::<S>(&mut steps, target.path(), target.authority().is_some())?;
-    push_triplets::<S>(&mut steps, Part::Query, target.query())?;
-    push_triplets::<S>(&mut steps, Part::Fragment, target.fragment())?;
-    push_default_port::<S>(&mut steps, target.authority(), dropped)?;
-    push_slash(&mut steps, becomes_slash(&parts, dropped))?;
+    let parts = target.slices();
+    let Ok(()) = push_steps::<S, StepList>(&mut steps, mode, &parts, target.path()) else {
+        return Err(AllocError);
+    };
     Ok(steps)
+}
+
+/// Puts the same steps into a sink, one after the other: into a list, or into one that takes no memory.
+///
+/// # Errors
+///
+/// Only where the sink's count of stops rises; the sink has stopped within the steps then.
+pub fn put_steps_in<S: Spec, T: StepSink>(
+    sink: &mut T,
+    mode: CanonMode,
+    target: &Target<S>,
+) -> Result<(), Stop>
+    ensures { Shows T.puts T.halts T.stops sink.old (steps_of S.tests mode target.now) sink.new result }
+{
+    push_steps::<S, T>(sink, mode, &target.slices(), target.path())
+}
+
+// Writes the steps from a target to its normal form as lines.
+fn show_lines<S: Spec, W: TextSink>(
+    lines: &mut StepLines<'_, W>,
+    mode: CanonMode,
+    target: &TargetSlices<'_>,
+    path: &str,
+) -> Result<(), Stop>
+    requires fits { Fits S.tests (slices target.now) }
+    requires path { path.now ≡ (slices target.now).path }
+    ensures shows { Shows W.puts W.halts W.stops lines.old.to.now
+        (step_lines (steps_of S.tests mode (slices target.now))) lines.new.to.now result }
+    ensures same { lines.new.to.ghost_name ≡ lines.old.to.ghost_name }
+{
+    push_steps::<S, StepLines<'_, W>>(lines, mode, target, path)
+}
+
+/// Shows the steps from a text to its normal form (RFC 3986 section 6.2.2) in words, each as it is found, with an LF after
+/// it. It takes no memory.
+///
+/// # Errors
+///
+/// Only where the sink's count of stops rises; the sink has stopped within these lines then.
+///
+/// ```
+/// use iri::format::SliceSink;
+/// use iri::steps::show_steps;
+/// use iri::types::UriStr;
+/// let mut buffer = [0; 64];
+/// let mut sink = SliceSink::new(&mut buffer);
+/// assert!(rt; show_steps(&mut sink, UriStr::new("Http://a/%7eb/../c")?).is_ok());
+/// assert_eq!(rt; sink.as_str(), "scheme letter 0\ndecode path 1\ndot segments\n");
+/// ```
+pub fn show_steps<S: Spec, K: NormalKind, W: TextSink>(
+    sink: &mut W,
+    view: View<'_, S, K>,
+) -> Result<(), Stop>
+    ensures { Shows W.puts W.halts W.stops sink.old
+        (step_lines (steps_of S.tests Default (split_of (text view.entry)))) sink.new result }
+{
+    show_steps_in(sink, CanonMode::Default, view)
+}
+
+/// The same with the steps of a mode.
+///
+/// # Errors
+///
+/// Those of [`show_steps`].
+pub fn show_steps_in<S: Spec, K: NormalKind, W: TextSink>(
+    sink: &mut W,
+    mode: CanonMode,
+    view: View<'_, S, K>,
+) -> Result<(), Stop>
+    ensures { Shows W.puts W.halts W.stops sink.old
+        (step_lines (steps_of S.tests mode (split_of (text view.entry)))) sink.new result }
+{
+    let split = SplitView::of(view);
+    let parts = split.parts();
+    let mut lines = StepLines::new(sink);
+    show_lines::<S, W>(&mut lines, mode, &TargetSlices::of(parts), parts.path())
 }

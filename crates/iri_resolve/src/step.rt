@@ -1,7 +1,7 @@
 //! Steps that change parts towards their normal form.
 
 /// A part that may hold percent-encoded octets.
-#[derive(Clone, Copy, PartialEq, Eq)]
+#[derive(Clone, Copy, Debug, PartialEq, Eq)]
 pub enum Part {
     /// The userinfo, host and port.
     Authority,
@@ -14,7 +14,7 @@ pub enum Part {
 }
 
 /// A step. Positions count the bytes of the part's text.
-#[derive(Clone, Copy, PartialEq, Eq)]
+#[derive(Clone, Copy, Debug, PartialEq, Eq)]
 pub enum Step {
     /// The capital at this place of the scheme becomes small.
     SchemeLetter(usize),

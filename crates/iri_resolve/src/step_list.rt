@@ -6,7 +6,7 @@ use std::alloc::{AllocError, Global};
 use std::marker::Model;
 
 /// A list of steps, seen as that list.
-#[derive(Drop)]
+#[derive(Debug, Drop)]
 pub struct StepList {
     steps: Vec<Step>,
 }

@@ -1,8 +1,12 @@
 // Steps as text.
 ghost use Rattle.std.specs.Prelude.{Some};
+ghost use Rattle.iri_text.specs.Shown.{Shows};
+ghost use Rattle.iri_resolve.specs.StepSinks.{step_line};
 ghost use Rattle.iri_resolve.specs.StepTexts.{part_name, step_text};
 
 use crate::step::{Part, Step};
+use crate::step_lines::StepLines;
+use crate::step_sink::StepSink;
 use iri_text::{FormatSink, Show, Stop, TextSink, show_four, show_two};
 use std::fmt;
 
@@ -36,6 +40,29 @@ impl Show for Step {
             Step::DefaultPort => sink.put("default port"),
             Step::SlashPath => sink.put("empty path"),
         }
+    }
+}
+
+// Shows a step and the end of its line.
+fn show_step_line<W: TextSink>(sink: &mut W, step: &Step) -> Result<(), Stop>
+    ensures { Shows W.puts W.halts W.stops sink.old (step_line step.now) sink.new result }
+{
+    show_two(sink, step, &"\n")
+}
+
+impl<'s, W: TextSink> StepSink for StepLines<'s, W> {
+    ghost use Rattle.iri_resolve.specs.inside.StepSinkLaws.{LinesPut, LinesHalt, lines_rules};
+
+    ghost puts = { LinesPut W.puts };
+
+    ghost halts = { LinesHalt W.halts };
+
+    ghost stops = { λ l. W.stops l.to.now };
+
+    ghost rules = { lines_rules W.rules };
+
+    fn push(&mut self, step: Step) -> Result<(), Stop> {
+        show_step_line(&mut *self.to, &step)
     }
 }
 

@@ -24,4 +24,6 @@ mod rewriting;
 #[cfg(test)]
 mod segments;
 #[cfg(test)]
+mod shown_steps;
+#[cfg(test)]
 mod step_text;

@@ -10,9 +10,6 @@ use Rattle.iri_grammar.specs.Cut.{before, behind}
 use Rattle.iri_robots.specs.FileLines.{FileLine, AgentLine, RuleLine, OtherLine, agent_of, is_token_char, keyed, parted, line_of}
 use Rattle.iri_robots.specs.FileLines.{line_of_text, trimmed, without_mark}
 
-token_char_ascii : (c : ℕ) → is_token_char c ≡ true → c < 128
-token_char_ascii c h = grind (arith, nat_tests)
-
 nothing_ascii : IsAscii []
 nothing_ascii zero = omega arith
 nothing_ascii (suc i) = omega arith
@@ -28,8 +25,9 @@ prefix_ascii : (t : List ℕ) → IsAscii (take (prefix_len is_token_char t) t)
 prefix_ascii [] = nothing_ascii
 prefix_ascii (x ∷ t) =
     elim (is_token_char x) as (λ b. is_token_char x ≡ b → IsAscii (take (cond b (1 + prefix_len is_token_char t) 0) (x ∷ t))) [
-      | true ↦ λ e. subst (λ n. IsAscii (take n (x ∷ t))) (one_more (prefix_len is_token_char t))
-          (more_ascii x (take (prefix_len is_token_char t) t) (token_char_ascii x e) (prefix_ascii t))
+      | true ↦ λ e. let small : x < 128 = grind (arith, nat_tests) in
+          subst (λ n. IsAscii (take n (x ∷ t))) (one_more (prefix_len is_token_char t))
+          (more_ascii x (take (prefix_len is_token_char t) t) small (prefix_ascii t))
       | false ↦ λ e. nothing_ascii
     ] refl
 

@@ -39,7 +39,4 @@ mod subject;
 
 pub use pattern::matches;
 pub use robots::{LineError, Robots, RobotsError, Verdict, is_product_token};
-pub use subject::subject_of;
-
-#[cfg(test)]
-mod tests;
+pub use subject::{subject_of, subject_of_split};

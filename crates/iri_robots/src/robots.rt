@@ -33,7 +33,7 @@ pub enum LineError {
 }
 
 /// What the rules say of a text.
-#[derive(Clone, Copy)]
+#[derive(Clone, Copy, Debug, PartialEq, Eq)]
 pub enum Verdict {
     /// The crawler may fetch it.
     Allow,
@@ -55,9 +55,12 @@ pub enum Verdict {
 /// assert!(rt; matches!(rules.verdict("/image.gif"), Verdict::Disallow));
 /// ```
 #[derive(Drop)]
+#[derive_where(Debug)]
 pub struct Robots {
+    #[derive_where(skip(Debug))]
     alloc: Global,
     token: String,
+    #[derive_where(skip(Debug))]
     records: Vec<Record>,
 }
 
@@ -80,7 +83,7 @@ impl Robots {
     /// # Errors
     ///
     /// - `Token` exactly where the text is no product token, which `is_product_token` tests.
-    /// - `Memory` where allocation fails.
+    /// - `Memory` where allocation fails; the text is a product token then.
     pub fn new(alloc: Global, token: &str) -> Result<Robots, RobotsError>
         ensures made { MatchResult result
             (λ r. (is_token token.now ≡ true) × (string_bytes r.token ≡ token.now) × (r.records.items ≡ []))

@@ -2,12 +2,15 @@
 ghost use Rattle.std.specs.Prelude.{◌≡◌, ◌++◌, IfOk, OnOk, string_bytes};
 ghost use Rattle.iri_grammar.specs.OptionalSlices.{now_of};
 ghost use Rattle.iri_grammar.specs.Split.{split_of};
+ghost use Rattle.iri_types.specs.SplitText.{split_text};
 ghost use Rattle.iri_types.specs.Texts.{text};
 ghost use Rattle.iri_robots.specs.Compared.{path_text, query_text, subject};
 
 use crate::compared::compared_form;
 use iri_grammar::spec::Spec;
 use iri_text::Text;
+use iri_types::kind::Iri;
+use iri_types::split::SplitView;
 use iri_types::view::RiStr;
 use std::alloc::{AllocError, Global};
 
@@ -50,9 +53,31 @@ fn push_query(whole: &mut String, query: Option<&str>) -> Result<(), AllocError>
 pub fn subject_of<S: Spec>(alloc: Global, target: RiStr<'_, S>) -> Result<Text, AllocError>
     ensures { IfOk result (λ t. t ≡ subject (split_of (text target.entry))) }
 {
-    let mut whole = String::new(alloc);
-    push_path(&mut whole, target.path_str())?;
-    push_query(&mut whole, target.query_str())?;
+    subject_of_split(alloc, &SplitView::of(target))
+}
+
+/// The same of a target that was split into its parts before.
+///
+/// # Errors
+///
+/// Those of [`subject_of`].
+///
+/// ```
+/// use iri::robots::subject_of_split;
+/// use iri::types::{SplitView, UriStr};
+/// let target = SplitView::of(UriStr::new("http://example.com?a#b")?);
+/// assert_eq!(rt; subject_of_split(rt.alloc(), &target)?.as_str(), "/?a");
+/// ```
+pub fn subject_of_split<S: Spec>(
+    alloc: Global,
+    target: &SplitView<'_, S, Iri>,
+) -> Result<Text, AllocError>
+    ensures { IfOk result (λ t. t ≡ subject (split_of (split_text target.now))) }
+{
+    let parts = target.parts();
+    let mut whole = String::with_capacity(alloc, target.view().len())?;
+    push_path(&mut whole, parts.path())?;
+    push_query(&mut whole, parts.query())?;
     let form = compared_form(alloc, whole.as_bytes())?;
     Ok(Text::from_string(form))
 }

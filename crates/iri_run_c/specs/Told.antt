@@ -3,7 +3,7 @@ use Rattle.std.specs.Str.{IsUtf8}
 use Rattle.iri_grammar.specs.Pieces.{pieces}
 use Rattle.std.specs.Prelude.{◌≡◌, ◌⊎◌, ℕ, length, take, drop, List, [], ◌++◌, Option, Some}
 use Rattle.iri_cli.specs.generator.References.{gen_text}
-use Rattle.iri_cli.specs.help.Notices.{Tells, notice_text}
+use Rattle.iri_cli.specs.help.Notices.{MakesText, Tells, notice_text}
 use Rattle.iri_cli.specs.run.Run.{Outside, outside, RunsLines}
 use Rattle.iri_cli.specs.run.Words.{IsCommand, rules_of, tests_of}
 use Rattle.iri_cli.specs.declared.run.words.Command.{Command}
@@ -26,7 +26,7 @@ pub record RunsWords (words : List (List ℕ)) (old new : Outside) (room_old roo
   pub lines : (command : LineCommand) (grammar : Grammar) → IsCommand words (Lines command grammar)
       → RunsLines (rules_of command (tests_of grammar)) old new room_old room_new status
   pub gens : (grammar : Grammar) (count : ℕ) → IsCommand words (Gen grammar count)
-      → Tells (gen_text (tests_of grammar) count) old new room_old room_new status ⊎ ((status ≡ 6) × (new ≡ old))
+      → MakesText (gen_text (tests_of grammar) count) old new room_old room_new status
 
 -- nothing was read or written
 abbrev pub begun : List ℕ → Outside

@@ -14,7 +14,7 @@ use Rattle.iri_text.specs.declared.shown.show.Stop.{Stop}
 use Rattle.iri_grammar.specs.Classes.{Tests, any_char}
 use Rattle.iri_percent.specs.Units.{TextUnit, Plain, first_unit, units}
 use Rattle.iri_template.specs.Expansion.{kept_unit}
-use Rattle.iri_template.specs.inside.UnitSteps.{is_part, behind_unit, told_units, left_over, fewer, step_units, step_held, written_units}
+use Rattle.iri_template.specs.inside.UnitSteps.{is_part, behind_unit, told_units, left_over, fewer, step_units, step_pending, written_units}
 use Rattle.iri_template.specs.inside.UnitSteps.{is_used_up, unit_step_text}
 use Rattle.iri_template.specs.inside.UnitViews.{unit_at, unit_as, TellsNone, IsUnit}
 use Rattle.iri_template.proofs.UnitLaws.{behind_shorter, all_told, left_short, written-append}
@@ -43,14 +43,14 @@ tells_one s end k (x ∷ xs) len stands i = record {
   over = ap (λ b. cond b (left_over end k (behind_unit x xs)) (x ∷ xs)) i.told ∙ ap (λ n. left_over end k (drop n (x ∷ xs))) i.all;
 }
 
--- so many more units may be told of what is held now, after some were written
+-- so many more units may be told of what is pending now, after some were written
 pub record Drained {W : Type 0} (s : Tests) (puts : W → List ℕ → W → Type 0) (stops : W → ℕ) (end : Bool) (first : List ℕ) (most : Option ℕ)
-    (old : W) (k : ℕ) (held : List ℕ) (left : Option ℕ) (new : W) : Type 0 where
+    (old : W) (k : ℕ) (pending : List ℕ) (left : Option ℕ) (new : W) : Type 0 where
   pub before : List ℕ
   pub put : HasShown puts stops old before new
-  pub split : written_units s most (told_units end 12 first) ≡ before ++ written_units s left (told_units end k held)
-  pub lefts : fewer most (length (told_units end 12 first)) ≡ fewer left (length (told_units end k held))
-  pub over : left_over end 12 first ≡ left_over end k held
+  pub split : written_units s most (told_units end 12 first) ≡ before ++ written_units s left (told_units end k pending)
+  pub lefts : fewer most (length (told_units end 12 first)) ≡ fewer left (length (told_units end k pending))
+  pub over : left_over end 12 first ≡ left_over end k pending
 
 fewer_more : (left : Option ℕ) (n : ℕ) → fewer left (suc n) ≡ fewer (fewer left 1) n
 fewer_more None n = refl
@@ -61,19 +61,19 @@ fewer_none None = refl
 fewer_none (Some m) = let e : m - 0 ≡ m = omega arith in ap Some e
 
 -- what is written of the unit at the start and those after it
-split_one : (s : Tests) (end : Bool) (k : ℕ) (held : List ℕ) (left : Option ℕ) (len : ℕ) (t : List ℕ) → Tells end k held len
-    → kept_unit s (unit_at held) ≡ t
-    → written_units s left (told_units end (suc k) held)
-    ≡ cond (is_used_up left) [] t ++ written_units s (fewer left 1) (told_units end k (drop len held))
-split_one s end k held left len t i e =
-    ap (written_units s left) i.units ∙ written-append s left (unit_at held ∷ []) (told_units end k (drop len held))
-    ∙ ap (λ l. l ++ written_units s (fewer left 1) (told_units end k (drop len held))) (one_unit s left (unit_at held) t e)
+split_one : (s : Tests) (end : Bool) (k : ℕ) (pending : List ℕ) (left : Option ℕ) (len : ℕ) (t : List ℕ) → Tells end k pending len
+    → kept_unit s (unit_at pending) ≡ t
+    → written_units s left (told_units end (suc k) pending)
+    ≡ cond (is_used_up left) [] t ++ written_units s (fewer left 1) (told_units end k (drop len pending))
+split_one s end k pending left len t i e =
+    ap (written_units s left) i.units ∙ written-append s left (unit_at pending ∷ []) (told_units end k (drop len pending))
+    ∙ ap (λ l. l ++ written_units s (fewer left 1) (told_units end k (drop len pending))) (one_unit s left (unit_at pending) t e)
 
 -- no more is told
 pub record Ended {W : Type 0} (s : Tests) (puts halts : W → List ℕ → W → Type 0) (stops : W → ℕ) (end : Bool) (first : List ℕ)
-    (most : Option ℕ) (a : W) (held : List ℕ) (left : Option ℕ) (b : W) : Type 0 where
+    (most : Option ℕ) (a : W) (pending : List ℕ) (left : Option ℕ) (b : W) : Type 0 where
   pub shows : Shows puts halts stops a (written_units s most (told_units end 12 first)) b (Ok tt)
-  pub holds : held ≡ left_over end 12 first
+  pub holds : pending ≡ left_over end 12 first
   pub lefts : left ≡ fewer most (length (told_units end 12 first))
 
 module _ {W : Type 0} {puts halts : W → List ℕ → W → Type 0} {stops : W → ℕ} (laws : AreSinkLaws puts halts) (s : Tests) (end : Bool)
@@ -81,45 +81,45 @@ module _ {W : Type 0} {puts halts : W → List ℕ → W → Type 0} {stops : W 
   pub drained_none : (a : W) → Drained s puts stops end first most a 12 first most a
   drained_none a = record { before = []; put = shown_none laws a; split = refl; lefts = refl; over = refl }
 
-  pub drained_more : {a b c : W} {x : Unit {0}} (j k : ℕ) (held now : List ℕ) (left fewer_left : Option ℕ) (len : ℕ) (stands : Bool)
-      → j ≡ suc k → IsUnit s end held len stands → now ≡ drop len held → fewer_left ≡ fewer left 1
-      → Drained s puts stops end first most a j held left b
-      → Shows puts halts stops b (cond (is_used_up left) [] (unit_as s stands (take len held))) c (Ok x)
+  pub drained_more : {a b c : W} {x : Unit {0}} (j k : ℕ) (pending now : List ℕ) (left fewer_left : Option ℕ) (len : ℕ) (stands : Bool)
+      → j ≡ suc k → IsUnit s end pending len stands → now ≡ drop len pending → fewer_left ≡ fewer left 1
+      → Drained s puts stops end first most a j pending left b
+      → Shows puts halts stops b (cond (is_used_up left) [] (unit_as s stands (take len pending))) c (Ok x)
       → Drained s puts stops end first most a k now fewer_left c
-  drained_more {a = a} {b = b} {c = c} {x = x} j k held now left fewer_left len stands e i is less d q =
-      let one = tells_one s end k held len stands i in
-      let t = cond (is_used_up left) [] (unit_as s stands (take len held)) in
-      let at : Drained s puts stops end first most a (suc k) held left b =
-      subst (λ n. Drained s puts stops end first most a n held left b) e d in
+  drained_more {a = a} {b = b} {c = c} {x = x} j k pending now left fewer_left len stands e i is less d q =
+      let one = tells_one s end k pending len stands i in
+      let t = cond (is_used_up left) [] (unit_as s stands (take len pending)) in
+      let at : Drained s puts stops end first most a (suc k) pending left b =
+      subst (λ n. Drained s puts stops end first most a n pending left b) e d in
       subst (λ (h : List ℕ). Drained s puts stops end first most a k h fewer_left c) (sym is)
-      (subst (λ (m : Option ℕ). Drained s puts stops end first most a k (drop len held) m c) (sym less) (record {
+      (subst (λ (m : Option ℕ). Drained s puts stops end first most a k (drop len pending) m c) (sym less) (record {
         before = at.before ++ t;
         put = shown_more laws at.put q;
-        split = at.split ∙ ap (λ l. at.before ++ l) (split_one s end k held left len (unit_as s stands (take len held)) one i.text)
-            ∙ sym (append_assoc at.before t (written_units s (fewer left 1) (told_units end k (drop len held))));
-        lefts = at.lefts ∙ ap (λ us. fewer left (length us)) one.units ∙ fewer_more left (length (told_units end k (drop len held)));
+        split = at.split ∙ ap (λ l. at.before ++ l) (split_one s end k pending left len (unit_as s stands (take len pending)) one i.text)
+            ∙ sym (append_assoc at.before t (written_units s (fewer left 1) (told_units end k (drop len pending))));
+        lefts = at.lefts ∙ ap (λ us. fewer left (length us)) one.units ∙ fewer_more left (length (told_units end k (drop len pending)));
         over = at.over ∙ one.over;
       }))
 
-  pub drained_exit : {a b c : W} {e : Stop} (j k : ℕ) (held : List ℕ) (left : Option ℕ) (len : ℕ) (stands : Bool) → j ≡ suc k
-      → IsUnit s end held len stands
-      → Drained s puts stops end first most a j held left b
-      → Shows puts halts stops b (cond (is_used_up left) [] (unit_as s stands (take len held))) c (Err e)
+  pub drained_exit : {a b c : W} {e : Stop} (j k : ℕ) (pending : List ℕ) (left : Option ℕ) (len : ℕ) (stands : Bool) → j ≡ suc k
+      → IsUnit s end pending len stands
+      → Drained s puts stops end first most a j pending left b
+      → Shows puts halts stops b (cond (is_used_up left) [] (unit_as s stands (take len pending))) c (Err e)
       → Shows puts halts stops a (written_units s most (told_units end 12 first)) c (Err e)
-  drained_exit {a = a} {b = b} {c = c} {e = stop} j k held left len stands e i d q =
-      let one = tells_one s end k held len stands i in
-      let t = cond (is_used_up left) [] (unit_as s stands (take len held)) in
-      let rest = written_units s (fewer left 1) (told_units end k (drop len held)) in
-      let at : Drained s puts stops end first most a (suc k) held left b =
-      subst (λ n. Drained s puts stops end first most a n held left b) e d in
+  drained_exit {a = a} {b = b} {c = c} {e = stop} j k pending left len stands e i d q =
+      let one = tells_one s end k pending len stands i in
+      let t = cond (is_used_up left) [] (unit_as s stands (take len pending)) in
+      let rest = written_units s (fewer left 1) (told_units end k (drop len pending)) in
+      let at : Drained s puts stops end first most a (suc k) pending left b =
+      subst (λ n. Drained s puts stops end first most a n pending left b) e d in
       subst (λ l. Shows puts halts stops a l c (Err stop))
       (append_assoc at.before t rest ∙ sym (at.split
-      ∙ ap (λ l. at.before ++ l) (split_one s end k held left len (unit_as s stands (take len held)) one i.text)))
+      ∙ ap (λ l. at.before ++ l) (split_one s end k pending left len (unit_as s stands (take len pending)) one i.text)))
       (shown_exit laws {r = Err stop} rest refl at.put q)
 
-  ended : {a b : W} (k : ℕ) (held : List ℕ) (left : Option ℕ) → told_units end k held ≡ [] → left_over end k held ≡ held
-      → Drained s puts stops end first most a k held left b → Ended s puts halts stops end first most a held left b
-  ended {a = a} {b = b} k held left none same d = record {
+  ended : {a b : W} (k : ℕ) (pending : List ℕ) (left : Option ℕ) → told_units end k pending ≡ [] → left_over end k pending ≡ pending
+      → Drained s puts stops end first most a k pending left b → Ended s puts halts stops end first most a pending left b
+  ended {a = a} {b = b} k pending left none same d = record {
     shows = subst (λ l. Shows puts halts stops a l b (Ok tt))
         (sym (append-nil d.before) ∙ sym (d.split ∙ ap (λ us. d.before ++ written_units s left us) none
         ∙ ap (λ l. d.before ++ l) (nothing left))) (shows_all d.put);
@@ -132,14 +132,14 @@ module _ {W : Type 0} {puts halts : W → List ℕ → W → Type 0} {stops : W 
       nothing (Some zero) = refl
       nothing (Some (suc n)) = refl
 
-  pub drained_end : {a b : W} (k : ℕ) (held : List ℕ) (left : Option ℕ) → TellsNone end held
-      → Drained s puts stops end first most a k held left b → Ended s puts halts stops end first most a held left b
-  drained_end k held left none d = ended k held left (none k).0 (none k).1 d
+  pub drained_end : {a b : W} (k : ℕ) (pending : List ℕ) (left : Option ℕ) → TellsNone end pending
+      → Drained s puts stops end first most a k pending left b → Ended s puts halts stops end first most a pending left b
+  drained_end k pending left none d = ended k pending left (none k).0 (none k).1 d
 
-  pub drained_out : {a b : W} (k : ℕ) (held : List ℕ) (left : Option ℕ) → k ≡ 0 → Drained s puts stops end first most a k held left b
-      → Ended s puts halts stops end first most a held left b
-  drained_out zero held left e d = ended 0 held left refl refl d
-  drained_out (suc k) held left e d = absurd (omega arith)
+  pub drained_out : {a b : W} (k : ℕ) (pending : List ℕ) (left : Option ℕ) → k ≡ 0 → Drained s puts stops end first most a k pending left b
+      → Ended s puts halts stops end first most a pending left b
+  drained_out zero pending left e d = ended 0 pending left refl refl d
+  drained_out (suc k) pending left e d = absurd (omega arith)
 
 fewer_both : (left : Option ℕ) (n m k : ℕ) → k ≡ n + m → fewer (fewer left n) m ≡ fewer left k
 fewer_both None n m k e = refl
@@ -151,16 +151,16 @@ all_left zero (x ∷ xs) h = absurd (omega arith)
 all_left (suc k) [] h = refl
 all_left (suc k) (x ∷ xs) h = all_left k (behind_unit x xs) (omega (arith, behind_shorter x xs))
 
--- a character that is no part of a triplet: what is held ends, and the character follows
+-- a character that is no part of a triplet: what is pending ends, and the character follows
 pub record EndsHeld (s : Tests) (h : List ℕ) (left : Option ℕ) (c : ℕ) : Type 0 where
   pub text : written_units s left (told_units true 12 h) ++ written_units s (fewer left (length (told_units true 12 h))) (Plain c ∷ [])
-      ≡ unit_step_text s (record { held = h; left = left }) c
+      ≡ unit_step_text s (record { pending = h; left = left }) c
   pub lefts : fewer (fewer left (length (told_units true 12 h))) 1 ≡ fewer left (length (step_units h c))
   pub none : left_over true 12 h ≡ []
-  pub held : step_held h c ≡ []
+  pub pending : step_pending h c ≡ []
 
-pub ends_held : (s : Tests) (h : List ℕ) (left : Option ℕ) (c : ℕ) → length h ≤ 11 → is_part c ≡ false → EndsHeld s h left c
-ends_held s h left c short n =
+pub ends_pending : (s : Tests) (h : List ℕ) (left : Option ℕ) (c : ℕ) → length h ≤ 11 → is_part c ≡ false → EndsHeld s h left c
+ends_pending s h left c short n =
     let us : step_units h c ≡ told_units true 12 h ++ Plain c ∷ [] =
     ap (λ b. cond b (told_units false 12 (h ++ c ∷ [])) (units h ++ Plain c ∷ [])) n
     ∙ ap (λ l. l ++ Plain c ∷ []) (sym (all_told 12 h (omega arith))) in
@@ -170,7 +170,7 @@ ends_held s h left c short n =
       text = sym (written-append s left (told_units true 12 h) (Plain c ∷ [])) ∙ ap (written_units s left) (sym us);
       lefts = fewer_both left (length (told_units true 12 h)) 1 (length (step_units h c)) count;
       none = all_left 12 h (omega arith);
-      held = ap (λ b. cond b (left_over false 12 (h ++ c ∷ [])) []) n;
+      pending = ap (λ b. cond b (left_over false 12 (h ++ c ∷ [])) []) n;
     }
 
 pub part_short : (h left : List ℕ) (c : ℕ) (r : Result (Unit {0}) Stop) (now : List ℕ) → length h ≤ 11 → left ≡ h ++ c ∷ []

@@ -15,6 +15,10 @@ pub moved_first : (a : ℕ) (f g : Option Error) → moved a (first f g) ≡ fir
 moved_first a None g = refl
 moved_first a (Some e) g = refl
 
+pub first_none : (f : Option Error) → first f None ≡ f
+first_none None = refl
+first_none (Some e) = refl
+
 pub first_first : (f g h : Option Error) → first (first f g) h ≡ first f (first g h)
 first_first None g h = refl
 first_first (Some e) g h = refl

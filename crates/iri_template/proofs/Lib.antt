@@ -1,5 +1,6 @@
 pub mod NameLemmas
 pub mod FaultLemmas
+pub mod Utf8Faults
 pub mod Steps
 pub mod Bodies
 pub mod Runs
@@ -12,7 +13,7 @@ pub mod VisitsCompose
 pub mod VisitsEach
 pub mod UnitLaws
 pub mod Drains
-pub mod FrontUnits
+pub mod FirstUnits
 pub mod PrefixChars
 pub mod FirstChars
 pub mod UnitShows

@@ -18,7 +18,7 @@ use Rattle.iri_percent.proofs.Characters.{first_of_four}
 use Rattle.iri_text.specs.inside.Through.{after, texts}
 use Rattle.iri_template.specs.Expansion.{limited, kept_unit}
 use Rattle.iri_template.specs.inside.UnitSteps.{is_part, is_closed, is_settled, behind_unit, told_units, left_over, UnitState, fewer}
-use Rattle.iri_template.specs.inside.UnitSteps.{step_units, step_held, is_used_up, next_state, unit_step, written_units, unit_step_text}
+use Rattle.iri_template.specs.inside.UnitSteps.{step_units, step_pending, is_used_up, next_state, unit_step, written_units, unit_step_text}
 
 -- ---- octets, whatever follows
 more_octets : (t r : List ℕ) → (zs : List ℕ) × (octets (t ++ r) ≡ octets t ++ zs)
@@ -209,7 +209,7 @@ no_part : (c : ℕ) → is_part c ≡ false → IsMark c
 no_part c h = elim (c == 37) as (λ b. (c == 37) ≡ b → b || is_ascii_hexdigit c ≡ false
     → IsMark c) [ true ↦ λ _ k. cc | false ↦ λ e k. record { percent = e; digit = k } ] refl h
 
-step_law : (h : List ℕ) (c : ℕ) (r : List ℕ) → units (h ++ c ∷ r) ≡ step_units h c ++ units (step_held h c ++ r)
+step_law : (h : List ℕ) (c : ℕ) (r : List ℕ) → units (h ++ c ∷ r) ≡ step_units h c ++ units (step_pending h c ++ r)
 step_law h c r =
     elim (is_part c) as (λ b. is_part c ≡ b → units (h ++ c ∷ r)
     ≡ cond b (told_units false 12 (h ++ c ∷ [])) (units h ++ Plain c ∷ [])
@@ -235,43 +235,43 @@ written-append s left us vs = ap (flat_map (kept_unit s)) (front_both left us vs
     ∙ flat_map-append (kept_unit s) (limited left us) (limited (fewer left (length us)) vs)
 
 -- ---- where none is written any more
-none_more : (s : Tests) (h t : List ℕ) → (texts unit_step (unit_step_text s) (record { held = h; left = Some 0 }) t ≡ [])
-    × (after unit_step (unit_step_text s) (record { held = h; left = Some 0 }) t ≡ record { held = h; left = Some 0 })
+none_more : (s : Tests) (h t : List ℕ) → (texts unit_step (unit_step_text s) (record { pending = h; left = Some 0 }) t ≡ [])
+    × (after unit_step (unit_step_text s) (record { pending = h; left = Some 0 }) t ≡ record { pending = h; left = Some 0 })
 none_more s h [] = (refl, refl)
 none_more s h (c ∷ t) = none_more s h t
 
 pub used_up : (s : Tests) (h : List ℕ) (l : Option ℕ) (t : List ℕ) → is_used_up l ≡ true
-    → (texts unit_step (unit_step_text s) (record { held = h; left = l }) t ≡ [])
-    × (after unit_step (unit_step_text s) (record { held = h; left = l }) t ≡ record { held = h; left = l })
+    → (texts unit_step (unit_step_text s) (record { pending = h; left = l }) t ≡ [])
+    × (after unit_step (unit_step_text s) (record { pending = h; left = l }) t ≡ record { pending = h; left = l })
 used_up s h None t e = cc
 used_up s h (Some zero) t e = none_more s h t
 used_up s h (Some (suc n)) t e = cc
 
--- ---- the whole: what was written for a text, and what is held after it
+-- ---- the whole: what was written for a text, and what is pending after it
 abbrev end_text : Tests → UnitState → List ℕ → List ℕ
-end_text s u t = written_units s (after unit_step (unit_step_text s) u t).left (units (after unit_step (unit_step_text s) u t).held)
+end_text s u t = written_units s (after unit_step (unit_step_text s) u t).left (units (after unit_step (unit_step_text s) u t).pending)
 
 abbrev AreAll : Tests → UnitState → List ℕ → Type 0
-AreAll s u t = texts unit_step (unit_step_text s) u t ++ end_text s u t ≡ written_units s u.left (units (u.held ++ t))
+AreAll s u t = texts unit_step (unit_step_text s) u t ++ end_text s u t ≡ written_units s u.left (units (u.pending ++ t))
 
 one_more : (s : Tests) (u : UnitState) (c : ℕ) (t : List ℕ) → AreAll s (next_state u c) t
     → (unit_step_text s u c ++ texts unit_step (unit_step_text s) (next_state u c) t) ++ end_text s (next_state u c) t
-    ≡ written_units s u.left (units (u.held ++ c ∷ t))
+    ≡ written_units s u.left (units (u.pending ++ c ∷ t))
 one_more s u c t all =
     append_assoc (unit_step_text s u c) (texts unit_step (unit_step_text s) (next_state u c) t) (end_text s (next_state u c) t)
     ∙ ap (λ l. unit_step_text s u c ++ l) all
-    ∙ sym (written-append s u.left (step_units u.held c) (units (step_held u.held c ++ t)))
-    ∙ ap (written_units s u.left) (sym (step_law u.held c t))
+    ∙ sym (written-append s u.left (step_units u.pending c) (units (step_pending u.pending c ++ t)))
+    ∙ ap (written_units s u.left) (sym (step_law u.pending c t))
 
-all_behind : (s : Tests) (h : List ℕ) (l : Option ℕ) (t : List ℕ) → AreAll s (record { held = h; left = l }) t
+all_behind : (s : Tests) (h : List ℕ) (l : Option ℕ) (t : List ℕ) → AreAll s (record { pending = h; left = l }) t
 all_behind s h l [] = ap (λ r. written_units s l (units r)) (sym (append-nil h))
-all_behind s h None (c ∷ t) = one_more s (record { held = h; left = None }) c t (all_behind s (step_held h c) None t)
+all_behind s h None (c ∷ t) = one_more s (record { pending = h; left = None }) c t (all_behind s (step_pending h c) None t)
 all_behind s h (Some zero) (c ∷ t) =
     let none = none_more s h t in
-    let u : UnitState = record { held = h; left = Some 0 } in
-    ap (λ l. l ++ end_text s u t) none.0 ∙ ap (λ (v : UnitState). written_units s v.left (units v.held)) none.1
-all_behind s h (Some (suc n)) (c ∷ t) = one_more s (record { held = h; left = Some (suc n) }) c t
-    (all_behind s (step_held h c) (fewer (Some (suc n)) (length (step_units h c))) t)
+    let u : UnitState = record { pending = h; left = Some 0 } in
+    ap (λ l. l ++ end_text s u t) none.0 ∙ ap (λ (v : UnitState). written_units s v.left (units v.pending)) none.1
+all_behind s h (Some (suc n)) (c ∷ t) = one_more s (record { pending = h; left = Some (suc n) }) c t
+    (all_behind s (step_pending h c) (fewer (Some (suc n)) (length (step_units h c))) t)
 
 pub units_all : (s : Tests) (u : UnitState) (t : List ℕ) → AreAll s u t
-units_all s u t = all_behind s u.held u.left t
+units_all s u t = all_behind s u.pending u.left t

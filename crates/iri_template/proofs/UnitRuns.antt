@@ -14,11 +14,11 @@ use Rattle.iri_percent.specs.declared.context.Context.TheVariants.{Any}
 use Rattle.iri_percent.specs.Units.{Plain, Stray, first_char, first_unit, unit_text, units_from, units}
 use Rattle.iri_text.specs.inside.Through.{after, texts}
 use Rattle.iri_template.specs.Expansion.{kept_unit}
-use Rattle.iri_template.specs.inside.UnitSteps.{is_part, is_settled, behind_unit, told_units, left_over, UnitState, step_units, step_held}
+use Rattle.iri_template.specs.inside.UnitSteps.{is_part, is_settled, behind_unit, told_units, left_over, UnitState, step_units, step_pending}
 use Rattle.iri_template.specs.inside.UnitSteps.{unit_step, unit_step_text}
 
 abbrev plain : UnitState
-plain = record { held = []; left = None }
+plain = record { pending = []; left = None }
 
 or_true : (b : Bool) → b || true ≡ true
 or_true true = refl
@@ -29,7 +29,7 @@ is_false true h = cc
 is_false false h = refl
 
 -- a character but `%` is told at once
-one_told : (c : ℕ) → (c == 37) ≡ false → (step_units [] c ≡ Plain c ∷ []) × (step_held [] c ≡ [])
+one_told : (c : ℕ) → (c == 37) ≡ false → (step_units [] c ≡ Plain c ∷ []) × (step_pending [] c ≡ [])
 unfolding units_from
 one_told c n =
     let settled : is_settled (c ∷ []) ≡ true =
@@ -54,7 +54,7 @@ plain_texts s (c ∷ cs) h =
     let k = both (not (c == 37)) (lacks 37 cs) h in
     let one = one_told c (is_false (c == 37) k.0) in
     let more = plain_texts s cs k.1 in
-    let step : unit_step plain c ≡ plain = ap (λ (l : List ℕ). record plain { held = l }) one.1 in
+    let step : unit_step plain c ≡ plain = ap (λ (l : List ℕ). record plain { pending = l }) one.1 in
     let kept = encoded_char (any_char s) c in (
       ap (λ us. flat_map (kept_unit s) us ++ texts unit_step (unit_step_text s) (unit_step plain c) cs) one.0
           ∙ ap (λ u. (kept ++ []) ++ texts unit_step (unit_step_text s) u cs) step
@@ -75,15 +75,15 @@ encodes_lack (x ∷ cs) h =
     (subst (λ y. lacks 37 (encode y ++ encodes cs) ≡ true) e h))
     (λ _. encodes_lack cs (lacks_right (encode x) (encodes cs) h))
 
--- it is encoded, and nothing is held after it
+-- it is encoded, and nothing is pending after it
 pub record IsPlainRun (s : Tests) (u : UnitState) (t : List ℕ) : Type 0 where
   pub text : texts unit_step (unit_step_text s) u (chars t) ≡ encoded (keeps s Any) t
   pub same : after unit_step (unit_step_text s) u (chars t) ≡ u
 
 pub plain_run : (s : Tests) (h : List ℕ) (l : Option ℕ) (t : List ℕ) → IsUtf8 t → h ≡ [] → l ≡ None → lacks 37 t ≡ true
-    → IsPlainRun s (record { held = h; left = l }) t
+    → IsPlainRun s (record { pending = h; left = l }) t
 unfolding encoded
 plain_run s h l t u none all n =
     let k = plain_texts s (chars t) (encodes_lack (chars t) (subst (λ (x : List ℕ). lacks 37 x ≡ true) (sym (encodes-chars t u)) n)) in
-    subst (λ (x : List ℕ). IsPlainRun s (record { held = x; left = l }) t) (sym none)
-    (subst (λ (y : Option ℕ). IsPlainRun s (record { held = []; left = y }) t) (sym all) (record { text = k.0; same = k.1 }))
+    subst (λ (x : List ℕ). IsPlainRun s (record { pending = x; left = l }) t) (sym none)
+    (subst (λ (y : Option ℕ). IsPlainRun s (record { pending = []; left = y }) t) (sym all) (record { text = k.0; same = k.1 }))

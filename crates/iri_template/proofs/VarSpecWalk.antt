@@ -1,5 +1,5 @@
 -- A walk over varspecs without a fault: what is written of them, and their values' types.
-use Rattle.std.proofs.Common.{◌≡◌, ℕ, ◌+◌, true, false, cond, List, ◌∷◌, Option, Some, None, length, map, refl, sym}
+use Rattle.std.proofs.Common.{◌≡◌, ℕ, ◌+◌, Bool, true, false, cond, List, [], ◌∷◌, Option, Some, None, length, map, refl, sym}
 use Rattle.std.proofs.Common.{◌∙◌, ap}
 use denote.Ref.{Bor}
 use Rattle.iri_grammar.specs.Classes.{Tests}
@@ -9,19 +9,21 @@ use Rattle.iri_grammar.specs.inside.PiecesLaws.{more_pieces}
 use Rattle.iri_grammar.proofs.PiecesLaws.{pieces_cut}
 use Rattle.iri_grammar.specs.OptionalSlices.{now_of}
 use Rattle.iri_template.specs.Template as template
-use Rattle.iri_template.specs.Template.{varspec_text}
+use Rattle.iri_template.specs.Template.{Piece, literal, triplet, expression, operator_text, varspec_text, piece_text}
 use Rattle.iri_template.specs.Expansion.{row_of, varspec_texts}
-use Rattle.iri_template.specs.Fault.{moved, varspec_fault, varspecs_fault, fault}
+use Rattle.iri_template.specs.Fault.{fault, moved, first, varspec_fault, varspecs_fault}
 use Rattle.iri_template.specs.Left.{varspecs_left}
 use Rattle.iri_template.specs.Reading.{name_of, varspec_of}
-use Rattle.iri_template.specs.ShownValues.{ShownValue}
-use Rattle.iri_template.specs.TypeFaults.{is_mistyped, is_mistyped_as, varspecs_type_fault}
+use Rattle.iri_template.specs.ShownValues.{ShownValue, undefined}
+use Rattle.iri_template.specs.TypeFaults.{is_mistyped, is_mistyped_as, varspecs_type_fault, type_fault_from}
 use Rattle.iri_template.specs.VarSpecs.{held, IsHeld}
+use Rattle.iri_template.specs.inside.ByPurpose.{untold}
 use Rattle.iri_template.specs.inside.Written.{told_texts}
+use Rattle.iri_template.specs.declared.error.Error.{Error}
 use Rattle.iri_template.specs.declared.error.ErrorKind.TheVariants.{UnexpectedValueType}
 use Rattle.iri_template.specs.declared.operator.Operator.{Operator}
 use Rattle.iri_template.specs.declared.varspec.VarSpec.{VarSpec}
-use Rattle.iri_template.proofs.FaultLemmas.{moved_none}
+use Rattle.iri_template.proofs.FaultLemmas.{moved_none, first_first, unmoved, still_none}
 use Rattle.iri_template.proofs.Telling.{held_texts}
 use Rattle.iri_template.proofs.VarSpecLemmas.{varspec_is}
 use Rattle.iri_template.proofs.Walks.{taken}
@@ -57,34 +59,44 @@ pub mistyped_spec : (value : List ℕ → ShownValue) (v : VarSpec) (w : templat
 mistyped_spec value v w i = ap (λ n. is_mistyped_as v.modifier (value n)) i.name ∙ ap (λ m. is_mistyped_as m (value w.name)) i.modifier
     ∙ held_mistyped w.modifier (value w.name)
 
-pub types_spec : (value : List ℕ → ShownValue) (at : ℕ) (t : List ℕ) (o : Option (Bor (List ℕ))) → now_of o ≡ behind 44 t
-    → moved 0 (varspec_fault (before 44 t)) ≡ None
-    → varspecs_type_fault value at (map varspec_of (pieces 44 t))
-    ≡ cond (is_mistyped (varspec_of (before 44 t)).modifier (value (varspec_of (before 44 t)).name)) (fault UnexpectedValueType at)
+as_first : (b : Bool) (at : ℕ) (f : Option Error) → cond b (fault UnexpectedValueType at) f
+    ≡ first (cond b (fault UnexpectedValueType at) None) f
+as_first true at f = refl
+as_first false at f = refl
+
+-- the fault of the first varspec's value, or else that of the others
+pub types_spec : (value : List ℕ → ShownValue) (found : Option Error) (at : ℕ) (t : List ℕ) (v : VarSpec) (o : Option (Bor (List ℕ)))
+    → now_of o ≡ behind 44 t → moved at (varspec_fault (before 44 t)) ≡ None → IsHeld v (varspec_of (before 44 t))
+    → first found (varspecs_type_fault value at (map varspec_of (pieces 44 t)))
+    ≡ first (first found (cond (is_mistyped_as v.modifier (value v.name.text.now)) (fault UnexpectedValueType at) None))
     (varspecs_type_fault value (at + length (before 44 t) + 1) (map varspec_of (varspecs_left o)))
-types_spec value at t o e h =
+types_spec value found at t v o e h i =
     let w = varspec_of (before 44 t) in
-    ap (λ ps. varspecs_type_fault value at (map varspec_of ps)) (cut_spec t o e)
-    ∙ ap (λ n. cond (is_mistyped w.modifier (value w.name)) (fault UnexpectedValueType at)
-    (varspecs_type_fault value (at + n + 1) (map varspec_of (varspecs_left o)))) (spec_len (before 44 t) h)
+    let b = is_mistyped_as v.modifier (value v.name.text.now) in
+    let others = varspecs_type_fault value (at + length (before 44 t) + 1) (map varspec_of (varspecs_left o)) in
+    let good : moved 0 (varspec_fault (before 44 t)) ≡ None = still_none 0 (varspec_fault (before 44 t)) (unmoved at (varspec_fault (before 44 t)) h) in
+    ap (λ ps. first found (varspecs_type_fault value at (map varspec_of ps))) (cut_spec t o e)
+    ∙ ap (λ n. first found (cond (is_mistyped w.modifier (value w.name)) (fault UnexpectedValueType at)
+    (varspecs_type_fault value (at + n + 1) (map varspec_of (varspecs_left o))))) (spec_len (before 44 t) good)
+    ∙ ap (λ x. first found (cond x (fault UnexpectedValueType at) others)) (sym (mistyped_spec value v w i))
+    ∙ ap (first found) (as_first b at others) ∙ sym (first_first found (cond b (fault UnexpectedValueType at) None) others)
 
--- the value of the first is of the right type
-pub next_spec : (value : List ℕ → ShownValue) (at : ℕ) (t : List ℕ) (v : VarSpec) (o : Option (Bor (List ℕ))) → now_of o ≡ behind 44 t
-    → moved 0 (varspec_fault (before 44 t)) ≡ None → IsHeld v (varspec_of (before 44 t))
-    → is_mistyped_as v.modifier (value v.name.text.now) ≡ false
-    → varspecs_type_fault value at (map varspec_of (pieces 44 t))
-    ≡ varspecs_type_fault value (at + length (before 44 t) + 1) (map varspec_of (varspecs_left o))
-next_spec value at t v o e h i n =
-    types_spec value at t o e h ∙ ap (λ b. cond b (fault UnexpectedValueType at)
-    (varspecs_type_fault value (at + length (before 44 t) + 1) (map varspec_of (varspecs_left o))))
-    (sym (mistyped_spec value v (varspec_of (before 44 t)) i) ∙ n)
+untold_right : (m : template.Modifier) → is_mistyped m undefined ≡ false
+untold_right template.whole = refl
+untold_right template.explode = refl
+untold_right (template.prefix ds) = refl
 
--- it isn't
-pub wrong_spec : (value : List ℕ → ShownValue) (at : ℕ) (t : List ℕ) (v : VarSpec) (o : Option (Bor (List ℕ))) → now_of o ≡ behind 44 t
-    → moved 0 (varspec_fault (before 44 t)) ≡ None → IsHeld v (varspec_of (before 44 t))
-    → is_mistyped_as v.modifier (value v.name.text.now) ≡ true
-    → varspecs_type_fault value at (map varspec_of (pieces 44 t)) ≡ fault UnexpectedValueType at
-wrong_spec value at t v o e h i n =
-    types_spec value at t o e h ∙ ap (λ b. cond b (fault UnexpectedValueType at)
-    (varspecs_type_fault value (at + length (before 44 t) + 1) (map varspec_of (varspecs_left o))))
-    (sym (mistyped_spec value v (varspec_of (before 44 t)) i) ∙ n)
+untold_specs : (at : ℕ) (vs : List template.VarSpec) → varspecs_type_fault untold at vs ≡ None
+untold_specs at [] = refl
+untold_specs at (v ∷ vs) =
+    let there = at + length (varspec_text v) + 1 in
+    ap (λ b. cond b (fault UnexpectedValueType at) (varspecs_type_fault untold there vs)) (untold_right v.modifier) ∙ untold_specs there vs
+
+-- no value is of a wrong type where there is none
+pub untold_types : (at : ℕ) (ps : List Piece) → type_fault_from untold at ps ≡ None
+untold_types at [] = refl
+untold_types at (literal c ∷ ps) = untold_types (at + length (piece_text (literal c))) ps
+untold_types at (triplet a b ∷ ps) = untold_types (at + length (piece_text (triplet a b))) ps
+untold_types at (expression operator vs ∷ ps) =
+    let there = at + length (piece_text (expression operator vs)) in
+    ap (λ f. first f (type_fault_from untold there ps)) (untold_specs (at + 1 + length (operator_text operator)) vs) ∙ untold_types there ps

@@ -3,7 +3,8 @@ use Rattle.std.specs.Prelude.{ℕ, ◌+◌, Bool, false, cond, List, [], ◌∷�
 use Rattle.iri_template.specs.Template.{whole, explode, prefix, VarSpec, Piece, literal, triplet, expression, operator_text, varspec_text}
 use Rattle.iri_template.specs.Template.{piece_text}
 use Rattle.iri_template.specs.Template as template
-use Rattle.iri_template.specs.Fault.{fault, first}
+use Rattle.iri_template.specs.Fault.{fault, first, template_fault}
+use Rattle.iri_template.specs.Reading.{pieces_of}
 use Rattle.iri_template.specs.ShownValues.{ShownValue, has_members}
 use Rattle.iri_template.specs.declared.error.Error.{Error}
 use Rattle.iri_template.specs.declared.error.ErrorKind.TheVariants.{UnexpectedValueType}
@@ -41,3 +42,7 @@ type_fault_from value at (p ∷ ps) = first (piece_type_fault value at p) (type_
 
 abbrev pub type_fault : (List ℕ → ShownValue) → List Piece → Option Error
 type_fault value ps = type_fault_from value 0 ps
+
+-- the first fault of bytes as a template, or else of the type of a value
+abbrev pub expansion_fault : (List ℕ → ShownValue) → List ℕ → Option Error
+expansion_fault value bs = first (template_fault bs) (type_fault value (pieces_of bs))

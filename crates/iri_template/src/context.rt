@@ -18,7 +18,7 @@ pub trait Context {
     ///
     /// # Errors
     ///
-    /// Only where the visitor answered `Stop`.
+    /// Only where the visitor answered `Stop`; it was told a beginning of the value then, and is told no more.
     fn visit<V: Visitor>(&self, visitor: &mut V) -> Result<(), Stop>
         requires { V.phase visitor.old ≡ Fresh }
         ensures { Visits V.name V.aim V.phase V.hears V.halts V.stops visitor.old

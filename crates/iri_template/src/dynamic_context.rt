@@ -26,7 +26,7 @@ pub trait DynamicContext {
     ///
     /// # Errors
     ///
-    /// Only where the visitor answered `Stop`.
+    /// Only where the visitor answered `Stop`; it was told a beginning of a value then, and is told no more.
     fn visit_dynamic<V: Visitor>(&mut self, visitor: &mut V) -> Result<(), Stop>
         requires { V.phase visitor.old ≡ Fresh }
         ensures visit { VisitsNext V.name V.aim V.phase V.hears V.halts V.stops (tells self.old) visitor.old visitor.new
@@ -46,7 +46,7 @@ pub trait DynamicContext {
 }
 
 /// A dynamic context whose values stay as they are: those of a `Context`.
-#[derive(Drop)]
+#[derive(Debug, Drop)]
 pub struct Fixed<'a, C> {
     context: &'a C,
 }

@@ -1,13 +1,16 @@
 //! Templates that are expanded (RFC 6570 section 3).
 ghost use Rattle.std.specs.Prelude.{◌≡◌, IfOk, MatchResult, None, Some};
 ghost use Rattle.iri_grammar.specs.WholeFault.{reference_fault, iri_fault, absolute_fault, relative_fault};
+ghost use Rattle.iri_template.specs.Fault.{Answers};
 ghost use Rattle.iri_template.specs.Reading.{pieces_of};
 ghost use Rattle.iri_template.specs.Texts.{text};
-ghost use Rattle.iri_template.specs.TypeFaults.{type_fault};
+ghost use Rattle.iri_template.specs.TypeFaults.{type_fault, expansion_fault};
 
 use crate::byte_count::is_within;
 use crate::context::Context;
+use crate::error::{Error, ErrorKind};
 use crate::expansion_writer::write_expansion;
+use crate::fault::find_fault;
 use crate::template::UriTemplateStr;
 use crate::typechecked::Typechecked;
 use iri_grammar::spec::Spec;
@@ -16,8 +19,8 @@ use iri_owned::owned::{Owned, RiAbsoluteString, RiReferenceString, RiRelativeStr
 use iri_text::{FormatSink, Show, Stop, TextSink, ToStringFallible};
 use iri_types::kind::Kind;
 use std::alloc::{AllocError, Global};
-use std::fmt;
 use std::marker::PhantomData;
+use std::{fmt, str};
 
 /// A template whose expansion for a URI or an IRI is shown, with the values of a context (RFC 6570 section 3). It takes
 /// no memory until it is made owned, and the values may put their texts in any pieces.
@@ -35,9 +38,11 @@ use std::marker::PhantomData;
 /// let text = template.expand::<UriSpec, SimpleContext>(&values)?.try_to_string(rt.alloc())?;
 /// assert_eq!(rt; text.as_str(), "Hello%20World!");
 /// ```
+#[derive_where(Debug; C)]
 pub struct Expanded<'a, S, C: Context> {
     pub(crate) template: UriTemplateStr<'a>,
     pub(crate) context: &'a C,
+    #[derive_where(skip(Debug))]
     pub(crate) spec: PhantomData<S>,
     pub ghost fine: { ∥ type_fault (C.value_of context.now) (pieces_of (text template)) ≡ None ∥₁ },
 }
@@ -95,6 +100,40 @@ impl<'a, S: Spec, C: Context> fmt::Display for Expanded<'a, S, C> {
 
 impl<'a, S: Spec, C: Context> Expanded<'a, S, C> {
     ghost use Rattle.iri_template.specs.ExpandedTexts.{expanded_text, RefusedAs, IsWithin};
+
+    /// The expansion of a template that stands in bytes, which are looked at once for both kinds of fault. Nothing is
+    /// written and no memory is taken.
+    ///
+    /// # Errors
+    ///
+    /// The fault that [`try_from_bytes`](UriTemplateStr::try_from_bytes) has, or else that of
+    /// [`expand`](UriTemplateStr::expand).
+    ///
+    /// ```
+    /// use iri::format::ToStringFallible;
+    /// use iri::spec::UriSpec;
+    /// use iri::template::Expanded;
+    /// use iri::template::simple_context::SimpleContext;
+    /// let values = SimpleContext::new(rt.alloc());
+    /// let expanded = Expanded::<'_, UriSpec, SimpleContext>::try_from_bytes(b"/search{?q}", &values)?;
+    /// assert_eq!(rt; expanded.try_to_string(rt.alloc())?.as_str(), "/search");
+    /// ```
+    pub fn try_from_bytes(b: &'a [u8], context: &'a C) -> Result<Self, Error>
+        ensures fault { Answers result (expansion_fault (C.value_of context.now) b.now) }
+        ensures expanded { IfOk result (λ e. (text e.template ≡ b.now) × (e.context.now ≡ context.now)) }
+    {
+        match str::from_utf8(b) {
+            Ok(s) => match find_fault(context, s) {
+                Some(error) => Err(error),
+                None => Ok(Expanded {
+                    template: UriTemplateStr::from_valid(s),
+                    context,
+                    spec: PhantomData,
+                }),
+            },
+            Err(error) => Err(Error::new(ErrorKind::InvalidUtf8, error.valid_up_to())),
+        }
+    }
 
     // The expansion as an owned text of a kind.
     fn into_owned<K: Kind>(&self, alloc: Global) -> Result<Owned<S, K>, ExpandedError>

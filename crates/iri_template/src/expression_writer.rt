@@ -10,15 +10,15 @@ ghost use Rattle.iri_template.specs.Reading.{varspec_of};
 ghost use Rattle.iri_template.specs.Tells.{WhereTold, MovesBy, Calls};
 ghost use Rattle.iri_template.specs.TypeFaults.{is_mistyped_as};
 ghost use Rattle.iri_template.specs.Writings.{EndsAs, HasCause, CallsUpTo};
-ghost use Rattle.iri_template.specs.inside.Checked.{place_texts, place_portion, held_portion};
+ghost use Rattle.iri_template.specs.inside.Checked.{state_texts, state_portion, held_portion};
 ghost use Rattle.iri_template.specs.inside.Written.{told_texts};
 ghost use Rattle.iri_template.specs.declared.visitor.Phase.TheVariants.{Fresh};
 ghost use Rattle.iri_template.specs.declared.visitor.VisitPurpose.TheVariants.{Typecheck, Expand};
 
 use crate::dynamic_context::DynamicContext;
 use crate::error::{Error, ErrorKind};
+use crate::expression_state::ExpressionState;
 use crate::operator::Operator;
-use crate::place::{Place, prefix_of};
 use crate::type_check::TypeCheck;
 use crate::value_writer::ValueWriter;
 use crate::variable_list::read_first;
@@ -35,7 +35,7 @@ fn looks_mistyped<C: DynamicContext>(context: &mut C, varspec: VarSpec<'_>) -> b
 {
     let mut visitor = TypeCheck::new(varspec.name);
     match context.visit_dynamic(&mut visitor) {
-        Ok(()) => prefix_of(varspec.modifier).is_some() && visitor.members,
+        Ok(()) => varspec.modifier.prefix().is_some() && visitor.members,
         Err(_) => false,
     }
 }
@@ -47,15 +47,15 @@ fn tell_next<C: DynamicContext, S: Spec, W: TextSink>(
     at: usize,
 ) -> Result<(), Error>
     requires fresh { visitor.old.phase ≡ Fresh }
-    requires first { visitor.old.place.member ≡ false }
+    requires first { visitor.old.state.member ≡ false }
     requires right { visitor.old.mistyped ≡ false }
     ensures written { WhereTold (C.tells context.old)
-        (λ f. EndsAs W.puts W.halts (place_portion S.tests at visitor.old.place false
-        (f 0 visitor.old.place.name.text.now Expand) ∷ []) visitor.old.to.now visitor.new.to.now
+        (λ f. EndsAs W.puts W.halts (state_portion S.tests at visitor.old.state false
+        (f 0 visitor.old.state.name.text.now Expand) ∷ []) visitor.old.to.now visitor.new.to.now
         result) }
     ensures goes_on { OnOk result (WhereTold (C.tells context.old)
-        (λ f. visitor.new.place.written ≡ (visitor.old.place.written || has_texts
-        (place_texts S.tests visitor.old.place (f 0 visitor.old.place.name.text.now Expand))))) }
+        (λ f. visitor.new.state.written ≡ (visitor.old.state.written || has_texts
+        (state_texts S.tests visitor.old.state (f 0 visitor.old.state.name.text.now Expand))))) }
     ensures same { visitor.new.to.ghost_name ≡ visitor.old.to.ghost_name }
     ensures place { IfErr result (λ e. e.location ≡ at) }
     ensures cause { HasCause (W.stops visitor.old.to.now) (W.stops visitor.new.to.now) result }
@@ -105,16 +105,16 @@ fn write_varspec<C: DynamicContext, S: Spec, W: TextSink>(
     if looks_mistyped(context, varspec) {
         return Err(Error::new(ErrorKind::UnexpectedValueType, at));
     }
-    let place = Place {
+    let state = ExpressionState {
         operator,
         name: varspec.name,
         modifier: varspec.modifier,
         written: *written,
         member: false,
     };
-    let mut visitor = ValueWriter::<S, W>::new(sink, place);
+    let mut visitor = ValueWriter::<S, W>::new(sink, state);
     let result = tell_next(&mut visitor, context, at);
-    *written = visitor.place.written;
+    *written = visitor.state.written;
     result
 }
 

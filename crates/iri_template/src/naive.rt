@@ -19,7 +19,7 @@ pub trait VisitValueNaive {
     ///
     /// # Errors
     ///
-    /// Only where the visitor answered `Stop`.
+    /// Only where the visitor answered `Stop`; it was told a beginning of the value then, and is told no more.
     fn visit_value<V: Visitor>(&self, visitor: &mut V) -> Result<(), Stop>
         requires { V.phase visitor.old ≡ Fresh }
         ensures { Visits V.name V.aim V.phase V.hears V.halts V.stops visitor.old
@@ -30,7 +30,7 @@ pub trait VisitValueNaive {
 ///
 /// # Errors
 ///
-/// Only where the visitor answered `Stop`.
+/// Only where the visitor answered `Stop`; it was told a beginning of the value then, and is told no more.
 pub fn visit_value_naive<V: Visitor, T: VisitValueNaive>(
     visitor: &mut V,
     value: &T,

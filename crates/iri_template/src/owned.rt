@@ -58,7 +58,7 @@ impl UriTemplateString {
     /// # Errors
     ///
     /// - `Invalid` exactly where it is none: its first fault.
-    /// - `Memory` where allocation fails.
+    /// - `Memory` where allocation fails; the text has no fault then.
     pub fn try_from_str(alloc: Global, s: &str) -> Result<Self, CreateTemplateError>
         ensures { MatchResult result (λ t. t.text ≡ s.now) (λ e. RefusedFor e (text_fault s.now)) }
     {
@@ -76,7 +76,7 @@ impl UriTemplateString {
     ///
     /// - `Invalid` with `InvalidUtf8` where the bytes aren't UTF-8, which is tested first.
     /// - `Invalid` exactly where the text is no template: its first fault.
-    /// - `Memory` where allocation fails.
+    /// - `Memory` where allocation fails; the text has no fault then.
     pub fn try_from_bytes(alloc: Global, b: &[u8]) -> Result<Self, CreateTemplateError>
         ensures { MatchResult result (λ t. t.text ≡ b.now) (λ e. RefusedFor e (template_fault b.now)) }
     {
@@ -165,7 +165,7 @@ impl UriTemplateString {
     ///
     /// # Errors
     ///
-    /// Where allocation fails; nothing changes then.
+    /// Where allocation fails, and only where both texts together are longer than the capacity; nothing changes then.
     pub fn append(&mut self, other: UriTemplateStr<'_>) -> Result<(), AllocError>
         ensures text { OnOk result (self.new.text ≡ self.old.text ++ text other.entry) }
         ensures capacity { self.old.capacity ≤ self.new.capacity }

@@ -24,13 +24,13 @@ use std::collections::BTreeMap;
 /// assert!(rt; values.insert(name, Value::Undefined).is_ok());
 /// assert!(rt; values.get(VarName::new("undef")?).is_none());
 /// ```
-#[derive(Drop)]
+#[derive(Debug, Drop)]
 pub struct SimpleContext {
     map: BTreeMap<String, Value>,
 }
 
 /// Memory for a new name was refused. It hands back what was to be inserted.
-#[derive(Drop)]
+#[derive(Debug, Drop)]
 pub struct InsertError {
     /// The name.
     pub key: String,

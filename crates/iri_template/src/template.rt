@@ -14,9 +14,8 @@ use crate::dynamic_context::DynamicContext;
 use crate::error::{Error, ErrorKind};
 use crate::expanded::Expanded;
 use crate::expansion_writer::write_expansion;
-use crate::part::{Part, read_part};
-use crate::type_fault::find_type_fault;
-use crate::variable_list;
+use crate::fault::find_fault;
+use crate::no_values::NoValues;
 use crate::variables::UriTemplateVariables;
 use iri_grammar::spec::Spec;
 use iri_text::{FormatSink, Show, Stop, StringSink, TextSink};
@@ -28,19 +27,10 @@ use std::{fmt, str};
 pub(crate) fn validate(s: &str) -> Result<(), Error>
     ensures { Answers result (text_fault s.now) }
 {
-    let mut rest = s;
-    'parts: while !rest.is_empty() {
-        match read_part(rest, s.len() - rest.len()) {
-            Ok((part, next)) => {
-                if let Part::Expression(expression) = part {
-                    variable_list::check(expression.varspecs, expression.location)?;
-                }
-                rest = next;
-            }
-            Err(error) => return Err(error),
-        }
+    match find_fault(&NoValues, s) {
+        None => Ok(()),
+        Some(error) => Err(error),
     }
-    Ok(())
 }
 
 // Ends an expansion that came out like this.
@@ -189,7 +179,7 @@ impl<'a> UriTemplateStr<'a> {
         ensures fault { Answers result (type_fault (C.value_of context.now) (pieces_of (text self.entry))) }
         ensures expanded { IfOk result (λ e. (text e.template ≡ text self.entry) × (e.context.now ≡ context.now)) }
     {
-        match find_type_fault(context, self.text) {
+        match find_fault(context, self.text) {
             Some(error) => Err(error),
             None => Ok(Expanded {
                 template: self,
@@ -203,6 +193,8 @@ impl<'a> UriTemplateStr<'a> {
     /// section 3). Each varspec's value is looked at, and then written; it takes no memory.
     ///
     /// # Errors
+    ///
+    /// Where the context says its values, no later varspec is visited then.
     ///
     /// - `UnexpectedValueType` exactly where a varspec with a prefix length was told a list or an associative array
     ///   that isn't empty, at either of the two, at its first byte; exactly the text before that varspec was written

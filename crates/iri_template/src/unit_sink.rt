@@ -1,7 +1,7 @@
 //! A sink that keeps percent-encoded octets.
 ghost use Rattle.std.specs.Prelude.{◌≡◌, ◌≤◌, [], length};
 
-use crate::held::Held;
+use crate::pending::Pending;
 use std::marker::PhantomData;
 
 // Encodes what is put, but for reserved characters and percent-encoded octets, and writes it, or its first units, to another
@@ -9,11 +9,11 @@ use std::marker::PhantomData;
 #[derive(Drop)]
 pub(crate) struct UnitSink<'s, S, W> {
     pub(crate) to: &'s mut W,
-    pub(crate) held: Held,
+    pub(crate) pending: Pending,
     // How many units may still be written.
     pub(crate) left: Option<u16>,
     spec: PhantomData<S>,
-    pub ghost short: { length held ≤ 11 },
+    pub ghost short: { length pending ≤ 11 },
 }
 
 impl<'s, S, W> UnitSink<'s, S, W> {
@@ -21,12 +21,12 @@ impl<'s, S, W> UnitSink<'s, S, W> {
     pub(crate) fn new(to: &'s mut W, prefix: Option<u16>) -> UnitSink<'s, S, W>
         ensures same { result.to.ghost_name ≡ to.entry.ghost_name }
         ensures now { result.to.now ≡ to.old }
-        ensures held { result.held ≡ [] }
+        ensures pending { result.pending ≡ [] }
         ensures left { result.left ≡ prefix }
     {
         UnitSink {
             to,
-            held: Held::new(),
+            pending: Pending::new(),
             left: prefix,
             spec: PhantomData,
         }

@@ -9,12 +9,12 @@ ghost use Rattle.iri_text.specs.inside.Through.{after, texts};
 ghost use Rattle.iri_percent.specs.Units.{Plain, units};
 ghost use Rattle.iri_template.specs.Expansion.{text_units};
 ghost use Rattle.iri_template.specs.inside.Pieces.{IsCut};
-ghost use Rattle.iri_template.specs.inside.UnitSteps.{is_part, told_units, left_over, fewer, step_units, step_held};
+ghost use Rattle.iri_template.specs.inside.UnitSteps.{is_part, told_units, left_over, fewer, step_units, step_pending};
 ghost use Rattle.iri_template.specs.inside.UnitSteps.{is_used_up, unit_step, unit_step_text, written_units};
 ghost use Rattle.iri_template.specs.inside.UnitViews.{unit_as};
 
-use crate::front_unit::front_unit;
-use crate::held::Held;
+use crate::first_unit::first_unit;
+use crate::pending::Pending;
 use crate::unit_sink::UnitSink;
 use iri_grammar::cutting::{cut_before, lacks};
 use iri_grammar::spec::Spec;
@@ -77,28 +77,28 @@ fn put_unit<S: Spec, W: TextSink>(
 // Writes the units that are settled, or all, and holds the rest back.
 fn drain<S: Spec, W: TextSink>(
     sink: &mut W,
-    held: &mut Held,
+    pending: &mut Pending,
     left: &mut Option<u16>,
     end: bool,
 ) -> Result<(), Stop>
     ensures shows { Shows W.puts W.halts W.stops sink.old
-        (written_units S.tests left.old (told_units end 12 held.old)) sink.new result }
-    ensures held { OnOk result (held.new ≡ left_over end 12 held.old) }
-    ensures left { OnOk result (left.new ≡ fewer left.old (length (told_units end 12 held.old))) }
-    ensures cleared { OnErr result (held.new ≡ []) }
+        (written_units S.tests left.old (told_units end 12 pending.old)) sink.new result }
+    ensures pending { OnOk result (pending.new ≡ left_over end 12 pending.old) }
+    ensures left { OnOk result (left.new ≡ fewer left.old (length (told_units end 12 pending.old))) }
+    ensures cleared { OnErr result (pending.new ≡ []) }
 {
     let mut told = 0u8;
     'units: while told < 12 {
-        match front_unit::<S>(held.as_bytes(), end) {
+        match first_unit::<S>(pending.as_bytes(), end) {
             Some(unit) => {
-                match put_unit::<S, W>(sink, *left, held.front(unit.len), unit.stands) {
+                match put_unit::<S, W>(sink, *left, pending.start(unit.len), unit.stands) {
                     Ok(()) => {
-                        held.drop_front(unit.len);
+                        pending.drop_start(unit.len);
                         *left = one_fewer(*left);
                         told += 1;
                     }
                     Err(stop) => {
-                        held.clear();
+                        pending.clear();
                         return Err(stop);
                     }
                 }
@@ -132,22 +132,22 @@ fn put_plain<S: Spec, W: TextSink>(
 // Writes what a character settles.
 fn put_char<S: Spec, W: TextSink>(
     sink: &mut W,
-    held: &mut Held,
+    pending: &mut Pending,
     left: &mut Option<u16>,
     c: char,
 ) -> Result<(), Stop>
-    requires { length held.old ≤ 11 }
+    requires { length pending.old ≤ 11 }
     ensures shows { Shows W.puts W.halts W.stops sink.old
-        (unit_step_text S.tests (record { held = held.old; left = left.old }) c) sink.new result }
-    ensures held { OnOk result (held.new ≡ step_held held.old c) }
-    ensures left { OnOk result (left.new ≡ fewer left.old (length (step_units held.old c))) }
-    ensures short { length held.new ≤ 11 }
+        (unit_step_text S.tests (record { pending = pending.old; left = left.old }) c) sink.new result }
+    ensures pending { OnOk result (pending.new ≡ step_pending pending.old c) }
+    ensures left { OnOk result (left.new ≡ fewer left.old (length (step_units pending.old c))) }
+    ensures short { length pending.new ≤ 11 }
 {
     if is_part(c) {
-        held.push(c as u8);
-        return drain::<S, W>(sink, held, left, false);
+        pending.push(c as u8);
+        return drain::<S, W>(sink, pending, left, false);
     }
-    match drain::<S, W>(sink, held, left, true) {
+    match drain::<S, W>(sink, pending, left, true) {
         Ok(()) => put_plain::<S, W>(sink, left, c),
         Err(stop) => Err(stop),
     }
@@ -155,32 +155,32 @@ fn put_char<S: Spec, W: TextSink>(
 
 fn put_chars<S: Spec, W: TextSink>(
     sink: &mut W,
-    held: &mut Held,
+    pending: &mut Pending,
     left: &mut Option<u16>,
     text: &str,
 ) -> Result<(), Stop>
-    requires { length held.old ≤ 11 }
+    requires { length pending.old ≤ 11 }
     ensures shows { Shows W.puts W.halts W.stops sink.old
-        (texts unit_step (unit_step_text S.tests) (record { held = held.old; left = left.old })
+        (texts unit_step (unit_step_text S.tests) (record { pending = pending.old; left = left.old })
         (chars text.now)) sink.new result }
-    ensures state { OnOk result (record { held = held.new; left = left.new }
-        ≡ after unit_step (unit_step_text S.tests) (record { held = held.old; left = left.old }) (chars text.now)) }
-    ensures short { length held.new ≤ 11 }
+    ensures state { OnOk result (record { pending = pending.new; left = left.new }
+        ≡ after unit_step (unit_step_text S.tests) (record { pending = pending.old; left = left.old }) (chars text.now)) }
+    ensures short { length pending.new ≤ 11 }
 {
     for c in text.chars() {
         if is_used_up(*left) {
             return Ok(());
         }
-        put_char::<S, W>(sink, held, left, c)?;
+        put_char::<S, W>(sink, pending, left, c)?;
     }
     Ok(())
 }
 
 // Whether a text without `%` is written whole, each of its characters a unit.
-fn is_plain(held: &Held, left: Option<u16>) -> bool
-    ensures { OnTrue result ((held.now ≡ []) × (left ≡ None)) }
+fn is_plain(pending: &Pending, left: Option<u16>) -> bool
+    ensures { OnTrue result ((pending.now ≡ []) × (left ≡ None)) }
 {
-    held.as_bytes().is_empty() && left.is_none()
+    pending.as_bytes().is_empty() && left.is_none()
 }
 
 // The first character, and what follows.
@@ -212,47 +212,47 @@ fn next_piece(text: &str, plain: bool) -> Option<(&str, &str)>
 
 fn put_piece<S: Spec, W: TextSink>(
     sink: &mut W,
-    held: &mut Held,
+    pending: &mut Pending,
     left: &mut Option<u16>,
     piece: &str,
 ) -> Result<(), Stop>
-    requires { length held.old ≤ 11 }
+    requires { length pending.old ≤ 11 }
     ensures shows { Shows W.puts W.halts W.stops sink.old
-        (texts unit_step (unit_step_text S.tests) (record { held = held.old; left = left.old })
+        (texts unit_step (unit_step_text S.tests) (record { pending = pending.old; left = left.old })
         (chars piece.now)) sink.new result }
-    ensures state { OnOk result (record { held = held.new; left = left.new }
-        ≡ after unit_step (unit_step_text S.tests) (record { held = held.old; left = left.old }) (chars piece.now)) }
-    ensures short { length held.new ≤ 11 }
+    ensures state { OnOk result (record { pending = pending.new; left = left.new }
+        ≡ after unit_step (unit_step_text S.tests) (record { pending = pending.old; left = left.old }) (chars piece.now)) }
+    ensures short { length pending.new ≤ 11 }
 {
-    if is_plain(held, *left) && lacks(piece, b'%') {
+    if is_plain(pending, *left) && lacks(piece, b'%') {
         put_as::<S, W>(sink, piece, false)
     } else {
-        put_chars::<S, W>(sink, held, left, piece)
+        put_chars::<S, W>(sink, pending, left, piece)
     }
 }
 
-// Writes what a text settles: runs without `%` as one, as long as nothing is held and all units are written. Behind the last unit
+// Writes what a text settles: runs without `%` as one, as long as nothing is pending and all units are written. Behind the last unit
 // that may be written, the text isn't looked at.
 fn put_text<S: Spec, W: TextSink>(
     sink: &mut W,
-    held: &mut Held,
+    pending: &mut Pending,
     left: &mut Option<u16>,
     text: &str,
 ) -> Result<(), Stop>
-    requires { length held.old ≤ 11 }
+    requires { length pending.old ≤ 11 }
     ensures shows { Shows W.puts W.halts W.stops sink.old
-        (texts unit_step (unit_step_text S.tests) (record { held = held.old; left = left.old })
+        (texts unit_step (unit_step_text S.tests) (record { pending = pending.old; left = left.old })
         (chars text.now)) sink.new result }
-    ensures state { OnOk result (record { held = held.new; left = left.new }
-        ≡ after unit_step (unit_step_text S.tests) (record { held = held.old; left = left.old }) (chars text.now)) }
-    ensures short { length held.new ≤ 11 }
+    ensures state { OnOk result (record { pending = pending.new; left = left.new }
+        ≡ after unit_step (unit_step_text S.tests) (record { pending = pending.old; left = left.old }) (chars text.now)) }
+    ensures short { length pending.new ≤ 11 }
 {
     if left.is_some() {
-        return put_chars::<S, W>(sink, held, left, text);
+        return put_chars::<S, W>(sink, pending, left, text);
     }
     let mut rest = text;
-    'pieces: while let Some((piece, behind)) = next_piece(rest, is_plain(held, *left)) {
-        put_piece::<S, W>(sink, held, left, piece)?;
+    'pieces: while let Some((piece, behind)) = next_piece(rest, is_plain(pending, *left)) {
+        put_piece::<S, W>(sink, pending, left, piece)?;
         rest = behind;
     }
     Ok(())
@@ -270,7 +270,7 @@ impl<'s, S: Spec, W: TextSink> TextSink for UnitSink<'s, S, W> {
     ghost rules = { unit_rules S.tests W.rules };
 
     fn put(&mut self, piece: &str) -> Result<(), Stop> {
-        put_text::<S, W>(&mut *self.to, &mut self.held, &mut self.left, piece)
+        put_text::<S, W>(&mut *self.to, &mut self.pending, &mut self.left, piece)
     }
 }
 
@@ -279,13 +279,13 @@ fn show_units<T: Show, S: Spec, W: TextSink>(
     units: &mut UnitSink<S, W>,
     value: &T,
 ) -> Result<(), Stop>
-    requires { units.old.held ≡ [] }
+    requires { units.old.pending ≡ [] }
     ensures shows { Shows W.puts W.halts W.stops units.old.to.now
         (written_units S.tests units.old.left (text_units (T.text value.now))) units.new.to.now result }
     ensures same { units.new.to.ghost_name ≡ units.old.to.ghost_name }
 {
     match value.show(units) {
-        Ok(()) => drain::<S, W>(&mut *units.to, &mut units.held, &mut units.left, true),
+        Ok(()) => drain::<S, W>(&mut *units.to, &mut units.pending, &mut units.left, true),
         Err(stop) => Err(stop),
     }
 }

@@ -20,7 +20,7 @@ use std::marker::Model;
 /// assert_eq!(rt; colors.len(), 1);
 /// assert_eq!(rt; colors.get(0), Some("red"));
 /// ```
-#[derive(Drop)]
+#[derive(Debug, Drop)]
 pub struct TextList {
     items: Vec<String>,
 }
@@ -86,7 +86,7 @@ impl TextList {
 
 /// A list of pairs of texts, a key and a value each, which is seen as the list of their UTF-8 bytes. A key may stand
 /// in it more than once.
-#[derive(Drop)]
+#[derive(Debug, Drop)]
 pub struct PairList {
     pairs: Vec<(String, String)>,
 }
@@ -159,7 +159,7 @@ impl PairList {
 }
 
 /// The value of a variable (RFC 6570 section 2.3).
-#[derive(Drop)]
+#[derive(Debug, Drop)]
 pub enum Value {
     /// None.
     Undefined,

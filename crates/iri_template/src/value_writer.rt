@@ -2,7 +2,7 @@
 ghost use Rattle.std.specs.Prelude.{◌≡◌, false};
 ghost use Rattle.iri_template.specs.declared.visitor.Phase.TheVariants.{Fresh};
 
-use crate::place::Place;
+use crate::expression_state::ExpressionState;
 use crate::visitor::Phase;
 use std::marker::PhantomData;
 
@@ -11,7 +11,7 @@ use std::marker::PhantomData;
 #[derive(Drop)]
 pub(crate) struct ValueWriter<'w, S, W> {
     pub(crate) to: &'w mut W,
-    pub(crate) place: Place<'w>,
+    pub(crate) state: ExpressionState<'w>,
     pub(crate) phase: Phase,
     pub(crate) mistyped: bool,
     spec: PhantomData<S>,
@@ -19,16 +19,16 @@ pub(crate) struct ValueWriter<'w, S, W> {
 
 impl<'w, S, W> ValueWriter<'w, S, W> {
     // What the variable is told goes to the sink.
-    pub(crate) fn new(to: &'w mut W, place: Place<'w>) -> ValueWriter<'w, S, W>
+    pub(crate) fn new(to: &'w mut W, state: ExpressionState<'w>) -> ValueWriter<'w, S, W>
         ensures same { result.to.ghost_name ≡ to.entry.ghost_name }
         ensures now { result.to.now ≡ to.old }
-        ensures place { result.place ≡ place.entry }
+        ensures state { result.state ≡ state.entry }
         ensures phase { result.phase ≡ Fresh }
         ensures mistyped { result.mistyped ≡ false }
     {
         ValueWriter {
             to,
-            place,
+            state,
             phase: Phase::Fresh,
             mistyped: false,
             spec: PhantomData,

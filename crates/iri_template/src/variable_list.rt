@@ -1,10 +1,9 @@
 //! The varspecs of an expression, parted by commas (RFC 6570 section 2.3).
-ghost use Rattle.std.specs.Prelude.{◌≡◌, ◌<◌, ◌+◌, ◌^◌, length, MatchResult, IfOk, Some, None};
+ghost use Rattle.std.specs.Prelude.{◌≡◌, ◌<◌, ◌+◌, ◌^◌, length, IfOk};
 ghost use Rattle.iri_grammar.specs.Cut.{before, behind};
-ghost use Rattle.iri_grammar.specs.Pieces.{pieces};
 ghost use Rattle.iri_grammar.specs.OptionalSlices.{now_of};
 ghost use Rattle.iri_template.specs.Reading.{varspec_of};
-ghost use Rattle.iri_template.specs.Fault.{Answers, moved, varspec_fault, varspecs_fault};
+ghost use Rattle.iri_template.specs.Fault.{Answers, moved, varspec_fault};
 ghost use Rattle.iri_template.specs.VarSpecs.{IsHeld};
 
 use crate::error::Error;
@@ -23,21 +22,5 @@ pub(crate) fn read_first(varspecs: &str, at: usize) -> Result<(VarSpec<'_>, Opti
     match read_varspec(first, at) {
         Ok(varspec) => Ok((varspec, others)),
         Err(error) => Err(error),
-    }
-}
-
-// Whether all varspecs are well-formed: otherwise the first fault. `at` is their place, and a brace stands after
-// them.
-pub(crate) fn check(varspecs: &str, at: usize) -> Result<(), Error>
-    requires { at + length varspecs.now + 1 < 2 ^ 64 }
-    ensures { Answers result (varspecs_fault at (pieces 44 varspecs.now)) }
-{
-    let mut rest = varspecs;
-    'varspecs: loop {
-        match read_first(rest, at + (varspecs.len() - rest.len())) {
-            Ok((_, Some(others))) => rest = others,
-            Ok((_, None)) => return Ok(()),
-            Err(error) => return Err(error),
-        }
     }
 }

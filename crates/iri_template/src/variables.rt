@@ -108,6 +108,7 @@ impl<'a> Iterator for UriTemplateVariables<'a> {
 
     ghost remaining = { item_count names_left };
 
+    /// The next name; `None` exactly where every name was given.
     fn next(&mut self) -> Option<VarName<'a>> {
         let (varspecs, rest) = match self.varspecs {
             Some(varspecs) => (Some(varspecs), self.rest),

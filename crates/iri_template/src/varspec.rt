@@ -5,6 +5,7 @@ ghost use Rattle.iri_grammar.specs.Marks.{from_any};
 ghost use Rattle.iri_template.specs.Reading.{ends_name, name_of, modifier_of, varspec_of};
 ghost use Rattle.iri_template.specs.Fault.{Answers, moved, max_length_fault, modifier_fault, varspec_fault};
 ghost use Rattle.iri_template.specs.VarSpecs.{number_of, held, IsHeld};
+ghost use Rattle.iri_template.specs.inside.Written.{explodes, prefix_of};
 
 use crate::error::{Error, ErrorKind};
 use crate::var_name::VarName;
@@ -18,6 +19,30 @@ pub(crate) enum Modifier {
     Explode,
     // Its first characters, at most so many.
     Prefix(u16),
+}
+
+impl Modifier {
+    // Whether members are written one by one.
+    pub(crate) fn explodes(self) -> bool
+        ensures { result ≡ explodes self }
+    {
+        match self {
+            Modifier::Explode => true,
+            Modifier::Whole => false,
+            Modifier::Prefix(_) => false,
+        }
+    }
+
+    // How many characters or units of a string are meant, where a prefix stands.
+    pub(crate) fn prefix(self) -> Option<u16>
+        ensures { result ≡ prefix_of self }
+    {
+        match self {
+            Modifier::Prefix(max_length) => Some(max_length),
+            Modifier::Whole => None,
+            Modifier::Explode => None,
+        }
+    }
 }
 
 // A variable's name and a modifier.

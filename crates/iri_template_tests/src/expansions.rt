@@ -4,6 +4,7 @@ ghost use Rattle.iri_text.specs.Shown.{Shows};
 
 use iri_grammar::spec::{IriSpec, Spec, UriSpec};
 use iri_template::context::Context;
+use iri_template::dynamic_context::Fixed;
 use iri_template::error::ErrorKind;
 use iri_template::expanded::{Expanded, ExpandedError};
 use iri_template::naive::{VisitValueNaive, visit_value_naive};
@@ -11,7 +12,7 @@ use iri_template::simple_context::SimpleContext;
 use iri_template::template::UriTemplateStr;
 use iri_template::value::{PairList, TextList, Value};
 use iri_template::visitor::Visitor;
-use iri_text::{Show, Stop, Text, TextSink, ToStringFallible, show_four};
+use iri_text::{Show, SliceSink, Stop, Text, TextSink, ToStringFallible, show_four};
 use std::alloc::{AllocError, Global};
 use std::collections::{BTreeMap, BTreeSet};
 use std::test::Fail;
@@ -332,7 +333,32 @@ pub(crate) fn expanded<S: Spec, C: Context>(
     }
 }
 
-// How many rows come before the first with another expansion.
+// Whether every call that expands a template gives this.
+fn each_gives<S: Spec, C: Context>(
+    alloc: Global,
+    text: &str,
+    context: &C,
+    want: &str,
+) -> Result<bool, Fail> {
+    let template = UriTemplateStr::new(text)?;
+    let shown = template.expand::<S, C>(context)?.try_to_string(alloc)?;
+    let read = Expanded::<'_, S, C>::try_from_bytes(text.as_bytes(), context)?;
+    let mut buf = [0u8; 100];
+    let mut sink = SliceSink::new(&mut buf);
+    template.expand_dynamic::<S, SliceSink<'_>, Fixed<'_, C>>(&mut sink, &mut Fixed::new(context))?;
+    let dynamic = template.expand_dynamic_to_string::<S, Fixed<'_, C>>(
+        alloc,
+        &mut Fixed::new(context),
+    )?;
+    Ok(
+        shown.as_str() == want
+            && read.try_to_string(alloc)?.as_str() == want
+            && sink.as_str() == want
+            && dynamic.as_str() == want,
+    )
+}
+
+// How many rows come before the first with another expansion, for URIs or IRIs.
 pub(crate) fn right_rows<C: Context>(
     alloc: Global,
     rows: &[(&str, &str)],
@@ -340,7 +366,9 @@ pub(crate) fn right_rows<C: Context>(
 ) -> Result<usize, Fail> {
     let mut right = 0usize;
     for (text, want) in rows {
-        if expanded::<UriSpec, C>(alloc, text, context)?.as_str() != *want {
+        if !each_gives::<UriSpec, C>(alloc, text, context, want)?
+            || !each_gives::<IriSpec, C>(alloc, text, context, want)?
+        {
             return Ok(right);
         }
         right = right.wrapping_add(1);
@@ -559,6 +587,32 @@ fn types(rt: HostRuntime) -> Result<(), Fail> {
         Err(error) => {
             assert_eq!(rt; error.kind(), ErrorKind::UnexpectedValueType);
             assert_eq!(rt; error.location(), 11);
+        }
+    }
+    Ok(())
+}
+
+// Bytes with a fault of their text, of a value's type, or both: the fault of the text is told, wherever it stands.
+static FAULTS: [(&[u8], ErrorKind, usize); 7] = [
+    (b"{/list:3}", ErrorKind::UnexpectedValueType, 2),
+    (b"{x,keys:3}{list:1}", ErrorKind::UnexpectedValueType, 3),
+    (b"{/list:3}{x", ErrorKind::ExpressionNotClosed, 9),
+    (b"{list:3,1-x}", ErrorKind::InvalidExpression, 8),
+    (b"{list:3}%4", ErrorKind::InvalidPercentEncoding, 8),
+    (b"{list:3}}", ErrorKind::InvalidCharacter, 8),
+    (b"{list:3}\xff", ErrorKind::InvalidUtf8, 8),
+];
+
+#[test]
+fn faults_of_bytes(rt: HostRuntime) -> Result<(), Fail> {
+    let context = variables(rt.alloc())?;
+    for (bytes, kind, place) in FAULTS {
+        match Expanded::<'_, UriSpec, SimpleContext>::try_from_bytes(bytes, &context) {
+            Ok(_) => assert!(rt; false, "taken: {bytes:?}"),
+            Err(error) => {
+                assert_eq!(rt; error.kind(), kind, "{bytes:?}");
+                assert_eq!(rt; error.location(), place, "{bytes:?}");
+            }
         }
     }
     Ok(())

@@ -33,7 +33,7 @@ NoLf-front : (xs ys : List ℕ) → NoLf (xs ++ ys) → NoLf xs
 NoLf-front [] ys p = tt
 NoLf-front (x ∷ xs) ys p = (p.0, NoLf-front xs ys p.1)
 
--- more bytes came behind what is held, where that has no LF
+-- more bytes came after what is held, where that has no LF
 pub more : (old now next : LineState) (a b c : Option (List ℕ)) (bytes : List ℕ) → Moved old now a b → NoLf now.held → Consumes b c bytes
     → next.held ≡ now.held ++ bytes → next.taken ≡ now.taken + length bytes → next.line_limit ≡ now.line_limit
     → next.input_limit ≡ now.input_limit → Moved old next a c

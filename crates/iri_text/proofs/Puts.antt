@@ -39,7 +39,7 @@ pub room-less : (room : Option ℕ) (more less : ℕ) → less ≤ more → HasR
 room-less None more less le h = absurd h
 room-less (Some room) more less le h = omega (arith, le, h)
 
--- room is kept over bytes and others behind them
+-- room is kept over bytes and others after them
 pub room-then : {a b c : Option ℕ} {P Q : Type 0} {xs ys : List ℕ} → KeepsRoom a b xs P → KeepsRoom b c ys Q → KeepsRoom a c (xs ++ ys) Q
 room-then {a} {xs = xs} {ys} p q = record {
   holds = λ h. q.holds (p.left (length ys) (room-less a (length (xs ++ ys)) (length xs + length ys)

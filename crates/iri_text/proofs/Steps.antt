@@ -10,7 +10,7 @@ use Rattle.iri_text.proofs.Moved.{Moved}
 use Rattle.iri_text.proofs.Answered.{next_of, limits_of}
 use Rattle.iri_text.proofs.Parts.{length-part, part-split}
 
--- the front and the rest of a part
+-- the prefix and the rest of a part
 pub part-front : (xs : List ℕ) (a b n : ℕ) → n ≤ b - a → slice_range xs a (a + n) ≡ take n (slice_range xs a b)
 part-front xs a b n h =
     let e : (a + n) - a ≡ n = omega arith in

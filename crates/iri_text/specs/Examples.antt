@@ -20,7 +20,7 @@ lines_with_an_empty_one = refl
 pub lines_with_crs : lines (97 ∷ 13 ∷ 98 ∷ 13 ∷ 13 ∷ 10 ∷ 13 ∷ []) ≡ (97 ∷ 13 ∷ 98 ∷ 13 ∷ []) ∷ [] ∷ []
 lines_with_crs = refl
 
--- nine digits pass a limit of 8 for the line, whatever comes behind
+-- nine digits pass a limit of 8 for the line, whatever comes after
 pub nine_digits : limit_fault 8 20 0 0 (codes "123456789") ≡ Some LineTooLong
 nine_digits = refl
 
@@ -32,7 +32,7 @@ eight_digits = refl
 pub a_cr_counts : limit_fault 8 20 0 0 (codes "12345678" ++ 13 ∷ 10 ∷ []) ≡ Some LineTooLong
 a_cr_counts = refl
 
--- behind 16 bytes the fifth byte is number 21, which passes a limit of 20 for the input
+-- after 16 bytes the fifth byte is number 21, which passes a limit of 20 for the input
 pub the_byte_21 : limit_fault 8 20 16 0 (codes "12345") ≡ Some InputTooLong
 the_byte_21 = refl
 

@@ -1,7 +1,7 @@
 -- A text and the prefix of another.
 use Rattle.std.specs.Prelude.{◌≡◌, ℕ, List, ◌++◌}
 
--- the new text is the old one, and behind it a prefix of another
+-- the new text is the old one, and after it a prefix of another
 pub record IsFrontAfter (old t new : List ℕ) : Type 0 where
   pub front : List ℕ
   pub rest : List ℕ

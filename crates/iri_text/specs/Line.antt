@@ -31,7 +31,7 @@ pub record IsLaidOut (buf : List ℕ) (capacity : ℕ) (ended : Bool) (start end
   pub end_in : end ≤ length buf
   pub line_in : line_start ≤ line_end
   pub line_end_in : line_end ≤ length buf
-  -- the buffer can grow until it has a line of the limit and one block behind it
+  -- the buffer can grow until it has a line of the limit and one block after it
   pub room : line_limit + 65536 ≤ capacity
   pub limit : input_limit < 2 ^ 63
   pub count : taken ≤ input_limit + 1

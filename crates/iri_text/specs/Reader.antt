@@ -65,7 +65,7 @@ abbrev pub done_by : Result Bool LineFault → LineState → LineState
 done_by result reader = record reader { done = is_final result }
 
 -- Where the source tells what is left: the line that is given is the next of the lines, and the others are still to come.
--- There is none where no line is given. (A source isn't asked again behind a last line with no LF.)
+-- There is none where no line is given. (A source isn't asked again after a last line with no LF.)
 abbrev pub GivesNext : LineState → LineState → Option (List ℕ) → Option (List ℕ) → Result Bool LineFault → Type 0
 GivesNext old new (Some xs) (Some ys) (Ok true) = lines (old.held ++ xs) ≡ new.line ∷ lines (new.held ++ ys)
 GivesNext old new (Some xs) (Some ys) (Ok false) = old.ended ≡ false → lines (old.held ++ xs) ≡ []
@@ -83,7 +83,7 @@ pub record Advances (old new : LineState) (left_old left_new : Option (List ℕ)
   pub needed : NoLf old.held ⊎ (moved ≡ [])
   pub line_limit : new.line_limit ≡ old.line_limit
   pub input_limit : new.input_limit ≡ old.input_limit
-  -- behind a last line with no LF nothing comes, and nothing is taken
+  -- after a last line with no LF nothing comes, and nothing is taken
   pub done : old.ended ≡ true → (result ≡ Ok false) × (moved ≡ [])
   pub finished : new.done ≡ is_final result
   pub later : faults_old ≤ faults_new
@@ -93,7 +93,7 @@ pub record Advances (old new : LineState) (left_old left_new : Option (List ℕ)
   -- it answers that a limit is passed exactly where one is, and which one is passed first
   pub limits : limit_fault new.line_limit new.input_limit (old.taken - length old.held) 0 (old.held ++ moved) ≡ limit_told result
 
--- the answer of `advance` behind that of `next_line`
+-- the answer of `advance` after that of `next_line`
 abbrev pub advanced : Result (Option (Bor (List ℕ))) LineFault → Result Bool LineFault
 advanced (Ok None) = Ok false
 advanced (Ok (Some line)) = Ok true

@@ -14,7 +14,7 @@ pub record Writing (W : Type 0) : Type 0 where
   pub faults : ℕ
   pub pending : Bool
 
--- a writer that tells its bytes has a prefix of these behind them
+-- a writer that tells its bytes has a prefix of these after them
 pub record WritesPrefix (old new : Option (List ℕ)) (bytes : List ℕ) : Type 0 where
   pub front : List ℕ
   pub rest : List ℕ

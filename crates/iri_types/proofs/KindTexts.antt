@@ -66,7 +66,7 @@ text-front t = sym (recompose_split t) ∙ recompose-front (split_of t)
 before-front : (s : Tests) → IsSpec s → (t : List ℕ) → reference_fault s t ≡ None → before 35 t ≡ front_of (split_of t)
 before-front s k t h = ap (before 35) (text-front t) ∙ before-marked 35 (front_of (split_of t)) (split_of t).fragment (lacks-split s k t h)
 
--- what stands behind the `#` is the fragment
+-- what comes after the `#` is the fragment
 pub fragment-behind : (s : Tests) → IsSpec s → (t : List ℕ) → reference_fault s t ≡ None → behind 35 t ≡ (split_of t).fragment
 fragment-behind s k t h = ap (behind 35) (text-front t)
     ∙ behind-marked 35 (front_of (split_of t)) (split_of t).fragment (lacks-split s k t h)

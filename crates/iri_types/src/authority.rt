@@ -12,6 +12,7 @@ use iri_grammar::authority::AuthoritySpan;
 use iri_grammar::host::host_is_reg_name;
 use iri_grammar::spec::Spec;
 use std::alloc::AllocError;
+use std::fmt;
 use std::hash::{Hash, Hasher};
 
 /// The parts of an authority, as slices of its text (RFC 3986 section 3.2). They are equal and hashed as that text.
@@ -46,6 +47,16 @@ impl Clone for AuthorityComponents<'_> {
 }
 
 impl Copy for AuthorityComponents<'_> {}
+
+impl fmt::Debug for AuthorityComponents<'_> {
+    fn fmt<W: fmt::Write>(&self, f: &mut fmt::Formatter<W>) -> fmt::Result {
+        f.debug_struct("AuthorityComponents")
+            .field("userinfo", &self.userinfo())
+            .field("host", &self.host())
+            .field("port", &self.port())
+            .finish()
+    }
+}
 
 impl PartialEq for AuthorityComponents<'_> {
     ghost use Rattle.std.specs.Prelude.{nat_eq};

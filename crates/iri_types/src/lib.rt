@@ -4,8 +4,8 @@
 //! A [`View`](view::View) is a `&str` that is in the production of its kind, in a grammar `S`. Its names are
 //! the six of `view`, as `RiStr<'a, S>`, and their aliases for IRIs and URIs, as `IriStr<'a>`. `kind` has the
 //! kinds and what several of them share; `getters` the five parts, `conversions` the ways from kind to kind,
-//! `authority` the components of an authority, `split` views that are cut into their parts once. Slices have the
-//! lifetime of the text, and outlive the view.
+//! `std_conversions` std's traits of conversion, `authority` the components of an authority, `split` views that are cut
+//! into their parts once. Slices have the lifetime of the text, and outlive the view.
 //!
 //! Proved: a view's text is in its production; `new` and `try_from_bytes` refuse exactly the others, each
 //! with its first fault. Getters are the slices of the text's one split, and none exactly where the part is
@@ -21,7 +21,6 @@ pub mod getters;
 pub mod kind;
 pub mod laws;
 pub mod split;
-#[cfg(test)]
-mod tests;
+pub mod std_conversions;
 mod utf8;
 pub mod view;

@@ -26,6 +26,7 @@ use std::alloc::AllocError;
 /// assert_eq!(rt; link.parts().path(), "../g");
 /// assert_eq!(rt; link.parts().fragment(), Some("s"));
 /// ```
+#[derive_where(Debug)]
 pub struct SplitView<'a, S: Spec, K: WholeKind> {
     view: View<'a, S, K>,
     cut: Splitter<'a>,
@@ -111,6 +112,3 @@ impl<'a, S: Spec> SplitView<'a, S, Reference> {
         }
     }
 }
-
-#[cfg(test)]
-mod tests;

@@ -24,7 +24,9 @@ use std::marker::PhantomData;
 #[derive_where(PartialEq, Eq, PartialOrd, Ord, Hash, Debug)]
 pub struct View<'a, S: Spec, K: Kind> {
     text: &'a str,
+    #[derive_where(skip(Debug))]
     spec: PhantomData<S>,
+    #[derive_where(skip(Debug))]
     kind: PhantomData<K>,
     pub ghost valid: { ∥ K.fault S.tests text.now ≡ None ∥₁ },
 }

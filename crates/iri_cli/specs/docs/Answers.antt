@@ -2,22 +2,15 @@
 use Rattle.std.specs.Prelude.{ℕ, List, [], ◌∷◌, ◌++◌, Result, Ok, Err}
 use Rattle.iri_grammar.specs.Classes.{Tests}
 use Rattle.iri_docs.specs.Documents.{line_document}
-use Rattle.iri_docs.specs.ErrorTexts.{description, expand_description}
-use Rattle.iri_docs.specs.Expanded.{expanded}
+use Rattle.iri_docs.specs.ErrorTexts.{description}
 use Rattle.iri_docs.specs.Held.{Held}
 use Rattle.iri_docs.specs.declared.doc_error.DocError.{DocError}
-use Rattle.iri_docs.specs.declared.expand_error.DocExpandError.{DocExpandError}
 use Rattle.iri_text.specs.LineEnds.{line_feed}
-use Rattle.iri_cli.specs.canon.Answer.{good_answer}
+use Rattle.iri_cli.specs.expand.Answers.{template_answer}
 
--- the canonical text of an expansion, or the words for why there is none
-abbrev pub expanded_answer : Result (List ℕ) DocExpandError → List ℕ
-expanded_answer (Ok text) = good_answer text
-expanded_answer (Err e) = expand_description e ++ line_feed ∷ []
-
--- The answer to a document: its template's expansion with its own values, and no other (RFC 6570 section 3).
+-- The answer to a document: that of `expand` to its template, where variables have its own values, and no other (RFC 6570 section 3).
 abbrev pub document_answer : Tests → List ℕ → Held → List ℕ
-document_answer s base d = expanded_answer (expanded s base d.value_of d.template)
+document_answer s base d = template_answer s base d.value_of d.template
 
 abbrev pub read_answer : Tests → List ℕ → Result Held DocError → List ℕ
 read_answer s base (Ok d) = document_answer s base d

@@ -23,13 +23,15 @@ use Rattle.iri_normal.specs.Target.{target}
 use Rattle.iri_normal.specs.Dots.{is_dot_segment}
 use Rattle.iri_normal.specs.DotRemoval.{dots}
 use Rattle.iri_normal.specs.NormalForm.{normal_path, normal_form, form, canonical}
+use Rattle.iri_cli.specs.canon.Answers.{answer_in}
 use Rattle.iri_cli.specs.docs.Answers.{docs_answer}
+use Rattle.iri_cli.specs.expand.Answers.{template_answer, expansion_answer}
 use Rattle.iri_cli.specs.run.Ending.{answers}
 use Rattle.iri_cli.specs.run.Words.{docs_rules}
 
 -- what computes the answer to a line
 unfoldable on_literals : ⊤
-unfolding serde_json_on_literals docs_answer is_utf8 chars encode digits authority_parts recompose_authority any_char unreserved is_ascii_any
+unfolding serde_json_on_literals docs_answer template_answer expansion_answer answer_in is_utf8 chars encode digits authority_parts recompose_authority any_char unreserved is_ascii_any
     is_ascii_reg_name is_ascii_unreserved is_sub_delim is_gen_delim is_letter is_scheme_char over_from recompose split_of relative_split_of
     fault_before_fragment parts_fault path_char query_char is_ascii_path is_ascii_pchar is_ascii_query char_units_from normal_host is_ascii_host
     normal_authority normal units_from first_char fault_from varspec_fault is_reserved_operator is_varname is_name_char pieces_from target

@@ -5,11 +5,10 @@ use Rattle.iri_docs.specs.Expanded.{expansion_limit}
 use Rattle.iri_text.specs.LineEnds.{line_feed}
 use Rattle.iri_template.specs.ErrorTexts.{description}
 use Rattle.iri_template.specs.Expansion.{expansion}
-use Rattle.iri_template.specs.Fault.{first, template_fault}
 use Rattle.iri_template.specs.Reading.{pieces_of}
-use Rattle.iri_template.specs.TypeFaults.{type_fault}
+use Rattle.iri_template.specs.TypeFaults.{expansion_fault}
 use Rattle.iri_template.specs.declared.error.Error.{Error}
-use Rattle.iri_cli.specs.canon.Answer.{answer}
+use Rattle.iri_cli.specs.canon.Answers.{answer}
 use Rattle.iri_cli.specs.run.Refused.{bad_line}
 use Rattle.iri_cli.specs.expand.Lines.{ExpandLine, changes, expands, bad, Values, line_of, values_behind}
 
@@ -32,7 +31,7 @@ expansion_answer s base text = if nat_lt expansion_limit (length text) then too_
 -- associative array that isn't empty (section 2.4.1), or what is answered to its expansion (section 3).
 unfoldable pub template_answer : Tests → List ℕ → Values → List ℕ → List ℕ
 template_answer s base values template =
-    unless_fault (first (template_fault template) (type_fault values (pieces_of template)))
+    unless_fault (expansion_fault values template)
     (expansion_answer s base (expansion s values (pieces_of template)))
 
 -- the answer to what a line says; a line that changes a variable has none

@@ -10,7 +10,7 @@ use Rattle.iri_template.specs.Fault.{fault_from, varspec_fault, is_reserved_oper
 use Rattle.iri_template.specs.Names.{is_varname, is_name_char}
 use Rattle.iri_template.specs.Reading.{pieces_from}
 use Rattle.iri_template.specs.ShownValues.{undefined, string, list, pairs}
-use Rattle.iri_cli.specs.canon.Answer.{answer}
+use Rattle.iri_cli.specs.canon.Answers.{answer}
 use Rattle.iri_cli.specs.expand.Answers.{expand_answer, expansion_answer, template_answer}
 use Rattle.iri_cli.specs.expand.Lines.{line_of, values_behind}
 

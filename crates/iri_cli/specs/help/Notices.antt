@@ -21,3 +21,7 @@ PutsText text written_old written_new faults_old faults_new status =
 abbrev pub Tells : List ℕ → Outside → Outside → Option ℕ → Option ℕ → ℕ → Type 0
 Tells text old new room_old room_new status = PutsText text old.written new.written old.sink_faults new.sink_faults status
     × (new.left ≡ old.left) × (new.source_faults ≡ old.source_faults) × KeepsRoom room_old room_new text (status ≢ 5)
+
+-- A text was made and put so; or allocation failed before anything was put.
+abbrev pub MakesText : List ℕ → Outside → Outside → Option ℕ → Option ℕ → ℕ → Type 0
+MakesText text old new room_old room_new status = Tells text old new room_old room_new status ⊎ ((status ≡ 6) × (new ≡ old))

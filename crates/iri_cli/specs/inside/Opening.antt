@@ -1,7 +1,7 @@
 -- How a command begins: its base line.
 use Rattle.std.specs.Prelude.{◌≡◌, ℕ, true, List, [], None, Some, Result, Ok, Err}
 use Rattle.iri_grammar.specs.Classes.{Tests}
-use Rattle.iri_cli.specs.canon.Answer.{refusal}
+use Rattle.iri_cli.specs.canon.Answers.{refusal}
 use Rattle.iri_cli.specs.run.Answering.{Answering}
 use Rattle.iri_cli.specs.run.Ending.{Rules}
 use Rattle.iri_cli.specs.run.Words.{canon_rules}

@@ -1,11 +1,13 @@
 -- The command `register`: lines that are live, and share an entry.
-use Rattle.std.specs.Prelude.{◌≡◌, ℕ, ◌+◌, List, ◌∷◌, ◌++◌, length, None, Some}
+use Rattle.std.specs.Prelude.{◌≡◌, ◌↔◌, ℕ, ◌+◌, List, ◌∷◌, ◌++◌, length, None, Some}
 use Rattle.std.specs.List.{All}
 use Rattle.iri_grammar.specs.Classes.{Tests}
 use Rattle.iri_grammar.specs.Fault.{bytes_fault}
 use Rattle.iri_grammar.specs.WholeFault.{reference_fault}
 use Rattle.iri_normal.specs.NormalForm.{canonical}
 use Rattle.iri_register.specs.Entries.{place}
+use Rattle.iri_register.specs.Shared.{TargetsJoin}
+use Rattle.iri_cli.specs.canon.Answers.{refusal}
 use Rattle.iri_cli.specs.register.Lines.{RegisterLine, adds, removes, finds, bad, line_of, entries_behind}
 
 module _ (s : Tests) (base : List ℕ) where
@@ -32,3 +34,11 @@ module _ (s : Tests) (base : List ℕ) where
   abbrev pub ShareEntry : List (List ℕ) → List ℕ → List ℕ → Type 0
   ShareEntry lines q r = (k : ℕ) × (place (entries_behind s base lines) (canonical s base q) ≡ Some k)
       × (place (entries_behind s base lines) (canonical s base r) ≡ Some k)
+
+-- Two live lines share an entry exactly where their canonical targets are equal, and that is exactly where steps join the targets of their
+-- references (RFC 3986 sections 5.2 and 6.2.2).
+pub record LiveLinesShareEntries (s : Tests) : Type 0 where
+  pub targets : (base q r : List ℕ) (lines : List (List ℕ)) (m n : ℕ) → IsLiveLine s base lines m q → IsLiveLine s base lines n r
+      → ShareEntry s base lines q r ↔ (canonical s base q ≡ canonical s base r)
+  pub steps : (base q r : List ℕ) (lines : List (List ℕ)) (m n : ℕ) → refusal s base ≡ None → IsLiveLine s base lines m q
+      → IsLiveLine s base lines n r → ShareEntry s base lines q r ↔ TargetsJoin s base q r

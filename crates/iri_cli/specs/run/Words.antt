@@ -6,7 +6,7 @@ use Rattle.iri_percent.specs.declared.canon_mode.CanonMode.{CanonMode}
 use Rattle.iri_percent.specs.declared.canon_mode.CanonMode.TheVariants.{Default, Scheme}
 use Rattle.iri_cli.specs.run.Limits.{longest_line, longest_input}
 use Rattle.iri_cli.specs.run.Ending.{Rules}
-use Rattle.iri_cli.specs.canon.Answer.{refusal, answer_in}
+use Rattle.iri_cli.specs.canon.Answers.{refusal, answer_in}
 use Rattle.iri_cli.specs.docs.Answers.{docs_answer}
 use Rattle.iri_cli.specs.expand.Answers.{expand_answer}
 use Rattle.iri_cli.specs.links.Answers.{links_answer}
@@ -50,20 +50,13 @@ mode_words Scheme = codes "scheme" ∷ []
 -- the words behind that of its grammar
 abbrev pub words_behind : LineCommand → List (List ℕ)
 words_behind (Canon mode) = mode_words mode
-words_behind Expand = []
-words_behind Register = []
-words_behind Links = []
-words_behind Docs = []
 words_behind (Robots token) = token.now ∷ []
+words_behind command = []
 
 -- the token of `robots` is a product token (RFC 9309 section 2.2.1)
 abbrev pub HasToken : LineCommand → Type 0
-HasToken (Canon mode) = Unit {0}
-HasToken Expand = Unit {0}
-HasToken Register = Unit {0}
-HasToken Links = Unit {0}
-HasToken Docs = Unit {0}
 HasToken (Robots token) = is_token token.now ≡ true
+HasToken command = Unit {0}
 
 -- a number from 1 to 100000 in decimal, without a leading zero
 pub record IsCount (word : List ℕ) (count : ℕ) : Type 0 where

@@ -8,7 +8,7 @@ ghost use Rattle.iri_grammar.specs.OptionalSlices.{now_of};
 ghost use Rattle.iri_text.specs.Shown.{Shows};
 ghost use Rattle.iri_types.specs.Texts.{text};
 ghost use Rattle.iri_cli.specs.run.Limits.{longest_line, answer_room};
-ghost use Rattle.iri_cli.specs.canon.Answer.{refusal};
+ghost use Rattle.iri_cli.specs.canon.Answers.{refusal};
 ghost use Rattle.iri_cli.specs.canon.Prepared.{prepared, prepared_path};
 
 use crate::canon::base_of;

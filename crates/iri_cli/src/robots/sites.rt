@@ -2,6 +2,7 @@
 ghost use Rattle.std.specs.Prelude.{◌≡◌, IfOk};
 ghost use Rattle.iri_grammar.specs.OptionalSlices.{now_of};
 ghost use Rattle.iri_grammar.specs.Split.{split_of};
+ghost use Rattle.iri_types.specs.SplitText.{split_text};
 ghost use Rattle.iri_types.specs.Texts.{text};
 ghost use Rattle.iri_cli.specs.robots.Answers.{normal_base, same_part, same_site};
 
@@ -9,7 +10,9 @@ use iri_grammar::spec::Spec;
 use iri_normal::views::Normalize;
 use iri_owned::owned::RiAbsoluteString;
 use iri_text::ToDedicatedString;
-use iri_types::view::{RiAbsoluteStr, RiStr};
+use iri_types::kind::{Absolute, Iri};
+use iri_types::split::SplitView;
+use iri_types::view::RiAbsoluteStr;
 use std::alloc::{AllocError, Global};
 
 /// A base in normal form (RFC 3986 section 6.2.2).
@@ -34,9 +37,12 @@ fn is_part(own: Option<&str>, part: Option<&str>) -> bool
 
 /// Whether a target is of the site of a base.
 #[tactic(auto, unfolding(crate::specs::robots::Answers::same_site))]
-pub(crate) fn is_of_site<S: Spec>(base: RiAbsoluteStr<'_, S>, target: RiStr<'_, S>) -> bool
-    ensures { result ≡ same_site (split_of (text base.entry)) (split_of (text target.entry)) }
+pub(crate) fn is_of_site<S: Spec>(
+    base: &SplitView<'_, S, Absolute>,
+    target: &SplitView<'_, S, Iri>,
+) -> bool
+    ensures { result ≡ same_site (split_of (split_text base.now)) (split_of (split_text target.now)) }
 {
-    is_part(Some(base.scheme_str()), Some(target.scheme_str()))
-        && is_part(base.authority_str(), target.authority_str())
+    let (base, target) = (base.parts(), target.parts());
+    is_part(base.scheme(), target.scheme()) && is_part(base.authority(), target.authority())
 }

@@ -38,18 +38,19 @@ pub trait Answers<S: Spec>: Drop + Sized {
     /// What the command says of lines.
     ghost rules: { Self.Start → Rules };
 
-    /// Whether it stands at these, where references are resolved against this text: the command, the base, and the lines that
-    /// were answered.
+    /// Whether it stands at these, where references are resolved against this text: the command,
+    /// the base, and the lines that were answered.
     ghost stands_at: { Self → List ℕ → Answering → Type 0 };
 
-    /// Takes the base line, which it may change into a base that has the same answers, and a buffer that has the capacity for
-    /// each answer.
+    /// Takes the base line, which it may change into a base that has the same answers, and a buffer
+    /// that has the capacity for each answer.
     fn open(start: Self::Start, base: &mut Vec<u8>, output: Vec<u8>) -> Result<Self, BaseError>
         requires short { length base.old.items ≤ longest_line }
         requires room { answer_room ≤ vec_capacity output }
         ensures { Opens S.tests (rules start) base.old.items base.new.items stands_at result };
 
-    /// Puts the answer to a line within the limits, and says whether a run with it may end in status 0.
+    /// Puts the answer to a line within the limits, and says whether a run with it may end in
+    /// status 0.
     fn answer<O: Sink>(
         &mut self,
         resolver: &FixedBaseResolver<'_, S>,
@@ -59,15 +60,17 @@ pub trait Answers<S: Spec>: Drop + Sized {
         requires { (at : Answering) × (stands_at self.old (base_text resolver.now) at)
             × (length line.now ≤ at.rules.line_limit) × (length at.between ≤ at.rules.input_limit) }
         ensures { (at : Answering) → stands_at self.old (base_text resolver.now) at
-            → AnswersLine (stands_at self.new (base_text resolver.now)) at line.now (O.written sink.old)
-            (O.written sink.new) (O.faults sink.old) (O.faults sink.new) (O.room_left sink.old)
-            (O.room_left sink.new) result };
+            → AnswersLine (stands_at self.new (base_text resolver.now)) at line.now
+            (O.written sink.old) (O.written sink.new) (O.faults sink.old) (O.faults sink.new)
+            (O.room_left sink.old) (O.room_left sink.new) result };
 
     /// Puts the text behind all answers. It takes no memory.
     fn close<O: Sink>(&mut self, sink: &mut O) -> Result<(), Failed>
         ensures { (text : List ℕ) (at : Answering) → stands_at self.old text at
-            → PutsAll (O.written sink.old) (O.written sink.new) (O.faults sink.old) (O.faults sink.new)
-            (O.room_left sink.old) (O.room_left sink.new) result (at.rules.closing at.base at.between) };
+            → PutsAll
+            (O.written sink.old) (O.written sink.new) (O.faults sink.old) (O.faults sink.new)
+            (O.room_left sink.old) (O.room_left sink.new) result
+            (at.rules.closing at.base at.between) };
 
     /// Limits and base of the command are those of every command.
     ghost begins: { (start : Self.Start) → BeginsAsCanon S.tests (rules start) };

@@ -50,9 +50,10 @@ pub fn read_base<I: Source>(
 
 /// Writes why a base line is refused, which ends the run.
 pub fn refuse_base<O: Sink>(sink: &mut O, words: &str) -> End
-    ensures refuses { RefusesBase words.now (O.written sink.old) (O.written sink.new) (O.faults sink.old)
-        (O.faults sink.new) result }
-    ensures room { KeepsRoom (O.room_left sink.old) (O.room_left sink.new) (base_line words.now) (result ≢ SinkFailed) }
+    ensures refuses { RefusesBase words.now
+        (O.written sink.old) (O.written sink.new) (O.faults sink.old) (O.faults sink.new) result }
+    ensures room { KeepsRoom (O.room_left sink.old) (O.room_left sink.new) (base_line words.now)
+        (result ≢ SinkFailed) }
 {
     match put_refusal(sink, words) {
         Ok(()) => End::BadBase,
@@ -61,7 +62,8 @@ pub fn refuse_base<O: Sink>(sink: &mut O, words: &str) -> End
 }
 
 fn put_refusal<O: Sink>(sink: &mut O, words: &str) -> Result<(), Failed>
-    ensures { PutsAll (O.written sink.old) (O.written sink.new) (O.faults sink.old) (O.faults sink.new)
+    ensures { PutsAll
+        (O.written sink.old) (O.written sink.new) (O.faults sink.old) (O.faults sink.new)
         (O.room_left sink.old) (O.room_left sink.new) result (base_line words.now) }
 {
     sink.put_all(b"base ")?;

@@ -12,12 +12,12 @@ pub const LINE: usize = 1048576;
 /// How many bytes the input may have.
 pub const INPUT: u64 = 1073741824;
 
-/// How many bytes an answer may have: three, then a text with at most as many as its base and its reference together and three more,
-/// and an LF.
+/// How many bytes an answer may have: three, then a text with at most as many as its base and its
+/// reference together and three more, and an LF.
 pub const OUTPUT: usize = 2 * LINE + 7;
 
-/// All of the memory that a run of `canon` needs: for a reader of lines, the base line, and an answer. Of the last two it uses only as
-/// much as its longest lines need.
+/// All of the memory that a run of `canon` needs: for a reader of lines, the base line, and an
+/// answer. Of the last two it uses only as much as its longest lines need.
 #[derive(Drop)]
 pub struct CanonBuffers {
     pub(crate) reader: LineReader,
@@ -27,14 +27,15 @@ pub struct CanonBuffers {
 }
 
 impl CanonBuffers {
-    /// Takes the memory: 65,536 bytes and a line for a reader that took nothing yet, a line for the base, and two lines and seven bytes
-    /// for an answer.
+    /// Takes the memory: 65,536 bytes and a line for a reader that took nothing yet, a line for the
+    /// base, and two lines and seven bytes for an answer.
     ///
     /// # Errors
     ///
     /// Where that is refused, and only there.
     pub fn new(alloc: Global) -> Result<CanonBuffers, AllocError>
-        ensures { IfOk result (λ b. AreBuffers b.reader (vec_capacity b.base) (vec_capacity b.output)) }
+        ensures { IfOk result
+            (λ b. AreBuffers b.reader (vec_capacity b.base) (vec_capacity b.output)) }
     {
         let reader = LineReader::new(alloc, LINE, INPUT)?;
         let base = Vec::with_capacity(alloc, LINE)?;

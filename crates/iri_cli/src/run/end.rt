@@ -5,7 +5,8 @@ ghost use Rattle.iri_cli.specs.run.Closes.{Finishes};
 
 use iri_text::{Failed, Sink};
 
-/// How a run ends: that over the lines of an input, or `Done` and `SinkFailed` of one that writes a text.
+/// How a run ends: that over the lines of an input, or `Done` and `SinkFailed` of one that writes a
+/// text.
 #[derive(Clone, Copy)]
 pub enum End {
     /// All lines were answered, and each answer is good; or the text was written.
@@ -42,9 +43,11 @@ pub fn status(end: End) -> u8
     }
 }
 
-/// The status of a run that ended so, once its sink is flushed. A sink that failed isn't asked again.
+/// The status of a run that ended so, once its sink is flushed. A sink that failed isn't asked
+/// again.
 pub fn finish<O: Sink>(sink: &mut O, end: End) -> u8
-    ensures { Finishes (O.written sink.old) (O.written sink.new) (O.faults sink.old) (O.faults sink.new)
+    ensures { Finishes
+        (O.written sink.old) (O.written sink.new) (O.faults sink.old) (O.faults sink.new)
         (O.room_left sink.old) (O.room_left sink.new) end result }
 {
     match end {

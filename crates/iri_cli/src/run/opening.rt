@@ -1,17 +1,17 @@
 // The run of a command over the lines of a source.
 ghost use Rattle.std.specs.Prelude.{◌≡◌, None, MatchResult};
 ghost use Rattle.std.specs.Vec.{vec_capacity};
-ghost use Rattle.iri_cli.specs.canon.Answer.{refusal};
+ghost use Rattle.iri_cli.specs.canon.Answers.{refusal};
 ghost use Rattle.iri_cli.specs.run.Buffers.{AreBuffers};
 ghost use Rattle.iri_cli.specs.run.Run.{Ran, Runs, outside};
 ghost use Rattle.iri_cli.specs.inside.Opening.{RefusesLine};
 
 use crate::canon::{base_of, resolver_of};
+use crate::run::answering::{answer_lines, fault_end};
 use crate::run::answers::{Answers, BaseError};
 use crate::run::base::{read_base, refuse_base};
 use crate::run::buffers::CanonBuffers;
 use crate::run::end::{End, finish};
-use crate::run::lines::{answer_lines, fault_end};
 use iri_grammar::spec::Spec;
 use iri_owned::owned::RiAbsoluteString;
 use iri_text::{LineReader, Sink, Source};
@@ -22,7 +22,8 @@ pub(crate) fn own_base<S: Spec>(
     alloc: Global,
     line: &[u8],
 ) -> Result<RiAbsoluteString<S>, BaseError>
-    ensures { MatchResult result (λ base. (base.text ≡ line.now) × (refusal S.tests line.now ≡ None))
+    ensures { MatchResult result
+        (λ base. (base.text ≡ line.now) × (refusal S.tests line.now ≡ None))
         (RefusesLine S.tests line.now) }
 {
     match base_of::<S>(line) {
@@ -41,8 +42,8 @@ fn answer_with<S: Spec, A: Answers<S>, I: Source, O: Sink>(
     sink: &mut O,
 ) -> End
     requires { AreBuffers reader (vec_capacity base.old) (vec_capacity output) }
-    ensures { Ran (A.rules start) (outside (I.left source.old) (O.written sink.old) (I.faults source.old)
-        (O.faults sink.old))
+    ensures { Ran (A.rules start)
+        (outside (I.left source.old) (O.written sink.old) (I.faults source.old) (O.faults sink.old))
         (outside (I.left source.new) (O.written sink.new) (I.faults source.new) (O.faults sink.new))
         (O.room_left sink.old) (O.room_left sink.new) result }
 {
@@ -60,8 +61,8 @@ fn answer_with<S: Spec, A: Answers<S>, I: Source, O: Sink>(
     }
 }
 
-/// Reads a base line and the lines of a command behind it, answers each, and gives the program's status. It takes no memory
-/// but the buffers and what the command takes.
+/// Reads a base line and the lines of a command behind it, answers each, and gives the program's
+/// status. It takes no memory but the buffers and what the command takes.
 pub(crate) fn run_lines<S: Spec, A: Answers<S>, I: Source, O: Sink>(
     start: A::Start,
     buffers: CanonBuffers,

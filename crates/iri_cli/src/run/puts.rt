@@ -10,7 +10,8 @@ use iri_text::{Failed, Sink, write_to_slice};
 
 /// Puts a number in decimal.
 pub(crate) fn put_number<O: Sink>(sink: &mut O, number: usize) -> Result<(), Failed>
-    ensures { PutsAll (O.written sink.old) (O.written sink.new) (O.faults sink.old) (O.faults sink.new)
+    ensures { PutsAll
+        (O.written sink.old) (O.written sink.new) (O.faults sink.old) (O.faults sink.new)
         (O.room_left sink.old) (O.room_left sink.new) result (decimal number) }
 {
     let mut digits = [0u8; 20];
@@ -22,8 +23,10 @@ pub(crate) fn put_number<O: Sink>(sink: &mut O, number: usize) -> Result<(), Fai
 
 /// Puts the prefix of a refused reference, the words for its fault and an LF.
 pub(crate) fn put_bad<O: Sink>(sink: &mut O, words: &str) -> Result<(), Failed>
-    ensures { PutsAll (O.written sink.old) (O.written sink.new) (O.faults sink.old) (O.faults sink.new)
-        (O.room_left sink.old) (O.room_left sink.new) result (codes "bad " ++ (words.now ++ line_feed ∷ [])) }
+    ensures { PutsAll
+        (O.written sink.old) (O.written sink.new) (O.faults sink.old) (O.faults sink.new)
+        (O.room_left sink.old) (O.room_left sink.new) result
+        (codes "bad " ++ (words.now ++ line_feed ∷ [])) }
 {
     sink.put_all(b"bad ")?;
     sink.put_all(words.as_bytes())?;
@@ -32,7 +35,8 @@ pub(crate) fn put_bad<O: Sink>(sink: &mut O, words: &str) -> Result<(), Failed>
 
 /// Puts the answer to a line that asks nothing.
 pub(crate) fn put_bad_line<O: Sink>(sink: &mut O) -> Result<(), Failed>
-    ensures { PutsAll (O.written sink.old) (O.written sink.new) (O.faults sink.old) (O.faults sink.new)
+    ensures { PutsAll
+        (O.written sink.old) (O.written sink.new) (O.faults sink.old) (O.faults sink.new)
         (O.room_left sink.old) (O.room_left sink.new) result bad_line }
 {
     sink.put_all(b"bad line\n")

@@ -1,9 +1,9 @@
 // Answers that depend on the base and their line alone.
-ghost use Rattle.std.specs.Prelude.{◌≡◌, ◌≢◌, ◌++◌, ◌∷◌, [], ℕ, List, Err, IfOk, string_bytes};
+ghost use Rattle.std.specs.Prelude.{◌≡◌, ◌≢◌, ◌++◌, ◌∷◌, [], ℕ, List, Err, OnOk, string_bytes};
 ghost use Rattle.iri_grammar.specs.Classes.{Tests};
 ghost use Rattle.iri_text.specs.LineEnds.{line_feed};
 ghost use Rattle.iri_text.specs.Sink.{KeepsRoom};
-ghost use Rattle.iri_types.specs.Texts.{text};
+ghost use Rattle.iri_normal.specs.Resolver.{base_text};
 ghost use Rattle.iri_cli.specs.canon.Puts.{PutsLine};
 ghost use Rattle.iri_cli.specs.declared.run.answers.AnswerError.TheVariants.{SinkFailed};
 
@@ -13,7 +13,6 @@ use crate::run::puts::told;
 use iri_grammar::spec::Spec;
 use iri_normal::resolver::FixedBaseResolver;
 use iri_text::{Failed, Show, Sink, try_append_to_string};
-use iri_types::view::RiAbsoluteStr;
 use std::alloc::{AllocError, Global};
 use std::marker::PhantomData;
 
@@ -22,34 +21,38 @@ pub trait Stateless {
     /// The answer, with its LF, by a grammar and the base.
     ghost answer: { Tests → List ℕ → List ℕ → List ℕ };
 
-    /// The answer to a line, with its LF. It fails on allocation failure alone.
-    fn answer_to<S: Spec>(
+    /// Writes the answer to a line, with its LF, in place of what a string holds. It fails on allocation failure alone.
+    fn write_answer<S: Spec>(
         alloc: Global,
-        base: RiAbsoluteStr<'_, S>,
+        resolver: &FixedBaseResolver<'_, S>,
         line: &[u8],
-    ) -> Result<String, AllocError>
-        ensures { IfOk result (λ t. string_bytes t ≡ answer S.tests (text base.entry) line.now) };
+        dest: &mut String,
+    ) -> Result<(), AllocError>
+        ensures { OnOk result (string_bytes dest.new ≡ answer S.tests (base_text resolver.now) line.now) };
 }
 
-/// A line of words and a shown text, with its LF.
-pub(crate) fn shown_line<T: Show>(
-    alloc: Global,
+/// Writes a line of words and a shown text, with its LF, in place of what a string holds.
+pub(crate) fn write_line<T: Show>(
+    dest: &mut String,
     words: &str,
     shown: &T,
-) -> Result<String, AllocError>
-    ensures { IfOk result (λ t. string_bytes t ≡ words.now ++ (T.text shown.now ++ line_feed ∷ [])) }
+) -> Result<(), AllocError>
+    ensures { OnOk result
+        (string_bytes dest.new ≡ words.now ++ (T.text shown.now ++ line_feed ∷ [])) }
 {
-    let mut line = String::from_str(alloc, words)?;
-    try_append_to_string(&mut line, shown)?;
-    line.push('\n')?;
-    Ok(line)
+    dest.clear();
+    dest.push_str(words)?;
+    try_append_to_string(dest, shown)?;
+    dest.push('\n')
 }
 
 // Puts an answer, and says whether it is good.
 fn put_answer<O: Sink>(sink: &mut O, answer: &str) -> Result<bool, AnswerError>
-    ensures puts { PutsLine (O.written sink.old) (O.written sink.new) (O.faults sink.old) (O.faults sink.new)
+    ensures puts { PutsLine
+        (O.written sink.old) (O.written sink.new) (O.faults sink.old) (O.faults sink.new)
         answer.now result }
-    ensures room { KeepsRoom (O.room_left sink.old) (O.room_left sink.new) answer.now (result ≢ Err SinkFailed) }
+    ensures room { KeepsRoom (O.room_left sink.old) (O.room_left sink.new) answer.now
+        (result ≢ Err SinkFailed) }
 {
     let answer = answer.as_bytes();
     told(answer.starts_with(b"ok "), sink.put_all(answer))
@@ -59,6 +62,8 @@ fn put_answer<O: Sink>(sink: &mut O, answer: &str) -> Result<bool, AnswerError>
 #[derive(Drop)]
 pub struct StatelessAnswers<C: Stateless> {
     alloc: Global,
+    // The last answer.
+    answer: String,
     command: PhantomData<C>,
 }
 
@@ -79,6 +84,7 @@ impl<S: Spec, C: Stateless> Answers<S> for StatelessAnswers<C> {
         match base_of::<S>(base) {
             Ok(_) => Ok(StatelessAnswers {
                 alloc,
+                answer: String::new(alloc),
                 command: PhantomData,
             }),
             Err(words) => Err(BaseError::Refused(words)),
@@ -91,8 +97,8 @@ impl<S: Spec, C: Stateless> Answers<S> for StatelessAnswers<C> {
         line: &[u8],
         sink: &mut O,
     ) -> Result<bool, AnswerError> {
-        match C::answer_to(self.alloc, resolver.base(), line) {
-            Ok(answer) => put_answer(sink, answer.as_str()),
+        match C::write_answer(self.alloc, resolver, line, &mut self.answer) {
+            Ok(()) => put_answer(sink, self.answer.as_str()),
             Err(_) => Err(AnswerError::Memory),
         }
     }

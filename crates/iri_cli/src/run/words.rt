@@ -24,7 +24,8 @@ pub enum Grammar {
 pub enum LineCommand<'a> {
     /// To answer each reference line by its canonical text, by the rules of a mode.
     Canon(CanonMode),
-    /// To answer each template by the canonical text of its expansion, with the values that lines before give variables.
+    /// To answer each template by the canonical text of its expansion, with the values that lines
+    /// before give variables.
     Expand,
     /// To keep each canonical link once, with the numbers of its lines.
     Register,
@@ -63,8 +64,10 @@ fn grammar_of(word: &str) -> Option<Grammar>
 
 // The command over lines of this name, without a word behind that of its grammar.
 fn line_command_of(word: &str) -> Option<LineCommand<'static>>
-    ensures { MatchOption result ((command : LineCommand) → words_behind command ≡ [] → word.now ≢ command_word command)
-        (λ command. (word.now ≡ command_word command) × (words_behind command ≡ []) × HasToken command) }
+    ensures { MatchOption result
+        ((command : LineCommand) → words_behind command ≡ [] → word.now ≢ command_word command)
+        (λ command. (word.now ≡ command_word command) × (words_behind command ≡ [])
+        × HasToken command) }
 {
     if word == "canon" {
         Some(LineCommand::Canon(CanonMode::Default))
@@ -118,7 +121,8 @@ fn command_of_one(word: &str) -> Option<Command<'static>>
 
 // The command of two words.
 fn command_of_two(name: &str, grammar: &str) -> Option<Command<'static>>
-    ensures { MatchOption result ((command : Command) → ¬ (IsCommand (name.now ∷ grammar.now ∷ []) command))
+    ensures { MatchOption result
+        ((command : Command) → ¬ (IsCommand (name.now ∷ grammar.now ∷ []) command))
         (IsCommand (name.now ∷ grammar.now ∷ [])) }
 {
     let command = line_command_of(name)?;
@@ -148,7 +152,8 @@ fn command_of_three<'a>(name: &str, grammar: &str, third: &'a str) -> Option<Com
 
 /// The command of these words, where they are one.
 pub fn command_of(words: &[String]) -> Option<Command<'_>>
-    ensures { MatchOption result ((command : Command) → ¬ (IsCommand (map string_bytes words.now) command))
+    ensures { MatchOption result
+        ((command : Command) → ¬ (IsCommand (map string_bytes words.now) command))
         (IsCommand (map string_bytes words.now)) }
 {
     match words {

@@ -1,11 +1,10 @@
 -- Path, query and fragment of a text, as the splitter cuts them.
-use Rattle.std.specs.Prelude.{◌≡◌, ℕ, true, List, Option}
-use Rattle.iri_grammar.specs.Characters.{number_sign, question_mark}
+use Rattle.std.specs.Prelude.{◌≡◌, ℕ, true, false, List, Option}
+use Rattle.iri_grammar.specs.Characters.{number_sign, percent_sign, question_mark}
 use Rattle.iri_grammar.specs.Classes.{Tests}
 use Rattle.iri_grammar.specs.Components.{if_there, is_path, is_query, is_fragment}
-use Rattle.iri_grammar.specs.Cut.{before, behind}
+use Rattle.iri_grammar.specs.Cut.{before, behind, lacks}
 use Rattle.iri_grammar.specs.OptionalSlices.{now_of}
-use Rattle.iri_grammar.specs.Triplets.{LackTriplets}
 use Rattle.iri_grammar.specs.Split.{hier_of}
 use Rattle.iri_grammar.specs.declared.tail.Tail.{Tail}
 
@@ -15,9 +14,11 @@ pub record IsTail (t : List ℕ) (p : Tail) : Type 0 where
   pub query : now_of p.query ≡ behind question_mark (before number_sign t)
   pub fragment : now_of p.fragment ≡ behind number_sign t
 
--- no triplet stands in them
-abbrev pub LacksTripletsInTail : Tail → Type 0
-LacksTripletsInTail p = LackTriplets p.path.now (now_of p.query) (now_of p.fragment)
+-- what its notes promise
+abbrev pub KeepsNotes : Tail → Type 0
+KeepsNotes p = (p.path_triplets ≡ false → lacks percent_sign p.path.now ≡ true)
+    × (p.query_triplets ≡ false → if_there (lacks percent_sign) (now_of p.query) ≡ true)
+    × (p.fragment_triplets ≡ false → if_there (lacks percent_sign) (now_of p.fragment) ≡ true)
 
 -- each is in its production
 abbrev pub AreOver : Tests → List ℕ → Option (List ℕ) → Option (List ℕ) → Type 0

@@ -1,11 +1,8 @@
 // The validators of whole texts (RFC 3986 section 4).
-ghost use Rattle.std.specs.Prelude.{◌≡◌, ◌&&◌, true};
-ghost use Rattle.std.specs.List.{list_all};
+ghost use Rattle.std.specs.Prelude.{◌≡◌, ◌&&◌};
 ghost use Rattle.iri_grammar.specs.Characters.{colon, slash};
-ghost use Rattle.iri_grammar.specs.ClassTests.{ascii_test};
-ghost use Rattle.iri_grammar.specs.Components.{if_there, is_path};
+ghost use Rattle.iri_grammar.specs.Components.{is_path};
 ghost use Rattle.iri_grammar.specs.Cut.{before, lacks};
-ghost use Rattle.iri_grammar.specs.declared.class.Class.TheVariants.{RegName};
 ghost use Rattle.iri_grammar.specs.Fault.{Answers, unless, authority_fault, first, fragment_fault, part_fault};
 ghost use Rattle.iri_grammar.specs.WholeFault.{colon_allowed, fault_before_fragment, parts_fault, missing_scheme_fault};
 ghost use Rattle.iri_grammar.specs.WholeFault.{reference_fault, iri_fault, absolute_fault, relative_fault};
@@ -89,7 +86,7 @@ fn front<S: Spec>(p: &Splitter<'_>) -> Result<(), Error>
 
 // Authority, path, query and fragment.
 #[tactic(auto, unfolding(crate::specs::WholeFault::parts_fault))]
-fn front_and_fragment<S: Spec>(p: &Splitter<'_>) -> Result<(), Error>
+pub(crate) fn judge<S: Spec>(p: &Splitter<'_>) -> Result<(), Error>
     ensures { Answers result (parts_fault S.tests (fragment_fault S.tests) (parts p.now)) }
 {
     front::<S>(p)?;
@@ -108,24 +105,18 @@ fn authority_and_colon<S: Spec>(p: &Splitter<'_>) -> Result<(), Error>
     colon_in_place(p)
 }
 
-// Authority, path, query and fragment, of which the first may have been found to be a plain name or none, and the last three
-// to be each in its production.
+// Authority, path, query and fragment, of which the last three are each in its production.
 #[inline(always)]
-pub(crate) fn judge<S: Spec>(p: &Splitter<'_>, named: bool, over: bool) -> Result<(), Error>
-    requires name { named ≡ true → if_there (list_all (ascii_test RegName)) (parts p.now).authority ≡ true }
-    requires over { over ≡ true → AreOver S.tests (parts p.now).path (parts p.now).query (parts p.now).fragment }
+pub(crate) fn judge_front<S: Spec>(p: &Splitter<'_>) -> Result<(), Error>
+    requires over { AreOver S.tests (parts p.now).path (parts p.now).query (parts p.now).fragment }
     ensures { Answers result (parts_fault S.tests (fragment_fault S.tests) (parts p.now)) }
 {
-    if named && over {
+    if !p.seen().other_authority {
         return colon_in_place(p);
     }
-    // The calls get a copy: the parts themselves can stay in registers.
+    // The call gets a copy: the parts themselves can stay in registers.
     let parts = *p;
-    if over {
-        authority_and_colon::<S>(&parts)
-    } else {
-        front_and_fragment::<S>(&parts)
-    }
+    authority_and_colon::<S>(&parts)
 }
 
 // The scheme and its colon.
@@ -223,7 +214,7 @@ pub fn absolute_iri<S: Spec>(s: &str) -> Result<(), Error>
 pub fn relative_ref<S: Spec>(s: &str) -> Result<(), Error>
     ensures { Answers result (relative_fault S.tests s.now) }
 {
-    front_and_fragment::<S>(&Splitter::cut_relative(s))
+    judge::<S>(&Splitter::cut_relative(s))
 }
 
 #[cfg(test)]

@@ -1,5 +1,5 @@
 -- Where a path is searched for its first dot segment.
-use Rattle.std.specs.Prelude.{ℕ, Bool, false, not, ◌&&◌, ◌||◌, ◌==◌, List, [], ◌∷◌}
+use Rattle.std.specs.Prelude.{ℕ, Bool, false, ◌&&◌, ◌==◌, List, [], ◌∷◌}
 use Rattle.iri_grammar.specs.Cut.{before, behind}
 use Rattle.iri_grammar.specs.inside.PiecesLaws.{more_pieces}
 use Rattle.iri_normal.specs.Dots.{is_dot_segment, any_dot_segment}
@@ -16,7 +16,3 @@ slash_and_dots (x ∷ xs) = x == 47 && dots_in_front xs
 -- a dot segment stands after the first slash
 abbrev pub dots_behind : List ℕ → Bool
 dots_behind path = any_dot_segment (more_pieces 47 (behind 47 path))
-
--- of two bytes side by side, that no slash stands before what begins a dot
-abbrev pub begins_plain : ℕ → ℕ → Bool
-begins_plain x y = not (x == 47 && (y == 46 || y == 37))

@@ -1,11 +1,17 @@
 -- References that end their canonical text as they stand.
-use Rattle.std.specs.Prelude.{◌≡◌, ℕ, Bool, true, false, not, ◌&&◌, ◌||◌, List, ◌++◌, is_some}
+use Rattle.std.specs.Prelude.{◌≡◌, ℕ, ◌≤◌, Bool, true, false, not, ◌&&◌, ◌||◌, List, ◌++◌, is_some, length}
+use Rattle.std.specs.Str.{IsAscii}
 use Rattle.iri_grammar.specs.Characters.{percent_sign}
 use Rattle.iri_grammar.specs.Classes.{Tests}
 use Rattle.iri_grammar.specs.Components.{if_there}
 use Rattle.iri_grammar.specs.Cut.{lacks}
 use Rattle.iri_grammar.specs.Parts.{Parts, starts_with_slashes}
 use Rattle.iri_normal.specs.Dots.{has_dot_segment}
+use Rattle.iri_grammar.specs.Split.{split_of}
+use Rattle.iri_percent.specs.Triplets.{pct}
+use Rattle.iri_percent.specs.Units.{whole_triplets}
+use Rattle.iri_normal.specs.LowerCase.{lowered}
+use Rattle.iri_normal.specs.NormalForm.{canonical}
 use Rattle.iri_normal.specs.Prefix.{prefix_in}
 use Rattle.iri_normal.specs.Target.{ends_at_slash, target}
 
@@ -13,21 +19,41 @@ use Rattle.iri_normal.specs.Target.{ends_at_slash, target}
 abbrev pub lacks_triplets_and_dots : List ℕ → List ℕ → Bool
 lacks_triplets_and_dots text path = lacks percent_sign text && not (has_dot_segment path)
 
--- no triplet stands behind the authority, and no dot segment in the path
-abbrev pub IsPlainReference : Parts → Type 0
-IsPlainReference r = (has_dot_segment r.path ≡ false) × (lacks percent_sign r.path ≡ true) × (if_there (lacks percent_sign) r.query ≡ true)
+-- no triplet stands behind the authority
+abbrev pub LacksTriplets : Parts → Type 0
+LacksTriplets r = (lacks percent_sign r.path ≡ true) × (if_there (lacks percent_sign) r.query ≡ true)
     × (if_there (lacks percent_sign) r.fragment ≡ true)
+
+-- scheme and authority are in normal form as they stand, and have no triplet
+abbrev pub KeepsPrefix : Tests → Parts → Type 0
+KeepsPrefix s r = (prefix_in s true r ≡ prefix_in s false r) × (lacks percent_sign (prefix_in s false r) ≡ true)
 
 -- beside its authority the base puts a path before relative ones that stays as it is
 abbrev pub is_plain_front : Parts → List ℕ → Bool
 is_plain_front base front = is_some base.authority && lacks_triplets_and_dots front front
 
--- of a reference that is plain, the target's text in normal form is its own behind these two: the prefix and the path of the base, or nothing
-pub record StandBefore (s : Tests) (base reference : Parts) (prefix front : List ℕ) : Type 0 where
+-- of a reference without dot segments, the target's text in normal form is its own behind these two, but for triplets: the prefix and the
+-- path of the base, or nothing; and its own prefix is `own` in that form
+pub record StandBefore (s : Tests) (base reference : Parts) (prefix front own : List ℕ) : Type 0 where
   pub path : (target base reference).path ≡ front ++ reference.path
   pub query : (target base reference).query ≡ reference.query
   pub fragment : (target base reference).fragment ≡ reference.fragment
   pub plain : lacks_triplets_and_dots front front ≡ true
   pub ends : ends_at_slash front ≡ true
   pub unguarded : (is_some (target base reference).authority || not (starts_with_slashes (front ++ reference.path))) ≡ true
-  pub text : prefix_in s true (target base reference) ++ front ≡ prefix ++ (front ++ prefix_in s false reference)
+  pub text : prefix_in s true (target base reference) ++ front ≡ prefix ++ (front ++ own)
+  pub percent : lacks percent_sign (prefix_in s false reference) ≡ true
+
+-- the canonical text is that of the reference behind these two, with its triplets in normal form
+pub record EndsCanonical (s : Tests) (base reference prefix front : List ℕ) : Type 0 where
+  pub text : canonical s base reference ≡ prefix ++ (front ++ pct s reference)
+  pub whole : whole_triplets reference ≡ true
+  pub bare : LacksTriplets (split_of reference) → lacks percent_sign reference ≡ true
+
+-- the canonical text, against any base, is the first piece of the reference in lower case, and the second with its triplets in normal form
+pub record IsLowered (s : Tests) (reference first second : List ℕ) : Type 0 where
+  pub text : (base : List ℕ) → canonical s base reference ≡ lowered first ++ pct s second
+  pub ascii : IsAscii first
+  pub short : length first ≤ 64
+  pub whole : whole_triplets second ≡ true
+  pub bare : LacksTriplets (split_of reference) → lacks percent_sign second ≡ true

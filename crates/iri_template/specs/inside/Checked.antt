@@ -10,7 +10,7 @@ use Rattle.iri_template.specs.TypeFaults.{is_mistyped_as}
 use Rattle.iri_template.specs.inside.Members.{is_member}
 use Rattle.iri_template.specs.inside.Written.{WriteState, event_step, event_text, told_texts, prefix_of}
 use Rattle.iri_template.specs.declared.operator.Operator.{Operator}
-use Rattle.iri_template.specs.declared.place.Place.{Place}
+use Rattle.iri_template.specs.declared.expression_state.ExpressionState.{ExpressionState}
 use Rattle.iri_template.specs.declared.varspec.Modifier.{Modifier}
 use Rattle.iri_template.specs.declared.varspec.VarSpec.{VarSpec}
 
@@ -49,18 +49,18 @@ puts_some refused (e ∷ es) = is_put refused e || puts_some refused es
 
 -- ---- a varspec as it is held
 -- what it writes for a value
-abbrev pub place_texts : Tests → Place → ShownValue → List (List ℕ)
-place_texts s p told = told_texts s (row_of p.operator) p.name.text.now p.modifier told
+abbrev pub state_texts : Tests → ExpressionState → ShownValue → List (List ℕ)
+state_texts s p told = told_texts s (row_of p.operator) p.name.text.now p.modifier told
 
 -- its portion, with the value that is told to be written; whether the one before was mistyped
-abbrev pub place_portion : Tests → ℕ → Place → Bool → ShownValue → Portion
-place_portion s at p mistyped told = record {
+abbrev pub state_portion : Tests → ℕ → ExpressionState → Bool → ShownValue → Portion
+state_portion s at p mistyped told = record {
   location = at;
-  text = led (row_of p.operator) p.written (place_texts s p told);
+  text = led (row_of p.operator) p.written (state_texts s p told);
   mistyped = mistyped || is_mistyped_as p.modifier told;
   calls = cond mistyped 1 2;
 }
 
 abbrev pub held_portion : Tests → Operator → ℕ → Bool → VarSpec → Bool → ShownValue → Portion
 held_portion s operator at written v mistyped told =
-    place_portion s at (record { operator = operator; name = v.name; modifier = v.modifier; written = written; member = false }) mistyped told
+    state_portion s at (record { operator = operator; name = v.name; modifier = v.modifier; written = written; member = false }) mistyped told

@@ -43,7 +43,7 @@ left_over end (suc k) (x ∷ xs) = cond (end || is_settled (x ∷ xs)) (left_ove
 -- ---- the steps
 -- what is held back, and how many units may still be written
 pub record UnitState : Type 0 where
-  pub held : List ℕ
+  pub pending : List ℕ
   pub left : Option ℕ
 
 -- so many units fewer
@@ -51,12 +51,12 @@ abbrev pub fewer : Option ℕ → ℕ → Option ℕ
 fewer None n = None
 fewer (Some m) n = Some (m - n)
 
--- a character that is no part of a triplet ends what is held
+-- a character that is no part of a triplet ends what is pending
 abbrev pub step_units : List ℕ → ℕ → List TextUnit
 step_units h c = cond (is_part c) (told_units false 12 (h ++ c ∷ [])) (units h ++ Plain c ∷ [])
 
-abbrev pub step_held : List ℕ → ℕ → List ℕ
-step_held h c = cond (is_part c) (left_over false 12 (h ++ c ∷ [])) []
+abbrev pub step_pending : List ℕ → ℕ → List ℕ
+step_pending h c = cond (is_part c) (left_over false 12 (h ++ c ∷ [])) []
 
 -- none may be written any more
 abbrev pub is_used_up : Option ℕ → Bool
@@ -64,7 +64,7 @@ is_used_up (Some zero) = true
 is_used_up left = false
 
 abbrev pub next_state : UnitState → ℕ → UnitState
-next_state u c = record { held = step_held u.held c; left = fewer u.left (length (step_units u.held c)) }
+next_state u c = record { pending = step_pending u.pending c; left = fewer u.left (length (step_units u.pending c)) }
 
 -- after the last unit that may be written nothing is held back any more
 abbrev pub unit_step : UnitState → ℕ → UnitState
@@ -74,4 +74,4 @@ abbrev pub written_units : Tests → Option ℕ → List TextUnit → List ℕ
 written_units s left us = flat_map (kept_unit s) (limited left us)
 
 abbrev pub unit_step_text : Tests → UnitState → ℕ → List ℕ
-unit_step_text s u c = written_units s u.left (step_units u.held c)
+unit_step_text s u c = written_units s u.left (step_units u.pending c)

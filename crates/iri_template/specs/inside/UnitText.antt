@@ -11,7 +11,7 @@ use Rattle.iri_template.specs.declared.unit_sink.UnitSink.{UnitSink}
 
 module _ {S W : Type 0} (s : Tests) where
   abbrev pub state_of : UnitSink S W → UnitState
-  state_of u = record { held = u.held; left = u.left }
+  state_of u = record { pending = u.pending; left = u.left }
 
   abbrev pub UnitPuts : (W → List ℕ → W → Type 0) → UnitSink S W → List ℕ → UnitSink S W → Type 0
   UnitPuts puts = CharsPut (ThroughPuts unit_step (unit_step_text s) state_of (λ u. u.to.now) (λ u. u.to.ghost_name) puts)

@@ -7,12 +7,12 @@ use Rattle.iri_text.specs.inside.Through.{ThroughPuts, ThroughHalts}
 use Rattle.iri_text.proofs.ThroughLaws.{through_laws}
 use Rattle.iri_template.specs.Events.{Event}
 use Rattle.iri_template.specs.inside.Checked.{CheckState, refuses, checked_step, checked_text, is_put, puts_some}
-use Rattle.iri_template.specs.inside.Written.{state_at}
+use Rattle.iri_template.specs.inside.Written.{write_state}
 use Rattle.iri_template.specs.declared.value_writer.ValueWriter.{ValueWriter}
 
 module _ {S W : Type 0} (s : Tests) where
   abbrev pub state_of : ValueWriter S W → CheckState
-  state_of v = record { write = state_at v.place; mistyped = v.mistyped }
+  state_of v = record { write = write_state v.state; mistyped = v.mistyped }
 
   abbrev pub refused_by : ValueWriter S W → Bool
   refused_by v = refuses (state_of v)

@@ -6,7 +6,7 @@ use Rattle.iri_template.specs.Expansion.{Row, row_of, shown_text, shown_pair, st
 use Rattle.iri_template.specs.Led.{lead}
 use Rattle.iri_template.specs.ShownValues.{ShownValue, undefined, string, list, pairs}
 use Rattle.iri_template.specs.declared.operator.Operator.{Operator}
-use Rattle.iri_template.specs.declared.place.Place.{Place}
+use Rattle.iri_template.specs.declared.expression_state.ExpressionState.{ExpressionState}
 use Rattle.iri_template.specs.declared.varspec.Modifier.{Modifier}
 use Rattle.iri_template.specs.declared.varspec.Modifier.TheVariants.{Whole, Explode, Prefix}
 
@@ -18,8 +18,8 @@ pub record WriteState : Type 0 where
   pub written : Bool
   pub member : Bool
 
-abbrev pub state_at : Place → WriteState
-state_at p = record { operator = p.operator; name = p.name.text.now; modifier = p.modifier; written = p.written; member = p.member }
+abbrev pub write_state : ExpressionState → WriteState
+write_state p = record { operator = p.operator; name = p.name.text.now; modifier = p.modifier; written = p.written; member = p.member }
 
 abbrev pub explodes : Modifier → Bool
 explodes Whole = false

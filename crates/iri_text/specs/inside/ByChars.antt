@@ -7,7 +7,7 @@ pub record CharsPut {V : Type 0} (puts : V → List ℕ → V → Type 0) (a : V
   pub utf8 : IsUtf8 t
   pub put : puts a (chars t) b
 
--- the sink stopped within the characters of a front
+-- the sink stopped within the characters of a prefix
 pub record CharsHalt {V : Type 0} (halts : V → List ℕ → V → Type 0) (a : V) (t : List ℕ) (b : V) : Type 0 where
   pub front : List ℕ
   pub rest : List ℕ

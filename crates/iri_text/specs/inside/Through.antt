@@ -1,8 +1,8 @@
--- What takes things one by one and writes a text for each to a sink: its state behind them, and what was written for them.
+-- What takes things one by one and writes a text for each to a sink: its state after them, and what was written for them.
 use Rattle.std.specs.Prelude.{◌≡◌, ℕ, List, [], ◌∷◌, ◌++◌}
 
 module _ {X S : Type 0} (step : S → X → S) (text : S → X → List ℕ) where
-  -- the state behind these things
+  -- the state after these things
   abbrev pub after : S → List X → S
   after s [] = s
   after s (x ∷ xs) = after (step s x) xs
@@ -12,7 +12,7 @@ module _ {X S : Type 0} (step : S → X → S) (text : S → X → List ℕ) whe
   texts s [] = []
   texts s (x ∷ xs) = text s x ++ texts (step s x) xs
 
--- the same sink behind it, the state behind these things, and their texts went into the sink
+-- the same sink behind it, the state after these things, and their texts went into the sink
 pub record ThroughPuts {X S V W N : Type 0} (step : S → X → S) (text : S → X → List ℕ) (state : V → S) (to : V → W) (name : V → N)
     (puts : W → List ℕ → W → Type 0) (a : V) (xs : List X) (b : V) : Type 0 where
   pub same : name b ≡ name a

@@ -17,7 +17,7 @@ use std::marker::Model;
 /// assert!(rt; sink.put("cde").is_err());
 /// assert_eq!(rt; sink.as_str(), "ab");
 /// ```
-#[derive(Drop)]
+#[derive(Debug, Drop)]
 pub struct SliceSink<'b> {
     buf: &'b mut [u8],
     len: usize,

@@ -15,7 +15,7 @@ use std::alloc::AllocError;
 /// assert!(rt; StringSink::new(&mut text).put("/over/there").is_ok());
 /// assert_eq!(rt; text.as_str(), "GET /over/there");
 /// ```
-#[derive(Drop)]
+#[derive(Debug, Drop)]
 pub struct StringSink<'b> {
     dest: &'b mut String,
     stops: u64,

@@ -16,7 +16,7 @@ use std::marker::Model;
 /// assert!(rt; sink.put_all(b"de").is_ok());
 /// assert_eq!(rt; sink.written(), b"abde".as_slice());
 /// ```
-#[derive(Drop)]
+#[derive(Debug, Drop)]
 pub struct MemorySink<'a> {
     buf: &'a mut [u8],
     len: usize,

@@ -16,7 +16,7 @@ use std::marker::Model;
 /// assert!(rt; matches!(source.take(&mut buffer), Ok(2)));
 /// assert!(rt; matches!(source.take(&mut buffer), Ok(1)));
 /// ```
-#[derive(Drop)]
+#[derive(Debug, Drop)]
 pub struct MemorySource<'a> {
     bytes: &'a [u8],
     cuts: &'a [usize],

@@ -18,7 +18,7 @@ use std::marker::Model;
 /// }
 /// assert_eq!(rt; count, 2);
 /// ```
-#[derive(Drop)]
+#[derive(Debug, Drop)]
 pub struct PlainSource<'a> {
     bytes: &'a [u8],
 }

@@ -6,7 +6,7 @@ use std::io::{ErrorKind, Read};
 use std::marker::Model;
 
 /// A source that takes bytes from a reader of std.
-#[derive(Drop)]
+#[derive(Debug, Drop)]
 pub struct ReadSource<R> {
     reader: R,
     faults: u64,

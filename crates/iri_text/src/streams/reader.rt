@@ -42,9 +42,11 @@ pub enum LineFault {
 /// assert!(rt; matches!(reader.advance(&mut source), Ok(false)));
 /// ```
 #[derive(Drop)]
+#[derive_where(Debug)]
 pub struct LineReader {
     // What is held lies from `start` to `end`. Its first LF is the byte `lf`, counted from `start`, or `lf` is its length.
     // The buffer grows by blocks within the capacity that it begins with, so memory is touched only where lines need it.
+    #[derive_where(skip(Debug))]
     buf: Vec<u8>,
     start: usize,
     end: usize,

@@ -6,7 +6,7 @@ use std::io::Write;
 use std::marker::Model;
 
 /// A sink that puts bytes into a writer of std, which may buffer them.
-#[derive(Drop)]
+#[derive(Debug, Drop)]
 pub struct WriteSink<W> {
     writer: W,
     faults: u64,

@@ -4,7 +4,7 @@ use Rattle.iri_normal.specs.Resolver.{base_text}
 use Rattle.iri_template.specs.Contexts.{value_in}
 use Rattle.iri_template.specs.ExpandedTexts.{expanded_text}
 use Rattle.iri_docs.specs.Expanded.{expansion_limit}
-use Rattle.iri_cli.specs.canon.Answer.{answer}
+use Rattle.iri_cli.specs.canon.Answers.{answer}
 use Rattle.iri_cli.specs.canon.Puts.{PutsLine}
 use Rattle.iri_cli.specs.expand.Answers.{too_long}
 use Rattle.iri_cli.specs.declared.run.answers.AnswerError.TheVariants.{SinkFailed}

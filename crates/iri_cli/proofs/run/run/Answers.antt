@@ -2,6 +2,7 @@ use Rattle.std.proofs.Common.{◌≡◌, ◌⊎◌, ℕ, map, string_bytes, subs
 use Rattle.iri_cli.specs.run.Words.{IsCommand, tests_of}
 use Rattle.iri_cli.specs.declared.run.words.Command.TheVariants.{Lines, Gen, Tell}
 use Rattle.iri_cli.proofs.BytesLemmas.{canonical_answers, grammar_is_spec}
+use Rattle.iri_cli.proofs.ToolLaws.{answers_are_expansions, answers_are_links, answers_are_verdicts, live_lines_share_entries}
 use Rattle.iri_cli.specs.generator.References.{gen_text}
 use Rattle.iri_cli.specs.help.Notices.{Tells}
 use Rattle.iri_cli.specs.run.Run.{RunsLines, outside}
@@ -69,3 +70,51 @@ returns-in-Some-Gen-clause-gens g c = λ grammar count is.
     (subst (λ (n : ℕ). Tells (gen_text (tests_of c.in-Some-Gen.grammar) n) (outside left wo faults ko)
     (outside left wn faults kn) ro rn c.generate.result
     ⊎ ((c.generate.result ≡ 6) × (outside left wn faults kn ≡ outside left wo faults ko))) (sym same.1) end)
+
+pub returns-in-Some-Lines-clause-register : goal.returns-in-Some-Lines-clause-register
+returns-in-Some-Lines-clause-register g c = λ grammar _. live_lines_share_entries (tests_of grammar) (grammar_is_spec grammar)
+
+pub returns-in-Some-Lines-clause-links : goal.returns-in-Some-Lines-clause-links
+returns-in-Some-Lines-clause-links g c = λ grammar _. answers_are_links (tests_of grammar) (grammar_is_spec grammar)
+
+pub returns-in-Some-Lines-clause-docs : goal.returns-in-Some-Lines-clause-docs
+returns-in-Some-Lines-clause-docs g c = λ grammar _ base line. answers_are_expansions (tests_of grammar) base line
+
+pub returns-in-Some-Lines-clause-robots : goal.returns-in-Some-Lines-clause-robots
+returns-in-Some-Lines-clause-robots g c = λ grammar token _. answers_are_verdicts (tests_of grammar) token
+
+pub returns-in-Some-Tell-clause-register : goal.returns-in-Some-Tell-clause-register
+returns-in-Some-Tell-clause-register g c = λ grammar _. live_lines_share_entries (tests_of grammar) (grammar_is_spec grammar)
+
+pub returns-in-Some-Tell-clause-links : goal.returns-in-Some-Tell-clause-links
+returns-in-Some-Tell-clause-links g c = λ grammar _. answers_are_links (tests_of grammar) (grammar_is_spec grammar)
+
+pub returns-in-Some-Tell-clause-docs : goal.returns-in-Some-Tell-clause-docs
+returns-in-Some-Tell-clause-docs g c = λ grammar _ base line. answers_are_expansions (tests_of grammar) base line
+
+pub returns-in-Some-Tell-clause-robots : goal.returns-in-Some-Tell-clause-robots
+returns-in-Some-Tell-clause-robots g c = λ grammar token _. answers_are_verdicts (tests_of grammar) token
+
+pub returns-in-Some-Gen-clause-register : goal.returns-in-Some-Gen-clause-register
+returns-in-Some-Gen-clause-register g c = λ grammar _. live_lines_share_entries (tests_of grammar) (grammar_is_spec grammar)
+
+pub returns-in-Some-Gen-clause-links : goal.returns-in-Some-Gen-clause-links
+returns-in-Some-Gen-clause-links g c = λ grammar _. answers_are_links (tests_of grammar) (grammar_is_spec grammar)
+
+pub returns-in-Some-Gen-clause-docs : goal.returns-in-Some-Gen-clause-docs
+returns-in-Some-Gen-clause-docs g c = λ grammar _ base line. answers_are_expansions (tests_of grammar) base line
+
+pub returns-in-Some-Gen-clause-robots : goal.returns-in-Some-Gen-clause-robots
+returns-in-Some-Gen-clause-robots g c = λ grammar token _. answers_are_verdicts (tests_of grammar) token
+
+pub returns-in-None-clause-register : goal.returns-in-None-clause-register
+returns-in-None-clause-register g c = λ grammar _. live_lines_share_entries (tests_of grammar) (grammar_is_spec grammar)
+
+pub returns-in-None-clause-links : goal.returns-in-None-clause-links
+returns-in-None-clause-links g c = λ grammar _. answers_are_links (tests_of grammar) (grammar_is_spec grammar)
+
+pub returns-in-None-clause-docs : goal.returns-in-None-clause-docs
+returns-in-None-clause-docs g c = λ grammar _ base line. answers_are_expansions (tests_of grammar) base line
+
+pub returns-in-None-clause-robots : goal.returns-in-None-clause-robots
+returns-in-None-clause-robots g c = λ grammar token _. answers_are_verdicts (tests_of grammar) token

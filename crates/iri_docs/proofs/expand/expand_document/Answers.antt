@@ -1,14 +1,12 @@
-use Rattle.std.proofs.Common.{◌≡◌, ◌∙◌, Ok, string_bytes, sym, ap}
-use Rattle.iri_template.specs.Contexts.{value_in}
-use Rattle.iri_docs.specs.Expanded.{expansion_within}
+use Rattle.std.proofs.Common.{subst}
+use Rattle.iri_docs.specs.Answered.{AnswersBut}
+use Rattle.iri_docs.specs.Expanded.{expanded}
+use Rattle.iri_docs.specs.Held.{held}
+use Rattle.iri_docs.specs.declared.expand_error.DocExpandError.TheVariants.{Memory}
 use Rattle.iri_docs.proofs.expand.expand_document.Goals as goal
 
 pub returns : goal.returns
 returns g c =
-    let s = g.S.Spec.tests in
-    let d = c.args.document.now in
-    let is : expansion_within s (value_in d.context) (string_bytes d.template) ≡ Ok c.as_str.result.now =
-    ap (λ v. expansion_within s v (string_bytes d.template)) (sym c.context.ensures)
-    ∙ (ap (expansion_within s (value_in c.context.result.now)) (sym c.template.ensures)
-    ∙ (c.in_ok-text.ensures ∙ ap Ok (sym c.as_str.ensures.value))) in
-    rw is c.canonicalize.ensures
+    let d = held c.args.document.now in
+    subst (λ b. AnswersBut Memory (λ t. t.text) c.expand_document_against.result (expanded g.S.Spec.tests b d.value_of d.template)) c.new.ensures
+    c.expand_document_against.ensures

@@ -7,7 +7,6 @@ use Rattle.iri_grammar.proofs.FaultLaws.{passed}
 use Rattle.iri_grammar.specs.WholeFault.{reference_fault}
 use Rattle.iri_grammar.specs.declared.error.ErrorKind.TheVariants.{InvalidFragment}
 use Rattle.iri_owned.specs.Spliced.{spliced}
-use Rattle.iri_types.specs.Texts.{text}
 use Rattle.iri_edit.specs.Fragment.{with_fragment}
 use Rattle.iri_edit.specs.inside.Places.{IsFragmentAt}
 use Rattle.iri_edit.proofs.FragmentLemmas.{fragment-put, put-behind, empty_fragment}

@@ -1,6 +1,5 @@
 use Rattle.std.proofs.Common.{◌+◌, length, subst, sym}
 use Rattle.std.specs.Str.{IsCharBoundary}
-use Rattle.iri_edit.proofs.host.replace_host.Given as given
 use Rattle.iri_edit.proofs.host.replace_host.Goals as goal
 
 pub range-requires-clause-start_boundary : goal.range-requires-clause-start_boundary

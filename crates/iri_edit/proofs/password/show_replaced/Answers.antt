@@ -1,4 +1,4 @@
-use Rattle.std.proofs.Common.{◌≡◌, ◌+◌, ◌++◌, ◌∙◌, [], ap, drop, subst, sym, take}
+use Rattle.std.proofs.Common.{◌≡◌, ◌+◌, ◌++◌, ◌∙◌, ap, drop, subst, sym, take}
 use Rattle.iri_text.specs.Shown.{Shows}
 use Rattle.iri_types.specs.Texts.{text}
 use Rattle.iri_edit.specs.Password.{with_password}

@@ -5,7 +5,6 @@ use Rattle.iri_grammar.specs.Authority.{is_authority}
 use Rattle.iri_grammar.specs.Components.{if_there}
 use Rattle.iri_grammar.specs.Parts.{scheme_text}
 use Rattle.iri_grammar.specs.Split.{split_of}
-use Rattle.iri_types.specs.Texts.{text}
 use Rattle.iri_edit.proofs.place.authority_at.Goals as goal
 
 pub returns-in-Some : goal.returns-in-Some

@@ -1,8 +1,8 @@
-use Rattle.std.proofs.Common.{◌≡◌, ◌+◌, ◌≤◌, ◌∙◌, ap, arith, length, subst, sym, Some}
+use Rattle.std.proofs.Common.{◌≡◌, ◌+◌, ◌∙◌, ap, arith, length, subst, sym, Some}
 use Rattle.iri_edit.specs.inside.Places.{IsPasswordAt}
 use Rattle.iri_edit.proofs.PlaceLemmas.{password-place, password-inside, no_authority, no_userinfo, no_colon}
 use Rattle.iri_grammar.specs.Authority.{authority_parts}
-use Rattle.iri_grammar.specs.Cut.{before, behind}
+use Rattle.iri_grammar.specs.Cut.{behind}
 use Rattle.iri_grammar.specs.OptionalSlices.{now_of}
 use Rattle.iri_types.specs.Texts.{text}
 use Rattle.iri_edit.proofs.place.password_at.Given as given

@@ -4,7 +4,8 @@ use Rattle.iri_grammar.specs.Parts.{recompose}
 use Rattle.iri_grammar.specs.Split.{split_of}
 use Rattle.iri_normal.specs.Normalized.{Written, written_text}
 use Rattle.iri_normal.specs.declared.mode.Mode.TheVariants.{Normal}
-use Rattle.iri_normal.proofs.ModeLaws.{normal-form}
+use Rattle.iri_percent.specs.declared.canon_mode.CanonMode.TheVariants.{Default}
+use Rattle.iri_normal.proofs.SchemeForm.{form-is}
 use Rattle.iri_edit.proofs.recomposed.normal_text.Goals as goal
 
 abbrev in_normal_form : List ℕ → Written
@@ -15,5 +16,5 @@ returns g c =
     let s = g.S.Spec.tests in
     subst (λ t. IfOk c.try_to_string.result (λ normal. string_bytes normal ≡ t))
     (ap (written_text s) (c.normalize.ensures ∙ ap in_normal_form c.from_valid.ensures)
-    ∙ ap recompose (normal-form s false (split_of c.args.text.now)))
+    ∙ ap recompose (form-is s Default false (split_of c.args.text.now)))
     c.try_to_string.ensures

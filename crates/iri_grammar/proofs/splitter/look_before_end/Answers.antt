@@ -1,4 +1,4 @@
-use Rattle.std.proofs.Common.{◌≡◌, ◌∙◌, true, ap, sym}
+use Rattle.std.proofs.Common.{◌≡◌, ◌∙◌, Some, true, ap, sym}
 use Rattle.iri_grammar.specs.Marks.{before_any, from_any}
 use Rattle.iri_grammar.specs.inside.Marks.{ends_authority, ends_at_start}
 use Rattle.iri_grammar.proofs.PlainTails.{name-ends}
@@ -6,12 +6,14 @@ use Rattle.iri_grammar.proofs.splitter.look_before_end.Goals as goal
 
 pub returns-then-ends_at_start-clause-front : goal.returns-then-ends_at_start-clause-front
 returns-then-ends_at_start-clause-front c =
-    let r = c.cut_run.result.1.now in
+    let cut = c.cut_plain-capitals in
+    let r = cut.result.1.now in
     let e : ends_at_start r ≡ true = ap ends_at_start (sym c.as_bytes.ensures.value) ∙ (sym c.ends_at_start.ensures ∙ c.if-ends_at_start.true) in
-    (name-ends c.cut_run.result.0.now r c.cut_run.ensures.run e).0 ∙ ap (before_any ends_authority) (sym c.cut_run.ensures.whole)
+    ap Some ((name-ends cut.result.0.now r cut.ensures.chars e).0 ∙ ap (before_any ends_authority) (sym cut.ensures.whole))
 
 pub returns-then-ends_at_start-clause-rest : goal.returns-then-ends_at_start-clause-rest
 returns-then-ends_at_start-clause-rest c =
-    let r = c.cut_run.result.1.now in
+    let cut = c.cut_plain-capitals in
+    let r = cut.result.1.now in
     let e : ends_at_start r ≡ true = ap ends_at_start (sym c.as_bytes.ensures.value) ∙ (sym c.ends_at_start.ensures ∙ c.if-ends_at_start.true) in
-    (name-ends c.cut_run.result.0.now r c.cut_run.ensures.run e).1 ∙ ap (from_any ends_authority) (sym c.cut_run.ensures.whole)
+    (name-ends cut.result.0.now r cut.ensures.chars e).1 ∙ ap (from_any ends_authority) (sym cut.ensures.whole)

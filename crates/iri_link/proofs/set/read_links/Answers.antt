@@ -1,12 +1,11 @@
-use Rattle.std.proofs.Common.{◌∙◌}
-use Rattle.iri_types.specs.Texts.{text}
-use Rattle.iri_link.proofs.AnswerLemmas.{of_text, of_bytes}
+use Rattle.std.proofs.Common.{subst}
+use Rattle.std.specs.Prelude.{MatchResult}
+use Rattle.iri_link.specs.Refusals.{RefusedBy}
+use Rattle.iri_link.specs.Resolved.{IsRead}
 use Rattle.iri_link.proofs.set.read_links.Goals as goal
 
-pub returns-in-Ok : goal.returns-in-Ok
-returns-in-Ok g c =
-    let h = c.in-Ok.ensures.cases in
-    of_text g.S.Spec.tests (text c.args.base) c.in-Ok.text.now c.args.field.now h.0 h.1 c.read_valid.result c.read_valid.ensures
-
-pub returns-in-Err : goal.returns-in-Err
-returns-in-Err g c = of_bytes g.S.Spec.tests c.args.field.now c.valid_up_to.result c.in-Err.ensures.cases.0 (c.valid_up_to.ensures ∙ c.in-Err.ensures.valid_len)
+pub returns : goal.returns
+returns g c =
+    let s = g.S.Spec.tests in
+    subst (λ b. MatchResult c.read_links_against.result (IsRead s b c.args.field.now) (RefusedBy s c.args.field.now)) c.new.ensures
+    c.read_links_against.ensures

@@ -1,15 +1,16 @@
-use Rattle.std.proofs.Common.{◌∙◌, refl, sym, ap}
+use Rattle.std.proofs.Common.{◌∙◌, sym, ap}
 use Rattle.iri_normal.specs.Dots.{has_dot_segment}
-use Rattle.iri_normal.proofs.DotLemmas.{first_or_behind}
-use Rattle.iri_normal.proofs.NextLemmas.{told}
+use Rattle.iri_normal.proofs.DotLemmas.{no_dots}
+use Rattle.iri_normal.proofs.NextLemmas.{next-dotted}
 use Rattle.iri_normal.proofs.dots.has_dot_segment.Goals as goal
 
+pub returns-then-not-may_have_dots : goal.returns-then-not-may_have_dots
+returns-then-not-may_have_dots c =
+    sym (ap has_dot_segment (sym c.as_bytes-bytes.ensures.value)
+    ∙ no_dots c.as_bytes-bytes.result.now (c.may_have_dots.ensures c.if-not-may_have_dots.true))
+
 pub returns-in-Some : goal.returns-in-Some
-returns-in-Some c =
-    let bytes = c.as_bytes-bytes.result.now in
-    sym (ap has_dot_segment (sym c.as_bytes-bytes.ensures.value) ∙ (first_or_behind bytes ∙ rw c.in-Some.ensures.dots refl))
+returns-in-Some c = sym (ap has_dot_segment (sym c.as_bytes-bytes.ensures.value) ∙ next-dotted _ _ _ _ c.in-Some.ensures)
 
 pub returns-in-None : goal.returns-in-None
-returns-in-None c =
-    told c.as_bytes-bytes.result.now c.has_dots_after_slash.result c.in-None.ensures c.has_dots_after_slash.ensures.none c.has_dots_after_slash.ensures.some
-    ∙ ap has_dot_segment c.as_bytes-bytes.ensures.value
+returns-in-None c = sym (ap has_dot_segment (sym c.as_bytes-bytes.ensures.value) ∙ c.in-None.ensures)

@@ -1,4 +1,4 @@
-use Rattle.std.proofs.Common.{◌∙◌, sym, subst, ap}
+use Rattle.std.proofs.Common.{sym, subst, ap}
 use Rattle.iri_text.specs.Shown.{Shows}
 use Rattle.iri_percent.proofs.WholeLaws.{path-whole}
 use Rattle.iri_normal.specs.PathForm.{in_form}
@@ -9,9 +9,9 @@ use Rattle.iri_normal.proofs.remove_dot_segments.show_without_dots.Goals as goal
 pub show_as_it_stands-requires : goal.show_as_it_stands-requires
 show_as_it_stands-requires g c = path-whole g.S.Spec.tests (merged c.args.path.now) g.met.S.Spec.lawful c.requires
 
-pub returns-then-not-has_dots : goal.returns-then-not-has_dots
-returns-then-not-has_dots g c =
+pub returns-then-lacks_dots : goal.returns-then-lacks_dots
+returns-then-lacks_dots g c =
     let p = merged c.args.path.now in
     subst (λ x. Shows g.W.TextSink.puts g.W.TextSink.halts g.W.TextSink.stops c.args.sink.now x c.show_as_it_stands.new.sink c.show_as_it_stands.result)
     (ap (in_form g.S.Spec.tests c.args.normal) (sym
-    (no_dots-same p (sym c.has_dots.ensures ∙ c.if-not-has_dots.true)))) c.show_as_it_stands.ensures
+    (no_dots-same p (c.lacks_dots.ensures c.if-lacks_dots.true)))) c.show_as_it_stands.ensures

@@ -1,11 +1,26 @@
-use Rattle.std.proofs.Common.{◌++◌, length, sym, ◌∙◌, ap, arith, append-nil}
+use Rattle.std.proofs.Common.{◌≡◌, ◌+◌, length, sym, ◌∙◌, ap, arith, subst}
 use Rattle.iri_percent.proofs.NormalLaws.{normal_nil}
 use Rattle.iri_percent.specs.Triplets.{normal}
+use Rattle.iri_percent.specs.Units.{whole_triplets}
 use Rattle.iri_percent.specs.inside.Pieces.{case_of}
 use Rattle.iri_resolve.specs.NormalSteps.{component_steps}
-use Rattle.iri_resolve.proofs.ComponentLemmas.{no-steps, nothing, prefix-is, something, walked-on}
+use Rattle.iri_resolve.proofs.ComponentLemmas.{nothing, prefix-is, something, walk-ended, walk-stopped, walked-on}
 use Rattle.iri_resolve.proofs.Edits.{rest_all}
+use Rattle.iri_resolve.proofs.Going.{Going, done-err, going}
 use Rattle.iri_resolve.proofs.component_steps.push_component.Goals as goal
+
+pub prefixes-init : goal.prefixes-init
+prefixes-init g c =
+    let s = g.S.Spec.tests in
+    let same = c.as_bytes-rest.ensures.value in
+    let steps = component_steps s c.args.part c.args.lower 0 c.args.start in
+    record {
+      steps = subst (λ t. Going g.T.StepSink.puts g.T.StepSink.stops c.args.sink.now (steps c.args.text.now) (steps t) c.args.sink.now) (sym same)
+          (going g.met.T.StepSink.rules c.args.sink.now (steps c.args.text.now));
+      place = ap (λ t. c.args.start + length (normal s (case_of c.args.lower) t)) same;
+      room = omega (arith, ap length same);
+      whole = ap whole_triplets same ∙ c.requires.whole;
+    }
 
 pub overflow_add-at : goal.overflow_add-at
 overflow_add-at g c =
@@ -27,17 +42,14 @@ slice_bounds-rest-start g c =
 
 pub prefixes-preserved : goal.prefixes-preserved
 prefixes-preserved g c =
-    let w = walked-on g.S.Spec.tests c.args.part c.args.lower c.args.start c.args.text.now c.prefixes.at c.prefixes.rest.now c.args.steps.now c.prefixes.steps c.push_prefix.new.steps g.met.S.Spec.lawful
+    let w = walked-on g.met.T.StepSink.rules g.S.Spec.tests c.args.part c.args.lower c.args.start c.args.text.now c.prefixes.at c.prefixes.rest.now g.met.S.Spec.lawful
     (something c.prefixes.rest.now (sym c.is_empty.ensures ∙ c.prefixes-test.true)) c.prefixes.invariant c.in_ok-prefix.ensures.steps in
     rw (rest_all c.prefixes.rest.now c.in_ok-prefix.prefix.len, c.in_ok-prefix.ensures.len, c.in_ok-prefix.ensures.normal_len) w
 
 pub returns-clause-steps : goal.returns-clause-steps
 returns-clause-steps g c =
-    let rest = nothing c.prefixes.rest.now (sym c.is_empty.ensures ∙ c.prefixes-test.false) in
-    sym (append-nil c.prefixes.steps)
-    ∙ ap (λ z. c.prefixes.steps ++ z) (sym (no-steps g.S.Spec.tests c.args.part c.args.lower c.prefixes.at))
-    ∙ ap (λ z. c.prefixes.steps ++ component_steps g.S.Spec.tests c.args.part c.args.lower 0 c.prefixes.at z) (sym rest)
-    ∙ sym c.prefixes.invariant.steps
+    walk-ended g.met.T.StepSink.rules g.S.Spec.tests c.args.part c.args.lower c.args.start c.args.text.now c.prefixes.at c.prefixes.rest.now g.met.S.Spec.lawful
+    (nothing c.prefixes.rest.now (sym c.is_empty.ensures ∙ c.prefixes-test.false)) c.prefixes.invariant
 
 pub returns-clause-place : goal.returns-clause-place
 returns-clause-place g c =
@@ -45,3 +57,9 @@ returns-clause-place g c =
     let none = ap (λ z. length (normal g.S.Spec.tests (case_of c.args.lower) z)) rest
     ∙ ap length (normal_nil g.S.Spec.tests (case_of c.args.lower)) in
     omega (arith, none, c.prefixes.invariant.place)
+
+pub returns-in_err-prefix-clause-steps : goal.returns-in_err-prefix-clause-steps
+returns-in_err-prefix-clause-steps g c =
+    walk-stopped g.met.T.StepSink.rules g.S.Spec.tests c.args.part c.args.lower c.args.start c.args.text.now c.prefixes.at c.prefixes.rest.now g.met.S.Spec.lawful
+    (done-err c.from_residual.result c.from_residual.ensures.0) (something c.prefixes.rest.now (sym c.is_empty.ensures ∙ c.prefixes-test.true))
+    c.prefixes.invariant c.in_err-prefix.ensures.steps

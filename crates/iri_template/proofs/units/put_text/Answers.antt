@@ -9,7 +9,7 @@ use Rattle.iri_template.proofs.units.put_text.Goals as goal
 
 pub pieces-init : goal.pieces-init
 pieces-init g c =
-    let first : UnitState = record { held = c.args.held.now; left = c.args.left.now } in
+    let first : UnitState = record { pending = c.args.pending.now; left = c.args.left.now } in
     record {
       utf8 = c.utf8.text;
       short = c.requires;
@@ -23,7 +23,7 @@ pieces-preserved g c =
     let behind = c.in-Some.behind.now in
     let u : IsUtf8 piece = search rules in
     let v : IsUtf8 behind = search rules in
-    let first : UnitState = record { held = c.args.held.now; left = c.args.left.now } in
+    let first : UnitState = record { pending = c.args.pending.now; left = c.args.left.now } in
     let cut : chars c.pieces.rest.now ≡ chars piece ++ chars behind = ap chars (sym c.in-Some.ensures.whole) ∙ chars-append piece behind u in
     record {
       utf8 = v;
@@ -38,18 +38,18 @@ returns-in_err-put_piece-clause-shows g c =
     let piece = c.in-Some.piece.now in
     let behind = c.in-Some.behind.now in
     let u : IsUtf8 piece = search rules in
-    let first : UnitState = record { held = c.args.held.now; left = c.args.left.now } in
+    let first : UnitState = record { pending = c.args.pending.now; left = c.args.left.now } in
     let cut : chars c.pieces.rest.now ≡ chars piece ++ chars behind = ap chars (sym c.in-Some.ensures.whole) ∙ chars-append piece behind u in
     up_to_stop unit_step (unit_step_text g.S.Spec.tests) g.met.W.TextSink.rules first (chars c.args.text.now) (chars piece) (chars behind) cut
     c.from_residual.ensures.0 i.far c.in_err-put_piece.ensures.shows
 
 pub returns-clause-shows : goal.returns-clause-shows
 returns-clause-shows g c =
-    let first : UnitState = record { held = c.args.held.now; left = c.args.left.now } in
+    let first : UnitState = record { pending = c.args.pending.now; left = c.args.left.now } in
     up_to_end unit_step (unit_step_text g.S.Spec.tests) g.met.W.TextSink.rules first (chars c.args.text.now)
     (no_chars c.pieces.rest.now c.in_default.ensures) c.pieces.invariant.far
 
 pub returns-clause-state : goal.returns-clause-state
 returns-clause-state g c =
-    let now : UnitState = record { held = c.pieces.held; left = c.pieces.left } in
+    let now : UnitState = record { pending = c.pieces.pending; left = c.pieces.left } in
     sym (c.pieces.invariant.far.goes_on ∙ ap (λ l. after unit_step (unit_step_text g.S.Spec.tests) now l) (no_chars c.pieces.rest.now c.in_default.ensures))

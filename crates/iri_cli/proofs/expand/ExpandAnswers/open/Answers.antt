@@ -1,6 +1,6 @@
 use Rattle.std.proofs.Common.{◌≡◌, ◌∙◌, None, subst, sym}
 use Rattle.std.specs.Vec.{vec_capacity}
-use Rattle.iri_cli.specs.canon.Answer.{refusal}
+use Rattle.iri_cli.specs.canon.Answers.{refusal}
 use Rattle.iri_cli.proofs.ExpandLemmas.{expand_opened}
 use Rattle.iri_cli.proofs.expand.ExpandAnswers.open.Goals as goal
 

@@ -1,6 +1,6 @@
 use Rattle.std.proofs.Common.{◌≡◌, ◌∙◌, None, ap, string_bytes, subst}
 use Rattle.iri_robots.specs.Stored.{record_texts}
-use Rattle.iri_cli.specs.canon.Answer.{refusal}
+use Rattle.iri_cli.specs.canon.Answers.{refusal}
 use Rattle.iri_cli.specs.robots.Answers.{normal_base}
 use Rattle.iri_cli.proofs.RobotsLemmas.{robots_opened}
 use Rattle.iri_cli.proofs.robots.CrawlsAnswers.open.Goals as goal

@@ -1,4 +1,4 @@
-use Rattle.std.proofs.Common.{◌≡◌, ◌∙◌, [], None, subst, sym}
+use Rattle.std.proofs.Common.{◌≡◌, ◌∙◌, None, subst, sym}
 use Rattle.iri_edit.specs.Password.{password_of}
 use Rattle.iri_edit.specs.inside.Places.{IsPasswordAt}
 use Rattle.iri_edit.proofs.KindLemmas.{IsWhole}

@@ -1,19 +1,24 @@
-use Rattle.std.proofs.Common.{◌++◌, ◌∙◌, ap, append-nil, sym}
-use Rattle.std.proofs.lemmas.Bool.{and_parts as both}
+use Rattle.std.proofs.Common.{◌≡◌, ◌++◌, ◌∙◌, Bool, true, false, not, ap, append-nil, refl, sym}
 use Rattle.iri_grammar.specs.Cut.{marked}
 use Rattle.iri_grammar.specs.OptionalSlices.{now_of}
 use Rattle.iri_grammar.specs.declared.tail.Tail.{Tail}
 use Rattle.iri_grammar.specs.inside.Tails.{IsOverTail}
 use Rattle.iri_grammar.proofs.PlainTails.{nothing, over-tail}
 use Rattle.iri_grammar.proofs.tail.Tail.look_at.Goals as goal
-use Rattle.std.specs.Prelude.{◌&&◌}
 
 pub returns : goal.returns
 returns g c =
     let x = c.cut_units-bare_path in
     let y = c.cut_query-bare_query in
     let z = c.cut_fragment-bare_fragment in
-    let p : Tail = record { path = x.result.0; query = y.result.0; fragment = z.result.0 } in
+    let p : Tail = record {
+      path = x.result.0;
+      query = y.result.0;
+      fragment = z.result.0;
+      path_triplets = not x.result.2;
+      query_triplets = not y.result.2;
+      fragment_triplets = not z.result.2;
+    } in
     let mark = marked 35 (now_of z.result.0) in
     let none = nothing z.result.1.now (sym c.is_empty.ensures ∙ c.if-not-is_empty.false) in
     let last = z.ensures.whole ∙ ap (λ r. mark ++ r) none ∙ append-nil mark in
@@ -21,8 +26,9 @@ returns g c =
     let over : IsOverTail g.S.Spec.tests p = (x.ensures.over, y.ensures.over, z.ensures.over) in (
       over-tail g.S.Spec.tests g.met.S.Spec.lawful c.args.s.now p (x.ensures.whole ∙ ap (λ r. x.result.0.now ++ r) rest) over,
       over,
-      λ h.
-          let two = both (x.result.2 && y.result.2) z.result.2 h in
-          let one = both x.result.2 y.result.2 two.0 in
-          (x.ensures.bare one.0, y.ensures.bare one.1, z.ensures.bare two.1),
+      (λ h. x.ensures.bare (not-false x.result.2 h), λ h. y.ensures.bare (not-false y.result.2 h), λ h. z.ensures.bare (not-false z.result.2 h)),
     )
+  where
+    not-false : (b : Bool) → not b ≡ false → b ≡ true
+    not-false true h = refl
+    not-false false h = cc

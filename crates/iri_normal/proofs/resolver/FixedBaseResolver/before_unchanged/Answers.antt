@@ -1,23 +1,29 @@
-use Rattle.std.proofs.Common.{◌≡◌, ◌++◌, subst}
+use Rattle.std.proofs.Common.{◌≡◌, ◌∙◌, false, ap, subst, sym}
 use Rattle.std.specs.Prelude.{MatchOption}
+use Rattle.iri_grammar.specs.Parts.{Fits, Parts}
+use Rattle.iri_grammar.specs.Seen.{may_have_dots}
 use Rattle.iri_grammar.specs.Split.{split_of}
+use Rattle.iri_grammar.specs.Splitters.{parts}
 use Rattle.iri_types.specs.SplitText.{split_text}
-use Rattle.iri_normal.specs.NormalForm.{canonical}
+use Rattle.iri_normal.specs.Prefix.{prefix_in}
 use Rattle.iri_normal.specs.Resolver.{base_text}
 use Rattle.iri_normal.specs.declared.unchanged.Before.{Before}
-use Rattle.iri_normal.specs.inside.Unchanged.{IsPlainReference, StandBefore}
+use Rattle.iri_normal.specs.inside.Unchanged.{EndsCanonical, StandBefore}
+use Rattle.iri_normal.proofs.DotLemmas.{no_dots}
 use Rattle.iri_normal.proofs.PlainReferences.{matched, unchanged}
 use Rattle.iri_normal.proofs.resolver.FixedBaseResolver.before_unchanged.Goals as goal
 
-pub returns-then-is_plain_reference : goal.returns-then-is_plain_reference
-returns-then-is_plain_reference g c =
+pub returns-else-seen : goal.returns-else-seen
+returns-else-seen g c =
     let s = g.S.Spec.tests in
     let base = base_text c.args.self.now in
     let t = split_text c.args.reference.now in
     let split = c.parts-parts.ensures.split in
-    matched c.before-then-is_plain_reference.result
-    (λ (b : Before). StandBefore s (split_of base) (split_of t) b.prefix.now b.front.now)
-    (λ (b : Before). canonical s base t ≡ b.prefix.now ++ (b.front.now ++ t))
-    (λ b h. unchanged s base t b.prefix.now b.front.now h (subst IsPlainReference split (c.is_plain_reference.ensures c.if-is_plain_reference.true)))
-    (subst (λ p. MatchOption c.before-then-is_plain_reference.result (Unit {0})
-    (λ (b : Before). StandBefore s (split_of base) p b.prefix.now b.front.now)) split c.before-then-is_plain_reference.ensures)
+    let fits : Fits s (split_of t) = subst (Fits s) split c.parts-parts.ensures.fits in
+    let none = no_dots (split_of t).path (ap (λ (p : Parts). may_have_dots p.path) (sym split) ∙ c.seen.ensures.promises.3 c.if-seen.false) in
+    matched c.before-else-seen.result
+    (λ (b : Before). StandBefore s (split_of base) (split_of t) b.prefix.now b.front.now (prefix_in s false (split_of t)))
+    (λ (b : Before). EndsCanonical s base t b.prefix.now b.front.now)
+    (λ b h. unchanged s base t b.prefix.now b.front.now g.met.S.Spec.lawful fits h none)
+    (subst (λ p. MatchOption c.before-else-seen.result (Unit {0})
+    (λ (b : Before). StandBefore s (split_of base) p b.prefix.now b.front.now (prefix_in s false p))) split c.before-else-seen.ensures)

@@ -1,4 +1,4 @@
-use Rattle.std.proofs.Common.{◌∙◌, ap}
+use Rattle.std.proofs.Common.{◌∙◌}
 use Rattle.iri_normal.specs.Resolver.{base_text}
 use Rattle.iri_cli.proofs.StatelessLemmas.{answers_memory, answers_text}
 use Rattle.iri_cli.proofs.run.stateless.StatelessAnswersAnswers.answer.Goals as goal
@@ -11,7 +11,7 @@ returns-in-Ok g c = λ at is.
     answers_text f s (base_text c.args.resolver.now) at is line (g.O.Sink.written c.args.sink.now) (g.O.Sink.written c.put_answer.new.sink)
     (g.O.Sink.faults c.args.sink.now) (g.O.Sink.faults c.put_answer.new.sink) (g.O.Sink.room_left c.args.sink.now)
     (g.O.Sink.room_left c.put_answer.new.sink) c.put_answer.result c.as_str.result.now
-    (c.as_str.ensures.value ∙ c.in-Ok.ensures ∙ ap (λ b. f s b line) c.base.ensures) c.put_answer.ensures.puts c.put_answer.ensures.room
+    (c.as_str.ensures.value ∙ c.in-Ok.ensures) c.put_answer.ensures.puts c.put_answer.ensures.room
 
 pub returns-in-Err : goal.returns-in-Err
 returns-in-Err g c = λ at is.

@@ -1,0 +1,146 @@
+-- What is said of the answers of the tools' commands.
+use Rattle.std.proofs.Common.{◌≡◌, ◌≤◌, ℕ, Bool, true, false, List, length, Option, None, Some, Result, Ok, Err}
+use Rattle.std.proofs.Common.{refl, sym, ◌∙◌, ap, arith}
+use Rattle.std.specs.Prelude.{nat_lt, if◌then◌else◌}
+use Rattle.std.proofs.lemmas.Bool.Decides.{nat_tests}
+use Rattle.std.proofs.lemmas.Slice.Eq.{bytes_eq-Decides}
+use Rattle.iri_docs.specs.Documents.{line_document}
+use Rattle.iri_docs.specs.Expanded.{expansion_limit}
+use Rattle.iri_docs.specs.Held.{Held}
+use Rattle.iri_docs.specs.declared.doc_error.DocError.{DocError}
+use Rattle.iri_grammar.proofs.CutLaws.{both}
+use Rattle.iri_grammar.specs.Classes.{IsSpec, Tests}
+use Rattle.iri_grammar.specs.Fault.{bytes_fault}
+use Rattle.iri_grammar.specs.Parts.{Parts}
+use Rattle.iri_grammar.specs.Split.{split_of}
+use Rattle.iri_grammar.specs.WholeFault.{reference_fault}
+use Rattle.iri_grammar.specs.declared.error.ErrorKind.{ErrorKind}
+use Rattle.iri_link.proofs.OneListLemmas.{one_list}
+use Rattle.iri_normal.specs.NormalForm.{canonical}
+use Rattle.iri_robots.proofs.Decisions.{allowed_is}
+use Rattle.iri_robots.specs.Compared.{subject}
+use Rattle.iri_robots.specs.Decided.{is_allowed}
+use Rattle.iri_robots.specs.Records.{FileRule, rules_for}
+use Rattle.iri_template.specs.Expansion.{expansion}
+use Rattle.iri_template.specs.Reading.{pieces_of}
+use Rattle.iri_template.specs.TypeFaults.{expansion_fault}
+use Rattle.iri_template.specs.declared.error.Error.{Error}
+use Rattle.iri_cli.specs.canon.Answers.{answer, answer_by, answer_in}
+use Rattle.iri_cli.specs.docs.Answers.{docs_answer, read_answer}
+use Rattle.iri_cli.specs.docs.Expansions.{AnswersAreExpansions, HasExpansion, IsDocumentAnswer, no_document, faulty, longer}
+use Rattle.iri_cli.specs.docs.Expansions.{no_reference, expanded}
+use Rattle.iri_cli.specs.expand.Answers.{expansion_answer, template_answer, too_long, unless_fault}
+use Rattle.iri_cli.specs.links.FieldValues.{AnswersAreLinks}
+use Rattle.iri_cli.specs.register.Shared.{LiveLinesShareEntries}
+use Rattle.iri_cli.specs.robots.Answers.{answer_to, normal_base, same_part, same_site, target_answer, verdict_word}
+use Rattle.iri_cli.specs.robots.Lines.{records_behind}
+use Rattle.iri_cli.specs.robots.Verdicts.{AnswersAreVerdicts, IsSameSite, IsVerdict, allow, disallow, other}
+use Rattle.iri_cli.specs.run.Refused.{unless_bad}
+use Rattle.iri_cli.proofs.LinksLemmas.{answered_again, links_answered, others_refused}
+use Rattle.iri_cli.proofs.RegisterLaws.{shared_by_steps, shared_by_targets}
+
+-- ---- `links`
+pub answers_are_links : (s : Tests) → IsSpec s → AnswersAreLinks s
+answers_are_links s k = record {
+  one = λ line ls others h i. one_list line ls others h i;
+  links = λ base line ls has. sym (links_answered s base line ls has);
+  others = others_refused s;
+  again = answered_again s k;
+}
+
+-- ---- `register`
+pub live_lines_share_entries : (s : Tests) → IsSpec s → LiveLinesShareEntries s
+live_lines_share_entries s k = record {
+  targets = λ base q r lines m n h _. shared_by_targets s base q r lines m n h;
+  steps = λ base. shared_by_steps s base k;
+}
+
+-- ---- `docs`
+module _ (s : Tests) (base line : List ℕ) where
+  by_reference : (text : List ℕ) → HasExpansion s line text → length text ≤ expansion_limit → (f : Option ErrorKind)
+      → bytes_fault (reference_fault s) text ≡ f → IsDocumentAnswer s base line (answer_by f (canonical s base text))
+  by_reference text h short None is = expanded text h short is
+  by_reference text h short (Some kind) is = no_reference text kind h short is
+
+  by_answer : (text : List ℕ) → HasExpansion s line text → length text ≤ expansion_limit
+      → IsDocumentAnswer s base line (answer s base text)
+  unfolding answer_in
+  by_answer text h short = by_reference text h short (bytes_fault (reference_fault s) text) refl
+
+  by_length : (text : List ℕ) → HasExpansion s line text → (long : Bool) → nat_lt expansion_limit (length text) ≡ long
+      → IsDocumentAnswer s base line (if long then too_long else answer s base text)
+  by_length text h true is = longer text h (grind (arith, nat_tests))
+  by_length text h false is = by_answer text h (grind (arith, nat_tests))
+
+  by_expansion : (text : List ℕ) → HasExpansion s line text → IsDocumentAnswer s base line (expansion_answer s base text)
+  unfolding expansion_answer
+  by_expansion text h = by_length text h (nat_lt expansion_limit (length text)) refl
+
+  by_fault : (d : Held) → line_document line ≡ Ok d → (f : Option Error) → expansion_fault d.value_of d.template ≡ f
+      → IsDocumentAnswer s base line
+      (unless_fault f (expansion_answer s base (expansion s d.value_of (pieces_of d.template))))
+  by_fault d read (Some e) is = faulty d e read is
+  by_fault d read None is =
+      by_expansion (expansion s d.value_of (pieces_of d.template))
+      (record { document = d; read = read; faultless = is; expands = refl })
+
+  by_template : (d : Held) → line_document line ≡ Ok d
+      → IsDocumentAnswer s base line (template_answer s base d.value_of d.template)
+  unfolding template_answer
+  by_template d is = by_fault d is (expansion_fault d.value_of d.template) refl
+
+  by_document : (r : Result Held DocError) → line_document line ≡ r → IsDocumentAnswer s base line (read_answer s base r)
+  by_document (Ok d) is = by_template d is
+  by_document (Err e) is = no_document e is
+
+pub answers_are_expansions : (s : Tests) → AnswersAreExpansions s
+unfolding docs_answer
+answers_are_expansions s base line = by_document s base line (line_document line) refl
+
+-- ---- `robots`
+part_is : (x y : Option (List ℕ)) → same_part x y ≡ true → x ≡ y
+part_is None None h = refl
+part_is None (Some b) h = cc
+part_is (Some a) None h = cc
+part_is (Some a) (Some b) h = ap Some ((bytes_eq-Decides a b).0 h)
+
+is_part : (x : Option (List ℕ)) → same_part x x ≡ true
+is_part None = refl
+is_part (Some a) = (bytes_eq-Decides a a).1 refl
+
+site_is : (a b : Parts) → same_site a b ≡ true → IsSameSite a b
+unfolding same_site
+site_is a b h =
+    let k = both (same_part a.scheme b.scheme) (same_part a.authority b.authority) h in
+    record { scheme = part_is a.scheme b.scheme k.0; authority = part_is a.authority b.authority k.1 }
+
+is_site : (a b : Parts) → IsSameSite a b → same_site a b ≡ true
+unfolding same_site
+is_site a b h =
+    let scheme : same_part a.scheme b.scheme ≡ true = ap (same_part a.scheme) (sym h.scheme) ∙ is_part a.scheme in
+    let authority : same_part a.authority b.authority ≡ true = ap (same_part a.authority) (sym h.authority) ∙ is_part a.authority in
+    rw scheme authority
+
+module _ (base : Parts) (rules : List FileRule) (target : Parts) where
+  verdict_is : (same allowed : Bool) → same_site base target ≡ same → is_allowed rules (subject target) ≡ allowed
+      → IsVerdict base rules target (verdict_word same allowed)
+  verdict_is true true s a = allow (site_is base target s) ((allowed_is rules (subject target)).0 a)
+  verdict_is true false s a =
+      disallow (site_is base target s) (λ k. let t = (allowed_is rules (subject target)).1 k in cc)
+  verdict_is false true s a = other (λ k. let t = is_site base target k in cc)
+  verdict_is false false s a = other (λ k. let t = is_site base target k in cc)
+
+pub answers_are_verdicts : (s : Tests) (token : List ℕ) → AnswersAreVerdicts s token
+answers_are_verdicts s token base line reference between asks none =
+    let normal = normal_base s base in
+    let records = records_behind between in
+    let rules = rules_for token records in
+    let target = canonical s base reference in
+    let same = same_site (split_of normal) (split_of target) in
+    let allowed = is_allowed rules (subject (split_of target)) in
+    record {
+      word = verdict_word same allowed;
+      verdict = verdict_is (split_of normal) rules (split_of target) same allowed refl refl;
+      answer_is = ap (answer_to s token base records) asks
+          ∙ ap (λ f. unless_bad f (target_answer token normal records target)) none;
+    }

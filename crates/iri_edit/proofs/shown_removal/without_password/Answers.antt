@@ -1,0 +1,18 @@
+use Rattle.std.proofs.Common.{◌++◌, ◌∙◌, ap, drop, sym, take}
+use Rattle.std.proofs.lemmas.List.{append-nil}
+use Rattle.iri_types.specs.Texts.{text}
+use Rattle.iri_edit.proofs.SameLemmas.{without_password-same}
+use Rattle.iri_edit.proofs.SpliceLemmas.{password-removed}
+use Rattle.iri_edit.proofs.shown_removal.without_password.Goals as goal
+
+pub returns-in_default : goal.returns-in_default
+returns-in_default g c =
+    append-nil c.as_str-text.result.now ∙ (c.as_str-text.ensures.text ∙ sym (without_password-same (text c.args.reference) c.in_default.ensures))
+
+pub returns : goal.returns
+returns g c =
+    let t = text c.args.reference in
+    let same = c.as_str-text.ensures.text in
+    ap (λ z. z ++ (c.around.result.1.now)) (c.around.ensures.front ∙ ap (take c.in-Some.colon) same)
+    ∙ (ap (λ z. take c.in-Some.colon t ++ z) (c.around.ensures.back ∙ ap (drop c.in-Some.end) same)
+    ∙ password-removed t c.in-Some.colon c.in-Some.end c.in-Some.ensures)

@@ -1,0 +1,194 @@
+-- Plain authorities: a name in ASCII, and perhaps a port.
+use Rattle.std.proofs.Common.{◌≡◌, ℕ, suc, ◌+◌, ◌≤◌, ◌<◌, Bool, true, false, cond, not, ◌&&◌, ◌||◌, List, [], ◌∷◌, ◌++◌, Option, Some, None}
+use Rattle.std.proofs.Common.{length, take, drop, refl, sym, ◌∙◌, ap, subst, arith, add-one, drop-drop}
+use Rattle.std.specs.Prelude.{◌==◌, is_some}
+use Rattle.std.specs.Char.{is_ascii_digit}
+use Rattle.std.specs.List.{list_all}
+use Rattle.std.specs.Str.{IsUtf8}
+use Rattle.std.proofs.lemmas.Bool.{eqb-true}
+use Rattle.std.proofs.lemmas.Bool.Decides.{nat_tests}
+use Rattle.std.proofs.lemmas.List.{length-drop, length-take-le}
+use Rattle.std.proofs.lemmas.List.Folds.{list_all-append}
+use Rattle.std.proofs.Math.Seq.{take-add}
+use Rattle.iri_grammar.specs.Authority.{authority_parts, is_authority}
+use Rattle.iri_grammar.specs.Classes.{Tests, IsSpec, is_ascii_userinfo, is_ascii_reg_name, is_ascii_unreserved, is_sub_delim}
+use Rattle.iri_grammar.specs.ClassTests.{ascii_test}
+use Rattle.iri_grammar.specs.Components.{if_there, is_port, is_userinfo}
+use Rattle.iri_grammar.specs.Cut.{lacks, marked}
+use Rattle.iri_grammar.specs.Fault.{authority_fault, part_fault}
+use Rattle.iri_grammar.specs.IpLiteral.{is_ip_literal}
+use Rattle.iri_grammar.specs.Runs.{run_of}
+use Rattle.iri_grammar.specs.Seen.{is_kept_port, is_plain_authority, is_small}
+use Rattle.iri_grammar.specs.declared.class.Class.TheVariants.{RegName, Userinfo}
+use Rattle.iri_grammar.specs.inside.PlainAuthority.{is_small_name, name_len, plain_len, port_len}
+use Rattle.iri_grammar.proofs.AuthorityLaws.{name_parts}
+use Rattle.iri_grammar.proofs.AuthorityTexts.{digit-below}
+use Rattle.iri_grammar.proofs.ClassLaws.{ascii_test_below}
+use Rattle.iri_grammar.proofs.CutLaws.{all-lacks, both}
+use Rattle.iri_grammar.proofs.FaultLaws.{authority-no_fault}
+use Rattle.iri_grammar.proofs.PlainTails.{plain-over, run-all}
+use Rattle.iri_grammar.proofs.Units.{run_text, run_of_le, text_after_ascii}
+
+-- ---- a port at the start
+colon-below : (x : ℕ) → (x == 58) ≡ true → x < 128
+colon-below x e = let is = eqb-true x 58 e in omega (arith, is)
+
+port_le : (r : List ℕ) → port_len r ≤ length r
+port_le [] = omega arith
+port_le (x ∷ xs) =
+    let n = run_of is_ascii_digit xs in
+    elim (x == 58) as (λ b. cond b (cond (n == 0) 0 (n + 1)) 0 ≤ length (x ∷ xs)) [
+      | true ↦ elim (n == 0) as (λ b. cond b 0 (n + 1) ≤ length (x ∷ xs)) [ true ↦ omega arith | false ↦ omega (arith, run_of_le is_ascii_digit xs) ]
+      | false ↦ omega arith
+    ]
+
+port_text : (r : List ℕ) → IsUtf8 r → IsUtf8 (drop (port_len r) r)
+port_text [] u = u
+port_text (x ∷ xs) u =
+    let n = run_of is_ascii_digit xs in
+    elim (x == 58) as (λ b. (x == 58) ≡ b → IsUtf8 (drop (cond b (cond (n == 0) 0 (n + 1)) 0) (x ∷ xs))) [
+      | true ↦ λ e. elim (n == 0) as (λ b. IsUtf8 (drop (cond b 0 (n + 1)) (x ∷ xs))) [
+        | true ↦ u
+        | false ↦ rw add-one (run_text is_ascii_digit xs digit-below (text_after_ascii x xs u (colon-below x e)))
+      ]
+      | false ↦ λ _. u
+    ] refl
+
+-- what stands there is a port that isn't empty, with its colon, or nothing
+record PortPiece (t : List ℕ) : Type 0 where
+  port : Option (List ℕ)
+  is : t ≡ marked 58 port
+  digits : if_there is_port port ≡ true
+  kept : is_kept_port port ≡ true
+
+some_kept : (n : ℕ) (xs : List ℕ) → n ≡ length xs → (n == 0) ≡ false → is_kept_port (Some xs) ≡ true
+some_kept n [] e h = sym (rw e at h)
+some_kept n (x ∷ xs) e h = refl
+
+port_piece : (r : List ℕ) → PortPiece (take (port_len r) r)
+port_piece [] = record { port = None; is = refl; digits = refl; kept = refl }
+port_piece (x ∷ xs) =
+    let n = run_of is_ascii_digit xs in
+    elim (x == 58) as (λ b. (x == 58) ≡ b → PortPiece (take (cond b (cond (n == 0) 0 (n + 1)) 0) (x ∷ xs))) [
+      | true ↦ λ e. elim (n == 0) as (λ b. (n == 0) ≡ b → PortPiece (take (cond b 0 (n + 1)) (x ∷ xs))) [
+        | true ↦ λ _. record { port = None; is = refl; digits = refl; kept = refl }
+        | false ↦ λ some. rw add-one (record {
+          port = Some (take n xs);
+          is = ap (λ y. y ∷ take n xs) (eqb-true x 58 e);
+          digits = run-all is_ascii_digit xs;
+          kept = some_kept n (take n xs) (sym (length-take-le n xs (run_of_le is_ascii_digit xs))) some;
+        })
+      ] refl
+      | false ↦ λ _. record { port = None; is = refl; digits = refl; kept = refl }
+    ] refl
+
+-- ---- a name and a port
+record Plain (a : List ℕ) : Type 0 where
+  chars : list_all (ascii_test Userinfo) a ≡ true
+  plain : is_plain_authority a ≡ true
+
+name_char : (x : ℕ) → ascii_test RegName x ≡ true → ascii_test Userinfo x ≡ true
+unfolding is_ascii_userinfo is_ascii_reg_name
+name_char x h = rw h refl
+
+digit_char : (x : ℕ) → is_ascii_digit x ≡ true → ascii_test Userinfo x ≡ true
+unfolding is_ascii_userinfo is_ascii_reg_name is_ascii_unreserved is_sub_delim
+digit_char x h = grind (arith, nat_tests)
+
+all_of : (p q : ℕ → Bool) → ((x : ℕ) → p x ≡ true → q x ≡ true) → (xs : List ℕ) → list_all p xs ≡ true → list_all q xs ≡ true
+all_of p q f [] h = refl
+all_of p q f (x ∷ xs) h = let k = both (p x) (list_all p xs) h in rw (f x k.0) (all_of p q f xs k.1)
+
+port_chars : (p : Option (List ℕ)) → if_there is_port p ≡ true → list_all (ascii_test Userinfo) (marked 58 p) ≡ true
+unfolding is_ascii_userinfo is_ascii_reg_name is_ascii_unreserved is_sub_delim
+port_chars None h = refl
+port_chars (Some d) h = all_of is_ascii_digit (ascii_test Userinfo) digit_char d h
+
+no_at : (h : List ℕ) → list_all (ascii_test RegName) h ≡ true → lacks 64 h ≡ true
+unfolding is_ascii_reg_name is_ascii_unreserved is_sub_delim
+no_at h n = all-lacks (ascii_test RegName) 64 h refl n
+
+no_colon : (h : List ℕ) → list_all (ascii_test RegName) h ≡ true → lacks 58 h ≡ true
+unfolding is_ascii_reg_name is_ascii_unreserved is_sub_delim
+no_colon h n = all-lacks (ascii_test RegName) 58 h refl n
+
+plain_of : (h : List ℕ) (p : Option (List ℕ)) → list_all (ascii_test RegName) h ≡ true → if_there is_port p ≡ true → is_kept_port p ≡ true
+    → Plain (h ++ marked 58 p)
+unfolding is_plain_authority
+plain_of h p n d k = record {
+  chars = list_all-append (ascii_test Userinfo) h (marked 58 p)
+      ∙ rw (all_of (ascii_test RegName) (ascii_test Userinfo) name_char h n) (port_chars p d);
+  plain = rw (name_parts h p (no_at h n) (no_colon h n) d, n, k) refl;
+}
+
+-- ---- capital letters
+small_name : (t : List ℕ) → is_small_name t ≡ true → list_all is_small (take (name_len t) t) ≡ true
+small_name [] h = refl
+small_name (x ∷ xs) h =
+    elim (ascii_test RegName x) as (λ b. cond b (is_small x && is_small_name xs) true ≡ true
+    → list_all is_small (take (cond b (suc (name_len xs)) 0) (x ∷ xs)) ≡ true) [
+      | true ↦ λ k. let r = both (is_small x) (is_small_name xs) k in rw r.0 (small_name xs r.1)
+      | false ↦ λ _. refl
+    ] h
+
+digit_small : (x : ℕ) → is_ascii_digit x ≡ true → is_small x ≡ true
+digit_small x h = grind (arith, nat_tests)
+
+pub port_small : (p : Option (List ℕ)) → if_there is_port p ≡ true → list_all is_small (marked 58 p) ≡ true
+port_small None h = refl
+port_small (Some d) h = all_of is_ascii_digit is_small digit_small d h
+
+pub not-small : (b : Bool) → not b ≡ false → b ≡ true
+not-small true h = refl
+not-small false h = cc
+
+-- ---- what is cut
+pub record PlainCut (t : List ℕ) : Type 0 where
+  pub within : plain_len t ≤ length t
+  pub rest : IsUtf8 (drop (plain_len t) t)
+  pub chars : list_all (ascii_test Userinfo) (take (plain_len t) t) ≡ true
+  pub plain : is_plain_authority (take (plain_len t) t) ≡ true
+  pub small : is_small_name t ≡ true → list_all is_small (take (plain_len t) t) ≡ true
+
+pub plain_within : (t : List ℕ) → plain_len t ≤ length t
+plain_within t = omega (arith, run_of_le (ascii_test RegName) t, port_le (drop (name_len t) t), length-drop (name_len t) t)
+
+pub plain_cut : (t : List ℕ) → IsUtf8 t → PlainCut t
+plain_cut t u =
+    let n = name_len t in
+    let r = drop n t in
+    let ur = run_text (ascii_test RegName) t (ascii_test_below RegName) u in
+    let p = port_piece r in
+    let whole : take (plain_len t) t ≡ take n t ++ marked 58 p.port = take-add n (port_len r) t ∙ ap (λ x. take n t ++ x) p.is in
+    let k = plain_of (take n t) p.port (run-all (ascii_test RegName) t) p.digits p.kept in
+    record {
+      within = plain_within t;
+      rest = subst IsUtf8 (drop-drop (port_len r) n t) (port_text r ur);
+      chars = ap (list_all (ascii_test Userinfo)) whole ∙ k.chars;
+      plain = ap is_plain_authority whole ∙ k.plain;
+      small = λ h. ap (list_all is_small) whole ∙ list_all-append is_small (take n t) (marked 58 p.port) ∙ rw (small_name t h) (port_small p.port p.digits);
+    }
+
+-- ---- such an authority has no fault
+three : (a b c : Bool) → (not a && (b && c)) ≡ true → (a ≡ false) × (b ≡ true)
+three true b c h = cc
+three false b c h = (refl, (both b c h).0)
+
+none_there : (o : Option (List ℕ)) (f : List ℕ → Bool) → is_some o ≡ false → if_there f o ≡ true
+none_there None f h = refl
+none_there (Some x) f h = cc
+
+or-true : (b : Bool) → (b || true) ≡ true
+or-true true = refl
+or-true false = refl
+
+pub plain_no_fault : (s : Tests) → IsSpec s → (a : List ℕ) → is_plain_authority a ≡ true → authority_fault s a ≡ None
+unfolding is_plain_authority is_authority
+plain_no_fault s l a h =
+    let p = authority_parts a in
+    let k = three (is_some p.userinfo) (list_all (ascii_test RegName) p.host) (is_kept_port p.port) h in
+    authority-no_fault s a (rw (none_there p.userinfo (is_userinfo s) k.0, plain-over s l RegName p.host k.1, or-true (is_ip_literal p.host)) refl)
+
+pub plain-authorities : (s : Tests) → IsSpec s → (o : Option (List ℕ)) → if_there is_plain_authority o ≡ true → part_fault (authority_fault s) o ≡ None
+plain-authorities s l None h = refl
+plain-authorities s l (Some a) h = plain_no_fault s l a h

@@ -1,0 +1,8 @@
+use Rattle.std.proofs.Common.{◌≡◌, ◌+◌, ◌&&◌, not, drop}
+use Rattle.iri_grammar.specs.inside.PlainAuthority.{is_small_name, name_len}
+use Rattle.iri_grammar.proofs.authority.name_len.Given as goal
+
+-- what is left counts on
+abbrev pub invariant-loop-i : goal.invariant-loop-i
+invariant-loop-i l = (l.i + name_len (drop l.i l.bytes) ≡ name_len l.bytes)
+    × ((not l.capitals && is_small_name (drop l.i l.bytes)) ≡ is_small_name l.bytes)

@@ -1,0 +1,56 @@
+use Rattle.std.proofs.Common.{◌≡◌, ◌∙◌, false, length, take, sym, subst, ap, arith}
+use Rattle.std.proofs.lemmas.Grind.{common_steps}
+use Rattle.std.specs.Str.{IsUtf8, IsCharBoundary}
+use Rattle.iri_grammar.specs.Parts.{Fits}
+use Rattle.iri_grammar.specs.Split.{split_of}
+use Rattle.iri_grammar.specs.Splitters.{parts}
+use Rattle.iri_grammar.specs.OptionalSlices.{now_of}
+use Rattle.iri_types.specs.SplitText.{split_text}
+use Rattle.iri_normal.specs.Prefix.{prefix_in}
+use Rattle.iri_normal.proofs.PrefixLemmas.{cut-inside, cut-front, cut-boundary, prefix-parts}
+use Rattle.iri_normal.proofs.prefix.cut_prefix.Goals as goal
+
+pub prefix_len-len-requires : goal.prefix_len-len-requires
+prefix_len-len-requires g c =
+    let s = g.S.Spec.tests in
+    let t = split_text c.args.text.now in
+    let whole = prefix-parts s (now_of c.scheme.result) (now_of c.authority.result) (parts c.parts-parts.result.now)
+    (split_of t) c.scheme.ensures c.authority.ensures c.parts-parts.ensures.split in
+    let same : c.as_str-whole.result.now ≡ t = c.as_str-whole.ensures.text ∙ c.view.ensures in
+    omega (arith, ap length whole, cut-inside s t, ap length same, c.as_str-whole.type_inv.0)
+
+pub range-requires-clause-end_boundary : goal.range-requires-clause-end_boundary
+range-requires-clause-end_boundary g c =
+    let s = g.S.Spec.tests in
+    let t = split_text c.args.text.now in
+    let whole = prefix-parts s (now_of c.scheme.result) (now_of c.authority.result) (parts c.parts-parts.result.now)
+    (split_of t) c.scheme.ensures c.authority.ensures c.parts-parts.ensures.split in
+    let same : c.as_str-whole.result.now ≡ t = c.as_str-whole.ensures.text ∙ c.view.ensures in
+    let n : c.prefix_len-len.result ≡ length (prefix_in s false (split_of t)) = c.prefix_len-len.ensures ∙ ap length whole in
+    subst (λ x. IsCharBoundary x c.prefix_len-len.result) (sym same)
+    (subst (IsCharBoundary t) (sym n) (cut-boundary s t g.met.S.Spec.lawful
+    (subst (Fits s) c.parts-parts.ensures.split c.parts-parts.ensures.fits) (subst IsUtf8 same c.as_str-whole.utf8)))
+
+pub range_from-requires : goal.range_from-requires
+range_from-requires g c _ =
+    let s = g.S.Spec.tests in
+    let t = split_text c.args.text.now in
+    let whole = prefix-parts s (now_of c.scheme.result) (now_of c.authority.result) (parts c.parts-parts.result.now)
+    (split_of t) c.scheme.ensures c.authority.ensures c.parts-parts.ensures.split in
+    let same : c.as_str-whole.result.now ≡ t = c.as_str-whole.ensures.text ∙ c.view.ensures in
+    let n : c.prefix_len-len.result ≡ length (prefix_in s false (split_of t)) = c.prefix_len-len.ensures ∙ ap length whole in
+    subst (λ x. IsCharBoundary x c.prefix_len-len.result) (sym same)
+    (subst (IsCharBoundary t) (sym n) (cut-boundary s t g.met.S.Spec.lawful
+    (subst (Fits s) c.parts-parts.ensures.split c.parts-parts.ensures.fits) (subst IsUtf8 same c.as_str-whole.utf8)))
+
+pub returns-clause-prefix : goal.returns-clause-prefix
+returns-clause-prefix g c =
+    let s = g.S.Spec.tests in
+    let t = split_text c.args.text.now in
+    let whole = prefix-parts s (now_of c.scheme.result) (now_of c.authority.result) (parts c.parts-parts.result.now)
+    (split_of t) c.scheme.ensures c.authority.ensures c.parts-parts.ensures.split in
+    let same : c.as_str-whole.result.now ≡ t = c.as_str-whole.ensures.text ∙ c.view.ensures in
+    let n : c.prefix_len-len.result ≡ length (prefix_in s false (split_of t)) = c.prefix_len-len.ensures ∙ ap length whole in
+    let value = c.range.ensures.value in
+    let cut : c.range.result.now ≡ take c.prefix_len-len.result c.as_str-whole.result.now = grind (arith, common_steps) in
+    cut ∙ (ap (take c.prefix_len-len.result) same ∙ (ap (λ k. take k t) n ∙ cut-front s t))

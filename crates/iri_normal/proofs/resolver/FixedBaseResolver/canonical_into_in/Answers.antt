@@ -1,0 +1,52 @@
+use Rattle.std.proofs.Common.{◌≡◌, ◌≤◌, ◌+◌, ◌++◌, ℕ, ◌∙◌, None, List, ap, arith, length, subst, sym, take, string_bytes, IsUtf8}
+use Rattle.std.proofs.Math.Logic.{∥∥₁_elim}
+use Rattle.std.proofs.Props.{props}
+use Rattle.std.proofs.Math.Seq.{take-append_seam}
+use Rattle.std.proofs.lemmas.List.{length-append}
+use Rattle.std.proofs.lemmas.Str.{IsCharBoundary-from_take, IsUtf8-string_bytes}
+use Rattle.std.specs.String.Boundary.{IsSplitPoint}
+use Rattle.iri_grammar.proofs.FaultLaws.{absolute-law, iri-law, reference-law}
+use Rattle.iri_grammar.specs.Classes.{Tests, IsSpec}
+use Rattle.iri_grammar.specs.WholeFault.{absolute_fault, iri_fault, reference_fault}
+use Rattle.iri_types.specs.SplitText.{split_text}
+use Rattle.iri_percent.specs.declared.canon_mode.CanonMode.{CanonMode}
+use Rattle.iri_normal.specs.NormalForm.{canonical_in}
+use Rattle.iri_normal.specs.Resolver.{base_text}
+use Rattle.iri_normal.proofs.CanonLaws.{canonical_in-iri}
+use Rattle.iri_normal.proofs.resolver.FixedBaseResolver.canonical_into_in.Goals as goal
+
+-- a string may be cut where its old text ended
+seam : (old new front : List ℕ) (n : ℕ) → new ≡ old ++ front → n ≡ length old → IsUtf8 old → IsUtf8 new → IsSplitPoint new n
+seam old new front n e k u v =
+    let cut : take n new ≡ old = ap (λ i. take i new) k ∙ (ap (take (length old)) e ∙ take-append_seam old front) in
+    let long : length new ≡ length old + length front = ap length e ∙ length-append old front in
+    let within : n ≤ length new = omega (arith, k, long) in
+    let b = IsCharBoundary-from_take new n v within (subst IsUtf8 (sym cut) u) in (b.0, λ _. b.1)
+
+pub truncate-requires : goal.truncate-requires
+truncate-requires g c =
+    let p = c.in-Err.ensures.prefix in
+    λ _. seam (string_bytes c.args.dest.now) (string_bytes c.append.new.dest) p.front (length c.as_str-len.result.now) p.appended
+    (ap length c.as_str-len.ensures.value) (IsUtf8-string_bytes c.args.dest.now) (IsUtf8-string_bytes c.append.new.dest)
+
+canonical_valid : (s : Tests) → IsSpec s → (mode : CanonMode) (b r : List ℕ) → absolute_fault s b ≡ None → reference_fault s r ≡ None
+    → iri_fault s (canonical_in s mode b r) ≡ None
+canonical_valid s l mode b r hb hr =
+    (iri-law s l (canonical_in s mode b r)).1
+    (canonical_in-iri s mode b r l ((absolute-law s l b).0 hb) ((reference-law s l r).0 hr))
+
+pub returns-in-Ok-clause-valid : goal.returns-in-Ok-clause-valid
+returns-in-Ok-clause-valid g c =
+    let s = g.S.Spec.tests in
+    let base : absolute_fault s (base_text c.args.self.now) ≡ None = ∥∥₁_elim c.args.self.now.base.view.valid (hlevel props) (λ e. e) in
+    let reference : reference_fault s (split_text c.args.reference.now) ≡ None =
+    ∥∥₁_elim c.args.reference.now.view.valid (hlevel props) (λ e. e) in
+    canonical_valid s g.met.S.Spec.lawful c.args.mode (base_text c.args.self.now) (split_text c.args.reference.now) base reference
+
+pub returns-in-Err-clause-valid : goal.returns-in-Err-clause-valid
+returns-in-Err-clause-valid g c =
+    let s = g.S.Spec.tests in
+    let base : absolute_fault s (base_text c.args.self.now) ≡ None = ∥∥₁_elim c.args.self.now.base.view.valid (hlevel props) (λ e. e) in
+    let reference : reference_fault s (split_text c.args.reference.now) ≡ None =
+    ∥∥₁_elim c.args.reference.now.view.valid (hlevel props) (λ e. e) in
+    canonical_valid s g.met.S.Spec.lawful c.args.mode (base_text c.args.self.now) (split_text c.args.reference.now) base reference

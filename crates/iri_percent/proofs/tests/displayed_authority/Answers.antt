@@ -1,6 +1,0 @@
-use Rattle.iri_grammar.specs.Classes.{uri_tests}
-use Rattle.iri_grammar.proofs.FaultLaws.{authority-passed}
-use Rattle.iri_percent.proofs.tests.displayed_authority.Goals as goal
-
-pub new-requires : goal.new-requires
-new-requires c = authority-passed uri_tests c.args.text.now c.in-Ok.ensures

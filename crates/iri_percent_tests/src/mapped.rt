@@ -1,0 +1,163 @@
+use iri_grammar::spec::{IriSpec, Spec, UriSpec};
+use iri_owned::owned::{IriFragmentString, IriQueryString, IriString, Owned};
+use iri_percent::{IntoUri, MappedKind, MappedToUri, ToUri, laws};
+use iri_text::{Show, ToDedicatedString, write_to_slice};
+use iri_types::kind::{Absolute, Fragment, Iri, Query, Reference, Relative};
+use iri_types::view::{IriQueryStr, IriStr, UriStr, View};
+use std::alloc::{AllocError, Global};
+use std::test::Fail;
+
+fn shown<'b, T: Show>(buf: &'b mut [u8], value: &T) -> &'b str {
+    write_to_slice(buf, value).unwrap_or("no room")
+}
+
+fn mapped<'b, S: Spec, K: MappedKind>(buf: &'b mut [u8], text: &str) -> &'b str {
+    match View::<'_, S, K>::new(text) {
+        Ok(view) => {
+            let mapped = MappedToUri::of(view);
+            let copy = mapped;
+            shown(buf, &copy)
+        }
+        Err(_) => "not in the production",
+    }
+}
+
+#[test]
+fn each_kind(rt: HostRuntime) {
+    let mut buf = [0u8; 64];
+    let reference = mapped::<IriSpec, Reference>(&mut buf, "//\u{3b1}/\u{3b1}?\u{e000}#\u{3b1}");
+    assert_eq!(rt; reference, "//%CE%B1/%CE%B1?%EE%80%80#%CE%B1");
+    let iri = mapped::<IriSpec, Iri>(&mut buf, "a:\u{3b1}#\u{3b1}");
+    assert_eq!(rt; iri, "a:%CE%B1#%CE%B1");
+    let absolute = mapped::<IriSpec, Absolute>(&mut buf, "a://u\u{e9}:\u{e9}@h:1");
+    assert_eq!(rt; absolute, "a://u%C3%A9:%C3%A9@h:1");
+    let relative = mapped::<IriSpec, Relative>(&mut buf, "\u{3b1}%ce%b1");
+    assert_eq!(rt; relative, "%CE%B1%ce%b1");
+    let query = mapped::<IriSpec, Query>(&mut buf, "\u{3b1}=/?");
+    assert_eq!(rt; query, "%CE%B1=/?");
+    let fragment = mapped::<IriSpec, Fragment>(&mut buf, "\u{3b1}");
+    assert_eq!(rt; fragment, "%CE%B1");
+    let uri = mapped::<UriSpec, Iri>(&mut buf, "http://a/%ce?%41#-");
+    assert_eq!(rt; uri, "http://a/%ce?%41#-");
+}
+
+// The examples of RFC 3987 section 3.1, and the first and last character of each length of UTF-8.
+#[test]
+fn characters(rt: HostRuntime) {
+    for (text, want) in [
+        (
+            "http://www.example.org/red%09ros\u{e9}#red",
+            "http://www.example.org/red%09ros%C3%A9#red",
+        ),
+        (
+            "http://example.com/\u{10300}\u{10301}\u{10302}",
+            "http://example.com/%F0%90%8C%80%F0%90%8C%81%F0%90%8C%82",
+        ),
+        (
+            "http://r\u{e9}sum\u{e9}.example.org",
+            "http://r%C3%A9sum%C3%A9.example.org",
+        ),
+        ("a:~\u{a0}\u{7ff}", "a:~%C2%A0%DF%BF"),
+        ("a:\u{800}\u{ffef}z", "a:%E0%A0%80%EF%BF%AFz"),
+        ("a:\u{10000}/\u{efffd}", "a:%F0%90%80%80/%F3%AF%BF%BD"),
+        (
+            "a:?\u{e000}\u{f8ff}\u{f0000}\u{10fffd}",
+            "a:?%EE%80%80%EF%A3%BF%F3%B0%80%80%F4%8F%BF%BD",
+        ),
+        ("a:", "a:"),
+    ] {
+        let mut buf = [0u8; 128];
+        assert_eq!(rt; mapped::<IriSpec, Iri>(&mut buf, text), want, "at {text}");
+    }
+}
+
+// More octets in a row than are written in one piece.
+#[test]
+fn long_runs(rt: HostRuntime) {
+    let mut buf = [0u8; 128];
+    let text = "\u{3042}\u{3044}\u{3046}\u{3048}\u{304a}\u{304b}a\u{304d}";
+    let want = "%E3%81%82%E3%81%84%E3%81%86%E3%81%88%E3%81%8A%E3%81%8Ba%E3%81%8D";
+    assert_eq!(rt; mapped::<IriSpec, Query>(&mut buf, text), want);
+}
+
+const ALPHA: &str = "http://example.com/?alpha=\u{3b1}";
+
+const ENCODED: &str = "http://example.com/?alpha=%CE%B1";
+
+#[test]
+fn three_ways(rt: HostRuntime) -> Result<(), Fail> {
+    let mut iri = IriString::try_from_str(rt.alloc(), ALPHA)?;
+    let mapped = iri.as_slice().encode_to_uri();
+    let uri = mapped.try_to_dedicated_string(rt.alloc())?;
+    assert_eq!(rt; uri.as_str(), ENCODED);
+    assert_eq!(rt; format!(in rt.alloc(); "{mapped}")?.as_str(), ENCODED);
+    let copy = iri.try_clone(rt.alloc())?;
+    let uri = as_owned_uri(rt.alloc(), copy, ALPHA)?;
+    assert_eq!(rt; uri.as_str(), ENCODED);
+    if iri.try_encode_to_uri_inline(rt.alloc()).is_err() {
+        assert_eq!(rt; iri.as_str(), ALPHA);
+        return Err(AllocError)?;
+    }
+    assert_eq!(rt; iri.as_str(), ENCODED);
+    iri.try_encode_to_uri_inline(rt.alloc())?;
+    assert_eq!(rt; iri.as_str(), ENCODED);
+    Ok(())
+}
+
+#[test]
+fn in_ascii_or_not(rt: HostRuntime) -> Result<(), Fail> {
+    let alpha = IriStr::new(ALPHA)?;
+    assert!(rt; alpha.as_uri().is_none());
+    let encoded = IriStr::new(ENCODED)?.as_uri().ok_or("none")?;
+    assert!(rt; encoded == UriStr::new(ENCODED)?);
+    assert!(rt; IriQueryStr::new("")?.as_uri().is_some());
+    assert!(rt; IriQueryStr::new("\u{a0}")?.as_uri().is_none());
+
+    let iri = IriString::try_from_str(rt.alloc(), ALPHA)?;
+    let back = iri.try_into_uri().err().ok_or("taken")?;
+    assert_eq!(rt; back.as_str(), ALPHA);
+    let iri = IriString::try_from_str(rt.alloc(), ENCODED)?;
+    let uri = iri.try_into_uri().ok().ok_or("handed back")?;
+    assert_eq!(rt; uri.as_str(), ENCODED);
+    let iri = uri.into_iri_spec();
+    let uri = iri
+        .try_encode_into_uri(rt.alloc())
+        .ok()
+        .ok_or("handed back")?;
+    assert_eq!(rt; uri.as_str(), ENCODED);
+    Ok(())
+}
+
+// The text encoded. Where allocation fails it is handed back as it was given.
+fn as_owned_uri<K: MappedKind>(
+    alloc: Global,
+    text: Owned<IriSpec, K>,
+    given: &str,
+) -> Result<Owned<UriSpec, K>, Fail> {
+    match text.try_encode_into_uri(alloc) {
+        Ok(uri) => Ok(uri),
+        Err(back) if back.as_str() == given => Err(AllocError)?,
+        Err(_) => Err("another text is handed back")?,
+    }
+}
+
+#[test]
+fn owned_parts(rt: HostRuntime) -> Result<(), Fail> {
+    let query = IriQueryString::try_from_str(rt.alloc(), "\u{e000}")?;
+    let uri = as_owned_uri(rt.alloc(), query, "\u{e000}")?;
+    assert_eq!(rt; uri.as_str(), "%EE%80%80");
+    let fragment = IriFragmentString::try_from_str(rt.alloc(), "\u{e9}%C3")?;
+    let uri = as_owned_uri(rt.alloc(), fragment, "\u{e9}%C3")?;
+    assert_eq!(rt; uri.as_str(), "%C3%A9%C3");
+    Ok(())
+}
+
+#[test]
+fn what_the_laws_of_mapping_say(rt: HostRuntime) {
+    laws::mapping_of_texts();
+    laws::mapped_texts_are_uris::<UriSpec>();
+    laws::mapped_texts_are_uris::<IriSpec>();
+    let mut buf = [0u8; 64];
+    let text = mapped::<IriSpec, Iri>(&mut buf, "a:\u{3b1}");
+    assert!(rt; UriStr::new(text).is_ok(), "{text}");
+}

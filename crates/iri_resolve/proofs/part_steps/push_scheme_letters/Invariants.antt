@@ -1,0 +1,7 @@
+use Rattle.std.specs.Prelude.{drop}
+use Rattle.iri_resolve.specs.NormalSteps.{scheme_steps}
+use Rattle.iri_resolve.proofs.Going.{Going}
+use Rattle.iri_resolve.proofs.part_steps.push_scheme_letters.Given as goal
+
+abbrev pub invariant-loop-i : goal.invariant-loop-i
+invariant-loop-i g l = Going g.T.StepSink.puts g.T.StepSink.stops l.fn.sink (scheme_steps 0 l.scheme) (scheme_steps l.i (drop l.i l.scheme)) l.sink

@@ -1,0 +1,470 @@
+use iri_grammar::spec::{IriSpec, Spec, UriSpec};
+use iri_robots::laws::{
+    empty_patterns_match_nothing, first_rules_are_of_no_group, question_marks_part_forms,
+    rules_are_decided, what_is_allowed_always,
+};
+use iri_robots::{LineError, Robots, RobotsError, Verdict, is_product_token, matches, subject_of};
+use iri_types::view::RiStr;
+use std::alloc::{AllocError, Global};
+use std::test::Fail;
+
+#[test]
+fn patterns_match(rt: HostRuntime) {
+    for (pattern, text) in [
+        ("/", "/p/x"),
+        ("/fish", "/fish.html"),
+        ("/fish*", "/fishheads/yummy.html"),
+        ("/*.php", "/folder/any.php.file.html"),
+        ("/*.php$", "/a.php/b.php"),
+        ("/fish*.php", "/fishheads/catfish.php?parameters"),
+        ("/this/path/exactly$", "/this/path/exactly"),
+        ("/this/*/exactly", "/this/or/that/exactly?"),
+        ("/path/file-with-a-%2A.html", "/path/file-with-a-*.html"),
+        ("/path/foo-%24", "/path/foo-$"),
+        ("/a%2Ab", "/a%2Ab"),
+        ("/a%24$", "/a$"),
+        ("/a$b", "/a$bc"),
+        ("*a%2A*b", "/xa%2A*b"),
+        ("*%2A%2Ab$", "%2A%2A*b"),
+        ("$", ""),
+        ("*$", "abc"),
+        ("/a*b*ab$", "/aabbabab"),
+        ("*ab%2Acd*e", "/ab%24abxab*cdab%2Acde"),
+        ("*b%24%24$", "/b$b%24$b$$"),
+        ("*a$%24b", "/a$$a%24a$%24b"),
+        ("*2Ab", "/%2Ab"),
+        ("*%2*A$", "%2A"),
+    ] {
+        assert!(rt;
+            matches(pattern.as_bytes(), text.as_bytes()),
+            "{pattern} at {text}"
+        );
+    }
+}
+
+#[test]
+fn patterns_do_not_match(rt: HostRuntime) {
+    for (pattern, text) in [
+        ("", ""),
+        ("", "/"),
+        ("/fish", "/Fish.asp"),
+        ("/fish/", "/fish"),
+        ("/*.php$", "/a.php?x"),
+        ("/this/path/exactly$", "/this/path/exactly/"),
+        ("/path/file-with-a-%2A.html", "/path/file-with-a-b.html"),
+        ("/path/foo-%24", "/path/foo-"),
+        ("/a%2Ab", "/axb"),
+        ("/a$b", "/a"),
+        ("$", "/"),
+        ("/a*b*ab$", "/aabbaba"),
+        ("/a*", "/b/a"),
+        ("*ab%2Acd", "/ab%24cdab%2Axab*"),
+        ("*b%24$", "/b$b%24x"),
+        ("*a$b", "/a%24b"),
+        ("*%2*A$", "*"),
+        ("*ab*b$", "/ab"),
+    ] {
+        assert!(rt;
+            !matches(pattern.as_bytes(), text.as_bytes()),
+            "{pattern} at {text}"
+        );
+    }
+}
+
+// A thousand stars are searched, each at its leftmost place.
+#[test]
+fn many_stars(rt: HostRuntime) -> Result<(), Fail> {
+    let mut pattern = Vec::new(rt.alloc());
+    let mut text = Vec::new(rt.alloc());
+    for _ in 0..1000 {
+        pattern.extend_from_slice(b"*a")?;
+        text.push(b'a')?;
+    }
+    text.push(b'b')?;
+    assert!(rt; matches(pattern.as_slice(), text.as_slice()));
+    pattern.push(b'$')?;
+    assert!(rt; !matches(pattern.as_slice(), text.as_slice()));
+    Ok(())
+}
+
+fn fed(alloc: Global, token: &str, lines: &[&str]) -> Result<Robots, RobotsError> {
+    let mut robots = Robots::new(alloc, token)?;
+    for line in lines {
+        robots.feed_line(line.as_bytes())?;
+    }
+    Ok(robots)
+}
+
+fn allows(robots: &Robots, subject: &str) -> bool {
+    matches!(robots.verdict(subject), Verdict::Allow)
+}
+
+// RFC 9309 section 5.1.
+const SIMPLE: [&str; 15] = [
+    "User-Agent: *",
+    "Disallow: *.gif$",
+    "Disallow: /example/",
+    "Allow: /publications/",
+    "",
+    "User-Agent: foobot",
+    "Disallow:/",
+    "Allow:/example/page.html",
+    "Allow:/example/allowed.gif",
+    "",
+    "User-Agent: barbot",
+    "User-Agent: bazbot",
+    "Disallow: /example/page.html",
+    "",
+    "User-Agent: quxbot",
+];
+
+#[test]
+fn simple_example(rt: HostRuntime) -> Result<(), Fail> {
+    for (token, subject, allowed) in [
+        ("foobot", "/example/page.html", true),
+        ("foobot", "/example/allowed.gif", true),
+        ("foobot", "/example/other.gif", false),
+        ("foobot", "/", false),
+        ("barbot", "/example/page.html", false),
+        ("bazbot", "/example/page.html", false),
+        ("BarBot", "/example/allowed.gif", true),
+        ("bazbot", "/", true),
+        ("quxbot", "/example/x.gif", true),
+        ("otherbot", "/x.gif", false),
+        ("otherbot", "/x.gif?y", true),
+        ("otherbot", "/example/", false),
+        ("otherbot", "/publications/x", true),
+        ("otherbot", "/robots.txt", true),
+    ] {
+        let robots = fed(rt.alloc(), token, &SIMPLE)?;
+        assert!(rt; allows(&robots, subject) == allowed, "{token} at {subject}");
+    }
+    Ok(())
+}
+
+// Sections 5.2 and 2.2.1: the longest pattern decides, and groups of one agent are one.
+#[test]
+fn longest_match(rt: HostRuntime) -> Result<(), Fail> {
+    let robots = fed(
+        rt.alloc(),
+        "foobot",
+        &[
+            "Disallow: /",
+            "User-Agent: foobot",
+            "Allow: /example/page/",
+            "Disallow: /example/page/disallowed.gif",
+            "user-agent: other",
+            "disallow: /o",
+            "user-agent: FooBot/2.1 (+http://example.com/)",
+            "disallow: /baz",
+            "allow: /x",
+            "disallow: /x",
+            "disallow:",
+        ],
+    )?;
+    for (subject, allowed) in [
+        ("/example/page/disallowed.gif", false),
+        ("/example/page/index.html", true),
+        ("/o", true),
+        ("/baz/1", false),
+        ("/x", true),
+        ("/", true),
+    ] {
+        assert!(rt; allows(&robots, subject) == allowed, "{subject}");
+    }
+    Ok(())
+}
+
+// The two tables of section 2.2.1: groups of one token are one, and the group of `*` is obeyed by who has none.
+#[test]
+fn groups_of_one_token(rt: HostRuntime) -> Result<(), Fail> {
+    let merged = [
+        "user-agent: ExampleBot",
+        "disallow: /foo",
+        "disallow: /bar",
+        "",
+        "user-agent: ExampleBot",
+        "disallow: /baz",
+    ];
+    let others = [
+        "user-agent: *",
+        "disallow: /foo",
+        "disallow: /bar",
+        "",
+        "user-agent: BazBot",
+        "disallow: /baz",
+    ];
+    for (token, subject, by_merged, by_others) in [
+        ("examplebot", "/foo", false, false),
+        ("EXAMPLEBOT", "/bar", false, false),
+        ("ExampleBot", "/baz", false, true),
+        ("bazbot", "/foo", true, true),
+        ("bazbot", "/baz", true, false),
+    ] {
+        let robots = fed(rt.alloc(), token, &merged)?;
+        assert!(rt;
+            allows(&robots, subject) == by_merged,
+            "{token} at {subject}"
+        );
+        let robots = fed(rt.alloc(), token, &others)?;
+        assert!(rt;
+            allows(&robots, subject) == by_others,
+            "{token} at {subject}"
+        );
+    }
+    let robots = fed(rt.alloc(), "a", &[])?;
+    assert!(rt; allows(&robots, "/"));
+    Ok(())
+}
+
+// Sections 2.2.2 to 2.2.4: comments, special characters, and records that are none of these and end no group.
+#[test]
+fn other_lines_of_a_file(rt: HostRuntime) -> Result<(), Fail> {
+    let robots = fed(
+        rt.alloc(),
+        "examplebot",
+        &[
+            "# comment on its own line",
+            "user-agent: examplebot # comment in line",
+            "Sitemap: https://www.example.com/sitemap.xml",
+            "user-agent: otherbot",
+            "# disallow: /comment",
+            "Sitemaps: /s",
+            "Crawl-delay: 1",
+            "disallow: /",
+            "allow: /this/path/exactly$",
+            "allow: /this/*/exactly",
+            "allow: /path/file-with-a-%2A.html",
+            "allow: /path/foo-%24",
+        ],
+    )?;
+    for (subject, allowed) in [
+        ("/comment", false),
+        ("/s", false),
+        ("/this/path/exactly", true),
+        ("/this/path/exactly/so", true),
+        ("/this/path", false),
+        ("/path/file-with-a-*.html", true),
+        ("/path/file-with-a-%2A.html", true),
+        ("/path/file-with-a-b.html", false),
+        ("/path/foo-$", true),
+        ("/path/foo-", false),
+        ("/robots.txt", true),
+        ("/robots.txt?", false),
+    ] {
+        assert!(rt; allows(&robots, subject) == allowed, "{subject}");
+    }
+    Ok(())
+}
+
+// Each line is read alone, before a rule `Disallow: /` that it takes into its run, or not.
+#[test]
+fn lines_are_read(rt: HostRuntime) -> Result<(), Fail> {
+    for (line, named) in [
+        (b"user-agent:examplebot".as_slice(), true),
+        (b" \tUSER-AGENT \t:\t EXAMPLEBOT \t".as_slice(), true),
+        (b"\xEF\xBB\xBFUser-agent: ExampleBot/1.0".as_slice(), true),
+        (b"User-agent: examplebot # : \xC3\xA9".as_slice(), true),
+        (b"User-agent: examplebot:x".as_slice(), true),
+        (b"User-agent: *".as_slice(), true),
+        (b"User-agent: *x".as_slice(), false),
+        (b"User-agent: examplebots".as_slice(), false),
+        (b"User-agent: other".as_slice(), false),
+        (b"User-agent examplebot".as_slice(), false),
+        (b"#User-agent: examplebot".as_slice(), false),
+        (b"User-agent: # examplebot".as_slice(), false),
+        (b"User-agent: examplebot \xFF".as_slice(), false),
+        (b"User-agents: examplebot".as_slice(), false),
+        (b" \xEF\xBB\xBFUser-agent: examplebot".as_slice(), false),
+        (b"".as_slice(), false),
+    ] {
+        let mut robots = Robots::new(rt.alloc(), "examplebot")?;
+        robots.feed_line(line)?;
+        robots.feed_line(b"Sitemap: /s")?;
+        robots.feed_line(b"Disallow: /")?;
+        assert!(rt; allows(&robots, "/x") != named, "{line:?}");
+    }
+    Ok(())
+}
+
+// Rules for one crawler and one subject.
+#[test]
+fn patterns_of_lines(rt: HostRuntime) -> Result<(), Fail> {
+    for (rule, subject, allowed) in [
+        ("disallow: /\u{e9}", "/%C3%A9", false),
+        ("disallow: /%c3%a9", "/%C3%A9", false),
+        ("disallow: /foo/bar/%62%61%7A", "/foo/bar/baz", false),
+        ("disallow: /foo/bar/\u{30c4}", "/foo/bar/%E3%83%84", false),
+        ("disallow: /a-%2a # star", "/a-*", false),
+        ("disallow: /a-%2a # star", "/a-b", true),
+        ("disallow: /%", "/%", false),
+        ("disallow: /%4\u{e9}$", "/%4%C3%A9", false),
+        ("disallow: /%2$", "/%2", false),
+        ("disallow: /%zz%41", "/%zzA", false),
+        ("disallow: /a b", "/a b", false),
+        ("Allow: /", "/x", true),
+    ] {
+        let robots = fed(rt.alloc(), "x_-Y", &["user-agent: *", rule])?;
+        assert!(rt; allows(&robots, subject) == allowed, "{rule} at {subject}");
+    }
+    Ok(())
+}
+
+#[test]
+fn tokens(rt: HostRuntime) -> Result<(), Fail> {
+    for (token, taken) in [
+        ("a", true),
+        ("Example_Bot-x", true),
+        ("", false),
+        ("*", false),
+        ("bot1", false),
+        ("a bot", false),
+        ("b\u{f6}t", false),
+    ] {
+        assert!(rt; is_product_token(token) == taken, "{token}");
+        match Robots::new(rt.alloc(), token) {
+            Ok(_) => assert!(rt; taken, "{token}"),
+            Err(RobotsError::Token) => assert!(rt; !taken, "{token}"),
+            Err(error) => Err(error)?,
+        }
+    }
+    Ok(())
+}
+
+// `%2A`, `%24` and `$` count, in the form in which patterns are compared.
+#[test]
+fn rules_of_many_escapes(rt: HostRuntime) -> Result<(), Fail> {
+    for (rule, most, subject, stored) in [
+        ("disallow: /*%2a%24$", 3, "/x*$", true),
+        ("disallow: /*%2a%24$", 2, "/x*$", false),
+        ("disallow: /$b%252a", 1, "/$b%252a", true),
+        ("disallow: /$b%252a", 0, "/$b%252a", false),
+        ("disallow: /*a*b", 0, "/xaxb", true),
+    ] {
+        let mut robots = fed(rt.alloc(), "a", &["user-agent: a"])?;
+        match robots.feed_line_within(rule.as_bytes(), most) {
+            Ok(()) => assert!(rt; stored, "{rule}"),
+            Err(LineError::Escapes) => assert!(rt; !stored, "{rule}"),
+            Err(error) => Err(error)?,
+        }
+        assert!(rt; allows(&robots, subject) != stored, "{rule}");
+        robots.feed_line_within(b"sitemap: $$$", 0)?;
+    }
+    Ok(())
+}
+
+#[test]
+fn errors_in_words(rt: HostRuntime) -> Result<(), Fail> {
+    let escapes = LineError::Escapes;
+    assert_eq!(rt;
+        format!(in rt.alloc(); "{escapes}")?.as_str(),
+        "too many escapes"
+    );
+    let memory = LineError::Memory(AllocError);
+    assert_eq!(rt;
+        format!(in rt.alloc(); "{memory}")?.as_str(),
+        "memory allocation failed"
+    );
+    let token = RobotsError::Token;
+    assert_eq!(rt;
+        format!(in rt.alloc(); "{token}")?.as_str(),
+        "invalid token"
+    );
+    let memory = RobotsError::Memory(AllocError);
+    assert_eq!(rt;
+        format!(in rt.alloc(); "{memory}")?.as_str(),
+        "memory allocation failed"
+    );
+    Ok(())
+}
+
+// A refused allocation leaves the rules as they were.
+#[test]
+fn kept_where_memory_is_refused(rt: HostRuntime) -> Result<(), Fail> {
+    let mut robots = fed(rt.alloc(), "a", &["user-agent: a", "disallow: /"])?;
+    for rule in ["allow: /x", "allow: /y", "allow: /z"] {
+        let subject = rule.strip_prefix("allow: ").ok_or("no rule")?;
+        let stored = robots.feed_line(rule.as_bytes());
+        assert!(rt; allows(&robots, subject) == stored.is_ok(), "{rule}");
+        stored?;
+    }
+    assert!(rt; !allows(&robots, "/w"));
+    Ok(())
+}
+
+#[test]
+fn laws_hold() {
+    question_marks_part_forms();
+    first_rules_are_of_no_group();
+    what_is_allowed_always();
+    empty_patterns_match_nothing();
+    rules_are_decided();
+}
+
+fn subject<'a, S: Spec>(alloc: Global, target: &'a str) -> Result<String, Fail> {
+    Ok(subject_of::<S>(alloc, RiStr::<'a, S>::new(target)?)?.into_string())
+}
+
+// The table of RFC 9309 section 2.2.2, and a path that is empty.
+#[test]
+fn subjects(rt: HostRuntime) -> Result<(), Fail> {
+    for (target, want) in [
+        ("http://a/foo/bar?baz=quz", "/foo/bar?baz=quz"),
+        (
+            "http://a/foo/bar?baz=https%3A%2F%2Ffoo.bar",
+            "/foo/bar?baz=https%3A%2F%2Ffoo.bar",
+        ),
+        ("http://a/foo/bar/\u{30c4}", "/foo/bar/%E3%83%84"),
+        ("http://a/foo/bar/%e3%83%84#f", "/foo/bar/%E3%83%84"),
+        ("http://a/foo/bar/%62%61%7A", "/foo/bar/baz"),
+        ("http://a?", "/?"),
+        ("http://a#f", "/"),
+        ("a:b?\u{e9}", "b?%C3%A9"),
+    ] {
+        let iri = subject::<IriSpec>(rt.alloc(), target)?;
+        assert_eq!(rt; iri.as_str(), want, "at {target}");
+    }
+    assert_eq!(rt;
+        subject::<UriSpec>(rt.alloc(), "http://a/%7e?%2a")?.as_str(),
+        "/~?%2A"
+    );
+    Ok(())
+}
+
+// The rules of one file, asked by targets.
+#[test]
+fn rows(rt: HostRuntime) -> Result<(), Fail> {
+    let robots = fed(
+        rt.alloc(),
+        "examplebot",
+        &[
+            "User-agent: *",
+            "Disallow: /",
+            "User-Agent: ExampleBot/1.0",
+            "Disallow: /p",
+            "Allow: /p/*.html$",
+            "disallow: /\u{e9}",
+        ],
+    )?;
+    for (target, allowed) in [
+        ("http://a/p/x.html", true),
+        ("http://a/p/x.html?y", false),
+        ("http://a/q", true),
+        ("http://a/%C3%A9", false),
+    ] {
+        let subject = subject::<UriSpec>(rt.alloc(), target)?;
+        assert!(rt; allows(&robots, subject.as_str()) == allowed, "{target}");
+    }
+    let robots = fed(
+        rt.alloc(),
+        "examplebot",
+        &[
+            "User-agent: examplebot",
+            "Disallow:",
+            "User-agent: *",
+            "Disallow: /",
+        ],
+    )?;
+    assert!(rt; allows(&robots, "/x"));
+    Ok(())
+}

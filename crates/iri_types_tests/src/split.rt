@@ -1,0 +1,47 @@
+use iri_grammar::error::ErrorKind;
+use iri_grammar::spec::{IriSpec, UriSpec};
+use iri_types::kind::Reference;
+use iri_types::split::SplitView;
+use iri_types::view::{IriAbsoluteStr, UriReferenceStr};
+use std::test::Fail;
+
+// RFC 3986 section 3.
+const URL: &str = "foo://example.com:8042/over/there?name=ferret#nose";
+
+#[test]
+fn cut_once(rt: HostRuntime) -> Result<(), Fail> {
+    let Ok(whole) = SplitView::<'_, UriSpec, Reference>::try_from_bytes(URL.as_bytes()) else {
+        return Err("a reference is refused")?;
+    };
+    let again = whole.clone()?;
+    assert_eq!(rt; again.view().as_str(), URL);
+    assert_eq!(rt; again.parts().scheme(), Some("foo"));
+    assert_eq!(rt; again.parts().authority(), Some("example.com:8042"));
+    assert_eq!(rt; again.parts().path(), "/over/there");
+    assert_eq!(rt; again.parts().query(), Some("name=ferret"));
+    assert_eq!(rt; again.parts().fragment(), Some("nose"));
+    let Ok(base) = IriAbsoluteStr::new("urn:\u{3B1}") else {
+        return Err("a base is refused")?;
+    };
+    let base = SplitView::of(base);
+    assert_eq!(rt; base.parts().path(), "\u{3B1}");
+    assert!(rt; base.parts().authority().is_none());
+    Ok(())
+}
+
+// The fault of bytes that are no reference of IRIs.
+fn fault(bytes: &[u8]) -> Option<ErrorKind> {
+    match SplitView::<'_, IriSpec, Reference>::try_from_bytes(bytes) {
+        Ok(_) => None,
+        Err(error) => Some(error.kind()),
+    }
+}
+
+#[test]
+fn refusals(rt: HostRuntime) {
+    assert_eq!(rt; fault(b"\xFF"), Some(ErrorKind::InvalidUtf8));
+    assert_eq!(rt; fault(b"1a:b"), Some(ErrorKind::InvalidPath));
+    assert_eq!(rt; fault("?\u{3B1}".as_bytes()), None);
+    let view = UriReferenceStr::new("##");
+    assert!(rt; view.is_err() && SplitView::<'_, UriSpec, Reference>::new("##").is_err());
+}

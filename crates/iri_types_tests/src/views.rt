@@ -1,0 +1,307 @@
+use iri_grammar::error::{Error, ErrorKind};
+use iri_text::write_to_slice;
+use iri_types::authority::AuthorityComponents;
+use iri_types::laws::{equal_as_texts, hashed_as_texts, ordered_as_texts};
+use iri_types::view::{
+    IriAbsoluteStr, IriFragmentStr, IriQueryStr, IriReferenceStr, IriRelativeStr, IriStr,
+    UriAbsoluteStr, UriFragmentStr, UriQueryStr, UriReferenceStr, UriRelativeStr, UriStr,
+};
+use std::cmp::Ordering;
+use std::convert::{AsStr, TryFrom};
+use std::hash::{DefaultHasher, Hash, Hasher};
+use std::test::Fail;
+
+// Scheme, authority, path, query and fragment.
+type Five<'a> = (
+    Option<&'a str>,
+    Option<&'a str>,
+    &'a str,
+    Option<&'a str>,
+    Option<&'a str>,
+);
+
+fn parts(v: UriReferenceStr<'_>) -> Five<'_> {
+    (
+        v.scheme_str(),
+        v.authority_str(),
+        v.path_str(),
+        v.query_str(),
+        v.fragment_str(),
+    )
+}
+
+fn reads(text: &str, want: Five<'_>) -> bool {
+    match UriReferenceStr::new(text) {
+        Ok(v) => {
+            let query = match v.query() {
+                Some(query) => Some(query.as_str()),
+                None => None,
+            };
+            let fragment = match v.fragment() {
+                Some(fragment) => Some(fragment.as_str()),
+                None => None,
+            };
+            parts(v) == want && query == want.3 && fragment == want.4
+        }
+        Err(_) => false,
+    }
+}
+
+#[test]
+fn each_part_present_absent_and_empty(rt: HostRuntime) {
+    // RFC 3986 section 3.
+    let url = "foo://example.com:8042/over/there?name=ferret#nose";
+    let authority = Some("example.com:8042");
+    let query = Some("name=ferret");
+    let want = (Some("foo"), authority, "/over/there", query, Some("nose"));
+    assert!(rt; reads(url, want));
+    let urn = "urn:example:animal:ferret:nose";
+    let path = "example:animal:ferret:nose";
+    assert!(rt; reads(urn, (Some("urn"), None, path, None, None)));
+    assert!(rt; reads("", (None, None, "", None, None)));
+    assert!(rt; reads("a:", (Some("a"), None, "", None, None)));
+    assert!(rt; reads("//", (None, Some(""), "", None, None)));
+    assert!(rt; reads("a", (None, None, "a", None, None)));
+    assert!(rt; reads("?", (None, None, "", Some(""), None)));
+    assert!(rt; reads("#", (None, None, "", None, Some(""))));
+    assert!(rt; reads("a://?#", (Some("a"), Some(""), "", Some(""), Some(""))));
+    assert!(rt; reads("b#c?d", (None, None, "b", None, Some("c?d"))));
+}
+
+fn fault<T>(answer: Result<T, Error>) -> Option<ErrorKind>
+where
+    T: Drop,
+{
+    match answer {
+        Ok(_) => None,
+        Err(error) => Some(error.kind()),
+    }
+}
+
+#[test]
+fn refusals(rt: HostRuntime) {
+    assert_eq!(rt; fault(IriStr::new("http://a/#f")), None);
+    assert_eq!(rt;
+        fault(UriStr::new("a")),
+        Some(ErrorKind::UnexpectedRelative)
+    );
+    assert_eq!(rt;
+        fault(IriStr::try_from_bytes(&[0xFF])),
+        Some(ErrorKind::InvalidUtf8)
+    );
+    let spaced = b"http://a/ \xFF";
+    assert_eq!(rt;
+        fault(IriStr::try_from_bytes(spaced)),
+        Some(ErrorKind::InvalidUtf8)
+    );
+    assert_eq!(rt;
+        fault(IriStr::try_from_bytes(b"http://a/ ")),
+        Some(ErrorKind::InvalidPath)
+    );
+    assert_eq!(rt;
+        fault(UriAbsoluteStr::new("a:#")),
+        Some(ErrorKind::UnexpectedFragment)
+    );
+    assert_eq!(rt;
+        fault(UriRelativeStr::new("a:b")),
+        Some(ErrorKind::InvalidPath)
+    );
+    assert_eq!(rt;
+        fault(UriQueryStr::new("\u{3B1}")),
+        Some(ErrorKind::InvalidQuery)
+    );
+    assert_eq!(rt; fault(IriQueryStr::new("\u{3B1}")), None);
+    assert_eq!(rt;
+        fault(UriFragmentStr::new("#")),
+        Some(ErrorKind::InvalidFragment)
+    );
+    assert_eq!(rt; fault(IriAbsoluteStr::new("a:\u{3B1}")), None);
+    assert_eq!(rt; fault(IriRelativeStr::new("\u{3B1}")), None);
+    assert_eq!(rt; fault(IriFragmentStr::new("\u{3B1}")), None);
+}
+
+#[test]
+fn behind_marks(rt: HostRuntime) {
+    match UriQueryStr::from_prefixed("??a") {
+        Ok(query) => assert_eq!(rt; query.as_str(), "?a"),
+        Err(_) => assert!(rt; false),
+    }
+    match UriFragmentStr::from_prefixed("#") {
+        Ok(fragment) => assert!(rt; fragment.is_empty()),
+        Err(_) => assert!(rt; false),
+    }
+    let query = Some(ErrorKind::InvalidQuery);
+    assert_eq!(rt; fault(UriQueryStr::from_prefixed("a")), query);
+    assert_eq!(rt; fault(UriQueryStr::from_prefixed("")), query);
+    assert_eq!(rt; fault(UriQueryStr::from_prefixed("?a#")), query);
+    let fragment = Some(ErrorKind::InvalidFragment);
+    assert_eq!(rt; fault(UriFragmentStr::from_prefixed("?a")), fragment);
+    assert_eq!(rt; fault(UriFragmentStr::from_prefixed("##")), fragment);
+}
+
+#[test]
+fn kinds(rt: HostRuntime) {
+    match UriReferenceStr::new("http://a/?q#f") {
+        Ok(reference) => match reference.to_iri() {
+            Ok(iri) => {
+                assert_eq!(rt; iri.scheme_str(), "http");
+                assert_eq!(rt; iri.fragment_str(), Some("f"));
+                assert_eq!(rt; iri.as_reference(), reference);
+                assert_eq!(rt; iri.to_absolute().as_str(), "http://a/?q");
+                let (absolute, fragment) = iri.to_absolute_and_fragment();
+                assert_eq!(rt; absolute.scheme_str(), "http");
+                assert_eq!(rt; absolute.query_str(), Some("q"));
+                assert_eq!(rt; absolute.as_iri().as_str(), "http://a/?q");
+                assert!(rt; absolute.as_iri().to_absolute_and_fragment().1.is_none());
+                match fragment {
+                    Some(fragment) => assert_eq!(rt; fragment.to_iri_spec().as_str(), "f"),
+                    None => assert!(rt; false),
+                }
+                assert_eq!(rt; iri.to_iri_spec().as_str(), "http://a/?q#f");
+                let text = iri.as_str();
+                assert_eq!(rt; UriStr::from_valid(text), iri);
+                assert_eq!(rt; UriReferenceStr::from_valid(reference.as_str()).len(), 13);
+            }
+            Err(_) => assert!(rt; false),
+        },
+        Err(_) => assert!(rt; false),
+    }
+    match IriReferenceStr::new("//a/b?q#f") {
+        Ok(reference) => match reference.to_relative_iri() {
+            Ok(relative) => {
+                assert_eq!(rt; relative.authority_str(), Some("a"));
+                assert_eq!(rt; relative.path_str(), "/b");
+                assert_eq!(rt; relative.fragment_str(), Some("f"));
+                assert_eq!(rt; relative.as_reference().len(), 9);
+            }
+            Err(_) => assert!(rt; false),
+        },
+        Err(_) => assert!(rt; false),
+    }
+}
+
+// Userinfo, host, registered name and port.
+type Four<'a> = (Option<&'a str>, &'a str, Option<&'a str>, Option<&'a str>);
+
+fn four<'a>(a: &AuthorityComponents<'a>) -> Four<'a> {
+    (a.userinfo(), a.host(), a.reg_name(), a.port())
+}
+
+fn has_components(text: &str, want: Four<'_>) -> bool {
+    match UriReferenceStr::new(text) {
+        Ok(v) => match v.authority_components() {
+            Some(a) => four(&a) == want,
+            None => false,
+        },
+        Err(_) => false,
+    }
+}
+
+#[test]
+fn components(rt: HostRuntime) {
+    let host = "[::1]";
+    let want = (Some("u:p"), host, None, Some("80"));
+    assert!(rt; has_components("http://u:p@[::1]:80/", want));
+    assert!(rt; has_components("//@a:", (Some(""), "a", Some("a"), Some(""))));
+    assert!(rt; has_components("//127.0.0.1", (None, "127.0.0.1", None, None)));
+    assert!(rt; has_components("//", (None, "", Some(""), None)));
+    match UriReferenceStr::new("mailto:a@b") {
+        Ok(v) => assert!(rt; AuthorityComponents::from_iri(v).is_none()),
+        Err(_) => assert!(rt; false),
+    }
+}
+
+fn hash_of<T: Hash>(x: &T) -> u64 {
+    let mut state = DefaultHasher::new();
+    x.hash(&mut state);
+    state.finish()
+}
+
+#[test]
+fn views_as_texts(rt: HostRuntime) -> Result<(), Fail> {
+    match (UriStr::new("a:b"), UriStr::new("a:c")) {
+        (Ok(a), Ok(b)) => {
+            let again = a.clone()?;
+            assert_eq!(rt; again, a);
+            assert!(rt; !equal_as_texts(a, b));
+            assert_eq!(rt; ordered_as_texts(a, b), Ordering::Less);
+            assert!(rt; a < b);
+            let mut state = DefaultHasher::new();
+            hashed_as_texts(again, &mut state);
+            assert_eq!(rt; state.finish(), hash_of(&a));
+            let told = format!(in rt.alloc(); "<{a}>")?;
+            assert_eq!(rt; told.as_str(), "<a:b>");
+            let told = format!(in rt.alloc(); "{a:?}")?;
+            assert!(rt; told.as_str().contains("\"a:b\""));
+            let mut three = [0u8; 3];
+            match write_to_slice(&mut three, &a) {
+                Ok(text) => assert_eq!(rt; text, "a:b"),
+                Err(_) => assert!(rt; false),
+            }
+        }
+        _ => assert!(rt; false),
+    }
+    match (UriStr::new("a://b"), UriStr::new("c://b/d")) {
+        (Ok(a), Ok(b)) => match (a.authority_components(), b.authority_components()) {
+            (Some(x), Some(y)) => {
+                let copy = x.clone()?;
+                assert!(rt; copy == y);
+                assert_eq!(rt; hash_of(&x), hash_of(&y));
+            }
+            _ => assert!(rt; false),
+        },
+        _ => assert!(rt; false),
+    }
+    Ok(())
+}
+
+fn length_of<T: AsStr>(value: &T) -> usize {
+    value.as_str().len()
+}
+
+#[test]
+fn by_the_traits_of_std(rt: HostRuntime) -> Result<(), Fail> {
+    // RFC 3986 section 1.1.2.
+    let url = "http://www.ietf.org/rfc/rfc2396.txt";
+    let link = UriStr::try_from(url)?;
+    assert_eq!(rt; length_of(&link), 35);
+    assert_eq!(rt; UriStr::try_from(url.as_bytes())?, link);
+    assert_eq!(rt; <&str>::from(link), url);
+    let reference = UriReferenceStr::from(link);
+    assert_eq!(rt; UriStr::try_from(reference)?, link);
+    let absolute = UriAbsoluteStr::try_from(link)?;
+    assert_eq!(rt; UriStr::from(absolute), link);
+    assert_eq!(rt; UriReferenceStr::from(absolute), reference);
+    let relative = UriRelativeStr::try_from("../g")?;
+    assert_eq!(rt; UriReferenceStr::from(relative).as_str(), "../g");
+    assert_eq!(rt; IriStr::from(link).as_str(), url);
+    assert_eq!(rt;
+        fault(UriStr::try_from("//a")),
+        Some(ErrorKind::UnexpectedRelative)
+    );
+    assert_eq!(rt;
+        fault(UriStr::try_from(b"a:\xFF" as &[u8])),
+        Some(ErrorKind::InvalidUtf8)
+    );
+    assert_eq!(rt;
+        fault(UriRelativeStr::try_from(reference)),
+        Some(ErrorKind::InvalidPath)
+    );
+    assert_eq!(rt;
+        fault(UriAbsoluteStr::try_from(UriStr::new("a:#")?)),
+        Some(ErrorKind::UnexpectedFragment)
+    );
+    Ok(())
+}
+
+#[test]
+fn printed_for_a_programmer(rt: HostRuntime) -> Result<(), Fail> {
+    let link = UriReferenceStr::new("//u@a:1/")?;
+    let told = format!(in rt.alloc(); "{link:?}")?;
+    assert!(rt; told.as_str().contains("\"//u@a:1/\""));
+    let authority = AuthorityComponents::from_iri(link).ok_or("an authority")?;
+    let told = format!(in rt.alloc(); "{authority:?}")?;
+    let want = "AuthorityComponents { userinfo: Some(\"u\"), host: \"a\", port: Some(\"1\") }";
+    assert_eq!(rt; told.as_str(), want);
+    Ok(())
+}

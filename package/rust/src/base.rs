@@ -1,0 +1,274 @@
+//! References against a base.
+use crate::grammar::at;
+use crate::written::{into, owned};
+use crate::{ffi, Error, Grammar, Mode};
+use std::os::raw::c_char;
+use std::str;
+
+/// A base, against which references are resolved. [`Grammar::base`] makes it.
+#[derive(Debug, Clone, Copy, PartialEq, Eq, Hash)]
+pub struct Base<'a> {
+    pub(crate) text: &'a str,
+    pub(crate) grammar: Grammar,
+    pub(crate) mode: Mode,
+}
+
+impl<'a> Base<'a> {
+    /// The same base, whose canonical texts follow the rules of http, https, ws, wss and ftp too (RFC 3986 section 6.2.3).
+    ///
+    /// ```
+    /// let base = irikit::Uri.base("http://a/")?.by_scheme();
+    /// assert_eq!(base.canonical("//b:80")?, "http://b/");
+    /// # Ok::<(), irikit::Error>(())
+    /// ```
+    #[must_use]
+    pub fn by_scheme(self) -> Self {
+        Base {
+            mode: Mode::ByScheme,
+            ..self
+        }
+    }
+
+    /// The text of the base.
+    pub fn as_str(&self) -> &'a str {
+        self.text
+    }
+
+    /// The canonical text of a reference: resolved (RFC 3986 section 5.2), in normal form (section 6.2.2).
+    ///
+    /// # Errors
+    ///
+    /// [`Error::Reference`] where it is no reference.
+    ///
+    /// ```
+    /// use irikit::{Error, Fault, Uri};
+    ///
+    /// let base = Uri.base("http://a/b/c")?;
+    /// assert_eq!(base.canonical("../%7Ed")?, "http://a/~d");
+    /// assert_eq!(base.canonical("%4"), Err(Error::Reference(Fault::INVALID_PATH)));
+    /// # Ok::<(), irikit::Error>(())
+    /// ```
+    pub fn canonical(&self, reference: &str) -> Result<String, Error> {
+        owned(self.room(reference), canonicalizing(*self, reference))
+    }
+
+    /// [`canonical`](Self::canonical) into a buffer, of which three bytes more than base and reference have suffice.
+    ///
+    /// # Errors
+    ///
+    /// [`Error::Reference`] where it is no reference, [`Error::Short`] where the buffer is too short.
+    ///
+    /// ```
+    /// use irikit::{Error, Uri};
+    ///
+    /// let base = Uri.base("http://a/b/c")?;
+    /// assert_eq!(base.canonical_into("d", &mut [0; 64])?, "http://a/b/d");
+    /// assert_eq!(base.canonical_into("d", &mut [0; 8]), Err(Error::Short(12)));
+    /// # Ok::<(), irikit::Error>(())
+    /// ```
+    pub fn canonical_into<'b>(&self, reference: &str, out: &'b mut [u8]) -> Result<&'b str, Error> {
+        into(out, canonicalizing(*self, reference))
+    }
+
+    /// A reference resolved, and not in normal form.
+    ///
+    /// # Errors
+    ///
+    /// [`Error::Reference`] where it is no reference.
+    ///
+    /// ```
+    /// assert_eq!(irikit::Uri.base("http://A/b/c")?.resolve("../%7e")?, "http://A/%7e");
+    /// # Ok::<(), irikit::Error>(())
+    /// ```
+    pub fn resolve(&self, reference: &str) -> Result<String, Error> {
+        owned(self.room(reference), resolving(*self, reference))
+    }
+
+    /// [`resolve`](Self::resolve) into a buffer, of which three bytes more than base and reference have suffice.
+    ///
+    /// # Errors
+    ///
+    /// [`Error::Reference`] where it is no reference, [`Error::Short`] where the buffer is too short.
+    pub fn resolve_into<'b>(&self, reference: &str, out: &'b mut [u8]) -> Result<&'b str, Error> {
+        into(out, resolving(*self, reference))
+    }
+
+    /// The target of a reference: resolved, with its dot segments (RFC 3986 section 5.2.2).
+    ///
+    /// # Errors
+    ///
+    /// [`Error::Reference`] where it is no reference.
+    ///
+    /// ```
+    /// assert_eq!(irikit::Uri.base("http://A/b/c")?.target("../%7e")?, "http://A/b/../%7e");
+    /// # Ok::<(), irikit::Error>(())
+    /// ```
+    pub fn target(&self, reference: &str) -> Result<String, Error> {
+        let ((base, base_len), (text, len)) = (at(self.text), at(reference));
+        owned(self.room(reference), |out, size, told| unsafe {
+            ffi::irikit_target(
+                self.grammar as u8,
+                base,
+                base_len,
+                text,
+                len,
+                out,
+                size,
+                told,
+            )
+        })
+    }
+
+    /// The canonical texts of references, one after the other.
+    ///
+    /// ```
+    /// let base = irikit::Uri.base("http://a/b/c")?;
+    /// let good: Vec<String> = base.canonical_each(["d", "%4", "/e"]).filter_map(Result::ok).collect();
+    /// assert_eq!(good, ["http://a/b/d", "http://a/e"]);
+    /// # Ok::<(), irikit::Error>(())
+    /// ```
+    pub fn canonical_each<I>(self, references: I) -> CanonicalEach<'a, I::IntoIter>
+    where
+        I: IntoIterator,
+        I::Item: AsRef<str>,
+    {
+        CanonicalEach {
+            base: self,
+            references: references.into_iter(),
+        }
+    }
+
+    /// The canonical texts of references, each on a line that an LF ends, with or without a CR before it, in as few calls as the
+    /// buffer lets. They stand in the buffer, which grows where an answer has no room.
+    ///
+    /// ```
+    /// let base = irikit::Uri.base("http://a/b/c")?;
+    /// let mut buffer = Vec::new();
+    /// let texts: Vec<_> = base.canonical_lines("d\n%4\n/e\n", &mut buffer).collect();
+    /// assert_eq!(texts, [Ok("http://a/b/d"), Err("invalid path"), Ok("http://a/e")]);
+    /// # Ok::<(), irikit::Error>(())
+    /// ```
+    pub fn canonical_lines<'b>(&self, lines: &str, buffer: &'b mut Vec<u8>) -> Lines<'b> {
+        let (mut at, mut len) = (0, 0);
+        buffer.resize(buffer.capacity().max(4096), 0);
+        while lines[at..].contains('\n') {
+            let (consumed, told, short) = self.answer(&lines[at..], &mut buffer[len..]);
+            (at, len) = (at + consumed, len + told);
+            if !short {
+                break;
+            }
+            buffer.resize(2 * buffer.len() + self.text.len() + lines.len() - at, 0);
+        }
+        Lines {
+            answers: str::from_utf8(&buffer[..len])
+                .expect("irikit writes UTF-8")
+                .split_terminator('\n'),
+        }
+    }
+
+    /// How many bytes of lines are answered, how many bytes the answers have, and whether the next has no room.
+    fn answer(&self, lines: &str, out: &mut [u8]) -> (usize, usize, bool) {
+        let ((base, base_len), (lines, len)) = (at(self.text), at(lines));
+        let (mut consumed, mut told, size, out) = (0, 0, out.len(), out.as_mut_ptr().cast());
+        let (grammar, mode) = (self.grammar as u8, self.mode as u8);
+        let status = unsafe {
+            ffi::irikit_canonical_lines(
+                grammar,
+                mode,
+                base,
+                base_len,
+                lines,
+                len,
+                out,
+                size,
+                &mut consumed,
+                &mut told,
+            )
+        };
+        (consumed, told, status == ffi::IRIKIT_SHORT)
+    }
+
+    fn room(&self, reference: &str) -> usize {
+        self.text.len() + reference.len() + 3
+    }
+}
+
+fn canonicalizing<'t>(
+    by: Base<'t>,
+    reference: &'t str,
+) -> impl FnOnce(*mut c_char, usize, *mut usize) -> u8 + 't {
+    move |out, size, told| {
+        let ((base, base_len), (reference, len)) = (at(by.text), at(reference));
+        let (grammar, mode) = (by.grammar as u8, by.mode as u8);
+        unsafe {
+            ffi::irikit_canonical(
+                grammar, mode, base, base_len, reference, len, out, size, told,
+            )
+        }
+    }
+}
+
+fn resolving<'t>(
+    by: Base<'t>,
+    reference: &'t str,
+) -> impl FnOnce(*mut c_char, usize, *mut usize) -> u8 + 't {
+    move |out, size, told| {
+        let ((base, base_len), (reference, len)) = (at(by.text), at(reference));
+        unsafe {
+            ffi::irikit_resolve(
+                by.grammar as u8,
+                base,
+                base_len,
+                reference,
+                len,
+                out,
+                size,
+                told,
+            )
+        }
+    }
+}
+
+/// The iterator of [`Base::canonical_each`].
+#[derive(Debug, Clone)]
+pub struct CanonicalEach<'a, I> {
+    base: Base<'a>,
+    references: I,
+}
+
+impl<I> Iterator for CanonicalEach<'_, I>
+where
+    I: Iterator,
+    I::Item: AsRef<str>,
+{
+    type Item = Result<String, Error>;
+
+    fn next(&mut self) -> Option<Self::Item> {
+        self.references
+            .next()
+            .map(|reference| self.base.canonical(reference.as_ref()))
+    }
+
+    fn size_hint(&self) -> (usize, Option<usize>) {
+        self.references.size_hint()
+    }
+}
+
+/// The iterator of [`Base::canonical_lines`]: for each line its canonical text, or the words for its first fault.
+#[derive(Debug, Clone)]
+pub struct Lines<'b> {
+    answers: str::SplitTerminator<'b, char>,
+}
+
+impl<'b> Iterator for Lines<'b> {
+    type Item = Result<&'b str, &'b str>;
+
+    fn next(&mut self) -> Option<Self::Item> {
+        let answer = self.answers.next()?;
+        Some(
+            answer
+                .strip_prefix("ok ")
+                .ok_or_else(|| answer.strip_prefix("bad ").unwrap_or(answer)),
+        )
+    }
+}

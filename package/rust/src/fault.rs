@@ -1,0 +1,138 @@
+//! Why a text is refused.
+use crate::ffi;
+use crate::written::words;
+use std::fmt;
+
+/// The first fault of a text, from the left. Its words are those of the program `irikit`.
+///
+/// ```
+/// use irikit::{Error, Fault, Uri};
+///
+/// let error = Uri.split("http://a b/").unwrap_err();
+/// assert_eq!(error, Error::Text(Fault::INVALID_HOST));
+/// assert_eq!(Fault::INVALID_HOST.to_string(), "invalid host");
+/// ```
+#[derive(Debug, Clone, Copy, PartialEq, Eq, Hash)]
+pub struct Fault(usize);
+
+/// The first fault of a template, from the left (RFC 6570 section 2).
+#[derive(Debug, Clone, Copy, PartialEq, Eq, Hash)]
+pub struct TemplateFault(usize);
+
+/// What a call refuses.
+#[derive(Debug, Clone, Copy, PartialEq, Eq, Hash)]
+#[non_exhaustive]
+pub enum Error {
+    /// The text.
+    Text(Fault),
+    /// The base.
+    Base(Fault),
+    /// The reference; the base is valid.
+    Reference(Fault),
+    /// What is to stand in the text; the text is valid.
+    Part(Fault),
+    /// The template, at this byte.
+    Template(TemplateFault, usize),
+    /// The text has no host, or none of the kind that may be replaced.
+    NoHost,
+    /// The caller's buffer: this many bytes are needed.
+    Short(usize),
+}
+
+macro_rules! numbers {
+    ($kind:ident: $($(#[$doc:meta])* $name:ident = $number:literal;)*) => {
+        #[allow(missing_docs)]
+        impl $kind {
+            $($(#[$doc])* pub const $name: $kind = $kind($number);)*
+        }
+    };
+}
+
+numbers! { Fault:
+    INVALID_SCHEME = 0;
+    INVALID_USERINFO = 1;
+    INVALID_HOST = 2;
+    INVALID_REG_NAME = 3;
+    INVALID_PORT = 4;
+    INVALID_PATH = 5;
+    INVALID_QUERY = 6;
+    INVALID_FRAGMENT = 7;
+    /// A fragment in an absolute URI.
+    UNEXPECTED_FRAGMENT = 8;
+    /// No scheme where one must stand.
+    UNEXPECTED_RELATIVE = 9;
+    INVALID_UTF8 = 10;
+}
+
+numbers! { TemplateFault:
+    EXPRESSION_NOT_CLOSED = 0;
+    INVALID_CHARACTER = 1;
+    INVALID_EXPRESSION = 2;
+    INVALID_PERCENT_ENCODING = 3;
+    /// A prefix length on a list, or on pairs, that isn't empty.
+    UNEXPECTED_VALUE_TYPE = 5;
+    UNSUPPORTED_OPERATOR = 6;
+}
+
+impl Fault {
+    pub(crate) fn of(number: usize) -> Self {
+        Fault(number)
+    }
+}
+
+impl Error {
+    /// The refusal that a status and what is told with it stand for.
+    pub(crate) fn of(status: u8, told: usize) -> Self {
+        match status {
+            ffi::IRIKIT_SHORT => Error::Short(told),
+            ffi::IRIKIT_BAD_TEXT => Error::Text(Fault(told)),
+            ffi::IRIKIT_BAD_BASE => Error::Base(Fault(told)),
+            ffi::IRIKIT_BAD_REFERENCE => Error::Reference(Fault(told)),
+            ffi::IRIKIT_BAD_PART => Error::Part(Fault(told)),
+            ffi::IRIKIT_NO_HOST => Error::NoHost,
+            _ => unreachable!("irikit.h has no status {status} for this call"),
+        }
+    }
+
+    /// The same where the text is a template.
+    pub(crate) fn of_template(status: u8, told: usize, place: usize) -> Self {
+        match status {
+            ffi::IRIKIT_BAD_TEXT => Error::Template(TemplateFault(told), place),
+            _ => Error::of(status, told),
+        }
+    }
+}
+
+impl fmt::Display for Fault {
+    fn fmt(&self, f: &mut fmt::Formatter<'_>) -> fmt::Result {
+        f.write_str(words(&mut [0; 64], |out, size, told| unsafe {
+            ffi::irikit_fault_words(self.0, out, size, told)
+        }))
+    }
+}
+
+impl fmt::Display for TemplateFault {
+    fn fmt(&self, f: &mut fmt::Formatter<'_>) -> fmt::Result {
+        f.write_str(words(&mut [0; 64], |out, size, told| unsafe {
+            ffi::irikit_template_fault_words(self.0, out, size, told)
+        }))
+    }
+}
+
+impl fmt::Display for Error {
+    fn fmt(&self, f: &mut fmt::Formatter<'_>) -> fmt::Result {
+        match self {
+            Error::Text(fault) => write!(f, "the text: {fault}"),
+            Error::Base(fault) => write!(f, "the base: {fault}"),
+            Error::Reference(fault) => write!(f, "the reference: {fault}"),
+            Error::Part(fault) => write!(f, "the part: {fault}"),
+            Error::Template(fault, place) => write!(f, "the template: {fault} at {place}"),
+            Error::NoHost => f.write_str("no host to replace"),
+            Error::Short(needed) => write!(f, "the buffer is too short: {needed} bytes are needed"),
+        }
+    }
+}
+
+impl std::error::Error for Fault {}
+impl std::error::Error for TemplateFault {}
+impl std::error::Error for Error {}

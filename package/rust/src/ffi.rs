@@ -1,0 +1,101 @@
+//! The calls of `irikit.h`, as it declares them. Every `unsafe` of the crate is a call of one of these.
+use std::os::raw::c_char;
+
+pub const IRIKIT_OK: u8 = 0;
+pub const IRIKIT_SHORT: u8 = 1;
+pub const IRIKIT_NOT_NORMAL: u8 = 2;
+pub const IRIKIT_BAD_TEXT: u8 = 3;
+pub const IRIKIT_BAD_BASE: u8 = 4;
+pub const IRIKIT_BAD_REFERENCE: u8 = 5;
+pub const IRIKIT_BAD_PART: u8 = 8;
+pub const IRIKIT_NO_HOST: u8 = 9;
+
+pub const IRIKIT_RUN_SHORT: u8 = 5;
+
+pub const IRIKIT_NOWHERE: usize = usize::MAX;
+
+#[repr(C)]
+#[derive(Clone, Copy, Default)]
+pub struct Slot {
+    pub offset: usize,
+    pub len: usize,
+}
+
+#[repr(C)]
+#[derive(Clone, Copy, Default)]
+pub struct Slots {
+    pub scheme: Slot,
+    pub authority: Slot,
+    pub path: Slot,
+    pub query: Slot,
+    pub fragment: Slot,
+    pub userinfo: Slot,
+    pub host: Slot,
+    pub port: Slot,
+}
+
+#[repr(C)]
+pub struct Text {
+    pub bytes: *const c_char,
+    pub len: usize,
+}
+
+#[repr(C)]
+pub struct Given {
+    pub part: usize,
+    pub text: Text,
+}
+
+#[repr(C)]
+pub struct Variable {
+    pub name: Text,
+    pub kind: usize,
+    pub values: *const Text,
+    pub count: usize,
+}
+
+/// A text, its length, a buffer, its size, and what is told.
+macro_rules! calls {
+    ($($name:ident($($argument:ident: $kind:ty),* $(,)?);)*) => {
+        extern "C" { $(pub fn $name($($argument: $kind),*) -> u8;)* }
+    };
+}
+
+calls! {
+    irikit_canonical(grammar: u8, mode: u8, base: *const c_char, base_len: usize, reference: *const c_char, reference_len: usize,
+        out: *mut c_char, size: usize, told: *mut usize);
+    irikit_canonical_lines(grammar: u8, mode: u8, base: *const c_char, base_len: usize, lines: *const c_char, lines_len: usize,
+        out: *mut c_char, size: usize, consumed: *mut usize, told: *mut usize);
+    irikit_validate(grammar: u8, kind: u8, text: *const c_char, len: usize, told: *mut usize);
+    irikit_split(grammar: u8, text: *const c_char, len: usize, parts: *mut Slots, told: *mut usize);
+    irikit_is_normalized(grammar: u8, mode: u8, text: *const c_char, len: usize, told: *mut usize);
+    irikit_map_to_uri(text: *const c_char, len: usize, out: *mut c_char, size: usize, told: *mut usize);
+    irikit_resolve(grammar: u8, base: *const c_char, base_len: usize, reference: *const c_char, reference_len: usize,
+        out: *mut c_char, size: usize, told: *mut usize);
+    irikit_target(grammar: u8, base: *const c_char, base_len: usize, reference: *const c_char, reference_len: usize,
+        out: *mut c_char, size: usize, told: *mut usize);
+    irikit_steps(grammar: u8, mode: u8, text: *const c_char, len: usize, out: *mut c_char, size: usize, told: *mut usize);
+    irikit_normalize(grammar: u8, mode: u8, text: *const c_char, len: usize, out: *mut c_char, size: usize, told: *mut usize);
+    irikit_encode(grammar: u8, place: u8, text: *const c_char, len: usize, out: *mut c_char, size: usize, told: *mut usize);
+    irikit_decode(text: *const c_char, len: usize, out: *mut c_char, size: usize, told: *mut usize);
+    irikit_mask_password(grammar: u8, text: *const c_char, len: usize, out: *mut c_char, size: usize, told: *mut usize);
+    irikit_replace_password(grammar: u8, text: *const c_char, len: usize, password: *const c_char, password_len: usize,
+        out: *mut c_char, size: usize, told: *mut usize);
+    irikit_remove_fragment(grammar: u8, text: *const c_char, len: usize, out: *mut c_char, size: usize, told: *mut usize);
+    irikit_set_fragment(grammar: u8, text: *const c_char, len: usize, fragment: *const c_char, fragment_len: usize,
+        out: *mut c_char, size: usize, told: *mut usize);
+    irikit_remove_password(grammar: u8, text: *const c_char, len: usize, out: *mut c_char, size: usize, told: *mut usize);
+    irikit_replace_host(grammar: u8, text: *const c_char, len: usize, host: *const c_char, host_len: usize, out: *mut c_char,
+        size: usize, told: *mut usize);
+    irikit_replace_reg_name(grammar: u8, text: *const c_char, len: usize, host: *const c_char, host_len: usize,
+        out: *mut c_char, size: usize, told: *mut usize);
+    irikit_build(grammar: u8, kind: u8, parts: *const Given, count: usize, out: *mut c_char, size: usize, told: *mut usize);
+    irikit_template_variables(template: *const c_char, len: usize, out: *mut c_char, size: usize, told: *mut usize,
+        place: *mut usize);
+    irikit_expand(grammar: u8, template: *const c_char, template_len: usize, variables: *const Variable, count: usize,
+        out: *mut c_char, size: usize, told: *mut usize, place: *mut usize);
+    irikit_fault_words(fault: usize, out: *mut c_char, size: usize, told: *mut usize);
+    irikit_template_fault_words(fault: usize, out: *mut c_char, size: usize, told: *mut usize);
+    irikit_run(words: *const c_char, words_len: usize, input: *const c_char, input_len: usize, out: *mut c_char, size: usize,
+        told: *mut usize);
+}

@@ -1,0 +1,565 @@
+//! The grammars, and what is asked in one without a base.
+use crate::template::{refuse, Array};
+use crate::written::{bytes, into, owned};
+use crate::{ffi, Base, Error, Fault, Parts, Value};
+use std::os::raw::c_char;
+
+/// A grammar, and by it the calls that need no base.
+#[derive(Debug, Clone, Copy, PartialEq, Eq, Hash)]
+pub enum Grammar {
+    /// RFC 3986: ASCII alone.
+    Uri = 0,
+    /// RFC 3987: characters past ASCII too.
+    Iri = 1,
+}
+
+/// A mode of normal form.
+#[derive(Debug, Clone, Copy, PartialEq, Eq, Hash)]
+pub enum Mode {
+    /// RFC 3986 section 6.2.2, and an empty port removed (section 6.2.3).
+    Normal = 0,
+    /// That, without the default port of http, https, ws, wss and ftp, and with `/` for an empty path beside an authority (section
+    /// 6.2.3).
+    ByScheme = 1,
+    /// As `Normal`, but a path without authority that doesn't begin with a slash keeps its dot segments.
+    Preserving = 2,
+}
+
+/// A kind of whole text.
+#[derive(Debug, Clone, Copy, PartialEq, Eq, Hash)]
+pub enum Kind {
+    /// URI-reference (RFC 3986 section 4.1).
+    Reference = 0,
+    /// URI (section 3).
+    WithScheme = 1,
+    /// absolute-URI: with a scheme and without a fragment (section 4.3).
+    Absolute = 2,
+    /// relative-ref: without a scheme (section 4.2).
+    Relative = 3,
+}
+
+/// A place of a reference, by what stands as it is there beside `unreserved` and, in IRIs, characters past ASCII.
+#[derive(Debug, Clone, Copy, PartialEq, Eq, Hash)]
+pub enum Place {
+    /// sub-delims (RFC 3986 section 3.2.2).
+    RegName = 0,
+    /// sub-delims: the user or the password (section 3.2.1).
+    User = 1,
+    /// sub-delims `:` `@` (section 3.3).
+    Segment = 2,
+    /// sub-delims `:` `@` `/` (section 3.3).
+    Path = 3,
+    /// sub-delims `:` `@` `/` `?` (section 3.4).
+    Query = 4,
+    /// sub-delims `:` `@` `/` `?` (section 3.5).
+    Fragment = 5,
+    /// Nothing (section 2.3).
+    Anywhere = 6,
+    /// sub-delims and gen-delims (section 2.2).
+    Reference = 7,
+}
+
+/// A part that a text is built from, without the delimiters around it.
+#[derive(Debug, Clone, Copy, PartialEq, Eq, Hash)]
+#[allow(missing_docs)]
+pub enum Part {
+    Scheme = 0,
+    Userinfo = 1,
+    Host = 2,
+    Port = 3,
+    Path = 4,
+    Query = 5,
+    Fragment = 6,
+}
+
+/// A text as its pointer and its length.
+pub(crate) fn at(text: &str) -> (*const c_char, usize) {
+    (text.as_ptr().cast(), text.len())
+}
+
+impl Grammar {
+    /// A base, against which references are resolved.
+    ///
+    /// # Errors
+    ///
+    /// [`Error::Base`] where it is no absolute-URI (RFC 3986 section 4.3: a scheme, and no fragment).
+    ///
+    /// ```
+    /// let base = irikit::Uri.base("http://a/b/c/d;p?q")?;
+    /// assert_eq!(base.canonical("../g")?, "http://a/b/g");
+    /// # Ok::<(), irikit::Error>(())
+    /// ```
+    pub fn base(self, text: &str) -> Result<Base<'_>, Error> {
+        self.validate(Kind::Absolute, text).map_err(Error::Base)?;
+        Ok(Base {
+            text,
+            grammar: self,
+            mode: Mode::Normal,
+        })
+    }
+
+    /// Whether a text is of a kind.
+    ///
+    /// # Errors
+    ///
+    /// Its first fault where it isn't.
+    ///
+    /// ```
+    /// use irikit::{Fault, Iri, Kind, Uri};
+    ///
+    /// assert_eq!(Uri.validate(Kind::Reference, "/caf%C3%A9"), Ok(()));
+    /// assert_eq!(Uri.validate(Kind::Reference, "/café"), Err(Fault::INVALID_PATH));
+    /// assert_eq!(Iri.validate(Kind::Reference, "/café"), Ok(()));
+    /// ```
+    pub fn validate(self, kind: Kind, text: &str) -> Result<(), Fault> {
+        let ((text, len), mut told) = (at(text), 0);
+        match unsafe { ffi::irikit_validate(self as u8, kind as u8, text, len, &mut told) } {
+            ffi::IRIKIT_OK => Ok(()),
+            _ => Err(Fault::of(told)),
+        }
+    }
+
+    /// The parts of a reference.
+    ///
+    /// # Errors
+    ///
+    /// [`Error::Text`] where it is none.
+    ///
+    /// ```
+    /// let parts = irikit::Uri.split("//h:8/p?q")?;
+    /// assert_eq!((parts.host, parts.port, parts.path, parts.query), (Some("h"), Some("8"), "/p", Some("q")));
+    /// # Ok::<(), irikit::Error>(())
+    /// ```
+    pub fn split(self, text: &str) -> Result<Parts<'_>, Error> {
+        let ((bytes, len), mut slots, mut told) = (at(text), ffi::Slots::default(), 0);
+        match unsafe { ffi::irikit_split(self as u8, bytes, len, &mut slots, &mut told) } {
+            ffi::IRIKIT_OK => Ok(Parts::of(text, &slots)),
+            status => Err(Error::of(status, told)),
+        }
+    }
+
+    /// Whether a text with a scheme is its own normal form.
+    ///
+    /// # Errors
+    ///
+    /// [`Error::Text`] where it is no URI.
+    ///
+    /// ```
+    /// assert!(!irikit::Uri.is_normalized("HTTP://a/", irikit::Mode::Normal)?);
+    /// # Ok::<(), irikit::Error>(())
+    /// ```
+    pub fn is_normalized(self, text: &str, mode: Mode) -> Result<bool, Error> {
+        let ((text, len), mut told) = (at(text), 0);
+        match unsafe { ffi::irikit_is_normalized(self as u8, mode as u8, text, len, &mut told) } {
+            ffi::IRIKIT_OK => Ok(true),
+            ffi::IRIKIT_NOT_NORMAL => Ok(false),
+            status => Err(Error::of(status, told)),
+        }
+    }
+
+    /// The normal form of a text with a scheme (RFC 3986 section 6.2.2).
+    ///
+    /// # Errors
+    ///
+    /// [`Error::Text`] where it is no URI.
+    ///
+    /// ```
+    /// assert_eq!(irikit::Uri.normalize("HTTP://a:80/%7e", irikit::Mode::ByScheme)?, "http://a/~");
+    /// # Ok::<(), irikit::Error>(())
+    /// ```
+    pub fn normalize(self, text: &str, mode: Mode) -> Result<String, Error> {
+        owned(text.len() + 3, self.normalizing(text, mode))
+    }
+
+    /// [`normalize`](Self::normalize) into a buffer, of which `text.len() + 3` bytes suffice.
+    ///
+    /// # Errors
+    ///
+    /// [`Error::Text`] where it is no URI, [`Error::Short`] where the buffer is.
+    pub fn normalize_into<'b>(
+        self,
+        text: &str,
+        mode: Mode,
+        out: &'b mut [u8],
+    ) -> Result<&'b str, Error> {
+        into(out, self.normalizing(text, mode))
+    }
+
+    fn normalizing(
+        self,
+        text: &str,
+        mode: Mode,
+    ) -> impl FnOnce(*mut c_char, usize, *mut usize) -> u8 + '_ {
+        move |out, size, told| {
+            let (text, len) = at(text);
+            unsafe { ffi::irikit_normalize(self as u8, mode as u8, text, len, out, size, told) }
+        }
+    }
+
+    /// The steps that lead a text with a scheme to its normal form (RFC 3986 section 6.2.2), in words and from left to right. A
+    /// place counts the bytes of its part, as the steps before leave it.
+    ///
+    /// # Errors
+    ///
+    /// [`Error::Text`] where it is no URI.
+    ///
+    /// ```
+    /// assert_eq!(irikit::Uri.steps("Http://a/%7eb/../c")?, ["scheme letter 0", "decode path 1", "dot segments"]);
+    /// # Ok::<(), irikit::Error>(())
+    /// ```
+    pub fn steps(self, text: &str) -> Result<Vec<String>, Error> {
+        self.steps_in(text, Mode::Normal)
+    }
+
+    /// The same to the normal form by scheme rules (section 6.2.3).
+    ///
+    /// # Errors
+    ///
+    /// [`Error::Text`] where it is no URI.
+    ///
+    /// ```
+    /// assert_eq!(irikit::Uri.steps_by_scheme("http://a:80")?, ["default port", "empty path"]);
+    /// # Ok::<(), irikit::Error>(())
+    /// ```
+    pub fn steps_by_scheme(self, text: &str) -> Result<Vec<String>, Error> {
+        self.steps_in(text, Mode::ByScheme)
+    }
+
+    fn steps_in(self, text: &str, mode: Mode) -> Result<Vec<String>, Error> {
+        let (text, len) = at(text);
+        let call = move |out: *mut c_char, size: usize, told: *mut usize| unsafe {
+            ffi::irikit_steps(self as u8, mode as u8, text, len, out, size, told)
+        };
+        let lines = match owned(0, call) {
+            Err(Error::Short(needed)) => owned(needed, call),
+            lines => lines,
+        }?;
+        Ok(lines.split_terminator('\n').map(Into::into).collect())
+    }
+
+    /// A raw text, percent-encoded for its place in a reference (RFC 3986 sections 2.1 and 2.4).
+    ///
+    /// ```
+    /// use irikit::{Place, Uri};
+    ///
+    /// assert_eq!(Uri.encode("50% off/a", Place::Segment), "50%25%20off%2Fa");
+    /// ```
+    pub fn encode(self, text: &str, place: Place) -> String {
+        owned(3 * text.len(), self.encoding(text, place))
+            .expect("a text is UTF-8, and has three bytes for each of its own")
+    }
+
+    /// [`encode`](Self::encode) into a buffer, of which `3 * text.len()` bytes suffice.
+    ///
+    /// # Errors
+    ///
+    /// [`Error::Short`] where the buffer is.
+    pub fn encode_into<'b>(
+        self,
+        text: &str,
+        place: Place,
+        out: &'b mut [u8],
+    ) -> Result<&'b str, Error> {
+        into(out, self.encoding(text, place))
+    }
+
+    fn encoding(
+        self,
+        text: &str,
+        place: Place,
+    ) -> impl FnOnce(*mut c_char, usize, *mut usize) -> u8 + '_ {
+        move |out, size, told| {
+            let (text, len) = at(text);
+            unsafe { ffi::irikit_encode(self as u8, place as u8, text, len, out, size, told) }
+        }
+    }
+
+    /// A reference without its password: what follows the first `:` of its userinfo.
+    ///
+    /// # Errors
+    ///
+    /// [`Error::Text`] where it is no reference.
+    ///
+    /// ```
+    /// assert_eq!(irikit::Uri.mask_password("http://u:pw@h/")?, "http://u:@h/");
+    /// # Ok::<(), irikit::Error>(())
+    /// ```
+    pub fn mask_password(self, text: &str) -> Result<String, Error> {
+        let (text, len) = at(text);
+        owned(len, |out, size, told| unsafe {
+            ffi::irikit_mask_password(self as u8, text, len, out, size, told)
+        })
+    }
+
+    /// A reference without its password and the colon before it.
+    ///
+    /// # Errors
+    ///
+    /// [`Error::Text`] where it is no reference.
+    ///
+    /// ```
+    /// assert_eq!(irikit::Uri.without_password("http://u:pw@h/")?, "http://u@h/");
+    /// # Ok::<(), irikit::Error>(())
+    /// ```
+    pub fn without_password(self, text: &str) -> Result<String, Error> {
+        let (text, len) = at(text);
+        owned(len, |out, size, told| unsafe {
+            ffi::irikit_remove_password(self as u8, text, len, out, size, told)
+        })
+    }
+
+    /// A reference with another host (RFC 3986 section 3.2.2); of an IP literal with its brackets.
+    ///
+    /// # Errors
+    ///
+    /// [`Error::Text`] where it is no reference, [`Error::Part`] where the new host is none, [`Error::NoHost`] where it has no
+    /// authority.
+    ///
+    /// ```
+    /// assert_eq!(irikit::Uri.with_host("http://a:80/", "[::1]")?, "http://[::1]:80/");
+    /// # Ok::<(), irikit::Error>(())
+    /// ```
+    pub fn with_host(self, text: &str, host: &str) -> Result<String, Error> {
+        let ((text, len), (host, host_len)) = (at(text), at(host));
+        owned(len + host_len, |out, size, told| unsafe {
+            ffi::irikit_replace_host(self as u8, text, len, host, host_len, out, size, told)
+        })
+    }
+
+    /// The same of a registered name alone.
+    ///
+    /// # Errors
+    ///
+    /// Those of [`with_host`](Self::with_host), and [`Error::NoHost`] where the host is an IP literal or an IPv4 address.
+    pub fn with_reg_name(self, text: &str, name: &str) -> Result<String, Error> {
+        let ((text, len), (host, host_len)) = (at(text), at(name));
+        owned(len + host_len, |out, size, told| unsafe {
+            ffi::irikit_replace_reg_name(self as u8, text, len, host, host_len, out, size, told)
+        })
+    }
+
+    /// A text of a kind, built from parts (RFC 3986 section 5.3). Of two of one part the later counts.
+    ///
+    /// # Errors
+    ///
+    /// [`Error::Part`]: the first fault of the parts, or what the kind refuses of them.
+    ///
+    /// ```
+    /// use irikit::{Kind, Part, Uri};
+    ///
+    /// let parts = [(Part::Scheme, "http"), (Part::Host, "a"), (Part::Path, "/b")];
+    /// assert_eq!(Uri.build(Kind::WithScheme, &parts)?, "http://a/b");
+    /// # Ok::<(), irikit::Error>(())
+    /// ```
+    pub fn build(self, kind: Kind, parts: &[(Part, &str)]) -> Result<String, Error> {
+        let given = |(part, text): &(Part, &str)| {
+            let (bytes, len) = at(text);
+            ffi::Given {
+                part: *part as usize,
+                text: ffi::Text { bytes, len },
+            }
+        };
+        let given: Vec<ffi::Given> = parts.iter().map(given).collect();
+        let room = parts.iter().map(|(_, text)| text.len()).sum::<usize>() + 7;
+        owned(room, |out, size, told| unsafe {
+            ffi::irikit_build(
+                self as u8,
+                kind as u8,
+                given.as_ptr(),
+                given.len(),
+                out,
+                size,
+                told,
+            )
+        })
+    }
+
+    /// A reference with another text in place of its password; one without a colon in its userinfo stays as it is. The new text is
+    /// written as it stands ([`Place::User`] encodes it so that the whole is a reference again).
+    ///
+    /// # Errors
+    ///
+    /// [`Error::Text`] where it is no reference.
+    ///
+    /// ```
+    /// assert_eq!(irikit::Uri.replace_password("http://u:pw@h/", "***")?, "http://u:***@h/");
+    /// # Ok::<(), irikit::Error>(())
+    /// ```
+    pub fn replace_password(self, text: &str, password: &str) -> Result<String, Error> {
+        let ((text, len), (password, password_len)) = (at(text), at(password));
+        owned(len + password_len, |out, size, told| unsafe {
+            ffi::irikit_replace_password(
+                self as u8,
+                text,
+                len,
+                password,
+                password_len,
+                out,
+                size,
+                told,
+            )
+        })
+    }
+
+    /// A reference with another fragment, or with none (RFC 3986 section 3.5).
+    ///
+    /// # Errors
+    ///
+    /// [`Error::Text`] where it is no reference, [`Error::Part`] where the fragment is none.
+    ///
+    /// ```
+    /// assert_eq!(irikit::Uri.with_fragment("a?b#c", Some("d"))?, "a?b#d");
+    /// assert_eq!(irikit::Uri.with_fragment("a?b#c", None)?, "a?b");
+    /// # Ok::<(), irikit::Error>(())
+    /// ```
+    pub fn with_fragment(self, text: &str, fragment: Option<&str>) -> Result<String, Error> {
+        let (text, len) = at(text);
+        match fragment.map(at) {
+            None => owned(len, |out, size, told| unsafe {
+                ffi::irikit_remove_fragment(self as u8, text, len, out, size, told)
+            }),
+            Some((fragment, fragment_len)) => {
+                owned(len + fragment_len + 1, |out, size, told| unsafe {
+                    ffi::irikit_set_fragment(
+                        self as u8,
+                        text,
+                        len,
+                        fragment,
+                        fragment_len,
+                        out,
+                        size,
+                        told,
+                    )
+                })
+            }
+        }
+    }
+
+    /// The expansion of a URI template (RFC 6570, level 4). Of two variables with one name the first counts.
+    ///
+    /// # Errors
+    ///
+    /// [`Error::Template`] where it has a fault.
+    ///
+    /// ```
+    /// use irikit::{Uri, Value};
+    ///
+    /// let variables = [("q", Value::Text("two words")), ("labels", Value::List(&["a", "b"]))];
+    /// assert_eq!(Uri.expand("/search{?q}{&labels*}", &variables)?, "/search?q=two%20words&labels=a&labels=b");
+    /// # Ok::<(), irikit::Error>(())
+    /// ```
+    pub fn expand(self, template: &str, variables: &[(&str, Value<'_>)]) -> Result<String, Error> {
+        let array = Array::of(variables);
+        let mut out = Vec::new();
+        loop {
+            match self.expand_array(template, &array, &mut out) {
+                Err(Error::Short(needed)) => out.resize(needed, 0),
+                Err(error) => return Err(error),
+                Ok(len) => {
+                    out.truncate(len);
+                    return Ok(String::from_utf8(out).expect("irikit writes UTF-8"));
+                }
+            }
+        }
+    }
+
+    /// [`expand`](Self::expand) into a buffer.
+    ///
+    /// # Errors
+    ///
+    /// [`Error::Template`] where the template has a fault, [`Error::Short`] where the buffer is too short.
+    pub fn expand_into<'b>(
+        self,
+        template: &str,
+        variables: &[(&str, Value<'_>)],
+        out: &'b mut [u8],
+    ) -> Result<&'b str, Error> {
+        let len = self.expand_array(template, &Array::of(variables), out)?;
+        Ok(std::str::from_utf8(&out[..len]).expect("irikit writes UTF-8"))
+    }
+
+    fn expand_array(
+        self,
+        template: &str,
+        array: &Array<'_>,
+        out: &mut [u8],
+    ) -> Result<usize, Error> {
+        let ((template, template_len), (variables, count)) = (at(template), array.parts());
+        let (size, out, mut told, mut place) = (out.len(), out.as_mut_ptr().cast(), 0, 0);
+        let status = unsafe {
+            ffi::irikit_expand(
+                self as u8,
+                template,
+                template_len,
+                variables,
+                count,
+                out,
+                size,
+                &mut told,
+                &mut place,
+            )
+        };
+        refuse(status, told, place)
+    }
+}
+
+/// The names of a template's variables, from left to right, each as often as it stands there (RFC 6570 section 2).
+///
+/// # Errors
+///
+/// [`Error::Template`] where it has a fault.
+///
+/// ```
+/// assert_eq!(irikit::template_variables("/search{?q,n*}")?, ["q", "n"]);
+/// # Ok::<(), irikit::Error>(())
+/// ```
+pub fn template_variables(template: &str) -> Result<Vec<String>, Error> {
+    let ((template, len), mut out, mut told, mut place) =
+        (at(template), vec![0; template.len()], 0, 0);
+    let size = out.len();
+    let status = unsafe {
+        ffi::irikit_template_variables(
+            template,
+            len,
+            out.as_mut_ptr().cast(),
+            size,
+            &mut told,
+            &mut place,
+        )
+    };
+    let len = refuse(status, told, place)?;
+    let names = std::str::from_utf8(&out[..len]).expect("irikit writes UTF-8");
+    Ok(names.split_terminator('\n').map(Into::into).collect())
+}
+
+/// A reference of IRIs, mapped to one of URIs (RFC 3987 section 3.1).
+///
+/// # Errors
+///
+/// [`Error::Text`] where it is no reference.
+///
+/// ```
+/// assert_eq!(irikit::map_to_uri("http://a/é")?, "http://a/%C3%A9");
+/// # Ok::<(), irikit::Error>(())
+/// ```
+pub fn map_to_uri(text: &str) -> Result<String, Error> {
+    let (text, len) = at(text);
+    owned(3 * len, |out, size, told| unsafe {
+        ffi::irikit_map_to_uri(text, len, out, size, told)
+    })
+}
+
+/// The bytes that a text decodes to: each percent-encoded octet gives its byte, and all else stays. They needn't be UTF-8.
+///
+/// ```
+/// assert_eq!(irikit::decode("50%25%20off%2Fa"), b"50% off/a");
+/// ```
+pub fn decode(text: &str) -> Vec<u8> {
+    let ((text, len), mut out) = (at(text), vec![0; text.len()]);
+    let decoded = bytes(&mut out, |out, size, told| unsafe {
+        ffi::irikit_decode(text, len, out, size, told)
+    });
+    let len = decoded.expect("what is decoded isn't longer").len();
+    out.truncate(len);
+    out
+}

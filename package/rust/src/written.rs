@@ -1,0 +1,50 @@
+//! What calls write: to a buffer of the caller's, or to a string of their own.
+use crate::ffi::IRIKIT_OK;
+use crate::Error;
+use std::os::raw::c_char;
+use std::str;
+
+const UTF8: &str = "irikit writes UTF-8";
+
+/// What a call writes to a buffer, as bytes.
+pub(crate) fn bytes<C>(out: &mut [u8], call: C) -> Result<&[u8], Error>
+where
+    C: FnOnce(*mut c_char, usize, *mut usize) -> u8,
+{
+    let mut told = 0;
+    match call(out.as_mut_ptr().cast(), out.len(), &mut told) {
+        IRIKIT_OK => Ok(&out[..told]),
+        status => Err(Error::of(status, told)),
+    }
+}
+
+/// What a call writes to a buffer.
+pub(crate) fn into<C>(out: &mut [u8], call: C) -> Result<&str, Error>
+where
+    C: FnOnce(*mut c_char, usize, *mut usize) -> u8,
+{
+    bytes(out, call).map(|bytes| str::from_utf8(bytes).expect(UTF8))
+}
+
+/// What a call writes that never writes more than `room` bytes.
+pub(crate) fn owned<C>(room: usize, call: C) -> Result<String, Error>
+where
+    C: FnOnce(*mut c_char, usize, *mut usize) -> u8,
+{
+    let mut out = vec![0; room];
+    let len = bytes(&mut out, call)?.len();
+    out.truncate(len);
+    Ok(String::from_utf8(out).expect(UTF8))
+}
+
+/// The words for a fault; of a fault of a later library, that it is one.
+pub(crate) fn words<C>(out: &mut [u8; 64], call: C) -> &str
+where
+    C: FnOnce(*mut c_char, usize, *mut usize) -> u8,
+{
+    let mut told = 0;
+    match call(out.as_mut_ptr().cast(), out.len(), &mut told) {
+        IRIKIT_OK => str::from_utf8(&out[..told]).expect(UTF8),
+        _ => "another fault",
+    }
+}
