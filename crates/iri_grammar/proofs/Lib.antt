@@ -26,6 +26,7 @@ pub mod MadeLaws
 pub mod OverLaws
 pub mod PiecesLaws
 pub mod Ranges
+pub mod RunBlocks
 pub mod SplitLaws
 pub mod SplitUnique
 pub mod UriLaws

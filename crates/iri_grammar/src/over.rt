@@ -7,21 +7,9 @@ ghost use Rattle.iri_grammar.specs.Over.{over, text_over};
 ghost use Rattle.iri_grammar.specs.Runs.{run_of};
 
 use crate::class::Class;
+use crate::run::run_len;
 use crate::spec::Spec;
 use crate::unit::cut_units;
-
-// How many bytes at the start are ASCII characters of the class.
-#[inline(always)]
-pub(crate) fn run_len(class: Class, bytes: &[u8]) -> usize
-    ensures { result ≡ run_of (ascii_test class) bytes.now }
-{
-    for (i, b) in bytes.iter().enumerate() {
-        if !class.has_byte(*b) {
-            return i;
-        }
-    }
-    bytes.len()
-}
 
 /// What follows the ASCII characters of the class at the start.
 pub fn past_run(class: Class, s: &str) -> &str

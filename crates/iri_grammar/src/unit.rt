@@ -9,7 +9,7 @@ ghost use Rattle.iri_grammar.specs.Over.{text_over};
 ghost use Rattle.iri_grammar.specs.inside.Runs.{begins_with_triplet, lead_len, AreUnits, HasNoUnit};
 
 use crate::class::Class;
-use crate::over::run_len;
+use crate::run::run_len;
 use crate::spec::Spec;
 
 // For each byte a `1` where it is a hex digit, otherwise a `0`.
