@@ -1,6 +1,7 @@
 //! The parts of an authority (RFC 3986 section 3.2).
 ghost use Rattle.std.specs.Prelude.{◌≡◌, ◌≤◌, ◌++◌, not, false, length, true, MatchOption};
 ghost use Rattle.std.specs.List.{list_all};
+ghost use Rattle.std.specs.Str.{IsUtf8};
 ghost use Rattle.memchr.specs.Find.{IsLastByte, is_byte};
 ghost use Rattle.iri_grammar.specs.Components.{is_port};
 ghost use Rattle.iri_grammar.specs.Authority.{is_authority, authority_parts, userinfo_of, after_userinfo, host_of};
@@ -18,6 +19,7 @@ use crate::cutting::cut;
 use crate::digits::{all_digits, digits_len};
 use crate::spec::Spec;
 use memchr::memrchr;
+use std::str;
 
 /// The parts of an authority, as slices of its text (RFC 3986 section 3.2).
 #[derive(Clone, Copy, Debug)]
@@ -94,14 +96,16 @@ fn plain_len(bytes: &[u8]) -> (usize, bool)
 
 // Such a name and port, what follows them, and whether a capital letter may be among them.
 #[inline(always)]
-pub(crate) fn cut_plain(s: &str) -> (&str, &str, bool)
+pub(crate) fn cut_plain(s: &[u8]) -> (&str, &[u8], bool)
     ensures whole { s.now ≡ result.0.now ++ result.1.now }
     ensures chars { list_all (ascii_test Userinfo) result.0.now ≡ true }
     ensures plain { is_plain_authority result.0.now ≡ true }
     ensures capitals { result.2 ≡ false → list_all is_small result.0.now ≡ true }
+    ensures text { IsUtf8 result.1.now → IsUtf8 s.now }
 {
-    let (end, capitals) = plain_len(s.as_bytes());
-    (&s[..end], &s[end..], capitals)
+    let (end, capitals) = plain_len(s);
+    let name = unsafe { str::from_utf8_unchecked(&s[..end]) };
+    (name, &s[end..], capitals)
 }
 
 // The userinfo, where there is an `@`, and what follows it.

@@ -27,10 +27,9 @@ pub(crate) fn is_run(class: Class, s: &str) -> bool
 }
 
 /// Whether the text is made of characters of the class and of percent-encoded octets.
-#[tactic(auto, using(crate::proofs::UnitRuns::cut_decides))]
 pub fn is_over<S: Spec>(class: Class, s: &str) -> bool
     ensures { result ≡ text_over (class_test S.tests class) s.now }
 {
-    let (_, rest, _) = cut_units::<S>(class, s);
+    let (_, rest, _) = cut_units::<S>(class, s.as_bytes());
     rest.is_empty()
 }
