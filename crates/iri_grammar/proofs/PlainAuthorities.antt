@@ -21,7 +21,7 @@ use Rattle.iri_grammar.specs.IpLiteral.{is_ip_literal}
 use Rattle.iri_grammar.specs.Runs.{run_of}
 use Rattle.iri_grammar.specs.Seen.{is_kept_port, is_plain_authority, is_small}
 use Rattle.iri_grammar.specs.declared.class.Class.TheVariants.{RegName, Userinfo}
-use Rattle.iri_grammar.specs.inside.PlainAuthority.{is_small_name, name_len, plain_len, port_len}
+use Rattle.iri_grammar.specs.inside.PlainAuthority.{is_small_name, is_small_name_char, name_len, plain_len, port_len}
 use Rattle.iri_grammar.proofs.AuthorityLaws.{name_parts}
 use Rattle.iri_grammar.proofs.AuthorityTexts.{all_below}
 use Rattle.iri_grammar.proofs.ClassLaws.{ascii_test_below}
@@ -127,6 +127,25 @@ port_small (Some d) h = all_of is_ascii_digit is_small digit_small d h
 pub not-small : (b : Bool) → not b ≡ false → b ≡ true
 not-small true h = refl
 not-small false h = cc
+
+-- a name goes on after its characters in lower case exactly with a capital letter
+pub record SmallRun (t : List ℕ) (n : ℕ) : Type 0 where
+  pub whole : name_len t ≡ n + name_len (drop n t)
+  pub small : is_small_name t ≡ (name_len (drop n t) == 0)
+
+pub small_run : (t : List ℕ) → SmallRun t (run_of is_small_name_char t)
+small_run [] = record { whole = refl; small = refl }
+small_run (x ∷ xs) =
+    elim (ascii_test RegName x) as (λ b. ascii_test RegName x ≡ b → SmallRun (x ∷ xs) (run_of is_small_name_char (x ∷ xs))) [
+      | true ↦ λ e. elim (is_small x) as (λ b. is_small x ≡ b → SmallRun (x ∷ xs) (run_of is_small_name_char (x ∷ xs))) [
+        | true ↦ λ f. let r = small_run xs in rw (e, f) (record { whole = rw e (omega (arith, r.whole)); small = rw (e, f) r.small })
+        | false ↦ λ f. rw (e, f) (record { whole = omega arith; small = rw (e, f) (sym (never (name_len xs))) })
+      ] refl
+      | false ↦ λ e. rw e (record { whole = rw e (omega arith); small = rw e refl })
+    ] refl
+  where
+    never : (n : ℕ) → (suc n == 0) ≡ false
+    never n = grind (arith, nat_tests)
 
 -- ---- what is cut
 pub record PlainCut (t : List ℕ) : Type 0 where

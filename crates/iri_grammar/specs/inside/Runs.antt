@@ -16,15 +16,15 @@ begins_with_triplet [] = false
 begins_with_triplet (x ∷ xs) = x == 37 && (begins_with_digit xs && begins_with_digit (tail xs))
 
 -- the first byte goes on a character (RFC 3629 section 3)
-abbrev pub goes_on : List ℕ → Bool
-goes_on [] = false
-goes_on (x ∷ xs) = is_in_range 128 191 x
+abbrev pub begins_with_more : List ℕ → Bool
+begins_with_more [] = false
+begins_with_more (x ∷ xs) = is_in_range 128 191 x
 
--- in its first n bytes t has a character from U+00C0 to U+CFFF
+-- in its first n bytes t has a character from U+00C0 to U+D7FF
 pub record BeginsWide (t : List ℕ) (n : ℕ) : Type 0 where
   pub c : ℕ
   pub low : 192 ≤ c
-  pub high : c ≤ 53247
+  pub high : c ≤ 55295
   pub within : n ≤ length t
   pub text : take n t ≡ encode_utf8 c
 

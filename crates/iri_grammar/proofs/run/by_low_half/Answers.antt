@@ -12,7 +12,7 @@ swizzle c = low_ok c.args.block c.fits-block
 pub returns : goal.returns
 returns c =
     let v = c.args.block in
-    looked_up _ (low_bits c.args.class) (λ x. bit_and x 15) v _ c.fits-block (zip2_splat bit_and v 16 15 c.fits-block.0)
+    looked_up _ (low_bits c.args.row) (λ x. bit_and x 15) v _ c.fits-block (zip2_splat bit_and v 16 15 c.fits-block.0)
     (λ x h. omega (arith, and_le_r x 15))
     (λ x h.
     let place : 0 + bit_and x 15 ≡ bit_and x 15 = omega arith in
