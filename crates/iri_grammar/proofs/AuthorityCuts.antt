@@ -8,7 +8,7 @@ use Rattle.iri_grammar.specs.declared.splitter.AuthorityCut.{AuthorityCut}
 use Rattle.iri_grammar.specs.inside.AuthorityCuts.{KeepsAuthorityNotes}
 use Rattle.iri_grammar.specs.inside.Marks.{ends_authority, IsPastAuthority}
 use Rattle.iri_grammar.proofs.MarkLemmas.{past_authority}
-use Rattle.iri_grammar.proofs.TextParts.{text_from}
+use Rattle.iri_grammar.proofs.AuthorityTexts.{marked-utf8}
 
 -- of bytes that follow two slashes, and of all
 pub behind_authority : (s t : List ℕ) (o : Option AuthorityCut) → s ≡ 47 ∷ 47 ∷ t
@@ -21,5 +21,5 @@ behind_authority s t (Some r) e h = (
   h.0 ∙ ((past_authority t).0 ∙ ap (λ x. authority_of (hier_of x)) (sym e)),
   subst (λ x. IsPastAuthority x r.rest.now) (sym e) (subst (IsPastAuthority (47 ∷ 47 ∷ t)) (sym h.1) (past_authority t).1),
   h.2,
-  λ u. subst IsUtf8 (sym e) (text_from 47 (47 ∷ t) (omega arith) (text_from 47 t (omega arith) (h.3 u))),
+  λ u. subst IsUtf8 (sym e) (marked-utf8 47 (47 ∷ t) (omega arith) (marked-utf8 47 t (omega arith) (h.3 u))),
 )

@@ -1,47 +1,38 @@
 -- Bytes whose parts are texts are one.
-use Rattle.std.proofs.Common.{◌≡◌, ℕ, ◌+◌, ◌<◌, Bool, true, false, cond, List, [], ◌∷◌, ◌++◌, Option, Some, None, take, drop, sym, ◌∙◌, ap, subst, arith, add-one, drop-cons, refl}
+use Rattle.std.proofs.Common.{◌≡◌, ℕ, ◌+◌, ◌<◌, true, false, cond, List, ◌∷◌, ◌++◌, Option, Some, None, take, drop, sym, ◌∙◌, ap, subst, arith, add-one, drop-cons, refl}
 use Rattle.std.specs.Prelude.{Result, slice_index}
 use Rattle.std.specs.Str.{is_utf8, IsUtf8}
 use Rattle.std.proofs.lemmas.List.{take-append-drop}
-use Rattle.std.proofs.lemmas.Str.{IsUtf8-append, IsUtf8-from_is_utf8, IsUtf8-nil, is_utf8-from_IsUtf8}
+use Rattle.std.proofs.lemmas.Str.{IsUtf8-append, IsUtf8-from_is_utf8, is_utf8-from_IsUtf8}
 use Rattle.iri_grammar.specs.Classes.{Tests, fragment_char, path_char, query_char}
-use Rattle.iri_grammar.specs.Components.{if_there}
 use Rattle.iri_grammar.specs.Cut.{marked}
 use Rattle.iri_grammar.specs.Fault.{Answers, bytes_fault}
-use Rattle.iri_grammar.specs.Over.{text_over}
 use Rattle.iri_grammar.specs.declared.error.Error.{Error}
 use Rattle.iri_grammar.specs.declared.error.ErrorKind.{ErrorKind}
 use Rattle.iri_grammar.specs.declared.error.ErrorKind.TheVariants.{InvalidUtf8}
 use Rattle.iri_grammar.specs.inside.Marks.{SchemeAt}
 use Rattle.iri_grammar.specs.inside.Tails.{AreOver}
 use Rattle.iri_grammar.proofs.CutLemmas.{false-where}
-use Rattle.iri_grammar.proofs.AuthorityTexts.{one_byte-utf8, text_over-utf8}
+use Rattle.iri_grammar.proofs.AuthorityTexts.{marked-utf8, text_over-utf8}
+use Rattle.iri_grammar.proofs.SplitUnique.{part-utf8}
 
 pub text-by_parts : (t : List ℕ) (n : ℕ) → IsUtf8 (take n t) → IsUtf8 (drop n t) → IsUtf8 t
 text-by_parts t n u v = subst IsUtf8 (take-append-drop n t) (IsUtf8-append (take n t) (drop n t) u v)
-
--- after an ASCII character
-pub text_from : (c : ℕ) (t : List ℕ) → c < 128 → IsUtf8 t → IsUtf8 (c ∷ t)
-text_from c t l u = IsUtf8-append (c ∷ []) t (one_byte-utf8 c l) u
-
-pub marked-text : (p : ℕ → Bool) (c : ℕ) (o : Option (List ℕ)) → c < 128 → if_there (text_over p) o ≡ true → IsUtf8 (marked c o)
-marked-text p c None l h = IsUtf8-nil
-marked-text p c (Some t) l h = text_from c t l (text_over-utf8 p t h)
 
 -- with a scheme
 pub scheme-text : (t : List ℕ) (k : ℕ) → SchemeAt t k → IsUtf8 (drop (k + 1) t) → IsUtf8 t
 scheme-text t k at u =
     let colon : slice_index t k < 128 = omega (arith, at.byte) in
     let rest : drop k t ≡ slice_index t k ∷ drop (k + 1) t = rw add-one (drop-cons t k 0 at.inside) in
-    text-by_parts t k at.text (subst IsUtf8 (sym rest) (text_from (slice_index t k) (drop (k + 1) t) colon u))
+    text-by_parts t k at.text (subst IsUtf8 (sym rest) (marked-utf8 (slice_index t k) (drop (k + 1) t) colon u))
 
 -- path, query and fragment in their productions
 pub tail-text : (s : Tests) (t path : List ℕ) (query fragment : Option (List ℕ)) → t ≡ path ++ (marked 63 query ++ marked 35 fragment)
     → AreOver s path query fragment → IsUtf8 t
 tail-text s t path query fragment e h =
     subst IsUtf8 (sym e) (IsUtf8-append path (marked 63 query ++ marked 35 fragment) (text_over-utf8 (path_char s) path h.0)
-    (IsUtf8-append (marked 63 query) (marked 35 fragment) (marked-text (query_char s) 63 query (omega arith) h.1)
-    (marked-text (fragment_char s) 35 fragment (omega arith) h.2)))
+    (IsUtf8-append (marked 63 query) (marked 35 fragment) (part-utf8 (query_char s) 63 query (omega arith) h.1)
+    (part-utf8 (fragment_char s) 35 fragment (omega arith) h.2)))
 
 -- ---- the fault of bytes
 pub text_fault : (f : List ℕ → Option ErrorKind) (bs : List ℕ) → IsUtf8 bs → bytes_fault f bs ≡ f bs
