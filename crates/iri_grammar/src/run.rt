@@ -77,7 +77,7 @@ fn run_in_block(row: usize, bytes: &[u8], i: usize) -> usize
 }
 
 // How many bytes at the start are of a row. The last blocks may overlap.
-#[inline(always)]
+#[inline(never)]
 fn row_run_len(row: usize, bytes: &[u8]) -> usize
     requires row { row ≤ 7 }
     requires long { 16 ≤ length bytes.now }

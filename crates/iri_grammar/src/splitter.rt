@@ -226,6 +226,7 @@ fn authority_len(s: &[u8]) -> usize
 }
 
 // The same of bytes: what comes before the end of an authority, where it is a text, and the rest from it on.
+#[inline(never)]
 fn text_before_end(s: &[u8]) -> Option<(&str, &[u8])>
     ensures { MatchOption result (Unit {0}) (λ r. (r.0.now ≡ before_any ends_authority s.now)
         × (r.1.now ≡ from_any ends_authority s.now) × (IsUtf8 r.1.now → IsUtf8 s.now)) }

@@ -199,7 +199,6 @@ fn same_units_len<S: Spec>(class: Class, s: &str) -> (usize, bool)
 }
 
 // How many bytes at the start of a text are units of the class, and whether none of them is a percent-encoded octet.
-#[inline(never)]
 fn text_units_len<S: Spec>(class: Class, s: &str) -> (usize, bool)
     ensures units { AreUnits (class_test S.tests class) s.now result.0 }
     ensures stops { HasNoUnit (class_test S.tests class) (drop result.0 s.now) }
@@ -217,7 +216,20 @@ fn text_units_len<S: Spec>(class: Class, s: &str) -> (usize, bool)
     }
 }
 
-// The same of bytes that begin with no near unit. Where they begin past ASCII, it is found whether they are a text.
+// The same of bytes, of which it is found whether they are a text.
+#[inline(never)]
+fn decoded_units_len<S: Spec>(class: Class, bytes: &[u8]) -> (usize, bool)
+    ensures units { AreUnits (class_test S.tests class) bytes.now result.0 }
+    ensures stops { IsUtf8 bytes.now → HasNoUnit (class_test S.tests class) (drop result.0 bytes.now) }
+    ensures bare { result.1 ≡ true → lacks percent_sign (take result.0 bytes.now) ≡ true }
+{
+    match str::from_utf8(bytes) {
+        Ok(s) => text_units_len::<S>(class, s),
+        Err(_) => (0, true),
+    }
+}
+
+// The same of bytes that begin with no near unit: only past ASCII one can be there.
 #[inline(always)]
 fn far_units_len<S: Spec>(class: Class, bytes: &[u8]) -> (usize, bool)
     requires { LacksNearUnit (class_test S.tests class) bytes.now }
@@ -228,10 +240,7 @@ fn far_units_len<S: Spec>(class: Class, bytes: &[u8]) -> (usize, bool)
     if !begins_past_ascii(bytes) {
         return (0, true);
     }
-    match str::from_utf8(bytes) {
-        Ok(s) => text_units_len::<S>(class, s),
-        Err(_) => (0, true),
-    }
+    decoded_units_len::<S>(class, bytes)
 }
 
 // The same of any bytes. So a text is decoded from its first character on that no first byte tells.

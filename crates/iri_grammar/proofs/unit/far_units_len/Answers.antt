@@ -8,6 +8,3 @@ returns-then-not-begins_past_ascii-clause-units g c = no_units (class_test g.S.S
 pub returns-then-not-begins_past_ascii-clause-stops : goal.returns-then-not-begins_past_ascii-clause-stops
 returns-then-not-begins_past_ascii-clause-stops g c u =
     near_stops (class_test g.S.Spec.tests c.args.class) c.args.bytes.now u (c.begins_past_ascii.ensures c.if-not-begins_past_ascii.true) c.requires
-
-pub returns-in-Err-clause-units : goal.returns-in-Err-clause-units
-returns-in-Err-clause-units g c = no_units (class_test g.S.Spec.tests c.args.class) c.args.bytes.now
