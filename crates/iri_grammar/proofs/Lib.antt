@@ -12,6 +12,7 @@ pub mod Marks
 pub mod Groups
 pub mod Doubles
 pub mod Ports
+pub mod AuthorityCuts
 pub mod AuthorityLaws
 pub mod AuthorityTexts
 pub mod ClassLaws
@@ -20,12 +21,14 @@ pub mod CutLaws
 pub mod FaultLaws
 pub mod Ipv6Laws
 pub mod KindLaws
-mod LeadBytes
+pub mod WideChars
 pub mod LiteralChars
 pub mod MadeLaws
 pub mod OverLaws
 pub mod PiecesLaws
 pub mod Ranges
+pub mod RunBlocks
 pub mod SplitLaws
 pub mod SplitUnique
+pub mod TextParts
 pub mod UriLaws

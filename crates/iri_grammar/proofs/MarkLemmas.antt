@@ -4,6 +4,8 @@ use Rattle.std.proofs.Common.{MatchOption, length, take, drop, refl, sym, ap, su
 use Rattle.std.specs.Prelude.{◌==◌, nat_lt, slice_index, is_some}
 use Rattle.std.specs.Char.{is_ascii_alphabetic}
 use Rattle.std.specs.List.{list_all}
+use Rattle.std.specs.Str.{IsUtf8}
+use Rattle.std.proofs.lemmas.Str.{IsUtf8-from_ascii}
 use Rattle.std.proofs.lemmas.Bool.{eqb-true}
 use Rattle.std.proofs.lemmas.Bool.Decides.{nat_tests}
 use Rattle.memchr.specs.Find.{is_byte2, is_byte3, IsFirstByte}
@@ -18,6 +20,7 @@ use Rattle.iri_grammar.proofs.SplitLaws.{letter-is_scheme_char, colon_ends}
 use Rattle.iri_grammar.specs.Marks.{before_any, from_any}
 use Rattle.iri_grammar.specs.inside.Marks.{ends_scheme, SchemeAt, NoScheme, ends_authority, AuthorityEndAt, NoAuthorityEnd}
 use Rattle.iri_grammar.specs.inside.Marks.{IsPastAuthority, TailAt, NoTail}
+use Rattle.iri_grammar.proofs.AuthorityTexts.{all_below}
 use Rattle.iri_grammar.proofs.CutLemmas.{false-where}
 
 -- ---- the scheme
@@ -95,6 +98,10 @@ three false b c h = cc
 below : (a b : ℕ) → nat_lt a b ≡ true → a < b
 below a b h = grind (arith, nat_tests)
 
+scheme-below : (x : ℕ) → is_scheme_char x ≡ true → x < 128
+unfolding is_scheme_char
+scheme-below x h = grind (arith, nat_tests)
+
 pub scheme_at : (bs : List ℕ) → ends_scheme bs (run_of is_scheme_char bs) ≡ true → SchemeAt bs (run_of is_scheme_char bs)
 unfolding ends_scheme
 scheme_at bs h =
@@ -104,7 +111,13 @@ scheme_at bs h =
     let byte = eqb-true (slice_index bs k) 58 t.1 in
     let r = ran is_scheme_char 58 bs colon_ends inside byte in
     let sch = starts_scheme bs t.2 r.all in
-    record { inside = inside; byte = byte; scheme = rw (sch, ← r.tail, r.front) refl; rest = rw (sch, ← r.tail) refl }
+    record {
+      inside = inside;
+      byte = byte;
+      scheme = rw (sch, ← r.tail, r.front) refl;
+      rest = rw (sch, ← r.tail) refl;
+      text = subst IsUtf8 (sym r.front) (IsUtf8-from_ascii (before 58 bs) (all_below is_scheme_char scheme-below (before 58 bs) r.all));
+    }
 
 is_scheme-first : (bs : List ℕ) → is_scheme (before 58 bs) ≡ true
     → (is_ascii_alphabetic (slice_index bs 0) ≡ true) × (list_all is_scheme_char (before 58 bs) ≡ true)

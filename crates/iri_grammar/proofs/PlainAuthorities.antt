@@ -1,11 +1,12 @@
 -- Plain authorities: a name in ASCII, and perhaps a port.
-use Rattle.std.proofs.Common.{◌≡◌, ℕ, suc, ◌+◌, ◌≤◌, ◌<◌, Bool, true, false, cond, not, ◌&&◌, ◌||◌, List, [], ◌∷◌, ◌++◌, Option, Some, None}
-use Rattle.std.proofs.Common.{length, take, drop, refl, sym, ◌∙◌, ap, subst, arith, add-one, drop-drop}
+use Rattle.std.proofs.Common.{◌≡◌, ℕ, suc, ◌+◌, ◌≤◌, Bool, true, false, cond, not, ◌&&◌, ◌||◌, List, [], ◌∷◌, ◌++◌, Option, Some, None}
+use Rattle.std.proofs.Common.{length, take, drop, refl, sym, ◌∙◌, ap, arith, add-one}
 use Rattle.std.specs.Prelude.{◌==◌, is_some}
 use Rattle.std.specs.Char.{is_ascii_digit}
 use Rattle.std.specs.List.{list_all}
 use Rattle.std.specs.Str.{IsUtf8}
 use Rattle.std.proofs.lemmas.Bool.{eqb-true}
+use Rattle.std.proofs.lemmas.Str.{IsUtf8-from_ascii}
 use Rattle.std.proofs.lemmas.Bool.Decides.{nat_tests}
 use Rattle.std.proofs.lemmas.List.{length-drop, length-take-le}
 use Rattle.std.proofs.lemmas.List.Folds.{list_all-append}
@@ -20,19 +21,16 @@ use Rattle.iri_grammar.specs.IpLiteral.{is_ip_literal}
 use Rattle.iri_grammar.specs.Runs.{run_of}
 use Rattle.iri_grammar.specs.Seen.{is_kept_port, is_plain_authority, is_small}
 use Rattle.iri_grammar.specs.declared.class.Class.TheVariants.{RegName, Userinfo}
-use Rattle.iri_grammar.specs.inside.PlainAuthority.{is_small_name, name_len, plain_len, port_len}
+use Rattle.iri_grammar.specs.inside.PlainAuthority.{is_small_name, is_small_name_char, name_len, plain_len, port_len}
 use Rattle.iri_grammar.proofs.AuthorityLaws.{name_parts}
-use Rattle.iri_grammar.proofs.AuthorityTexts.{digit-below}
+use Rattle.iri_grammar.proofs.AuthorityTexts.{all_below}
 use Rattle.iri_grammar.proofs.ClassLaws.{ascii_test_below}
 use Rattle.iri_grammar.proofs.CutLaws.{all-lacks, both}
 use Rattle.iri_grammar.proofs.FaultLaws.{authority-no_fault}
 use Rattle.iri_grammar.proofs.PlainTails.{plain-over, run-all}
-use Rattle.iri_grammar.proofs.Units.{run_text, run_of_le, text_after_ascii}
+use Rattle.iri_grammar.proofs.Units.{run_of_le}
 
 -- ---- a port at the start
-colon-below : (x : ℕ) → (x == 58) ≡ true → x < 128
-colon-below x e = let is = eqb-true x 58 e in omega (arith, is)
-
 port_le : (r : List ℕ) → port_len r ≤ length r
 port_le [] = omega arith
 port_le (x ∷ xs) =
@@ -41,18 +39,6 @@ port_le (x ∷ xs) =
       | true ↦ elim (n == 0) as (λ b. cond b 0 (n + 1) ≤ length (x ∷ xs)) [ true ↦ omega arith | false ↦ omega (arith, run_of_le is_ascii_digit xs) ]
       | false ↦ omega arith
     ]
-
-port_text : (r : List ℕ) → IsUtf8 r → IsUtf8 (drop (port_len r) r)
-port_text [] u = u
-port_text (x ∷ xs) u =
-    let n = run_of is_ascii_digit xs in
-    elim (x == 58) as (λ b. (x == 58) ≡ b → IsUtf8 (drop (cond b (cond (n == 0) 0 (n + 1)) 0) (x ∷ xs))) [
-      | true ↦ λ e. elim (n == 0) as (λ b. IsUtf8 (drop (cond b 0 (n + 1)) (x ∷ xs))) [
-        | true ↦ u
-        | false ↦ rw add-one (run_text is_ascii_digit xs digit-below (text_after_ascii x xs u (colon-below x e)))
-      ]
-      | false ↦ λ _. u
-    ] refl
 
 -- what stands there is a port that isn't empty, with its colon, or nothing
 record PortPiece (t : List ℕ) : Type 0 where
@@ -142,10 +128,29 @@ pub not-small : (b : Bool) → not b ≡ false → b ≡ true
 not-small true h = refl
 not-small false h = cc
 
+-- a name goes on after its characters in lower case exactly with a capital letter
+pub record SmallRun (t : List ℕ) (n : ℕ) : Type 0 where
+  pub whole : name_len t ≡ n + name_len (drop n t)
+  pub small : is_small_name t ≡ (name_len (drop n t) == 0)
+
+pub small_run : (t : List ℕ) → SmallRun t (run_of is_small_name_char t)
+small_run [] = record { whole = refl; small = refl }
+small_run (x ∷ xs) =
+    elim (ascii_test RegName x) as (λ b. ascii_test RegName x ≡ b → SmallRun (x ∷ xs) (run_of is_small_name_char (x ∷ xs))) [
+      | true ↦ λ e. elim (is_small x) as (λ b. is_small x ≡ b → SmallRun (x ∷ xs) (run_of is_small_name_char (x ∷ xs))) [
+        | true ↦ λ f. let r = small_run xs in rw (e, f) (record { whole = rw e (omega (arith, r.whole)); small = rw (e, f) r.small })
+        | false ↦ λ f. rw (e, f) (record { whole = omega arith; small = rw (e, f) (sym (never (name_len xs))) })
+      ] refl
+      | false ↦ λ e. rw e (record { whole = rw e (omega arith); small = rw e refl })
+    ] refl
+  where
+    never : (n : ℕ) → (suc n == 0) ≡ false
+    never n = grind (arith, nat_tests)
+
 -- ---- what is cut
 pub record PlainCut (t : List ℕ) : Type 0 where
   pub within : plain_len t ≤ length t
-  pub rest : IsUtf8 (drop (plain_len t) t)
+  pub text : IsUtf8 (take (plain_len t) t)
   pub chars : list_all (ascii_test Userinfo) (take (plain_len t) t) ≡ true
   pub plain : is_plain_authority (take (plain_len t) t) ≡ true
   pub small : is_small_name t ≡ true → list_all is_small (take (plain_len t) t) ≡ true
@@ -153,18 +158,18 @@ pub record PlainCut (t : List ℕ) : Type 0 where
 pub plain_within : (t : List ℕ) → plain_len t ≤ length t
 plain_within t = omega (arith, run_of_le (ascii_test RegName) t, port_le (drop (name_len t) t), length-drop (name_len t) t)
 
-pub plain_cut : (t : List ℕ) → IsUtf8 t → PlainCut t
-plain_cut t u =
+pub plain_cut : (t : List ℕ) → PlainCut t
+plain_cut t =
     let n = name_len t in
     let r = drop n t in
-    let ur = run_text (ascii_test RegName) t (ascii_test_below RegName) u in
     let p = port_piece r in
     let whole : take (plain_len t) t ≡ take n t ++ marked 58 p.port = take-add n (port_len r) t ∙ ap (λ x. take n t ++ x) p.is in
     let k = plain_of (take n t) p.port (run-all (ascii_test RegName) t) p.digits p.kept in
+    let chars = ap (list_all (ascii_test Userinfo)) whole ∙ k.chars in
     record {
       within = plain_within t;
-      rest = subst IsUtf8 (drop-drop (port_len r) n t) (port_text r ur);
-      chars = ap (list_all (ascii_test Userinfo)) whole ∙ k.chars;
+      text = IsUtf8-from_ascii (take (plain_len t) t) (all_below (ascii_test Userinfo) (ascii_test_below Userinfo) (take (plain_len t) t) chars);
+      chars = chars;
       plain = ap is_plain_authority whole ∙ k.plain;
       small = λ h. ap (list_all is_small) whole ∙ list_all-append is_small (take n t) (marked 58 p.port) ∙ rw (small_name t h) (port_small p.port p.digits);
     }

@@ -90,7 +90,7 @@ authority_text-utf8 : (s : Tests) (o : Option (List ℕ)) → if_there (is_autho
 authority_text-utf8 s None h = nothing
 authority_text-utf8 s (Some xs) h = marked-utf8 47 (47 ∷ xs) (omega arith) (marked-utf8 47 xs (omega arith) (authority-utf8 s xs h))
 
-part-utf8 : (p : ℕ → Bool) (c : ℕ) (o : Option (List ℕ)) → c < 128 → if_there (text_over p) o ≡ true → IsUtf8 (marked c o)
+pub part-utf8 : (p : ℕ → Bool) (c : ℕ) (o : Option (List ℕ)) → c < 128 → if_there (text_over p) o ≡ true → IsUtf8 (marked c o)
 part-utf8 p c None l h = nothing
 part-utf8 p c (Some xs) l h = marked-utf8 c xs l (text_over-utf8 p xs h)
 

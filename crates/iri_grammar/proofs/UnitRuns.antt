@@ -1,26 +1,28 @@
 -- Units of a class at the start of a text, taken some at a time.
-use Rattle.std.proofs.Common.{◌≡◌, ℕ, zero, suc, ◌+◌, ◌-◌, ◌≤◌, Bool, true, false, cond, ◌&&◌, List, [], ◌∷◌, ◌++◌, length, take, drop}
-use Rattle.std.proofs.Common.{refl, sym, ◌∙◌, ap, subst, arith, length-append, append-nil, drop-drop}
-use Rattle.std.specs.Prelude.{◌==◌}
+use Rattle.std.proofs.Common.{◌≡◌, ℕ, zero, suc, ◌+◌, ◌-◌, ◌<◌, ◌≤◌, Bool, true, false, cond, ◌&&◌, List, [], ◌∷◌, ◌++◌, length, take, drop}
+use Rattle.std.proofs.Common.{◌≢◌, refl, sym, ◌∙◌, ap, subst, arith, length-append, append-nil}
+use Rattle.std.specs.Prelude.{◌==◌, slice_index}
 use Rattle.std.specs.Char.{is_ascii_hexdigit, encode_utf8}
-use Rattle.std.specs.Str.{chars, IsUtf8, is_utf8}
-use Rattle.std.proofs.lemmas.Bool.{and_parts as both}
+use Rattle.std.specs.Str.{chars, IsAscii, IsUtf8, is_utf8}
+use Rattle.std.proofs.lemmas.Bool.{and_parts as both, eqb-true}
+use Rattle.std.proofs.lemmas.Bool.Decides.{nat_tests}
 use Rattle.std.proofs.lemmas.List.{length-drop}
-use Rattle.std.proofs.lemmas.Str.{chars-append, IsUtf8-append, IsUtf8-past_char, IsUtf8-take, IsCharBoundary-from_drop}
+use Rattle.std.proofs.lemmas.Str.{chars-append, IsUtf8-append, IsUtf8-drop, IsUtf8-from_ascii, IsUtf8-past_char, IsUtf8-take}
+use Rattle.std.proofs.lemmas.Str.{IsCharBoundary-from_drop, IsCharBoundary-from_take}
 use Rattle.std.proofs.Math.Seq.{take-add, take-append_seam, drop-append_seam}
 use Rattle.iri_grammar.specs.Classes.{Tests, IsSpec}
 use Rattle.iri_grammar.specs.ClassTests.{ascii_test, class_test}
 use Rattle.iri_grammar.specs.declared.class.Class.{Class}
 use Rattle.iri_grammar.specs.Over.{over, over_from, text_over}
 use Rattle.iri_grammar.specs.Runs.{run_of}
-use Rattle.iri_grammar.specs.inside.Runs.{begins_with_triplet, AreUnits, HasNoUnit}
+use Rattle.iri_grammar.specs.inside.Runs.{begins_with_triplet, AreUnits, HasNoUnit, LacksNearUnit}
 use Rattle.iri_grammar.proofs.AuthorityTexts.{text_over-utf8}
 use Rattle.iri_grammar.proofs.CutLaws.{by_test, all-lacks, lacks-append, test_apart}
 use Rattle.iri_grammar.specs.Cut.{lacks}
-use Rattle.iri_grammar.proofs.ClassLaws.{ascii_test_below, no_percent}
+use Rattle.iri_grammar.proofs.ClassLaws.{no_percent}
 use Rattle.iri_grammar.proofs.CutBytes.{encode-lacks}
 use Rattle.iri_grammar.proofs.PlainTails.{plain-over, run-all}
-use Rattle.iri_grammar.proofs.Units.{char_past, nothing_left, of_text, run_of_le, run_text, triplet_past, triplet_text}
+use Rattle.iri_grammar.proofs.Units.{ascii_front, char_past, char_stops, hex_is_ascii, nothing_left, of_text, run_of_le, triplet_past}
 
 -- ---- units decide nothing: what follows them decides as the whole does
 over-past : (p : ℕ → Bool) (n : ℕ) (xs ys : List ℕ) → over_from p n xs ≡ true → over_from p n (xs ++ ys) ≡ over p ys
@@ -57,75 +59,95 @@ nothing_over : (p : ℕ → Bool) → text_over p [] ≡ true
 unfolding over_from chars is_utf8
 nothing_over p = refl
 
-pub no_units : (p : ℕ → Bool) (t : List ℕ) → IsUtf8 t → AreUnits p t 0
-no_units p t u = record { within = omega arith; rest = u; over = nothing_over p }
+pub no_units : (p : ℕ → Bool) (t : List ℕ) → AreUnits p t 0
+no_units p t = record { within = omega arith; over = nothing_over p }
+
+-- units are a text, and so is what follows them in one
+pub units_text : (p : ℕ → Bool) (t : List ℕ) (i : ℕ) → AreUnits p t i → IsUtf8 (take i t)
+units_text p t i a = text_over-utf8 p (take i t) a.over
+
+pub rest_text : (p : ℕ → Bool) (t : List ℕ) (i : ℕ) → IsUtf8 t → AreUnits p t i → IsUtf8 (drop i t)
+rest_text p t i u a = IsUtf8-drop t i u (IsCharBoundary-from_take t i u a.within (units_text p t i a))
 
 pub units_onward : (p : ℕ → Bool) (t : List ℕ) (i j : ℕ) → AreUnits p t i → AreUnits p (drop i t) j → AreUnits p t (i + j)
-units_onward p t i j a b =
-    let next : drop j (drop i t) ≡ drop (i + j) t = drop-drop j i t in
-    record {
-      within = omega (arith, a.within, b.within, length-drop i t);
-      rest = subst IsUtf8 next b.rest;
-      over = ap (text_over p) (take-add i j t) ∙ text_over-append p (take i t) (take j (drop i t)) a.over b.over;
-    }
+units_onward p t i j a b = record {
+  within = omega (arith, a.within, b.within, length-drop i t);
+  over = ap (text_over p) (take-add i j t) ∙ text_over-append p (take i t) (take j (drop i t)) a.over b.over;
+}
 
 -- ---- one character, one triplet, and a run of ASCII characters
 nothing_more : (p : ℕ → Bool) → over p (chars []) ≡ true
 nothing_more p = nothing_left p [] refl
 
-pub char_units : (p : ℕ → Bool) (c : ℕ) (t r : List ℕ) → IsUtf8 t → t ≡ encode_utf8 c ++ r → p 37 ≡ false → p c ≡ true
-    → AreUnits p t (length t - length r)
-char_units p c t r u e n h =
+-- the first n bytes are a character of the class
+pub char_units : (p : ℕ → Bool) (c n : ℕ) (t : List ℕ) → IsUtf8 (take n t) → n ≤ length t → take n t ≡ encode_utf8 c → p 37 ≡ false → p c ≡ true
+    → AreUnits p t n
+char_units p c n t u within e h k = record {
+  within = within;
+  over = of_text p (take n t) u ∙ sym (char_past p c (take n t) [] u (e ∙ sym (append-nil (encode_utf8 c))) h k) ∙ nothing_more p;
+}
+
+-- and it is no percent sign
+pub char_lacks : (p : ℕ → Bool) (c n : ℕ) (t : List ℕ) → take n t ≡ encode_utf8 c → p 37 ≡ false → p c ≡ true → lacks 37 (take n t) ≡ true
+char_lacks p c n t e h k = ap (lacks 37) e ∙ encode-lacks 37 c (omega arith) (test_apart p 37 c h k)
+
+-- the same of the character c that a text begins with, before r
+pub front_of : (c : ℕ) (t r : List ℕ) → t ≡ encode_utf8 c ++ r → take (length t - length r) t ≡ encode_utf8 c
+front_of c t r e =
     let x = encode_utf8 c in
     let len : length t - length r ≡ length x = omega (arith, ap length e, length-append x r) in
-    let rest : drop (length x) t ≡ r = ap (drop (length x)) e ∙ drop-append_seam x r in
-    let front : take (length x) t ≡ x ++ [] = ap (take (length x)) e ∙ take-append_seam x r ∙ sym (append-nil x) in
-    let within : length x ≤ length t = omega (arith, ap length e, length-append x r) in
-    let ur = subst IsUtf8 (sym rest) (IsUtf8-past_char t r c u e) in
-    let ux = IsUtf8-take t (length x) u (IsCharBoundary-from_drop t (length x) within ur) in
-    subst (AreUnits p t) (sym len) (record {
-      within = within;
-      rest = ur;
-      over = of_text p (take (length x) t) ux ∙ sym (char_past p c (take (length x) t) [] ux front n h) ∙ nothing_more p;
-    })
+    ap (λ n. take n t) len ∙ (ap (take (length x)) e ∙ take-append_seam x r)
 
-triplet_front : (t : List ℕ) → begins_with_triplet t ≡ true → (begins_with_triplet (take 3 t) ≡ true) × (drop 3 (take 3 t) ≡ [])
-triplet_front [] h = cc
-triplet_front (x ∷ []) h = let clash = both (x == 37) false h in cc
-triplet_front (x ∷ a ∷ []) h = let one = both (x == 37) (is_ascii_hexdigit a && false) h in
+pub front_text : (t r : List ℕ) (c : ℕ) → IsUtf8 t → t ≡ encode_utf8 c ++ r → IsUtf8 (take (length t - length r) t)
+front_text t r c u e =
+    let x = encode_utf8 c in
+    let len : length t - length r ≡ length x = omega (arith, ap length e, length-append x r) in
+    let rest : drop (length t - length r) t ≡ r = ap (λ n. drop n t) len ∙ (ap (drop (length x)) e ∙ drop-append_seam x r) in
+    IsUtf8-take t (length t - length r) u
+    (IsCharBoundary-from_drop t (length t - length r) (omega arith) (subst IsUtf8 (sym rest) (IsUtf8-past_char t r c u e)))
+
+pub triplet_units : (p : ℕ → Bool) (t : List ℕ) → begins_with_triplet t ≡ true → AreUnits p t 3
+triplet_units p [] h = cc
+triplet_units p (x ∷ []) h = let clash = both (x == 37) false h in cc
+triplet_units p (x ∷ a ∷ []) h = let one = both (x == 37) (is_ascii_hexdigit a && false) h in
     let clash = both (is_ascii_hexdigit a) false one.1 in cc
-triplet_front (x ∷ a ∷ b ∷ cs) h = (h, refl)
-
-pub triplet_units : (p : ℕ → Bool) (t : List ℕ) → IsUtf8 t → begins_with_triplet t ≡ true → AreUnits p t 3
-triplet_units p t u h =
-    let r = triplet_text t u h in
-    let f = triplet_front t h in
-    let ux = IsUtf8-take t 3 u (IsCharBoundary-from_drop t 3 r.0 r.1) in
+triplet_units p (x ∷ a ∷ b ∷ cs) h =
+    let one = both (x == 37) (is_ascii_hexdigit a && is_ascii_hexdigit b) h in
+    let two = both (is_ascii_hexdigit a) (is_ascii_hexdigit b) one.1 in
+    let low = eqb-true x 37 one.0 in
+    let t = x ∷ a ∷ b ∷ [] in
+    let u = IsUtf8-from_ascii t (of_three x a b (omega (arith, low)) (hex_is_ascii a two.0) (hex_is_ascii b two.1)) in
     record {
-      within = r.0;
-      rest = r.1;
-      over = of_text p (take 3 t) ux ∙ sym (triplet_past p (take 3 t) ux f.0) ∙ ap (λ l. over p (chars l)) f.1 ∙ nothing_more p;
+      within = omega arith;
+      over = of_text p t u ∙ sym (triplet_past p t u h) ∙ nothing_more p;
     }
+  where
+    of_three : (x a b : ℕ) → x < 128 → a < 128 → b < 128 → IsAscii (x ∷ a ∷ b ∷ [])
+    of_three x a b h k l zero = h
+    of_three x a b h k l (suc zero) = k
+    of_three x a b h k l (suc (suc zero)) = l
+    of_three x a b h k l (suc (suc (suc i))) = omega arith
 
-pub run_units : (s : Tests) → IsSpec s → (k : Class) (t : List ℕ) → IsUtf8 t → AreUnits (class_test s k) t (run_of (ascii_test k) t)
-run_units s l k t u = record {
+pub run_units : (s : Tests) → IsSpec s → (k : Class) (t : List ℕ) → AreUnits (class_test s k) t (run_of (ascii_test k) t)
+run_units s l k t = record {
   within = run_of_le (ascii_test k) t;
-  rest = run_text (ascii_test k) t (ascii_test_below k) u;
   over = plain-over s l k (take (run_of (ascii_test k) t) t) (run-all (ascii_test k) t);
 }
 
 -- ---- without triplets
--- a character of the class is no percent sign
-pub char_lacks : (p : ℕ → Bool) (c : ℕ) (t r : List ℕ) → t ≡ encode_utf8 c ++ r → p 37 ≡ false → p c ≡ true
-    → lacks 37 (take (length t - length r) t) ≡ true
-char_lacks p c t r e n h =
-    let x = encode_utf8 c in
-    let len : length t - length r ≡ length x = omega (arith, ap length e, length-append x r) in
-    let front : take (length x) t ≡ x ++ [] = ap (take (length x)) e ∙ take-append_seam x r ∙ sym (append-nil x) in
-    ap (λ k. lacks 37 (take k t)) len ∙ ap (lacks 37) (front ∙ append-nil x) ∙ encode-lacks 37 c (omega arith) (test_apart p 37 c n h)
-
 pub lacks_onward : (t : List ℕ) (i j : ℕ) → lacks 37 (take i t) ≡ true → lacks 37 (take j (drop i t)) ≡ true → lacks 37 (take (i + j) t) ≡ true
 lacks_onward t i j h k = ap (lacks 37) (take-add i j t) ∙ lacks-append 37 (take i t) (take j (drop i t)) h k
 
 pub run_lacks : (k : Class) (t : List ℕ) → lacks 37 (take (run_of (ascii_test k) t) t) ≡ true
 run_lacks k t = all-lacks (ascii_test k) 37 (take (run_of (ascii_test k) t) t) (no_percent k) (run-all (ascii_test k) t)
+
+-- ---- no unit
+-- of a text that begins in ASCII
+pub near_stops : (p : ℕ → Bool) (t : List ℕ) → IsUtf8 t → slice_index t 0 < 128 → LacksNearUnit p t → HasNoUnit p t
+near_stops p [] u l h = nothing_left p [] refl
+near_stops p (x ∷ xs) u l h = char_stops p x (x ∷ xs) xs u (ascii_front x xs l) (omega arith) h.triplet (h.ascii l (omega arith))
+
+-- no triplet begins with another byte
+pub no_triplet_at : (t : List ℕ) → slice_index t 0 ≢ 37 → begins_with_triplet t ≡ false
+no_triplet_at [] n = refl
+no_triplet_at (x ∷ xs) n = let other : (x == 37) ≡ false = grind (arith, nat_tests) in rw other refl

@@ -15,7 +15,7 @@ use Rattle.iri_grammar.specs.Runs.{run_of}
 use Rattle.iri_grammar.specs.inside.Runs.{begins_with_digit, begins_with_triplet, HasNoUnit}
 
 -- an ASCII byte is a character
-ascii_front : (b : ℕ) (bs : List ℕ) → b < 128 → b ∷ bs ≡ encode_utf8 b ++ bs
+pub ascii_front : (b : ℕ) (bs : List ℕ) → b < 128 → b ∷ bs ≡ encode_utf8 b ++ bs
 ascii_front b bs h = sym (ap (λ l. l ++ bs) (encode_ascii b h))
 
 pub chars_ascii : (b : ℕ) (bs : List ℕ) → IsUtf8 (b ∷ bs) → b < 128 → chars (b ∷ bs) ≡ b ∷ chars bs
@@ -160,21 +160,6 @@ run_of_le q (x ∷ xs) =
 -- what follows a character is shorter
 pub char_shorter : (c : ℕ) (t r : List ℕ) → t ≡ encode_utf8 c ++ r → length r < length t
 char_shorter c t r e = omega (arith, ap length e, length-append (encode_utf8 c) r, length-encode c, (len_utf8_bounds c).0)
-
--- a text may be cut behind a triplet
-pub triplet_text : (t : List ℕ) → IsUtf8 t → begins_with_triplet t ≡ true → (3 ≤ length t) × IsUtf8 (drop 3 t)
-triplet_text [] u h = cc
-triplet_text (x ∷ []) u h = let clash = both (x == 37) false h in cc
-triplet_text (x ∷ a ∷ []) u h = let one = both (x == 37) (is_ascii_hexdigit a && false) h in
-    let clash = both (is_ascii_hexdigit a) false one.1 in cc
-triplet_text (x ∷ a ∷ b ∷ cs) u h =
-    let one = both (x == 37) (is_ascii_hexdigit a && is_ascii_hexdigit b) h in
-    let two = both (is_ascii_hexdigit a) (is_ascii_hexdigit b) one.1 in
-    let first : x < 128 = omega (arith, eqb-true x 37 one.0) in (
-      omega arith,
-      text_after_ascii b cs (text_after_ascii a (b ∷ cs) (text_after_ascii x (a ∷ b ∷ cs) u first) (hex_is_ascii a two.0))
-          (hex_is_ascii b two.1),
-    )
 
 -- of a text
 pub of_text : (p : ℕ → Bool) (t : List ℕ) → IsUtf8 t → text_over p t ≡ over p (chars t)

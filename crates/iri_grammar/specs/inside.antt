@@ -1,4 +1,6 @@
 -- What private contracts cite, and laws that an `impl` cites.
+pub mod AuthorityCuts
+pub mod Halves
 pub mod Ipv6Counts
 pub mod LastColon
 pub mod Laws

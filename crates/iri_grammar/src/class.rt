@@ -40,7 +40,7 @@ static RANKS: [u8; 256] = *b"\
     77777777777777777777777777777777";
 
 impl Class {
-    fn rank(self) -> u8
+    pub(crate) fn rank(self) -> u8
         ensures { result ≡ rank_of self }
     {
         match self {

@@ -19,6 +19,7 @@ mod ipv4;
 mod ipv6;
 pub mod laws;
 pub mod over;
+mod run;
 pub mod seen;
 pub mod spec;
 pub mod splitter;

@@ -7,21 +7,9 @@ ghost use Rattle.iri_grammar.specs.Over.{over, text_over};
 ghost use Rattle.iri_grammar.specs.Runs.{run_of};
 
 use crate::class::Class;
+use crate::run::run_len;
 use crate::spec::Spec;
 use crate::unit::cut_units;
-
-// How many bytes at the start are ASCII characters of the class.
-#[inline(always)]
-pub(crate) fn run_len(class: Class, bytes: &[u8]) -> usize
-    ensures { result ≡ run_of (ascii_test class) bytes.now }
-{
-    for (i, b) in bytes.iter().enumerate() {
-        if !class.has_byte(*b) {
-            return i;
-        }
-    }
-    bytes.len()
-}
 
 /// What follows the ASCII characters of the class at the start.
 pub fn past_run(class: Class, s: &str) -> &str
@@ -39,10 +27,9 @@ pub(crate) fn is_run(class: Class, s: &str) -> bool
 }
 
 /// Whether the text is made of characters of the class and of percent-encoded octets.
-#[tactic(auto, using(crate::proofs::UnitRuns::cut_decides))]
 pub fn is_over<S: Spec>(class: Class, s: &str) -> bool
     ensures { result ≡ text_over (class_test S.tests class) s.now }
 {
-    let (_, rest, _) = cut_units::<S>(class, s);
+    let (_, rest, _) = cut_units::<S>(class, s.as_bytes());
     rest.is_empty()
 }

@@ -1,13 +1,16 @@
 //! The split of a reference into its five parts (RFC 3986 section 3).
-ghost use Rattle.std.specs.Prelude.{◌≡◌, None, IfOk, MatchOption, false, true};
+ghost use Rattle.std.specs.Prelude.{◌≡◌, ◌∷◌, None, Some, IfOk, MatchOption, false, true};
 ghost use Rattle.std.specs.List.{list_all};
+ghost use Rattle.std.specs.Str.{IsUtf8};
+ghost use Rattle.iri_grammar.specs.Characters.{slash};
 ghost use Rattle.iri_grammar.specs.Components.{if_there, is_scheme, is_scheme_char};
-ghost use Rattle.iri_grammar.specs.Fault.{Answers};
+ghost use Rattle.iri_grammar.specs.Fault.{Answers, bytes_fault};
 ghost use Rattle.iri_grammar.specs.Marks.{before_any, from_any};
-ghost use Rattle.iri_grammar.specs.inside.Marks.{ends_scheme, SchemeAt, NoScheme, ends_authority, AuthorityEndAt};
+ghost use Rattle.iri_grammar.specs.inside.Marks.{ends_scheme, SchemeAt, NoScheme, ends_authority, AuthorityEndAt, EndsAuthority};
 ghost use Rattle.iri_grammar.specs.inside.Marks.{NoAuthorityEnd, IsPastAuthority, ends_at_start};
 ghost use Rattle.iri_grammar.specs.inside.Tails.{AreOver};
-ghost use Rattle.iri_grammar.specs.Parts.{Splits};
+ghost use Rattle.iri_grammar.specs.inside.AuthorityCuts.{KeepsAuthorityNotes};
+ghost use Rattle.iri_grammar.specs.Parts.{Splits, starts_with_slashes};
 ghost use Rattle.iri_grammar.specs.Runs.{run_of};
 ghost use Rattle.iri_grammar.specs.Split.{split_of, relative_split_of, parts_of, scheme_of, after_scheme, authority_of};
 ghost use Rattle.iri_grammar.specs.Split.{hier_of};
@@ -18,13 +21,14 @@ ghost use Rattle.iri_grammar.specs.WholeFault.{reference_fault};
 
 use crate::authority::cut_plain;
 use crate::dots::may_have_dots;
-use crate::error::Error;
+use crate::error::{Error, ErrorKind};
 use crate::seen::Seen;
 use crate::spec::Spec;
 use crate::tail::Tail;
 use crate::validate::{judge, judge_front};
 use memchr::memchr3;
 use std::alloc::AllocError;
+use std::str;
 
 /// The five parts of a reference, as slices of its text (RFC 3986 section 3).
 #[derive(Debug)]
@@ -143,6 +147,21 @@ fn cut_scheme(s: &str) -> (Option<&str>, &str)
     }
 }
 
+// The same of bytes.
+fn look_at_scheme(s: &[u8]) -> (Option<&str>, &[u8])
+    ensures scheme { now_of result.0 ≡ scheme_of s.now }
+    ensures rest { result.1.now ≡ after_scheme s.now }
+    ensures text { IsUtf8 result.1.now → IsUtf8 s.now }
+{
+    match scheme_end(s) {
+        Some(i) => {
+            let scheme = unsafe { str::from_utf8_unchecked(&s[..i]) };
+            (Some(scheme), &s[i + 1..])
+        }
+        None => (None, s),
+    }
+}
+
 // Where the first `/`, `?` or `#` is.
 #[tactic(auto, using(crate::proofs::MarkLemmas::authority_end))]
 fn authority_end(bytes: &[u8]) -> Option<usize>
@@ -162,6 +181,20 @@ fn cut_before_end(s: &str) -> (&str, &str)
     }
 }
 
+// The authority, where there is one, and what follows it, or all.
+fn cut_authority(s: &str) -> (Option<&str>, &str)
+    ensures authority { now_of result.0 ≡ authority_of (hier_of s.now) }
+    ensures past { IsPastAuthority s.now result.1.now }
+{
+    match s.strip_prefix("//") {
+        Some(rest) => {
+            let (authority, rest) = cut_before_end(rest);
+            (Some(authority), rest)
+        }
+        None => (None, s),
+    }
+}
+
 // Whether an authority ends at the start.
 #[inline(always)]
 fn ends_at_start(bytes: &[u8]) -> bool
@@ -177,54 +210,85 @@ fn ends_at_start(bytes: &[u8]) -> bool
 #[derive(Clone, Copy)]
 struct AuthorityCut<'a> {
     authority: Option<&'a str>,
-    rest: &'a str,
+    rest: &'a [u8],
     capitals: bool,
     other: bool,
 }
 
-// What comes before the end of an authority, the rest from it on, and what was noted of the first.
+// How many bytes come before the end of an authority.
+fn authority_len(s: &[u8]) -> usize
+    ensures { EndsAuthority s.now result }
+{
+    match authority_end(s) {
+        Some(i) => i,
+        None => s.len(),
+    }
+}
+
+// The same of bytes: what comes before the end of an authority, where it is a text, and the rest from it on.
+#[inline(never)]
+fn text_before_end(s: &[u8]) -> Option<(&str, &[u8])>
+    ensures { MatchOption result (Unit {0}) (λ r. (r.0.now ≡ before_any ends_authority s.now)
+        × (r.1.now ≡ from_any ends_authority s.now) × (IsUtf8 r.1.now → IsUtf8 s.now)) }
+{
+    let end = authority_len(s);
+    match str::from_utf8(&s[..end]) {
+        Ok(front) => Some((front, &s[end..])),
+        Err(_) => None,
+    }
+}
+
+// What comes before the end of an authority, the rest from it on, and what was noted of the first. `None` where it is no text.
 #[inline(always)]
-fn look_before_end(s: &str) -> AuthorityCut<'_>
-    ensures front { now_of result.authority ≡ Some (before_any ends_authority s.now) }
-    ensures rest { result.rest.now ≡ from_any ends_authority s.now }
-    ensures capitals { result.capitals ≡ false → if_there (list_all is_small) (now_of result.authority) ≡ true }
-    ensures plain { result.other ≡ false → if_there is_plain_authority (now_of result.authority) ≡ true }
+fn look_before_end(s: &[u8]) -> Option<AuthorityCut<'_>>
+    ensures { MatchOption result (Unit {0}) (λ r. (now_of r.authority ≡ Some (before_any ends_authority s.now))
+        × (r.rest.now ≡ from_any ends_authority s.now) × KeepsAuthorityNotes r
+        × (IsUtf8 r.rest.now → IsUtf8 s.now)) }
 {
     // Most are a name and perhaps a port: one look, and no search for the end.
     let (front, rest, capitals) = cut_plain(s);
-    if ends_at_start(rest.as_bytes()) {
-        return AuthorityCut {
+    if ends_at_start(rest) {
+        return Some(AuthorityCut {
             authority: Some(front),
             rest,
             capitals,
             other: false,
-        };
+        });
     }
-    let (front, rest) = cut_before_end(s);
-    AuthorityCut {
+    let (front, rest) = text_before_end(s)?;
+    Some(AuthorityCut {
         authority: Some(front),
         rest,
         capitals: true,
         other: true,
+    })
+}
+
+// What follows two slashes at the start.
+#[inline(always)]
+fn behind_slashes(s: &[u8]) -> Option<&[u8]>
+    ensures { MatchOption result (starts_with_slashes s.now ≡ false) (λ r. s.now ≡ slash ∷ slash ∷ r.now) }
+{
+    match s {
+        [b'/', b'/', rest @ ..] => Some(rest),
+        _ => None,
     }
 }
 
-// The authority, and what follows it, or all.
+// The authority of bytes, and what follows it, or all.
 #[inline(always)]
-fn cut_authority(s: &str) -> AuthorityCut<'_>
-    ensures authority { now_of result.authority ≡ authority_of (hier_of s.now) }
-    ensures past { IsPastAuthority s.now result.rest.now }
-    ensures capitals { result.capitals ≡ false → if_there (list_all is_small) (now_of result.authority) ≡ true }
-    ensures plain { result.other ≡ false → if_there is_plain_authority (now_of result.authority) ≡ true }
+fn look_at_authority(s: &[u8]) -> Option<AuthorityCut<'_>>
+    ensures { MatchOption result (Unit {0}) (λ r. (now_of r.authority ≡ authority_of (hier_of s.now))
+        × IsPastAuthority s.now r.rest.now × KeepsAuthorityNotes r × (IsUtf8 r.rest.now → IsUtf8 s.now)) }
 {
-    match s.strip_prefix("//") {
+    match behind_slashes(s) {
         Some(rest) => look_before_end(rest),
-        None => AuthorityCut {
+        None => Some(AuthorityCut {
             authority: None,
             rest: s,
             capitals: false,
             other: false,
-        },
+        }),
     }
 }
 
@@ -252,12 +316,37 @@ impl<'a> Splitter<'a> {
         ensures fault { Answers result (reference_fault S.tests text.now) }
         ensures value { IfOk result (λ p. parts p ≡ split_of text.now) }
     {
-        match Splitter::scan::<S>(text) {
-            Some(parts) => {
-                judge_front::<S>(&parts)?;
-                Ok(parts)
-            }
-            None => Splitter::judged::<S>(text),
+        Splitter::from_bytes::<S>(text.as_bytes())
+    }
+
+    /// The same of bytes that are the UTF-8 of a reference of `S`.
+    ///
+    /// # Errors
+    ///
+    /// - `InvalidUtf8` where the bytes aren't UTF-8, which is tested first.
+    /// - Otherwise the first fault of the text, exactly where it is no reference.
+    #[inline(always)]
+    pub fn from_bytes<S: Spec>(bytes: &'a [u8]) -> Result<Splitter<'a>, Error>
+        ensures fault { Answers result (bytes_fault (reference_fault S.tests) bytes.now) }
+        ensures value { IfOk result (λ p. parts p ≡ split_of bytes.now) }
+    {
+        match Splitter::scan::<S>(bytes) {
+            Some(parts) => match judge_front::<S>(&parts) {
+                Ok(()) => Ok(parts),
+                Err(fault) => Err(fault),
+            },
+            None => Splitter::judged_bytes::<S>(bytes),
+        }
+    }
+
+    // The same of bytes that the scan did not take.
+    fn judged_bytes<S: Spec>(bytes: &'a [u8]) -> Result<Splitter<'a>, Error>
+        ensures fault { Answers result (bytes_fault (reference_fault S.tests) bytes.now) }
+        ensures value { IfOk result (λ p. parts p ≡ split_of bytes.now) }
+    {
+        match str::from_utf8(bytes) {
+            Ok(text) => Splitter::judged::<S>(text),
+            Err(_) => Err(Error::new(ErrorKind::InvalidUtf8)),
         }
     }
 
@@ -282,15 +371,15 @@ impl<'a> Splitter<'a> {
         Splitter::cut(text)
     }
 
-    // The parts of a text read as a reference, where path, query and fragment are each in its production.
+    // The parts of bytes read as a reference, where path, query and fragment are each in its production; then the bytes are a text.
     #[tactic(auto, unfolding(crate::specs::Split::split_of))]
     #[inline(always)]
-    fn scan<S: Spec>(text: &'a str) -> Option<Splitter<'a>>
-        ensures { MatchOption result (Unit {0}) (λ p. (parts p ≡ split_of text.now)
-            × AreOver S.tests (parts p).path (parts p).query (parts p).fragment) }
+    fn scan<S: Spec>(bytes: &'a [u8]) -> Option<Splitter<'a>>
+        ensures { MatchOption result (Unit {0}) (λ p. (parts p ≡ split_of bytes.now)
+            × AreOver S.tests (parts p).path (parts p).query (parts p).fragment × IsUtf8 bytes.now) }
     {
-        let (scheme, rest) = cut_scheme(text);
-        let cut = cut_authority(rest);
+        let (scheme, rest) = look_at_scheme(bytes);
+        let cut = look_at_authority(rest)?;
         match Tail::look_at::<S>(cut.rest) {
             Some(tail) => Some(Splitter {
                 scheme,
@@ -332,11 +421,11 @@ impl<'a> Splitter<'a> {
     fn behind(scheme: Option<&'a str>, rest: &'a str) -> Splitter<'a>
         ensures { parts result ≡ parts_of (now_of scheme.entry) rest.now }
     {
-        let cut = cut_authority(rest);
-        let tail = Tail::of(cut.rest);
+        let (authority, rest) = cut_authority(rest);
+        let tail = Tail::of(rest);
         Splitter {
             scheme,
-            authority: cut.authority,
+            authority,
             path: tail.path,
             query: tail.query,
             fragment: tail.fragment,

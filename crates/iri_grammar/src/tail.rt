@@ -1,5 +1,6 @@
 // Path, query and fragment (RFC 3986 sections 3.3 to 3.5).
 ghost use Rattle.std.specs.Prelude.{◌≡◌, ◌++◌, true, MatchOption};
+ghost use Rattle.std.specs.Str.{IsUtf8};
 ghost use Rattle.iri_grammar.specs.Characters.{number_sign, percent_sign, question_mark};
 ghost use Rattle.iri_grammar.specs.Components.{if_there, is_fragment, is_query};
 ghost use Rattle.iri_grammar.specs.Cut.{lacks, marked};
@@ -34,33 +35,33 @@ fn find_tail(bytes: &[u8]) -> Option<usize>
 
 // The characters of a query after a `?` at the start, the rest, and whether no percent-encoded octet was found.
 #[inline(always)]
-fn cut_query<S: Spec>(s: &str) -> (Option<&str>, &str, bool)
+fn cut_query<S: Spec>(s: &[u8]) -> (Option<&str>, &[u8], bool)
     ensures whole { s.now ≡ marked question_mark (now_of result.0) ++ result.1.now }
     ensures over { if_there (is_query S.tests) (now_of result.0) ≡ true }
     ensures bare { result.2 ≡ true → if_there (lacks percent_sign) (now_of result.0) ≡ true }
 {
-    match s.strip_prefix('?') {
-        Some(s) => {
+    match s {
+        [b'?', s @ ..] => {
             let (query, rest, bare) = cut_units::<S>(Class::Query, s);
             (Some(query), rest, bare)
         }
-        None => (None, s, true),
+        _ => (None, s, true),
     }
 }
 
 // The same of a fragment after a `#`.
 #[inline(always)]
-fn cut_fragment<S: Spec>(s: &str) -> (Option<&str>, &str, bool)
+fn cut_fragment<S: Spec>(s: &[u8]) -> (Option<&str>, &[u8], bool)
     ensures whole { s.now ≡ marked number_sign (now_of result.0) ++ result.1.now }
     ensures over { if_there (is_fragment S.tests) (now_of result.0) ≡ true }
     ensures bare { result.2 ≡ true → if_there (lacks percent_sign) (now_of result.0) ≡ true }
 {
-    match s.strip_prefix('#') {
-        Some(s) => {
+    match s {
+        [b'#', s @ ..] => {
             let (fragment, rest, bare) = cut_units::<S>(Class::Fragment, s);
             (Some(fragment), rest, bare)
         }
-        None => (None, s, true),
+        _ => (None, s, true),
     }
 }
 
@@ -101,10 +102,10 @@ impl<'a> Tail<'a> {
         }
     }
 
-    // The parts of a text, where each is in its production: its bytes are looked at once.
+    // The parts of bytes, where each is in its production, so that they are a text: they are looked at once.
     #[inline(always)]
-    pub(crate) fn look_at<S: Spec>(s: &'a str) -> Option<Tail<'a>>
-        ensures { MatchOption result (Unit {0}) (λ p. IsTail s.now p × IsOverTail S.tests p × KeepsNotes p) }
+    pub(crate) fn look_at<S: Spec>(s: &'a [u8]) -> Option<Tail<'a>>
+        ensures { MatchOption result (Unit {0}) (λ p. IsTail s.now p × IsOverTail S.tests p × KeepsNotes p × IsUtf8 s.now) }
     {
         let (path, rest, bare_path) = cut_units::<S>(Class::Path, s);
         let (query, rest, bare_query) = cut_query::<S>(rest);

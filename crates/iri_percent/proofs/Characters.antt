@@ -8,6 +8,7 @@ use lib.Utf8.{encode, next, scalar}
 use Rattle.std.proofs.lemmas.Str.{encode_ascii, length-encode, len_utf8_bounds}
 use Rattle.std.proofs.lemmas.Bool.Decides.{nat_tests}
 use Rattle.iri_grammar.specs.Classes.{Tests, IsSpec, unreserved, is_ascii_unreserved}
+use Rattle.iri_grammar.proofs.WideChars.{below, not_below, spelled_in_three, spelled_in_two}
 use Rattle.iri_percent.specs.Units.{first_char}
 use Rattle.iri_percent.proofs.UnitLaws.{BeginsChar, first_char_is, char_first, none_in_front, continuation_none, is_continuation, next_continues}
 use Rattle.iri_percent.specs.NormalLaws.{decoded, unreserved_only}
@@ -103,12 +104,6 @@ decide os rest code least spells seen =
       ] refl
     ] refl
 
-below : (a b : ℕ) → a < b → ltb a b ≡ true
-below a b h = grind (arith, nat_tests)
-
-not_below : (a b : ℕ) → b ≤ a → ltb a b ≡ false
-not_below a b h = grind (arith, nat_tests)
-
 -- the UTF-8 of a character past ASCII
 pub encode_two : (c code y : ℕ) → code ≡ c → 128 ≤ c → code < 2048 → y ≡ next code → (192 + code / 64) ∷ y ∷ [] ≡ encode c
 unfolding encode
@@ -133,14 +128,6 @@ encode_four c code x y z e l p q r =
     ∙ ap (λ n. (240 + n / 262144) ∷ next (n / 4096) ∷ next (n / 64) ∷ next n ∷ []) e
     ∙ rw (not_below c 128 (omega (arith, e, l)), not_below c 2048 (omega (arith, e, l)), not_below c 65536 (omega (arith, e, l))) refl
 
-spelled_in_two : (code lead a : ℕ) (os : List ℕ) → 192 ≤ lead → lead < 224 → a < 64 → code ≡ (lead - 192) * 64 + a → 128 ≤ code
-    → lead ∷ (128 + a) ∷ os ≡ encode code ++ os
-unfolding encode
-spelled_in_two code lead a os l u p e h =
-    let x : lead ≡ 192 + code / 64 = omega arith in
-    let y : a ≡ code % 64 = omega arith in
-    rw (not_below code 128 h, below code 2048 (omega arith)) (ap (λ n. n ∷ (128 + a) ∷ os) x ∙ ap (λ n. (192 + code / 64) ∷ (128 + n) ∷ os) y)
-
 pub two_octets : (lead a : ℕ) (os : List ℕ) → 192 ≤ lead → lead < 224 → a < 64
     → char_from ((lead - 192) * 64 + a) 128 ≡ first_char (lead ∷ (128 + a) ∷ os)
 two_octets lead a os l u p = decide (lead ∷ (128 + a) ∷ os) os ((lead - 192) * 64 + a) 128
@@ -152,17 +139,6 @@ two_octets lead a os l u p = decide (lead ∷ (128 + a) ∷ os) os ((lead - 192)
     at c rest (two q r e t) = let k : 128 + a ≡ next c = (heads (128 + a) (next c) os rest t).0 in (omega arith, q)
     at c rest (three q r e t) = absurd (omega arith)
     at c rest (four q e t) = absurd (omega arith)
-
-spelled_in_three : (code lead a b : ℕ) (os : List ℕ) → 224 ≤ lead → lead < 240 → a < 64 → b < 64
-    → code ≡ ((lead - 224) * 64 + a) * 64 + b → 2048 ≤ code → lead ∷ (128 + a) ∷ (128 + b) ∷ os ≡ encode code ++ os
-unfolding encode
-spelled_in_three code lead a b os l u p q e h =
-    let x : lead ≡ 224 + code / 4096 = omega arith in
-    let y : a ≡ code / 64 % 64 = omega arith in
-    let z : b ≡ code % 64 = omega arith in
-    rw (not_below code 128 (omega arith), not_below code 2048 h, below code 65536 (omega arith))
-    (ap (λ n. n ∷ (128 + a) ∷ (128 + b) ∷ os) x ∙ ap (λ n. (224 + code / 4096) ∷ (128 + n) ∷ (128 + b) ∷ os) y
-    ∙ ap (λ n. (224 + code / 4096) ∷ next (code / 64) ∷ (128 + n) ∷ os) z)
 
 pub three_octets : (lead a b : ℕ) (os : List ℕ) → 224 ≤ lead → lead < 240 → a < 64 → b < 64
     → char_from (((lead - 224) * 64 + a) * 64 + b) 2048 ≡ first_char (lead ∷ (128 + a) ∷ (128 + b) ∷ os)

@@ -3,6 +3,7 @@ pub mod LinesLemmas
 pub mod LimitsLemmas
 mod Answered
 pub mod Moved
+pub mod LfBlocks
 mod Steps
 mod Writes
 pub mod Puts

@@ -1,19 +1,14 @@
--- Parts that stand, and bytes that are a text.
-use Rattle.std.proofs.Common.{◌≡◌, ℕ, Bool, true, List, Option, Some, None, refl, sym, ◌∙◌, ap, subst}
-use Rattle.std.specs.Str.{is_utf8, IsUtf8}
-use Rattle.std.proofs.lemmas.Str.{IsUtf8-from_is_utf8, is_utf8-from_IsUtf8}
+-- Parts that stand.
+use Rattle.std.proofs.Common.{◌≡◌, ℕ, Bool, true, List, Option, Some, None, sym, subst}
 use Rattle.iri_grammar.specs.Classes.{Tests}
 use Rattle.iri_grammar.specs.Components.{if_there, is_userinfo, is_query, is_fragment}
 use Rattle.iri_grammar.specs.Host.{is_host}
 use Rattle.iri_grammar.specs.Authority.{authority_parts, is_authority}
 use Rattle.iri_grammar.proofs.CutLaws.{both}
-use Rattle.iri_grammar.specs.Fault.{Answers, bytes_fault, query_fault, fragment_fault}
+use Rattle.iri_grammar.specs.Fault.{query_fault, fragment_fault}
 use Rattle.iri_grammar.proofs.FaultLaws.{no_fault}
-use Rattle.std.specs.Prelude.{Result}
-use Rattle.iri_grammar.specs.declared.error.Error.{Error}
-use Rattle.iri_grammar.specs.declared.error.ErrorKind.{ErrorKind}
-use Rattle.iri_grammar.specs.declared.error.ErrorKind.TheVariants.{InvalidQuery, InvalidFragment, InvalidUtf8}
-use Rattle.iri_grammar.proofs.CutLemmas.{false-where}
+use Rattle.iri_grammar.specs.declared.error.ErrorKind.TheVariants.{InvalidQuery, InvalidFragment}
+pub use Rattle.iri_grammar.proofs.TextParts.{no_text_fault, text_fault}
 
 -- ---- parts
 pub there : (f : List ℕ → Bool) (o : Option (List ℕ)) (x : List ℕ) → if_there f o ≡ true → o ≡ Some x → f x ≡ true
@@ -31,15 +26,3 @@ pub host-valid : (s : Tests) (x h : List ℕ) → is_authority s x ≡ true → 
 unfolding is_authority
 host-valid s x h k e = subst (λ z. is_host s z ≡ true) (sym e)
     (both (if_there (is_userinfo s) (authority_parts x).userinfo) (is_host s (authority_parts x).host) k).1
-
--- ---- bytes
-pub text_fault : (f : List ℕ → Option ErrorKind) (bs : List ℕ) → IsUtf8 bs → bytes_fault f bs ≡ f bs
-text_fault f bs u = rw (is_utf8-from_IsUtf8 bs u) refl
-
-pub no_text_fault : (f : List ℕ → Option ErrorKind) (bs : List ℕ) → (IsUtf8 bs → ⊥) → bytes_fault f bs ≡ Some InvalidUtf8
-no_text_fault f bs n = rw (false-where (is_utf8 bs) (λ e. n (IsUtf8-from_is_utf8 bs e))) refl
-
--- what is said of a text is said of its bytes
-pub answers-of : {A : Type 0} (r : Result A Error) (f : List ℕ → Option ErrorKind) (t bs : List ℕ) → t ≡ bs → IsUtf8 bs → Answers r (f t)
-    → Answers r (bytes_fault f bs)
-answers-of r f t bs e u a = subst (Answers r) (ap f e ∙ sym (text_fault f bs u)) a

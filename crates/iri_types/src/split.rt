@@ -9,12 +9,12 @@ ghost use Rattle.iri_grammar.specs.WholeFault.{reference_fault};
 ghost use Rattle.iri_types.specs.Texts.{text};
 
 use crate::kind::{Reference, WholeKind};
-use crate::utf8::text_of;
 use crate::view::View;
-use iri_grammar::error::{Error, ErrorKind};
+use iri_grammar::error::Error;
 use iri_grammar::spec::Spec;
 use iri_grammar::splitter::Splitter;
 use std::alloc::AllocError;
+use std::str;
 
 /// A view and its five parts, which are split once. A program that asks for several parts of a text, or resolves many
 /// references against one base, keeps this in place of the view.
@@ -87,9 +87,15 @@ impl<'a, S: Spec> SplitView<'a, S, Reference> {
         ensures fault { Answers result (bytes_fault (reference_fault S.tests) b.now) }
         ensures text { IfOk result (λ v. split_text v ≡ b.now) }
     {
-        match text_of(b) {
-            Some(s) => SplitView::new(s),
-            None => Err(Error::new(ErrorKind::InvalidUtf8)),
+        match Splitter::from_bytes::<S>(b) {
+            Ok(cut) => {
+                let s = unsafe { str::from_utf8_unchecked(b) };
+                Ok(SplitView {
+                    view: View::from_valid(s),
+                    cut,
+                })
+            }
+            Err(error) => Err(error),
         }
     }
 

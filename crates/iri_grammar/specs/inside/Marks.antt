@@ -1,7 +1,8 @@
 -- Where the parts of a reference end, as the splitter finds them.
-use Rattle.std.specs.Prelude.{◌≡◌, ℕ, ◌+◌, ◌<◌, Bool, true, false, ◌&&◌, ◌||◌, ◌==◌, nat_lt, List, [], ◌∷◌, Some, None, length, take, drop}
+use Rattle.std.specs.Prelude.{◌≡◌, ℕ, ◌+◌, ◌<◌, ◌≤◌, Bool, true, false, ◌&&◌, ◌||◌, ◌==◌, nat_lt, List, [], ◌∷◌, Some, None, length, take, drop}
 use Rattle.std.specs.Prelude.{slice_index}
 use Rattle.std.specs.Char.{is_ascii_alphabetic}
+use Rattle.std.specs.Str.{IsUtf8}
 use Rattle.iri_grammar.specs.Cut.{before, behind}
 use Rattle.iri_grammar.specs.Split.{scheme_of, after_scheme, path_of, hier_of}
 use Rattle.iri_grammar.specs.Marks.{before_any, from_any}
@@ -17,6 +18,7 @@ pub record SchemeAt (bs : List ℕ) (k : ℕ) : Type 0 where
   pub byte : slice_index bs k ≡ 58
   pub scheme : Some (take k bs) ≡ scheme_of bs
   pub rest : drop (k + 1) bs ≡ after_scheme bs
+  pub text : IsUtf8 (take k bs)
 
 -- the text begins with no scheme and colon
 pub record NoScheme (bs : List ℕ) : Type 0 where
@@ -44,6 +46,12 @@ pub record AuthorityEndAt (bs : List ℕ) (k : ℕ) : Type 0 where
 pub record NoAuthorityEnd (bs : List ℕ) : Type 0 where
   pub front : bs ≡ before_any ends_authority bs
   pub rest : [] ≡ from_any ends_authority bs
+
+-- its first k bytes are what stands before one, or all
+pub record EndsAuthority (bs : List ℕ) (k : ℕ) : Type 0 where
+  pub within : k ≤ length bs
+  pub front : take k bs ≡ before_any ends_authority bs
+  pub rest : drop k bs ≡ from_any ends_authority bs
 
 -- the text r follows the authority of t: it begins with the path, and query and fragment are those of t
 pub record IsPastAuthority (t r : List ℕ) : Type 0 where

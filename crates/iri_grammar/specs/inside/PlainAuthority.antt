@@ -11,6 +11,10 @@ use Rattle.iri_grammar.specs.declared.class.Class.TheVariants.{RegName}
 abbrev pub name_len : List ℕ → ℕ
 name_len t = run_of (ascii_test RegName) t
 
+-- such a character, and no capital letter
+abbrev pub is_small_name_char : ℕ → Bool
+is_small_name_char x = ascii_test RegName x && is_small x
+
 -- none of them is a capital letter
 abbrev pub is_small_name : List ℕ → Bool
 is_small_name [] = true

@@ -1,9 +1,12 @@
 // Lines of a source.
-ghost use Rattle.std.specs.Prelude.{◌≡◌, ◌↔◌, ◌≤◌, ◌<◌, ◌+◌, ◌-◌, ◌^◌, [], ◌++◌, true, false, length, take};
+ghost use Rattle.std.specs.Prelude.{◌≡◌, ◌↔◌, ◌≤◌, ◌<◌, ◌+◌, ◌-◌, ◌^◌, ◌&&◌, ◌==◌, [], ◌++◌, true, false, length, take};
+ghost use Rattle.std.specs.Prelude.{drop, get_or, nat_lt, not};
+ghost use Rattle.std.specs.List.{prefix_len};
 ghost use Rattle.std.specs.Prelude.{slice_range, slice_index, IfOk, OnErr};
 ghost use Rattle.std.specs.Vec.{vec_capacity};
 ghost use Rattle.iri_text.specs.Lines.{NoLf, no_cr};
 ghost use Rattle.iri_text.specs.Line.{IsFirstLf};
+ghost use Rattle.iri_text.specs.LineEnds.{line_feed};
 ghost use Rattle.iri_text.specs.Source.{Consumes, IsAtEnd};
 ghost use Rattle.iri_text.specs.Count.{Rose};
 ghost use Rattle.iri_text.specs.Reader.{Advances, is_final, done_by};
@@ -14,6 +17,7 @@ use crate::{Failed, Source};
 use memchr::memchr;
 use std::alloc::{AllocError, Global};
 use std::marker::Model;
+use std::simd::prelude::*;
 
 const BLOCK: usize = 65536;
 
@@ -84,14 +88,64 @@ enum Look {
     More,
 }
 
-// Where the first LF is, or the length where there is none. There is none before `from`.
+// How many of the 16 bytes from a place on come before the first LF.
+#[inline(always)]
+fn block_run(held: &[u8], i: usize) -> usize
+    requires { i + 16 ≤ length held.now }
+    ensures run { result ≡ prefix_len (λ b. not (b == line_feed)) (take 16 (drop i held.now)) }
+    ensures within { result ≤ 16 }
+{
+    let marks = u8x16::from_slice(&held[i..])
+        .simd_eq(u8x16::splat(b'\n'))
+        .to_bitmask();
+    if marks == 0 {
+        16
+    } else {
+        marks.trailing_zeros() as usize
+    }
+}
+
+// Goes past bytes that are no LF, to an LF among the next 64 or where fewer than 16 bytes are left or so many were passed.
+#[inline(always)]
+fn past_near(held: &[u8], from: usize) -> usize
+    requires from { from ≤ length held.now }
+    requires no_lf { NoLf (take from held.now) }
+    ensures within { result ≤ length held.now }
+    ensures no_lf { NoLf (take result held.now) }
+{
+    let near = held.len().min(from + 64);
+    let mut i = from;
+    'passed: while i + 16 <= near {
+        let run = block_run(held, i);
+        if run < 16 {
+            return i + run;
+        }
+        i += 16;
+    }
+    i
+}
+
+// Whether an LF is at a place.
+#[inline(always)]
+fn is_lf(held: &[u8], i: usize) -> bool
+    ensures { result ≡ (nat_lt i (length held.now) && get_or held.now i 0 == line_feed) }
+{
+    i < held.len() && held[i] == b'\n'
+}
+
+// Where the first LF is, or the length where there is none. There is none before `from`. Most lines are short: by `memchr` alone they
+// take 0.6 instructions a byte more.
 fn find_lf(held: &[u8], from: usize) -> usize
     requires from { from ≤ length held.now }
     requires no_lf { NoLf (take from held.now) }
     ensures { IsFirstLf held.now result }
 {
-    match memchr(b'\n', &held[from..]) {
-        Some(i) => from + i,
+    let near = past_near(held, from);
+    if is_lf(held, near) {
+        return near;
+    }
+    match memchr(b'\n', &held[near..]) {
+        Some(i) => near + i,
         None => held.len(),
     }
 }

@@ -1,4 +1,4 @@
-use Rattle.std.proofs.Common.{◌∷◌, ◌∙◌, ap, sym, subst}
+use Rattle.std.proofs.Common.{◌∷◌, ◌∙◌, Some, ap, sym, subst}
 use Rattle.iri_grammar.specs.Split.{authority_of, hier_of}
 use Rattle.iri_grammar.specs.inside.Marks.{IsPastAuthority}
 use Rattle.iri_grammar.proofs.MarkLemmas.{past_authority, no_authority, no_slashes}
@@ -8,14 +8,14 @@ pub returns-in-Some-clause-authority : goal.returns-in-Some-clause-authority
 returns-in-Some-clause-authority c =
     let h = c.in-Some.ensures.cases in
     let s = h.1.1 ∙ ap (λ r. 47 ∷ 47 ∷ r) (sym h.2) in
-    c.look_before_end.ensures.front ∙ ((past_authority c.in-Some.rest.now).0 ∙ ap (λ t. authority_of (hier_of t)) (sym s))
+    ap Some c.cut_before_end.ensures.front ∙ ((past_authority c.in-Some.rest.now).0 ∙ ap (λ t. authority_of (hier_of t)) (sym s))
 
 pub returns-in-Some-clause-past : goal.returns-in-Some-clause-past
 returns-in-Some-clause-past c =
     let h = c.in-Some.ensures.cases in
     let s = h.1.1 ∙ ap (λ r. 47 ∷ 47 ∷ r) (sym h.2) in
-    subst (λ t. IsPastAuthority t c.look_before_end.result.rest.now) (sym s)
-    (subst (λ r. IsPastAuthority (47 ∷ 47 ∷ c.in-Some.rest.now) r) (sym c.look_before_end.ensures.rest)
+    subst (λ t. IsPastAuthority t c.cut_before_end.result.1.now) (sym s)
+    (subst (λ r. IsPastAuthority (47 ∷ 47 ∷ c.in-Some.rest.now) r) (sym c.cut_before_end.ensures.rest)
     (past_authority c.in-Some.rest.now).1)
 
 pub returns-in-None-clause-authority : goal.returns-in-None-clause-authority

@@ -4,16 +4,14 @@ use Rattle.iri_grammar.specs.inside.Marks.{ends_authority, ends_at_start}
 use Rattle.iri_grammar.proofs.PlainTails.{name-ends}
 use Rattle.iri_grammar.proofs.splitter.look_before_end.Goals as goal
 
-pub returns-then-ends_at_start-clause-front : goal.returns-then-ends_at_start-clause-front
-returns-then-ends_at_start-clause-front c =
+pub returns-then-ends_at_start : goal.returns-then-ends_at_start
+returns-then-ends_at_start c =
     let cut = c.cut_plain-capitals in
     let r = cut.result.1.now in
-    let e : ends_at_start r ≡ true = ap ends_at_start (sym c.as_bytes.ensures.value) ∙ (sym c.ends_at_start.ensures ∙ c.if-ends_at_start.true) in
-    ap Some ((name-ends cut.result.0.now r cut.ensures.chars e).0 ∙ ap (before_any ends_authority) (sym cut.ensures.whole))
-
-pub returns-then-ends_at_start-clause-rest : goal.returns-then-ends_at_start-clause-rest
-returns-then-ends_at_start-clause-rest c =
-    let cut = c.cut_plain-capitals in
-    let r = cut.result.1.now in
-    let e : ends_at_start r ≡ true = ap ends_at_start (sym c.as_bytes.ensures.value) ∙ (sym c.ends_at_start.ensures ∙ c.if-ends_at_start.true) in
-    (name-ends cut.result.0.now r cut.ensures.chars e).1 ∙ ap (from_any ends_authority) (sym cut.ensures.whole)
+    let e : ends_at_start r ≡ true = sym c.ends_at_start.ensures ∙ c.if-ends_at_start.true in
+    let n = name-ends cut.result.0.now r cut.ensures.chars e in (
+      ap Some (n.0 ∙ ap (before_any ends_authority) (sym cut.ensures.whole)),
+      n.1 ∙ ap (from_any ends_authority) (sym cut.ensures.whole),
+      (cut.ensures.capitals, λ _. cut.ensures.plain),
+      cut.ensures.text,
+    )

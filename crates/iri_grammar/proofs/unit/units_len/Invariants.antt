@@ -5,7 +5,7 @@ use Rattle.iri_grammar.specs.inside.Runs.{AreUnits}
 use Rattle.iri_grammar.proofs.unit.units_len.Given as goal
 
 abbrev pub invariant-units : goal.invariant-units
-invariant-units g l = AreUnits (class_test g.S.Spec.tests l.class) l.s l.i × (l.bare ≡ true → lacks 37 (take l.i l.s) ≡ true)
+invariant-units g l = AreUnits (class_test g.S.Spec.tests l.class) l.bytes l.i × (l.bare ≡ true → lacks 37 (take l.i l.bytes) ≡ true)
 
 abbrev pub decreases-units : goal.decreases-units
-decreases-units g l = length l.s - l.i
+decreases-units g l = length l.bytes - l.i

@@ -4,6 +4,7 @@ use Rattle.iri_grammar.specs.OptionalSlices.{now_of}
 use Rattle.iri_grammar.specs.declared.tail.Tail.{Tail}
 use Rattle.iri_grammar.specs.inside.Tails.{IsOverTail}
 use Rattle.iri_grammar.proofs.PlainTails.{nothing, over-tail}
+use Rattle.iri_grammar.proofs.TextParts.{tail-text}
 use Rattle.iri_grammar.proofs.tail.Tail.look_at.Goals as goal
 
 pub returns : goal.returns
@@ -27,6 +28,7 @@ returns g c =
       over-tail g.S.Spec.tests g.met.S.Spec.lawful c.args.s.now p (x.ensures.whole ∙ ap (λ r. x.result.0.now ++ r) rest) over,
       over,
       (λ h. x.ensures.bare (not-false x.result.2 h), λ h. y.ensures.bare (not-false y.result.2 h), λ h. z.ensures.bare (not-false z.result.2 h)),
+      tail-text g.S.Spec.tests c.args.s.now x.result.0.now (now_of y.result.0) (now_of z.result.0) (x.ensures.whole ∙ ap (λ r. x.result.0.now ++ r) rest) over,
     )
   where
     not-false : (b : Bool) → not b ≡ false → b ≡ true

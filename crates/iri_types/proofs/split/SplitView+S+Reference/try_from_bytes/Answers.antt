@@ -1,13 +1,6 @@
-use Rattle.std.proofs.Common.{Some, sym, ◌∙◌, ap}
 use Rattle.iri_grammar.specs.WholeFault.{reference_fault}
-use Rattle.iri_types.proofs.Lemmas.{no_text_fault, answers-of}
+use Rattle.iri_grammar.proofs.TextParts.{no_fault-of_bytes}
 use Rattle.iri_types.proofs.split.SplitView+S+Reference.try_from_bytes.Goals as goal
 
-pub returns-in-Some-clause-fault : goal.returns-in-Some-clause-fault
-returns-in-Some-clause-fault g c =
-    let h = c.in-Some.ensures in
-    answers-of c.new.result (reference_fault g.S.Spec.tests) c.in-Some.s.now c.args.b.now h.0 h.1 c.new.ensures.fault
-
-pub returns-in-None-clause-fault : goal.returns-in-None-clause-fault
-returns-in-None-clause-fault g c = no_text_fault (reference_fault g.S.Spec.tests) c.args.b.now c.in-None.ensures
-    ∙ ap Some (sym c.new-in-None.ensures)
+pub from_utf8_unchecked-s-requires : goal.from_utf8_unchecked-s-requires
+from_utf8_unchecked-s-requires g c = (no_fault-of_bytes (reference_fault g.S.Spec.tests) c.args.b.now c.in-Ok.ensures.fault).0

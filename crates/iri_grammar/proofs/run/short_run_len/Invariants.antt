@@ -1,7 +1,7 @@
 use Rattle.std.proofs.Common.{◌≡◌, ◌+◌, drop}
 use Rattle.iri_grammar.specs.ClassTests.{ascii_test}
 use Rattle.iri_grammar.specs.Runs.{run_of}
-use Rattle.iri_grammar.proofs.over.run_len.Given as goal
+use Rattle.iri_grammar.proofs.run.short_run_len.Given as goal
 
 -- what is left counts on
 abbrev pub invariant-loop-i : goal.invariant-loop-i

@@ -1,6 +1,6 @@
 use Rattle.std.proofs.Common.{◌≡◌, ◌+◌, ◌&&◌, not, drop}
 use Rattle.iri_grammar.specs.inside.PlainAuthority.{is_small_name, name_len}
-use Rattle.iri_grammar.proofs.authority.name_len.Given as goal
+use Rattle.iri_grammar.proofs.authority.short_name_len.Given as goal
 
 -- what is left counts on
 abbrev pub invariant-loop-i : goal.invariant-loop-i

@@ -1,0 +1,37 @@
+use Rattle.std.proofs.Common.{◌∙◌, ap, arith, drop, not, sym}
+use Rattle.std.specs.Prelude.{◌==◌}
+use Rattle.std.proofs.lemmas.List.{take_rest}
+use Rattle.iri_grammar.specs.ClassTests.{ascii_test}
+use Rattle.iri_grammar.specs.declared.class.Class.TheVariants.{RegName}
+use Rattle.iri_grammar.specs.inside.PlainAuthority.{name_len}
+use Rattle.iri_grammar.proofs.PlainAuthorities.{small_run}
+use Rattle.iri_grammar.proofs.Units.{run_of_le}
+use Rattle.iri_grammar.proofs.authority.name_len.Goals as goal
+
+pub overflow_add-result : goal.overflow_add-result
+overflow_add-result c =
+    let t = c.args.bytes.now in
+    let small = c.small_name_len-small.ensures.len in
+    let rest = c.rest_of_name-rest.ensures ∙ (ap name_len (take_rest t c.small_name_len-small.result) ∙ ap (λ n. name_len (drop n t)) small) in
+    omega (arith, small, rest, (small_run t).whole, run_of_le (ascii_test RegName) t)
+
+pub returns-clause-len : goal.returns-clause-len
+returns-clause-len c =
+    let t = c.args.bytes.now in
+    let small = c.small_name_len-small.ensures.len in
+    let rest = c.rest_of_name-rest.ensures ∙ (ap name_len (take_rest t c.small_name_len-small.result) ∙ ap (λ n. name_len (drop n t)) small) in
+    omega (arith, small, rest, (small_run t).whole)
+
+pub returns-clause-within : goal.returns-clause-within
+returns-clause-within c =
+    let t = c.args.bytes.now in
+    let small = c.small_name_len-small.ensures.len in
+    let rest = c.rest_of_name-rest.ensures ∙ (ap name_len (take_rest t c.small_name_len-small.result) ∙ ap (λ n. name_len (drop n t)) small) in
+    omega (arith, small, rest, (small_run t).whole, run_of_le (ascii_test RegName) t)
+
+pub returns-clause-capitals : goal.returns-clause-capitals
+returns-clause-capitals c =
+    let t = c.args.bytes.now in
+    let small = c.small_name_len-small.ensures.len in
+    let rest = c.rest_of_name-rest.ensures ∙ (ap name_len (take_rest t c.small_name_len-small.result) ∙ ap (λ n. name_len (drop n t)) small) in
+    ap not (ap (λ r. r == 0) rest ∙ sym (small_run t).small)

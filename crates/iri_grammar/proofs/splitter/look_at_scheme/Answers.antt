@@ -1,0 +1,12 @@
+use Rattle.std.proofs.Common.{◌+◌, subst}
+use Rattle.std.specs.Str.{IsUtf8}
+use Rattle.std.proofs.lemmas.List.{take_rest}
+use Rattle.iri_grammar.proofs.TextParts.{scheme-text}
+use Rattle.iri_grammar.proofs.splitter.look_at_scheme.Goals as goal
+
+pub from_utf8_unchecked-scheme-requires : goal.from_utf8_unchecked-scheme-requires
+from_utf8_unchecked-scheme-requires c = c.in-Some.ensures.text
+
+pub returns-in-Some-clause-text : goal.returns-in-Some-clause-text
+returns-in-Some-clause-text c u =
+    scheme-text c.args.s.now c.in-Some.i c.in-Some.ensures (subst IsUtf8 (take_rest c.args.s.now (c.in-Some.i + 1)) u)

@@ -1,0 +1,11 @@
+use Rattle.std.proofs.Common.{◌≡◌, ◌-◌, true, length, take}
+use Rattle.iri_grammar.specs.ClassTests.{class_test}
+use Rattle.iri_grammar.specs.Cut.{lacks}
+use Rattle.iri_grammar.specs.inside.Runs.{AreUnits}
+use Rattle.iri_grammar.proofs.unit.text_units_len.Given as goal
+
+abbrev pub invariant-units : goal.invariant-units
+invariant-units g l = AreUnits (class_test g.S.Spec.tests l.class) l.s l.i × (l.bare ≡ true → lacks 37 (take l.i l.s) ≡ true)
+
+abbrev pub decreases-units : goal.decreases-units
+decreases-units g l = length l.s - l.i

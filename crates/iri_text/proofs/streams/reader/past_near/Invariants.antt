@@ -1,0 +1,13 @@
+use Rattle.std.proofs.Common.{◌≤◌, ◌-◌, length, take}
+use Rattle.iri_text.specs.Lines.{NoLf}
+use Rattle.iri_text.proofs.streams.reader.past_near.Given as goal
+
+abbrev pub invariant-passed : goal.invariant-passed
+invariant-passed l = record {
+  near : l.near ≤ length l.held;
+  within : l.i ≤ length l.held;
+  no_lf : NoLf (take l.i l.held);
+}
+
+abbrev pub decreases-passed : goal.decreases-passed
+decreases-passed l = l.near - l.i
