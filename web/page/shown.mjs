@@ -1,5 +1,5 @@
 // Texts as elements: parts in colours, changed letters underlined, faults marked.
-import { inWords } from "./changes.mjs";
+import { inWords } from "./steps.mjs";
 
 const DELIMITERS = { scheme: ["", ":"], userinfo: ["", "@"], port: [":", ""], query: ["?", ""], fragment: ["#", ""] };
 const PARTS = ["scheme", "userinfo", "host", "port", "path", "query", "fragment"];
@@ -48,7 +48,11 @@ function refused(text, { range, words }) {
   return [line, why];
 }
 
+// A way by stations: the name of each, and what is shown there.
+const way = (stations) => element("ol", "way", ...stations.map(([name, ...shown]) =>
+  element("li", "", element("span", "name", name), ...shown)));
+
 // Changes in words, as a list of phrases.
 const phrases = (told) => element("ul", "phrases", ...inWords(told).map((words) => element("li", "", words)));
 
-export { PARTS, element, coloured, refused, phrases };
+export { PARTS, element, coloured, refused, way, phrases };
