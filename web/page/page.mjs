@@ -55,9 +55,10 @@ function inside() {
 
 async function start() {
   await load(inside());
-  const take = () => { setValues(fromFragment(location.hash)); show(); };
-  take();
-  addEventListener("hashchange", take);
+  const take = (fragment) => { setValues(fromFragment(fragment)); show(); };
+  take(location.hash);
+  // What was typed just before is kept no more, also where it took the place of the address that was gone to.
+  addEventListener("hashchange", ({ newURL }) => { take(new URL(newURL).hash); keep(); });
   document.querySelector("main").addEventListener("input", () => { show(); keep(); });
 }
 

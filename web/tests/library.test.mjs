@@ -134,7 +134,7 @@ test("encoding, decoding and edits", () => {
   assert.equal(kit.replaceHost("http://a:80/", "[::1]"), "http://[::1]:80/");
   assert.equal(kit.replaceRegName("//a/", "b"), "//b/");
   assert.deepEqual(refusal(() => kit.replaceRegName("//192.0.2.16/", "b")), ["text", null, "no host to replace"]);
-  assert.deepEqual(refusal(() => kit.replaceHost("//a/", "a/")), ["part", 3, "invalid reg-name"]);
+  assert.deepEqual(refusal(() => kit.replaceHost("//a/", "a/")), ["part", 2, "invalid host"]);
   assert.equal(kit.removeFragment("a?b#c"), "a?b");
   assert.equal(kit.setFragment("a?b#c", "d"), "a?b#d");
   assert.deepEqual(refusal(() => kit.setFragment("a", "#")), ["part", 7, "invalid fragment"]);
@@ -152,20 +152,19 @@ test("texts built from parts", () => {
   assert.throws(() => kit.build({ hots: "a" }), TypeError("hots is no part"));
 });
 
-// The variables and templates of RFC 6570, as `irikit expand` reads them, and their expansions.
+// Every example of RFC 6570, with its variables as `irikit expand` reads them.
 test("templates", () => {
-  const values = new Map(), got = [];
+  const values = new Map([["empty_keys", {}]]), wanted = rows("expansions.txt");
   for (const line of textOf("examples/templates.txt").trimEnd().split("\n").slice(1)) {
     const [kind, name] = line.split(" "), value = line.slice(kind.length + name.length + 2), [key] = value.split(" ");
     if (kind === "s") values.set(name, value);
     else if (kind === "l") values.set(name, [...(values.get(name) ?? []), value]);
     else if (kind === "a") values.set(name, new Map(values.get(name)).set(key, value.slice(key.length + 1)));
-    else if (kind === "u") values.delete(name);
-    else got.push(`${line.slice(2)}\t${kit.expand(line.slice(2), values)}`);
   }
-  const wanted = rows("expansions.txt");
-  assert.ok(wanted.length > 100 && got.length >= wanted.length);
-  for (const row of wanted) assert.ok(got.includes(row.join("\t")), row.join(" "));
+  assert.ok(wanted.length > 100);
+  for (const [template, expansion = ""] of wanted) {
+    for (const grammar of [URI, IRI]) assert.equal(kit.expand(template, values, grammar), expansion, template);
+  }
 });
 
 test("values of variables, names and refusals of templates", () => {
