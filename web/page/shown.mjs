@@ -12,6 +12,9 @@ function element(name, className, ...inside) {
   return made;
 }
 
+// A text that may be broken into lines after its slashes.
+const breakable = (text) => text.split(/(?<=\/)(?=[^/])/).flatMap((piece, i) => (i ? [element("wbr"), piece] : [piece]));
+
 // A text in pieces, those at these places underlined.
 function underlined(text, places) {
   const pieces = [];
@@ -22,7 +25,7 @@ function underlined(text, places) {
     else pieces.push({ changed, text: letter });
     at += letter.length;
   }
-  return pieces.map((piece) => (piece.changed ? element("u", "", piece.text) : piece.text));
+  return pieces.flatMap((piece) => (piece.changed ? [element("u", "", piece.text)] : breakable(piece.text)));
 }
 
 // Parts put together.
