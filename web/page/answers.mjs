@@ -1,8 +1,19 @@
 // The links of a page and what they come to.
-import { changes } from "./changes.mjs";
 import { answer, baseRefusal, split } from "./reading.mjs";
 import { coloured, element, phrases, refused } from "./shown.mjs";
-import { inherited } from "./target.mjs";
+import { replay } from "./steps.mjs";
+
+// The parts of a target that a link doesn't write itself.
+function inherited(link) {
+  const { scheme, authority, path, query } = split(link), names = [];
+  if (scheme !== undefined) return names;
+  names.push("scheme");
+  if (authority !== undefined) return names;
+  names.push("userinfo", "host", "port");
+  if (path === "") names.push("path");
+  if (path === "" && query === undefined) names.push("query");
+  return names;
+}
 
 // The page's address: its canonical text where that is another one, or why it is refused. Says whether it is a base.
 function showBase(field, place) {
@@ -13,20 +24,20 @@ function showBase(field, place) {
     place.append(...refused(base, refusal));
     return false;
   }
-  const { parts } = answer(base, base), { told, places } = changes(split(base), parts);
+  const { parts, from, steps } = answer(base, base), { told, places } = replay(from, steps);
   if (told.size) place.append(coloured(parts, places), phrases(told));
   return true;
 }
 
 // What a link comes to, and which earlier line comes to the same.
-function item({ link, text, parts, reference, from, refusal }, number, same) {
+function item({ link, text, parts, from, steps, refusal }, number, same) {
   const made = element("li", refusal ? "refused" : "");
   made.value = number;
   if (refusal) {
     made.append(...refused(link, refusal));
     return made;
   }
-  const { told, places } = changes(from, parts, inherited(reference)), notes = phrases(told);
+  const { told, places } = replay(from, steps, inherited(link)), notes = phrases(told);
   if (link !== text) made.append(element("div", "given", link));
   made.append(coloured(parts, places));
   if (same !== undefined) notes.prepend(element("li", "same", `same as line ${same}`));

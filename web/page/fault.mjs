@@ -44,4 +44,13 @@ function faultRange(text, kind, isReference) {
   return oneAfter(text, whole(text, start, lastPlace(start, end, holds)), end);
 }
 
-export { faultRange };
+// The range of the character at a place in bytes of UTF-8.
+function characterAt(text, place) {
+  let at = 0;
+  for (let bytes = 0; bytes < place && at < text.length; at += text.codePointAt(at) > 0xffff ? 2 : 1) {
+    bytes += new TextEncoder().encode(String.fromCodePoint(text.codePointAt(at))).length;
+  }
+  return oneAfter(text, at, text.length);
+}
+
+export { faultRange, characterAt };

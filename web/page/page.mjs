@@ -1,10 +1,11 @@
 // The page: its fields, what they are read by, and where what they come to is shown.
 import { clearAnswers, showAnswers, showBase } from "./answers.mjs";
 import { showPair, showVerdict } from "./pair.mjs";
-import { choose, knowsSchemes, load } from "./reading.mjs";
+import { choose, load } from "./reading.mjs";
 import { fromFragment, toFragment } from "./state.mjs";
+import { showTemplate } from "./template.mjs";
 
-const FIELDS = ["base", "links", "one", "other"], CHOICES = ["grammar", "mode"];
+const FIELDS = ["base", "links", "one", "other", "template", "variables"], CHOICES = ["grammar", "mode"];
 const PAUSE = 300;
 
 const at = (id) => document.getElementById(id);
@@ -18,13 +19,13 @@ function values() {
 function setValues(state) {
   for (const name of FIELDS) at(name).value = state[name];
   for (const name of CHOICES) radio(name, `[value=${state[name]}]`).checked = true;
-  if (at("modes").disabled) radio("mode", "[value=normal]").checked = true;
 }
 
 function show() {
   const { base, links, grammar, mode } = values();
   choose({ grammar, mode });
-  if (showBase(at("base"), at("base-answer"))) {
+  const isBase = showBase(at("base"), at("base-answer"));
+  if (isBase) {
     showAnswers(base, [base, grammar, mode], links, at("answers"), at("tally"));
     showPair(base, [at("one"), at("other")], at("verdict"), at("ways"));
   } else {
@@ -32,6 +33,7 @@ function show() {
     showVerdict(at("verdict"), ["refused", "The page’s address is refused"]);
     at("ways").replaceChildren();
   }
+  showTemplate(isBase ? base : null, [at("template"), at("variables")], at("expansion"));
 }
 
 // Puts the state into the fragment, once nothing was typed for a while.
@@ -53,10 +55,10 @@ function inside() {
 
 async function start() {
   await load(inside());
-  at("modes").disabled = at("modes").hidden = !knowsSchemes();
-  const take = () => { setValues(fromFragment(location.hash)); show(); };
-  take();
-  addEventListener("hashchange", take);
+  const take = (fragment) => { setValues(fromFragment(fragment)); show(); };
+  take(location.hash);
+  // What was typed just before is kept no more, also where it took the place of the address that was gone to.
+  addEventListener("hashchange", ({ newURL }) => { take(new URL(newURL).hash); keep(); });
   document.querySelector("main").addEventListener("input", () => { show(); keep(); });
 }
 

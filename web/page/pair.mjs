@@ -1,19 +1,27 @@
 // Two links, whether they are one, and how each comes to its canonical text.
-import { changes } from "./changes.mjs";
 import { answer } from "./reading.mjs";
-import { PARTS, coloured, element, phrases, refused } from "./shown.mjs";
-import { recomposed } from "./target.mjs";
+import { PARTS, coloured, element, phrases, refused, way } from "./shown.mjs";
+import { replay } from "./steps.mjs";
 
 const NAMES = ["One link", "The other"];
+const MOST_STEPS = 200;
 
-// The stations of a link. The steps of the library, once it tells them, belong to the last one.
-function way({ link, text, parts, from }) {
-  const stations = element("ol", "way"), resolved = recomposed(from), { told, places } = changes(from, parts);
-  const station = (name, ...shown) => stations.append(element("li", "", element("span", "name", name), ...shown));
-  station("as it stands", element("div", "text", link));
-  if (resolved !== link) station("resolved against the page’s address", coloured(from));
-  if (text !== resolved) station("in normal form", coloured(parts, places), phrases(told));
-  return stations;
+// The steps in the library's words, folded up; the first of very many.
+function stepList(steps, isOpen) {
+  const count = `${steps.length} step${steps.length === 1 ? "" : "s"}`, more = steps.length - MOST_STEPS;
+  const items = steps.slice(0, MOST_STEPS).map((step) => element("li", "", step));
+  if (more > 0) items.push(element("li", "", `and ${more} more`));
+  const made = element("details", "", element("summary", "", count), element("ol", "steps", ...items));
+  made.open = isOpen;
+  return made;
+}
+
+// The way of a link.
+function wayOf({ link, text, parts, target, from, steps }, isOpen) {
+  const { told, places } = replay(from, steps), stations = [["as it stands", element("div", "text", link)]];
+  if (target !== link) stations.push(["resolved against the page’s address", coloured(from)]);
+  if (text !== target) stations.push(["in normal form", coloured(parts, places), phrases(told), stepList(steps, isOpen)]);
+  return way(stations);
 }
 
 // The parts in which two texts differ, in words.
@@ -38,14 +46,14 @@ function showVerdict(place, [kind, words, ...more]) {
   place.replaceChildren(element("strong", "", words), ...more);
 }
 
-// Shows the verdict on the links of two fields, and their ways.
+// Shows the verdict on the links of two fields, and their ways. Steps that were unfolded stay so.
 function showPair(base, fields, place, ways) {
-  const both = fields.map((field) => answer(base, field.value));
+  const both = fields.map((field) => answer(base, field.value)), isOpen = ways.querySelector("details[open]") !== null;
   both.forEach(({ refusal }, i) => fields[i].setAttribute("aria-invalid", String(refusal !== undefined)));
   showVerdict(place, verdict(both));
   ways.replaceChildren();
   both.filter(({ refusal }) => !refusal).forEach((answered) => {
-    ways.append(element("h3", "", NAMES[both.indexOf(answered)]), way(answered));
+    ways.append(element("h3", "", NAMES[both.indexOf(answered)]), wayOf(answered, isOpen));
   });
 }
 

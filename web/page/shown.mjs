@@ -1,5 +1,5 @@
 // Texts as elements: parts in colours, changed letters underlined, faults marked.
-import { inWords } from "./changes.mjs";
+import { inWords } from "./steps.mjs";
 
 const DELIMITERS = { scheme: ["", ":"], userinfo: ["", "@"], port: [":", ""], query: ["?", ""], fragment: ["#", ""] };
 const PARTS = ["scheme", "userinfo", "host", "port", "path", "query", "fragment"];
@@ -12,6 +12,9 @@ function element(name, className, ...inside) {
   return made;
 }
 
+// A text that may be broken into lines after its slashes.
+const breakable = (text) => text.split(/(?<=\/)(?=[^/])/).flatMap((piece, i) => (i ? [element("wbr"), piece] : [piece]));
+
 // A text in pieces, those at these places underlined.
 function underlined(text, places) {
   const pieces = [];
@@ -22,7 +25,7 @@ function underlined(text, places) {
     else pieces.push({ changed, text: letter });
     at += letter.length;
   }
-  return pieces.map((piece) => (piece.changed ? element("u", "", piece.text) : piece.text));
+  return pieces.flatMap((piece) => (piece.changed ? [element("u", "", piece.text)] : breakable(piece.text)));
 }
 
 // Parts put together.
@@ -48,7 +51,11 @@ function refused(text, { range, words }) {
   return [line, why];
 }
 
+// A way by stations: the name of each, and what is shown there.
+const way = (stations) => element("ol", "way", ...stations.map(([name, ...shown]) =>
+  element("li", "", element("span", "name", name), ...shown)));
+
 // Changes in words, as a list of phrases.
 const phrases = (told) => element("ul", "phrases", ...inWords(told).map((words) => element("li", "", words)));
 
-export { PARTS, element, coloured, refused, phrases };
+export { PARTS, element, coloured, refused, way, phrases };

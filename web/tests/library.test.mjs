@@ -1,11 +1,13 @@
-// The module: rows of the standards, refusals, parts, long texts, and bases that change between calls.
+// The module: rows of the standards, refusals, parts, templates, long texts, bases that change between calls, and the header's
+// calls and numbers.
 import assert from "node:assert/strict";
 import { readFileSync } from "node:fs";
 import { test } from "node:test";
 import { folder, kit, library, rows } from "./kit.mjs";
 
-const { open, Refused, URI, IRI, NORMAL, BY_SCHEME, REFERENCE, WITH_SCHEME, ABSOLUTE, RELATIVE } = library;
+const { open, Refused, URI, IRI, NORMAL, BY_SCHEME, PRESERVING, REFERENCE, WITH_SCHEME, ABSOLUTE, RELATIVE } = library;
 const { IN_SEGMENT, IN_PATH, IN_QUERY, ANYWHERE } = library;
+const textOf = (name) => readFileSync(new URL(`../../${name}`, import.meta.url), "utf8");
 const grammars = { uri: URI, iri: IRI };
 
 // The answer of `irikit canon`.
@@ -22,9 +24,21 @@ function refusal(call) {
   try {
     return call();
   } catch (error) {
-    return [error.whose, error.fault, error.message];
+    return [error.whose, error.fault, error.message, ...(error.place === null ? [] : [error.place])];
   }
 }
+
+test("each call of the header but the run, which takes memory, and its numbers", () => {
+  const header = textOf("include/irikit.h"), code = textOf("web/irikit.mjs");
+  const calls = [...header.matchAll(/^uint8_t (irikit_\w+)\(/gm)].map(([, name]) => name).filter((name) => name !== "irikit_run");
+  assert.ok(calls.length > 20);
+  for (const name of calls) assert.ok(code.includes(`.${name}`), name);
+  const numbers = [...header.matchAll(/^    IRIKIT_(\w+) = (\d+)/gm)].map(([, name, number]) => [name, Number(number)]);
+  for (const [name, number] of numbers.filter(([name]) => name in library)) assert.equal(library[name], number, name);
+  for (const [name, number] of Object.entries(library).filter(([, value]) => typeof value === "number")) {
+    assert.ok(numbers.some((one) => one[0] === name && one[1] === number), name);
+  }
+});
 
 test("the rows of examples/rows.txt", () => {
   const all = rows("rows.txt");
@@ -76,32 +90,108 @@ test("normal forms and the mapping to URIs", () => {
   assert.equal(kit.isNormalized("http://a/%2f"), false);
   assert.equal(kit.isNormalized("http://a/%C3%A9", URI), true);
   assert.equal(kit.isNormalized("http://a/%C3%A9", IRI, NORMAL), false);
+  assert.equal(kit.isNormalized("http://a:80/", URI, BY_SCHEME), false);
+  assert.deepEqual([PRESERVING, NORMAL].map((mode) => kit.isNormalized("a:b/../c", URI, mode)), [true, false]);
   assert.equal(kit.mapToUri("http://a/\u00e9%41"), "http://a/%C3%A9%41");
 });
 
-// RFC 3986 section 5.4.
-test("references resolved", () => {
+// RFC 3986 section 5.4, and the texts of it before dot segments are removed.
+test("references resolved, and targets", () => {
   const wanted = {
     "g:h": "g:h", g: "http://a/b/c/g", "../g": "http://a/b/g", "../../../g": "http://a/g", "?y": "http://a/b/c/d;p?y",
     "%7e": "http://a/b/c/%7e",
   };
   for (const [reference, text] of Object.entries(wanted)) assert.equal(kit.resolve("http://a/b/c/d;p?q", reference), text);
   assert.deepEqual(refusal(() => kit.resolve("http://a/", "1a:b")), ["reference", 5, "invalid path"]);
+  const targets = { "../../g": "http://a/b/c/../../g", "./g": "http://a/b/c/./g", "": "http://a/b/c/d;p?q", "//g?#": "http://g?#" };
+  for (const [reference, text] of Object.entries(targets)) assert.equal(kit.target("http://a/b/c/d;p?q", reference), text);
+  assert.deepEqual(refusal(() => kit.target("a", "%")), ["base", 9, "expected an absolute IRI but got a relative IRI"]);
 });
 
-test("normal forms of texts, encoding, decoding and edits", () => {
+// The example of RFC 3986 section 6.2.2.
+test("normal forms of texts, and the steps to them", () => {
   assert.equal(kit.normalize("HTTP://a:/%7e/../b"), "http://a/b");
   assert.equal(kit.normalize("HTTP://a:80", URI, BY_SCHEME), "http://a/");
+  assert.equal(kit.normalize("a:b/../C%7e", URI, PRESERVING), "a:b/../C~");
+  assert.deepEqual(kit.steps("exAmple://a/./b/../b/%63/%7bfoo%7d"), [
+    "scheme letter 2", "decode path 10", "hex digit path 14", "hex digit path 20", "dot segments"]);
+  assert.deepEqual(kit.steps("http://h:80", URI, BY_SCHEME), ["default port", "empty path"]);
+  assert.deepEqual(kit.steps("http://h:80"), []);
+  assert.deepEqual(refusal(() => kit.steps("a:", URI, PRESERVING)), ["call", null, "no such number"]);
+  const many = kit.steps(`http://h/${"%7e".repeat(50000)}`);
+  assert.deepEqual([many.length, many[0], many.at(-1)], [50000, "decode path 1", "decode path 50000"]);
+});
+
+test("encoding, decoding and edits", () => {
   assert.equal(kit.encode("50% off/a", IN_SEGMENT), "50%25%20off%2Fa");
   assert.equal(kit.encode("\u00e9/?", IN_PATH), "%C3%A9/%3F");
   assert.equal(kit.encode("\u00e9/?", IN_QUERY, IRI), "\u00e9/?");
   assert.equal(kit.encode("a/b", ANYWHERE), "a%2Fb");
   assert.deepEqual([...kit.decode("%ff%4x%41")], [255, 37, 52, 120, 65]);
   assert.equal(kit.maskPassword("http://u:pw@h/"), "http://u:@h/");
+  assert.equal(kit.removePassword("http://u:pw@h/"), "http://u@h/");
+  assert.equal(kit.replacePassword("http://u:pw@h/", "***"), "http://u:***@h/");
+  assert.equal(kit.replaceHost("http://a:80/", "[::1]"), "http://[::1]:80/");
+  assert.equal(kit.replaceRegName("//a/", "b"), "//b/");
+  assert.deepEqual(refusal(() => kit.replaceRegName("//192.0.2.16/", "b")), ["text", null, "no host to replace"]);
+  assert.deepEqual(refusal(() => kit.replaceHost("//a/", "a/")), ["part", 2, "invalid host"]);
   assert.equal(kit.removeFragment("a?b#c"), "a?b");
   assert.equal(kit.setFragment("a?b#c", "d"), "a?b#d");
   assert.deepEqual(refusal(() => kit.setFragment("a", "#")), ["part", 7, "invalid fragment"]);
   assert.deepEqual(refusal(() => kit.encode("a", 8)), ["call", null, "no such number"]);
+});
+
+// RFC 3986 section 5.3.
+test("texts built from parts", () => {
+  assert.equal(kit.build({ path: "/b", host: "a", scheme: "http", port: "", query: null }), "http://a:/b");
+  assert.equal(kit.build({}), "");
+  for (const text of ["foo://u@h:8/p?#f", "//@:/", "urn:a", "a?b#c", "http://[::1]/"]) assert.equal(kit.build(kit.split(text)), text);
+  assert.equal(kit.build({ ...kit.split("http://u@a:8/b"), host: "\u00e9" }, WITH_SCHEME, IRI), "http://u@\u00e9:8/b");
+  assert.deepEqual(refusal(() => kit.build({ path: "//a" })), ["part", 5, "invalid path"]);
+  assert.deepEqual(refusal(() => kit.build({ scheme: "a", fragment: "" }, ABSOLUTE)), ["part", 8, "unexpected fragment"]);
+  assert.throws(() => kit.build({ hots: "a" }), TypeError("hots is no part"));
+});
+
+// Every example of RFC 6570, with its variables as `irikit expand` reads them.
+test("templates", () => {
+  const values = new Map([["empty_keys", {}]]), wanted = rows("expansions.txt");
+  for (const line of textOf("examples/templates.txt").trimEnd().split("\n").slice(1)) {
+    const [kind, name] = line.split(" "), value = line.slice(kind.length + name.length + 2), [key] = value.split(" ");
+    if (kind === "s") values.set(name, value);
+    else if (kind === "l") values.set(name, [...(values.get(name) ?? []), value]);
+    else if (kind === "a") values.set(name, new Map(values.get(name)).set(key, value.slice(key.length + 1)));
+  }
+  assert.ok(wanted.length > 100);
+  for (const [template, expansion = ""] of wanted) {
+    for (const grammar of [URI, IRI]) assert.equal(kit.expand(template, values, grammar), expansion, template);
+  }
+});
+
+test("values of variables, names and refusals of templates", () => {
+  assert.equal(kit.expand("/s{?q,n*,page}{&o*}", { q: "two words", n: ["a", 2, null], page: 2, o: { k: "v", l: undefined }, p: {} }),
+    "/s?q=two%20words&n=a&n=2&page=2&k=v");
+  assert.equal(kit.expand("{a}{b}", new Map([["a", new Uint8Array([0xc3, 0xa9])], ["b", new Map([["k", 1]])]])), "%C3%A9k,1");
+  assert.equal(kit.expand("{v}", { v: "\u00e9" }, IRI), "\u00e9");
+  assert.equal(kit.expand("{+v}", { v: "%".repeat(300000) }), "%25".repeat(300000));
+  assert.equal(kit.expand("a"), "a");
+  assert.deepEqual(kit.templateVariables("http://example.com/~{username}/{term:1}/{term}{?q*,lang}"), [
+    "username", "term", "term", "q", "lang"]);
+  assert.deepEqual(kit.templateVariables("a"), []);
+  assert.deepEqual(refusal(() => kit.templateVariables("ab{")), ["template", 0, "expression not closed", 2]);
+  assert.deepEqual(refusal(() => kit.expand("\u00e9{=v}")), ["template", 6, "unsupported operator", 3]);
+  assert.deepEqual(refusal(() => kit.expand("{v:3}", { v: ["a"] })), ["template", 5, "unexpected value type for the variable", 1]);
+  const bad = { u: "a", v: Uint8Array.of(0xff) };
+  assert.deepEqual(refusal(() => kit.expand("{", bad)), ["variable", null, "a text that isn't UTF-8", 1]);
+  assert.deepEqual(refusal(() => kit.templateFaultWords(7)), ["call", null, "no such number"]);
+  for (const v of [true, [["a"]], { a: {} }, [["a", "b"]]]) assert.throws(() => kit.expand("{v}", { v }), TypeError);
+});
+
+test("what is no text", () => {
+  for (const text of [undefined, null, 7, {}, ["a"]]) {
+    for (const call of [kit.split, kit.decode, kit.mapToUri]) assert.throws(() => call.call(kit, text), TypeError);
+    assert.throws(() => kit.canonical(text, "a"), TypeError);
+    assert.throws(() => kit.canonical("http://a/", text), TypeError);
+  }
 });
 
 test("many lines in one call", () => {

@@ -1,5 +1,5 @@
-// The page in headless Chromium: typed links, both grammars and modes, a bad base, many links, its state, the keyboard,
-// labels, contrast, widths; no request and no error. The folder that PICTURES names gets pictures of it.
+// The page in headless Chromium: typed links, both grammars and modes, a bad base, two links, a template, many links, its state,
+// the keyboard, labels, contrast, widths; no request and no error. The folder that PICTURES names gets pictures of it.
 import assert from "node:assert/strict";
 import { mkdirSync, readFileSync, writeFileSync } from "node:fs";
 import { after, before, test } from "node:test";
@@ -60,8 +60,6 @@ function answer(link, grammar, mode, from = base) {
   }
 }
 
-const knowsSchemes = answer("", URI, BY_SCHEME) !== "bad no such number";
-
 test("typed links have the answers of README.md", async () => {
   const readme = readFileSync(new URL("../../README.md", import.meta.url), "utf8");
   const wanted = /<!-- links -->\n([^]*?)\n<!-- end -->/.exec(readme)[1].split("\n").map((line) => line.trim());
@@ -75,14 +73,13 @@ test("both grammars and modes", async () => {
   const from = "http://a/b/c/d;p?q", more = ["http://h:80", "HTTPS://h:443/", "caf\u00e9/%C3%A9", "x:/a/..//b", "a\u3000"];
   const typed = [...new Set(rows("rows.txt").map((row) => row[2])), ...more];
   await visit(state(["base", from], ...typed.map((link) => ["link", link])));
-  for (const mode of knowsSchemes ? [NORMAL, BY_SCHEME] : [NORMAL]) {
+  for (const mode of [NORMAL, BY_SCHEME]) {
     for (const grammar of [URI, IRI]) {
-      if (knowsSchemes) await choose("mode", mode === BY_SCHEME ? "scheme" : "normal");
+      await choose("mode", mode === BY_SCHEME ? "scheme" : "normal");
       await choose("grammar", grammar === IRI ? "iri" : "uri");
       assert.deepEqual(await answers(), typed.map((link) => answer(link, grammar, mode, from)));
     }
   }
-  assert.equal(await page.evaluate("document.getElementById('modes').hidden"), !knowsSchemes);
 });
 
 test("what changed, and the line that is the same", async () => {
@@ -118,6 +115,7 @@ test("a bad base", async () => {
     assert.equal(await page.evaluate("document.getElementById('base').getAttribute('aria-invalid')"), "true");
     assert.deepEqual(await answers(), []);
     assert.equal(await textOf("#verdict"), "The page’s address is refused");
+    assert.deepEqual(await textsOf("#expansion .name"), ["expanded"]);
   }
   await type("base", "http://h/");
   assert.equal(await page.evaluate("document.getElementById('base').getAttribute('aria-invalid')"), "false");
@@ -130,6 +128,9 @@ test("two links", async () => {
   const stations = ["as it stands", "resolved against the page’s address", "in normal form"];
   assert.deepEqual(await textsOf("#ways .name"), [...stations, stations[0], stations[2]]);
   assert.deepEqual(await textsOf("#ways .text"), ["../%62", "http://h/a/../%62", "http://h/b", "HTTP://h/b", "http://h/b"]);
+  assert.deepEqual(await textsOf("#ways summary"), ["2 steps", "4 steps"]);
+  assert.deepEqual(await textsOf("#ways .steps li"), [
+    "decode path 6", "dot segments", ...[0, 1, 2, 3].map((at) => `scheme letter ${at}`)]);
   await type("other", "http://u@h/c#f");
   assert.equal(await textOf("#verdict"), "No, they are two: their userinfo, path and fragment differ");
   await type("other", "http://h/c");
@@ -137,6 +138,33 @@ test("two links", async () => {
   await type("other", "##");
   assert.equal(await textOf("#verdict"), "The other is refused##Not a URI reference: invalid fragment, at character 2");
   const invalid = ["one", "other"].map((id) => `document.getElementById("${id}").getAttribute("aria-invalid")`);
+  assert.deepEqual(await page.evaluate(`[${invalid}]`), ["false", "true"]);
+});
+
+// The variables of RFC 6570 section 3.2, and the expansions of section 3.2.8.
+test("a template", async () => {
+  const variables = [
+    "x=1024", "y=768", "empty=", "list[]=red", "list[]=green", "list[]=blue", "keys[semi]=;", "keys[dot]=.", " keys[comma] =,", ""];
+  const wanted = {
+    "{?x,y,undef}": "?x=1024&y=768", "{?x,y,empty}": "?x=1024&y=768&empty=", "{?list*}": "?list=red&list=green&list=blue",
+    "{?keys}": "?keys=semi,%3B,dot,.,comma,%2C", "{?keys*}": "?semi=%3B&dot=.&comma=%2C",
+  };
+  await visit(state(["base", "http://h/a/"], ...variables.map((line) => ["var", line])));
+  for (const [template, text] of Object.entries(wanted)) {
+    await type("template", `../%7e${template}`);
+    assert.deepEqual(await textsOf("#expansion .text"), [`../%7e${text}`, `http://h/~${text}`]);
+    assert.equal(await textOf("#expansion .lacking"), template.includes("undef") ? "Without a value: undef" : "");
+  }
+  await type("template", "\u00e9{x");
+  assert.equal(await textOf("#expansion .why"), "Not a template: expression not closed, at character 2");
+  assert.deepEqual(await textsOf("#expansion mark"), ["{"]);
+  await type("template", "{list:3}");
+  assert.equal(await textOf("#expansion .why"), "Not a template: unexpected value type for the variable, at character 2");
+  await type("template", "#{+keys}#");
+  assert.equal(await textOf("#expansion .why"), "Not a URI reference: invalid fragment, at character 22");
+  await type("variables", "x=1\n[y]=2");
+  assert.equal(await textOf("#expansion"), "Line 2 has no “name=” in front");
+  const invalid = ["template", "variables"].map((id) => `document.getElementById("${id}").getAttribute("aria-invalid")`);
   assert.deepEqual(await page.evaluate(`[${invalid}]`), ["false", "true"]);
 });
 
@@ -170,12 +198,16 @@ test("the state is in the fragment, and is taken from it", async () => {
   await choose("grammar", "iri");
   await type("links", "a&b#\n\nc+d%2B\u65e5");
   await type("one", "");
+  await type("template", "{&v*}");
+  await type("variables", "v[]=1\nv[]=&=\u65e5");
   await page.evaluate("new Promise((done) => setTimeout(done, 500))");
-  const hash = await page.evaluate("location.hash"), shown = [await answers(), await textOf("#tally")];
+  const hash = await page.evaluate("location.hash");
+  const all = async () => [await answers(), await textOf("#tally"), await textOf("#ways"), await textOf("#expansion .text")];
+  const shown = await all();
   await visit("#");
-  assert.notDeepEqual([await answers(), await textOf("#tally")], shown);
+  (await all()).forEach((one, i) => assert.notDeepEqual(one, shown[i]));
   await visit(hash);
-  assert.deepEqual([await answers(), await textOf("#tally")], shown);
+  assert.deepEqual(await all(), shown);
   const wanted = ["a&b#", "", "c+d%2B\u65e5"].map((link) => answer(link, IRI, NORMAL, "http://h/\u00e9"));
   assert.deepEqual(await answers(), wanted);
 });
@@ -184,11 +216,12 @@ test("by the keyboard alone", async () => {
   await visit(state(["base", "http://h/"], ["link", "\u00e9"]));
   await page.evaluate("document.activeElement.blur()");
   const passed = [];
-  for (let i = 0; i < (knowsSchemes ? 6 : 5); i += 1) {
+  for (let i = 0; i < 11; i += 1) {
     await press("Tab", 9);
-    passed.push(await page.evaluate("document.activeElement.id || document.activeElement.name"));
+    passed.push(await page.evaluate("document.activeElement.id || document.activeElement.name || document.activeElement.localName"));
   }
-  assert.deepEqual(passed, ["base", "grammar", ...(knowsSchemes ? ["mode"] : []), "links", "one", "other"]);
+  const wanted = ["base", "grammar", "mode", "links", "one", "other", "summary", "summary", "template", "variables"];
+  assert.deepEqual(passed.slice(0, wanted.length), wanted);
   assert.deepEqual(await answers(), ["bad invalid path"]);
   await page.evaluate("document.querySelector('input[name=grammar]:checked').focus()");
   await press("ArrowRight", 39);
@@ -198,8 +231,10 @@ test("by the keyboard alone", async () => {
 test("each field has a name for a screen reader", async () => {
   const { nodes } = await page.call("Accessibility.getFullAXTree");
   const named = (...roles) => nodes.filter(({ role }) => roles.includes(role?.value)).map(({ name }) => name.value);
-  assert.deepEqual(named("textbox"), ["The page’s address", "Links, one a line", "One link", "The other"]);
-  assert.deepEqual(named("radio"), ["URI", "IRI", ...(knowsSchemes ? ["by syntax", "and scheme rules"] : [])]);
+  assert.deepEqual(named("textbox"), [
+    "The page’s address", "Links, one a line", "One link", "The other", "URI template (RFC\u00a06570)",
+    "Variables, one a line: name=text, name[]=item, name[key]=value"]);
+  assert.deepEqual(named("radio"), ["URI", "IRI", "by syntax", "and scheme rules"]);
   assert.ok(named("group", "radiogroup", "region", "list").every((name) => name !== undefined));
 });
 
