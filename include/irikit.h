@@ -118,30 +118,51 @@ struct irikit_parts {
     struct irikit_slot port;
 };
 
-/* ---- Texts ---- */
+/* A text inside a struct. Where `len` is 0, `bytes` may be NULL. */
+struct irikit_text {
+    const char *bytes;
+    size_t len;
+};
 
-/* The canonical text of a reference: resolved against the base (RFC 3986 section 5.2), in normal form.
- *
- * Takes: the number of a grammar and of a mode; the base, an absolute-URI of the grammar; the reference, which may be a URI;
- * a buffer.
- * Writes: the canonical text to `out`. It has at most base_len + reference_len + 3 bytes.
- * Returns: IRIKIT_OK; IRIKIT_SHORT; IRIKIT_BAD_BASE, IRIKIT_BAD_REFERENCE: the first fault of the one or the other, the base
- * first; IRIKIT_UNKNOWN: grammar or mode. */
-uint8_t irikit_canonical(uint8_t grammar, uint8_t mode, const char *base, size_t base_len, const char *reference,
-                         size_t reference_len, char *out, size_t size, size_t *told);
+/* ---- Texts ---- */
 
 /* Whether a text is of a kind, by its first fault.
  *
  * Takes: the number of a grammar and of a kind; the text.
- * Returns: IRIKIT_OK: it is; IRIKIT_BAD_TEXT: it isn't; IRIKIT_UNKNOWN: grammar or kind. */
+ * Returns: IRIKIT_OK: it is; IRIKIT_BAD_TEXT: it isn't; IRIKIT_UNKNOWN: grammar or kind.
+ *
+ *   irikit_validate(IRIKIT_URI, IRIKIT_REFERENCE, "../b", 4, &told);    // IRIKIT_OK
+ *   irikit_validate(IRIKIT_URI, IRIKIT_WITH_SCHEME, "../b", 4, &told);  // IRIKIT_BAD_TEXT, told IRIKIT_UNEXPECTED_RELATIVE */
 uint8_t irikit_validate(uint8_t grammar, uint8_t kind, const char *text, size_t len, size_t *told);
+
+/* The words for a kind of fault, as `irikit canon` answers them, in ASCII.
+ *
+ * Takes: the number of a kind of fault; a buffer, for which 64 bytes suffice.
+ * Writes: the words to `out`.
+ * Returns: IRIKIT_OK; IRIKIT_SHORT; IRIKIT_UNKNOWN: no kind has this number.
+ *
+ *   irikit_fault_words(IRIKIT_INVALID_PATH, out, sizeof out, &told);  // "invalid path" */
+uint8_t irikit_fault_words(size_t fault, char *out, size_t size, size_t *told);
 
 /* The parts of a reference.
  *
  * Takes: the number of a grammar; the text.
  * Writes: `parts`, where the status is IRIKIT_OK; otherwise it stays as it was.
- * Returns: IRIKIT_OK; IRIKIT_BAD_TEXT: it is no reference; IRIKIT_UNKNOWN: grammar. */
+ * Returns: IRIKIT_OK; IRIKIT_BAD_TEXT: it is no reference; IRIKIT_UNKNOWN: grammar.
+ *
+ *   const char *text = "//u@h:8/p";
+ *   irikit_split(IRIKIT_URI, text, 9, &parts, &told);
+ *   fwrite(text + parts.host.offset, 1, parts.host.len, stdout);  // "h" */
 uint8_t irikit_split(uint8_t grammar, const char *text, size_t len, struct irikit_parts *parts, size_t *told);
+
+/* The normal form of a text with a scheme (RFC 3986 section 6.2.2; by scheme rules section 6.2.3).
+ *
+ * Takes: the number of a grammar and of a mode; the text, a URI of the grammar; a buffer.
+ * Writes: the normal form to `out`. It has at most len + 3 bytes.
+ * Returns: IRIKIT_OK; IRIKIT_SHORT; IRIKIT_BAD_TEXT: it is no URI; IRIKIT_UNKNOWN: grammar or mode.
+ *
+ *   irikit_normalize(IRIKIT_URI, IRIKIT_BY_SCHEME, "HTTP://a:80", 11, out, sizeof out, &told);  // "http://a/" */
+uint8_t irikit_normalize(uint8_t grammar, uint8_t mode, const char *text, size_t len, char *out, size_t size, size_t *told);
 
 /* Whether a text with a scheme is its own normal form.
  *
@@ -152,20 +173,73 @@ uint8_t irikit_split(uint8_t grammar, const char *text, size_t len, struct iriki
  *   irikit_is_normalized(IRIKIT_URI, IRIKIT_BY_SCHEME, "http://a:80/", 12, &told);  // IRIKIT_NOT_NORMAL */
 uint8_t irikit_is_normalized(uint8_t grammar, uint8_t mode, const char *text, size_t len, size_t *told);
 
+/* The steps that lead a text with a scheme to its normal form (RFC 3986 section 6.2.2; by scheme rules section 6.2.3), from
+ * left to right, in words:
+ *
+ *   scheme letter N      the capital at N of the scheme becomes small
+ *   host letter N        the capital at N of the authority becomes small
+ *   hex digit PART N     the small hex digit at N of a percent-encoded octet becomes a capital
+ *   decode PART N        the percent-encoded character at N becomes itself
+ *   empty port           the empty port goes with its colon
+ *   dot segments         the dot segments of the path go; a `/.` stays where no authority does and `//` would follow it
+ *   default port         the scheme's default port goes with its colon
+ *   empty path           the empty path becomes `/`
+ *
+ * PART is `authority`, `path`, `query` or `fragment`. N counts bytes from the start of that part, as it is once the steps
+ * before are done; dot segments go last of the path.
+ *
+ * Takes: the number of a grammar; IRIKIT_NORMAL or IRIKIT_BY_SCHEME; the text, a URI of the grammar; a buffer.
+ * Writes: to `out`, the steps, each with an LF after it: nothing where the text is its own normal form.
+ * Returns: IRIKIT_OK; IRIKIT_SHORT; IRIKIT_BAD_TEXT: it is no URI; IRIKIT_UNKNOWN: grammar or mode.
+ *
+ *   irikit_steps(IRIKIT_URI, IRIKIT_BY_SCHEME, "Http://a:80/%7e", 15, out, sizeof out, &told);
+ *   fwrite(out, 1, told, stdout);  // "scheme letter 0\ndecode path 1\ndefault port\n" */
+uint8_t irikit_steps(uint8_t grammar, uint8_t mode, const char *text, size_t len, char *out, size_t size, size_t *told);
+
 /* A reference of IRIs, mapped to one of URIs (RFC 3987 section 3.1): each character past ASCII becomes the
  * percent-encoded octets of its UTF-8.
  *
  * Takes: the text, a URI-reference of IRIs; a buffer.
  * Writes: the mapped text to `out`. It has at most 3 * len bytes.
- * Returns: IRIKIT_OK; IRIKIT_SHORT; IRIKIT_BAD_TEXT: it is no reference of IRIs. */
+ * Returns: IRIKIT_OK; IRIKIT_SHORT; IRIKIT_BAD_TEXT: it is no reference of IRIs.
+ *
+ *   irikit_map_to_uri("http://a/\xC3\xA9", 11, out, sizeof out, &told);  // "http://a/%C3%A9" */
 uint8_t irikit_map_to_uri(const char *text, size_t len, char *out, size_t size, size_t *told);
 
-/* The words for a kind of fault, as `irikit canon` answers them, in ASCII.
+/* A raw text, percent-encoded for its place in a reference (RFC 3986 sections 2.1 and 2.4): what may not stand there, `%`
+ * among it, becomes the percent-encoded octets of its UTF-8.
  *
- * Takes: the number of a kind of fault; a buffer, for which 64 bytes suffice.
- * Writes: the words to `out`.
- * Returns: IRIKIT_OK; IRIKIT_SHORT; IRIKIT_UNKNOWN: no kind has this number. */
-uint8_t irikit_fault_words(size_t fault, char *out, size_t size, size_t *told);
+ * Takes: the number of a grammar and of a place; the text, in UTF-8; a buffer.
+ * Writes: the encoded text to `out`. It has at most 3 * len bytes.
+ * Returns: IRIKIT_OK; IRIKIT_SHORT; IRIKIT_BAD_TEXT: it isn't UTF-8; IRIKIT_UNKNOWN: grammar or place.
+ *
+ *   irikit_encode(IRIKIT_URI, IRIKIT_IN_SEGMENT, "50% off/a", 9, out, sizeof out, &told);  // "50%25%20off%2Fa" */
+uint8_t irikit_encode(uint8_t grammar, uint8_t place, const char *text, size_t len, char *out, size_t size, size_t *told);
+
+/* The bytes that a text decodes to (the URL Standard, section 1.3): each percent-encoded octet gives its byte, and
+ * all else, a `%` that begins none among it, stays. They needn't be UTF-8.
+ *
+ * Takes: any bytes; a buffer.
+ * Writes: the decoded bytes to `out`. They are at most `len`.
+ * Returns: IRIKIT_OK; IRIKIT_SHORT.
+ *
+ *   irikit_decode("50%25%20off%2Fa", 15, out, sizeof out, &told);  // "50% off/a" */
+uint8_t irikit_decode(const char *text, size_t len, char *out, size_t size, size_t *told);
+
+/* ---- Links ---- */
+
+/* The canonical text of a reference: resolved against the base (RFC 3986 section 5.2), in normal form.
+ *
+ * Takes: the number of a grammar and of a mode; the base, an absolute-URI of the grammar; the reference, which may be a URI;
+ * a buffer.
+ * Writes: the canonical text to `out`. It has at most base_len + reference_len + 3 bytes.
+ * Returns: IRIKIT_OK; IRIKIT_SHORT; IRIKIT_BAD_BASE, IRIKIT_BAD_REFERENCE: the first fault of the one or the other, the base
+ * first; IRIKIT_UNKNOWN: grammar or mode.
+ *
+ *   irikit_canonical(IRIKIT_URI, IRIKIT_NORMAL, "http://A/b", 10, "%7e", 3, out, sizeof out, &told);  // "http://a/~"
+ *   irikit_canonical(IRIKIT_URI, IRIKIT_NORMAL, "http://A/b", 10, "%", 1, out, sizeof out, &told);  // IRIKIT_BAD_REFERENCE */
+uint8_t irikit_canonical(uint8_t grammar, uint8_t mode, const char *base, size_t base_len, const char *reference,
+                         size_t reference_len, char *out, size_t size, size_t *told);
 
 /* A reference resolved against a base (RFC 3986 section 5.2), not in normal form.
  *
@@ -189,57 +263,71 @@ uint8_t irikit_resolve(uint8_t grammar, const char *base, size_t base_len, const
 uint8_t irikit_target(uint8_t grammar, const char *base, size_t base_len, const char *reference, size_t reference_len,
                       char *out, size_t size, size_t *told);
 
-/* The normal form of a text with a scheme (RFC 3986 section 6.2.2; by scheme rules section 6.2.3).
- *
- * Takes: the number of a grammar and of a mode; the text, a URI of the grammar; a buffer.
- * Writes: the normal form to `out`. It has at most len + 3 bytes.
- * Returns: IRIKIT_OK; IRIKIT_SHORT; IRIKIT_BAD_TEXT: it is no URI; IRIKIT_UNKNOWN: grammar or mode.
- *
- *   irikit_normalize(IRIKIT_URI, IRIKIT_BY_SCHEME, "HTTP://a:80", 11, out, sizeof out, &told);  // "http://a/" */
-uint8_t irikit_normalize(uint8_t grammar, uint8_t mode, const char *text, size_t len, char *out, size_t size, size_t *told);
+/* ---- Templates ---- */
 
-/* The steps that lead a text with a scheme to its normal form (RFC 3986 section 6.2.2; by scheme rules section 6.2.3), from
- * left to right, in words:
- *
- *   scheme letter N      the capital at N of the scheme becomes small
- *   host letter N        the capital at N of the authority becomes small
- *   hex digit PART N     the small hex digit at N of a percent-encoded octet becomes a capital
- *   decode PART N        the percent-encoded character at N becomes itself
- *   empty port           the empty port goes with its colon
- *   dot segments         the dot segments of the path go; a `/.` stays where no authority does and `//` would follow it
- *   default port         the scheme's default port goes with its colon
- *   empty path           the empty path becomes `/`
- *
- * PART is `authority`, `path`, `query` or `fragment`. N counts bytes from the start of that part, as it is once the steps
- * before are done; dot segments go last of the path.
- *
- * Takes: the number of a grammar; IRIKIT_NORMAL or IRIKIT_BY_SCHEME; the text, a URI of the grammar; a buffer.
- * Writes: to `out`, the steps, each with an LF behind it: nothing where the text is its own normal form.
- * Returns: IRIKIT_OK; IRIKIT_SHORT; IRIKIT_BAD_TEXT: it is no URI; IRIKIT_UNKNOWN: grammar or mode.
- *
- *   irikit_steps(IRIKIT_URI, IRIKIT_BY_SCHEME, "Http://a:80/%7e", 15, out, sizeof out, &told);
- *   fwrite(out, 1, told, stdout);  // "scheme letter 0\ndecode path 1\ndefault port\n" */
-uint8_t irikit_steps(uint8_t grammar, uint8_t mode, const char *text, size_t len, char *out, size_t size, size_t *told);
+/* The kinds of values of variables (RFC 6570 section 2.3), and how many texts each has. */
+enum irikit_value {
+    IRIKIT_UNDEFINED = 0, /* 0 */
+    IRIKIT_STRING = 1,    /* 1 */
+    IRIKIT_LIST = 2,      /* one for each item */
+    IRIKIT_PAIRS = 3      /* two for each pair: its key, then its value */
+};
 
-/* A raw text, percent-encoded for its place in a reference (RFC 3986 sections 2.1 and 2.4): what may not stand there, `%`
- * among it, becomes the percent-encoded octets of its UTF-8.
- *
- * Takes: the number of a grammar and of a place; the text, in UTF-8; a buffer.
- * Writes: the encoded text to `out`. It has at most 3 * len bytes.
- * Returns: IRIKIT_OK; IRIKIT_SHORT; IRIKIT_BAD_TEXT: it isn't UTF-8; IRIKIT_UNKNOWN: grammar or place.
- *
- *   irikit_encode(IRIKIT_URI, IRIKIT_IN_SEGMENT, "50% off/a", 9, out, sizeof out, &told);  // "50%25%20off%2Fa" */
-uint8_t irikit_encode(uint8_t grammar, uint8_t place, const char *text, size_t len, char *out, size_t size, size_t *told);
+/* A variable. Where `count` is 0, `values` may be NULL. Of two with one name the first counts. */
+struct irikit_variable {
+    struct irikit_text name;
+    size_t kind;
+    const struct irikit_text *values;
+    size_t count;
+};
 
-/* The bytes that a text decodes to (the URL Standard, section 1.3): each percent-encoded octet gives its byte, and
- * all else, a `%` that begins none among it, stays. They needn't be UTF-8.
+/* The kinds of faults of templates (RFC 6570 section 2). */
+enum irikit_template_fault {
+    IRIKIT_EXPRESSION_NOT_CLOSED = 0,
+    IRIKIT_INVALID_CHARACTER = 1,
+    IRIKIT_INVALID_EXPRESSION = 2,
+    IRIKIT_INVALID_PERCENT_ENCODING = 3,
+    IRIKIT_TEMPLATE_INVALID_UTF8 = 4,
+    IRIKIT_UNEXPECTED_VALUE_TYPE = 5, /* a prefix modifier on a list, or on pairs, that isn't empty */
+    IRIKIT_UNSUPPORTED_OPERATOR = 6
+};
+
+/* The expansion of a URI template (RFC 6570 section 3).
  *
- * Takes: any bytes; a buffer.
- * Writes: the decoded bytes to `out`. They are at most `len`.
- * Returns: IRIKIT_OK; IRIKIT_SHORT.
+ * Takes: the number of a grammar; the template; variables; a buffer.
+ * Writes: the expansion to `out`; `*place`, which is 0 at every status but the two below.
+ * Returns: IRIKIT_OK; IRIKIT_SHORT; IRIKIT_BAD_VARIABLE: `*place` is the index of the first such variable; IRIKIT_BAD_TEXT:
+ * `*told` is the template's first fault, one of irikit_template_fault, and `*place` its place in bytes; IRIKIT_UNKNOWN:
+ * grammar.
  *
- *   irikit_decode("50%25%20off%2Fa", 15, out, sizeof out, &told);  // "50% off/a" */
-uint8_t irikit_decode(const char *text, size_t len, char *out, size_t size, size_t *told);
+ *   struct irikit_text word = {"two words", 9};
+ *   struct irikit_variable q = {{"q", 1}, IRIKIT_STRING, &word, 1};
+ *   irikit_expand(IRIKIT_URI, "/s{?q}", 6, &q, 1, out, sizeof out, &told, &place);  // "/s?q=two%20words" */
+uint8_t irikit_expand(uint8_t grammar, const char *template_text, size_t template_len,
+                      const struct irikit_variable *variables, size_t count, char *out, size_t size, size_t *told,
+                      size_t *place);
+
+/* The names of a template's variables, from left to right, each as often as it stands there; or the template's first fault.
+ *
+ * Takes: the template; a buffer.
+ * Writes: to `out`, the names, each with an LF after it: at most `template_len` bytes; `*place`, which is 0 but at
+ * IRIKIT_BAD_TEXT.
+ * Returns: IRIKIT_OK: it is a template; IRIKIT_SHORT; IRIKIT_BAD_TEXT: `*told` is its first fault, one of
+ * irikit_template_fault, and `*place` its place in bytes.
+ *
+ *   irikit_template_variables("/s{?q,n*}", 9, out, sizeof out, &told, &place);  // "q\nn\n"
+ *   irikit_template_variables("/s{", 3, out, sizeof out, &told, &place);  // IRIKIT_BAD_TEXT, place 2 */
+uint8_t irikit_template_variables(const char *template_text, size_t template_len, char *out, size_t size, size_t *told,
+                                  size_t *place);
+
+/* The words for a kind of fault of a template, as `irikit expand` answers them, in ASCII.
+ *
+ * Takes: the number of a kind, one of irikit_template_fault; a buffer, for which 64 bytes suffice.
+ * Writes: the words to `out`.
+ * Returns: IRIKIT_OK; IRIKIT_SHORT; IRIKIT_UNKNOWN: no kind has this number.
+ *
+ *   irikit_template_fault_words(IRIKIT_EXPRESSION_NOT_CLOSED, out, sizeof out, &told);  // "expression not closed" */
+uint8_t irikit_template_fault_words(size_t fault, char *out, size_t size, size_t *told);
 
 /* ---- Edits ---- */
 
@@ -312,12 +400,6 @@ uint8_t irikit_replace_host(uint8_t grammar, const char *text, size_t len, const
 uint8_t irikit_replace_reg_name(uint8_t grammar, const char *text, size_t len, const char *host, size_t host_len, char *out,
                                 size_t size, size_t *told);
 
-/* A text inside a struct. Where `len` is 0, `bytes` may be NULL. */
-struct irikit_text {
-    const char *bytes;
-    size_t len;
-};
-
 /* The parts that a text is built from. */
 enum irikit_part {
     IRIKIT_SCHEME = 0,
@@ -348,72 +430,6 @@ struct irikit_given {
  *   irikit_build(IRIKIT_URI, IRIKIT_WITH_SCHEME, parts, 3, out, sizeof out, &told);  // "http://a/b" */
 uint8_t irikit_build(uint8_t grammar, uint8_t kind, const struct irikit_given *parts, size_t count, char *out, size_t size,
                      size_t *told);
-
-/* ---- Templates ---- */
-
-/* The kinds of values of variables (RFC 6570 section 2.3), and how many texts each has. */
-enum irikit_value {
-    IRIKIT_UNDEFINED = 0, /* 0 */
-    IRIKIT_STRING = 1,    /* 1 */
-    IRIKIT_LIST = 2,      /* one for each item */
-    IRIKIT_PAIRS = 3      /* two for each pair: its key, then its value */
-};
-
-/* A variable. Where `count` is 0, `values` may be NULL. Of two with one name the first counts. */
-struct irikit_variable {
-    struct irikit_text name;
-    size_t kind;
-    const struct irikit_text *values;
-    size_t count;
-};
-
-/* The kinds of faults of templates (RFC 6570 section 2). */
-enum irikit_template_fault {
-    IRIKIT_EXPRESSION_NOT_CLOSED = 0,
-    IRIKIT_INVALID_CHARACTER = 1,
-    IRIKIT_INVALID_EXPRESSION = 2,
-    IRIKIT_INVALID_PERCENT_ENCODING = 3,
-    IRIKIT_TEMPLATE_INVALID_UTF8 = 4,
-    IRIKIT_UNEXPECTED_VALUE_TYPE = 5, /* a prefix modifier on a list, or on pairs, that isn't empty */
-    IRIKIT_UNSUPPORTED_OPERATOR = 6
-};
-
-/* The expansion of a URI template (RFC 6570 section 3).
- *
- * Takes: the number of a grammar; the template; variables; a buffer.
- * Writes: the expansion to `out`; `*place`, which is 0 at every status but the two below.
- * Returns: IRIKIT_OK; IRIKIT_SHORT; IRIKIT_BAD_VARIABLE: `*place` is the index of the first such variable; IRIKIT_BAD_TEXT:
- * `*told` is the template's first fault, one of irikit_template_fault, and `*place` its place in bytes; IRIKIT_UNKNOWN:
- * grammar.
- *
- *   struct irikit_text word = {"two words", 9};
- *   struct irikit_variable q = {{"q", 1}, IRIKIT_STRING, &word, 1};
- *   irikit_expand(IRIKIT_URI, "/s{?q}", 6, &q, 1, out, sizeof out, &told, &place);  // "/s?q=two%20words" */
-uint8_t irikit_expand(uint8_t grammar, const char *template_text, size_t template_len,
-                      const struct irikit_variable *variables, size_t count, char *out, size_t size, size_t *told,
-                      size_t *place);
-
-/* The names of a template's variables, from left to right, each as often as it stands there; or the template's first fault.
- *
- * Takes: the template; a buffer.
- * Writes: to `out`, the names, each with an LF after it: at most `template_len` bytes; `*place`, which is 0 but at
- * IRIKIT_BAD_TEXT.
- * Returns: IRIKIT_OK: it is a template; IRIKIT_SHORT; IRIKIT_BAD_TEXT: `*told` is its first fault, one of
- * irikit_template_fault, and `*place` its place in bytes.
- *
- *   irikit_template_variables("/s{?q,n*}", 9, out, sizeof out, &told, &place);  // "q\nn\n"
- *   irikit_template_variables("/s{", 3, out, sizeof out, &told, &place);  // IRIKIT_BAD_TEXT, place 2 */
-uint8_t irikit_template_variables(const char *template_text, size_t template_len, char *out, size_t size, size_t *told,
-                                  size_t *place);
-
-/* The words for a kind of fault of a template, as `irikit expand` answers them, in ASCII.
- *
- * Takes: the number of a kind, one of irikit_template_fault; a buffer, for which 64 bytes suffice.
- * Writes: the words to `out`.
- * Returns: IRIKIT_OK; IRIKIT_SHORT; IRIKIT_UNKNOWN: no kind has this number.
- *
- *   irikit_template_fault_words(IRIKIT_EXPRESSION_NOT_CLOSED, out, sizeof out, &told);  // "expression not closed" */
-uint8_t irikit_template_fault_words(size_t fault, char *out, size_t size, size_t *told);
 
 /* ---- Many lines ---- */
 
