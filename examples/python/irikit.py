@@ -11,7 +11,6 @@ from __future__ import annotations
 
 import ctypes
 import os
-import re
 from typing import Any, Callable, Mapping, Sequence, Union
 
 Text = Union[str, bytes]
@@ -30,7 +29,6 @@ NOWHERE = ctypes.c_size_t(-1).value
 # Room for answers to many lines, and how many references of a list go into one call: so that all of it stays in the
 # processor's cache.
 _ANSWERS, _AT_ONCE = 1 << 17, 4096
-_REFUSED = re.compile("\nbad [^\n]*")
 
 WORDS = {UNKNOWN: "no such number", BAD_VARIABLE: "a text that isn't UTF-8", NO_HOST: "no host to replace"}
 
@@ -200,11 +198,18 @@ class Links:
 
     def _texts(self, lines: str, mode: int) -> list[str | None]:
         """The texts in the answers to lines; None for each line that is refused."""
-        answers = "\n" + self.answers(_bytes(lines), mode).decode()
-        if "\nbad " not in answers:
-            return list(answers[4:-1].split("\nok "))
-        # No canonical text is empty.
-        return [text or None for text in _REFUSED.sub("\nok ", answers)[4:-1].split("\nok ")]
+        found: list[str | None] = []
+        answers, at = "\n" + self.answers(_bytes(lines), mode).decode(), 0
+        while at < len(answers) - 1:
+            bad = answers.find("\nbad ", at)
+            end = bad if bad >= 0 else len(answers) - 1
+            if at < end:
+                found += answers[at + 4 : end].split("\nok ")
+            if bad >= 0:
+                found.append(None)
+                end = answers.index("\n", bad + 1)
+            at = end
+        return found
 
     def canonical_many(self, references: Sequence[str], mode: int = NORMAL) -> list[str | None]:
         """The canonical texts of a list of references, in a call for every few thousand; None for each that is refused.

@@ -71,7 +71,13 @@ impl<'a, S: Spec> FixedBaseResolver<'a, S> {
     pub fn new(base: RiAbsoluteStr<'a, S>) -> Self
         ensures { base_text result ≡ text base.entry }
     {
-        let base = SplitView::of(base);
+        FixedBaseResolver::of_split(SplitView::of(base))
+    }
+
+    /// The resolver of a base that was split into its parts before.
+    pub fn of_split(base: SplitView<'a, S, Absolute>) -> Self
+        ensures { base_text result ≡ split_text base.entry }
+    {
         let front = merge_prefix(base.parts());
         let plain = base.parts().authority().is_some() && lacks_triplets_and_dots(front, front);
         let prefix = normal_prefix(&base);

@@ -2,14 +2,20 @@
 use Rattle.std.proofs.Common.{◌≡◌, ℕ, Bool, true, List, Option, Some, None, refl, sym, ◌∙◌, ap, subst}
 use Rattle.std.specs.Str.{is_utf8, IsUtf8}
 use Rattle.std.proofs.lemmas.Str.{IsUtf8-from_is_utf8, is_utf8-from_IsUtf8}
-use Rattle.iri_grammar.specs.Classes.{Tests}
+use Rattle.iri_grammar.specs.Classes.{Tests, IsSpec}
 use Rattle.iri_grammar.specs.Components.{if_there, is_userinfo, is_query, is_fragment}
 use Rattle.iri_grammar.specs.Host.{is_host}
 use Rattle.iri_grammar.specs.Authority.{authority_parts, is_authority}
 use Rattle.iri_grammar.proofs.CutLaws.{both}
 use Rattle.iri_grammar.specs.Fault.{Answers, bytes_fault, query_fault, fragment_fault}
-use Rattle.iri_grammar.proofs.FaultLaws.{no_fault}
-use Rattle.std.specs.Prelude.{Result}
+use Rattle.iri_grammar.proofs.FaultLaws.{no_fault, splits_where_no_fault}
+use Rattle.iri_grammar.proofs.SplitLaws.{recompose_split}
+use Rattle.iri_grammar.specs.Parts.{Parts}
+use Rattle.iri_grammar.specs.Split.{split_of}
+use Rattle.iri_grammar.specs.WholeFault.{absolute_fault, reference_fault}
+use Rattle.iri_types.specs.Allowed.{allows_absolute}
+use Rattle.iri_types.specs.inside.AllowedLaws.{absolute-made}
+use Rattle.std.specs.Prelude.{Result, is_some}
 use Rattle.iri_grammar.specs.declared.error.Error.{Error}
 use Rattle.iri_grammar.specs.declared.error.ErrorKind.{ErrorKind}
 use Rattle.iri_grammar.specs.declared.error.ErrorKind.TheVariants.{InvalidQuery, InvalidFragment, InvalidUtf8}
@@ -43,3 +49,11 @@ no_text_fault f bs n = rw (false-where (is_utf8 bs) (λ e. n (IsUtf8-from_is_utf
 pub answers-of : {A : Type 0} (r : Result A Error) (f : List ℕ → Option ErrorKind) (t bs : List ℕ) → t ≡ bs → IsUtf8 bs → Answers r (f t)
     → Answers r (bytes_fault f bs)
 answers-of r f t bs e u a = subst (Answers r) (ap f e ∙ sym (text_fault f bs u)) a
+
+-- a reference of which a scheme stands and no fragment is an absolute URI
+pub absolute-where : (s : Tests) → IsSpec s → (t : List ℕ) → reference_fault s t ≡ None → (p : Parts) → p ≡ split_of t
+    → allows_absolute (is_some p.scheme) (is_some p.fragment) ≡ true → absolute_fault s t ≡ None
+absolute-where s k t none p e h =
+    subst (λ x. absolute_fault s x ≡ None) (recompose_split t)
+    (absolute-made s k (split_of t) (splits_where_no_fault s t none).fits
+    (subst (λ (q : Parts). allows_absolute (is_some q.scheme) (is_some q.fragment) ≡ true) e h))
