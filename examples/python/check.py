@@ -1,5 +1,5 @@
 """check.py: the rows of examples/rows.txt one by one and in one call, the templates of examples/expansions.txt, edits, runs, a
-buffer of each size, empty texts, parts and eight threads. Names each row that fails."""
+buffer of each size, numbers that stand for nothing, empty texts, parts and eight threads. Names each row that fails."""
 import ctypes
 import pathlib
 import sys
@@ -123,6 +123,19 @@ def check_texts():
     same("a mapped text", "http://a/%C3%A9%41", irikit.map_to_uri("http://a/\u00e9%41"))
 
 
+def check_numbers():
+    """Each number that stands for nothing."""
+    links, none = Links("a:"), (6, 0, "no such number")
+    for number in range(256):
+        for call, least in [(lambda n: Links("a:", n), 2), (lambda n: links.canonical("b", n), 2), (lambda n: links.answers(b"b\n", n), 2),
+                            (lambda n: links.steps("a:", n), 2), (lambda n: links.normalized("a:", n), 3),
+                            (lambda n: links.is_normalized("a:", n), 3), (lambda n: irikit.fault("a:", n), 4),
+                            (lambda n: irikit.fault("a:", grammar=n), 2), (lambda n: irikit.build(n, scheme="a"), 4),
+                            (lambda n: irikit.build(grammar=n, path="b"), 2), (lambda n: irikit.encode("a", n), 8),
+                            (lambda n: irikit.encode("a", grammar=n), 2)]:
+            same(f"the number {number} of {least}", number >= least, refusal(call, number) == none)
+
+
 def check_many():
     """The rows of each base and grammar in one call; lines that are ended otherwise, and many calls for one list."""
     wanted = {}
@@ -182,6 +195,7 @@ def main():
     check_rows()
     check_sizes()
     check_texts()
+    check_numbers()
     check_many()
     check_templates()
     threads = [threading.Thread(target=check_rows, args=(20,)) for _ in range(8)]
