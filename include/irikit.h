@@ -129,6 +129,7 @@ struct irikit_text {
 /* Whether a text is of a kind, by its first fault.
  *
  * Takes: the number of a grammar and of a kind; the text.
+ * Writes: nothing but `*told`.
  * Returns: IRIKIT_OK: it is; IRIKIT_BAD_TEXT: it isn't; IRIKIT_UNKNOWN: grammar or kind.
  *
  *   irikit_validate(IRIKIT_URI, IRIKIT_REFERENCE, "../b", 4, &told);    // IRIKIT_OK
@@ -167,6 +168,7 @@ uint8_t irikit_normalize(uint8_t grammar, uint8_t mode, const char *text, size_t
 /* Whether a text with a scheme is its own normal form.
  *
  * Takes: the number of a grammar and of a mode; the text, a URI of the grammar.
+ * Writes: nothing but `*told`.
  * Returns: IRIKIT_OK: it is; IRIKIT_NOT_NORMAL: it isn't; IRIKIT_BAD_TEXT: it is no URI; IRIKIT_UNKNOWN: grammar or mode.
  *
  *   irikit_is_normalized(IRIKIT_URI, IRIKIT_NORMAL, "http://a:80/", 12, &told);     // IRIKIT_OK
@@ -392,8 +394,9 @@ uint8_t irikit_set_fragment(uint8_t grammar, const char *text, size_t len, const
 uint8_t irikit_replace_host(uint8_t grammar, const char *text, size_t len, const char *host, size_t host_len, char *out,
                             size_t size, size_t *told);
 
-/* The same of a registered name alone.
+/* A reference with another host in place of a registered name (RFC 3986 section 3.2.2).
  *
+ * Takes, writes: as irikit_replace_host.
  * Returns: as irikit_replace_host; IRIKIT_NO_HOST also where the text's host is an IP literal or an IPv4 address.
  *
  *   irikit_replace_reg_name(IRIKIT_URI, "//192.0.2.16/", 13, "a", 1, out, sizeof out, &told);  // IRIKIT_NO_HOST */

@@ -26,8 +26,8 @@ PARTS = "scheme authority path query fragment userinfo host port".split()
 GIVEN = "scheme userinfo host port path query fragment".split()
 NOWHERE = ctypes.c_size_t(-1).value
 
-# Room for answers to many lines, and how many references of a list go into one call: so that all of it stays in the
-# processor's cache.
+# Room for answers to many lines, at most, and how many references of a list go into one call: so that all of it stays in
+# the processor's cache.
 _ANSWERS, _AT_ONCE = 1 << 17, 4096
 
 WORDS = {UNKNOWN: "no such number", BAD_VARIABLE: "a text that isn't UTF-8", NO_HOST: "no host to replace"}
@@ -178,7 +178,7 @@ class Links:
         base, at, end, used = self.base, 0, len(lines), _size()
         start, pieces, status = ctypes.cast(ctypes.c_char_p(lines), ctypes.c_void_p).value or 0, [], SHORT
         while status == SHORT:
-            out = self._room(_ANSWERS)
+            out = self._room(min(_ANSWERS, 64 + 4 * (len(base) + end)))
             status = _canonical_lines(
                 self.grammar, mode, base, len(base), start + at, end - at, out, len(out), used, self._told
             )

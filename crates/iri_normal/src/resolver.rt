@@ -74,7 +74,17 @@ impl<'a, S: Spec> FixedBaseResolver<'a, S> {
         FixedBaseResolver::of_split(SplitView::of(base))
     }
 
-    /// The resolver of a base that was split into its parts before.
+    /// The resolver of a base that was split into its parts before. The notes of a scan spare it work.
+    ///
+    /// ```
+    /// use iri::prelude::ToStringFallible;
+    /// use iri::resolve::FixedBaseResolver;
+    /// use iri::spec::UriSpec;
+    /// use iri::types::{SplitView, UriReferenceStr};
+    /// let page = SplitView::<UriSpec, _>::absolute_from_bytes(b"http://a/b/c/d;p?q")?;
+    /// let target = FixedBaseResolver::of_split(page).resolve(UriReferenceStr::new("../g")?);
+    /// assert_eq!(rt; target.try_to_string(rt.alloc())?.as_str(), "http://a/b/g");
+    /// ```
     pub fn of_split(base: SplitView<'a, S, Absolute>) -> Self
         ensures { base_text result ≡ split_text base.entry }
     {

@@ -131,6 +131,14 @@ impl<'a, S: Spec> SplitView<'a, S, Absolute> {
     ///
     /// - `InvalidUtf8` where the bytes aren't UTF-8, which is tested first.
     /// - Otherwise the first fault of the text, exactly where it is no absolute URI.
+    ///
+    /// ```
+    /// use iri::spec::UriSpec;
+    /// use iri::types::SplitView;
+    /// let page = SplitView::<UriSpec, _>::absolute_from_bytes(b"http://a/b?c")?;
+    /// assert_eq!(rt; page.parts().path(), "/b");
+    /// assert!(rt; SplitView::<UriSpec, _>::absolute_from_bytes(b"b?c").is_err());
+    /// ```
     pub fn absolute_from_bytes(b: &'a [u8]) -> Result<Self, Error>
         ensures fault { Answers result (bytes_fault (absolute_fault S.tests) b.now) }
         ensures text { IfOk result (λ v. split_text v ≡ b.now) }
