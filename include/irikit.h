@@ -118,7 +118,117 @@ struct irikit_parts {
     struct irikit_slot port;
 };
 
+/* A text inside a struct. Where `len` is 0, `bytes` may be NULL. */
+struct irikit_text {
+    const char *bytes;
+    size_t len;
+};
+
 /* ---- Texts ---- */
+
+/* Whether a text is of a kind, by its first fault.
+ *
+ * Takes: the number of a grammar and of a kind; the text.
+ * Writes: nothing but `*told`.
+ * Returns: IRIKIT_OK: it is; IRIKIT_BAD_TEXT: it isn't; IRIKIT_UNKNOWN: grammar or kind.
+ *
+ *   irikit_validate(IRIKIT_URI, IRIKIT_REFERENCE, "../b", 4, &told);    // IRIKIT_OK
+ *   irikit_validate(IRIKIT_URI, IRIKIT_WITH_SCHEME, "../b", 4, &told);  // IRIKIT_BAD_TEXT, told IRIKIT_UNEXPECTED_RELATIVE */
+uint8_t irikit_validate(uint8_t grammar, uint8_t kind, const char *text, size_t len, size_t *told);
+
+/* The words for a kind of fault, as `irikit canon` answers them, in ASCII.
+ *
+ * Takes: the number of a kind of fault; a buffer, for which 64 bytes suffice.
+ * Writes: the words to `out`.
+ * Returns: IRIKIT_OK; IRIKIT_SHORT; IRIKIT_UNKNOWN: no kind has this number.
+ *
+ *   irikit_fault_words(IRIKIT_INVALID_PATH, out, sizeof out, &told);  // "invalid path" */
+uint8_t irikit_fault_words(size_t fault, char *out, size_t size, size_t *told);
+
+/* The parts of a reference.
+ *
+ * Takes: the number of a grammar; the text.
+ * Writes: `parts`, where the status is IRIKIT_OK; otherwise it stays as it was.
+ * Returns: IRIKIT_OK; IRIKIT_BAD_TEXT: it is no reference; IRIKIT_UNKNOWN: grammar.
+ *
+ *   const char *text = "//u@h:8/p";
+ *   irikit_split(IRIKIT_URI, text, 9, &parts, &told);
+ *   fwrite(text + parts.host.offset, 1, parts.host.len, stdout);  // "h" */
+uint8_t irikit_split(uint8_t grammar, const char *text, size_t len, struct irikit_parts *parts, size_t *told);
+
+/* The normal form of a text with a scheme (RFC 3986 section 6.2.2; by scheme rules section 6.2.3).
+ *
+ * Takes: the number of a grammar and of a mode; the text, a URI of the grammar; a buffer.
+ * Writes: the normal form to `out`. It has at most len + 3 bytes.
+ * Returns: IRIKIT_OK; IRIKIT_SHORT; IRIKIT_BAD_TEXT: it is no URI; IRIKIT_UNKNOWN: grammar or mode.
+ *
+ *   irikit_normalize(IRIKIT_URI, IRIKIT_BY_SCHEME, "HTTP://a:80", 11, out, sizeof out, &told);  // "http://a/" */
+uint8_t irikit_normalize(uint8_t grammar, uint8_t mode, const char *text, size_t len, char *out, size_t size, size_t *told);
+
+/* Whether a text with a scheme is its own normal form.
+ *
+ * Takes: the number of a grammar and of a mode; the text, a URI of the grammar.
+ * Writes: nothing but `*told`.
+ * Returns: IRIKIT_OK: it is; IRIKIT_NOT_NORMAL: it isn't; IRIKIT_BAD_TEXT: it is no URI; IRIKIT_UNKNOWN: grammar or mode.
+ *
+ *   irikit_is_normalized(IRIKIT_URI, IRIKIT_NORMAL, "http://a:80/", 12, &told);     // IRIKIT_OK
+ *   irikit_is_normalized(IRIKIT_URI, IRIKIT_BY_SCHEME, "http://a:80/", 12, &told);  // IRIKIT_NOT_NORMAL */
+uint8_t irikit_is_normalized(uint8_t grammar, uint8_t mode, const char *text, size_t len, size_t *told);
+
+/* The steps that lead a text with a scheme to its normal form (RFC 3986 section 6.2.2; by scheme rules section 6.2.3), from
+ * left to right, in words:
+ *
+ *   scheme letter N      the capital at N of the scheme becomes small
+ *   host letter N        the capital at N of the authority becomes small
+ *   hex digit PART N     the small hex digit at N of a percent-encoded octet becomes a capital
+ *   decode PART N        the percent-encoded character at N becomes itself
+ *   empty port           the empty port goes with its colon
+ *   dot segments         the dot segments of the path go; a `/.` stays where no authority does and `//` would follow it
+ *   default port         the scheme's default port goes with its colon
+ *   empty path           the empty path becomes `/`
+ *
+ * PART is `authority`, `path`, `query` or `fragment`. N counts bytes from the start of that part, as it is once the steps
+ * before are done; dot segments go last of the path.
+ *
+ * Takes: the number of a grammar; IRIKIT_NORMAL or IRIKIT_BY_SCHEME; the text, a URI of the grammar; a buffer.
+ * Writes: to `out`, the steps, each with an LF after it: nothing where the text is its own normal form.
+ * Returns: IRIKIT_OK; IRIKIT_SHORT; IRIKIT_BAD_TEXT: it is no URI; IRIKIT_UNKNOWN: grammar or mode.
+ *
+ *   irikit_steps(IRIKIT_URI, IRIKIT_BY_SCHEME, "Http://a:80/%7e", 15, out, sizeof out, &told);
+ *   fwrite(out, 1, told, stdout);  // "scheme letter 0\ndecode path 1\ndefault port\n" */
+uint8_t irikit_steps(uint8_t grammar, uint8_t mode, const char *text, size_t len, char *out, size_t size, size_t *told);
+
+/* A reference of IRIs, mapped to one of URIs (RFC 3987 section 3.1): each character past ASCII becomes the
+ * percent-encoded octets of its UTF-8.
+ *
+ * Takes: the text, a URI-reference of IRIs; a buffer.
+ * Writes: the mapped text to `out`. It has at most 3 * len bytes.
+ * Returns: IRIKIT_OK; IRIKIT_SHORT; IRIKIT_BAD_TEXT: it is no reference of IRIs.
+ *
+ *   irikit_map_to_uri("http://a/\xC3\xA9", 11, out, sizeof out, &told);  // "http://a/%C3%A9" */
+uint8_t irikit_map_to_uri(const char *text, size_t len, char *out, size_t size, size_t *told);
+
+/* A raw text, percent-encoded for its place in a reference (RFC 3986 sections 2.1 and 2.4): what may not stand there, `%`
+ * among it, becomes the percent-encoded octets of its UTF-8.
+ *
+ * Takes: the number of a grammar and of a place; the text, in UTF-8; a buffer.
+ * Writes: the encoded text to `out`. It has at most 3 * len bytes.
+ * Returns: IRIKIT_OK; IRIKIT_SHORT; IRIKIT_BAD_TEXT: it isn't UTF-8; IRIKIT_UNKNOWN: grammar or place.
+ *
+ *   irikit_encode(IRIKIT_URI, IRIKIT_IN_SEGMENT, "50% off/a", 9, out, sizeof out, &told);  // "50%25%20off%2Fa" */
+uint8_t irikit_encode(uint8_t grammar, uint8_t place, const char *text, size_t len, char *out, size_t size, size_t *told);
+
+/* The bytes that a text decodes to (the URL Standard, section 1.3): each percent-encoded octet gives its byte, and
+ * all else, a `%` that begins none among it, stays. They needn't be UTF-8.
+ *
+ * Takes: any bytes; a buffer.
+ * Writes: the decoded bytes to `out`. They are at most `len`.
+ * Returns: IRIKIT_OK; IRIKIT_SHORT.
+ *
+ *   irikit_decode("50%25%20off%2Fa", 15, out, sizeof out, &told);  // "50% off/a" */
+uint8_t irikit_decode(const char *text, size_t len, char *out, size_t size, size_t *told);
+
+/* ---- Links ---- */
 
 /* The canonical text of a reference: resolved against the base (RFC 3986 section 5.2), in normal form.
  *
@@ -126,46 +236,12 @@ struct irikit_parts {
  * a buffer.
  * Writes: the canonical text to `out`. It has at most base_len + reference_len + 3 bytes.
  * Returns: IRIKIT_OK; IRIKIT_SHORT; IRIKIT_BAD_BASE, IRIKIT_BAD_REFERENCE: the first fault of the one or the other, the base
- * first; IRIKIT_UNKNOWN: grammar or mode. */
+ * first; IRIKIT_UNKNOWN: grammar or mode.
+ *
+ *   irikit_canonical(IRIKIT_URI, IRIKIT_NORMAL, "http://A/b", 10, "%7e", 3, out, sizeof out, &told);  // "http://a/~"
+ *   irikit_canonical(IRIKIT_URI, IRIKIT_NORMAL, "http://A/b", 10, "%", 1, out, sizeof out, &told);  // IRIKIT_BAD_REFERENCE */
 uint8_t irikit_canonical(uint8_t grammar, uint8_t mode, const char *base, size_t base_len, const char *reference,
                          size_t reference_len, char *out, size_t size, size_t *told);
-
-/* Whether a text is of a kind, by its first fault.
- *
- * Takes: the number of a grammar and of a kind; the text.
- * Returns: IRIKIT_OK: it is; IRIKIT_BAD_TEXT: it isn't; IRIKIT_UNKNOWN: grammar or kind. */
-uint8_t irikit_validate(uint8_t grammar, uint8_t kind, const char *text, size_t len, size_t *told);
-
-/* The parts of a reference.
- *
- * Takes: the number of a grammar; the text.
- * Writes: `parts`, where the status is IRIKIT_OK; otherwise it stays as it was.
- * Returns: IRIKIT_OK; IRIKIT_BAD_TEXT: it is no reference; IRIKIT_UNKNOWN: grammar. */
-uint8_t irikit_split(uint8_t grammar, const char *text, size_t len, struct irikit_parts *parts, size_t *told);
-
-/* Whether a text with a scheme is its own normal form.
- *
- * Takes: the number of a grammar and of a mode; the text, a URI of the grammar.
- * Returns: IRIKIT_OK: it is; IRIKIT_NOT_NORMAL: it isn't; IRIKIT_BAD_TEXT: it is no URI; IRIKIT_UNKNOWN: grammar or mode.
- *
- *   irikit_is_normalized(IRIKIT_URI, IRIKIT_NORMAL, "http://a:80/", 12, &told);     // IRIKIT_OK
- *   irikit_is_normalized(IRIKIT_URI, IRIKIT_BY_SCHEME, "http://a:80/", 12, &told);  // IRIKIT_NOT_NORMAL */
-uint8_t irikit_is_normalized(uint8_t grammar, uint8_t mode, const char *text, size_t len, size_t *told);
-
-/* A reference of IRIs, mapped to one of URIs (RFC 3987 section 3.1): each character past ASCII becomes the
- * percent-encoded octets of its UTF-8.
- *
- * Takes: the text, a URI-reference of IRIs; a buffer.
- * Writes: the mapped text to `out`. It has at most 3 * len bytes.
- * Returns: IRIKIT_OK; IRIKIT_SHORT; IRIKIT_BAD_TEXT: it is no reference of IRIs. */
-uint8_t irikit_map_to_uri(const char *text, size_t len, char *out, size_t size, size_t *told);
-
-/* The words for a kind of fault, as `irikit canon` answers them, in ASCII.
- *
- * Takes: the number of a kind of fault; a buffer, for which 64 bytes suffice.
- * Writes: the words to `out`.
- * Returns: IRIKIT_OK; IRIKIT_SHORT; IRIKIT_UNKNOWN: no kind has this number. */
-uint8_t irikit_fault_words(size_t fault, char *out, size_t size, size_t *told);
 
 /* A reference resolved against a base (RFC 3986 section 5.2), not in normal form.
  *
@@ -188,166 +264,6 @@ uint8_t irikit_resolve(uint8_t grammar, const char *base, size_t base_len, const
  *   irikit_target(IRIKIT_URI, "http://A/b/c", 12, "../%7e", 6, out, sizeof out, &told);  // "http://A/b/../%7e" */
 uint8_t irikit_target(uint8_t grammar, const char *base, size_t base_len, const char *reference, size_t reference_len,
                       char *out, size_t size, size_t *told);
-
-/* The normal form of a text with a scheme (RFC 3986 section 6.2.2; by scheme rules section 6.2.3).
- *
- * Takes: the number of a grammar and of a mode; the text, a URI of the grammar; a buffer.
- * Writes: the normal form to `out`. It has at most len + 3 bytes.
- * Returns: IRIKIT_OK; IRIKIT_SHORT; IRIKIT_BAD_TEXT: it is no URI; IRIKIT_UNKNOWN: grammar or mode.
- *
- *   irikit_normalize(IRIKIT_URI, IRIKIT_BY_SCHEME, "HTTP://a:80", 11, out, sizeof out, &told);  // "http://a/" */
-uint8_t irikit_normalize(uint8_t grammar, uint8_t mode, const char *text, size_t len, char *out, size_t size, size_t *told);
-
-/* The steps that lead a text with a scheme to its normal form (RFC 3986 section 6.2.2; by scheme rules section 6.2.3), from
- * left to right, in words:
- *
- *   scheme letter N      the capital at N of the scheme becomes small
- *   host letter N        the capital at N of the authority becomes small
- *   hex digit PART N     the small hex digit at N of a percent-encoded octet becomes a capital
- *   decode PART N        the percent-encoded character at N becomes itself
- *   empty port           the empty port goes with its colon
- *   dot segments         the dot segments of the path go; a `/.` stays where no authority does and `//` would follow it
- *   default port         the scheme's default port goes with its colon
- *   empty path           the empty path becomes `/`
- *
- * PART is `authority`, `path`, `query` or `fragment`. N counts bytes from the start of that part, as it is once the steps
- * before are done; dot segments go last of the path.
- *
- * Takes: the number of a grammar; IRIKIT_NORMAL or IRIKIT_BY_SCHEME; the text, a URI of the grammar; a buffer.
- * Writes: to `out`, the steps, each with an LF behind it: nothing where the text is its own normal form.
- * Returns: IRIKIT_OK; IRIKIT_SHORT; IRIKIT_BAD_TEXT: it is no URI; IRIKIT_UNKNOWN: grammar or mode.
- *
- *   irikit_steps(IRIKIT_URI, IRIKIT_BY_SCHEME, "Http://a:80/%7e", 15, out, sizeof out, &told);
- *   fwrite(out, 1, told, stdout);  // "scheme letter 0\ndecode path 1\ndefault port\n" */
-uint8_t irikit_steps(uint8_t grammar, uint8_t mode, const char *text, size_t len, char *out, size_t size, size_t *told);
-
-/* A raw text, percent-encoded for its place in a reference (RFC 3986 sections 2.1 and 2.4): what may not stand there, `%`
- * among it, becomes the percent-encoded octets of its UTF-8.
- *
- * Takes: the number of a grammar and of a place; the text, in UTF-8; a buffer.
- * Writes: the encoded text to `out`. It has at most 3 * len bytes.
- * Returns: IRIKIT_OK; IRIKIT_SHORT; IRIKIT_BAD_TEXT: it isn't UTF-8; IRIKIT_UNKNOWN: grammar or place.
- *
- *   irikit_encode(IRIKIT_URI, IRIKIT_IN_SEGMENT, "50% off/a", 9, out, sizeof out, &told);  // "50%25%20off%2Fa" */
-uint8_t irikit_encode(uint8_t grammar, uint8_t place, const char *text, size_t len, char *out, size_t size, size_t *told);
-
-/* The bytes that a text decodes to (the URL Standard, section 1.3): each percent-encoded octet gives its byte, and
- * all else, a `%` that begins none among it, stays. They needn't be UTF-8.
- *
- * Takes: any bytes; a buffer.
- * Writes: the decoded bytes to `out`. They are at most `len`.
- * Returns: IRIKIT_OK; IRIKIT_SHORT.
- *
- *   irikit_decode("50%25%20off%2Fa", 15, out, sizeof out, &told);  // "50% off/a" */
-uint8_t irikit_decode(const char *text, size_t len, char *out, size_t size, size_t *told);
-
-/* ---- Edits ---- */
-
-/* A reference without its password: what follows the first `:` of its userinfo (RFC 3986 section 3.2.1) is omitted.
- *
- * Takes: the number of a grammar; the text, a URI-reference of the grammar; a buffer.
- * Writes: the masked text to `out`. It has at most `len` bytes.
- * Returns: IRIKIT_OK; IRIKIT_SHORT; IRIKIT_BAD_TEXT; IRIKIT_UNKNOWN: grammar.
- *
- *   irikit_mask_password(IRIKIT_URI, "http://u:pw@h/", 14, out, sizeof out, &told);  // "http://u:@h/" */
-uint8_t irikit_mask_password(uint8_t grammar, const char *text, size_t len, char *out, size_t size, size_t *told);
-
-/* A reference without its password and the `:` before it.
- *
- * Takes: the number of a grammar; the text, a URI-reference of the grammar; a buffer.
- * Writes: the text to `out`. It has at most `len` bytes.
- * Returns: IRIKIT_OK; IRIKIT_SHORT; IRIKIT_BAD_TEXT; IRIKIT_UNKNOWN: grammar.
- *
- *   irikit_remove_password(IRIKIT_URI, "http://u:pw@h/", 14, out, sizeof out, &told);  // "http://u@h/" */
-uint8_t irikit_remove_password(uint8_t grammar, const char *text, size_t len, char *out, size_t size, size_t *told);
-
-/* A reference with another text in place of its password; one without a colon in its userinfo stays as it is. The new text
- * is written as it stands, so the whole is a reference again only where it may stand in a userinfo (IRIKIT_IN_USER encodes
- * it so).
- *
- * Takes: the number of a grammar; the text, a URI-reference of the grammar; the new password, in UTF-8; a buffer.
- * Writes: the text to `out`. It has at most len + password_len bytes.
- * Returns: IRIKIT_OK; IRIKIT_SHORT; IRIKIT_BAD_TEXT; IRIKIT_BAD_PART: the password isn't UTF-8; IRIKIT_UNKNOWN: grammar.
- *
- *   irikit_replace_password(IRIKIT_URI, "http://u:pw@h/", 14, "***", 3, out, sizeof out, &told);  // "http://u:***@h/" */
-uint8_t irikit_replace_password(uint8_t grammar, const char *text, size_t len, const char *password, size_t password_len,
-                                char *out, size_t size, size_t *told);
-
-/* A reference without its fragment and the `#` before it (RFC 3986 section 3.5).
- *
- * Takes: the number of a grammar; the text, a URI-reference of the grammar; a buffer.
- * Writes: the text to `out`. It has at most `len` bytes.
- * Returns: IRIKIT_OK; IRIKIT_SHORT; IRIKIT_BAD_TEXT; IRIKIT_UNKNOWN: grammar.
- *
- *   irikit_remove_fragment(IRIKIT_URI, "a?b#c", 5, out, sizeof out, &told);  // "a?b" */
-uint8_t irikit_remove_fragment(uint8_t grammar, const char *text, size_t len, char *out, size_t size, size_t *told);
-
-/* A reference with a fragment in place of its own, or after a text that has none (RFC 3986 section 3.5).
- *
- * Takes: the number of a grammar; the text, a URI-reference of the grammar; the fragment without `#`; a buffer.
- * Writes: the text to `out`. It has at most len + fragment_len + 1 bytes.
- * Returns: IRIKIT_OK; IRIKIT_SHORT; IRIKIT_BAD_TEXT; IRIKIT_BAD_PART: the fragment's first fault; IRIKIT_UNKNOWN: grammar.
- *
- *   irikit_set_fragment(IRIKIT_URI, "a?b#c", 5, "d", 1, out, sizeof out, &told);  // "a?b#d" */
-uint8_t irikit_set_fragment(uint8_t grammar, const char *text, size_t len, const char *fragment, size_t fragment_len,
-                            char *out, size_t size, size_t *told);
-
-/* A reference with another host in place of its own (RFC 3986 section 3.2.2).
- *
- * Takes: the number of a grammar; the text, a URI-reference of the grammar; the new host, an IP literal with its brackets; a
- * buffer.
- * Writes: the text to `out`. It has at most len + host_len bytes.
- * Returns: IRIKIT_OK; IRIKIT_SHORT; IRIKIT_BAD_TEXT; IRIKIT_BAD_PART: the new host is none; IRIKIT_NO_HOST: the text has no
- * authority; IRIKIT_UNKNOWN: grammar.
- *
- *   irikit_replace_host(IRIKIT_URI, "http://a:80/", 12, "[::1]", 5, out, sizeof out, &told);  // "http://[::1]:80/" */
-uint8_t irikit_replace_host(uint8_t grammar, const char *text, size_t len, const char *host, size_t host_len, char *out,
-                            size_t size, size_t *told);
-
-/* The same of a registered name alone.
- *
- * Returns: as irikit_replace_host; IRIKIT_NO_HOST also where the text's host is an IP literal or an IPv4 address.
- *
- *   irikit_replace_reg_name(IRIKIT_URI, "//192.0.2.16/", 13, "a", 1, out, sizeof out, &told);  // IRIKIT_NO_HOST */
-uint8_t irikit_replace_reg_name(uint8_t grammar, const char *text, size_t len, const char *host, size_t host_len, char *out,
-                                size_t size, size_t *told);
-
-/* A text inside a struct. Where `len` is 0, `bytes` may be NULL. */
-struct irikit_text {
-    const char *bytes;
-    size_t len;
-};
-
-/* The parts that a text is built from. */
-enum irikit_part {
-    IRIKIT_SCHEME = 0,
-    IRIKIT_USERINFO = 1,
-    IRIKIT_HOST = 2,
-    IRIKIT_PORT = 3,
-    IRIKIT_PATH = 4,
-    IRIKIT_QUERY = 5,
-    IRIKIT_FRAGMENT = 6
-};
-
-/* A part that is given: its number, and its text without the delimiters around it (a host with its brackets). */
-struct irikit_given {
-    size_t part;
-    struct irikit_text text;
-};
-
-/* A text built from parts (RFC 3986 section 5.3). A part that isn't given is absent, and the path is empty then; an authority
- * stands where userinfo, host or port is given. Of two of one part the later counts.
- *
- * Takes: the number of a grammar and of a kind; parts, in any order; a buffer.
- * Writes: the text to `out`. It has at most 7 bytes more than the texts of the parts together.
- * Returns: IRIKIT_OK; IRIKIT_SHORT; IRIKIT_BAD_PART: the parts make no text of the kind: a text isn't UTF-8, then the first
- * faulty part in the order of irikit_part, then what the kind refuses, then IRIKIT_INVALID_PATH for a path that can't stand
- * there (section 3.3); IRIKIT_UNKNOWN: grammar, kind or part.
- *
- *   struct irikit_given parts[] = {{IRIKIT_SCHEME, {"http", 4}}, {IRIKIT_HOST, {"a", 1}}, {IRIKIT_PATH, {"/b", 2}}};
- *   irikit_build(IRIKIT_URI, IRIKIT_WITH_SCHEME, parts, 3, out, sizeof out, &told);  // "http://a/b" */
-uint8_t irikit_build(uint8_t grammar, uint8_t kind, const struct irikit_given *parts, size_t count, char *out, size_t size,
-                     size_t *told);
 
 /* ---- Templates ---- */
 
@@ -414,6 +330,109 @@ uint8_t irikit_template_variables(const char *template_text, size_t template_len
  *
  *   irikit_template_fault_words(IRIKIT_EXPRESSION_NOT_CLOSED, out, sizeof out, &told);  // "expression not closed" */
 uint8_t irikit_template_fault_words(size_t fault, char *out, size_t size, size_t *told);
+
+/* ---- Edits ---- */
+
+/* A reference without its password: what follows the first `:` of its userinfo (RFC 3986 section 3.2.1) is omitted.
+ *
+ * Takes: the number of a grammar; the text, a URI-reference of the grammar; a buffer.
+ * Writes: the masked text to `out`. It has at most `len` bytes.
+ * Returns: IRIKIT_OK; IRIKIT_SHORT; IRIKIT_BAD_TEXT; IRIKIT_UNKNOWN: grammar.
+ *
+ *   irikit_mask_password(IRIKIT_URI, "http://u:pw@h/", 14, out, sizeof out, &told);  // "http://u:@h/" */
+uint8_t irikit_mask_password(uint8_t grammar, const char *text, size_t len, char *out, size_t size, size_t *told);
+
+/* A reference without its password and the `:` before it.
+ *
+ * Takes: the number of a grammar; the text, a URI-reference of the grammar; a buffer.
+ * Writes: the text to `out`. It has at most `len` bytes.
+ * Returns: IRIKIT_OK; IRIKIT_SHORT; IRIKIT_BAD_TEXT; IRIKIT_UNKNOWN: grammar.
+ *
+ *   irikit_remove_password(IRIKIT_URI, "http://u:pw@h/", 14, out, sizeof out, &told);  // "http://u@h/" */
+uint8_t irikit_remove_password(uint8_t grammar, const char *text, size_t len, char *out, size_t size, size_t *told);
+
+/* A reference with another text in place of its password; one without a colon in its userinfo stays as it is. The new text
+ * is written as it stands, so the whole is a reference again only where it may stand in a userinfo (IRIKIT_IN_USER encodes
+ * it so).
+ *
+ * Takes: the number of a grammar; the text, a URI-reference of the grammar; the new password, in UTF-8; a buffer.
+ * Writes: the text to `out`. It has at most len + password_len bytes.
+ * Returns: IRIKIT_OK; IRIKIT_SHORT; IRIKIT_BAD_TEXT; IRIKIT_BAD_PART: the password isn't UTF-8; IRIKIT_UNKNOWN: grammar.
+ *
+ *   irikit_replace_password(IRIKIT_URI, "http://u:pw@h/", 14, "***", 3, out, sizeof out, &told);  // "http://u:***@h/" */
+uint8_t irikit_replace_password(uint8_t grammar, const char *text, size_t len, const char *password, size_t password_len,
+                                char *out, size_t size, size_t *told);
+
+/* A reference without its fragment and the `#` before it (RFC 3986 section 3.5).
+ *
+ * Takes: the number of a grammar; the text, a URI-reference of the grammar; a buffer.
+ * Writes: the text to `out`. It has at most `len` bytes.
+ * Returns: IRIKIT_OK; IRIKIT_SHORT; IRIKIT_BAD_TEXT; IRIKIT_UNKNOWN: grammar.
+ *
+ *   irikit_remove_fragment(IRIKIT_URI, "a?b#c", 5, out, sizeof out, &told);  // "a?b" */
+uint8_t irikit_remove_fragment(uint8_t grammar, const char *text, size_t len, char *out, size_t size, size_t *told);
+
+/* A reference with a fragment in place of its own, or after a text that has none (RFC 3986 section 3.5).
+ *
+ * Takes: the number of a grammar; the text, a URI-reference of the grammar; the fragment without `#`; a buffer.
+ * Writes: the text to `out`. It has at most len + fragment_len + 1 bytes.
+ * Returns: IRIKIT_OK; IRIKIT_SHORT; IRIKIT_BAD_TEXT; IRIKIT_BAD_PART: the fragment's first fault; IRIKIT_UNKNOWN: grammar.
+ *
+ *   irikit_set_fragment(IRIKIT_URI, "a?b#c", 5, "d", 1, out, sizeof out, &told);  // "a?b#d" */
+uint8_t irikit_set_fragment(uint8_t grammar, const char *text, size_t len, const char *fragment, size_t fragment_len,
+                            char *out, size_t size, size_t *told);
+
+/* A reference with another host in place of its own (RFC 3986 section 3.2.2).
+ *
+ * Takes: the number of a grammar; the text, a URI-reference of the grammar; the new host, an IP literal with its brackets; a
+ * buffer.
+ * Writes: the text to `out`. It has at most len + host_len bytes.
+ * Returns: IRIKIT_OK; IRIKIT_SHORT; IRIKIT_BAD_TEXT; IRIKIT_BAD_PART: the new host is none; IRIKIT_NO_HOST: the text has no
+ * authority; IRIKIT_UNKNOWN: grammar.
+ *
+ *   irikit_replace_host(IRIKIT_URI, "http://a:80/", 12, "[::1]", 5, out, sizeof out, &told);  // "http://[::1]:80/" */
+uint8_t irikit_replace_host(uint8_t grammar, const char *text, size_t len, const char *host, size_t host_len, char *out,
+                            size_t size, size_t *told);
+
+/* A reference with another host in place of a registered name (RFC 3986 section 3.2.2).
+ *
+ * Takes, writes: as irikit_replace_host.
+ * Returns: as irikit_replace_host; IRIKIT_NO_HOST also where the text's host is an IP literal or an IPv4 address.
+ *
+ *   irikit_replace_reg_name(IRIKIT_URI, "//192.0.2.16/", 13, "a", 1, out, sizeof out, &told);  // IRIKIT_NO_HOST */
+uint8_t irikit_replace_reg_name(uint8_t grammar, const char *text, size_t len, const char *host, size_t host_len, char *out,
+                                size_t size, size_t *told);
+
+/* The parts that a text is built from. */
+enum irikit_part {
+    IRIKIT_SCHEME = 0,
+    IRIKIT_USERINFO = 1,
+    IRIKIT_HOST = 2,
+    IRIKIT_PORT = 3,
+    IRIKIT_PATH = 4,
+    IRIKIT_QUERY = 5,
+    IRIKIT_FRAGMENT = 6
+};
+
+/* A part that is given: its number, and its text without the delimiters around it (a host with its brackets). */
+struct irikit_given {
+    size_t part;
+    struct irikit_text text;
+};
+
+/* A text built from parts (RFC 3986 section 5.3). A part that isn't given is absent, and the path is empty then; an authority
+ * stands where userinfo, host or port is given. Of two of one part the later counts.
+ *
+ * Takes: the number of a grammar and of a kind; parts, in any order; a buffer.
+ * Writes: the text to `out`. It has at most 7 bytes more than the texts of the parts together.
+ * Returns: IRIKIT_OK; IRIKIT_SHORT; IRIKIT_BAD_PART: the parts make no text of the kind: a text isn't UTF-8, then the first
+ * faulty part in the order of irikit_part, then what the kind refuses, then IRIKIT_INVALID_PATH for a path that can't stand
+ * there (section 3.3); IRIKIT_UNKNOWN: grammar, kind or part.
+ *
+ *   struct irikit_given parts[] = {{IRIKIT_SCHEME, {"http", 4}}, {IRIKIT_HOST, {"a", 1}}, {IRIKIT_PATH, {"/b", 2}}};
+ *   irikit_build(IRIKIT_URI, IRIKIT_WITH_SCHEME, parts, 3, out, sizeof out, &told);  // "http://a/b" */
+uint8_t irikit_build(uint8_t grammar, uint8_t kind, const struct irikit_given *parts, size_t count, char *out, size_t size,
+                     size_t *told);
 
 /* ---- Many lines ---- */
 

@@ -1,5 +1,5 @@
 """check.py: the rows of examples/rows.txt one by one and in one call, the templates of examples/expansions.txt, edits, runs, a
-buffer of each size, empty texts, parts and eight threads. Names each row that fails."""
+buffer of each size, numbers that stand for nothing, empty texts, parts and eight threads. Names each row that fails."""
 import ctypes
 import pathlib
 import sys
@@ -116,7 +116,24 @@ def check_texts():
     same("an encoded query", "a=\u00e9&b", irikit.encode("a=\u00e9&b", irikit.IN_QUERY, IRI))
     same("a place that is none", (6, 0, "no such number"), refusal(irikit.encode, "a", 8))
     same("decoded bytes", b"50% off/a\xff%4", irikit.decode("50%25%20off%2Fa%ff%4"))
+    same("no fault", [None] * 3, [irikit.fault("a"), irikit.fault("a:#", irikit.WITH_SCHEME), irikit.fault("\u00e9", grammar=IRI)])
+    same("faults", ["invalid path", "unexpected fragment", "invalid utf-8 bytes"],
+         [irikit.fault("\u00e9"), irikit.fault("a:#", irikit.ABSOLUTE), irikit.fault(b"\xff")])
+    same("a kind that is none", (6, 0, "no such number"), refusal(irikit.fault, "a", 4))
     same("a mapped text", "http://a/%C3%A9%41", irikit.map_to_uri("http://a/\u00e9%41"))
+
+
+def check_numbers():
+    """Each number that stands for nothing."""
+    links, none = Links("a:"), (6, 0, "no such number")
+    for number in range(256):
+        for call, least in [(lambda n: Links("a:", n), 2), (lambda n: links.canonical("b", n), 2), (lambda n: links.answers(b"b\n", n), 2),
+                            (lambda n: links.steps("a:", n), 2), (lambda n: links.normalized("a:", n), 3),
+                            (lambda n: links.is_normalized("a:", n), 3), (lambda n: irikit.fault("a:", n), 4),
+                            (lambda n: irikit.fault("a:", grammar=n), 2), (lambda n: irikit.build(n, scheme="a"), 4),
+                            (lambda n: irikit.build(grammar=n, path="b"), 2), (lambda n: irikit.encode("a", n), 8),
+                            (lambda n: irikit.encode("a", grammar=n), 2)]:
+            same(f"the number {number} of {least}", number >= least, refusal(call, number) == none)
 
 
 def check_many():
@@ -136,6 +153,11 @@ def check_many():
     same("lines by scheme rules", b"ok http://c/\n", links.answers(b"//c:80\n", irikit.BY_SCHEME))
     same("a mode that is none", (6, 0, "no such number"), refusal(links.answers, b"c\n", 2))
     same("many calls", ["http://a/" + "d" * 999] * 5000, links.canonical_many(["d" * 999] * 5000))
+    for length in (1 << 16, 1 << 19):
+        same("a line that is longer than the buffer", ["http://a/" + "d" * length, None], links.canonical_many(["d" * length, "%"]))
+    some = [None if n % 3 else f"http://a/{n}" for n in range(10000)]
+    same("a list that takes more than one call", some, links.canonical_many(["%" if n % 3 else str(n) for n in range(10000)]))
+    same("references that are refused alone", [None] * 3, links.canonical_many(["%"] * 3))
 
 
 def check_templates():
@@ -173,6 +195,7 @@ def main():
     check_rows()
     check_sizes()
     check_texts()
+    check_numbers()
     check_many()
     check_templates()
     threads = [threading.Thread(target=check_rows, args=(20,)) for _ in range(8)]

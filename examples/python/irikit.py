@@ -26,6 +26,10 @@ PARTS = "scheme authority path query fragment userinfo host port".split()
 GIVEN = "scheme userinfo host port path query fragment".split()
 NOWHERE = ctypes.c_size_t(-1).value
 
+# Room for answers to many lines, at most, and how many references of a list go into one call: so that all of it stays in
+# the processor's cache.
+_ANSWERS, _AT_ONCE = 1 << 17, 4096
+
 WORDS = {UNKNOWN: "no such number", BAD_VARIABLE: "a text that isn't UTF-8", NO_HOST: "no host to replace"}
 
 _beside = os.path.join(os.path.dirname(os.path.abspath(__file__)), "libirikit.so.0")
@@ -146,9 +150,7 @@ class Links:
         b'http://a/b/~'
         """
         base, size = self.base, len(self.base) + len(reference) + 3
-        if size > len(self._out):
-            self._out = ctypes.create_string_buffer(2 * size)
-        out, told = self._out, self._told
+        out, told = self._room(size), self._told
         status = _canonical(self.grammar, mode, base, len(base), reference, len(reference), out, len(out), told)
         if status != OK:
             raise Refused(status, told.value)
@@ -174,33 +176,58 @@ class Links:
         b'ok http://a/c\\nbad invalid path\\n'
         """
         base, at, end, used = self.base, 0, len(lines), _size()
-        room = min(end + lines.count(b"\n") * (len(base) + 64), 1 << 20) + len(base) + end
-        out, pieces, status = ctypes.create_string_buffer(room), [], SHORT
-        start = ctypes.cast(ctypes.c_char_p(lines), ctypes.c_void_p).value or 0
+        start, pieces, status = ctypes.cast(ctypes.c_char_p(lines), ctypes.c_void_p).value or 0, [], SHORT
         while status == SHORT:
+            out = self._room(min(_ANSWERS, 64 + 4 * (len(base) + end)))
             status = _canonical_lines(
-                self.grammar, mode, base, len(base), start + at, end - at, out, room, used, self._told
+                self.grammar, mode, base, len(base), start + at, end - at, out, len(out), used, self._told
             )
             if status not in (OK, SHORT):
                 raise Refused(status, self._told.value)
+            if status == SHORT and not used.value:
+                self._room(len(out) + 1)
             pieces.append(ctypes.string_at(out, self._told.value))
             at += used.value
         return b"".join(pieces)
 
+    def _room(self, size: int) -> ctypes.Array[ctypes.c_char]:
+        """The buffer, with at least so much room."""
+        if size > len(self._out):
+            self._out = ctypes.create_string_buffer(2 * size)
+        return self._out
+
+    def _texts(self, lines: str, mode: int) -> list[str | None]:
+        """The texts in the answers to lines; None for each line that is refused."""
+        found: list[str | None] = []
+        answers, at = "\n" + self.answers(_bytes(lines), mode).decode(), 0
+        while at < len(answers) - 1:
+            bad = answers.find("\nbad ", at)
+            end = bad if bad >= 0 else len(answers) - 1
+            if at < end:
+                found += answers[at + 4 : end].split("\nok ")
+            if bad >= 0:
+                found.append(None)
+                end = answers.index("\n", bad + 1)
+            at = end
+        return found
+
     def canonical_many(self, references: Sequence[str], mode: int = NORMAL) -> list[str | None]:
-        """The canonical texts of a list of references, in one call; None for each that is refused.
+        """The canonical texts of a list of references, in a call for every few thousand; None for each that is refused.
 
         >>> Links("http://a/b").canonical_many(["c", "%4", "../d"])
         ['http://a/c', None, 'http://a/d']
         """
-        lines = "\n".join([*references, ""])
-        if "\r" in lines or lines.count("\n") != len(references):
-            # No reference has a CR or an LF, and a percent sign alone is none either.
-            lines = "\n".join(["%" if {"\r", "\n"} & set(text) else text for text in references] + [""])
-        answers = ("\n" + self.answers(_bytes(lines), mode).decode()).replace("\nok ", "\n")
-        texts = answers[1:].split("\n")[:-1]
-        # A space stands in the words for a fault, and in no canonical text.
-        return [None if " " in text else text for text in texts] if "\nbad " in answers else list(texts)
+        found: list[str | None] = []
+        for at in range(0, len(references), _AT_ONCE):
+            some = references[at : at + _AT_ONCE]
+            lines = "\n".join([*some, ""])
+            texts = [] if "\r" in lines else self._texts(lines, mode)
+            if len(texts) != len(some):
+                # No reference has a CR or an LF, and a percent sign alone is none either.
+                lines = "\n".join([*("%" if {"\r", "\n"} & set(text) else text for text in some), ""])
+                texts = self._texts(lines, mode)
+            found += texts
+        return found
 
     def expand(self, template: Text, variables: Mapping[str, Any]) -> str:
         """The expansion of a template by a dict of variables: None, texts, lists of texts, or dicts of texts.
@@ -372,6 +399,21 @@ def variables(template: Text) -> list[str]:
     if status != OK:
         raise Refused(status, told.value, place.value)
     return out.raw[: told.value].decode().split("\n")[:-1]
+
+
+def fault(text: Text, kind: int = REFERENCE, grammar: int = URI) -> str | None:
+    """The words for a text's first fault, or None where it is of the kind.
+
+    >>> fault("../g"), fault("../g", WITH_SCHEME), fault("//[::1")
+    (None, 'expected an absolute IRI but got a relative IRI', 'invalid host')
+    """
+    text, told = _bytes(text), _size()
+    status = _validate(grammar, kind, text, len(text), told)
+    if status == BAD_TEXT:
+        return _words(status, told.value, None)
+    if status != OK:
+        raise Refused(status, told.value)
+    return None
 
 
 def map_to_uri(text: Text) -> str:

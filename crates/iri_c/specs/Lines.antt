@@ -1,15 +1,14 @@
 -- The lines of a text, and the answers to as many of them as have room together.
-use Rattle.std.specs.Prelude.{◌≡◌, ◌+◌, ◌-◌, ℕ, cond, nat_lt, ◌==◌, codes, length, List, [], ◌∷◌, ◌++◌, Option, Some, None}
+use Rattle.std.specs.Prelude.{◌≡◌, ◌+◌, ◌-◌, ℕ, cond, nat_lt, ◌==◌, length, List, [], ◌∷◌, ◌++◌, Option, Some, None}
 use Rattle.std.specs.List.{flat_map}
 use Rattle.iri_grammar.specs.Classes.{Tests}
-use Rattle.iri_grammar.specs.ErrorTexts.{description}
 use Rattle.iri_grammar.specs.Fault.{bytes_fault}
-use Rattle.iri_grammar.specs.WholeFault.{absolute_fault, reference_fault}
+use Rattle.iri_grammar.specs.WholeFault.{absolute_fault}
 use Rattle.iri_grammar.specs.declared.error.ErrorKind.{ErrorKind}
 use Rattle.iri_text.specs.LineEnds.{line_feed}
 use Rattle.iri_text.specs.Lines.{no_cr}
 use Rattle.iri_percent.specs.declared.canon_mode.CanonMode.{CanonMode}
-use Rattle.iri_normal.specs.NormalForm.{canonical_in}
+use Rattle.iri_normal.specs.Answers.{answer_in}
 use Rattle.iri_c.specs.Buffers.{over}
 use Rattle.iri_c.specs.Numbers.{ok, short, bad_base, unknown, grammar_of, mode_numbered}
 use Rattle.iri_c.specs.Outcome.{Told}
@@ -25,16 +24,7 @@ ended_from front (b ∷ bs) = cond (b == line_feed) (front ∷ ended_from [] bs)
 abbrev pub ended : List ℕ → List (List ℕ)
 ended bytes = ended_from [] bytes
 
--- the answer to a line, with its LF
-abbrev pub answer_by : Option ErrorKind → List ℕ → List ℕ
-answer_by None text = codes "ok " ++ (text ++ line_feed ∷ [])
-answer_by (Some kind) text = codes "bad " ++ (description kind ++ line_feed ∷ [])
-
--- the canonical text of a reference line against a base, or the words for its first fault
-unfoldable pub answer_in : Tests → CanonMode → List ℕ → List ℕ → List ℕ
-answer_in s mode base line = answer_by (bytes_fault (reference_fault s) line) (canonical_in s mode base line)
-
--- the same of a line as it stands: a CR before its LF isn't part of it
+-- the answer to a line as it stands: a CR before its LF isn't part of it
 abbrev pub line_answer : Tests → CanonMode → List ℕ → List ℕ → List ℕ
 line_answer s mode base raw = answer_in s mode base (no_cr raw)
 

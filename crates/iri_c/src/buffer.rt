@@ -12,10 +12,15 @@ use iri_text::{Show, Stop, TextSink};
 pub(crate) fn copy_at(buf: &mut [u8], at: usize, bytes: &[u8])
     ensures { buf.new ≡ over_at at bytes.now buf.old }
 {
-    if at < buf.len() {
-        let room = buf.len() - at;
-        let n = room.min(bytes.len());
-        buf[at..at + n].copy_from_slice(&bytes[..n]);
+    if at > buf.len() {
+        return;
+    }
+    let room = buf.len() - at;
+    if bytes.len() <= room {
+        // A piece of known length is copied in place.
+        buf[at..at + bytes.len()].copy_from_slice(bytes);
+    } else {
+        buf[at..].copy_from_slice(&bytes[..room]);
     }
 }
 

@@ -11,27 +11,26 @@ use iri_normal::canonical::show_canonical_in;
 use iri_normal::mode::CanonMode;
 use iri_normal::resolver::FixedBaseResolver;
 use iri_text::{Show, Stop, TextSink};
-use iri_types::kind::Reference;
+use iri_types::kind::{Absolute, Reference};
 use iri_types::split::SplitView;
-use iri_types::view::RiAbsoluteStr;
 
 // The canonical text of a reference against a base, by the rules of a mode.
 #[derive(Drop)]
-pub(crate) struct Canonical<'a, S: Spec> {
+pub(crate) struct Canonical<'r, 'a, S: Spec> {
     pub(crate) mode: CanonMode,
-    pub(crate) resolver: FixedBaseResolver<'a, S>,
-    pub(crate) reference: SplitView<'a, S, Reference>,
+    pub(crate) resolver: &'r FixedBaseResolver<'a, S>,
+    pub(crate) reference: &'r SplitView<'a, S, Reference>,
 }
 
-impl<S: Spec> Show for Canonical<'_, S> {
+impl<S: Spec> Show for Canonical<'_, '_, S> {
     ghost use Rattle.iri_normal.specs.NormalForm.{canonical_in};
     ghost use Rattle.iri_normal.specs.Resolver.{base_text};
     ghost use Rattle.iri_types.specs.SplitText.{split_text};
 
-    ghost text = { λ c. canonical_in S.tests c.mode (base_text c.resolver) (split_text c.reference) };
+    ghost text = { λ c. canonical_in S.tests c.mode (base_text c.resolver.now) (split_text c.reference.now) };
 
     fn show<W: TextSink>(&self, sink: &mut W) -> Result<(), Stop> {
-        show_canonical_in(sink, self.mode, &self.resolver, &self.reference)
+        show_canonical_in(sink, self.mode, self.resolver, self.reference)
     }
 }
 
@@ -45,22 +44,18 @@ fn canonical_as<S: Spec>(
 ) -> u8
     ensures { Answered (canonical_as S.tests mode base.now reference.now) out.old out.new told.new result }
 {
-    let base = match RiAbsoluteStr::<S>::try_from_bytes(base) {
+    let base = match SplitView::<S, Absolute>::absolute_from_bytes(base) {
         Ok(base) => base,
         Err(error) => return answer_fault(BAD_BASE, error.kind(), told),
     };
     match SplitView::<S, Reference>::try_from_bytes(reference) {
         Ok(reference) => {
-            let resolver = FixedBaseResolver::new(base);
-            answer_text(
-                out,
-                &Canonical {
-                    mode,
-                    resolver,
-                    reference,
-                },
-                told,
-            )
+            let canonical = Canonical {
+                mode,
+                resolver: &FixedBaseResolver::of_split(base),
+                reference: &reference,
+            };
+            answer_text(out, &canonical, told)
         }
         Err(error) => answer_fault(BAD_REFERENCE, error.kind(), told),
     }

@@ -143,7 +143,7 @@ pub extern "C" fn irikit_remove_fragment(
     }
 }
 
-// A text and the fragment behind it.
+// A text and the fragment after it.
 #[derive(Drop)]
 struct Fragmented<'a> {
     front: &'a str,
@@ -178,7 +178,7 @@ fn set_fragment_in<S: Spec>(text: &[u8], fragment: &[u8], out: &mut [u8], told: 
     }
 }
 
-/// A reference with a fragment in place of its own, or behind one that has none.
+/// A reference with a fragment in place of its own, or after one that has none.
 #[unsafe(no_mangle)]
 pub extern "C" fn irikit_set_fragment(
     grammar: u8,

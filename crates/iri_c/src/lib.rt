@@ -3,7 +3,7 @@
 //! `include/irikit.h` has the declarations and the numbers. Nothing here takes memory or keeps anything.
 //!
 //! Proved: each call answers by its outcome (`Answered`), which is a function of what is passed: an unknown number, the first fault
-//! and whose it is, or a text. A text is written over the start of the caller's buffer as far as there is room, what lies behind it
+//! and whose it is, or a text. A text is written over the start of the caller's buffer as far as there is room, what comes after it
 //! stays, and its whole length is told; the status says whether it had room. The texts, tests and splits are those of the crates
 //! below. Of many lines those are told whose answers have room together (`Batched`).
 //!

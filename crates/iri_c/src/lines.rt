@@ -15,9 +15,8 @@ use iri_grammar::spec::{IriSpec, Spec, UriSpec};
 use iri_normal::mode::CanonMode;
 use iri_normal::resolver::FixedBaseResolver;
 use iri_text::{Show, Stop, TextSink, show_three};
-use iri_types::kind::Reference;
+use iri_types::kind::{Absolute, Reference};
 use iri_types::split::SplitView;
-use iri_types::view::RiAbsoluteStr;
 use memchr::memchr;
 
 /// What was done of a batch: how many bytes of lines were answered, LFs among them, how many bytes these answers have, and whether all
@@ -39,7 +38,7 @@ struct LineAnswer<'r, 'a, S: Spec> {
 
 impl<S: Spec> Show for LineAnswer<'_, '_, S> {
     ghost use Rattle.iri_normal.specs.Resolver.{base_text};
-    ghost use Rattle.iri_c.specs.Lines.{answer_in};
+    ghost use Rattle.iri_normal.specs.Answers.{answer_in};
 
     ghost text = { λ a. answer_in S.tests a.mode (base_text a.resolver.now) a.line.now };
 
@@ -48,8 +47,8 @@ impl<S: Spec> Show for LineAnswer<'_, '_, S> {
             Ok(reference) => {
                 let canonical = Canonical {
                     mode: self.mode,
-                    resolver: *self.resolver,
-                    reference,
+                    resolver: self.resolver,
+                    reference: &reference,
                 };
                 show_three(sink, &"ok ", &canonical, &"\n")
             }
@@ -156,9 +155,9 @@ fn batch_in<S: Spec>(
 ) -> u8
     ensures { BatchedIn S.tests mode base.now input.now out.old out.new consumed.new told.new result }
 {
-    match RiAbsoluteStr::<S>::try_from_bytes(base) {
+    match SplitView::<S, Absolute>::absolute_from_bytes(base) {
         Ok(base) => {
-            let done = answer_all(mode, &FixedBaseResolver::new(base), input, out);
+            let done = answer_all(mode, &FixedBaseResolver::of_split(base), input, out);
             *consumed = done.consumed;
             *told = done.written;
             done.status

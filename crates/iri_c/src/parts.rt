@@ -71,7 +71,7 @@ fn width(marks: usize, part: Option<&str>) -> usize
     }
 }
 
-// Where a part stands that begins so many bytes of delimiters behind this offset.
+// Where a part stands that begins so many bytes of delimiters after this offset.
 fn place(offset: usize, marks: usize, part: Option<&str>) -> Slot
     requires { offset + width marks (now_of part) < 2 ^ 64 }
     ensures { result ≡ place offset marks (now_of part.entry) }

@@ -8,21 +8,20 @@ use crate::grammar::{IRI, URI};
 use crate::status::{BAD_BASE, BAD_REFERENCE, UNKNOWN};
 use iri_grammar::spec::{IriSpec, Spec, UriSpec};
 use iri_normal::resolver::FixedBaseResolver;
-use iri_types::kind::Reference;
+use iri_types::kind::{Absolute, Reference};
 use iri_types::split::SplitView;
-use iri_types::view::RiAbsoluteStr;
 
 // The resolved text in one grammar.
 fn resolve_in<S: Spec>(base: &[u8], reference: &[u8], out: &mut [u8], told: &mut usize) -> u8
     ensures { Answered (resolved_in base.now reference.now S.tests) out.old out.new told.new result }
 {
-    let base = match RiAbsoluteStr::<S>::try_from_bytes(base) {
+    let base = match SplitView::<S, Absolute>::absolute_from_bytes(base) {
         Ok(base) => base,
         Err(error) => return answer_fault(BAD_BASE, error.kind(), told),
     };
     match SplitView::<S, Reference>::try_from_bytes(reference) {
         Ok(reference) => {
-            let resolver = FixedBaseResolver::new(base);
+            let resolver = FixedBaseResolver::of_split(base);
             answer_text(out, &resolver.resolve_split(&reference), told)
         }
         Err(error) => answer_fault(BAD_REFERENCE, error.kind(), told),

@@ -10,9 +10,8 @@ use iri_grammar::spec::{IriSpec, Spec, UriSpec};
 use iri_normal::resolver::FixedBaseResolver;
 use iri_normal::target_text::show_target;
 use iri_text::{Show, Stop, TextSink};
-use iri_types::kind::Reference;
+use iri_types::kind::{Absolute, Reference};
 use iri_types::split::SplitView;
-use iri_types::view::RiAbsoluteStr;
 
 // The target of a reference against a base.
 #[derive(Drop)]
@@ -37,13 +36,13 @@ impl<S: Spec> Show for Target<'_, S> {
 fn write_target<S: Spec>(base: &[u8], reference: &[u8], out: &mut [u8], told: &mut usize) -> u8
     ensures { Answered (target_in base.now reference.now S.tests) out.old out.new told.new result }
 {
-    let base = match RiAbsoluteStr::<S>::try_from_bytes(base) {
+    let base = match SplitView::<S, Absolute>::absolute_from_bytes(base) {
         Ok(base) => base,
         Err(error) => return answer_fault(BAD_BASE, error.kind(), told),
     };
     match SplitView::<S, Reference>::try_from_bytes(reference) {
         Ok(reference) => {
-            let resolver = FixedBaseResolver::new(base);
+            let resolver = FixedBaseResolver::of_split(base);
             let target = Target {
                 resolver,
                 reference,

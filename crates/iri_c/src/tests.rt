@@ -60,7 +60,7 @@ fn canonical_texts(rt: HostRuntime) {
     assert!(rt; told == 0);
 }
 
-// A buffer of each size: a prefix of the text, its whole length, and what lies behind it in the buffer stays.
+// A buffer of each size: a prefix of the text, its whole length, and what comes after it in the buffer stays.
 #[test]
 fn room_for_each_length(rt: HostRuntime) {
     let text = b"http://a/b/g";

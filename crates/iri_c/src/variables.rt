@@ -40,7 +40,7 @@ pub(crate) fn as_str(bytes: &[u8]) -> &str
 }
 
 /// A variable: its name, the number of the kind of its value, and the texts of that: of a string one, of a list its items, of pairs
-/// each key with its value behind it.
+/// each key with its value after it.
 #[repr(C)]
 #[derive(Clone, Copy)]
 pub struct Variable<'a> {

@@ -13,7 +13,8 @@ use Rattle.iri_grammar.specs.inside.Laws.{uri_is_spec, iri_is_spec}
 use Rattle.iri_cli.specs.run.Words.{tests_of}
 use Rattle.iri_cli.specs.declared.run.words.Grammar.{Grammar}
 use Rattle.iri_cli.specs.declared.run.words.Grammar.TheVariants.{Uri, Iri}
-use Rattle.iri_cli.specs.canon.Answers.{refusal, words_of_fault, answer_in, AnswersAreCanonicalIn}
+use Rattle.iri_cli.specs.canon.Answers.{refusal, words_of_fault, AnswersAreCanonicalIn}
+use Rattle.iri_normal.specs.Answers.{answer_in}
 use Rattle.iri_normal.proofs.CanonLemmas.{fault_none}
 
 pub refused_none : (k : Option ErrorKind) → words_of_fault k ≡ None → k ≡ None

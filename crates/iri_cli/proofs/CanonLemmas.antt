@@ -11,7 +11,8 @@ use Rattle.iri_percent.specs.declared.canon_mode.CanonMode.{CanonMode}
 use Rattle.iri_normal.proofs.LengthLaws.{length-canonical_in}
 use Rattle.iri_normal.specs.NormalForm.{canonical_in}
 use Rattle.iri_cli.specs.run.Limits.{longest_line, answer_room}
-use Rattle.iri_cli.specs.canon.Answers.{refusal, answer_in}
+use Rattle.iri_cli.specs.canon.Answers.{refusal}
+use Rattle.iri_normal.specs.Answers.{answer_in}
 use Rattle.iri_cli.specs.run.Answering.{Answering, AnswersLine, PutsAnswer}
 use Rattle.iri_cli.specs.canon.Puts.{PutsLine, told_of, IsCanonAt}
 use Rattle.iri_cli.specs.run.Words.{canon_rules_in, is_ok}

@@ -21,7 +21,8 @@ use Rattle.iri_template.specs.TypeFaults.{expansion_fault}
 use Rattle.iri_template.specs.declared.error.Error.{Error}
 use Rattle.iri_template.specs.declared.simple_context.SimpleContext.{SimpleContext}
 use Rattle.iri_cli.specs.run.Limits.{answer_room, longest_line}
-use Rattle.iri_cli.specs.canon.Answers.{answer, answer_by, answer_in, refusal}
+use Rattle.iri_cli.specs.canon.Answers.{answer, refusal}
+use Rattle.iri_normal.specs.Answers.{answer_by, answer_in}
 use Rattle.iri_cli.specs.run.Answering.{Answering, AnswersLine, PutsAnswer}
 use Rattle.iri_cli.specs.canon.Puts.{PutsLine, told_of}
 use Rattle.iri_cli.specs.run.Ending.{Rules}

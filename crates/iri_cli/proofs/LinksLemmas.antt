@@ -11,7 +11,8 @@ use Rattle.iri_link.proofs.FieldLemmas.{links_of_faultless}
 use Rattle.iri_link.proofs.NoFaultLemmas.{links_without_fault}
 use Rattle.iri_link.proofs.OneListLemmas.{field-given}
 use Rattle.iri_link.proofs.WrittenLemmas.{read_again}
-use Rattle.iri_cli.specs.canon.Answers.{good_answer, refusal}
+use Rattle.iri_cli.specs.canon.Answers.{refusal}
+use Rattle.iri_normal.specs.Answers.{good_answer}
 use Rattle.iri_cli.specs.links.Answers.{field_refusal, links_answer, links_line, unless_told}
 use Rattle.iri_cli.proofs.BytesLemmas.{base_absolute}
 

@@ -29,7 +29,8 @@ use Rattle.iri_grammar.specs.Fault.{bytes_fault}
 use Rattle.iri_grammar.specs.WholeFault.{absolute_fault, reference_fault}
 use Rattle.iri_grammar.proofs.FaultLaws.{absolute-law, of_bytes, reference-utf8}
 use Rattle.iri_normal.proofs.PathLaws.{stands-still as same_there}
-use Rattle.iri_cli.specs.canon.Answers.{refusal, words_of_fault, answer_in, answer_by}
+use Rattle.iri_cli.specs.canon.Answers.{refusal, words_of_fault}
+use Rattle.iri_normal.specs.Answers.{answer_in, answer_by}
 use Rattle.iri_cli.specs.canon.Prepared.{prepared_path, prepared_parts, prepared}
 use Rattle.iri_cli.proofs.PreparedPaths.{IsRooted, rooted_beside, whole_dots, same_empty, merged_dots, path_over, rules_kept, path_short}
 use Rattle.iri_cli.proofs.BytesLemmas.{base_absolute}

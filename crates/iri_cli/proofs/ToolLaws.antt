@@ -25,7 +25,8 @@ use Rattle.iri_template.specs.Expansion.{expansion}
 use Rattle.iri_template.specs.Reading.{pieces_of}
 use Rattle.iri_template.specs.TypeFaults.{expansion_fault}
 use Rattle.iri_template.specs.declared.error.Error.{Error}
-use Rattle.iri_cli.specs.canon.Answers.{answer, answer_by, answer_in}
+use Rattle.iri_cli.specs.canon.Answers.{answer}
+use Rattle.iri_normal.specs.Answers.{answer_by, answer_in}
 use Rattle.iri_cli.specs.docs.Answers.{docs_answer, read_answer}
 use Rattle.iri_cli.specs.docs.Expansions.{AnswersAreExpansions, HasExpansion, IsDocumentAnswer, no_document, faulty, longer}
 use Rattle.iri_cli.specs.docs.Expansions.{no_reference, expanded}

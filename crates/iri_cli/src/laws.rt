@@ -4,7 +4,8 @@ ghost use Rattle.std.specs.Prelude.{◌≡◌, ◌≤◌, ◌+◌, ◌⊎◌, �
 ghost use Rattle.iri_grammar.specs.Parts.{IsAbsolute};
 ghost use Rattle.iri_grammar.specs.WholeFault.{reference_fault};
 ghost use Rattle.iri_normal.specs.NormalForm.{canonical_in};
-ghost use Rattle.iri_cli.specs.canon.Answers.{refusal, answer_in};
+ghost use Rattle.iri_cli.specs.canon.Answers.{refusal};
+ghost use Rattle.iri_normal.specs.Answers.{answer_in};
 ghost use Rattle.iri_cli.specs.canon.Prepared.{prepared};
 ghost use Rattle.iri_cli.specs.generator.References.{gen_base, gen_reference};
 ghost use Rattle.iri_cli.specs.links.FieldValues.{AnswersAreLinks};

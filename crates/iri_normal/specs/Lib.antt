@@ -8,6 +8,7 @@ pub mod Kept
 pub mod PathForm
 pub mod Guard
 pub mod NormalForm
+pub mod Answers
 pub mod Prefix
 pub mod Normalized
 pub mod NormalizedText

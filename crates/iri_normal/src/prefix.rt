@@ -8,6 +8,7 @@ ghost use Rattle.iri_normal.specs.Prefix.{IsPrefix, prefix_in};
 
 use crate::comparison::is_text;
 use crate::form::show_prefix;
+use crate::unchanged::keeps_prefix;
 use iri_grammar::spec::Spec;
 use iri_text::{Show, Stop, TextSink};
 use iri_types::kind::{Absolute, WholeKind};
@@ -72,6 +73,10 @@ pub fn normal_prefix<'a, S: Spec>(base: &SplitView<'a, S, Absolute>) -> Option<&
     ensures { IsPrefix S.tests (split_of (split_text base.now)) (now_of result) }
 {
     let (text, _) = cut_prefix(base);
+    // The scan of a base says this of most.
+    if keeps_prefix::<S>(base.parts()) {
+        return Some(text);
+    }
     if is_text(&NormalPrefix { base: *base }, text) {
         Some(text)
     } else {

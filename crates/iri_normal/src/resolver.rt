@@ -71,7 +71,23 @@ impl<'a, S: Spec> FixedBaseResolver<'a, S> {
     pub fn new(base: RiAbsoluteStr<'a, S>) -> Self
         ensures { base_text result ≡ text base.entry }
     {
-        let base = SplitView::of(base);
+        FixedBaseResolver::of_split(SplitView::of(base))
+    }
+
+    /// The resolver of a base that was split into its parts before. The notes of a scan spare it work.
+    ///
+    /// ```
+    /// use iri::prelude::ToStringFallible;
+    /// use iri::resolve::FixedBaseResolver;
+    /// use iri::spec::UriSpec;
+    /// use iri::types::{SplitView, UriReferenceStr};
+    /// let page = SplitView::<UriSpec, _>::absolute_from_bytes(b"http://a/b/c/d;p?q")?;
+    /// let target = FixedBaseResolver::of_split(page).resolve(UriReferenceStr::new("../g")?);
+    /// assert_eq!(rt; target.try_to_string(rt.alloc())?.as_str(), "http://a/b/g");
+    /// ```
+    pub fn of_split(base: SplitView<'a, S, Absolute>) -> Self
+        ensures { base_text result ≡ split_text base.entry }
+    {
         let front = merge_prefix(base.parts());
         let plain = base.parts().authority().is_some() && lacks_triplets_and_dots(front, front);
         let prefix = normal_prefix(&base);

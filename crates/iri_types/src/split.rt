@@ -1,14 +1,16 @@
 //! Views of whole texts together with their one split (RFC 3986 section 3).
-ghost use Rattle.std.specs.Prelude.{◌≡◌, IfOk};
+ghost use Rattle.std.specs.Prelude.{◌≡◌, IfOk, is_some};
 ghost use Rattle.std.proofs.Props.{props};
 ghost use Rattle.iri_grammar.specs.Fault.{Answers, bytes_fault};
 ghost use Rattle.iri_grammar.specs.Parts.{Fits};
 ghost use Rattle.iri_grammar.specs.Split.{split_of};
 ghost use Rattle.iri_grammar.specs.Splitters.{parts};
-ghost use Rattle.iri_grammar.specs.WholeFault.{reference_fault};
+ghost use Rattle.iri_grammar.specs.WholeFault.{absolute_fault, reference_fault};
+ghost use Rattle.iri_types.specs.Allowed.{allows_absolute};
 ghost use Rattle.iri_types.specs.Texts.{text};
 
-use crate::kind::{Reference, WholeKind};
+use crate::kind::{Absolute, Reference, WholeKind};
+use crate::utf8::text_of;
 use crate::view::View;
 use iri_grammar::error::Error;
 use iri_grammar::spec::Spec;
@@ -114,6 +116,77 @@ impl<'a, S: Spec> SplitView<'a, S, Reference> {
                 view: View::from_valid(s),
                 cut,
             }),
+            Err(error) => Err(error),
+        }
+    }
+}
+
+// Whether the parts of a reference are those of an absolute URI.
+fn is_absolute(cut: &Splitter<'_>) -> bool
+    ensures { result ≡ allows_absolute (is_some (parts cut.now).scheme) (is_some (parts cut.now).fragment) }
+{
+    cut.scheme().is_some() && cut.fragment().is_none()
+}
+
+impl<'a, S: Spec> SplitView<'a, S, Absolute> {
+    ghost use Rattle.iri_types.specs.SplitText.{split_text};
+
+    /// The split view of bytes that are the UTF-8 of an absolute URI: the same as `View::try_from_bytes` and `of`, in one
+    /// scan of the text.
+    ///
+    /// # Errors
+    ///
+    /// - `InvalidUtf8` where the bytes aren't UTF-8, which is tested first.
+    /// - Otherwise the first fault of the text, exactly where it is no absolute URI.
+    ///
+    /// ```
+    /// use iri::spec::UriSpec;
+    /// use iri::types::SplitView;
+    /// let page = SplitView::<UriSpec, _>::absolute_from_bytes(b"http://a/b?c")?;
+    /// assert_eq!(rt; page.parts().path(), "/b");
+    /// assert!(rt; SplitView::<UriSpec, _>::absolute_from_bytes(b"b?c").is_err());
+    /// ```
+    pub fn absolute_from_bytes(b: &'a [u8]) -> Result<Self, Error>
+        ensures fault { Answers result (bytes_fault (absolute_fault S.tests) b.now) }
+        ensures text { IfOk result (λ v. split_text v ≡ b.now) }
+    {
+        match text_of(b) {
+            Some(s) => SplitView::absolute(s),
+            None => Err(Error::new(ErrorKind::InvalidUtf8)),
+        }
+    }
+
+    /// The split view of a text that is an absolute URI.
+    ///
+    /// # Errors
+    ///
+    /// Exactly where the text is none: the first fault from the left.
+    pub fn absolute(s: &'a str) -> Result<Self, Error>
+        ensures fault { Answers result (absolute_fault S.tests s.now) }
+        ensures text { IfOk result (λ v. split_text v ≡ s.now) }
+    {
+        match Splitter::new::<S>(s) {
+            Ok(cut) => {
+                if is_absolute(&cut) {
+                    Ok(SplitView {
+                        view: View::from_valid(s),
+                        cut,
+                    })
+                } else {
+                    SplitView::judged(s)
+                }
+            }
+            Err(_) => SplitView::judged(s),
+        }
+    }
+
+    // The same part by part: it tells the fault of a text that is none.
+    fn judged(s: &'a str) -> Result<Self, Error>
+        ensures fault { Answers result (absolute_fault S.tests s.now) }
+        ensures text { IfOk result (λ v. split_text v ≡ s.now) }
+    {
+        match View::new(s) {
+            Ok(view) => Ok(SplitView::of(view)),
             Err(error) => Err(error),
         }
     }

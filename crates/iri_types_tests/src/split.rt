@@ -1,6 +1,6 @@
 use iri_grammar::error::ErrorKind;
 use iri_grammar::spec::{IriSpec, UriSpec};
-use iri_types::kind::Reference;
+use iri_types::kind::{Absolute, Reference};
 use iri_types::split::SplitView;
 use iri_types::view::{IriAbsoluteStr, UriReferenceStr};
 use std::test::Fail;
@@ -44,4 +44,33 @@ fn refusals(rt: HostRuntime) {
     assert_eq!(rt; fault("?\u{3B1}".as_bytes()), None);
     let view = UriReferenceStr::new("##");
     assert!(rt; view.is_err() && SplitView::<'_, UriSpec, Reference>::new("##").is_err());
+}
+
+// Why bytes are no absolute URI.
+fn absolute_fault(bytes: &[u8]) -> Option<ErrorKind> {
+    match SplitView::<'_, UriSpec, Absolute>::absolute_from_bytes(bytes) {
+        Ok(_) => None,
+        Err(error) => Some(error.kind()),
+    }
+}
+
+// RFC 3986 section 4.3.
+#[test]
+fn absolute_texts(rt: HostRuntime) -> Result<(), Fail> {
+    let Ok(base) = SplitView::<'_, IriSpec, Absolute>::absolute("http://a/b?\u{3B1}") else {
+        return Err("a base is refused")?;
+    };
+    assert_eq!(rt; base.view().as_str(), "http://a/b?\u{3B1}");
+    assert_eq!(rt; base.parts().authority(), Some("a"));
+    assert_eq!(rt; base.parts().query(), Some("\u{3B1}"));
+    assert_eq!(rt; absolute_fault(b"http://a/b/c/d;p?q"), None);
+    assert_eq!(rt; absolute_fault(b"a/b"), Some(ErrorKind::UnexpectedRelative));
+    assert_eq!(rt;
+        absolute_fault(b"a:b#"),
+        Some(ErrorKind::UnexpectedFragment)
+    );
+    assert_eq!(rt; absolute_fault(b"1a:b"), Some(ErrorKind::InvalidScheme));
+    assert_eq!(rt; absolute_fault(b"a:%"), Some(ErrorKind::InvalidPath));
+    assert_eq!(rt; absolute_fault(b"a:\xFF"), Some(ErrorKind::InvalidUtf8));
+    Ok(())
 }

@@ -1,5 +1,5 @@
--- Why a base line is refused, and the answer to a reference line.
-use Rattle.std.specs.Prelude.{◌≡◌, ℕ, codes, List, [], ◌∷◌, ◌++◌, Option, Some, None}
+-- Why a base line is refused, and what a good answer to a reference line says.
+use Rattle.std.specs.Prelude.{◌≡◌, ℕ, List, Option, Some, None}
 use Rattle.iri_grammar.specs.Classes.{Tests}
 use Rattle.iri_grammar.specs.Fault.{bytes_fault}
 use Rattle.iri_grammar.specs.ErrorTexts.{description}
@@ -10,7 +10,7 @@ use Rattle.iri_grammar.specs.declared.error.ErrorKind.{ErrorKind}
 use Rattle.iri_percent.specs.declared.canon_mode.CanonMode.{CanonMode}
 use Rattle.iri_percent.specs.declared.canon_mode.CanonMode.TheVariants.{Default}
 use Rattle.iri_normal.specs.NormalForm.{canonical_in, canonical_parts_in}
-use Rattle.iri_text.specs.LineEnds.{line_feed}
+use Rattle.iri_normal.specs.Answers.{good_answer, answer_in}
 
 abbrev pub words_of_fault : Option ErrorKind → Option (List ℕ)
 words_of_fault None = None
@@ -19,21 +19,6 @@ words_of_fault (Some kind) = Some (description kind)
 -- a base is to be UTF-8 and an `absolute-URI` (RFC 3986 section 4.3): otherwise the words for its first fault
 unfoldable pub refusal : Tests → List ℕ → Option (List ℕ)
 refusal s line = words_of_fault (bytes_fault (absolute_fault s) line)
-
-abbrev pub good_answer : List ℕ → List ℕ
-good_answer text = codes "ok " ++ (text ++ line_feed ∷ [])
-
-abbrev pub bad_answer : ErrorKind → List ℕ
-bad_answer kind = codes "bad " ++ (description kind ++ line_feed ∷ [])
-
-abbrev pub answer_by : Option ErrorKind → List ℕ → List ℕ
-answer_by None text = good_answer text
-answer_by (Some kind) text = bad_answer kind
-
--- the line, with its LF, that answers a reference line against a base: its canonical text by the rules of a mode
--- (RFC 3986 sections 5.2, 6.2.2 and 6.2.3), or the words for its first fault where it isn't UTF-8 or no `URI-reference`
-unfoldable pub answer_in : Tests → CanonMode → List ℕ → List ℕ → List ℕ
-answer_in s mode base line = answer_by (bytes_fault (reference_fault s) line) (canonical_in s mode base line)
 
 -- the same by the rules of every scheme
 abbrev pub answer : Tests → List ℕ → List ℕ → List ℕ

@@ -20,7 +20,7 @@ use Rattle.iri_normal.specs.DotRemoval.{dots}
 use Rattle.iri_normal.specs.Dots.{is_dot_segment}
 use Rattle.iri_normal.specs.NormalForm.{normal_path, normal_form, form, canonical}
 use Rattle.iri_normal.specs.Target.{target}
-use Rattle.iri_cli.specs.canon.Answers.{answer_in}
+use Rattle.iri_normal.specs.Answers.{answer_in}
 use Rattle.iri_cli.specs.run.Ending.{answers}
 use Rattle.iri_cli.specs.run.Words.{IsCommand, rules_of}
 use Rattle.iri_cli.specs.declared.run.words.Command.TheVariants.{Lines}

@@ -23,7 +23,7 @@ use Rattle.iri_normal.specs.Target.{target}
 use Rattle.iri_normal.specs.Dots.{is_dot_segment}
 use Rattle.iri_normal.specs.DotRemoval.{dots}
 use Rattle.iri_normal.specs.NormalForm.{normal_path, normal_form, form, canonical}
-use Rattle.iri_cli.specs.canon.Answers.{answer_in}
+use Rattle.iri_normal.specs.Answers.{answer_in}
 use Rattle.iri_cli.specs.docs.Answers.{docs_answer}
 use Rattle.iri_cli.specs.expand.Answers.{template_answer, expansion_answer}
 use Rattle.iri_cli.specs.run.Ending.{answers}

@@ -15,7 +15,7 @@ use Rattle.iri_template.specs.Reading.{pieces_of}
 use Rattle.iri_template.specs.TypeFaults.{expansion_fault}
 use Rattle.iri_template.specs.declared.error.Error.{Error}
 use Rattle.iri_text.specs.LineEnds.{line_feed}
-use Rattle.iri_cli.specs.canon.Answers.{bad_answer, good_answer}
+use Rattle.iri_normal.specs.Answers.{bad_answer, good_answer}
 use Rattle.iri_cli.specs.docs.Answers.{docs_answer}
 use Rattle.iri_cli.specs.expand.Answers.{template_refusal, too_long}
 

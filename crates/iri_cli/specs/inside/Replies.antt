@@ -3,7 +3,7 @@ use Rattle.std.specs.Prelude.{◌≡◌, ℕ, codes, fold, List, Option, Some}
 use Rattle.iri_grammar.specs.declared.error.ErrorKind.{ErrorKind}
 use Rattle.iri_register.specs.Commands.{Command, obeyed}
 use Rattle.iri_register.specs.Entries.{Entry}
-use Rattle.iri_cli.specs.canon.Answers.{bad_answer}
+use Rattle.iri_normal.specs.Answers.{bad_answer}
 use Rattle.iri_cli.specs.run.Refused.{bad_line}
 use Rattle.iri_cli.specs.register.Answers.{numbered, none_line}
 use Rattle.iri_cli.specs.declared.register.Reply.{Reply}

@@ -8,7 +8,7 @@ use Rattle.iri_link.specs.Readings.{links_in}
 use Rattle.iri_link.specs.Resolved.{resolved}
 use Rattle.iri_link.specs.Written.{written}
 use Rattle.iri_text.specs.LineEnds.{line_feed}
-use Rattle.iri_cli.specs.canon.Answers.{good_answer}
+use Rattle.iri_normal.specs.Answers.{good_answer}
 
 -- the first fault of a field value, and how many bytes stand before it
 abbrev pub field_refusal : Told → List ℕ

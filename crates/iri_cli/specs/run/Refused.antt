@@ -3,7 +3,7 @@ use Rattle.std.specs.Prelude.{ℕ, Bool, not, nat_eq, codes, List, [], ◌∷◌
 use Rattle.std.specs.List.{starts_with}
 use Rattle.iri_grammar.specs.declared.error.ErrorKind.{ErrorKind}
 use Rattle.iri_text.specs.LineEnds.{line_feed}
-use Rattle.iri_cli.specs.canon.Answers.{bad_answer}
+use Rattle.iri_normal.specs.Answers.{bad_answer}
 
 -- the answer to a line that asks nothing
 abbrev pub bad_line : List ℕ

@@ -6,7 +6,8 @@ use Rattle.iri_percent.specs.declared.canon_mode.CanonMode.{CanonMode}
 use Rattle.iri_percent.specs.declared.canon_mode.CanonMode.TheVariants.{Default, Scheme}
 use Rattle.iri_cli.specs.run.Limits.{longest_line, longest_input}
 use Rattle.iri_cli.specs.run.Ending.{Rules}
-use Rattle.iri_cli.specs.canon.Answers.{refusal, answer_in}
+use Rattle.iri_cli.specs.canon.Answers.{refusal}
+use Rattle.iri_normal.specs.Answers.{answer_in}
 use Rattle.iri_cli.specs.docs.Answers.{docs_answer}
 use Rattle.iri_cli.specs.expand.Answers.{expand_answer}
 use Rattle.iri_cli.specs.links.Answers.{links_answer}

@@ -1,17 +1,31 @@
-use Rattle.std.proofs.Common.{arith, sym, ◌≡◌, ◌∙◌, ap, take, drop, ◌++◌, ◌+◌, ◌-◌}
+use Rattle.std.proofs.Common.{arith, sym, ◌≡◌, ◌<◌, ◌≤◌, ◌∙◌, ap, take, drop, ◌++◌, ◌+◌, ◌-◌, ℕ, List, length}
 use Rattle.std.proofs.lemmas.Grind.{common_steps}
+use Rattle.iri_c.specs.inside.Placed.{over_at}
 use Rattle.iri_c.specs.inside.PlacedLaws.{over_at-past, over_at-mid}
 use Rattle.iri_c.proofs.buffer.copy_at.Goals as goal
 
-pub returns-then-at-buf : goal.returns-then-at-buf
-returns-then-at-buf c =
-    let k = c.min-n.result in
-    let placed = over_at-mid c.args.at k c.args.bytes.now c.args.buf.now (omega arith) (omega arith) (λ l. omega arith) in
-    let piece : c.copy_from_slice.new.self ≡ take k c.args.bytes.now = grind (arith, common_steps) in
-    let width : (c.args.at + k) - c.args.at ≡ k = omega arith in
-    ap (λ y. take c.args.at c.args.buf.now ++ (y ++ drop ((c.args.at + k) - c.args.at) (drop c.args.at c.args.buf.now))) piece
-    ∙ ap (λ m. take c.args.at c.args.buf.now ++ (take k c.args.bytes.now ++ drop m (drop c.args.at c.args.buf.now))) width
-    ∙ placed
+-- so many bytes of the text, put in at a place
+put : (n m k : ℕ) (t new buf : List ℕ) → new ≡ take k t → m ≡ k → n + k ≤ length buf → k ≤ length t → (k < length t → length buf ≤ n + k)
+    → take n buf ++ (new ++ drop m (drop n buf)) ≡ over_at n t buf
+put n m k t new buf e w h i j =
+    ap (λ y. take n buf ++ (y ++ drop m (drop n buf))) e
+    ∙ ap (λ x. take n buf ++ (take k t ++ drop x (drop n buf))) w
+    ∙ over_at-mid n k t buf h i j
 
-pub returns-else-at-buf : goal.returns-else-at-buf
-returns-else-at-buf c = sym (over_at-past c.args.at c.args.bytes.now c.args.buf.now (omega arith))
+pub returns-then-at-buf : goal.returns-then-at-buf
+returns-then-at-buf c = sym (over_at-past c.args.at c.args.bytes.now c.args.buf.now (omega arith))
+
+pub returns-then-bytes-room : goal.returns-then-bytes-room
+returns-then-bytes-room c =
+    let t = c.args.bytes.now in
+    let piece : c.copy_from_slice.new.self ≡ take (length t) t = grind (arith, common_steps) in
+    put c.args.at ((c.args.at + length t) - c.args.at) (length t) t c.copy_from_slice.new.self c.args.buf.now piece (omega arith)
+    (omega arith) (omega arith) (λ l. omega (arith, l))
+
+pub returns-else-bytes-room : goal.returns-else-bytes-room
+returns-else-bytes-room c =
+    let t = c.args.bytes.now in
+    let k = length c.args.buf.now - c.args.at in
+    let piece : c.copy_from_slice-else-bytes-room.new.self ≡ take k t = grind (arith, common_steps) in
+    put c.args.at k k t c.copy_from_slice-else-bytes-room.new.self c.args.buf.now piece (omega arith)
+    (omega arith) (omega arith) (λ l. omega (arith, l))

@@ -1,6 +1,7 @@
 use Rattle.std.proofs.Common.{arith, ap, ◌∙◌, sym, subst}
 use Rattle.iri_normal.specs.Resolver.{base_text}
-use Rattle.iri_c.specs.Lines.{answer_in, line_answer, batch, ended}
+use Rattle.iri_normal.specs.Answers.{answer_in}
+use Rattle.iri_c.specs.Lines.{line_answer, batch, ended}
 use Rattle.iri_c.specs.inside.BufferText.{BufferPuts, BufferHalts}
 use Rattle.iri_c.proofs.LineLemmas.{Going, going_init, going_end, going_end-bytes, going_short, going_short-bytes, going_next}
 use Rattle.iri_c.proofs.lines.answer_lines.Goals as goal

@@ -5,7 +5,7 @@ use Rattle.iri_cli.specs.declared.run.answers.AnswerError.TheVariants.{SinkFaile
 use Rattle.iri_types.specs.SplitText.{split_text}
 use Rattle.iri_normal.specs.NormalForm.{canonical_in}
 use Rattle.iri_normal.specs.Resolver.{base_text}
-use Rattle.iri_cli.specs.canon.Answers.{answer_in, good_answer, bad_answer}
+use Rattle.iri_normal.specs.Answers.{answer_in, good_answer, bad_answer}
 use Rattle.iri_cli.specs.canon.Puts.{PutsLine, told_of}
 use Rattle.iri_cli.proofs.AnswerLemmas.{answer_of_reference, answer_of_fault}
 use Rattle.iri_cli.proofs.CanonLemmas.{puts_line, line_room, has_room}

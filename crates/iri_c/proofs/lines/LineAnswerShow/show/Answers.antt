@@ -9,7 +9,7 @@ use Rattle.iri_normal.specs.NormalForm.{canonical_in}
 use Rattle.iri_normal.specs.Resolver.{base_text}
 use Rattle.iri_text.specs.Shown.{Shows}
 use Rattle.iri_types.specs.SplitText.{split_text}
-use Rattle.iri_c.specs.Lines.{answer_in, answer_by}
+use Rattle.iri_normal.specs.Answers.{answer_in, answer_by}
 use Rattle.iri_c.proofs.lines.LineAnswerShow.show.Goals as goal
 
 good : (s : Tests) (m : CanonMode) (b line t : List ℕ) → bytes_fault (reference_fault s) line ≡ None → t ≡ line
