@@ -12,7 +12,7 @@ ghost use Rattle.iri_types.specs.Texts.{text};
 use crate::kind::{Absolute, Reference, WholeKind};
 use crate::utf8::text_of;
 use crate::view::View;
-use iri_grammar::error::Error;
+use iri_grammar::error::{Error, ErrorKind};
 use iri_grammar::spec::Spec;
 use iri_grammar::splitter::Splitter;
 use std::alloc::AllocError;
