@@ -10,7 +10,7 @@ mod schemes;
 
 use iri_cli::help::HELP;
 use iri_cli::run::{MEMORY, run};
-use iri_cli::{CanonBuffers, canon_lines};
+use iri_cli::{LineBuffers, canon_lines};
 use iri_grammar::spec::UriSpec;
 use iri_text::{Failed, MemorySink, MemorySource, PlainSource, Sink, Source};
 use std::alloc::AllocError;
@@ -527,7 +527,7 @@ fn bases_of_dots(rt: HostRuntime) -> Result<(), Fail> {
 // The buffers are made where there is memory, and the lines are answered in them.
 #[test]
 fn lines_in_buffers(rt: HostRuntime) -> Result<(), Fail> {
-    let buffers = CanonBuffers::new(rt.alloc())?;
+    let buffers = LineBuffers::new(rt.alloc())?;
     let mut source = PlainSource::new(b"http://a/b/c/d;p?q\n../../../g\n");
     let mut room = [0; 64];
     let mut sink = MemorySink::new(&mut room, &[]);

@@ -7,7 +7,7 @@ use Rattle.iri_percent.specs.declared.canon_mode.CanonMode.{CanonMode}
 use Rattle.iri_cli.specs.run.Limits.{longest_line, answer_room}
 use Rattle.iri_cli.specs.canon.Answers.{refusal, answer_in}
 use Rattle.iri_cli.specs.run.Answering.{Answering, FailsWithin}
-use Rattle.iri_cli.specs.run.Words.{canon_rules_in, is_ok}
+use Rattle.iri_cli.specs.canon.Rules.{canon_rules_in, is_ok}
 use Rattle.iri_cli.specs.declared.run.answers.AnswerError.{AnswerError}
 use Rattle.iri_cli.specs.declared.run.answers.AnswerError.TheVariants.{SinkFailed, Memory}
 

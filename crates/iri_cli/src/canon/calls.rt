@@ -2,10 +2,10 @@
 ghost use Rattle.std.specs.Prelude.{◌≢◌};
 ghost use Rattle.iri_cli.specs.canon.Answers.{AnswersAreCanonical, AnswersAreCanonicalIn};
 ghost use Rattle.iri_cli.specs.run.Run.{Runs, outside};
-ghost use Rattle.iri_cli.specs.run.Words.{canon_rules, canon_rules_in};
+ghost use Rattle.iri_cli.specs.canon.Rules.{canon_rules, canon_rules_in};
 
 use crate::canon::Canon;
-use crate::run::buffers::CanonBuffers;
+use crate::run::buffers::LineBuffers;
 use crate::run::opening::run_lines;
 use iri_grammar::spec::Spec;
 use iri_normal::mode::CanonMode;
@@ -19,7 +19,7 @@ use iri_text::{Sink, Source};
 /// - 4: the source failed; 5: the sink failed
 /// - 7: a line has more than 1,048,576 bytes before its LF; 8: the input has more than 1,073,741,824 bytes
 pub fn canon_lines<S: Spec, I: Source, O: Sink>(
-    buffers: CanonBuffers,
+    buffers: LineBuffers,
     source: &mut I,
     sink: &mut O,
 ) -> u8
@@ -40,7 +40,7 @@ pub fn canon_lines<S: Spec, I: Source, O: Sink>(
 /// schemes, the default port goes, and beside an authority an empty path becomes `/` (RFC 3986 section 6.2.3).
 pub fn canon_lines_in<S: Spec, I: Source, O: Sink>(
     mode: CanonMode,
-    buffers: CanonBuffers,
+    buffers: LineBuffers,
     source: &mut I,
     sink: &mut O,
 ) -> u8

@@ -1,4 +1,4 @@
-//! The memory of a run of `canon`.
+//! The memory that a run over lines takes first.
 ghost use Rattle.std.specs.Prelude.{◌≤◌, IfOk, length};
 ghost use Rattle.std.specs.Vec.{vec_capacity};
 ghost use Rattle.iri_cli.specs.run.Buffers.{AreBuffers};
@@ -16,31 +16,32 @@ pub const INPUT: u64 = 1073741824;
 /// reference together and three more, and an LF.
 pub const OUTPUT: usize = 2 * LINE + 7;
 
-/// All of the memory that a run of `canon` needs: for a reader of lines, the base line, and an
-/// answer. Of the last two it uses only as much as its longest lines need.
+/// The memory that every command over lines takes before it reads, and all that `canon` needs: for a
+/// reader of lines, the base line, and an answer. Of the last two a run uses only as much as its
+/// longest lines need.
 #[derive(Drop)]
-pub struct CanonBuffers {
+pub struct LineBuffers {
     pub(crate) reader: LineReader,
     pub(crate) base: Vec<u8>,
     pub(crate) output: Vec<u8>,
     pub ghost sound: { AreBuffers reader (vec_capacity base) (vec_capacity output) },
 }
 
-impl CanonBuffers {
+impl LineBuffers {
     /// Takes the memory: 65,536 bytes and a line for a reader that took nothing yet, a line for the
     /// base, and two lines and seven bytes for an answer.
     ///
     /// # Errors
     ///
     /// Where that is refused, and only there.
-    pub fn new(alloc: Global) -> Result<CanonBuffers, AllocError>
+    pub fn new(alloc: Global) -> Result<LineBuffers, AllocError>
         ensures { IfOk result
             (λ b. AreBuffers b.reader (vec_capacity b.base) (vec_capacity b.output)) }
     {
         let reader = LineReader::new(alloc, LINE, INPUT)?;
         let base = Vec::with_capacity(alloc, LINE)?;
         let output = Vec::with_capacity(alloc, OUTPUT)?;
-        Ok(CanonBuffers {
+        Ok(LineBuffers {
             reader,
             base,
             output,

@@ -10,7 +10,7 @@ use crate::canon::{base_of, resolver_of};
 use crate::run::answering::{answer_lines, fault_end};
 use crate::run::answers::{Answers, BaseError};
 use crate::run::base::{read_base, refuse_base};
-use crate::run::buffers::CanonBuffers;
+use crate::run::buffers::LineBuffers;
 use crate::run::end::{End, finish};
 use iri_grammar::spec::Spec;
 use iri_owned::owned::RiAbsoluteString;
@@ -32,7 +32,7 @@ pub(crate) fn own_base<S: Spec>(
     }
 }
 
-// Reads the base line into a buffer, and answers the lines behind it.
+// Reads the base line into a buffer, and answers the lines after it.
 fn answer_with<S: Spec, A: Answers<S>, I: Source, O: Sink>(
     start: A::Start,
     mut reader: LineReader,
@@ -61,11 +61,11 @@ fn answer_with<S: Spec, A: Answers<S>, I: Source, O: Sink>(
     }
 }
 
-/// Reads a base line and the lines of a command behind it, answers each, and gives the program's
+/// Reads a base line and the lines of a command after it, answers each, and gives the program's
 /// status. It takes no memory but the buffers and what the command takes.
 pub(crate) fn run_lines<S: Spec, A: Answers<S>, I: Source, O: Sink>(
     start: A::Start,
-    buffers: CanonBuffers,
+    buffers: LineBuffers,
     source: &mut I,
     sink: &mut O,
 ) -> u8
@@ -74,7 +74,7 @@ pub(crate) fn run_lines<S: Spec, A: Answers<S>, I: Source, O: Sink>(
         (outside (I.left source.new) (O.written sink.new) (I.faults source.new) (O.faults sink.new))
         (O.room_left sink.old) (O.room_left sink.new) result }
 {
-    let CanonBuffers {
+    let LineBuffers {
         reader,
         mut base,
         output,

@@ -1,7 +1,7 @@
 // The rows of `canon` by scheme rules.
 
 use super::{answers, right_rows};
-use iri_cli::{CanonBuffers, canon_lines_in};
+use iri_cli::{LineBuffers, canon_lines_in};
 use iri_grammar::spec::IriSpec;
 use iri_normal::mode::CanonMode;
 use iri_text::{MemorySink, PlainSource};
@@ -114,7 +114,7 @@ fn lines_in_a_mode(rt: HostRuntime) -> Result<(), Fail> {
         (CanonMode::Scheme, b"ok http://h/\n".as_slice()),
     ];
     for (mode, output) in rows {
-        let buffers = CanonBuffers::new(rt.alloc())?;
+        let buffers = LineBuffers::new(rt.alloc())?;
         let mut source = PlainSource::new(b"http://h:80\n\n");
         let mut room = [0; 64];
         let mut sink = MemorySink::new(&mut room, &[]);
