@@ -26,8 +26,8 @@ use Rattle.iri_cli.proofs.Reading.{left_is, reads_line, reads_all, reads_some, r
 use Rattle.iri_cli.proofs.Ends.{one_more, one_more_good, first_read, first_lines, ends_all, ends_past}
 
 -- all of these bytes are a prefix of them
-pub whole_front : {a b : Option (List ℕ)} {xs : List ℕ} → Appends a b xs → AppendsPrefix a b xs
-whole_front {xs = xs} p = record { front = xs; rest = []; split = append-nil xs; appended = p }
+pub whole_prefix : {a b : Option (List ℕ)} {xs : List ℕ} → Appends a b xs → AppendsPrefix a b xs
+whole_prefix {xs = xs} p = record { front = xs; rest = []; split = append-nil xs; appended = p }
 
 -- what was taken to the end is all
 pub taken_is : (lo ln : Option (List ℕ)) (x taken : List ℕ) → lo ≡ Some x → Consumes lo ln taken → IsAtEnd ln → x ≡ taken
@@ -49,7 +49,7 @@ no_cr-shorter (b ∷ c ∷ raw) = let h = no_cr-shorter (c ∷ raw) in omega (ar
 abbrev answered_to : Rules → List ℕ → List (List ℕ) → List ℕ
 answered_to rules base rest = concat (answers rules base rest)
 
--- The lines that were given behind the base were answered.
+-- The lines that were given after the base were answered.
 pub record Goes (stands_at : Answering → Type 0) (start : Answering) (reader_old reader : LineState)
     (left_old left written_old written : Option (List ℕ)) (source_old source sink_old sink : ℕ) (room_old room_new : Option ℕ)
     (good : Bool) : Type 0 where
@@ -170,7 +170,7 @@ module _ (stands_at : Answering → Type 0) (start : Answering) (reader0 old new
             → KeepsRoom rm rn (start.rules.answer start.base go.between new.line) (NotSink (Err e)) → Ends wn kn rn (end_of_error e)
         by_error AnswerFailed q k = record {
           to = omega (arith, q.1, go.sink_same);
-          front = λ x told. let h = output x told in
+          prefix = λ x told. let h = output x told in
               subst (AppendsPrefix wo wn) (sym h.1) (front-longer h.0 (front-after out go.writes q.0));
           source_later = omega (arith, earlier, go.source_later, a.later);
           sink_later = omega (arith, q.2, go.sink_same);
@@ -185,11 +185,11 @@ module _ (stands_at : Answering → Type 0) (start : Answering) (reader0 old new
             writes = subst (λ (w : Option (List ℕ)). Appends wo w out) (sym q.1) go.writes;
             sink = q.2 ∙ go.sink_same;
           };
-          front = λ x told.
+          prefix = λ x told.
               let h = output x told in
               subst (AppendsPrefix wo wn) (sym (h.1 ∙ append_assoc out (start.rules.answer start.base go.between new.line) h.0))
               (front-longer (start.rules.answer start.base go.between new.line ++ h.0)
-              (whole_front (subst (λ (w : Option (List ℕ)). Appends wo w out) (sym q.1) go.writes)));
+              (whole_prefix (subst (λ (w : Option (List ℕ)). Appends wo w out) (sym q.1) go.writes)));
           source_later = omega (arith, earlier, go.source_later, a.later);
           sink_later = omega (arith, q.2, go.sink_same);
           room = room_of AnswerMemory k;
@@ -218,9 +218,9 @@ module _ (stands_at : Answering → Type 0) (start : Answering) (reader0 old new
             ∙ ap (λ (e : Ending). e.output) ends
 
         -- a prefix of it
-        front_of : AppendsPrefix wo wn (out ++ start.rules.closing start.base go.between) → (x : List ℕ) → before ≡ Some x
+        prefix_of : AppendsPrefix wo wn (out ++ start.rules.closing start.base go.between) → (x : List ℕ) → before ≡ Some x
             → AppendsPrefix wo wn (ending start.rules x).output
-        front_of f x told = subst (AppendsPrefix wo wn) (sym (output x told)) f
+        prefix_of f x told = subst (AppendsPrefix wo wn) (sym (output x told)) f
 
         room_of : (e : End) → KeepsRoom rm rn (start.rules.closing start.base go.between) (e ≢ SinkFailed) → (x : List ℕ) → before ≡ Some x
             → KeepsRoom ro rn (ending start.rules x).output (e ≢ SinkFailed)
@@ -240,7 +240,7 @@ module _ (stands_at : Answering → Type 0) (start : Answering) (reader0 old new
 
         put_whole : Appends wm wn (start.rules.closing start.base go.between)
             → AppendsPrefix wo wn (out ++ start.rules.closing start.base go.between)
-        put_whole put = whole_front (Appends-append wo wm wn out (start.rules.closing start.base go.between) go.writes put)
+        put_whole put = whole_prefix (Appends-append wo wm wn out (start.rules.closing start.base go.between) go.writes put)
 
         source : faults ≤ sn
         source = omega (arith, earlier, go.source_later, a.later)
@@ -249,21 +249,21 @@ module _ (stands_at : Answering → Type 0) (start : Answering) (reader0 old new
             → KeepsRoom rm rn (start.rules.closing start.base go.between) (e ≢ SinkFailed) → Ends wn kn rn e
         by_end Done q f = record {
           to = finished true q.0 q.1 q.2;
-          front = front_of (put_whole q.1);
+          prefix = prefix_of (put_whole q.1);
           source_later = source;
           sink_later = omega (arith, q.2, go.sink_same);
           room = room_of Done f;
         }
         by_end SomeBad q f = record {
           to = finished false q.0 q.1 q.2;
-          front = front_of (put_whole q.1);
+          prefix = prefix_of (put_whole q.1);
           source_later = source;
           sink_later = omega (arith, q.2, go.sink_same);
           room = room_of SomeBad f;
         }
         by_end SinkFailed q f = record {
           to = omega (arith, q.1, go.sink_same);
-          front = front_of (front-after out go.writes q.0);
+          prefix = prefix_of (front-after out go.writes q.0);
           source_later = source;
           sink_later = omega (arith, q.2, go.sink_same);
           room = room_of SinkFailed f;
@@ -278,7 +278,7 @@ module _ (stands_at : Answering → Type 0) (start : Answering) (reader0 old new
     pub stops_at : (fault : LineFault) (end : End) → end ≡ end_at fault → Advances old new lm ln sm sn (Err fault) → Ends wm km rm end
     stops_at fault end is a = subst (Ends wm km rm) (sym is) (record {
       to = by_fault fault a;
-      front = front_of;
+      prefix = prefix_of;
       source_later = omega (arith, earlier, go.source_later, a.later);
       sink_later = omega (arith, go.sink_same);
       room = room_of;
@@ -290,10 +290,10 @@ module _ (stands_at : Answering → Type 0) (start : Answering) (reader0 old new
             subst (λ (t : List ℕ). KeepsRoom ro rm t (end_at fault ≢ SinkFailed)) (sym h.1)
             (room-longer h.0 (room-so (λ _. not_sink fault) go.room))
 
-        front_of : (x : List ℕ) → before ≡ Some x → AppendsPrefix wo wm (ending start.rules x).output
-        front_of x told =
+        prefix_of : (x : List ℕ) → before ≡ Some x → AppendsPrefix wo wm (ending start.rules x).output
+        prefix_of x told =
             let h = first_read start.rules start.base taken before lm old go.between (go.read before first) x told in
-            subst (AppendsPrefix wo wm) (sym h.1) (front-longer h.0 (whole_front go.writes))
+            subst (AppendsPrefix wo wm) (sym h.1) (front-longer h.0 (whole_prefix go.writes))
 
         decided : (status : ℕ) → ReadsPast start.rules status before ln (start.base ∷ go.between)
             → Decides start.rules status (outside before wo faults ko) (outside ln wm sn km)
@@ -338,7 +338,7 @@ pub fails_first : (start : Answering) (reader : LineState) (before left wo wn : 
     → Ran start.rules (outside before wo faults ko) (outside left wn sn kn) ro rn SinkFailed
 fails_first start reader before left wo wn faults sn ko kn ro rn taken read kept rose later sink room = record {
   to = rose;
-  front = λ x told.
+  prefix = λ x told.
       let h = first_read start.rules start.base taken before left reader [] read x told in
       subst (λ (w : Option (List ℕ)). AppendsPrefix wo w (ending start.rules x).output) (sym kept)
       (record { front = []; rest = (ending start.rules x).output; split = refl; appended = Appends-none wo });

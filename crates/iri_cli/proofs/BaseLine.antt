@@ -23,7 +23,7 @@ use Rattle.iri_cli.specs.declared.run.end.End.TheVariants.{Done, SomeBad, BadBas
 use Rattle.iri_cli.proofs.Reading.{left_is, read_none, reads_line, reads_all, reads_some, reads_long, reads_over, goes_on}
 use Rattle.iri_cli.proofs.LineSteps.{place_later}
 use Rattle.iri_cli.proofs.Ends.{ends_past_none}
-use Rattle.iri_cli.proofs.Answered.{whole_front, taken_is, no_cr-shorter, not_sink}
+use Rattle.iri_cli.proofs.Answered.{whole_prefix, taken_is, no_cr-shorter, not_sink}
 
 -- a line is within the limit of its reader
 pub line_short : (lo ln : Option (List ℕ)) (fo fn : ℕ) (old new : LineState) → Advances old new lo ln fo fn (Ok true)
@@ -70,7 +70,7 @@ module _ (rules : Rules) where
         → ReadsBase rules lo ln fo fn new base (Err fault)
     gives_fault base fault a written k r = record {
       to = by_fault fault a;
-      front = λ x told. record { front = []; rest = (ending rules x).output; split = refl; appended = Appends-none written };
+      prefix = λ x told. record { front = []; rest = (ending rules x).output; split = refl; appended = Appends-none written };
       source_later = a.later;
       sink_later = omega arith;
       room = λ x told. room-same r (ending rules x).output (λ _. not_sink fault);
@@ -118,9 +118,9 @@ module _ (rules : Rules) where
         by_passed (Some p) is =
             let later : length given ≤ p.place = place_later rules (length given) 0 y p (sym (o.passes y) ∙ is) in
             let place : p.place ≡ length given + (p.place - length given) = omega (arith, later) in
-            let front : take p.place (given ++ y) ≡ given ++ take (p.place - length given) y =
+            let prefix : take p.place (given ++ y) ≡ given ++ take (p.place - length given) y =
             ap (λ (n : ℕ). take n (given ++ y)) place ∙ take-append-add given y (p.place - length given) in
-            ap (stopped rules p.status) (ap ended_lines front ∙ o.ended (take (p.place - length given) y)) ∙ refused_is _
+            ap (stopped rules p.status) (ap ended_lines prefix ∙ o.ended (take (p.place - length given) y)) ∙ refused_is _
 
     -- These bytes were taken, and have this ending however the source goes on.
     record EndsOpen (left_old left_new : Option (List ℕ)) : Type 0 where
@@ -174,8 +174,8 @@ module _ (rules : Rules) where
             (λ e. ap (λ (n : Ending). n.output) (ap (ending rules) (taken_is lo ln x e.taken told e.takes e.at_end) ∙ e.ends))
             ends
 
-        front_of : AppendsPrefix wo wn (base_line words) → (x : List ℕ) → lo ≡ Some x → AppendsPrefix wo wn (ending rules x).output
-        front_of f x told = subst (AppendsPrefix wo wn) (sym (output x told)) f
+        prefix_of : AppendsPrefix wo wn (base_line words) → (x : List ℕ) → lo ≡ Some x → AppendsPrefix wo wn (ending rules x).output
+        prefix_of f x told = subst (AppendsPrefix wo wn) (sym (output x told)) f
 
         room_of : (e : End) → KeepsRoom ro rn (base_line words) (e ≢ SinkFailed) → (x : List ℕ) → lo ≡ Some x
             → KeepsRoom ro rn (ending rules x).output (e ≢ SinkFailed)
@@ -201,14 +201,14 @@ module _ (rules : Rules) where
                 sink = q.1;
               }))
               ends;
-          front = front_of (whole_front q.0);
+          prefix = prefix_of (whole_prefix q.0);
           source_later = later;
           sink_later = omega (arith, q.1);
           room = room_of BadBase k;
         }
         by_end SinkFailed q k = record {
           to = q.1;
-          front = front_of q.0;
+          prefix = prefix_of q.0;
           source_later = later;
           sink_later = q.2;
           room = room_of SinkFailed k;

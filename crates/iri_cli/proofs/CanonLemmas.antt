@@ -15,7 +15,7 @@ use Rattle.iri_cli.specs.canon.Answers.{refusal}
 use Rattle.iri_normal.specs.Answers.{answer_in}
 use Rattle.iri_cli.specs.run.Answering.{Answering, AnswersLine, PutsAnswer}
 use Rattle.iri_cli.specs.canon.Puts.{PutsLine, told_of, IsCanonAt}
-use Rattle.iri_cli.specs.run.Words.{canon_rules_in, is_ok}
+use Rattle.iri_cli.specs.canon.Rules.{canon_rules_in, is_ok}
 use Rattle.iri_cli.specs.declared.run.answers.AnswerError.{AnswerError}
 use Rattle.iri_cli.specs.declared.run.answers.AnswerError.TheVariants.{SinkFailed, Memory}
 use Rattle.iri_cli.specs.run.Ending.{Rules}
@@ -36,7 +36,7 @@ puts_nothing w f r = record {
   room = room-same r [] (λ _. refl);
 }
 
--- a command that writes nothing behind all answers
+-- a command that writes nothing after all answers
 pub closes_nothing : (at : Answering) (w : Option (List ℕ)) (f : ℕ) (r : Option ℕ) → at.rules.closing at.base at.between ≡ []
     → PutsAll w w f f r r (Ok tt) (at.rules.closing at.base at.between)
 closes_nothing at w f r none = subst (λ t. PutsAll w w f f r r (Ok tt) t) (sym none) (puts_nothing w f r)
@@ -61,7 +61,7 @@ has_room s m base line text output l taken none is room =
     let e : length (canonical_in s m base text) ≡ length (canonical_in s m base line) = ap (λ (t : List ℕ). length (canonical_in s m base t)) is in
     omega (arith, h, e, room)
 
--- `canon` stands behind a base line that it prepared
+-- `canon` stands after a base line that it prepared
 pub canon_opened : (s : Tests) (m : CanonMode) (line text : List ℕ) (output : ℕ) → IsSpec s → text ≡ prepared s line
     → refusal s line ≡ None → length text ≤ longest_line → answer_room ≤ output
     → (refusal s text ≡ None) × IsCanonAt s m text output (begun (canon_rules_in s m) line)

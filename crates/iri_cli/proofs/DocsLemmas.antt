@@ -15,7 +15,8 @@ use Rattle.iri_cli.specs.inside.Opening.{begun}
 use Rattle.iri_cli.specs.inside.StatelessAt.{IsStatelessAt}
 use Rattle.iri_cli.specs.run.Answering.{Answering, AnswersLine}
 use Rattle.iri_cli.specs.run.Limits.{answer_room, longest_line}
-use Rattle.iri_cli.specs.run.Words.{docs_rules, is_ok}
+use Rattle.iri_cli.specs.canon.Rules.{is_ok}
+use Rattle.iri_cli.specs.docs.Rules.{docs_rules}
 use Rattle.iri_cli.specs.declared.run.answers.AnswerError.{AnswerError}
 
 -- the answer to a line by what was read of it
@@ -53,7 +54,7 @@ answers_docs s base expansion after output grown at line wo wn fo fn ro rn r is 
     }
     next (Err e) h = tt
 
--- it stands behind a base line, with buffers
+-- it stands after a base line, with buffers
 pub docs_opened : (s : Tests) (line expansion : List ℕ) (output : ℕ) → refusal s line ≡ None → length line ≤ longest_line
     → length expansion ≡ expansion_limit → answer_room ≤ output → IsDocsAt s line expansion output (begun (docs_rules s) line)
 docs_opened s line expansion output taken short expansion_room output_room = record {

@@ -8,7 +8,7 @@ use Rattle.std.proofs.Math.Seq.{take-append-add}
 use Rattle.iri_text.specs.Lines.{lines}
 use Rattle.iri_text.specs.Source.{Consumes, IsAtEnd}
 use Rattle.iri_text.specs.Line.{LineState}
-use Rattle.iri_cli.specs.run.Ending.{Rules, Ending, Passed, unless_refused, ended_lines, first_passed, answers_behind, answers, completed}
+use Rattle.iri_cli.specs.run.Ending.{Rules, Ending, Passed, unless_refused, ended_lines, first_passed, answers_after, answers, completed}
 use Rattle.iri_cli.specs.run.Ending.{completed_lines, stopped, ending_by, ending}
 use Rattle.iri_cli.specs.run.Read.{IsOpen, HasRead, ReadsAll, ReadsPast}
 use Rattle.iri_cli.proofs.LineSteps.{place_later}
@@ -17,12 +17,12 @@ use Rattle.iri_cli.proofs.Reading.{left_is}
 module _ (rules : Rules) where
   -- answers to more lines
   pub answers-append : (base : List ℕ) (between xs ys : List (List ℕ))
-      → answers_behind rules base between (xs ++ ys) ≡ answers_behind rules base between xs ++ answers_behind rules base (between ++ xs) ys
-  answers-append base between [] ys = ap (λ (b : List (List ℕ)). answers_behind rules base b ys) (sym (append-nil between))
+      → answers_after rules base between (xs ++ ys) ≡ answers_after rules base between xs ++ answers_after rules base (between ++ xs) ys
+  answers-append base between [] ys = ap (λ (b : List (List ℕ)). answers_after rules base b ys) (sym (append-nil between))
   answers-append base between (x ∷ xs) ys =
       ap (λ (t : List (List ℕ)). rules.answer base between x ∷ t)
       (answers-append base (between ++ x ∷ []) xs ys
-      ∙ ap (λ (b : List (List ℕ)). answers_behind rules base (between ++ x ∷ []) xs ++ answers_behind rules base b ys)
+      ∙ ap (λ (b : List (List ℕ)). answers_after rules base (between ++ x ∷ []) xs ++ answers_after rules base b ys)
       (append_assoc between (x ∷ []) xs))
 
   module _ (base : List ℕ) (taken : rules.refusal base ≡ None) where
@@ -31,7 +31,7 @@ module _ (rules : Rules) where
         → concat (answers rules base (rest ++ line ∷ [])) ≡ concat (answers rules base rest) ++ rules.answer base rest line
     one_more rest line =
         ap concat (answers-append base [] rest (line ∷ []))
-        ∙ concat-append (answers rules base rest) (answers_behind rules base rest (line ∷ []))
+        ∙ concat-append (answers rules base rest) (answers_after rules base rest (line ∷ []))
         ∙ ap (λ (t : List ℕ). concat (answers rules base rest) ++ t) (append-nil (rules.answer base rest line))
 
     pub one_more_good : (rest : List (List ℕ)) (line : List ℕ)
@@ -39,7 +39,7 @@ module _ (rules : Rules) where
         ≡ (list_all rules.is_good (answers rules base rest) && rules.is_good (rules.answer base rest line))
     one_more_good rest line =
         ap (list_all rules.is_good) (answers-append base [] rest (line ∷ []))
-        ∙ list_all-append rules.is_good (answers rules base rest) (answers_behind rules base rest (line ∷ []))
+        ∙ list_all-append rules.is_good (answers rules base rest) (answers_after rules base rest (line ∷ []))
         ∙ ap (λ (b : Bool). list_all rules.is_good (answers rules base rest) && b) (and_true (rules.is_good (rules.answer base rest line)))
       where
         and_true : (b : Bool) → (b && true) ≡ b
@@ -55,26 +55,26 @@ module _ (rules : Rules) where
     IsFirst rest output = (more : List ℕ) × (output ≡ concat (answers rules base rest) ++ more)
 
     more_lines : (rest others : List (List ℕ)) → concat (answers rules base (rest ++ others))
-        ≡ concat (answers rules base rest) ++ concat (answers_behind rules base rest others)
+        ≡ concat (answers rules base rest) ++ concat (answers_after rules base rest others)
     more_lines rest others = ap concat (answers-append base [] rest others)
-        ∙ concat-append (answers rules base rest) (answers_behind rules base rest others)
+        ∙ concat-append (answers rules base rest) (answers_after rules base rest others)
 
     first_completed : (rest others : List (List ℕ)) → IsFirst rest (completed rules base (rest ++ others)).output
     first_completed rest others = (
-      concat (answers_behind rules base rest others) ++ rules.closing base (rest ++ others),
+      concat (answers_after rules base rest others) ++ rules.closing base (rest ++ others),
       ap (λ (e : Ending). e.output) (is_taken _) ∙ ap (λ (t : List ℕ). t ++ rules.closing base (rest ++ others)) (more_lines rest others)
-          ∙ append_assoc (concat (answers rules base rest)) (concat (answers_behind rules base rest others))
+          ∙ append_assoc (concat (answers rules base rest)) (concat (answers_after rules base rest others))
           (rules.closing base (rest ++ others)),
     )
 
     first_stopped : (status : ℕ) (rest others : List (List ℕ)) → IsFirst rest (stopped rules status (base ∷ (rest ++ others))).output
     first_stopped status rest others = (
-      concat (answers_behind rules base rest others),
+      concat (answers_after rules base rest others),
       ap (λ (e : Ending). e.output) (is_taken _)
           ∙ more_lines rest others,
     )
 
-    -- behind whole lines
+    -- after whole lines
     first_open : (given : List ℕ) (rest : List (List ℕ)) → IsOpen rules given (base ∷ rest) → (y : List ℕ)
         → IsFirst rest (ending rules (given ++ y)).output
     first_open given rest o y = by_passed (first_passed rules (given ++ y)) refl
@@ -85,10 +85,10 @@ module _ (rules : Rules) where
         by_passed (Some p) is =
             let later : length given ≤ p.place = place_later rules (length given) 0 y p (sym (o.passes y) ∙ is) in
             let place : p.place ≡ length given + (p.place - length given) = omega (arith, later) in
-            let front : take p.place (given ++ y) ≡ given ++ take (p.place - length given) y =
+            let prefix : take p.place (given ++ y) ≡ given ++ take (p.place - length given) y =
             ap (λ (n : ℕ). take n (given ++ y)) place ∙ take-append-add given y (p.place - length given) in
             subst (λ (t : List (List ℕ)). IsFirst rest (stopped rules p.status t).output)
-            (sym (ap ended_lines front ∙ o.ended (take (p.place - length given) y)))
+            (sym (ap ended_lines prefix ∙ o.ended (take (p.place - length given) y)))
             (first_stopped p.status rest (ended_lines (take (p.place - length given) y)))
 
     -- of an input whose lines were read so far

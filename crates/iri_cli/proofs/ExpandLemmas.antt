@@ -28,8 +28,9 @@ use Rattle.iri_cli.specs.canon.Puts.{PutsLine, told_of}
 use Rattle.iri_cli.specs.run.Ending.{Rules}
 use Rattle.iri_cli.specs.expand.Answers.{answer_to, expansion_answer, template_answer, template_refusal}
 use Rattle.iri_cli.specs.expand.Answers.{too_long, unless_fault}
-use Rattle.iri_cli.specs.expand.Lines.{ExpandLine, Values, after_line, line_of, values_behind}
-use Rattle.iri_cli.specs.run.Words.{expand_rules, is_ok, is_ok_or_none}
+use Rattle.iri_cli.specs.expand.Lines.{ExpandLine, Values, after_line, line_of, values_after}
+use Rattle.iri_cli.specs.canon.Rules.{is_ok}
+use Rattle.iri_cli.specs.expand.Rules.{expand_rules, is_ok_or_none}
 use Rattle.iri_cli.specs.inside.ExpandAt.{IsExpandAt}
 use Rattle.iri_cli.specs.inside.Opening.{begun}
 use Rattle.iri_cli.specs.declared.run.answers.AnswerError.{AnswerError}
@@ -107,7 +108,7 @@ module _ (s : Tests) (base expansion : List ℕ) (output : ℕ) (values : Values
   answer_is : at.rules.answer at.base at.between line ≡ answer_to s base values said
   answer_is =
       ap (λ (r : Rules). r.answer at.base at.between line) is.rules
-      ∙ ap (λ b. answer_to s b (values_behind at.between) (line_of line)) is.base_is
+      ∙ ap (λ b. answer_to s b (values_after at.between) (line_of line)) is.base_is
       ∙ ap (λ v. answer_to s base v (line_of line)) (sym is.values_are)
       ∙ ap (answer_to s base values) reads
 
@@ -117,7 +118,7 @@ module _ (s : Tests) (base expansion : List ℕ) (output : ℕ) (values : Values
   next_at expansion_new output_new new expansion_size output_grows after = record {
     rules = is.rules;
     base_is = is.base_is;
-    values_are = after ∙ ap (λ v. after_line v said) is.values_are ∙ ap (after_line (values_behind at.between)) (sym reads)
+    values_are = after ∙ ap (λ v. after_line v said) is.values_are ∙ ap (after_line (values_after at.between)) (sym reads)
         ∙ sym (values-more _ at.between line);
     taken = is.taken;
     short = is.short;
@@ -175,7 +176,7 @@ module _ (s : Tests) (base expansion : List ℕ) (output : ℕ) (values : Values
       room = room-same r text (λ _ h. cc h);
     }
 
--- `expand` stands behind a base line, with buffers and no values
+-- `expand` stands after a base line, with buffers and no values
 pub expand_opened : (s : Tests) (line expansion : List ℕ) (output : ℕ) (context : SimpleContext) → refusal s line ≡ None
     → length line ≤ longest_line → length expansion ≡ expansion_limit → answer_room ≤ output
     → ((q : List ℕ) → value_at context q ≡ None)

@@ -134,7 +134,7 @@ module _ (s : Tests) (k : IsSpec s) where
   is_path_of : (t : List ℕ) → IsPathText t → text_over (path_char s) t ≡ true
   is_path_of t h = text_is (path_char s) t (class_has_no_percent s k Path) h.ascii h.over
 
-  -- ---- a path alone, and one behind an authority
+  -- ---- a path alone, and one after an authority
   alone : (t : List ℕ) → IsPathText t → (not (starts_with_slashes t) && lacks 58 (before 47 t)) ≡ true → reference_fault s t ≡ None
   unfolding recompose
   alone t h rules =
@@ -175,19 +175,19 @@ module _ (s : Tests) (k : IsSpec s) where
       not_true false h = refl
 
   -- the first segment is empty
-  behind_slash : (x : List ℕ) → IsSegment x → (count number : ℕ) → reference_fault s (47 ∷ (x ++ more_segments count number)) ≡ None
-  behind_slash (f ∷ fs) h count number =
+  after_slash : (x : List ℕ) → IsSegment x → (count number : ℕ) → reference_fault s (47 ∷ (x ++ more_segments count number)) ≡ None
+  after_slash (f ∷ fs) h count number =
       alone (47 ∷ f ∷ (fs ++ more_segments count number))
       (joined (47 ∷ []) (f ∷ (fs ++ more_segments count number)) slash_text
       (joined (f ∷ fs) (more_segments count number) (segment_text (f ∷ fs) h) (more_text count number)))
       (rw (first_apart f fs h.no_slash) refl)
-  behind_slash [] h zero number = lone_slash
-  behind_slash [] h (suc count) number = beside (gen_segment (number % 16)) (more_segments count (number / 16)) (segment_is (number % 16))
+  after_slash [] h zero number = lone_slash
+  after_slash [] h (suc count) number = beside (gen_segment (number % 16)) (more_segments count (number / 16)) (segment_is (number % 16))
       (more_text count (number / 16)) (edge count (number / 16)).1
 
   of_segments : (x : List ℕ) → IsSegment x → (count number : ℕ) → reference_fault s (x ++ more_segments count number) ≡ None
   of_segments [] h zero number = alone [] (more_text zero number) refl
-  of_segments [] h (suc count) number = behind_slash (gen_segment (number % 16)) (segment_is (number % 16)) count (number / 16)
+  of_segments [] h (suc count) number = after_slash (gen_segment (number % 16)) (segment_is (number % 16)) count (number / 16)
   of_segments (f ∷ fs) h count number =
       let more = more_segments count number in
       let e : before 47 (fs ++ more) ≡ fs = before-at 47 fs more (both (not (f == 47)) (lacks 47 fs) h.no_slash).1 (edge count number).0 in

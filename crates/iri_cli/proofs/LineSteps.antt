@@ -63,7 +63,7 @@ module _ (rules : Rules) where
   place_of None = 0
   place_of (Some p) = p.place
 
-  -- a limit is passed behind the bytes that stand before
+  -- a limit is passed after the bytes that stand before
   pub place_later : (place len : ℕ) (y : List ℕ) (p : Passed) → passed_from rules place len y ≡ Some p → place ≤ p.place
   place_later place len [] p is = absurd (cc is)
   place_later place len (b ∷ y) p is =
@@ -81,20 +81,20 @@ module _ (rules : Rules) where
       by_tests false false false at_lf on e = let h = on e in omega (arith, h)
 
 -- lines over the bytes of a line
-pub lines_along : (front raw y : List ℕ) → NoLf raw → lines_from front (raw ++ y) ≡ lines_from (front ++ raw) y
-lines_along front [] y n = ap (λ (f : List ℕ). lines_from f y) (sym (append-nil front))
-lines_along front (b ∷ raw) y n = other b (lines_from (front ++ b ∷ []) (raw ++ y)) n.0 ∙ lines_along (front ++ b ∷ []) raw y n.1
-    ∙ ap (λ (f : List ℕ). lines_from f y) (append_assoc front (b ∷ []) raw)
+pub lines_along : (prefix raw y : List ℕ) → NoLf raw → lines_from prefix (raw ++ y) ≡ lines_from (prefix ++ raw) y
+lines_along prefix [] y n = ap (λ (f : List ℕ). lines_from f y) (sym (append-nil prefix))
+lines_along prefix (b ∷ raw) y n = other b (lines_from (prefix ++ b ∷ []) (raw ++ y)) n.0 ∙ lines_along (prefix ++ b ∷ []) raw y n.1
+    ∙ ap (λ (f : List ℕ). lines_from f y) (append_assoc prefix (b ∷ []) raw)
   where
-    other : (c : ℕ) (rest : List (List ℕ)) → c ≢ 10 → (if c == 10 then no_cr front ∷ lines_from [] (raw ++ y) else rest) ≡ rest
+    other : (c : ℕ) (rest : List (List ℕ)) → c ≢ 10 → (if c == 10 then no_cr prefix ∷ lines_from [] (raw ++ y) else rest) ≡ rest
     other c rest h = grind (arith, nat_tests)
 
-pub ended_along : (front raw y : List ℕ) → NoLf raw → ended_from front (raw ++ y) ≡ ended_from (front ++ raw) y
-ended_along front [] y n = ap (λ (f : List ℕ). ended_from f y) (sym (append-nil front))
-ended_along front (b ∷ raw) y n = other b (ended_from (front ++ b ∷ []) (raw ++ y)) n.0 ∙ ended_along (front ++ b ∷ []) raw y n.1
-    ∙ ap (λ (f : List ℕ). ended_from f y) (append_assoc front (b ∷ []) raw)
+pub ended_along : (prefix raw y : List ℕ) → NoLf raw → ended_from prefix (raw ++ y) ≡ ended_from (prefix ++ raw) y
+ended_along prefix [] y n = ap (λ (f : List ℕ). ended_from f y) (sym (append-nil prefix))
+ended_along prefix (b ∷ raw) y n = other b (ended_from (prefix ++ b ∷ []) (raw ++ y)) n.0 ∙ ended_along (prefix ++ b ∷ []) raw y n.1
+    ∙ ap (λ (f : List ℕ). ended_from f y) (append_assoc prefix (b ∷ []) raw)
   where
-    other : (c : ℕ) (rest : List (List ℕ)) → c ≢ 10 → (if c == 10 then no_cr front ∷ ended_from [] (raw ++ y) else rest) ≡ rest
+    other : (c : ℕ) (rest : List (List ℕ)) → c ≢ 10 → (if c == 10 then no_cr prefix ∷ ended_from [] (raw ++ y) else rest) ≡ rest
     other c rest h = grind (arith, nat_tests)
 
 -- bytes with no LF have no line that an LF ends

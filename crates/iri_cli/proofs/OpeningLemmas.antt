@@ -17,12 +17,12 @@ use Rattle.iri_cli.specs.run.Steps.{GivesBase, IsNew}
 use Rattle.iri_cli.specs.declared.run.end.End.TheVariants.{Memory}
 use Rattle.iri_cli.proofs.BytesLemmas.{refused_none}
 
--- Allocation failed before the first line behind the base was answered.
+-- Allocation failed before the first line after the base was answered.
 pub ends_in_memory : (rules : Rules) (lo ln wo : Option (List ℕ)) (fo fn ko : ℕ) (ro : Option ℕ) → rules.takes_memory ≡ true → fo ≤ fn
     → Ran rules (outside lo wo fo ko) (outside ln wo fn ko) ro ro Memory
 ends_in_memory rules lo ln wo fo fn ko ro takes later = record {
   to = record { takes_memory = takes; whole = []; first = λ x told. (_, refl); base_taken = tt; writes = Appends-none wo; sink = refl };
-  front = λ x told. record { front = []; rest = (ending rules x).output; split = refl; appended = Appends-none wo };
+  prefix = λ x told. record { front = []; rest = (ending rules x).output; split = refl; appended = Appends-none wo };
   source_later = later;
   sink_later = omega arith;
   room = λ x told. room-same ro (ending rules x).output (λ _ h. cc h);
@@ -56,6 +56,6 @@ module _ (s : Tests) (rules : Rules) (begins : BeginsAsCanon s rules) where
       base_read =
           ⊎_elim (λ h. h) (λ h. absurd (refuses_empty s (subst (λ (t : List ℕ). refusal s t ≡ None) h.1 taken))) gives
 
-      -- the command stands behind it
+      -- the command stands after it
       pub ready : (stands_at : Answering → Type 0) → stands_at (begun rules line) → IsReady stands_at (begun rules line) reader
       ready stands_at at = record { at = at; first = refl; base_taken = refusal_is ∙ taken; going = base_read.1 }

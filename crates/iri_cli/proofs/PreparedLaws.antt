@@ -117,11 +117,11 @@ authority_same s d (Some x) k h = ap Some (authority_again s d x k h)
 
 some_merged : (t : Parts) (x : ℕ) (xs : List ℕ) → is_empty (target_path t (x ∷ xs)) ≡ false
 some_merged t x xs = elim (starts_with_slash (x ∷ xs)) as (λ b. is_empty (cond b (x ∷ xs) (merge_prefix t ++ x ∷ xs))
-    ≡ false) [ true ↦ refl | false ↦ some_behind (merge_prefix t) ]
+    ≡ false) [ true ↦ refl | false ↦ some_after (merge_prefix t) ]
   where
-    some_behind : (f : List ℕ) → is_empty (f ++ x ∷ xs) ≡ false
-    some_behind [] = refl
-    some_behind (y ∷ ys) = refl
+    some_after : (f : List ℕ) → is_empty (f ++ x ∷ xs) ≡ false
+    some_after [] = refl
+    some_after (y ∷ ys) = refl
 
 empty_same : (s : Tests) (t : Parts) (path : List ℕ) → IsRooted t.authority t.path
     → (is_some t.authority && is_empty (target_path (prepared_parts s t) path)) ≡ (is_some t.authority && is_empty (target_path t path))

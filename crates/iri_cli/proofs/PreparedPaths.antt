@@ -26,9 +26,9 @@ use Rattle.iri_normal.proofs.TargetLaws.{cut_over}
 use Rattle.iri_normal.proofs.WrittenLemmas.{written-dots, written-ends, written-two}
 use Rattle.iri_cli.specs.canon.Prepared.{prepared_path}
 
--- ---- the front: what stands before the last segment
-abbrev front_of : Bool → List ℕ → List ℕ
-front_of stands path = guard (dots (to_last_slash path)) stands
+-- ---- the directory: what stands before the last segment
+abbrev directory_of : Bool → List ℕ → List ℕ
+directory_of stands path = guard (dots (to_last_slash path)) stands
 
 dots_end : (f : List ℕ) → ends_at_slash f ≡ true → ends_at_slash (dots f) ≡ true
 dots_end f h = subst (λ z. ends_at_slash z ≡ true) (written-dots f) (written-ends [] f refl h)
@@ -39,20 +39,20 @@ guard_ends [] false h = refl
 guard_ends (x ∷ xs) stands h =
     elim (stands || not (starts_with_slashes (x ∷ xs))) as (λ b. ends_at_slash (cond b (x ∷ xs) (47 ∷ 46 ∷ x ∷ xs)) ≡ true) [ true ↦ h | false ↦ h ]
 
-front_ends : (stands : Bool) (path : List ℕ) → ends_at_slash (front_of stands path) ≡ true
-front_ends stands path = guard_ends (dots (to_last_slash path)) stands (dots_end (to_last_slash path) (ends path))
+directory_ends : (stands : Bool) (path : List ℕ) → ends_at_slash (directory_of stands path) ≡ true
+directory_ends stands path = guard_ends (dots (to_last_slash path)) stands (dots_end (to_last_slash path) (ends path))
 
--- ---- what follows the front finds its dot segments removed
+-- ---- what follows the directory finds its dot segments removed
 onto_dots : (f r : List ℕ) → ends_at_slash f ≡ true → written (dots f) r ≡ dots (f ++ r)
 onto_dots f r h = ap (λ b. written b r) (sym (written-dots f)) ∙ (sym (written-two [] f r h) ∙ written-dots (f ++ r))
 
-front_dots : (stands : Bool) (path r : List ℕ) → dots (front_of stands path ++ r) ≡ dots (to_last_slash path ++ r)
-front_dots stands path r =
-    sym (onto_dots (front_of stands path) r (front_ends stands path))
+directory_dots : (stands : Bool) (path r : List ℕ) → dots (directory_of stands path ++ r) ≡ dots (to_last_slash path ++ r)
+directory_dots stands path r =
+    sym (onto_dots (directory_of stands path) r (directory_ends stands path))
     ∙ (ap (λ b. written b r) (guarded-stable (to_last_slash path) stands) ∙ onto_dots (to_last_slash path) r (ends path))
 
 pub whole_dots : (stands : Bool) (path : List ℕ) → dots (prepared_path stands path) ≡ dots path
-whole_dots stands path = front_dots stands path (last_segment path) ∙ ap dots (at_last_slash path).0
+whole_dots stands path = directory_dots stands path (last_segment path) ∙ ap dots (at_last_slash path).0
 
 -- ---- the last slash is where it was
 and_false : (b : Bool) → (b && false) ≡ false
@@ -73,8 +73,8 @@ cut_again (x ∷ []) l h k = ap (λ b. cond b [] (x ∷ to_last_slash l)) (has_s
 cut_again (x ∷ y ∷ ys) l h k = ap (λ b. cond b [] (x ∷ to_last_slash (y ∷ (ys ++ l)))) (has_slash x (y ∷ ys) l h)
     ∙ ap (λ z. x ∷ z) (cut_again (y ∷ ys) l h k)
 
-front_again : (stands : Bool) (path : List ℕ) → to_last_slash (prepared_path stands path) ≡ front_of stands path
-front_again stands path = cut_again (front_of stands path) (last_segment path) (front_ends stands path) (at_last_slash path).1
+directory_again : (stands : Bool) (path : List ℕ) → to_last_slash (prepared_path stands path) ≡ directory_of stands path
+directory_again stands path = cut_again (directory_of stands path) (last_segment path) (directory_ends stands path) (at_last_slash path).1
 
 -- ---- beside an authority the path is empty or begins with a slash, and so it stays
 abbrev pub IsRooted : Option (List ℕ) → List ℕ → Type 0
@@ -97,7 +97,7 @@ slash_onto (x ∷ xs) l h = h
 
 still_slash : (path : List ℕ) → starts_with_slash path ≡ true → starts_with_slash (prepared_path true path) ≡ true
 still_slash path h =
-    slash_onto (front_of true path) (last_segment path) (dots-slash (to_last_slash path) (first_slash path h))
+    slash_onto (directory_of true path) (last_segment path) (dots-slash (to_last_slash path) (first_slash path h))
 
 still_empty : prepared_path true [] ≡ []
 still_empty = append-nil (dots []) ∙ dots-nothing
@@ -108,22 +108,22 @@ same_empty None path h = refl
 same_empty (Some a) [] h = ap is_empty still_empty
 same_empty (Some a) (x ∷ xs) h = begun (prepared_path true (x ∷ xs)) (still_slash (x ∷ xs) h)
 
--- ---- references are merged with the front
+-- ---- references are merged with the directory
 pub merged_dots : (a : Option (List ℕ)) (path r : List ℕ) → IsRooted a path
     → dots (cond (is_some a && is_empty (prepared_path (is_some a) path)) (47 ∷ []) (to_last_slash (prepared_path (is_some a) path)) ++ r)
     ≡ dots (cond (is_some a && is_empty path) (47 ∷ []) (to_last_slash path) ++ r)
 merged_dots a path r h =
     ap (λ b. dots (cond b (47 ∷ []) (to_last_slash (prepared_path (is_some a) path)) ++ r)) (same_empty a path h)
-    ∙ (ap (λ f. dots (cond (is_some a && is_empty path) (47 ∷ []) f ++ r)) (front_again (is_some a) path)
-    ∙ (elim (is_some a && is_empty path) as (λ b. dots (cond b (47 ∷ []) (front_of (is_some a) path) ++ r)
-    ≡ dots (cond b (47 ∷ []) (to_last_slash path) ++ r)) [ true ↦ refl | false ↦ front_dots (is_some a) path r ]))
+    ∙ (ap (λ f. dots (cond (is_some a && is_empty path) (47 ∷ []) f ++ r)) (directory_again (is_some a) path)
+    ∙ (elim (is_some a && is_empty path) as (λ b. dots (cond b (47 ∷ []) (directory_of (is_some a) path) ++ r)
+    ≡ dots (cond b (47 ∷ []) (to_last_slash path) ++ r)) [ true ↦ refl | false ↦ directory_dots (is_some a) path r ]))
 
 -- ---- it is a path, by the rules of one
 pub path_over : (s : Tests) (a : Option (List ℕ)) (path : List ℕ) → is_path s path ≡ true
     → is_path s (prepared_path (is_some a) path) ≡ true
 path_over s a path h =
     let c = cut_over (path_char s) path h in
-    text_over-append (path_char s) (front_of (is_some a) path) (last_segment path) (plain-over s a (to_last_slash path) c.0) c.1
+    text_over-append (path_char s) (directory_of (is_some a) path) (last_segment path) (plain-over s a (to_last_slash path) c.0) c.1
 
 no_start : (l : List ℕ) → lacks 47 l ≡ true → starts_with_slash l ≡ false
 no_start [] k = refl
@@ -145,7 +145,7 @@ rooted_start (x ∷ xs) h = h
 
 pub rules_kept : (scheme : List ℕ) (a : Option (List ℕ)) (path : List ℕ) → path_rules (Some scheme) a path ≡ true
     → path_rules (Some scheme) a (prepared_path (is_some a) path) ≡ true
-rules_kept scheme None path h = apart (front_of false path) (last_segment path) (guarded (dots (to_last_slash path))) (at_last_slash path).1
+rules_kept scheme None path h = apart (directory_of false path) (last_segment path) (guarded (dots (to_last_slash path))) (at_last_slash path).1
 rules_kept scheme (Some a) [] h = ap (λ z. is_empty z || starts_with_slash z) still_empty
 rules_kept scheme (Some a) (x ∷ xs) h = rooted_start (prepared_path true (x ∷ xs)) (still_slash (x ∷ xs) h)
 
@@ -161,7 +161,7 @@ length-left true (x ∷ xs) =
     let last = but_last (x ∷ xs) in
     omega (arith, length-append (without_last last) (47 ∷ []), length-last last, length-but_last x xs)
 
--- segments, and nothing behind their last slash
+-- segments, and nothing after their last slash
 abbrev ended_by : List (List ℕ) → List (List ℕ)
 ended_by ss = ss ++ [] ∷ []
 
@@ -211,10 +211,10 @@ two_fewer f h d =
     let two : bytes (any_dot_segment (ended_by e.segments)) ≡ 2 = ap (λ ps. bytes (any_dot_segment ps)) (sym p) ∙ ap bytes d in
     omega (arith, r, text, size, two)
 
-front_apart : (f l : List ℕ) → not (starts_with_slashes (f ++ l)) ≡ true → not (starts_with_slashes f) ≡ true
-front_apart [] l h = refl
-front_apart (x ∷ []) l h = ap not (and_false (x == 47))
-front_apart (x ∷ y ∷ ys) l h = h
+directory_apart : (f l : List ℕ) → not (starts_with_slashes (f ++ l)) ≡ true → not (starts_with_slashes f) ≡ true
+directory_apart [] l h = refl
+directory_apart (x ∷ []) l h = ap not (and_false (x == 47))
+directory_apart (x ∷ y ∷ ys) l h = h
 
 -- no `//` begins it, but one begins what is left of it
 dotted : (f : List ℕ) → not (starts_with_slashes f) ≡ true → starts_with_slashes (dots f) ≡ true → has_dot_segment f ≡ true
@@ -224,13 +224,13 @@ dotted f h e =
       | false ↦ λ n. let k : not (starts_with_slashes (dots f)) ≡ true = ap (λ z. not (starts_with_slashes z)) (no_dots-same f n) ∙ h in cc
     ] refl
 
-front_short : (scheme a : Option (List ℕ)) (path : List ℕ) → IsSome scheme → path_rules scheme a path ≡ true
-    → length (front_of (is_some a) path) ≤ length (to_last_slash path)
-front_short None a path i h = cc
-front_short (Some x) (Some a) path i h = length-dots (to_last_slash path)
-front_short (Some x) None path i h =
+directory_short : (scheme a : Option (List ℕ)) (path : List ℕ) → IsSome scheme → path_rules scheme a path ≡ true
+    → length (directory_of (is_some a) path) ≤ length (to_last_slash path)
+directory_short None a path i h = cc
+directory_short (Some x) (Some a) path i h = length-dots (to_last_slash path)
+directory_short (Some x) None path i h =
     let f = to_last_slash path in
-    let apart = front_apart f (last_segment path) (subst (λ z. not (starts_with_slashes z) ≡ true) (sym (at_last_slash path).0) h) in
+    let apart = directory_apart f (last_segment path) (subst (λ z. not (starts_with_slashes z) ≡ true) (sym (at_last_slash path).0) h) in
     elim (starts_with_slashes (dots f)) as (λ b. starts_with_slashes (dots f) ≡ b → length (cond (not b) (dots f) (47 ∷ 46 ∷ dots f))
     ≤ length f) [
       | true ↦ λ e. omega (arith, two_fewer f (ends path) (dotted f apart e))
@@ -240,11 +240,11 @@ front_short (Some x) None path i h =
 pub path_short : (scheme a : Option (List ℕ)) (path : List ℕ) → IsSome scheme → path_rules scheme a path ≡ true
     → length (prepared_path (is_some a) path) ≤ length path
 path_short scheme a path i h =
-    let front = front_short scheme a path i h in
+    let directory = directory_short scheme a path i h in
     omega (
       arith,
-      front,
-      length-append (front_of (is_some a) path) (last_segment path),
+      directory,
+      length-append (directory_of (is_some a) path) (last_segment path),
       length-append (to_last_slash path) (last_segment path),
       ap length (at_last_slash path).0,
     )

@@ -34,20 +34,20 @@ some_byte (x ∷ xs) n = omega arith
 
 -- the last byte of some
 record IsLast (xs : List ℕ) (n : ℕ) : Type 0 where
-  front : List ℕ
+  prefix : List ℕ
   last : ℕ
-  split : xs ≡ front ++ last ∷ []
-  size : length front ≡ n
-  whole : NoLf front
+  split : xs ≡ prefix ++ last ∷ []
+  size : length prefix ≡ n
+  whole : NoLf prefix
   other : last ≢ 10
 
 last_of : (xs : List ℕ) (n : ℕ) → length xs ≡ n + 1 → NoLf xs → IsLast xs n
 last_of [] n h p = absurd (omega arith)
-last_of (x ∷ []) n h p = record { front = []; last = x; split = refl; size = omega arith; whole = tt; other = p.0 }
+last_of (x ∷ []) n h p = record { prefix = []; last = x; split = refl; size = omega arith; whole = tt; other = p.0 }
 last_of (x ∷ y ∷ xs) n h p =
     let l = last_of (y ∷ xs) (n - 1) (omega arith) p.1 in
     record {
-      front = x ∷ l.front;
+      prefix = x ∷ l.prefix;
       last = l.last;
       split = ap (λ (t : List ℕ). x ∷ t) l.split;
       size = omega (arith, l.size);
@@ -91,7 +91,7 @@ module _ (rules : Rules) where
       place : length given + length raw + 1 ≡ length (given ++ (raw ++ 10 ∷ []))
       place = omega (arith, length-append given (raw ++ 10 ∷ []), length-append raw (10 ∷ []))
 
-  -- bytes with no LF behind whole lines
+  -- bytes with no LF after whole lines
   open_bytes : (given raw : List ℕ) (whole : List (List ℕ)) → IsOpen rules given whole → NoLf raw → length raw ≤ rules.line_limit
       → length given + length raw ≤ rules.input_limit
       → first_passed rules (given ++ raw) ≡ None
@@ -218,27 +218,27 @@ module _ (rules : Rules) where
           ended = open_ended go.given (old.held ++ a.moved) whole o.1 a.says.1;
         }
 
-    -- behind whole lines and a prefix of the next one
-    past_front : (status : ℕ) (front rest : List ℕ) → IsOpen rules go.given whole → NoLf front → (moved : List ℕ)
-        → old.held ++ moved ≡ front ++ rest → Consumes lm ln moved
-        → ((more : List ℕ) → passed_from rules (length go.given) 0 (front ++ (rest ++ more))
-        ≡ Some (record { status = status; place = length go.given + length front }))
+    -- after whole lines and a prefix of the next one
+    past_prefix : (status : ℕ) (prefix rest : List ℕ) → IsOpen rules go.given whole → NoLf prefix → (moved : List ℕ)
+        → old.held ++ moved ≡ prefix ++ rest → Consumes lm ln moved
+        → ((more : List ℕ) → passed_from rules (length go.given) 0 (prefix ++ (rest ++ more))
+        ≡ Some (record { status = status; place = length go.given + length prefix }))
         → ReadsPast rules status lo ln whole
-    past_front status front rest o n moved split moves passes = record {
+    past_prefix status prefix rest o n moved split moves passes = record {
       taken = go.given ++ (old.held ++ moved);
-      place = length go.given + length front;
+      place = length go.given + length prefix;
       takes = takes_more lo lm ln go.given old.held moved go.takes moves;
-      passes = λ more. ap (first_passed rules) (there more) ∙ o.passes (front ++ (rest ++ more)) ∙ passes more;
+      passes = λ more. ap (first_passed rules) (there more) ∙ o.passes (prefix ++ (rest ++ more)) ∙ passes more;
       ended = λ more.
-          ap (λ (t : List ℕ). ended_lines (take (length go.given + length front) t))
-          (there more ∙ sym (append_assoc go.given front (rest ++ more)))
-          ∙ ap ended_lines (take_at (go.given ++ front) (rest ++ more) (length go.given + length front) (length-append go.given front))
-          ∙ open_ended go.given front whole o n;
+          ap (λ (t : List ℕ). ended_lines (take (length go.given + length prefix) t))
+          (there more ∙ sym (append_assoc go.given prefix (rest ++ more)))
+          ∙ ap ended_lines (take_at (go.given ++ prefix) (rest ++ more) (length go.given + length prefix) (length-append go.given prefix))
+          ∙ open_ended go.given prefix whole o n;
     }
       where
-        there : (more : List ℕ) → (go.given ++ (old.held ++ moved)) ++ more ≡ go.given ++ (front ++ (rest ++ more))
+        there : (more : List ℕ) → (go.given ++ (old.held ++ moved)) ++ more ≡ go.given ++ (prefix ++ (rest ++ more))
         there more = append_assoc go.given (old.held ++ moved) more ∙ ap (λ (t : List ℕ). go.given ++ (t ++ more)) split
-            ∙ ap (λ (t : List ℕ). go.given ++ t) (append_assoc front rest more)
+            ∙ ap (λ (t : List ℕ). go.given ++ t) (append_assoc prefix rest more)
 
     -- A line is too long.
     pub reads_long : Advances old new lm ln fo fn (Err LineTooLong) → ReadsPast rules 7 lo ln whole
@@ -248,9 +248,9 @@ module _ (rules : Rules) where
         from_open o =
             let t = a.says.1 in
             let l = last_of t.front rules.line_limit (omega (arith, t.long, a.line_limit, is.line_limit)) t.whole in
-            past_front 7 l.front (l.last ∷ t.rest) o.1 l.whole a.moved
-            (sym t.split ∙ ap (λ (b : List ℕ). b ++ t.rest) l.split ∙ append_assoc l.front (l.last ∷ []) t.rest) a.moves
-            (λ more. past_long rules (length go.given) l.last l.front (t.rest ++ more) l.whole l.other l.size
+            past_prefix 7 l.prefix (l.last ∷ t.rest) o.1 l.whole a.moved
+            (sym t.split ∙ ap (λ (b : List ℕ). b ++ t.rest) l.split ∙ append_assoc l.prefix (l.last ∷ []) t.rest) a.moves
+            (λ more. past_long rules (length go.given) l.last l.prefix (t.rest ++ more) l.whole l.other l.size
             (omega (
               arith,
               l.size,
@@ -272,7 +272,7 @@ module _ (rules : Rules) where
         from_open : (old.ended ≡ false) × IsOpen rules go.given whole → ReadsPast rules 8 lo ln whole
         from_open o =
             let t = a.says.1 in
-            past_front 8 t.front (t.last ∷ []) o.1 t.whole a.moved (sym t.split) a.moves
+            past_prefix 8 t.front (t.last ∷ []) o.1 t.whole a.moved (sym t.split) a.moves
             (λ more. past_over rules (length go.given) t.last t.front more t.whole (omega (arith, t.short, a.line_limit, is.line_limit))
             (omega (
               arith,

@@ -13,24 +13,24 @@ use Rattle.iri_register.specs.Shared as shared
 use Rattle.iri_register.proofs.GroupLemmas.{is_same}
 use Rattle.iri_register.proofs.ShareLemmas.{share_exactly, share_joined}
 use Rattle.iri_cli.specs.canon.Answers.{refusal}
-use Rattle.iri_cli.specs.register.Lines.{RegisterLine, adds, removes, finds, bad, line_of, command_of, commands_from, entries_behind, unless_fault}
+use Rattle.iri_cli.specs.register.Lines.{RegisterLine, adds, removes, finds, bad, line_of, command_of, commands_from, entries_after, unless_fault}
 use Rattle.iri_cli.specs.register.Shared.{TakesOut, IsLiveLine, ShareEntry}
 use Rattle.iri_cli.proofs.BytesLemmas.{base_absolute, line_reference}
 use Rattle.iri_cli.proofs.RegisterLemmas.{commands_append}
 
 -- ---- live lines of commands
 
-live_behind : (c : Command) (cs : List Command) (l : Line) → shared.IsLive cs l → shared.IsLive (c ∷ cs) l
-live_behind (Add t n) cs l h =
+live_after_one : (c : Command) (cs : List Command) (l : Line) → shared.IsLive cs l → shared.IsLive (c ∷ cs) l
+live_after_one (Add t n) cs l h =
     elim (stays t cs) as (λ b. (i : ℕ) × (slice_get (cond b (record { target = t; number = n } ∷ live cs) (live cs)) i ≡ Some l)) [
       | true ↦ (suc h.0, h.1)
       | false ↦ h
     ]
-live_behind (Remove t) cs l h = h
+live_after_one (Remove t) cs l h = h
 
 live_after : (cs ds : List Command) (l : Line) → shared.IsLive ds l → shared.IsLive (cs ++ ds) l
 live_after [] ds l h = h
-live_after (c ∷ cs) ds l h = live_behind c (cs ++ ds) l (live_after cs ds l h)
+live_after (c ∷ cs) ds l h = live_after_one c (cs ++ ds) l (live_after cs ds l h)
 
 live_first : (t : List ℕ) (n : ℕ) (cs : List Command) → stays t cs ≡ true → shared.IsLive (Add t n ∷ cs) (record { target = t; number = n })
 live_first t n cs h = (0, rw h refl)
@@ -85,13 +85,13 @@ module _ (s : Tests) (base : List ℕ) where
 
   pub shared_by_targets : (q r : List ℕ) (lines : List (List ℕ)) (m n : ℕ) → IsLiveLine s base lines m q
       → ShareEntry s base lines q r ↔ (canonical s base q ≡ canonical s base r)
-  unfolding entries_behind
+  unfolding entries_after
   shared_by_targets q r lines m n h =
       share_exactly (commands_from s base 2 lines) (shared.line_of s base q m) (shared.line_of s base r n) (is_live lines m q h)
 
   pub shared_by_steps : IsSpec s → (q r : List ℕ) (lines : List (List ℕ)) (m n : ℕ) → refusal s base ≡ None
       → IsLiveLine s base lines m q → IsLiveLine s base lines n r → ShareEntry s base lines q r ↔ shared.TargetsJoin s base q r
-  unfolding entries_behind
+  unfolding entries_after
   shared_by_steps k q r lines m n taken h i =
       share_joined s (commands_from s base 2 lines) base q r m n k (base_absolute s k base taken) (line_reference s k q h.faultless)
       (line_reference s k r i.faultless) (is_live lines m q h)

@@ -13,14 +13,14 @@ use Rattle.iri_register.specs.Entries.{Entry, entry_at}
 use Rattle.iri_register.specs.Kept.{Kept}
 use Rattle.iri_register.proofs.CommandLemmas.{obeyed_from}
 use Rattle.iri_cli.specs.register.Answers.{answer_to, entry_line, entry_lines, more_numbers}
-use Rattle.iri_cli.specs.register.Lines.{line_of, command_of, commands_from, entries_behind}
+use Rattle.iri_cli.specs.register.Lines.{line_of, command_of, commands_from, entries_after}
 use Rattle.iri_text.specs.Sink.{KeepsRoom, PutsAll}
 use Rattle.iri_text.specs.declared.Failed.{Failed}
 use Rattle.iri_cli.specs.run.Answering.{Answering, AnswersLine, PutsAnswer}
 use Rattle.iri_cli.specs.canon.Puts.{told_of}
 use Rattle.iri_cli.specs.run.Ending.{Rules}
 use Rattle.iri_cli.specs.run.Refused.{is_not_bad}
-use Rattle.iri_cli.specs.run.Words.{register_rules}
+use Rattle.iri_cli.specs.register.Rules.{register_rules}
 use Rattle.iri_cli.specs.declared.run.answers.AnswerError.TheVariants.{SinkFailed}
 use Rattle.iri_cli.specs.inside.Opening.{begun}
 use Rattle.iri_cli.specs.inside.RegisterAt.{IsRegisterAt}
@@ -46,15 +46,15 @@ commands_more s base n between line =
     ∙ ap (λ cs. commands_from s base n between ++ cs) (append-nil (command_of s base (n + length between) (line_of line)))
 
 pub entries_more : (s : Tests) (base : List ℕ) (between : List (List ℕ)) (line : List ℕ)
-    → entries_behind s base (between ++ line ∷ [])
-    ≡ obeyed_by (entries_behind s base between) (command_of s base (2 + length between) (line_of line))
-unfolding entries_behind
+    → entries_after s base (between ++ line ∷ [])
+    ≡ obeyed_by (entries_after s base between) (command_of s base (2 + length between) (line_of line))
+unfolding entries_after
 entries_more s base between line =
     ap entries_of_commands (commands_more s base 2 between line)
     ∙ sym (obeyed_from (commands_from s base 2 between) (command_of s base (2 + length between) (line_of line)))
 
-entries_none : (s : Tests) (base : List ℕ) → entries_behind s base [] ≡ []
-unfolding entries_behind
+entries_none : (s : Tests) (base : List ℕ) → entries_after s base [] ≡ []
+unfolding entries_after
 entries_none s base = refl
 
 -- ---- entries that were put
@@ -84,7 +84,7 @@ number_more ns i h =
     ap (flat_map f) (take_more ns i 0 h) ∙ flat_map-append f (take i ns) (get_or ns i 0 ∷ [])
     ∙ ap (λ t. flat_map f (take i ns) ++ t) (append-nil (comma ∷ decimal (get_or ns i 0)))
 
--- the numbers up to an index, the one there, and those behind it
+-- the numbers up to an index, the one there, and those after it
 pub numbers_whole : (ns : List ℕ) (i : ℕ) → i < length ns
     → more_numbers (take i ns) ++ (comma ∷ (decimal (get_or ns i 0) ++ more_numbers (drop (i + 1) ns))) ≡ more_numbers ns
 numbers_whole ns i h =
@@ -103,7 +103,7 @@ entries_whole es e i h =
     ∙ ap (λ n. entry_lines 1 (take (i + 1) es) ++ entry_lines (1 + n) (drop (i + 1) es)) (sym size)
     ∙ sym (entry_lines_append 1 (take (i + 1) es) (drop (i + 1) es)) ∙ ap (entry_lines 1) (take-append-drop (i + 1) es)
 
--- the entry behind an index, by its place
+-- the entry after an index, by its place
 pub record IsThere (es : List Entry) (i : ℕ) : Type 0 where
   pub entry : Entry
   pub get : slice_get es i ≡ Some entry
@@ -163,7 +163,7 @@ next_at s against kept new answered count at line is counted base entries = reco
       let number : answered + 2 ≡ 2 + length at.between = omega (arith, is.counted) in
       entries ∙ ap (λ b. obeyed_by kept.entries (command_of s b (answered + 2) (line_of line))) is.base_is
       ∙ ap (λ es. obeyed_by es (command_of s at.base (answered + 2) (line_of line))) is.entries_are
-      ∙ ap (λ n. obeyed_by (entries_behind s at.base at.between) (command_of s at.base n (line_of line))) number
+      ∙ ap (λ n. obeyed_by (entries_after s at.base at.between) (command_of s at.base n (line_of line))) number
       ∙ sym (entries_more s at.base at.between line);
   counted = let size = length-append at.between (line ∷ []) in omega (arith, counted, is.counted, size);
 }
@@ -184,7 +184,7 @@ answers_line s against kept new answered count at line text wo wn fo fn ro rn go
       room = subst (λ t. KeepsRoom ro rn t (told_of good r ≢ Err SinkFailed)) e (line_room good r text p);
     }
 
--- an empty register stands behind a base line
+-- an empty register stands after a base line
 pub register_opened : (s : Tests) (kept : Kept) (line : List ℕ) → kept.base ≡ line → kept.entries ≡ []
     → IsRegisterAt s line kept 0 (begun (register_rules s) line)
 register_opened s kept line own none =

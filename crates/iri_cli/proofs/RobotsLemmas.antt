@@ -19,8 +19,8 @@ use Rattle.iri_cli.specs.canon.Puts.{told_of}
 use Rattle.iri_cli.specs.run.Ending.{Rules}
 use Rattle.iri_cli.specs.run.Refused.{is_not_bad}
 use Rattle.iri_cli.specs.robots.Answers.{answer_to, normal_base, verdict_word}
-use Rattle.iri_cli.specs.robots.Lines.{RobotsLine, line_of, fed, records_behind}
-use Rattle.iri_cli.specs.run.Words.{robots_rules}
+use Rattle.iri_cli.specs.robots.Lines.{RobotsLine, line_of, fed, records_after}
+use Rattle.iri_cli.specs.robots.Rules.{robots_rules}
 use Rattle.iri_cli.specs.declared.run.answers.AnswerError.{AnswerError}
 use Rattle.iri_cli.specs.declared.run.answers.AnswerError.TheVariants.{SinkFailed, Memory}
 use Rattle.iri_cli.specs.inside.Opening.{begun}
@@ -59,10 +59,10 @@ no_reply wo fo ro = record { puts = (Appends-none wo, refl, refl); room = room-s
 
 -- ---- one line more
 
-records_more : (between : List (List ℕ)) (line : List ℕ) → records_behind (between ++ line ∷ []) ≡ records_behind between ++ fed (line_of line)
-unfolding records_behind
+records_more : (between : List (List ℕ)) (line : List ℕ) → records_after (between ++ line ∷ []) ≡ records_after between ++ fed (line_of line)
+unfolding records_after
 records_more between line =
-    flat_map-append (λ l. fed (line_of l)) between (line ∷ []) ∙ ap (λ t. records_behind between ++ t) (append-nil (fed (line_of line)))
+    flat_map-append (λ l. fed (line_of l)) between (line ∷ []) ∙ ap (λ t. records_after between ++ t) (append-nil (fed (line_of line)))
 
 puts_by : (rules : Rules) (wo wn : Option (List ℕ)) (fo fn : ℕ) (text : List ℕ) (r : Result Bool AnswerError) → rules.is_good ≡ is_not_bad
     → rules.takes_memory ≡ true → Replies wo wn fo fn text r → PutsAnswer rules wo wn fo fn text r
@@ -110,11 +110,11 @@ unfed (Ok good) records said line is none =
     sym (append-nil records) ∙ ap (λ t. records ++ t) (sym none ∙ ap fed is)
 unfed (Err x) records said line is none = tt
 
-records_none : records_behind [] ≡ []
-unfolding records_behind
+records_none : records_after [] ≡ []
+unfolding records_after
 records_none = refl
 
--- a crawler that was fed no line stands behind a base line
+-- a crawler that was fed no line stands after a base line
 pub robots_opened : (s : Tests) (token line normal : List ℕ) (records : List FileRecord) → records ≡ [] → normal ≡ normal_base s line
     → IsRobotsAt s token line normal records (begun (robots_rules s token) line)
 robots_opened s token line normal records none normal_is =

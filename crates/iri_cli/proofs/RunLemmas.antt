@@ -193,7 +193,7 @@ closed rules lo ln wo wn wc so sn ko km kn ro rm rn end last r c =
     same p = record {
       to = subst (λ (e : End). RanTo rules (outside lo wo so ko) (outside ln wn sn kn) e) (sym p.0)
           (subst (λ (k : ℕ). RanTo rules (outside lo wo so ko) (outside ln wn sn k) end) (sym p.1) r.to);
-      front = r.front;
+      prefix = r.prefix;
       source_later = r.source_later;
       sink_later = omega (arith, p.1, r.sink_later);
       room = room;
@@ -202,7 +202,7 @@ closed rules lo ln wo wn wc so sn ko km kn ro rm rn end last r c =
     broken : (last ≡ SinkFailed) × Rose km kn → Ran rules (outside lo wo so ko) (outside ln wn sn kn) ro rn last
     broken p = record {
       to = subst (λ (e : End). RanTo rules (outside lo wo so ko) (outside ln wn sn kn) e) (sym p.0) (omega (arith, p.1, r.sink_later));
-      front = r.front;
+      prefix = r.prefix;
       source_later = r.source_later;
       sink_later = omega (arith, c.later, r.sink_later);
       room = room;

@@ -34,7 +34,7 @@ use Rattle.iri_cli.specs.expand.Answers.{expansion_answer, template_answer, too_
 use Rattle.iri_cli.specs.links.FieldValues.{AnswersAreLinks}
 use Rattle.iri_cli.specs.register.Shared.{LiveLinesShareEntries}
 use Rattle.iri_cli.specs.robots.Answers.{answer_to, normal_base, same_part, same_site, target_answer, verdict_word}
-use Rattle.iri_cli.specs.robots.Lines.{records_behind}
+use Rattle.iri_cli.specs.robots.Lines.{records_after}
 use Rattle.iri_cli.specs.robots.Verdicts.{AnswersAreVerdicts, IsSameSite, IsVerdict, allow, disallow, other}
 use Rattle.iri_cli.specs.run.Refused.{unless_bad}
 use Rattle.iri_cli.proofs.LinksLemmas.{answered_again, links_answered, others_refused}
@@ -134,7 +134,7 @@ module _ (base : Parts) (rules : List FileRule) (target : Parts) where
 pub answers_are_verdicts : (s : Tests) (token : List ℕ) → AnswersAreVerdicts s token
 answers_are_verdicts s token base line reference between asks none =
     let normal = normal_base s base in
-    let records = records_behind between in
+    let records = records_after between in
     let rules = rules_for token records in
     let target = canonical s base reference in
     let same = same_site (split_of normal) (split_of target) in

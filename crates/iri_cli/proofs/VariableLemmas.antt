@@ -1,4 +1,4 @@
--- The values of variables behind changes and lines.
+-- The values of variables after changes and lines.
 use Rattle.std.proofs.Common.{◌≡◌, ℕ, Bool, true, false, cond, List, [], ◌∷◌, ◌++◌, refl}
 use Rattle.std.specs.Str.{bytes_eq}
 use Rattle.std.proofs.Math.Path.{fun_ext}
@@ -14,7 +14,7 @@ with_value-again values name old value = fun_ext (λ other. by_test (bytes_eq ot
     by_test true v = refl
     by_test false v = refl
 
--- the values behind one line more
+-- the values after one line more
 pub values-more : (values : Values) (lines : List (List ℕ)) (line : List ℕ)
     → values_from values (lines ++ line ∷ []) ≡ after_line (values_from values lines) (line_of line)
 values-more values [] line = refl

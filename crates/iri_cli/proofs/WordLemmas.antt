@@ -1,67 +1,110 @@
 -- Words are the words of one command at most.
-use Rattle.std.proofs.Common.{◌≡◌, ◌∙◌, ◌==◌, ℕ, List, [], ◌∷◌, if◌then◌else◌, drop, ap, arith, refl, sym}
-use Rattle.std.specs.Prelude.{get_or}
+use Rattle.std.proofs.Common.{◌≡◌, ◌≢◌, ◌∙◌, ℕ, List, [], drop, length, Option, None, Some, ap, arith, refl, subst, sym}
+use Rattle.std.specs.Prelude.{codes, get_or, MatchOption}
 use Rattle.std.proofs.lemmas.Fmt.{decimal_injective}
 use Rattle.iri_grammar.specs.Classes.{Tests}
 use Rattle.iri_percent.specs.declared.canon_mode.CanonMode.TheVariants.{Default, Scheme}
+use Rattle.iri_cli.specs.generator.References.{gen_text}
+use Rattle.iri_cli.specs.help.Notices.{MakesText, Tells, notice_text}
+use Rattle.iri_cli.specs.inside.Obeyed.{IsSound, Obeys}
+use Rattle.iri_cli.specs.robots.Rules.{robots_rules}
 use Rattle.iri_cli.specs.run.Ending.{Rules}
-use Rattle.iri_cli.specs.run.Words.{IsCommand, command_word, rules_of, tests_of, word_of, words_behind}
-use Rattle.iri_cli.specs.run.Words.{canon_rules_in, docs_rules, expand_rules, links_rules, register_rules, robots_rules}
-use Rattle.iri_cli.specs.declared.run.words.Command.TheVariants.{Lines, Gen}
+use Rattle.iri_cli.specs.run.Run.{Outside, RunsLines}
+use Rattle.iri_cli.specs.run.Words.{IsCommand, command_word, notice_word, rules_of, tests_of, word_of, words_after}
+use Rattle.iri_cli.specs.declared.help.Notice.{Notice}
+use Rattle.iri_cli.specs.declared.help.Notice.TheVariants.{Help, Version}
+use Rattle.iri_cli.specs.declared.run.words.Command.{Command}
+use Rattle.iri_cli.specs.declared.run.words.Command.TheVariants.{Lines, Gen, Tell}
 use Rattle.iri_cli.specs.declared.run.words.LineCommand.{LineCommand}
 use Rattle.iri_cli.specs.declared.run.words.LineCommand.TheVariants.{Canon, Expand, Register, Links, Docs, Robots}
 use Rattle.iri_cli.specs.declared.run.words.Grammar.{Grammar}
 use Rattle.iri_cli.specs.declared.run.words.Grammar.TheVariants.{Uri, Iri}
 
+abbrev letter : ℕ → List ℕ → ℕ
+letter i word = get_or word i 0
+
 one_grammar : (a b : Grammar) → word_of a ≡ word_of b → a ≡ b
 one_grammar Uri Uri e = refl
 one_grammar Iri Iri e = refl
-one_grammar Uri Iri e = let n : 117 ≡ 105 = ap (λ (w : List ℕ). get_or w 0 0) e in absurd (omega (arith, n))
-one_grammar Iri Uri e = let n : 105 ≡ 117 = ap (λ (w : List ℕ). get_or w 0 0) e in absurd (omega (arith, n))
+one_grammar a b e = let first = ap (letter 0) e in absurd (omega (arith, first))
 
--- ---- a command over lines
--- what a command says of lines, by its words
-canon_by : Tests → List (List ℕ) → Rules
-canon_by s [] = canon_rules_in s Default
-canon_by s (word ∷ words) = canon_rules_in s Scheme
+one_notice : (a b : Notice) → notice_word a ≡ notice_word b → a ≡ b
+one_notice Help Help e = refl
+one_notice Version Version e = refl
+one_notice a b e = let third = ap (letter 2) e in absurd (omega (arith, third))
 
-rules_by : Tests → List (List ℕ) → Rules
-rules_by s words =
-    let name = get_or words 0 [] in
-    let behind = drop 2 words in
-    if get_or name 0 0 == 99 then canon_by s behind
-    else (if get_or name 0 0 == 101 then expand_rules s
-    else (if get_or name 0 0 == 108 then links_rules s
-    else (if get_or name 0 0 == 100 then docs_rules s
-    else (if get_or name 1 0 == 101 then register_rules s else robots_rules s (get_or behind 0 [])))))
+-- a name and the words after that of the grammar tell the rules
+one_line_command : (s : Tests) (a b : LineCommand) → command_word a ≡ command_word b → words_after a ≡ words_after b
+    → rules_of a s ≡ rules_of b s
+one_line_command s (Canon Default) (Canon Default) e f = refl
+one_line_command s (Canon Scheme) (Canon Scheme) e f = refl
+one_line_command s Expand Expand e f = refl
+one_line_command s Register Register e f = refl
+one_line_command s Links Links e f = refl
+one_line_command s Docs Docs e f = refl
+one_line_command s (Robots t) (Robots u) e f = ap (λ (ws : List (List ℕ)). robots_rules s (get_or ws 0 [])) f
+one_line_command s a b e f =
+    let first = ap (letter 0) e in
+    let second = ap (letter 1) e in
+    let count = ap (λ (ws : List (List ℕ)). length ws) f in
+    absurd (omega (arith, first, second, count))
 
-rules_are : (s : Tests) (a : LineCommand) (g : Grammar) → rules_by s (command_word a ∷ word_of g ∷ words_behind a) ≡ rules_of a s
-unfolding rules_by canon_by
-rules_are s (Canon Default) g = refl
-rules_are s (Canon Scheme) g = refl
-rules_are s Expand g = refl
-rules_are s Register g = refl
-rules_are s Links g = refl
-rules_are s Docs g = refl
-rules_are s (Robots token) g = refl
+no_line_command : (a : LineCommand) → command_word a ≢ codes "gen"
+no_line_command Expand e = let first = ap (letter 0) e in omega (arith, first)
+no_line_command a e = let first = ap (letter 0) e in omega (arith, first)
 
--- words tell one grammar, and what one command says of lines
-pub one_lines : (words : List (List ℕ)) (a b : LineCommand) (g h : Grammar) → IsCommand words (Lines a g) → IsCommand words (Lines b h)
-    → rules_of a (tests_of g) ≡ rules_of b (tests_of h)
-one_lines words a b g h p q =
-    let e = sym p.0 ∙ q.0 in
-    let word : word_of g ≡ word_of h = ap (λ (ws : List (List ℕ)). get_or ws 1 []) e in
-    sym (rules_are (tests_of g) a g) ∙ ap (rules_by (tests_of g)) e ∙ rules_are (tests_of g) b h
-    ∙ ap (λ x. rules_of b (tests_of x)) (one_grammar g h word)
+module _ (words : List (List ℕ)) where
+  one_lines : (a b : LineCommand) (g h : Grammar) → IsCommand words (Lines a g) → IsCommand words (Lines b h)
+      → rules_of a (tests_of g) ≡ rules_of b (tests_of h)
+  one_lines a b g h p q =
+      let e = sym p.0 ∙ q.0 in
+      let name : command_word a ≡ command_word b = ap (λ (ws : List (List ℕ)). get_or ws 0 []) e in
+      let word : word_of g ≡ word_of h = ap (λ (ws : List (List ℕ)). get_or ws 1 []) e in
+      let after : words_after a ≡ words_after b = ap (λ (ws : List (List ℕ)). drop 2 ws) e in
+      one_line_command (tests_of g) a b name after ∙ ap (λ x. rules_of b (tests_of x)) (one_grammar g h word)
 
--- ---- `gen`
--- words tell one grammar and one count
-pub one_gen : (words : List (List ℕ)) (a b : Grammar) (m n : ℕ) → IsCommand words (Gen a m) → IsCommand words (Gen b n) → (a ≡ b) × (m ≡ n)
-one_gen words a b m n p q =
-    let e = sym p.1 ∙ q.1 in
-    let word : word_of a ≡ word_of b = ap (λ (ws : List (List ℕ)). get_or ws 1 []) e in
-    let number : p.0 ≡ q.0 = ap (λ (ws : List (List ℕ)). get_or ws 2 []) e in (
-      one_grammar a b word,
-      decimal_injective m n (omega (arith, p.2.most)) (omega (arith, q.2.most))
-          (sym p.2.spelled ∙ number ∙ q.2.spelled),
-    )
+  one_gen : (a b : Grammar) (m n : ℕ) → IsCommand words (Gen a m) → IsCommand words (Gen b n)
+      → gen_text (tests_of a) m ≡ gen_text (tests_of b) n
+  one_gen a b m n p q =
+      let e = sym p.1 ∙ q.1 in
+      let word : word_of a ≡ word_of b = ap (λ (ws : List (List ℕ)). get_or ws 1 []) e in
+      let number : p.0 ≡ q.0 = ap (λ (ws : List (List ℕ)). get_or ws 2 []) e in
+      let count : m ≡ n = decimal_injective m n (omega (arith, p.2.most)) (omega (arith, q.2.most))
+      (sym p.2.spelled ∙ number ∙ q.2.spelled) in
+      ap (λ x. gen_text (tests_of x) m) (one_grammar a b word) ∙ ap (gen_text (tests_of b)) count
+
+  module _ (old new : Outside) (room_old room_new : Option ℕ) (status : ℕ) where
+    -- words that are two commands have the same done for both
+    one_command : (a b : Command) → IsCommand words a → IsCommand words b → Obeys (Some a) old new room_old room_new status
+        → Obeys (Some b) old new room_old room_new status
+    one_command (Lines a g) (Lines b h) p q o =
+        subst (λ (r : Rules). RunsLines r old new room_old room_new status) (one_lines a b g h p q) o
+    one_command (Gen a m) (Gen b n) p q o =
+        subst (λ (t : List ℕ). MakesText t old new room_old room_new status) (one_gen a b m n p q) o
+    one_command (Tell a) (Tell b) p q o =
+        let word : notice_word a ≡ notice_word b = ap (λ (ws : List (List ℕ)). get_or ws 0 []) (sym p ∙ q) in
+        subst (λ (n : Notice). Tells (notice_text n) old new room_old room_new status) (one_notice a b word) o
+    one_command (Lines a g) (Gen b n) p q o = absurd (no_line_command a (ap (λ (ws : List (List ℕ)). get_or ws 0 []) (sym p.0 ∙ q.1)))
+    one_command (Gen a m) (Lines b h) p q o = absurd (no_line_command b (ap (λ (ws : List (List ℕ)). get_or ws 0 []) (sym q.0 ∙ p.1)))
+    one_command (Lines a g) (Tell b) p q o = let e = sym p.0 ∙ q in cc e
+    one_command (Tell a) (Lines b h) p q o = let e = sym q.0 ∙ p in cc e
+    one_command (Gen a m) (Tell b) p q o = let e = sym p.1 ∙ q in cc e
+    one_command (Tell a) (Gen b n) p q o = let e = sym q.1 ∙ p in cc e
+
+    -- what is done for the command of words
+    pub obeyed : (command : Option Command) → MatchOption command ((c : Command) → ¬ (IsCommand words c)) (IsCommand words)
+        → Obeys command old new room_old room_new status → (c : Command) → IsCommand words c
+        → Obeys (Some c) old new room_old room_new status
+    obeyed None none o c is = absurd (none c is)
+    obeyed (Some a) p o c is = one_command a c p is o
+
+    pub unknown : (command : Option Command) → MatchOption command ((c : Command) → ¬ (IsCommand words c)) (IsCommand words)
+        → Obeys command old new room_old room_new status → ((c : Command) → ¬ (IsCommand words c)) → (status ≡ 2) × (new ≡ old)
+    unknown None is o none = o
+    unknown (Some a) is o none = absurd (none a is)
+
+  pub sound : (command : Option Command) → MatchOption command ((c : Command) → ¬ (IsCommand words c)) (IsCommand words) → IsSound command
+  sound None is = tt
+  sound (Some (Lines command grammar)) is = is.1
+  sound (Some (Gen grammar count)) is = is.2.most
+  sound (Some (Tell notice)) is = tt

@@ -1,5 +1,6 @@
 -- The command `canon`.
 pub mod Answers
+pub mod Rules
 pub mod Prepared
 pub mod Puts
 pub mod SchemeExamples

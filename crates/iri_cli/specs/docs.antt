@@ -1,4 +1,5 @@
 -- The command `docs`.
 pub mod Answers
+pub mod Rules
 pub mod Expansions
 pub mod Examples

@@ -2,6 +2,7 @@
 pub mod ExpandAt
 pub mod DocsAt
 pub mod Opening
+pub mod Obeyed
 pub mod Said
 pub mod Asked
 pub mod Replies

@@ -2,4 +2,5 @@
 pub mod Lines
 pub mod Shared
 pub mod Answers
+pub mod Rules
 pub mod Examples

@@ -128,7 +128,7 @@ impl<S: Spec> Answers<S> for Canon {
     ghost use Rattle.std.specs.Prelude.{refl};
     ghost use Rattle.std.specs.Vec.{vec_capacity};
     ghost use Rattle.iri_cli.specs.canon.Puts.{IsCanonAt};
-    ghost use Rattle.iri_cli.specs.run.Words.{canon_rules_in};
+    ghost use Rattle.iri_cli.specs.canon.Rules.{canon_rules_in};
 
     ghost rules = { λ mode. canon_rules_in S.tests mode };
 

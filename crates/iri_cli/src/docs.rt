@@ -4,12 +4,10 @@ ghost use Rattle.iri_docs.specs.ErrorTexts.{description};
 ghost use Rattle.iri_text.specs.LineEnds.{line_feed};
 ghost use Rattle.iri_text.specs.Sink.{PutsAll};
 
-use crate::canon::base_of;
-use crate::expand::put_template;
+use crate::expand::{expansion_buffer, put_template};
 use crate::run::answers::{AnswerError, Answers, BaseError};
 use crate::run::puts::told;
 use iri_docs::doc_error::DocError;
-use iri_docs::expand::EXPANSION_LIMIT;
 use iri_docs::read::read_document;
 use iri_grammar::spec::Spec;
 use iri_normal::resolver::FixedBaseResolver;
@@ -39,7 +37,7 @@ impl<S: Spec> Answers<S> for Docs {
     ghost use Rattle.std.specs.Prelude.{refl};
     ghost use Rattle.std.specs.Vec.{vec_capacity};
     ghost use Rattle.iri_cli.specs.inside.DocsAt.{IsDocsAt};
-    ghost use Rattle.iri_cli.specs.run.Words.{docs_rules};
+    ghost use Rattle.iri_cli.specs.docs.Rules.{docs_rules};
 
     ghost rules = { λ alloc. docs_rules S.tests };
 
@@ -48,16 +46,13 @@ impl<S: Spec> Answers<S> for Docs {
     ghost stands_at = { λ d base at. IsDocsAt S.tests base d.expansion.items (vec_capacity d.output) at };
 
     fn open(alloc: Global, base: &mut Vec<u8>, output: Vec<u8>) -> Result<Self, BaseError> {
-        match base_of::<S>(base) {
-            Ok(_) => match vec![in alloc; 0; EXPANSION_LIMIT] {
-                Ok(expansion) => Ok(Docs {
-                    alloc,
-                    expansion,
-                    output,
-                }),
-                Err(_) => Err(BaseError::Memory),
-            },
-            Err(words) => Err(BaseError::Refused(words)),
+        match expansion_buffer::<S>(alloc, base) {
+            Ok(expansion) => Ok(Docs {
+                alloc,
+                expansion,
+                output,
+            }),
+            Err(error) => Err(error),
         }
     }
 

@@ -1,5 +1,5 @@
 // The answers of `expand`.
-ghost use Rattle.std.specs.Prelude.{◌≡◌, ◌≢◌, ◌≤◌, length, Err, None};
+ghost use Rattle.std.specs.Prelude.{◌≡◌, ◌≢◌, ◌≤◌, length, Err, None, MatchResult};
 ghost use Rattle.std.specs.Vec.{vec_capacity};
 ghost use Rattle.iri_template.specs.Contexts.{value_in};
 ghost use Rattle.iri_template.specs.ExpandedTexts.{expanded_text};
@@ -8,6 +8,7 @@ ghost use Rattle.iri_normal.specs.Resolver.{base_text};
 ghost use Rattle.iri_cli.specs.run.Limits.{longest_line, answer_room};
 ghost use Rattle.iri_cli.specs.canon.Answers.{refusal};
 ghost use Rattle.iri_cli.specs.canon.Puts.{PutsLine};
+ghost use Rattle.iri_cli.specs.inside.Opening.{RefusesLine};
 ghost use Rattle.iri_cli.specs.expand.Answers.{expansion_answer, template_answer, template_refusal};
 ghost use Rattle.iri_docs.specs.Expanded.{expansion_limit};
 ghost use Rattle.iri_cli.specs.declared.run.answers.AnswerError.TheVariants.{SinkFailed};
@@ -99,6 +100,18 @@ pub(crate) fn put_template<'a, S: Spec, O: Sink>(
     }
 }
 
+// A buffer for each expansion, where a line is a base.
+pub(crate) fn expansion_buffer<S: Spec>(alloc: Global, line: &[u8]) -> Result<Vec<u8>, BaseError>
+    ensures { MatchResult result
+        (λ buffer. (length buffer.items ≡ expansion_limit) × (refusal S.tests line.now ≡ None))
+        (RefusesLine S.tests line.now) }
+{
+    match base_of::<S>(line) {
+        Ok(_) => vec![in alloc; 0; EXPANSION_LIMIT].map_err(|_| BaseError::Memory),
+        Err(words) => Err(BaseError::Refused(words)),
+    }
+}
+
 /// Keeps the values of variables, and answers each template by the canonical text of its expansion against a base.
 #[derive(Drop)]
 pub struct Expand {
@@ -115,7 +128,7 @@ impl<S: Spec> Answers<S> for Expand {
     ghost use Rattle.std.specs.Vec.{vec_capacity};
     ghost use Rattle.iri_template.specs.Contexts.{value_in};
     ghost use Rattle.iri_cli.specs.inside.ExpandAt.{IsExpandAt};
-    ghost use Rattle.iri_cli.specs.run.Words.{expand_rules};
+    ghost use Rattle.iri_cli.specs.expand.Rules.{expand_rules};
 
     ghost rules = { λ alloc. expand_rules S.tests };
 
@@ -125,17 +138,14 @@ impl<S: Spec> Answers<S> for Expand {
         (value_in e.values) at };
 
     fn open(alloc: Global, base: &mut Vec<u8>, output: Vec<u8>) -> Result<Self, BaseError> {
-        match base_of::<S>(base) {
-            Ok(_) => match vec![in alloc; 0; EXPANSION_LIMIT] {
-                Ok(expansion) => Ok(Expand {
-                    alloc,
-                    values: SimpleContext::new(alloc),
-                    expansion,
-                    output,
-                }),
-                Err(_) => Err(BaseError::Memory),
-            },
-            Err(words) => Err(BaseError::Refused(words)),
+        match expansion_buffer::<S>(alloc, base) {
+            Ok(expansion) => Ok(Expand {
+                alloc,
+                values: SimpleContext::new(alloc),
+                expansion,
+                output,
+            }),
+            Err(error) => Err(error),
         }
     }
 

@@ -1,15 +1,22 @@
 // The command `gen`: references that are made by a counter, and what is told of their canonical
 // texts.
 ghost use Rattle.std.specs.Prelude.{◌≡◌, ◌≤◌, ◌<◌, ◌+◌, ◌*◌, ◌%◌, ◌^◌, ◌++◌, None, OnOk, IfOk, length, sum};
-ghost use Rattle.std.specs.Prelude.{string_bytes};
+ghost use Rattle.std.specs.Prelude.{◌≢◌, ◌⊎◌, string_bytes};
+ghost use Rattle.iri_text.specs.Sink.{KeepsRoom};
 ghost use Rattle.iri_grammar.specs.WholeFault.{reference_fault};
 ghost use Rattle.iri_normal.specs.NormalForm.{canonical};
 ghost use Rattle.iri_normal.specs.Resolver.{base_text};
+ghost use Rattle.iri_cli.specs.help.Notices.{PutsText};
+ghost use Rattle.iri_cli.specs.run.Words.{tests_of};
 ghost use Rattle.iri_cli.specs.generator.References.{gen_segment, more_segments, gen_reference, gen_base, gen_bytes, gen_sum, gen_text};
 
 use crate::canon::resolver_of;
-use iri_grammar::spec::Spec;
+use crate::help::put_text;
+use crate::run::MEMORY;
+use crate::run::words::Grammar;
+use iri_grammar::spec::{IriSpec, Spec, UriSpec};
 use iri_normal::resolver::FixedBaseResolver;
+use iri_text::Sink;
 use iri_types::kind::Reference;
 use iri_types::split::SplitView;
 use std::alloc::{AllocError, Global};
@@ -49,7 +56,7 @@ fn next_state(state: u64) -> u64
         .wrapping_add(1442695040888963407)
 }
 
-// Writes so many segments, each behind a slash.
+// Writes so many segments, each after a slash.
 fn push_segments(text: &mut String, count: u64, number: u64) -> Result<(), AllocError>
     ensures { OnOk result
         (string_bytes text.new ≡ string_bytes text.old ++ more_segments count number) }
@@ -143,11 +150,38 @@ fn base_resolver<S: Spec>() -> FixedBaseResolver<'static, S>
     resolver_of::<S>(BASE.as_bytes())
 }
 
-/// The three lines that tell of the canonical texts of so many references.
-pub fn gen_lines<S: Spec>(alloc: Global, count: u32) -> Result<String, AllocError>
+// The three lines that tell of the canonical texts of so many references.
+fn gen_lines<S: Spec>(alloc: Global, count: u32) -> Result<String, AllocError>
     requires { count ≤ 100000 }
     ensures { IfOk result (λ t. string_bytes t ≡ gen_text S.tests count) }
 {
     let Totals { bytes, sum } = totals_of::<S>(alloc, base_resolver(), count)?;
     format!(in alloc; "lines {count}\nbytes {bytes}\nsum {sum}\n")
+}
+
+// The lines that `gen` writes, by a grammar.
+fn gen_lines_by(alloc: Global, grammar: Grammar, count: u32) -> Result<String, AllocError>
+    requires { count ≤ 100000 }
+    ensures { IfOk result (λ t. string_bytes t ≡ gen_text (tests_of grammar) count) }
+{
+    match grammar {
+        Grammar::Uri => gen_lines::<UriSpec>(alloc, count),
+        Grammar::Iri => gen_lines::<IriSpec>(alloc, count),
+    }
+}
+
+/// Makes the lines of `gen`, and writes them.
+pub(crate) fn generate<O: Sink>(alloc: Global, grammar: Grammar, count: u32, sink: &mut O) -> u8
+    requires { count ≤ 100000 }
+    ensures puts { PutsText (gen_text (tests_of grammar) count)
+        (O.written sink.old) (O.written sink.new) (O.faults sink.old) (O.faults sink.new) result
+        ⊎ ((result ≡ 6) × (O.written sink.new ≡ O.written sink.old)
+        × (O.faults sink.new ≡ O.faults sink.old)) }
+    ensures room { KeepsRoom (O.room_left sink.old) (O.room_left sink.new)
+        (gen_text (tests_of grammar) count) (result ≢ 5) }
+{
+    match gen_lines_by(alloc, grammar, count) {
+        Ok(lines) => put_text(&lines, sink),
+        Err(_) => MEMORY,
+    }
 }

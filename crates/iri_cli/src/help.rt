@@ -17,7 +17,7 @@ pub enum Notice {
     Version,
 }
 
-/// The text of `--help`. Its lines behind two spaces and the program's name tell the commands.
+/// The text of `--help`. Its lines after two spaces and the program's name tell the commands.
 pub const HELP: &str = "\
 irikit: canonical texts of URI and IRI references (RFC 3986, RFC 3987)
   irikit canon GRAMMAR          answers each reference line by its canonical text against a base
@@ -30,7 +30,7 @@ irikit: canonical texts of URI and IRI references (RFC 3986, RFC 3987)
   irikit gen GRAMMAR N          makes N references (from 1 to 100000) and tells of their canonical texts; reads nothing
   irikit --help                 writes this text
   irikit --version              writes the version
-GRAMMAR is uri or iri. The first line of the input is the base; each line behind it has one answer line at most.
+GRAMMAR is uri or iri. The first line of the input is the base; each line after it has one answer line at most.
 Lines of expand: 's NAME VALUE' sets a string, 'l NAME ITEM' adds to a list, 'a NAME KEY VALUE' adds a pair,
   'u NAME' unsets, and 't TEMPLATE' is answered; of register: 'a REF' adds, 'd REF' removes, 'f REF' finds a link;
   of robots: 'r LINE' feeds a line of the file, 'u REF' asks for a link
@@ -60,12 +60,10 @@ pub(crate) fn notice_of(word: &str) -> Option<Notice>
     ensures { MatchOption result ((notice : Notice) → word.now ≢ notice_word notice)
         (λ notice. word.now ≡ notice_word notice) }
 {
-    if word == "--help" {
-        Some(Notice::Help)
-    } else if word == "--version" {
-        Some(Notice::Version)
-    } else {
-        None
+    match word {
+        "--help" => Some(Notice::Help),
+        "--version" => Some(Notice::Version),
+        _ => None,
     }
 }
 

@@ -2,13 +2,13 @@
 //!
 //! - [`run`](run::run) does what the words after the program's name say, and gives the program's
 //!   status.
-//! - [`CanonBuffers`](CanonBuffers) is all of the memory that `canon` needs, and
-//!   [`canon_lines`](canon_lines) answers the lines of a source with it: each reference line by its
-//!   canonical text against the base line (RFC 3986 section 5 and section 6.2.2; RFC 3987).
-//!   [`canon_lines_in`](canon_lines_in) does the same by the rules of a mode, which the word
-//!   `scheme` names in the commands `canon uri scheme` and `canon iri scheme` (section 6.2.3). The
-//!   base is prepared once for all its references in its buffer: its scheme and authority are put
-//!   into normal form, and its path loses the dot segments before its last segment.
+//! - [`CanonBuffers`](CanonBuffers) is the memory that every command over lines takes before it reads,
+//!   and all that `canon` needs: [`canon_lines`](canon_lines) answers the lines of a source with it,
+//!   each reference line by its canonical text against the base line (RFC 3986 section 5 and section
+//!   6.2.2; RFC 3987). [`canon_lines_in`](canon_lines_in) does the same by the rules of a mode, which
+//!   the word `scheme` names in the commands `canon uri scheme` and `canon iri scheme` (section
+//!   6.2.3). The base is prepared once for all its references in its buffer: its scheme and authority
+//!   are put into normal form, and its path loses the dot segments before its last segment.
 //! - `expand` keeps the values that lines give variables, and answers each URI template by the
 //!   canonical text of its expansion (RFC 6570) against the base line.
 //! - `register` keeps each canonical link once, with the numbers of its lines, and writes them at
@@ -24,14 +24,11 @@
 //! Proved: the contracts of `run`, `canon_lines` and `canon_lines_in`. Each status comes only by
 //! its cause, and where the source tells its bytes, status and output are those of `ending` in
 //! specs/run/Ending.antt, which is defined by the lines of the input and the events that end a run,
-//! and by the rules of the command, which `rules_of` in specs/run/Words.antt gives: what `expand`
-//! answers to a line stands in specs/expand/Lines.antt and specs/expand/Answers.antt, what
-//! `register` answers in specs/register/Lines.antt and specs/register/Answers.antt, what `links`
-//! and `docs` answer in specs/links/Answers.antt and specs/docs/Answers.antt, and what `robots`
-//! answers in specs/robots/Lines.antt and specs/robots/Answers.antt. A clause of `run` each says
-//! what these answers are by the standard's relations: which lines of `register` share an entry,
-//! which links a field value has, what a document expands to, and what the patterns of a robots
-//! file allow. `canon_lines` and `canon_lines_in` are given no allocator, and never answer that
+//! and by the rules of the command (`rules_of` in specs/run/Words.antt). These stand in the command's
+//! folder of specs/, in Rules.antt, beside what its lines say and how they are answered. A clause of
+//! `run` each says what the answers of the tools are by the standard's relations: which lines of
+//! `register` share an entry, which links a field value has, what a document expands to, and what the
+//! patterns of a robots file allow. `canon_lines` and `canon_lines_in` are given no allocator, and never answer that
 //! allocation failed; where it fails at a line of another command, the lines before it were
 //! answered. A sink that is known to have room for the output doesn't fail: over a `PlainSource`
 //! and a `MemorySink` that is told no failing calls and has that room, status and output are those

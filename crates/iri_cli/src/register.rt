@@ -120,7 +120,7 @@ fn put_reply<O: Sink>(sink: &mut O, reply: Reply) -> Result<(), Failed>
     }
 }
 
-// Puts numbers, each behind a comma.
+// Puts numbers, each after a comma.
 fn put_more<O: Sink>(sink: &mut O, numbers: &[u64]) -> Result<(), Failed>
     ensures { PutsAll (O.written sink.old) (O.written sink.new) (O.faults sink.old) (O.faults sink.new)
         (O.room_left sink.old) (O.room_left sink.new) result (more_numbers numbers.now) }
@@ -195,7 +195,7 @@ fn put_entries<S: Spec, O: Sink>(sink: &mut O, register: &Register<S>) -> Result
 #[derive(Drop)]
 pub struct Registers<S: Spec> {
     register: Register<S>,
-    // How many lines behind the base line were answered.
+    // How many lines after the base line were answered.
     answered: u64,
 }
 
@@ -204,7 +204,7 @@ impl<S: Spec> Answers<S> for Registers<S> {
 
     ghost use Rattle.std.specs.Prelude.{refl};
     ghost use Rattle.iri_cli.specs.inside.RegisterAt.{IsRegisterAt};
-    ghost use Rattle.iri_cli.specs.run.Words.{register_rules};
+    ghost use Rattle.iri_cli.specs.register.Rules.{register_rules};
 
     ghost rules = { λ alloc. register_rules S.tests };
 

@@ -16,6 +16,8 @@ ghost use Rattle.iri_robots.specs.Stored.{record_texts};
 ghost use Rattle.iri_cli.specs.robots.Answers.{answer_to, normal_base, same_site, target_answer, verdict_word};
 ghost use Rattle.iri_cli.specs.robots.Lines.{asks};
 ghost use Rattle.iri_cli.specs.inside.RobotsAt.{PutsReply};
+ghost use Rattle.iri_cli.specs.robots.Rules.{robots_rules};
+ghost use Rattle.iri_cli.specs.run.Run.{RunsLines, outside};
 
 pub(crate) mod line;
 pub(crate) mod sites;
@@ -23,13 +25,16 @@ pub(crate) mod sites;
 use crate::canon::base_of;
 use crate::robots::line::{Said, line_of};
 use crate::robots::sites::{is_of_site, normal_base};
+use crate::run::MEMORY;
 use crate::run::answers::{AnswerError, Answers, BaseError};
+use crate::run::buffers::CanonBuffers;
+use crate::run::opening::run_lines;
 use crate::run::puts::{put_bad, put_bad_line, told};
 use iri_grammar::spec::Spec;
 use iri_normal::resolver::FixedBaseResolver;
 use iri_owned::owned::RiAbsoluteString;
 use iri_robots::{Robots, RobotsError, Verdict, subject_of_split};
-use iri_text::{Failed, Sink};
+use iri_text::{Failed, Sink, Source};
 use iri_types::kind::Reference;
 use iri_types::split::SplitView;
 use iri_types::view::{RiAbsoluteStr, RiStr};
@@ -177,7 +182,7 @@ impl<S: Spec> Answers<S> for Crawls<S> {
     ghost use Rattle.std.specs.Prelude.{refl, string_bytes};
     ghost use Rattle.iri_robots.specs.Stored.{record_texts};
     ghost use Rattle.iri_cli.specs.inside.RobotsAt.{IsRobotsAt};
-    ghost use Rattle.iri_cli.specs.run.Words.{robots_rules};
+    ghost use Rattle.iri_cli.specs.robots.Rules.{robots_rules};
 
     ghost rules = { λ crawler. robots_rules S.tests (string_bytes crawler.robots.token) };
 
@@ -224,5 +229,25 @@ impl<S: Spec> Answers<S> for Crawls<S> {
 
     fn close<O: Sink>(&mut self, _sink: &mut O) -> Result<(), Failed> {
         Ok(())
+    }
+}
+
+/// The lines of `robots`, for the crawler of a token.
+pub(crate) fn robots_lines<S: Spec, I: Source, O: Sink>(
+    alloc: Global,
+    token: &str,
+    buffers: CanonBuffers,
+    source: &mut I,
+    sink: &mut O,
+) -> u8
+    requires { is_token token.now ≡ true }
+    ensures { RunsLines (robots_rules S.tests token.now)
+        (outside (I.left source.old) (O.written sink.old) (I.faults source.old) (O.faults sink.old))
+        (outside (I.left source.new) (O.written sink.new) (I.faults source.new) (O.faults sink.new))
+        (O.room_left sink.old) (O.room_left sink.new) result }
+{
+    match Crawler::new(alloc, token) {
+        Ok(crawler) => run_lines::<S, Crawls<S>, I, O>(crawler, buffers, source, sink),
+        Err(_) => MEMORY,
     }
 }

@@ -1,17 +1,15 @@
 //! The run of the program.
-ghost use Rattle.std.specs.Prelude.{◌≡◌, ◌≢◌, ◌⊎◌, ◌≤◌, ℕ, List, [], ◌∷◌, codes, true, IfOk};
-ghost use Rattle.std.specs.Prelude.{map, string_bytes};
-ghost use Rattle.iri_text.specs.Sink.{KeepsRoom};
-ghost use Rattle.iri_cli.specs.run.Words.{HasToken, IsCommand, robots_rules, rules_of, tests_of, word_of};
+ghost use Rattle.std.specs.Prelude.{◌≡◌, ℕ, List, [], ◌∷◌, codes, map, string_bytes};
+ghost use Rattle.iri_cli.specs.run.Words.{HasToken, IsCommand, rules_of, tests_of, word_of};
 ghost use Rattle.iri_cli.specs.docs.Expansions.{AnswersAreExpansions};
 ghost use Rattle.iri_cli.specs.links.FieldValues.{AnswersAreLinks};
 ghost use Rattle.iri_cli.specs.register.Shared.{LiveLinesShareEntries};
 ghost use Rattle.iri_cli.specs.robots.Verdicts.{AnswersAreVerdicts};
-ghost use Rattle.iri_robots.specs.FileLines.{is_token};
 ghost use Rattle.iri_cli.specs.canon.Answers.{AnswersAreCanonicalIn};
 ghost use Rattle.iri_cli.specs.run.Run.{RunsLines, outside};
 ghost use Rattle.iri_cli.specs.generator.References.{gen_text};
-ghost use Rattle.iri_cli.specs.help.Notices.{MakesText, PutsText, Tells, notice_text};
+ghost use Rattle.iri_cli.specs.help.Notices.{MakesText, Tells, notice_text};
+ghost use Rattle.iri_cli.specs.inside.Obeyed.{IsSound, Obeys};
 ghost use Rattle.iri_cli.specs.declared.run.words.Command.{Command};
 ghost use Rattle.iri_cli.specs.declared.run.words.Grammar.{Grammar};
 ghost use Rattle.iri_cli.specs.declared.run.words.LineCommand.{LineCommand};
@@ -24,51 +22,29 @@ pub(crate) mod buffers;
 pub(crate) mod end;
 pub(crate) mod opening;
 pub(crate) mod puts;
-pub(crate) mod stateless;
 pub mod words;
 
 use crate::canon::calls::canon_lines_in;
 use crate::docs::Docs;
 use crate::expand::Expand;
-use crate::generator::gen_lines;
-use crate::help::{put_text, tell};
+use crate::generator::generate;
+use crate::help::tell;
 use crate::links::Links;
 use crate::register::Registers;
-use crate::robots::{Crawler, Crawls};
+use crate::robots::robots_lines;
 use crate::run::buffers::CanonBuffers;
 use crate::run::opening::run_lines;
-use crate::run::stateless::StatelessAnswers;
 use crate::run::words::{Command, Grammar, LineCommand, command_of};
 use iri_grammar::spec::{IriSpec, Spec, UriSpec};
 use iri_normal::mode::CanonMode;
 use iri_text::{Sink, Source};
-use std::alloc::{AllocError, Global};
+use std::alloc::Global;
 
 /// The status of words that are no command.
 pub const NO_COMMAND: u8 = 2;
 
 /// The status where allocation failed.
 pub const MEMORY: u8 = 6;
-
-// The lines of `robots`, for the crawler of a token.
-fn robots_lines<S: Spec, I: Source, O: Sink>(
-    alloc: Global,
-    token: &str,
-    buffers: CanonBuffers,
-    source: &mut I,
-    sink: &mut O,
-) -> u8
-    requires { is_token token.now ≡ true }
-    ensures { RunsLines (robots_rules S.tests token.now)
-        (outside (I.left source.old) (O.written sink.old) (I.faults source.old) (O.faults sink.old))
-        (outside (I.left source.new) (O.written sink.new) (I.faults source.new) (O.faults sink.new))
-        (O.room_left sink.old) (O.room_left sink.new) result }
-{
-    match Crawler::new(alloc, token) {
-        Ok(crawler) => run_lines::<S, Crawls<S>, I, O>(crawler, buffers, source, sink),
-        Err(_) => MEMORY,
-    }
-}
 
 // The lines of a command in a grammar, once there are buffers.
 fn lines_in<S: Spec, I: Source, O: Sink>(
@@ -90,9 +66,7 @@ fn lines_in<S: Spec, I: Source, O: Sink>(
         LineCommand::Canon(mode) => canon_lines_in::<S, I, O>(mode, buffers, source, sink),
         LineCommand::Expand => run_lines::<S, Expand, I, O>(alloc, buffers, source, sink),
         LineCommand::Register => run_lines::<S, Registers<S>, I, O>(alloc, buffers, source, sink),
-        LineCommand::Links => {
-            run_lines::<S, StatelessAnswers<Links>, I, O>(alloc, buffers, source, sink)
-        }
+        LineCommand::Links => run_lines::<S, Links, I, O>(alloc, buffers, source, sink),
         LineCommand::Docs => run_lines::<S, Docs, I, O>(alloc, buffers, source, sink),
         LineCommand::Robots(token) => {
             robots_lines::<S, I, O>(alloc, token, buffers, source, sink)
@@ -120,30 +94,24 @@ fn lines_by<I: Source, O: Sink>(
     }
 }
 
-// The lines that `gen` writes, by a grammar.
-fn gen_lines_by(alloc: Global, grammar: Grammar, count: u32) -> Result<String, AllocError>
-    requires { count ≤ 100000 }
-    ensures { IfOk result (λ t. string_bytes t ≡ gen_text (tests_of grammar) count) }
+// Does what a command says, and gives the program's status.
+fn obey<I: Source, O: Sink>(
+    alloc: Global,
+    command: Option<Command<'_>>,
+    source: &mut I,
+    sink: &mut O,
+) -> u8
+    requires { IsSound command }
+    ensures { Obeys command.entry
+        (outside (I.left source.old) (O.written sink.old) (I.faults source.old) (O.faults sink.old))
+        (outside (I.left source.new) (O.written sink.new) (I.faults source.new) (O.faults sink.new))
+        (O.room_left sink.old) (O.room_left sink.new) result }
 {
-    match grammar {
-        Grammar::Uri => gen_lines::<UriSpec>(alloc, count),
-        Grammar::Iri => gen_lines::<IriSpec>(alloc, count),
-    }
-}
-
-// Makes the lines of `gen`, and writes them.
-fn generate<O: Sink>(alloc: Global, grammar: Grammar, count: u32, sink: &mut O) -> u8
-    requires { count ≤ 100000 }
-    ensures puts { PutsText (gen_text (tests_of grammar) count)
-        (O.written sink.old) (O.written sink.new) (O.faults sink.old) (O.faults sink.new) result
-        ⊎ ((result ≡ 6) × (O.written sink.new ≡ O.written sink.old)
-        × (O.faults sink.new ≡ O.faults sink.old)) }
-    ensures room { KeepsRoom (O.room_left sink.old) (O.room_left sink.new)
-        (gen_text (tests_of grammar) count) (result ≢ 5) }
-{
-    match gen_lines_by(alloc, grammar, count) {
-        Ok(lines) => put_text(&lines, sink),
-        Err(_) => MEMORY,
+    match command {
+        Some(Command::Lines(command, grammar)) => lines_by(alloc, command, grammar, source, sink),
+        Some(Command::Gen(grammar, count)) => generate(alloc, grammar, count, sink),
+        Some(Command::Tell(notice)) => tell(notice, sink),
+        None => NO_COMMAND,
     }
 }
 
@@ -231,10 +199,5 @@ pub fn run<I: Source, O: Sink>(alloc: Global, words: &[String], source: &mut I, 
         → map string_bytes words.now ≡ codes "robots" ∷ word_of grammar ∷ token ∷ []
         → AnswersAreVerdicts (tests_of grammar) token }
 {
-    match command_of(words) {
-        Some(Command::Lines(command, grammar)) => lines_by(alloc, command, grammar, source, sink),
-        Some(Command::Gen(grammar, count)) => generate(alloc, grammar, count, sink),
-        Some(Command::Tell(notice)) => tell(notice, sink),
-        None => NO_COMMAND,
-    }
+    obey(alloc, command_of(words), source, sink)
 }

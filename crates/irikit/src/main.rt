@@ -1,7 +1,7 @@
 //! `irikit`: works on the lines of its standard input as the words after its name say, and ends with a status.
 //!
 //! All of its work is `iri_cli::run`, whose contract says what each status means. Not proved, and shown by tests/edges on the
-//! built program: that `main` makes a source of standard input and a sink of standard output, and hands over the words.
+//! built program: that `main` makes a source of standard input and a sink of standard output, and passes on the words.
 #![tactic(auto)]
 
 use iri_cli::run::words::command_of;

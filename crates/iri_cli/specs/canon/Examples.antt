@@ -33,7 +33,7 @@ base_alone = refl
 pub no_line : ending small [] ≡ record { status = 3; output = codes "base empty" ++ 10 ∷ [] }
 no_line = refl
 
--- what comes behind a base line that is refused has no say
+-- what comes after a base line that is refused has no say
 pub refused_base : ending small (10 ∷ codes "abcdefghijklmnop") ≡ record { status = 3; output = codes "base empty" ++ 10 ∷ [] }
 refused_base = refl
 
@@ -62,9 +62,9 @@ last [] = []
 last (line ∷ []) = line ++ 10 ∷ []
 last (line ∷ next ∷ between) = last (next ∷ between)
 
-abbrev behind : Rules
-behind = record small { answer = λ base between line. last between; closing = λ base between. base ++ 10 ∷ []; is_good = λ answer. true }
+abbrev by_line_before : Rules
+by_line_before = record small { answer = λ base between line. last between; closing = λ base between. base ++ 10 ∷ []; is_good = λ answer. true }
 
-pub answers_by_lines_before : ending behind (codes "b" ++ 10 ∷ (codes "x" ++ 10 ∷ (codes "y" ++ 10 ∷ codes "z")))
+pub answers_by_lines_before : ending by_line_before (codes "b" ++ 10 ∷ (codes "x" ++ 10 ∷ (codes "y" ++ 10 ∷ codes "z")))
     ≡ record { status = 0; output = codes "x" ++ 10 ∷ (codes "y" ++ 10 ∷ (codes "b" ++ 10 ∷ [])) }
 answers_by_lines_before = refl

@@ -8,7 +8,7 @@ use Rattle.iri_cli.specs.run.Limits.{longest_line, answer_room}
 use Rattle.iri_cli.specs.canon.Answers.{refusal}
 use Rattle.iri_normal.specs.Answers.{answer_in}
 use Rattle.iri_cli.specs.run.Answering.{Answering, FailsWithin}
-use Rattle.iri_cli.specs.run.Words.{canon_rules_in, is_ok}
+use Rattle.iri_cli.specs.canon.Rules.{canon_rules_in, is_ok}
 use Rattle.iri_cli.specs.declared.run.answers.AnswerError.{AnswerError}
 use Rattle.iri_cli.specs.declared.run.answers.AnswerError.TheVariants.{SinkFailed, Memory}
 

@@ -27,7 +27,7 @@ use Rattle.iri_normal.specs.Answers.{answer_in}
 use Rattle.iri_cli.specs.docs.Answers.{docs_answer}
 use Rattle.iri_cli.specs.expand.Answers.{template_answer, expansion_answer}
 use Rattle.iri_cli.specs.run.Ending.{answers}
-use Rattle.iri_cli.specs.run.Words.{docs_rules}
+use Rattle.iri_cli.specs.docs.Rules.{docs_rules}
 
 -- what computes the answer to a line
 unfoldable on_literals : ⊤

@@ -10,7 +10,7 @@ use Rattle.iri_template.specs.TypeFaults.{expansion_fault}
 use Rattle.iri_template.specs.declared.error.Error.{Error}
 use Rattle.iri_cli.specs.canon.Answers.{answer}
 use Rattle.iri_cli.specs.run.Refused.{bad_line}
-use Rattle.iri_cli.specs.expand.Lines.{ExpandLine, changes, expands, bad, Values, line_of, values_behind}
+use Rattle.iri_cli.specs.expand.Lines.{ExpandLine, changes, expands, bad, Values, line_of, values_after}
 
 abbrev pub too_long : List ℕ
 too_long = codes "bad expansion too long" ++ line_feed ∷ []
@@ -40,6 +40,6 @@ answer_to s base values (changes change) = []
 answer_to s base values (expands template) = template_answer s base values template
 answer_to s base values bad = bad_line
 
--- the answer to a line behind a base and other lines
+-- the answer to a line after a base and other lines
 abbrev pub expand_answer : Tests → List ℕ → List (List ℕ) → List ℕ → List ℕ
-expand_answer s base between line = answer_to s base (values_behind between) (line_of line)
+expand_answer s base between line = answer_to s base (values_after between) (line_of line)

@@ -12,7 +12,7 @@ use Rattle.iri_template.specs.Reading.{pieces_from}
 use Rattle.iri_template.specs.ShownValues.{undefined, string, list, pairs}
 use Rattle.iri_cli.specs.canon.Answers.{answer}
 use Rattle.iri_cli.specs.expand.Answers.{expand_answer, expansion_answer, template_answer}
-use Rattle.iri_cli.specs.expand.Lines.{line_of, values_behind}
+use Rattle.iri_cli.specs.expand.Lines.{line_of, values_after}
 
 abbrev base : List ℕ
 base = codes "http://a/b/"
@@ -23,14 +23,14 @@ strings = codes "s v 6" ∷ codes "s who fred" ∷ codes "s empty " ∷ []
 abbrev lists : List (List ℕ)
 lists = strings ++ codes "l list red" ∷ codes "l list green" ∷ []
 
-pub values : (values_behind lists (codes "v") ≡ string (codes "6")) × (values_behind lists (codes "empty") ≡ string [])
-    × (values_behind lists (codes "list") ≡ list (codes "red" ∷ codes "green" ∷ [])) × (values_behind lists (codes "undef") ≡ undefined)
+pub values : (values_after lists (codes "v") ≡ string (codes "6")) × (values_after lists (codes "empty") ≡ string [])
+    × (values_after lists (codes "list") ≡ list (codes "red" ∷ codes "green" ∷ [])) × (values_after lists (codes "undef") ≡ undefined)
 unfolding line_of is_utf8 chars encode is_varname is_name_char over_from
 values = (refl, refl, refl, refl)
 
 -- a kind of value gives way to another, and a key may be empty
-pub changed_values : (values_behind (lists ++ codes "a list  blue" ∷ codes "a list k x y" ∷ []) (codes "list")
-    ≡ pairs (([], codes "blue") ∷ (codes "k", codes "x y") ∷ [])) × (values_behind (lists ++ codes "u v" ∷ []) (codes "v") ≡ undefined)
+pub changed_values : (values_after (lists ++ codes "a list  blue" ∷ codes "a list k x y" ∷ []) (codes "list")
+    ≡ pairs (([], codes "blue") ∷ (codes "k", codes "x y") ∷ [])) × (values_after (lists ++ codes "u v" ∷ []) (codes "v") ≡ undefined)
 unfolding line_of is_utf8 chars encode is_varname is_name_char over_from
 changed_values = (refl, refl)
 

@@ -1,4 +1,4 @@
--- The command `expand`: what a line says, and the values of variables behind lines (RFC 6570 section 2.3).
+-- The command `expand`: what a line says, and the values of variables after lines (RFC 6570 section 2.3).
 use Rattle.std.specs.Prelude.{ℕ, ◌==◌, cond, List, [], ◌∷◌, ◌++◌, Option, None, Some, if◌then◌else◌}
 use Rattle.std.specs.Str.{bytes_eq, is_utf8}
 use Rattle.iri_grammar.specs.Cut.{before, behind}
@@ -27,7 +27,7 @@ abbrev pub if_name : List ℕ → Option (List ℕ) → Option (List ℕ × List
 if_name name None = None
 if_name name (Some rest) = if is_varname name then Some (name, rest) else None
 
--- the name of a variable, and the fields behind it
+-- the name of a variable, and the fields after it
 abbrev pub named : List ℕ → Option (List ℕ × List ℕ)
 named fields = if_name (before space fields) (behind space fields)
 
@@ -62,13 +62,13 @@ change_line letter fields =
     else (if letter == 97 then pair_line (named fields)
     else (if letter == 117 then unset_line fields else bad)))
 
--- a line by its letter and its fields: a template is any bytes behind `t`; every other line is to be UTF-8
+-- a line by its letter and its fields: a template is any bytes after `t`; every other line is to be UTF-8
 abbrev pub fields_line : ℕ → List ℕ → ExpandLine
 fields_line letter fields = if letter == 116 then expands fields else (if is_utf8 fields then change_line letter fields else bad)
 
 -- a letter, a space and fields
 unfoldable pub line_of : List ℕ → ExpandLine
-line_of (letter ∷ mark ∷ fields) = if mark == space then fields_line letter fields else bad
+line_of (letter ∷ delimiter ∷ fields) = if delimiter == space then fields_line letter fields else bad
 line_of line = bad
 
 -- ---- the values of variables
@@ -89,24 +89,24 @@ abbrev pub entries_of : ShownValue → List (List ℕ × List ℕ)
 entries_of (pairs entries) = entries
 entries_of value = []
 
--- the values behind a change; a value of another kind gives way to the list or the array
+-- the values after a change; a value of another kind gives way to the list or the array
 abbrev pub changed : Values → Change → Values
 changed values (sets name value) = with_value values name (string value)
 changed values (adds_item name item) = with_value values name (list (items_of (values name) ++ item ∷ []))
 changed values (adds_pair name key value) = with_value values name (pairs (entries_of (values name) ++ (key, value) ∷ []))
 changed values (unsets name) = with_value values name undefined
 
--- the values behind a line
+-- the values after a line
 abbrev pub after_line : Values → ExpandLine → Values
 after_line values (changes change) = changed values change
 after_line values (expands template) = values
 after_line values bad = values
 
--- the values behind lines, where they were these before
+-- the values after lines, where they were these before
 abbrev pub values_from : Values → List (List ℕ) → Values
 values_from values [] = values
 values_from values (line ∷ lines) = values_from (after_line values (line_of line)) lines
 
--- The values behind the lines of an input so far. At first no variable has one.
-abbrev pub values_behind : List (List ℕ) → Values
-values_behind lines = values_from (λ name. undefined) lines
+-- The values after the lines of an input so far. At first no variable has one.
+abbrev pub values_after : List (List ℕ) → Values
+values_after lines = values_from (λ name. undefined) lines

@@ -13,7 +13,7 @@ gen_segments =
 abbrev pub gen_segment : ℕ → List ℕ
 gen_segment number = get_or gen_segments number []
 
--- so many segments, each behind a slash, by the digits to base 16 of a number, the last digit first
+-- so many segments, each after a slash, by the digits to base 16 of a number, the last digit first
 abbrev pub more_segments : ℕ → ℕ → List ℕ
 more_segments zero number = []
 more_segments (suc count) number = slash ∷ (gen_segment (number % 16) ++ more_segments count (number / 16))

@@ -1,4 +1,4 @@
--- Where `docs` stands behind lines.
+-- Where `docs` stands after lines.
 use Rattle.std.specs.Prelude.{◌≡◌, ◌≤◌, ℕ, List, length, None}
 use Rattle.iri_grammar.specs.Classes.{Tests}
 use Rattle.iri_docs.specs.Expanded.{expansion_limit}

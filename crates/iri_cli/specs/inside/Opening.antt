@@ -4,7 +4,7 @@ use Rattle.iri_grammar.specs.Classes.{Tests}
 use Rattle.iri_cli.specs.canon.Answers.{refusal}
 use Rattle.iri_cli.specs.run.Answering.{Answering}
 use Rattle.iri_cli.specs.run.Ending.{Rules}
-use Rattle.iri_cli.specs.run.Words.{canon_rules}
+use Rattle.iri_cli.specs.canon.Rules.{canon_rules}
 use Rattle.iri_cli.specs.declared.run.answers.BaseError.{BaseError}
 use Rattle.iri_cli.specs.declared.run.answers.BaseError.TheVariants.{Refused, Memory}
 
@@ -14,11 +14,11 @@ pub record BeginsAsCanon (s : Tests) (rules : Rules) : Type 0 where
   pub input_limit : rules.input_limit ≡ (canon_rules s).input_limit
   pub refusal : rules.refusal ≡ refusal s
 
--- a base line is taken, and no line behind it was answered
+-- a base line is taken, and no line after it was answered
 abbrev pub begun : Rules → List ℕ → Answering
 begun rules line = record { rules = rules; base = line; between = [] }
 
--- The base line is taken, and the command stands behind it, with this text as its base; or the line is refused for what the words say;
+-- The base line is taken, and the command stands after it, with this text as its base; or the line is refused for what the words say;
 -- or allocation failed.
 abbrev pub Opens : {A : Type 0} → Tests → Rules → (line text : List ℕ) → (A → List ℕ → Answering → Type 0) → Result A BaseError → Type 0
 Opens s rules line text stands_at (Ok answers) =

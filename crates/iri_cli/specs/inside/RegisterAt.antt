@@ -1,15 +1,15 @@
--- Where `register` stands behind lines.
+-- Where `register` stands after lines.
 use Rattle.std.specs.Prelude.{◌≡◌, ℕ, List, length}
 use Rattle.iri_grammar.specs.Classes.{Tests}
 use Rattle.iri_register.specs.Kept.{Kept}
 use Rattle.iri_cli.specs.run.Answering.{Answering}
-use Rattle.iri_cli.specs.register.Lines.{entries_behind}
-use Rattle.iri_cli.specs.run.Words.{register_rules}
+use Rattle.iri_cli.specs.register.Lines.{entries_after}
+use Rattle.iri_cli.specs.register.Rules.{register_rules}
 
--- References are resolved against its base. It has the base, the entries behind the lines that were answered, and their count.
+-- References are resolved against its base. It has the base, the entries after the lines that were answered, and their count.
 pub record IsRegisterAt (s : Tests) (against : List ℕ) (kept : Kept) (answered : ℕ) (at : Answering) : Type 0 where
   pub rules : at.rules ≡ register_rules s
   pub own : against ≡ kept.base
   pub base_is : kept.base ≡ at.base
-  pub entries_are : kept.entries ≡ entries_behind s at.base at.between
+  pub entries_are : kept.entries ≡ entries_after s at.base at.between
   pub counted : answered ≡ length at.between

@@ -24,6 +24,6 @@ pub record IsRefusal (fault : Option ErrorKind) (reply : Reply) : Type 0 where
   pub fault_is : fault ≡ Some kind
   pub text : reply_text reply ≡ bad_answer kind
 
--- the entries behind commands
+-- the entries after commands
 abbrev pub obeyed_by : List Entry → List Command → List Entry
 obeyed_by es commands = fold obeyed es commands

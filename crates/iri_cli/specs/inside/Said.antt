@@ -8,7 +8,7 @@ use Rattle.iri_cli.specs.declared.expand.line.Change.TheVariants.{Sets, AddsItem
 use Rattle.iri_cli.specs.declared.expand.line.Said.{Said}
 use Rattle.iri_cli.specs.declared.expand.line.Said.TheVariants.{Changes, Expands, Bad}
 
--- a variable's name and what is behind it
+-- a variable's name and what is after it
 abbrev pub named_now : Option (VarName × Bor (List ℕ)) → Option (List ℕ × List ℕ)
 named_now None = None
 named_now (Some p) = Some ((p.0).text.now, (p.1).now)

@@ -2,7 +2,7 @@
 use Rattle.std.specs.Prelude.{◌≡◌, ℕ, List}
 use Rattle.iri_grammar.specs.Classes.{Tests}
 use Rattle.iri_cli.specs.run.Answering.{Answering}
-use Rattle.iri_cli.specs.run.Words.{stateless_rules}
+use Rattle.iri_cli.specs.canon.Rules.{stateless_rules}
 
 -- It has the base.
 pub record IsStatelessAt (answer : Tests → List ℕ → List ℕ → List ℕ) (s : Tests) (base : List ℕ) (at : Answering) : Type 0 where

@@ -23,7 +23,7 @@ use Rattle.iri_normal.specs.NormalForm.{normal_path, normal_form, form, canonica
 use Rattle.iri_normal.specs.Target.{target}
 use Rattle.iri_cli.specs.run.Ending.{answers}
 use Rattle.iri_cli.specs.links.Answers.{links_answer}
-use Rattle.iri_cli.specs.run.Words.{links_rules}
+use Rattle.iri_cli.specs.links.Rules.{links_rules}
 
 -- links of an API with pages, a name in capitals, an escaped mark, no link; and a fault of each kind but that of UTF-8
 pub answers_to_some_lines : answers (links_rules uri_tests) (codes "https://api.example.com/items?page=2")

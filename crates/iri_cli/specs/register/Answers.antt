@@ -9,7 +9,7 @@ use Rattle.iri_normal.specs.NormalForm.{canonical}
 use Rattle.iri_register.specs.Entries.{Entry, place, line_count}
 use Rattle.iri_text.specs.LineEnds.{line_feed}
 use Rattle.iri_cli.specs.run.Refused.{bad_line, unless_bad}
-use Rattle.iri_cli.specs.register.Lines.{RegisterLine, adds, removes, finds, bad, line_of, entries_behind}
+use Rattle.iri_cli.specs.register.Lines.{RegisterLine, adds, removes, finds, bad, line_of, entries_after}
 
 -- words and a number, as a line
 abbrev pub numbered : List ℕ → ℕ → List ℕ
@@ -19,7 +19,7 @@ numbered words number = words ++ (decimal number ++ line_feed ∷ [])
 abbrev pub none_line : List ℕ
 none_line = codes "none" ++ line_feed ∷ []
 
--- the place of the entry that had the target, or that of the new one behind so many entries
+-- the place of the entry that had the target, or that of the new one after so many entries
 abbrev pub added_answer : ℕ → Option ℕ → List ℕ
 added_answer count (Some k) = numbered (codes "old ") k
 added_answer count None = numbered (codes "new ") (count + 1)
@@ -42,11 +42,11 @@ answer_to s base es (removes r) = unless_bad (bytes_fault (reference_fault s) r)
 answer_to s base es (finds r) = unless_bad (bytes_fault (reference_fault s) r) (found_answer (place es (canonical s base r)))
 answer_to s base es bad = bad_line
 
--- the answer to a line behind a base and other lines
+-- the answer to a line after a base and other lines
 abbrev pub register_answer : Tests → List ℕ → List (List ℕ) → List ℕ → List ℕ
-register_answer s base between line = answer_to s base (entries_behind s base between) (line_of line)
+register_answer s base between line = answer_to s base (entries_after s base between) (line_of line)
 
--- numbers, each behind a comma
+-- numbers, each after a comma
 abbrev pub more_numbers : List ℕ → List ℕ
 more_numbers ns = flat_map (λ n. comma ∷ decimal n) ns
 
@@ -64,6 +64,6 @@ abbrev pub entry_lines : ℕ → List Entry → List ℕ
 entry_lines k [] = []
 entry_lines k (e ∷ es) = entry_line k e ++ entry_lines (k + 1) es
 
--- what is written behind all answers: the entries behind all lines
+-- what is written after all answers: the entries after all lines
 abbrev pub register_closing : Tests → List ℕ → List (List ℕ) → List ℕ
-register_closing s base between = entry_lines 1 (entries_behind s base between)
+register_closing s base between = entry_lines 1 (entries_after s base between)

@@ -21,8 +21,8 @@ use Rattle.iri_normal.specs.Dots.{is_dot_segment}
 use Rattle.iri_normal.specs.NormalForm.{normal_path, normal_form, form, canonical}
 use Rattle.iri_normal.specs.Target.{target}
 use Rattle.iri_cli.specs.run.Ending.{answers}
-use Rattle.iri_cli.specs.register.Lines.{line_of, entries_behind}
-use Rattle.iri_cli.specs.run.Words.{register_rules}
+use Rattle.iri_cli.specs.register.Lines.{line_of, entries_after}
+use Rattle.iri_cli.specs.register.Rules.{register_rules}
 
 abbrev base : List ℕ
 base = codes "http://a/"
@@ -31,7 +31,7 @@ base = codes "http://a/"
 pub answers_to_some_lines : answers (register_rules uri_tests) base
     (codes "a x/../b" ∷ codes "a /%62" ∷ codes "a c" ∷ codes "f HTTP://A/b" ∷ codes "d c" ∷ codes "d c" ∷ codes "q" ∷ [])
     ≡ codes "new 1\n" ∷ codes "old 1\n" ∷ codes "new 2\n" ∷ codes "at 1\n" ∷ codes "gone 1\n" ∷ codes "none\n" ∷ codes "bad line\n" ∷ []
-unfolding line_of entries_behind digits canonical normal_form form normal_path target split_of relative_split_of recompose dots
+unfolding line_of entries_after digits canonical normal_form form normal_path target split_of relative_split_of recompose dots
     is_dot_segment is_letter is_scheme_char authority_parts recompose_authority normal_authority normal_host is_ascii_host normal
     char_units_from first_char chars encode is_utf8 unreserved is_ascii_unreserved fault_before_fragment parts_fault over_from userinfo_char
     reg_name_char path_char query_char fragment_char is_ascii_userinfo is_ascii_reg_name is_ascii_path is_ascii_pchar is_ascii_query

@@ -1,4 +1,4 @@
--- The command `register`: what a line asks, and the links behind lines.
+-- The command `register`: what a line asks, and the links after lines.
 use Rattle.std.specs.Prelude.{ℕ, ◌+◌, ◌==◌, List, [], ◌∷◌, ◌++◌, Option, None, Some, if◌then◌else◌}
 use Rattle.iri_grammar.specs.Classes.{Tests}
 use Rattle.iri_grammar.specs.Fault.{bytes_fault}
@@ -23,7 +23,7 @@ asked letter reference =
 
 -- a line: a letter, one space, and a reference, which may be empty
 unfoldable pub line_of : List ℕ → RegisterLine
-line_of (letter ∷ mark ∷ reference) = if mark == 32 then asked letter reference else bad
+line_of (letter ∷ delimiter ∷ reference) = if delimiter == 32 then asked letter reference else bad
 line_of line = bad
 
 -- a command where the reference has no fault
@@ -44,6 +44,6 @@ module _ (s : Tests) (base : List ℕ) where
   commands_from number [] = []
   commands_from number (line ∷ lines) = command_of number (line_of line) ++ commands_from (number + 1) lines
 
-  -- the entries behind the lines of an input so far; the base line has number 1
-  unfoldable pub entries_behind : List (List ℕ) → List Entry
-  entries_behind lines = entries_of_commands (commands_from 2 lines)
+  -- the entries after the lines of an input so far; the base line has number 1
+  unfoldable pub entries_after : List (List ℕ) → List Entry
+  entries_after lines = entries_of_commands (commands_from 2 lines)

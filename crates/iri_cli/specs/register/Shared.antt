@@ -8,7 +8,7 @@ use Rattle.iri_normal.specs.NormalForm.{canonical}
 use Rattle.iri_register.specs.Entries.{place}
 use Rattle.iri_register.specs.Shared.{TargetsJoin}
 use Rattle.iri_cli.specs.canon.Answers.{refusal}
-use Rattle.iri_cli.specs.register.Lines.{RegisterLine, adds, removes, finds, bad, line_of, entries_behind}
+use Rattle.iri_cli.specs.register.Lines.{RegisterLine, adds, removes, finds, bad, line_of, entries_after}
 
 module _ (s : Tests) (base : List ℕ) where
   -- the line takes the entry of this target out: it removes a reference without a fault that has this target
@@ -18,7 +18,7 @@ module _ (s : Tests) (base : List ℕ) where
   TakesOut target (finds r) = ⊥
   TakesOut target bad = ⊥
 
-  -- Of the lines behind the base, which has number 1, the one of this number adds this reference, which has no fault, and no line after it
+  -- Of the lines after the base, which has number 1, the one of this number adds this reference, which has no fault, and no line after it
   -- takes the entry of its target out.
   pub record IsLiveLine (lines : List (List ℕ)) (number : ℕ) (reference : List ℕ) : Type 0 where
     pub before : List (List ℕ)
@@ -30,10 +30,10 @@ module _ (s : Tests) (base : List ℕ) where
     pub faultless : bytes_fault (reference_fault s) reference ≡ None
     pub stays : All (λ l. ¬ (TakesOut (canonical s base reference) (line_of l))) after
 
-  -- behind these lines one entry has the targets of both references
+  -- after these lines one entry has the targets of both references
   abbrev pub ShareEntry : List (List ℕ) → List ℕ → List ℕ → Type 0
-  ShareEntry lines q r = (k : ℕ) × (place (entries_behind s base lines) (canonical s base q) ≡ Some k)
-      × (place (entries_behind s base lines) (canonical s base r) ≡ Some k)
+  ShareEntry lines q r = (k : ℕ) × (place (entries_after s base lines) (canonical s base q) ≡ Some k)
+      × (place (entries_after s base lines) (canonical s base r) ≡ Some k)
 
 -- Two live lines share an entry exactly where their canonical targets are equal, and that is exactly where steps join the targets of their
 -- references (RFC 3986 sections 5.2 and 6.2.2).

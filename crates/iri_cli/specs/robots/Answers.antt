@@ -12,7 +12,7 @@ use Rattle.iri_robots.specs.Decided.{is_allowed}
 use Rattle.iri_robots.specs.Records.{FileRecord, rules_for}
 use Rattle.iri_text.specs.LineEnds.{line_feed}
 use Rattle.iri_cli.specs.run.Refused.{bad_line, unless_bad}
-use Rattle.iri_cli.specs.robots.Lines.{RobotsLine, feeds, asks, bad, line_of, records_behind}
+use Rattle.iri_cli.specs.robots.Lines.{RobotsLine, feeds, asks, bad, line_of, records_after}
 
 abbrev pub same_part : Option (List ℕ) → Option (List ℕ) → Bool
 same_part None None = true
@@ -48,6 +48,6 @@ answer_to s token base records (asks r) =
     unless_bad (bytes_fault (reference_fault s) r) (target_answer token (normal_base s base) records (canonical s base r))
 answer_to s token base records bad = bad_line
 
--- the answer to a line behind a base and other lines
+-- the answer to a line after a base and other lines
 abbrev pub robots_answer : Tests → List ℕ → List ℕ → List (List ℕ) → List ℕ → List ℕ
-robots_answer s token base between line = answer_to s token base (records_behind between) (line_of line)
+robots_answer s token base between line = answer_to s token base (records_after between) (line_of line)

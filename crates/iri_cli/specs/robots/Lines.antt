@@ -1,4 +1,4 @@
--- The command `robots`: what a line says, and the records of a robots file behind lines (RFC 9309 section 2.2).
+-- The command `robots`: what a line says, and the records of a robots file after lines (RFC 9309 section 2.2).
 use Rattle.std.specs.Prelude.{ℕ, ◌==◌, List, [], ◌∷◌, if◌then◌else◌}
 use Rattle.std.specs.List.{flat_map}
 use Rattle.iri_robots.specs.FileLines as file
@@ -16,7 +16,7 @@ said letter rest = if letter == 114 then feeds rest else (if letter == 117 then 
 
 -- a line: a letter, one space, and the rest, which may be empty
 unfoldable pub line_of : List ℕ → RobotsLine
-line_of (letter ∷ mark ∷ rest) = if mark == 32 then said letter rest else bad
+line_of (letter ∷ delimiter ∷ rest) = if delimiter == 32 then said letter rest else bad
 line_of line = bad
 
 -- the record of the robots file that a line feeds, where it has one
@@ -25,6 +25,6 @@ fed (feeds line) = line_records (file.line_of line)
 fed (asks reference) = []
 fed bad = []
 
--- the records behind the lines of an input so far
-unfoldable pub records_behind : List (List ℕ) → List FileRecord
-records_behind lines = flat_map (λ line. fed (line_of line)) lines
+-- the records after the lines of an input so far
+unfoldable pub records_after : List (List ℕ) → List FileRecord
+records_after lines = flat_map (λ line. fed (line_of line)) lines

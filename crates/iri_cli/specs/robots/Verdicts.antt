@@ -11,7 +11,7 @@ use Rattle.iri_robots.specs.Compared.{subject}
 use Rattle.iri_robots.specs.Records.{FileRule, rules_for}
 use Rattle.iri_text.specs.LineEnds.{line_feed}
 use Rattle.iri_cli.specs.robots.Answers.{normal_base, robots_answer}
-use Rattle.iri_cli.specs.robots.Lines.{asks, line_of, records_behind}
+use Rattle.iri_cli.specs.robots.Lines.{asks, line_of, records_after}
 
 -- scheme and authority are the same
 pub record IsSameSite (a b : Parts) : Type 0 where
@@ -24,11 +24,11 @@ pub data IsVerdict (base : Parts) (rules : List FileRule) (target : Parts) : Lis
   disallow : IsSameSite base target → ¬ (IsAllowed rules (subject target)) → IsVerdict base rules target (codes "disallow ")
   other : ¬ (IsSameSite base target) → IsVerdict base rules target (codes "other ")
 
--- The answer to a reference behind a base and lines: the verdict on its canonical text by the rules of these lines for a token, and that
+-- The answer to a reference after a base and lines: the verdict on its canonical text by the rules of these lines for a token, and that
 -- text.
 pub record HasVerdict (s : Tests) (token base : List ℕ) (between : List (List ℕ)) (reference answer : List ℕ) : Type 0 where
   pub word : List ℕ
-  pub verdict : IsVerdict (split_of (normal_base s base)) (rules_for token (records_behind between))
+  pub verdict : IsVerdict (split_of (normal_base s base)) (rules_for token (records_after between))
       (split_of (canonical s base reference)) word
   pub answer_is : answer ≡ word ++ (canonical s base reference ++ line_feed ∷ [])
 

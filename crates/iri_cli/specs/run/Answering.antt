@@ -1,4 +1,4 @@
--- What answers the lines behind a base, and what its calls do to a sink.
+-- What answers the lines after a base, and what its calls do to a sink.
 use Rattle.std.specs.Prelude.{◌≡◌, ◌≢◌, ◌≤◌, ℕ, Bool, true, false, List, [], ◌∷◌, ◌++◌, Option, None, Result, Ok, Err, OnOk}
 use Rattle.iri_text.specs.Count.{Rose}
 use Rattle.iri_text.specs.Sink.{Appends, AppendsPrefix, KeepsRoom}
@@ -11,7 +11,7 @@ use Rattle.iri_cli.specs.declared.run.answers.AnswerError.TheVariants.{SinkFaile
 use Rattle.iri_cli.specs.declared.run.end.End.{End}
 use Rattle.iri_cli.specs.declared.run.end.End.TheVariants.{Done, SomeBad, BadBase, SinkFailed, Memory}
 
--- the command that answers, the base, and the lines that were answered behind it
+-- the command that answers, the base, and the lines that were answered after it
 pub record Answering : Type 0 where
   pub rules : Rules
   pub base : List ℕ
@@ -41,7 +41,7 @@ module _ (rules : Rules) (written_old written_new : Option (List ℕ)) (faults_o
   PutsAnswer answer (Err AnswerFailed) = FailsWithin written_old written_new faults_old faults_new answer
   PutsAnswer answer (Err AnswerMemory) = IsRefusedMemory
 
--- The text behind all answers was written, which ends the run; or the sink failed within it.
+-- The text after all answers was written, which ends the run; or the sink failed within it.
 abbrev pub ClosesRun : (written_old written_new : Option (List ℕ)) → (faults_old faults_new : ℕ) → Bool → List ℕ → End → Type 0
 ClosesRun written_old written_new faults_old faults_new good text Done =
     (good ≡ true) × Appends written_old written_new text × (faults_new ≡ faults_old)
@@ -58,14 +58,14 @@ pub record AnswersLine (is_new : Answering → Type 0) (old : Answering) (line :
   pub next : OnOk result (is_new (record old { between = old.between ++ line ∷ [] }))
   pub room : KeepsRoom room_old room_new (old.rules.answer old.base old.between line) (result ≢ Err AnswerFailed)
 
--- A base line that is taken was read, no line behind it was answered, and the reader goes on.
+-- A base line that is taken was read, no line after it was answered, and the reader goes on.
 pub record IsReady (stands_at : Answering → Type 0) (start : Answering) (reader : LineState) : Type 0 where
   pub at : stands_at start
   pub first : start.between ≡ []
   pub base_taken : start.rules.refusal start.base ≡ None
   pub going : IsGoing start.rules reader
 
--- The lines behind the base were answered, whatever the source had left before the base line was read.
+-- The lines after the base were answered, whatever the source had left before the base line was read.
 abbrev pub AnswersLines : Answering → LineState → Outside → Outside → Option ℕ → Option ℕ → End → Type 0
 AnswersLines answering reader old new room_old room_new end =
     (left : Option (List ℕ)) (faults : ℕ) → HasRead answering.rules left old.left reader (answering.base ∷ []) → faults ≤ old.source_faults

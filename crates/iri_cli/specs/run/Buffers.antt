@@ -1,9 +1,9 @@
--- The memory of a run of `canon`.
+-- The memory that a run over lines takes first.
 use Rattle.std.specs.Prelude.{◌≡◌, ℕ, false, []}
 use Rattle.iri_text.specs.Line.{LineState}
 use Rattle.iri_cli.specs.run.Limits.{longest_line, longest_input, answer_room}
 
--- A reader that took nothing yet, with the limits of `canon`; and buffers of these capacities: for the base line, and for the longest
+-- A reader that took nothing yet, with the limits of every command; and buffers of these capacities: for the base line, and for the longest
 -- answer's text and its LF.
 pub record AreBuffers (reader : LineState) (base output : ℕ) : Type 0 where
   pub held : reader.held ≡ []

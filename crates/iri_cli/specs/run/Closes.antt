@@ -1,4 +1,4 @@
--- How a run ends once its sink has handed on what it holds back.
+-- How a run ends once its sink is flushed.
 use Rattle.std.specs.Prelude.{◌≡◌, ◌⊎◌, ◌≤◌, ℕ, List, [], Option}
 use Rattle.iri_text.specs.Count.{Rose}
 use Rattle.iri_text.specs.Sink.{KeepsRoom}

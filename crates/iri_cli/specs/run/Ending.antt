@@ -12,11 +12,11 @@ pub record Rules : Type 0 where
   pub input_limit : ℕ
   -- why a base line is refused, None where it is taken
   pub refusal : List ℕ → Option (List ℕ)
-  -- the answer, with its LF, to a line behind a base and the lines between them; no bytes where the line has no answer
+  -- the answer, with its LF, to a line after a base and the lines between them; no bytes where the line has no answer
   pub answer : List ℕ → List (List ℕ) → List ℕ → List ℕ
   -- whether a run with this answer may end in status 0
   pub is_good : List ℕ → Bool
-  -- what is written behind the answers to all of the lines
+  -- what is written after the answers to all of the lines
   pub closing : List ℕ → List (List ℕ) → List ℕ
   -- whether answers take memory, so that it may be refused at a line
   pub takes_memory : Bool
@@ -39,10 +39,10 @@ abbrev pub unless_refused : Option (List ℕ) → Ending → Ending
 unless_refused None e = e
 unless_refused (Some words) e = record { status = 3; output = base_line words }
 
--- the lines that an LF ends in these bytes, where the first of them begins with the bytes of `front`
+-- the lines that an LF ends in these bytes, where the first of them begins with the bytes of `prefix`
 abbrev pub ended_from : List ℕ → List ℕ → List (List ℕ)
-ended_from front [] = []
-ended_from front (b ∷ bs) = if b == line_feed then no_cr front ∷ ended_from [] bs else ended_from (front ++ b ∷ []) bs
+ended_from prefix [] = []
+ended_from prefix (b ∷ bs) = if b == line_feed then no_cr prefix ∷ ended_from [] bs else ended_from (prefix ++ b ∷ []) bs
 
 -- the lines that an LF ends in these bytes
 abbrev pub ended_lines : List ℕ → List (List ℕ)
@@ -64,13 +64,13 @@ module _ (rules : Rules) where
   first_passed input = passed_from 0 0 input
 
   -- the answers to lines, where others stand between them and the base
-  abbrev pub answers_behind : List ℕ → List (List ℕ) → List (List ℕ) → List (List ℕ)
-  answers_behind base between [] = []
-  answers_behind base between (line ∷ rest) = rules.answer base between line ∷ answers_behind base (between ++ line ∷ []) rest
+  abbrev pub answers_after : List ℕ → List (List ℕ) → List (List ℕ) → List (List ℕ)
+  answers_after base between [] = []
+  answers_after base between (line ∷ rest) = rules.answer base between line ∷ answers_after base (between ++ line ∷ []) rest
 
-  -- the answers to the lines behind a base
+  -- the answers to the lines after a base
   abbrev pub answers : List ℕ → List (List ℕ) → List (List ℕ)
-  answers base rest = answers_behind base [] rest
+  answers base rest = answers_after base [] rest
 
   -- the base among these lines is taken
   abbrev pub IsBaseTaken : List (List ℕ) → Type 0
@@ -94,7 +94,7 @@ module _ (rules : Rules) where
   completed_lines [] = completed [] []
   completed_lines (base ∷ rest) = completed base rest
 
-  -- the ending in a status behind these lines
+  -- the ending in a status after these lines
   abbrev pub stopped : ℕ → List (List ℕ) → Ending
   stopped status [] = record { status = status; output = [] }
   stopped status (base ∷ rest) = unless_refused (rules.refusal base) (record { status = status; output = concat (answers base rest) })

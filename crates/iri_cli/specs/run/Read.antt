@@ -6,13 +6,13 @@ use Rattle.iri_text.specs.Source.{Consumes, IsAtEnd}
 use Rattle.iri_cli.specs.run.Ending.{Rules, passed_from, first_passed, ended_lines}
 
 module _ (rules : Rules) where
-  -- These bytes are whole lines with their LFs, within the limits, and a line begins behind them.
+  -- These bytes are whole lines with their LFs, within the limits, and a line begins after them.
   pub record IsOpen (given : List ℕ) (whole : List (List ℕ)) : Type 0 where
     pub passes : (y : List ℕ) → first_passed rules (given ++ y) ≡ passed_from rules (length given) 0 y
     pub all : (y : List ℕ) → lines (given ++ y) ≡ whole ++ lines y
     pub ended : (y : List ℕ) → ended_lines (given ++ y) ≡ whole ++ ended_lines y
 
-  -- These bytes are all of the lines, within the limits, and nothing comes behind them.
+  -- These bytes are all of the lines, within the limits, and nothing comes after them.
   pub record IsClosed (given held : List ℕ) (whole : List (List ℕ)) (left : Option (List ℕ)) : Type 0 where
     pub passes : first_passed rules given ≡ None
     pub all : lines given ≡ whole

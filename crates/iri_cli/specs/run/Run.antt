@@ -33,7 +33,7 @@ module _ (rules : Rules) where
     pub writes : Appends old.written new.written (ending rules taken).output
     pub sink : new.sink_faults ≡ old.sink_faults
 
-  -- These bytes were taken, and whatever comes behind them, the input has this ending.
+  -- These bytes were taken, and whatever comes after them, the input has this ending.
   pub record Decides (status : ℕ) (old new : Outside) : Type 0 where
     pub taken : List ℕ
     pub takes : Consumes old.left new.left taken
@@ -41,7 +41,7 @@ module _ (rules : Rules) where
     pub writes : (more : List ℕ) → Appends old.written new.written (ending rules (taken ++ more)).output
     pub sink : new.sink_faults ≡ old.sink_faults
 
-  -- The source failed behind these bytes. They pass no limit, and have no refused base line with an LF. Exactly the lines that an LF ends in them were answered.
+  -- The source failed after these bytes. They pass no limit, and have no refused base line with an LF. Exactly the lines that an LF ends in them were answered.
   pub record StopsShort (old new : Outside) : Type 0 where
     pub taken : List ℕ
     pub takes : Consumes old.left new.left taken
@@ -75,7 +75,7 @@ module _ (rules : Rules) where
   -- have room for that output didn't fail.
   pub record Ran (old new : Outside) (room_old room_new : Option ℕ) (end : End) : Type 0 where
     pub to : RanTo old new end
-    pub front : (input : List ℕ) → old.left ≡ Some input → AppendsPrefix old.written new.written (ending rules input).output
+    pub prefix : (input : List ℕ) → old.left ≡ Some input → AppendsPrefix old.written new.written (ending rules input).output
     pub source_later : old.source_faults ≤ new.source_faults
     pub sink_later : old.sink_faults ≤ new.sink_faults
     pub room : (input : List ℕ) → old.left ≡ Some input → KeepsRoom room_old room_new (ending rules input).output (end ≢ SinkFailed)

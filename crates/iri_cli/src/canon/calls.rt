@@ -2,7 +2,7 @@
 ghost use Rattle.std.specs.Prelude.{◌≢◌};
 ghost use Rattle.iri_cli.specs.canon.Answers.{AnswersAreCanonical, AnswersAreCanonicalIn};
 ghost use Rattle.iri_cli.specs.run.Run.{Runs, outside};
-ghost use Rattle.iri_cli.specs.run.Words.{canon_rules, canon_rules_in};
+ghost use Rattle.iri_cli.specs.canon.Rules.{canon_rules, canon_rules_in};
 
 use crate::canon::Canon;
 use crate::run::buffers::CanonBuffers;

@@ -30,12 +30,12 @@ fn show_path<S: Spec, W: TextSink>(
     requires { is_path S.tests path.now ≡ true }
     ensures { Shows W.puts W.halts W.stops sink.old (prepared_path authority_stands path.now) sink.new result }
 {
-    let (front, last) = cut_last_segment(path);
-    show_guarded::<S, W>(sink, &MergedPath::of(front), authority_stands, false)?;
+    let (directory, last) = cut_last_segment(path);
+    show_guarded::<S, W>(sink, &MergedPath::of(directory), authority_stands, false)?;
     sink.put(last)
 }
 
-// The query behind its question mark, where it stands.
+// The query after its question mark, where it stands.
 fn show_query<W: TextSink>(sink: &mut W, query: Option<&str>) -> Result<(), Stop>
     ensures { Shows W.puts W.halts W.stops sink.old (marked question_mark (now_of query.entry)) sink.new result }
 {

@@ -31,7 +31,7 @@ pub(crate) enum Said<'a> {
     Bad,
 }
 
-// The name of a variable, and the fields behind it.
+// The name of a variable, and the fields after it.
 fn named(fields: &str) -> Option<(VarName<'_>, &str)>
     ensures { named_now result ≡ named fields.now }
 {

@@ -1,4 +1,4 @@
-// The lines behind the base line.
+// The lines after the base line.
 ghost use Rattle.std.specs.Prelude.{◌≡◌, ◌≢◌, ◌≤◌, ℕ, List, length};
 ghost use Rattle.iri_text.specs.Sink.{KeepsRoom};
 ghost use Rattle.iri_normal.specs.Resolver.{base_text};
@@ -41,8 +41,7 @@ fn error_end(error: AnswerError) -> End
     }
 }
 
-// Answers the line that the reader has. Where no LF is held behind it, the sink then hands on what
-// it holds back.
+// Answers the line that the reader has. Where the reader holds no LF after it, the sink is flushed.
 fn answer_line<S: Spec, A: Answers<S>, O: Sink>(
     answers: &mut A,
     resolver: &FixedBaseResolver<'_, S>,
@@ -70,7 +69,7 @@ fn answer_line<S: Spec, A: Answers<S>, O: Sink>(
     }
 }
 
-// Puts the text behind all answers.
+// Puts the text after all answers.
 fn close_lines<S: Spec, A: Answers<S>, O: Sink>(
     answers: &mut A,
     all_good: bool,
@@ -90,7 +89,7 @@ fn close_lines<S: Spec, A: Answers<S>, O: Sink>(
     }
 }
 
-/// Answers the lines behind a base line that is taken, which the reader gave before.
+/// Answers the lines after a base line that is taken, which the reader gave before.
 pub fn answer_lines<S: Spec, A: Answers<S>, I: Source, O: Sink>(
     answers: &mut A,
     resolver: &FixedBaseResolver<'_, S>,

@@ -12,7 +12,7 @@ use iri_grammar::spec::Spec;
 use iri_normal::resolver::FixedBaseResolver;
 use iri_text::{Failed, Sink};
 
-/// Why no lines are answered behind a base line.
+/// Why no lines are answered after a base line.
 #[derive(Clone, Copy)]
 pub enum BaseError {
     /// The base line is refused, for what these words say.
@@ -30,7 +30,7 @@ pub enum AnswerError {
     Memory,
 }
 
-/// Answers the lines of a command behind a base, one after the other.
+/// Answers the lines of a command after a base, one after the other.
 pub trait Answers<S: Spec>: Drop + Sized {
     /// What it is made of before the base line is read.
     type Start: Drop;
@@ -64,7 +64,7 @@ pub trait Answers<S: Spec>: Drop + Sized {
             (O.written sink.old) (O.written sink.new) (O.faults sink.old) (O.faults sink.new)
             (O.room_left sink.old) (O.room_left sink.new) result };
 
-    /// Puts the text behind all answers. It takes no memory.
+    /// Puts the text after all answers. It takes no memory.
     fn close<O: Sink>(&mut self, sink: &mut O) -> Result<(), Failed>
         ensures { (text : List ℕ) (at : Answering) → stands_at self.old text at
             → PutsAll

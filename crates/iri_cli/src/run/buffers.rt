@@ -1,4 +1,4 @@
-//! The memory of a run of `canon`.
+//! The memory that a run over lines takes first.
 ghost use Rattle.std.specs.Prelude.{◌≤◌, IfOk, length};
 ghost use Rattle.std.specs.Vec.{vec_capacity};
 ghost use Rattle.iri_cli.specs.run.Buffers.{AreBuffers};
@@ -16,8 +16,9 @@ pub const INPUT: u64 = 1073741824;
 /// reference together and three more, and an LF.
 pub const OUTPUT: usize = 2 * LINE + 7;
 
-/// All of the memory that a run of `canon` needs: for a reader of lines, the base line, and an
-/// answer. Of the last two it uses only as much as its longest lines need.
+/// The memory that every command over lines takes before it reads, and all that `canon` needs: for a
+/// reader of lines, the base line, and an answer. Of the last two a run uses only as much as its
+/// longest lines need.
 #[derive(Drop)]
 pub struct CanonBuffers {
     pub(crate) reader: LineReader,

@@ -32,7 +32,7 @@ pub(crate) fn own_base<S: Spec>(
     }
 }
 
-// Reads the base line into a buffer, and answers the lines behind it.
+// Reads the base line into a buffer, and answers the lines after it.
 fn answer_with<S: Spec, A: Answers<S>, I: Source, O: Sink>(
     start: A::Start,
     mut reader: LineReader,
@@ -61,7 +61,7 @@ fn answer_with<S: Spec, A: Answers<S>, I: Source, O: Sink>(
     }
 }
 
-/// Reads a base line and the lines of a command behind it, answers each, and gives the program's
+/// Reads a base line and the lines of a command after it, answers each, and gives the program's
 /// status. It takes no memory but the buffers and what the command takes.
 pub(crate) fn run_lines<S: Spec, A: Answers<S>, I: Source, O: Sink>(
     start: A::Start,

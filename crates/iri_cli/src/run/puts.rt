@@ -21,7 +21,7 @@ pub(crate) fn put_number<O: Sink>(sink: &mut O, number: usize) -> Result<(), Fai
     }
 }
 
-/// Puts the prefix of a refused reference, the words for its fault and an LF.
+/// Puts the answer to a refused reference: `bad `, the words for its fault and an LF.
 pub(crate) fn put_bad<O: Sink>(sink: &mut O, words: &str) -> Result<(), Failed>
     ensures { PutsAll
         (O.written sink.old) (O.written sink.new) (O.faults sink.old) (O.faults sink.new)

@@ -1,6 +1,6 @@
 //! The commands.
-ghost use Rattle.std.specs.Prelude.{◌≡◌, ◌≢◌, ◌↔◌, ℕ, decimal, true, [], ◌∷◌, map, string_bytes, MatchOption};
-ghost use Rattle.iri_cli.specs.run.Words.{HasToken, IsCommand, IsCount, command_word, word_of, words_behind};
+ghost use Rattle.std.specs.Prelude.{◌≡◌, ◌≢◌, ◌↔◌, ℕ, codes, decimal, true, ◌∷◌, map, string_bytes, MatchOption};
+ghost use Rattle.iri_cli.specs.run.Words.{IsCommand, IsCount, word_of};
 ghost use Rattle.iri_cli.specs.declared.run.words.Command.{Command};
 ghost use Rattle.iri_cli.specs.declared.run.words.Grammar.{Grammar};
 ghost use Rattle.iri_cli.specs.declared.run.words.LineCommand.{LineCommand};
@@ -53,35 +53,18 @@ fn grammar_of(word: &str) -> Option<Grammar>
     ensures { MatchOption result ((grammar : Grammar) → word.now ≢ word_of grammar)
         (λ grammar. word.now ≡ word_of grammar) }
 {
-    if word == "uri" {
-        Some(Grammar::Uri)
-    } else if word == "iri" {
-        Some(Grammar::Iri)
-    } else {
-        None
+    match word {
+        "uri" => Some(Grammar::Uri),
+        "iri" => Some(Grammar::Iri),
+        _ => None,
     }
 }
 
-// The command over lines of this name, without a word behind that of its grammar.
-fn line_command_of(word: &str) -> Option<LineCommand<'static>>
-    ensures { MatchOption result
-        ((command : LineCommand) → words_behind command ≡ [] → word.now ≢ command_word command)
-        (λ command. (word.now ≡ command_word command) × (words_behind command ≡ [])
-        × HasToken command) }
+// Whether this is the word for scheme rules.
+fn is_scheme(word: &str) -> bool
+    ensures { (result ≡ true) ↔ (word.now ≡ codes "scheme") }
 {
-    if word == "canon" {
-        Some(LineCommand::Canon(CanonMode::Default))
-    } else if word == "expand" {
-        Some(LineCommand::Expand)
-    } else if word == "register" {
-        Some(LineCommand::Register)
-    } else if word == "links" {
-        Some(LineCommand::Links)
-    } else if word == "docs" {
-        Some(LineCommand::Docs)
-    } else {
-        None
-    }
+    word == "scheme"
 }
 
 // Whether this is the number in decimal.
@@ -108,46 +91,26 @@ fn count_of(word: &str) -> Option<u32>
     Some(count)
 }
 
-// The command of one word.
-fn command_of_one(word: &str) -> Option<Command<'static>>
-    ensures { MatchOption result ((command : Command) → ¬ (IsCommand (word.now ∷ []) command))
-        (IsCommand (word.now ∷ [])) }
-{
-    match notice_of(word) {
-        Some(notice) => Some(Command::Tell(notice)),
-        None => None,
-    }
-}
-
-// The command of two words.
-fn command_of_two(name: &str, grammar: &str) -> Option<Command<'static>>
-    ensures { MatchOption result
-        ((command : Command) → ¬ (IsCommand (name.now ∷ grammar.now ∷ []) command))
-        (IsCommand (name.now ∷ grammar.now ∷ [])) }
-{
-    let command = line_command_of(name)?;
-    let grammar = grammar_of(grammar)?;
-    Some(Command::Lines(command, grammar))
-}
-
-// The command of three words.
-fn command_of_three<'a>(name: &str, grammar: &str, third: &'a str) -> Option<Command<'a>>
+// The command of a name and a grammar, with these words after that of the grammar.
+fn command_by<'a>(name: &str, grammar: Grammar, after: &'a [String]) -> Option<Command<'a>>
     ensures { MatchOption result ((command : Command)
-        → ¬ (IsCommand (name.now ∷ grammar.now ∷ third.now ∷ []) command))
-        (IsCommand (name.now ∷ grammar.now ∷ third.now ∷ [])) }
+        → ¬ (IsCommand (name.now ∷ word_of grammar ∷ map string_bytes after.now) command))
+        (IsCommand (name.now ∷ word_of grammar ∷ map string_bytes after.now)) }
 {
-    let grammar = grammar_of(grammar)?;
-    if name == "canon" && third == "scheme" {
-        return Some(Command::Lines(LineCommand::Canon(CanonMode::Scheme), grammar));
-    }
-    if name == "robots" && is_product_token(third) {
-        return Some(Command::Lines(LineCommand::Robots(third), grammar));
-    }
-    if name != "gen" {
-        return None;
-    }
-    let count = count_of(third)?;
-    Some(Command::Gen(grammar, count))
+    let command = match (name, after) {
+        ("canon", []) => LineCommand::Canon(CanonMode::Default),
+        ("canon", [word]) if is_scheme(word.as_str()) => LineCommand::Canon(CanonMode::Scheme),
+        ("expand", []) => LineCommand::Expand,
+        ("register", []) => LineCommand::Register,
+        ("links", []) => LineCommand::Links,
+        ("docs", []) => LineCommand::Docs,
+        ("robots", [token]) if is_product_token(token.as_str()) => {
+            LineCommand::Robots(token.as_str())
+        }
+        ("gen", [count]) => return Some(Command::Gen(grammar, count_of(count.as_str())?)),
+        _ => return None,
+    };
+    Some(Command::Lines(command, grammar))
 }
 
 /// The command of these words, where they are one.
@@ -157,10 +120,9 @@ pub fn command_of(words: &[String]) -> Option<Command<'_>>
         (IsCommand (map string_bytes words.now)) }
 {
     match words {
-        [word] => command_of_one(word.as_str()),
-        [name, grammar] => command_of_two(name.as_str(), grammar.as_str()),
-        [name, grammar, third] => {
-            command_of_three(name.as_str(), grammar.as_str(), third.as_str())
+        [word] => Some(Command::Tell(notice_of(word.as_str())?)),
+        [name, grammar, after @ ..] => {
+            command_by(name.as_str(), grammar_of(grammar.as_str())?, after)
         }
         _ => None,
     }

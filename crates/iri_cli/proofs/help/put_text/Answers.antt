@@ -3,7 +3,7 @@ use Rattle.std.proofs.lemmas.List.{append-nil}
 use Rattle.iri_text.specs.Sink.{Appends, KeepsRoom}
 use Rattle.iri_text.proofs.Puts.{room-so, room-then}
 use Rattle.iri_cli.specs.run.Run.{status_of}
-use Rattle.iri_cli.proofs.Answered.{whole_front}
+use Rattle.iri_cli.proofs.Answered.{whole_prefix}
 use Rattle.iri_cli.proofs.help.put_text.Goals as goal
 
 pub returns-in-Ok-clause-puts : goal.returns-in-Ok-clause-puts
@@ -17,7 +17,7 @@ returns-in-Ok-clause-puts g c =
     (subst (λ (t : List ℕ). Appends wo (g.O.Sink.written c.put_all.new.self) t) c.as_bytes.ensures.value p.whole) in
     ⊎_elim
     (λ e. inl (c.finish.ensures.told ∙ ap status_of e.0, put, e.1 ∙ p.same))
-    (λ e. inr (c.finish.ensures.told ∙ ap status_of e.0, whole_front put, omega (arith, e.1, p.same), omega (arith, q.later, p.later)))
+    (λ e. inr (c.finish.ensures.told ∙ ap status_of e.0, whole_prefix put, omega (arith, e.1, p.same), omega (arith, q.later, p.later)))
     q.ends
 
 pub returns-in-Ok-clause-room : goal.returns-in-Ok-clause-room

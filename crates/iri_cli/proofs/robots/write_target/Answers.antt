@@ -1,4 +1,4 @@
-use Rattle.std.proofs.Common.{◌≡◌, ◌∙◌, ◌++◌, ℕ, List, None, Result, Ok, Err, sym, subst, ap}
+use Rattle.std.proofs.Common.{◌≡◌, ◌++◌, None, Result, Ok, Err, sym, subst, ap}
 use Rattle.std.specs.Prelude.{OnOk, string_bytes}
 use Rattle.std.specs.declared.alloc.AllocError.{AllocError}
 use Rattle.iri_grammar.specs.WholeFault.{iri_fault}

@@ -1,16 +1,16 @@
-use Rattle.std.proofs.Common.{◌≡◌, ◌∙◌, None, subst, sym}
+use Rattle.std.proofs.Common.{◌≡◌, None, subst}
 use Rattle.std.specs.Vec.{vec_capacity}
 use Rattle.iri_cli.specs.canon.Answers.{refusal}
 use Rattle.iri_cli.proofs.ExpandLemmas.{expand_opened}
 use Rattle.iri_cli.proofs.expand.ExpandAnswers.open.Goals as goal
 
-pub returns-in-Ok-vec : goal.returns-in-Ok-vec
-returns-in-Ok-vec g c =
+pub returns-in-Ok : goal.returns-in-Ok
+returns-in-Ok g c =
     let s = g.S.Spec.tests in
     let q = c.in-Ok.ensures in
     let taken = subst (λ t. refusal s t ≡ None) c.deref.ensures.value q.1 in (
       taken,
       taken,
-      expand_opened s c.args.base.now.items c.in-Ok-vec.expansion.items (vec_capacity c.args.output) c.new.result taken c.requires.short
-          (sym c.in-Ok-vec.expansion.ok.0 ∙ c.in-Ok-vec.ensures.len) c.requires.room c.new.ensures,
+      expand_opened s c.args.base.now.items c.in-Ok.expansion.items (vec_capacity c.args.output) c.new.result taken c.requires.short q.0
+          c.requires.room c.new.ensures,
     )

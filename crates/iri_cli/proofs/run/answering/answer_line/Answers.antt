@@ -6,7 +6,7 @@ use Rattle.iri_text.proofs.Puts.{room-so, room-then}
 use Rattle.iri_cli.specs.run.Answering.{AnswersLine}
 use Rattle.iri_cli.specs.declared.run.answers.AnswerError.{AnswerError}
 use Rattle.iri_cli.specs.declared.run.answers.AnswerError.TheVariants.{SinkFailed}
-use Rattle.iri_cli.proofs.Answered.{whole_front}
+use Rattle.iri_cli.proofs.Answered.{whole_prefix}
 use Rattle.iri_cli.proofs.run.answering.answer_line.Goals as goal
 
 pub returns-in-Err-flush : goal.returns-in-Err-flush
@@ -27,7 +27,7 @@ returns-in-Err-flush g c = λ at is.
     let room : KeepsRoom ro rn (answer ++ []) (failed ≢ failed) = room-then before (room-so (λ h. absurd (cc h)) f.room) in
     subst (λ l. AnswersLine stands_at at l wo wn fo fn ro rn failed) c.line.ensures (record {
       puts = (
-        whole_front (subst (λ w. Appends wo w answer) (sym f.kept) p.puts.0),
+        whole_prefix (subst (λ w. Appends wo w answer) (sym f.kept) p.puts.0),
         omega (arith, p.puts.1, f.cause),
         omega (arith, p.puts.1, f.later),
       );

@@ -1,5 +1,5 @@
 use Rattle.iri_cli.proofs.ExpandLemmas.{told_line, told_room}
-use Rattle.iri_cli.proofs.run.stateless.put_answer.Goals as goal
+use Rattle.iri_cli.proofs.links.put_answer.Goals as goal
 
 pub returns-clause-puts : goal.returns-clause-puts
 returns-clause-puts g c =

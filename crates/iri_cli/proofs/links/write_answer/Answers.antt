@@ -4,7 +4,7 @@ use Rattle.iri_link.specs.Refusals.{RefusedBy}
 use Rattle.iri_link.specs.declared.error.LinkError.TheVariants.{Fault}
 use Rattle.iri_normal.specs.Resolver.{base_text}
 use Rattle.iri_cli.proofs.LinksLemmas.{read_answered, refusal_answered}
-use Rattle.iri_cli.proofs.links.LinksStateless.write_answer.Goals as goal
+use Rattle.iri_cli.proofs.links.write_answer.Goals as goal
 
 pub returns-in-Ok : goal.returns-in-Ok
 returns-in-Ok g c =

@@ -1,19 +1,19 @@
 use Rattle.std.proofs.Common.{◌∙◌}
 use Rattle.iri_normal.specs.Resolver.{base_text}
+use Rattle.iri_cli.specs.links.Answers.{links_answer}
 use Rattle.iri_cli.proofs.StatelessLemmas.{answers_memory, answers_text}
-use Rattle.iri_cli.proofs.run.stateless.StatelessAnswersAnswers.answer.Goals as goal
+use Rattle.iri_cli.proofs.links.LinksAnswers.answer.Goals as goal
 
 pub returns-in-Ok : goal.returns-in-Ok
 returns-in-Ok g c = λ at is.
     let s = g.S.Spec.tests in
-    let f = g.C.Stateless.answer in
     let line = c.args.line.now in
-    answers_text f s (base_text c.args.resolver.now) at is line (g.O.Sink.written c.args.sink.now) (g.O.Sink.written c.put_answer.new.sink)
+    answers_text links_answer s (base_text c.args.resolver.now) at is line (g.O.Sink.written c.args.sink.now) (g.O.Sink.written c.put_answer.new.sink)
     (g.O.Sink.faults c.args.sink.now) (g.O.Sink.faults c.put_answer.new.sink) (g.O.Sink.room_left c.args.sink.now)
     (g.O.Sink.room_left c.put_answer.new.sink) c.put_answer.result c.as_str.result.now
     (c.as_str.ensures.value ∙ c.in-Ok.ensures) c.put_answer.ensures.puts c.put_answer.ensures.room
 
 pub returns-in-Err : goal.returns-in-Err
 returns-in-Err g c = λ at is.
-    answers_memory g.C.Stateless.answer g.S.Spec.tests (base_text c.args.resolver.now) at is c.args.line.now (g.O.Sink.written c.args.sink.now)
+    answers_memory links_answer g.S.Spec.tests (base_text c.args.resolver.now) at is c.args.line.now (g.O.Sink.written c.args.sink.now)
     (g.O.Sink.faults c.args.sink.now) (g.O.Sink.room_left c.args.sink.now)

@@ -1,7 +1,7 @@
 use Rattle.std.proofs.Common.{inl, subst}
 use Rattle.iri_cli.specs.run.Run.{RunsLines, outside}
-use Rattle.iri_cli.specs.run.Words.{robots_rules}
-use Rattle.iri_cli.proofs.run.robots_lines.Goals as goal
+use Rattle.iri_cli.specs.robots.Rules.{robots_rules}
+use Rattle.iri_cli.proofs.robots.robots_lines.Goals as goal
 
 pub returns-in-Ok : goal.returns-in-Ok
 returns-in-Ok g c =

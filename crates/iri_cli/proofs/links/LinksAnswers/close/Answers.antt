@@ -1,7 +1,7 @@
 use Rattle.std.proofs.Common.{ap}
 use Rattle.iri_cli.specs.run.Ending.{Rules}
 use Rattle.iri_cli.proofs.CanonLemmas.{closes_nothing}
-use Rattle.iri_cli.proofs.run.stateless.StatelessAnswersAnswers.close.Goals as goal
+use Rattle.iri_cli.proofs.links.LinksAnswers.close.Goals as goal
 
 pub returns : goal.returns
 returns g c = λ text at is. closes_nothing at _ _ _ (ap (λ (r : Rules). r.closing at.base at.between) is.rules)

@@ -1,0 +1,36 @@
+-- The command `canon`: its rules.
+use Rattle.std.specs.Prelude.{ℕ, codes, nat_eq, Bool, true, false, List, []}
+use Rattle.std.specs.List.{starts_with}
+use Rattle.iri_grammar.specs.Classes.{Tests}
+use Rattle.iri_percent.specs.declared.canon_mode.CanonMode.{CanonMode}
+use Rattle.iri_percent.specs.declared.canon_mode.CanonMode.TheVariants.{Default}
+use Rattle.iri_cli.specs.canon.Answers.{refusal}
+use Rattle.iri_normal.specs.Answers.{answer_in}
+use Rattle.iri_cli.specs.run.Ending.{Rules}
+use Rattle.iri_cli.specs.run.Limits.{longest_line, longest_input}
+
+-- an answer is good where it begins with "ok "
+abbrev pub is_ok : List ℕ → Bool
+is_ok answer = starts_with nat_eq answer (codes "ok ")
+
+-- `canon` in a mode over the lines of an input: each answer depends on the base and the line alone, nothing is written after the last
+-- one, and no line takes memory
+abbrev pub canon_rules_in : Tests → CanonMode → Rules
+canon_rules_in s mode = record {
+  line_limit = longest_line;
+  input_limit = longest_input;
+  refusal = refusal s;
+  answer = λ base between line. answer_in s mode base line;
+  is_good = is_ok;
+  closing = λ base between. [];
+  takes_memory = false;
+}
+
+-- the same by the rules of every scheme
+abbrev pub canon_rules : Tests → Rules
+canon_rules s = canon_rules_in s Default
+
+-- a command that answers each line by the base and that line alone: base, limits and good answers are those of `canon`, but a line takes
+-- memory
+abbrev pub stateless_rules : (Tests → List ℕ → List ℕ → List ℕ) → Tests → Rules
+stateless_rules answer_to s = record (canon_rules s) { answer = λ base between line. answer_to s base line; takes_memory = true }

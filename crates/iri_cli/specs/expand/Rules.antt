@@ -1,0 +1,15 @@
+-- The command `expand`: its rules.
+use Rattle.std.specs.Prelude.{ℕ, Bool, true, List, [], ◌∷◌}
+use Rattle.iri_grammar.specs.Classes.{Tests}
+use Rattle.iri_cli.specs.canon.Rules.{canon_rules, is_ok}
+use Rattle.iri_cli.specs.expand.Answers.{expand_answer}
+use Rattle.iri_cli.specs.run.Ending.{Rules}
+
+-- a line without an answer is good
+abbrev pub is_ok_or_none : List ℕ → Bool
+is_ok_or_none [] = true
+is_ok_or_none (b ∷ answer) = is_ok (b ∷ answer)
+
+-- `expand`: base and limits as those of `canon`; each answer depends on the lines before, and a line that gives a variable a value has none
+abbrev pub expand_rules : Tests → Rules
+expand_rules s = record (canon_rules s) { answer = expand_answer s; is_good = is_ok_or_none; takes_memory = true }

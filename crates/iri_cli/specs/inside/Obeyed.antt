@@ -1,0 +1,24 @@
+-- What a run does by its command.
+use Rattle.std.specs.Prelude.{◌≡◌, ◌≤◌, ℕ, Option, None, Some}
+use Rattle.iri_cli.specs.generator.References.{gen_text}
+use Rattle.iri_cli.specs.help.Notices.{MakesText, Tells, notice_text}
+use Rattle.iri_cli.specs.run.Run.{Outside, RunsLines}
+use Rattle.iri_cli.specs.run.Words.{HasToken, rules_of, tests_of}
+use Rattle.iri_cli.specs.declared.run.words.Command.{Command}
+use Rattle.iri_cli.specs.declared.run.words.Command.TheVariants.{Lines, Gen, Tell}
+
+-- what words that are this command say of it
+abbrev pub IsSound : Option Command → Type 0
+IsSound None = Unit {0}
+IsSound (Some (Lines command grammar)) = HasToken command
+IsSound (Some (Gen grammar count)) = count ≤ 100000
+IsSound (Some (Tell notice)) = Unit {0}
+
+-- what is done for this command, or for none
+abbrev pub Obeys : Option Command → (old new : Outside) → (room_old room_new : Option ℕ) → (status : ℕ) → Type 0
+Obeys None old new room_old room_new status = (status ≡ 2) × (new ≡ old)
+Obeys (Some (Lines command grammar)) old new room_old room_new status =
+    RunsLines (rules_of command (tests_of grammar)) old new room_old room_new status
+Obeys (Some (Gen grammar count)) old new room_old room_new status =
+    MakesText (gen_text (tests_of grammar) count) old new room_old room_new status
+Obeys (Some (Tell notice)) old new room_old room_new status = Tells (notice_text notice) old new room_old room_new status

@@ -1,0 +1,17 @@
+-- The command `register`: its rules.
+use Rattle.std.specs.Prelude.{true}
+use Rattle.iri_grammar.specs.Classes.{Tests}
+use Rattle.iri_cli.specs.canon.Rules.{canon_rules}
+use Rattle.iri_cli.specs.register.Answers.{register_answer, register_closing}
+use Rattle.iri_cli.specs.run.Ending.{Rules}
+use Rattle.iri_cli.specs.run.Refused.{is_not_bad}
+
+-- `register` over the lines of an input: each line is answered by the entries after the lines before it, and the entries are written at the
+-- end
+abbrev pub register_rules : Tests → Rules
+register_rules s = record (canon_rules s) {
+  answer = register_answer s;
+  is_good = is_not_bad;
+  closing = register_closing s;
+  takes_memory = true;
+}
