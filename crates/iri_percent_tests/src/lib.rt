@@ -10,3 +10,5 @@ mod mapped;
 mod normal_forms;
 #[cfg(test)]
 mod percent_encoded;
+#[cfg(test)]
+mod same;

@@ -1,3 +1,4 @@
+use crate::same::same;
 use iri_grammar::spec::{IriSpec, Spec, UriSpec};
 use iri_owned::owned::{IriFragmentString, IriQueryString, IriString, Owned};
 use iri_percent::{IntoUri, MappedKind, MappedToUri, ToUri, laws};
@@ -26,25 +27,25 @@ fn mapped<'b, S: Spec, K: MappedKind>(buf: &'b mut [u8], text: &str) -> &'b str 
 fn each_kind(rt: HostRuntime) {
     let mut buf = [0u8; 64];
     let reference = mapped::<IriSpec, Reference>(&mut buf, "//\u{3b1}/\u{3b1}?\u{e000}#\u{3b1}");
-    assert_eq!(rt; reference, "//%CE%B1/%CE%B1?%EE%80%80#%CE%B1");
+    same(&rt, reference, "//%CE%B1/%CE%B1?%EE%80%80#%CE%B1");
     let iri = mapped::<IriSpec, Iri>(&mut buf, "a:\u{3b1}#\u{3b1}");
-    assert_eq!(rt; iri, "a:%CE%B1#%CE%B1");
+    same(&rt, iri, "a:%CE%B1#%CE%B1");
     let absolute = mapped::<IriSpec, Absolute>(&mut buf, "a://u\u{e9}:\u{e9}@h:1");
-    assert_eq!(rt; absolute, "a://u%C3%A9:%C3%A9@h:1");
+    same(&rt, absolute, "a://u%C3%A9:%C3%A9@h:1");
     let relative = mapped::<IriSpec, Relative>(&mut buf, "\u{3b1}%ce%b1");
-    assert_eq!(rt; relative, "%CE%B1%ce%b1");
+    same(&rt, relative, "%CE%B1%ce%b1");
     let query = mapped::<IriSpec, Query>(&mut buf, "\u{3b1}=/?");
-    assert_eq!(rt; query, "%CE%B1=/?");
+    same(&rt, query, "%CE%B1=/?");
     let fragment = mapped::<IriSpec, Fragment>(&mut buf, "\u{3b1}");
-    assert_eq!(rt; fragment, "%CE%B1");
+    same(&rt, fragment, "%CE%B1");
     let uri = mapped::<UriSpec, Iri>(&mut buf, "http://a/%ce?%41#-");
-    assert_eq!(rt; uri, "http://a/%ce?%41#-");
+    same(&rt, uri, "http://a/%ce?%41#-");
 }
 
 // The examples of RFC 3987 section 3.1, and the first and last character of each length of UTF-8.
 #[test]
 fn characters(rt: HostRuntime) {
-    for (text, want) in [
+    for &(text, want) in &[
         (
             "http://www.example.org/red%09ros\u{e9}#red",
             "http://www.example.org/red%09ros%C3%A9#red",
@@ -77,7 +78,7 @@ fn long_runs(rt: HostRuntime) {
     let mut buf = [0u8; 128];
     let text = "\u{3042}\u{3044}\u{3046}\u{3048}\u{304a}\u{304b}a\u{304d}";
     let want = "%E3%81%82%E3%81%84%E3%81%86%E3%81%88%E3%81%8A%E3%81%8Ba%E3%81%8D";
-    assert_eq!(rt; mapped::<IriSpec, Query>(&mut buf, text), want);
+    same(&rt, mapped::<IriSpec, Query>(&mut buf, text), want);
 }
 
 const ALPHA: &str = "http://example.com/?alpha=\u{3b1}";
@@ -89,18 +90,18 @@ fn three_ways(rt: HostRuntime) -> Result<(), Fail> {
     let mut iri = IriString::try_from_str(rt.alloc(), ALPHA)?;
     let mapped = iri.as_slice().encode_to_uri();
     let uri = mapped.try_to_dedicated_string(rt.alloc())?;
-    assert_eq!(rt; uri.as_str(), ENCODED);
-    assert_eq!(rt; format!(in rt.alloc(); "{mapped}")?.as_str(), ENCODED);
+    same(&rt, uri.as_str(), ENCODED);
+    same(&rt, format!(in rt.alloc(); "{mapped}")?.as_str(), ENCODED);
     let copy = iri.try_clone(rt.alloc())?;
     let uri = as_owned_uri(rt.alloc(), copy, ALPHA)?;
-    assert_eq!(rt; uri.as_str(), ENCODED);
+    same(&rt, uri.as_str(), ENCODED);
     if iri.try_encode_to_uri_inline(rt.alloc()).is_err() {
-        assert_eq!(rt; iri.as_str(), ALPHA);
+        same(&rt, iri.as_str(), ALPHA);
         return Err(AllocError)?;
     }
-    assert_eq!(rt; iri.as_str(), ENCODED);
+    same(&rt, iri.as_str(), ENCODED);
     iri.try_encode_to_uri_inline(rt.alloc())?;
-    assert_eq!(rt; iri.as_str(), ENCODED);
+    same(&rt, iri.as_str(), ENCODED);
     Ok(())
 }
 
@@ -115,16 +116,16 @@ fn in_ascii_or_not(rt: HostRuntime) -> Result<(), Fail> {
 
     let iri = IriString::try_from_str(rt.alloc(), ALPHA)?;
     let back = iri.try_into_uri().err().ok_or("taken")?;
-    assert_eq!(rt; back.as_str(), ALPHA);
+    same(&rt, back.as_str(), ALPHA);
     let iri = IriString::try_from_str(rt.alloc(), ENCODED)?;
     let uri = iri.try_into_uri().ok().ok_or("handed back")?;
-    assert_eq!(rt; uri.as_str(), ENCODED);
+    same(&rt, uri.as_str(), ENCODED);
     let iri = uri.into_iri_spec();
     let uri = iri
         .try_encode_into_uri(rt.alloc())
         .ok()
         .ok_or("handed back")?;
-    assert_eq!(rt; uri.as_str(), ENCODED);
+    same(&rt, uri.as_str(), ENCODED);
     Ok(())
 }
 
@@ -145,10 +146,10 @@ fn as_owned_uri<K: MappedKind>(
 fn owned_parts(rt: HostRuntime) -> Result<(), Fail> {
     let query = IriQueryString::try_from_str(rt.alloc(), "\u{e000}")?;
     let uri = as_owned_uri(rt.alloc(), query, "\u{e000}")?;
-    assert_eq!(rt; uri.as_str(), "%EE%80%80");
+    same(&rt, uri.as_str(), "%EE%80%80");
     let fragment = IriFragmentString::try_from_str(rt.alloc(), "\u{e9}%C3")?;
     let uri = as_owned_uri(rt.alloc(), fragment, "\u{e9}%C3")?;
-    assert_eq!(rt; uri.as_str(), "%C3%A9%C3");
+    same(&rt, uri.as_str(), "%C3%A9%C3");
     Ok(())
 }
 

@@ -1,3 +1,4 @@
+use crate::same::same;
 use iri_grammar::spec::{IriSpec, Spec, UriSpec};
 use iri_percent::{PercentEncoded, PercentEncodedForIri, PercentEncodedForUri};
 use iri_text::{Show, Stop, TextSink, ToStringFallible, show_three, write_to_slice};
@@ -136,7 +137,7 @@ fn borders_past_ascii(rt: HostRuntime) {
 #[test]
 fn borders_of_planes(rt: HostRuntime) {
     for plane in 1..14u32 {
-        for (end, in_class) in [(0, true), (0xFFFD, true), (0xFFFE, false), (0xFFFF, false)] {
+        for &(end, in_class) in &[(0, true), (0xFFFD, true), (0xFFFE, false), (0xFFFF, false)] {
             match char::from_u32(plane * 0x1_0000 + end) {
                 Some(c) => {
                     for place in 0..9usize {
@@ -154,29 +155,34 @@ fn borders_of_planes(rt: HostRuntime) {
 fn raw_texts(rt: HostRuntime) {
     let greek = "\u{3b1}/<alpha>?#";
     let mut buf = [0u8; 64];
-    assert_eq!(rt;
+    same(
+        &rt,
         shown::<UriSpec>(&mut buf, 3, greek),
-        "%CE%B1%2F%3Calpha%3E%3F%23"
+        "%CE%B1%2F%3Calpha%3E%3F%23",
     );
-    assert_eq!(rt;
+    same(
+        &rt,
         shown::<IriSpec>(&mut buf, 5, greek),
-        "\u{3b1}/%3Calpha%3E?%23"
+        "\u{3b1}/%3Calpha%3E?%23",
     );
-    assert_eq!(rt;
+    same(
+        &rt,
         shown::<UriSpec>(&mut buf, 8, ":/?#[]@ !$&'()*+,;="),
-        ":/?#[]@%20!$&'()*+,;="
+        ":/?#[]@%20!$&'()*+,;=",
     );
-    assert_eq!(rt; shown::<UriSpec>(&mut buf, 1, "a:b@c"), "a%3Ab%40c");
-    assert_eq!(rt; shown::<UriSpec>(&mut buf, 7, "100%25"), "100%2525");
-    assert_eq!(rt; shown::<UriSpec>(&mut buf, 7, ""), "");
+    same(&rt, shown::<UriSpec>(&mut buf, 1, "a:b@c"), "a%3Ab%40c");
+    same(&rt, shown::<UriSpec>(&mut buf, 7, "100%25"), "100%2525");
+    same(&rt, shown::<UriSpec>(&mut buf, 7, ""), "");
     // Runs of more octets than are spelled in one piece, and of one more.
-    assert_eq!(rt;
+    same(
+        &rt,
         shown::<UriSpec>(&mut buf, 7, "                 "),
-        "%20%20%20%20%20%20%20%20%20%20%20%20%20%20%20%20%20"
+        "%20%20%20%20%20%20%20%20%20%20%20%20%20%20%20%20%20",
     );
-    assert_eq!(rt;
+    same(
+        &rt,
         shown::<UriSpec>(&mut buf, 7, "                      "),
-        "no room"
+        "no room",
     );
 }
 
@@ -219,11 +225,11 @@ fn pieces_of(place: usize, raw: &str) -> u64 {
 // The longest runs that stand as they are go through as one piece, and so do up to eight octets that are spelled.
 #[test]
 fn pieces_of_runs(rt: HostRuntime) {
-    assert_eq!(rt; pieces_of(4, ""), 0);
-    assert_eq!(rt; pieces_of(4, "a/\u{3b1}/b-\u{10000}"), 1);
-    assert_eq!(rt; pieces_of(4, "a b"), 3);
-    assert_eq!(rt; pieces_of(4, "        "), 1);
-    assert_eq!(rt; pieces_of(4, "         "), 2);
+    same(&rt, pieces_of(4, ""), 0);
+    same(&rt, pieces_of(4, "a/\u{3b1}/b-\u{10000}"), 1);
+    same(&rt, pieces_of(4, "a b"), 3);
+    same(&rt, pieces_of(4, "        "), 1);
+    same(&rt, pieces_of(4, "         "), 2);
 }
 
 // Three texts in a row.
@@ -245,15 +251,19 @@ fn texts_in_pieces(rt: HostRuntime) -> Result<(), Fail> {
     let alloc = rt.alloc();
     let raw = Pieces("a%4", "1/ \u{3b1}", " \u{3b1}%");
     let uri = PercentEncodedForUri::from_path(raw).try_to_string(alloc)?;
-    assert_eq!(rt; uri.as_str(), "a%2541/%20%CE%B1%20%CE%B1%25");
+    same(&rt, uri.as_str(), "a%2541/%20%CE%B1%20%CE%B1%25");
     let iri = PercentEncodedForIri::from_path(raw).try_to_string(alloc)?;
-    assert_eq!(rt; iri.as_str(), "a%2541/%20\u{3b1}%20\u{3b1}%25");
+    same(&rt, iri.as_str(), "a%2541/%20\u{3b1}%20\u{3b1}%25");
     // A value that is encoded is a value too.
     let twice = PercentEncodedForUri::unreserve(PercentEncodedForIri::from_query(raw));
     let twice = twice.try_to_string(alloc)?;
-    assert_eq!(rt; twice.as_str(), "a%252541%2F%2520%CE%B1%2520%CE%B1%2525");
+    same(
+        &rt,
+        twice.as_str(),
+        "a%252541%2F%2520%CE%B1%2520%CE%B1%2525",
+    );
     let number = PercentEncodedForUri::unreserve(-17i32).try_to_string(alloc)?;
-    assert_eq!(rt; number.as_str(), "-17");
+    same(&rt, number.as_str(), "-17");
     Ok(())
 }
 
@@ -262,6 +272,6 @@ fn displayed(rt: HostRuntime) -> Result<(), Fail> {
     let alloc = rt.alloc();
     let encoded = PercentEncodedForUri::from_reg_name("a b\u{e9}");
     let text = format!(in alloc; "<{encoded}>")?;
-    assert_eq!(rt; text.as_str(), "<a%20b%C3%A9>");
+    same(&rt, text.as_str(), "<a%20b%C3%A9>");
     Ok(())
 }

@@ -1,4 +1,5 @@
 // Lists, and values by name.
+use crate::same::same;
 use iri_template::simple_context::SimpleContext;
 use iri_template::value::{PairList, TextList, Value};
 use iri_template::var_name::VarName;
@@ -60,13 +61,13 @@ fn put(
 fn a_map(rt: HostRuntime) -> Result<(), Fail> {
     let mut context = SimpleContext::new(rt.alloc());
     let six = put(&mut context, rt.alloc(), "v", "6")?;
-    assert_eq!(rt; old(&six), Some("none"));
+    same(&rt, old(&six), Some("none"));
     let seven = put(&mut context, rt.alloc(), "v", "7")?;
-    assert_eq!(rt; old(&seven), Some("6"));
-    assert_eq!(rt; at(&context, "v"), Some("7"));
+    same(&rt, old(&seven), Some("6"));
+    same(&rt, at(&context, "v"), Some("7"));
     let bad = put(&mut context, rt.alloc(), "1-", "9")?;
-    assert_eq!(rt; old(&bad), Some("none"));
-    assert_eq!(rt; at(&context, "v"), Some("7"));
+    same(&rt, old(&bad), Some("none"));
+    same(&rt, at(&context, "v"), Some("7"));
     Ok(())
 }
 
@@ -74,15 +75,15 @@ fn a_map(rt: HostRuntime) -> Result<(), Fail> {
 fn undefined_removes(rt: HostRuntime) -> Result<(), Fail> {
     let mut context = SimpleContext::new(rt.alloc());
     let seven = put(&mut context, rt.alloc(), "v", "7")?;
-    assert_eq!(rt; old(&seven), Some("none"));
+    same(&rt, old(&seven), Some("none"));
     let other = put(&mut context, rt.alloc(), "w", "8")?;
-    assert_eq!(rt; old(&other), Some("none"));
+    same(&rt, old(&other), Some("none"));
     let gone = insert(&mut context, rt.alloc(), "v", Value::Undefined)?;
-    assert_eq!(rt; old(&gone), Some("7"));
-    assert_eq!(rt; at(&context, "v"), None);
-    assert_eq!(rt; at(&context, "w"), Some("8"));
+    same(&rt, old(&gone), Some("7"));
+    same(&rt, at(&context, "v"), None);
+    same(&rt, at(&context, "w"), Some("8"));
     context.clear();
-    assert_eq!(rt; at(&context, "w"), None);
+    same(&rt, at(&context, "w"), None);
     Ok(())
 }
 
@@ -106,13 +107,13 @@ fn one_pair(alloc: Global) -> Result<PairList, Fail> {
 #[test]
 fn lists(rt: HostRuntime) -> Result<(), Fail> {
     let items = one_item(rt.alloc())?;
-    assert_eq!(rt; items.len(), 1);
-    assert_eq!(rt; items.get(0), Some("a"));
-    assert_eq!(rt; items.get(1), None);
+    same(&rt, items.len(), 1);
+    same(&rt, items.get(0), Some("a"));
+    same(&rt, items.get(1), None);
     let pairs = one_pair(rt.alloc())?;
-    assert_eq!(rt; pairs.len(), 1);
-    assert_eq!(rt; pairs.get(0), Some(("k", "v")));
-    assert_eq!(rt; pairs.get(1), None);
+    same(&rt, pairs.len(), 1);
+    same(&rt, pairs.get(0), Some(("k", "v")));
+    same(&rt, pairs.get(1), None);
     let mut context = SimpleContext::new(rt.alloc());
     assert!(rt; insert(&mut context, rt.alloc(), "l", Value::List(items))?.is_none());
     assert!(rt; insert(&mut context, rt.alloc(), "p", Value::Assoc(pairs))?.is_none());
@@ -124,20 +125,20 @@ fn lists(rt: HostRuntime) -> Result<(), Fail> {
 fn items_handed_back_where_memory_is_refused(rt: HostRuntime) -> Result<(), Fail> {
     let mut items = TextList::new(rt.alloc());
     match items.push("a".to_string(rt.alloc())?) {
-        Ok(()) => assert_eq!(rt; items.get(0), Some("a")),
+        Ok(()) => same(&rt, items.get(0), Some("a")),
         Err(item) => {
-            assert_eq!(rt; item.as_str(), "a");
-            assert_eq!(rt; items.len(), 0);
+            same(&rt, item.as_str(), "a");
+            same(&rt, items.len(), 0);
             return Err(AllocError)?;
         }
     }
     let mut pairs = PairList::new(rt.alloc());
     match pairs.push("k".to_string(rt.alloc())?, "v".to_string(rt.alloc())?) {
-        Ok(()) => assert_eq!(rt; pairs.get(0), Some(("k", "v"))),
+        Ok(()) => same(&rt, pairs.get(0), Some(("k", "v"))),
         Err((key, value)) => {
-            assert_eq!(rt; key.as_str(), "k");
-            assert_eq!(rt; value.as_str(), "v");
-            assert_eq!(rt; pairs.len(), 0);
+            same(&rt, key.as_str(), "k");
+            same(&rt, value.as_str(), "v");
+            same(&rt, pairs.len(), 0);
             return Err(AllocError)?;
         }
     }
@@ -149,11 +150,11 @@ fn values_handed_back_where_memory_is_refused(rt: HostRuntime) -> Result<(), Fai
     let mut context = SimpleContext::new(rt.alloc());
     let value = string(rt.alloc(), "6")?;
     match context.insert("v".to_string(rt.alloc())?, value) {
-        Ok(_) => assert_eq!(rt; at(&context, "v"), Some("6")),
+        Ok(_) => same(&rt, at(&context, "v"), Some("6")),
         Err(error) => {
-            assert_eq!(rt; error.key.as_str(), "v");
-            assert_eq!(rt; text(Some(&error.value)), Some("6"));
-            assert_eq!(rt; at(&context, "v"), None);
+            same(&rt, error.key.as_str(), "v");
+            same(&rt, text(Some(&error.value)), Some("6"));
+            same(&rt, at(&context, "v"), None);
             return Err(AllocError)?;
         }
     }

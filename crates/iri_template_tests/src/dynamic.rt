@@ -1,6 +1,7 @@
 // Contexts whose values change while a template is expanded.
 ghost use Rattle.std.specs.Prelude.{◌≡◌, ◌<◌, ◌+◌, ◌%◌};
 
+use crate::same::same;
 use iri_grammar::spec::{IriSpec, UriSpec};
 use iri_template::context::Context;
 use iri_template::dynamic_context::{DynamicContext, Fixed};
@@ -237,9 +238,9 @@ fn kind_that_is_wrong_at_once(rt: HostRuntime) -> Result<(), Fail> {
         &mut sink,
         &mut context,
     );
-    assert_eq!(rt; told(result), Some((ErrorKind::UnexpectedValueType, 5)));
-    assert_eq!(rt; sink.as_str(), "x/a");
-    assert_eq!(rt; context.counts(), (3, 1, 1));
+    same(&rt, told(result), Some((ErrorKind::UnexpectedValueType, 5)));
+    same(&rt, sink.as_str(), "x/a");
+    same(&rt, context.counts(), (3, 1, 1));
     Ok(())
 }
 
@@ -250,8 +251,8 @@ fn list_without_a_length(rt: HostRuntime) -> Result<(), Fail> {
         rt.alloc(),
         &mut context,
     )?;
-    assert_eq!(rt; text.as_str(), "x?v=ay");
-    assert_eq!(rt; context.counts(), (2, 1, 1));
+    same(&rt, text.as_str(), "x?v=ay");
+    same(&rt, context.counts(), (2, 1, 1));
     Ok(())
 }
 
@@ -269,7 +270,7 @@ static TURNS: [(u8, &str, Result<&str, usize>); 8] = [
 
 #[test]
 fn kinds_in_turn(rt: HostRuntime) -> Result<(), Fail> {
-    for (turn, text, want) in TURNS {
+    for &(turn, text, want) in &TURNS {
         let mut context = Alternating::new(turn);
         let template = UriTemplateStr::new(text)?;
         match template.expand_dynamic_to_string::<UriSpec, Alternating>(rt.alloc(), &mut context) {
@@ -367,30 +368,30 @@ fn every_buffer_size(rt: HostRuntime) -> Result<(), Fail> {
         );
     }
     let (refusal, written) = into_room(rt.alloc(), EACH, whole.len())?;
-    assert_eq!(rt; refusal, None);
-    assert_eq!(rt; written.as_str(), whole.as_str());
+    same(&rt, refusal, None);
+    same(&rt, written.as_str(), whole.as_str());
     Ok(())
 }
 
 #[test]
 fn place_of_a_separator(rt: HostRuntime) -> Result<(), Fail> {
     let (refusal, written) = into_room(rt.alloc(), "a{?x,y}", 1)?;
-    assert_eq!(rt; refusal, Some((ErrorKind::WriteFailed, 3)));
-    assert_eq!(rt; written.as_str(), "a");
+    same(&rt, refusal, Some((ErrorKind::WriteFailed, 3)));
+    same(&rt, written.as_str(), "a");
     let (refusal, written) = into_room(rt.alloc(), "a{?x,y}", 8)?;
-    assert_eq!(rt; refusal, Some((ErrorKind::WriteFailed, 5)));
-    assert_eq!(rt; written.as_str(), "a?x=1024");
+    same(&rt, refusal, Some((ErrorKind::WriteFailed, 5)));
+    same(&rt, written.as_str(), "a?x=1024");
     Ok(())
 }
 
 #[test]
 fn refusal_before_a_wrong_kind(rt: HostRuntime) -> Result<(), Fail> {
     let (refusal, written) = into_room(rt.alloc(), "{x}{list:2}", 3)?;
-    assert_eq!(rt; refusal, Some((ErrorKind::WriteFailed, 1)));
-    assert_eq!(rt; written.as_str(), "");
+    same(&rt, refusal, Some((ErrorKind::WriteFailed, 1)));
+    same(&rt, written.as_str(), "");
     let (refusal, written) = into_room(rt.alloc(), "{x}{list:2}", 4)?;
-    assert_eq!(rt; refusal, Some((ErrorKind::UnexpectedValueType, 4)));
-    assert_eq!(rt; written.as_str(), "1024");
+    same(&rt, refusal, Some((ErrorKind::UnexpectedValueType, 4)));
+    same(&rt, written.as_str(), "1024");
     Ok(())
 }
 
@@ -403,8 +404,8 @@ fn too_little_room(rt: HostRuntime) -> Result<(), Fail> {
     let result = laws::expanded_as_fixed::<IriSpec, SliceSink<'_>, Same<'_>>(
         template, &mut sink, &context,
     );
-    assert_eq!(rt; told(result), Some((ErrorKind::WriteFailed, 3)));
-    assert_eq!(rt; sink.as_str(), "ab");
+    same(&rt, told(result), Some((ErrorKind::WriteFailed, 3)));
+    same(&rt, sink.as_str(), "ab");
     Ok(())
 }
 
@@ -414,7 +415,7 @@ fn no_value(rt: HostRuntime) -> Result<(), Fail> {
         IriSpec,
         Fixed<'_, Nothing>,
     >(rt.alloc(), &mut Fixed::new(&Nothing))?;
-    assert_eq!(rt; text.as_str(), "hello/");
+    same(&rt, text.as_str(), "hello/");
     Ok(())
 }
 
@@ -429,6 +430,6 @@ fn as_with_a_context(rt: HostRuntime) -> Result<(), Fail> {
     let want = template
         .expand::<UriSpec, Same<'_>>(&context)?
         .try_to_string(rt.alloc())?;
-    assert_eq!(rt; text.as_str(), want.as_str());
+    same(&rt, text.as_str(), want.as_str());
     Ok(())
 }

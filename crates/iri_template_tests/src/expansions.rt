@@ -2,6 +2,7 @@
 ghost use Rattle.std.specs.Char.{encode_utf8};
 ghost use Rattle.iri_text.specs.Shown.{Shows};
 
+use crate::same::same;
 use iri_grammar::spec::{IriSpec, Spec, UriSpec};
 use iri_template::context::Context;
 use iri_template::dynamic_context::Fixed;
@@ -15,6 +16,7 @@ use iri_template::visitor::Visitor;
 use iri_text::{Show, SliceSink, Stop, Text, TextSink, ToStringFallible, show_four};
 use std::alloc::{AllocError, Global};
 use std::collections::{BTreeMap, BTreeSet};
+use std::process::Abort;
 use std::test::Fail;
 
 // Sections 3.2.1 to 3.2.9, and what section 1.2 has besides.
@@ -183,35 +185,41 @@ fn pairs(alloc: Global, entries: &[(&str, &str)]) -> Result<Value, Fail> {
     Ok(Value::Assoc(texts))
 }
 
+static LISTS: [(&str, &[&str]); 3] = [
+    ("count", &["one", "two", "three"]),
+    ("dom", &["example", "com"]),
+    ("list", &["red", "green", "blue"]),
+];
+
+static ARRAYS: [(&str, &[(&str, &str)]); 2] = [
+    ("keys", &[("semi", ";"), ("dot", "."), ("comma", ",")]),
+    ("empty_keys", &[]),
+];
+
 // The variables of section 3.2.
 fn variables(alloc: Global) -> Result<SimpleContext, Fail> {
     let mut context = SimpleContext::new(alloc);
+    put_strings(&mut context, alloc)?;
+    put_lists(&mut context, alloc)?;
+    Ok(context)
+}
+
+fn put_strings(context: &mut SimpleContext, alloc: Global) -> Result<(), Fail> {
     for (key, text) in &STRINGS {
         let value = Value::String(Text::from_string(text.to_string(alloc)?));
-        put(&mut context, alloc, key, value)?;
+        put(context, alloc, key, value)?;
     }
-    put(
-        &mut context,
-        alloc,
-        "count",
-        list(alloc, &["one", "two", "three"])?,
-    )?;
-    put(
-        &mut context,
-        alloc,
-        "dom",
-        list(alloc, &["example", "com"])?,
-    )?;
-    put(
-        &mut context,
-        alloc,
-        "list",
-        list(alloc, &["red", "green", "blue"])?,
-    )?;
-    let keys = pairs(alloc, &[("semi", ";"), ("dot", "."), ("comma", ",")])?;
-    put(&mut context, alloc, "keys", keys)?;
-    put(&mut context, alloc, "empty_keys", pairs(alloc, &[])?)?;
-    Ok(context)
+    Ok(())
+}
+
+fn put_lists(context: &mut SimpleContext, alloc: Global) -> Result<(), Fail> {
+    for (key, items) in &LISTS {
+        put(context, alloc, key, list(alloc, items)?)?;
+    }
+    for (key, entries) in &ARRAYS {
+        put(context, alloc, key, pairs(alloc, entries)?)?;
+    }
+    Ok(())
 }
 
 fn put_char<W: TextSink>(sink: &mut W, c: char) -> Result<(), Stop>
@@ -333,6 +341,41 @@ pub(crate) fn expanded<S: Spec, C: Context>(
     }
 }
 
+// Whether an expansion is shown so.
+fn shows<S: Spec, C: Context>(
+    alloc: Global,
+    expanded: Expanded<'_, S, C>,
+    want: &str,
+) -> Result<bool, Fail> {
+    Ok(expanded.try_to_string(alloc)?.as_str() == want)
+}
+
+// Whether a template is put into a sink so.
+fn puts<S: Spec, C: Context>(
+    template: UriTemplateStr<'_>,
+    context: &C,
+    want: &str,
+) -> Result<bool, Fail> {
+    let mut buf = [0u8; 100];
+    let mut sink = SliceSink::new(&mut buf);
+    template.expand_dynamic::<S, SliceSink<'_>, Fixed<'_, C>>(&mut sink, &mut Fixed::new(context))?;
+    Ok(sink.as_str() == want)
+}
+
+// Whether this is a template's text.
+fn makes<S: Spec, C: Context>(
+    alloc: Global,
+    template: UriTemplateStr<'_>,
+    context: &C,
+    want: &str,
+) -> Result<bool, Fail> {
+    let text = template.expand_dynamic_to_string::<S, Fixed<'_, C>>(
+        alloc,
+        &mut Fixed::new(context),
+    )?;
+    Ok(text.as_str() == want)
+}
+
 // Whether every call that expands a template gives this.
 fn each_gives<S: Spec, C: Context>(
     alloc: Global,
@@ -341,20 +384,12 @@ fn each_gives<S: Spec, C: Context>(
     want: &str,
 ) -> Result<bool, Fail> {
     let template = UriTemplateStr::new(text)?;
-    let shown = template.expand::<S, C>(context)?.try_to_string(alloc)?;
     let read = Expanded::<'_, S, C>::try_from_bytes(text.as_bytes(), context)?;
-    let mut buf = [0u8; 100];
-    let mut sink = SliceSink::new(&mut buf);
-    template.expand_dynamic::<S, SliceSink<'_>, Fixed<'_, C>>(&mut sink, &mut Fixed::new(context))?;
-    let dynamic = template.expand_dynamic_to_string::<S, Fixed<'_, C>>(
-        alloc,
-        &mut Fixed::new(context),
-    )?;
     Ok(
-        shown.as_str() == want
-            && read.try_to_string(alloc)?.as_str() == want
-            && sink.as_str() == want
-            && dynamic.as_str() == want,
+        shows(alloc, template.expand::<S, C>(context)?, want)?
+            && shows(alloc, read, want)?
+            && puts::<S, C>(template, context, want)?
+            && makes::<S, C>(alloc, template, context, want)?,
     )
 }
 
@@ -379,7 +414,7 @@ pub(crate) fn right_rows<C: Context>(
 #[test]
 fn in_one_piece(rt: HostRuntime) -> Result<(), Fail> {
     let context = variables(rt.alloc())?;
-    assert_eq!(rt; right_rows(rt.alloc(), &ROWS, &context)?, ROWS.len());
+    same(&rt, right_rows(rt.alloc(), &ROWS, &context)?, ROWS.len());
     Ok(())
 }
 
@@ -387,7 +422,7 @@ fn in_one_piece(rt: HostRuntime) -> Result<(), Fail> {
 fn character_by_character(rt: HostRuntime) -> Result<(), Fail> {
     let context = variables(rt.alloc())?;
     let bytewise = Bytewise { context: &context };
-    assert_eq!(rt; right_rows(rt.alloc(), &ROWS, &bytewise)?, ROWS.len());
+    same(&rt, right_rows(rt.alloc(), &ROWS, &bytewise)?, ROWS.len());
     Ok(())
 }
 
@@ -457,16 +492,20 @@ fn right_texts<S: Spec>(alloc: Global, rows: &[(&str, &str, &str)]) -> Result<us
 
 #[test]
 fn names_with_triplets(rt: HostRuntime) -> Result<(), Fail> {
-    assert_eq!(rt; right_texts::<UriSpec>(rt.alloc(), &NAMES)?, NAMES.len());
+    same(
+        &rt,
+        right_texts::<UriSpec>(rt.alloc(), &NAMES)?,
+        NAMES.len(),
+    );
     Ok(())
 }
 
 #[test]
 fn lengths(rt: HostRuntime) -> Result<(), Fail> {
     let right = right_texts::<UriSpec>(rt.alloc(), &LENGTHS)?;
-    assert_eq!(rt; right, LENGTHS.len());
+    same(&rt, right, LENGTHS.len());
     let right = right_texts::<IriSpec>(rt.alloc(), &IRI_LENGTHS)?;
-    assert_eq!(rt; right, IRI_LENGTHS.len());
+    same(&rt, right, IRI_LENGTHS.len());
     Ok(())
 }
 
@@ -496,55 +535,57 @@ fn in_pieces(rt: HostRuntime) -> Result<(), Fail> {
     Ok(())
 }
 
-// Whether a template has this expansion with one value for each variable.
+// A template has this expansion with one value for each variable.
 fn gives<T: VisitValueNaive + Drop>(
+    rt: &impl Abort,
     alloc: Global,
     template: &str,
     value: T,
     want: &str,
-) -> Result<bool, Fail> {
+) -> Result<(), Fail> {
     let text = expanded::<UriSpec, Naive<T>>(alloc, template, &Naive { value })?;
-    Ok(text.as_str() == want)
+    assert_eq!(rt; text.as_str(), want, "{template}");
+    Ok(())
 }
 
 #[test]
 fn unsigned_numbers(rt: HostRuntime) -> Result<(), Fail> {
-    assert!(rt; gives(rt.alloc(), "{?v}", 255u8, "?v=255")?);
-    assert!(rt; gives(rt.alloc(), "{v:2}", 65535u16, "65")?);
-    assert!(rt; gives(rt.alloc(), "{v}", 7u32, "7")?);
-    assert!(rt; gives(rt.alloc(), "{v}", 7u64, "7")?);
-    assert!(rt; gives(rt.alloc(), "{v}", 7u128, "7")?);
-    assert!(rt; gives(rt.alloc(), "{v}", 7usize, "7")?);
+    gives(&rt, rt.alloc(), "{?v}", 255u8, "?v=255")?;
+    gives(&rt, rt.alloc(), "{v:2}", 65535u16, "65")?;
+    gives(&rt, rt.alloc(), "{v}", 7u32, "7")?;
+    gives(&rt, rt.alloc(), "{v}", 7u64, "7")?;
+    gives(&rt, rt.alloc(), "{v}", 7u128, "7")?;
+    gives(&rt, rt.alloc(), "{v}", 7usize, "7")?;
     Ok(())
 }
 
 #[test]
 fn signed_numbers(rt: HostRuntime) -> Result<(), Fail> {
-    assert!(rt; gives(rt.alloc(), "{v}", -8i8, "-8")?);
-    assert!(rt; gives(rt.alloc(), "{v}", -8i16, "-8")?);
-    assert!(rt; gives(rt.alloc(), "{v}", -8i32, "-8")?);
-    assert!(rt; gives(rt.alloc(), "{v}", -8i64, "-8")?);
-    assert!(rt; gives(rt.alloc(), "{v}", -8i128, "-8")?);
-    assert!(rt; gives(rt.alloc(), "{v}", -8isize, "-8")?);
+    gives(&rt, rt.alloc(), "{v}", -8i8, "-8")?;
+    gives(&rt, rt.alloc(), "{v}", -8i16, "-8")?;
+    gives(&rt, rt.alloc(), "{v}", -8i32, "-8")?;
+    gives(&rt, rt.alloc(), "{v}", -8i64, "-8")?;
+    gives(&rt, rt.alloc(), "{v}", -8i128, "-8")?;
+    gives(&rt, rt.alloc(), "{v}", -8isize, "-8")?;
     Ok(())
 }
 
 #[test]
 fn texts_and_options(rt: HostRuntime) -> Result<(), Fail> {
-    assert!(rt; gives(rt.alloc(), "x{?v}", (), "x")?);
-    assert!(rt; gives(rt.alloc(), "{v}", "a b", "a%20b")?);
+    gives(&rt, rt.alloc(), "x{?v}", (), "x")?;
+    gives(&rt, rt.alloc(), "{v}", "a b", "a%20b")?;
     let owned = "ab".to_string(rt.alloc())?;
-    assert!(rt; gives(rt.alloc(), "{v}", owned, "ab")?);
-    assert!(rt; gives(rt.alloc(), "{?v}", Some(1u8), "?v=1")?);
-    assert!(rt; gives::<Option<u8>>(rt.alloc(), "{?v}", None, "")?);
+    gives(&rt, rt.alloc(), "{v}", owned, "ab")?;
+    gives(&rt, rt.alloc(), "{?v}", Some(1u8), "?v=1")?;
+    gives::<Option<u8>>(&rt, rt.alloc(), "{?v}", None, "")?;
     Ok(())
 }
 
 #[test]
 fn lists(rt: HostRuntime) -> Result<(), Fail> {
-    assert!(rt; gives(rt.alloc(), "{/v*}", [3u8, 1, 2], "/3/1/2")?);
+    gives(&rt, rt.alloc(), "{/v*}", [3u8, 1, 2], "/3/1/2")?;
     let list = vec![in rt.alloc(); 3u8, 1]?;
-    assert!(rt; gives(rt.alloc(), "{v}", list, "3,1")?);
+    gives(&rt, rt.alloc(), "{v}", list, "3,1")?;
     Ok(())
 }
 
@@ -553,11 +594,11 @@ fn trees(rt: HostRuntime) -> Result<(), Fail> {
     let mut set = BTreeSet::new(rt.alloc());
     assert!(rt; set.insert(3u8)?);
     assert!(rt; set.insert(1u8)?);
-    assert!(rt; gives(rt.alloc(), "{v}", set, "1,3")?);
+    gives(&rt, rt.alloc(), "{v}", set, "1,3")?;
     let mut map = BTreeMap::new(rt.alloc());
     assert!(rt; map.insert(3u8, "c")?.is_none());
     assert!(rt; map.insert(1u8, "a")?.is_none());
-    assert!(rt; gives(rt.alloc(), "{?v*}", map, "?1=a&3=c")?);
+    gives(&rt, rt.alloc(), "{?v*}", map, "?1=a&3=c")?;
     Ok(())
 }
 
@@ -575,18 +616,19 @@ fn fault_at<C: Context>(text: &str, context: &C) -> Option<usize> {
 #[test]
 fn types(rt: HostRuntime) -> Result<(), Fail> {
     let context = variables(rt.alloc())?;
-    assert_eq!(rt; fault_at("{/list:3}", &context), Some(2));
-    assert_eq!(rt; fault_at("x%41{?x,keys:3,list:2}", &context), Some(8));
-    assert_eq!(rt;
+    same(&rt, fault_at("{/list:3}", &context), Some(2));
+    same(&rt, fault_at("x%41{?x,keys:3,list:2}", &context), Some(8));
+    same(
+        &rt,
         fault_at("{x,x}{empty_keys:2}{list}{undef:4}", &context),
-        None
+        None,
     );
     let behind_a_list = UriTemplateStr::new("foo{/list*,list:4}")?;
     match behind_a_list.expand::<UriSpec, SimpleContext>(&context) {
         Ok(_) => assert!(rt; false),
         Err(error) => {
-            assert_eq!(rt; error.kind(), ErrorKind::UnexpectedValueType);
-            assert_eq!(rt; error.location(), 11);
+            same(&rt, error.kind(), ErrorKind::UnexpectedValueType);
+            same(&rt, error.location(), 11);
         }
     }
     Ok(())
@@ -606,7 +648,7 @@ static FAULTS: [(&[u8], ErrorKind, usize); 7] = [
 #[test]
 fn faults_of_bytes(rt: HostRuntime) -> Result<(), Fail> {
     let context = variables(rt.alloc())?;
-    for (bytes, kind, place) in FAULTS {
+    for &(bytes, kind, place) in &FAULTS {
         match Expanded::<'_, UriSpec, SimpleContext>::try_from_bytes(bytes, &context) {
             Ok(_) => assert!(rt; false, "taken: {bytes:?}"),
             Err(error) => {
@@ -624,17 +666,19 @@ fn within(rt: HostRuntime) -> Result<(), Fail> {
     let template = UriTemplateStr::new("{hello}")?;
     let expanded = template.expand::<UriSpec, SimpleContext>(&context)?;
     match expanded.try_into_text_within(rt.alloc(), 16)? {
-        Some(text) => assert_eq!(rt; text.as_str(), "Hello%20World%21"),
+        Some(text) => same(&rt, text.as_str(), "Hello%20World%21"),
         None => assert!(rt; false),
     }
     assert!(rt; expanded.try_into_text_within(rt.alloc(), 15)?.is_none());
-    assert_eq!(rt;
+    same(
+        &rt,
         expanded.try_to_string(rt.alloc())?.as_str(),
-        "Hello%20World%21"
+        "Hello%20World%21",
     );
-    assert_eq!(rt;
+    same(
+        &rt,
         format!(in rt.alloc(); "<{expanded}>")?.as_str(),
-        "<Hello%20World%21>"
+        "<Hello%20World%21>",
     );
     Ok(())
 }
@@ -653,9 +697,9 @@ fn copied(rt: HostRuntime) -> Result<(), Fail> {
     let template = UriTemplateStr::new("{hello}{?x}")?;
     let expanded = template.expand::<UriSpec, SimpleContext>(&context)?;
     let text = "Hello%20World%21?x=1024";
-    assert_eq!(rt; shown(rt.alloc(), expanded)?.as_str(), text);
-    assert_eq!(rt; shown(rt.alloc(), expanded)?.as_str(), text);
-    assert_eq!(rt; shown(rt.alloc(), expanded.clone()?)?.as_str(), text);
+    same(&rt, shown(rt.alloc(), expanded)?.as_str(), text);
+    same(&rt, shown(rt.alloc(), expanded)?.as_str(), text);
+    same(&rt, shown(rt.alloc(), expanded.clone()?)?.as_str(), text);
     Ok(())
 }
 
@@ -675,11 +719,11 @@ fn conversions(rt: HostRuntime) -> Result<(), Fail> {
     let expanded = template.expand::<UriSpec, SimpleContext>(&context)?;
     let index = "http://example.com/home/index";
     let iri = converted(expanded.try_into_iri(rt.alloc()))?;
-    assert_eq!(rt; iri.as_str(), index);
+    same(&rt, iri.as_str(), index);
     let reference = converted(expanded.try_into_reference(rt.alloc()))?;
-    assert_eq!(rt; reference.as_str(), index);
+    same(&rt, reference.as_str(), index);
     let absolute = converted(expanded.try_into_absolute(rt.alloc()))?;
-    assert_eq!(rt; absolute.as_str(), index);
+    same(&rt, absolute.as_str(), index);
     Ok(())
 }
 
@@ -707,13 +751,14 @@ fn refusals_in_words(rt: HostRuntime) -> Result<(), Fail> {
         Err(error) => {
             let words = format!(in rt.alloc(); "{error}")?;
             let want = "invalid IRI: expected an absolute IRI but got a relative IRI";
-            assert_eq!(rt; words.as_str(), want);
+            same(&rt, words.as_str(), want);
         }
     }
     let memory = ExpandedError::Memory(AllocError);
-    assert_eq!(rt;
+    same(
+        &rt,
         format!(in rt.alloc(); "{memory}")?.as_str(),
-        "memory allocation failed"
+        "memory allocation failed",
     );
     Ok(())
 }
@@ -727,8 +772,8 @@ fn refused_conversion(rt: HostRuntime) -> Result<(), Fail> {
         Ok(_relative) => assert!(rt; false),
         Err(error) => {
             let (kind, text) = refused(error)?;
-            assert_eq!(rt; kind, iri_grammar::error::ErrorKind::InvalidPath);
-            assert_eq!(rt; text.as_str(), "http://example.com/home/index");
+            same(&rt, kind, iri_grammar::error::ErrorKind::InvalidPath);
+            same(&rt, text.as_str(), "http://example.com/home/index");
         }
     }
     Ok(())
@@ -740,6 +785,6 @@ fn relative_conversion(rt: HostRuntime) -> Result<(), Fail> {
     let template = UriTemplateStr::new("{+path}")?;
     let expanded = template.expand::<IriSpec, SimpleContext>(&context)?;
     let relative = converted(expanded.try_into_relative(rt.alloc()))?;
-    assert_eq!(rt; relative.as_str(), "/foo/bar");
+    same(&rt, relative.as_str(), "/foo/bar");
     Ok(())
 }

@@ -1,4 +1,5 @@
 // Faults and their places.
+use crate::same::same;
 use iri_template::error::ErrorKind;
 use iri_template::template::UriTemplateStr;
 use iri_template::var_name::VarName;
@@ -59,7 +60,7 @@ static FAULTS: [(&str, ErrorKind, usize); 45] = [
 
 #[test]
 fn faults_and_their_places(rt: HostRuntime) {
-    for (text, kind, location) in FAULTS {
+    for &(text, kind, location) in &FAULTS {
         match UriTemplateStr::new(text) {
             Ok(_) => assert!(rt; false, "no fault in {text}"),
             Err(error) => {
@@ -77,17 +78,19 @@ fn bytes_fault(b: &[u8]) -> Option<(ErrorKind, usize)> {
     }
 }
 
+static BYTES: [(&[u8], Option<(ErrorKind, usize)>); 5] = [
+    (b"\xFF", Some((ErrorKind::InvalidUtf8, 0))),
+    (b"x{a\xFF}", Some((ErrorKind::InvalidUtf8, 3))),
+    (b" x\xCE\xB1\xCE", Some((ErrorKind::InvalidUtf8, 4))),
+    (b"x{a}%4", Some((ErrorKind::InvalidPercentEncoding, 4))),
+    (b"x{a}", None),
+];
+
 #[test]
 fn faults_of_bytes(rt: HostRuntime) {
-    let utf8 = ErrorKind::InvalidUtf8;
-    assert_eq!(rt; bytes_fault(b"\xFF"), Some((utf8, 0)));
-    assert_eq!(rt; bytes_fault(b"x{a\xFF}"), Some((utf8, 3)));
-    assert_eq!(rt; bytes_fault(b" x\xCE\xB1\xCE"), Some((utf8, 4)));
-    assert_eq!(rt;
-        bytes_fault(b"x{a}%4"),
-        Some((ErrorKind::InvalidPercentEncoding, 4))
-    );
-    assert_eq!(rt; bytes_fault(b"x{a}"), None);
+    for &(bytes, fault) in &BYTES {
+        assert_eq!(rt; bytes_fault(bytes), fault, "{bytes:?}");
+    }
 }
 
 fn name_fault(s: &str) -> Option<(ErrorKind, usize)> {
@@ -112,7 +115,7 @@ fn names(rt: HostRuntime) {
     match VarName::new("a..b") {
         Ok(name) => {
             let copy = name;
-            assert_eq!(rt; copy.as_str(), "a..b");
+            same(&rt, copy.as_str(), "a..b");
             assert!(rt; copy == name);
         }
         Err(_) => assert!(rt; false),
@@ -143,14 +146,15 @@ static TEXTS: [(ErrorKind, &str); 9] = [
 
 #[test]
 fn words(rt: HostRuntime) -> Result<(), Fail> {
-    for (kind, text) in TEXTS {
+    for &(kind, text) in &TEXTS {
         assert_eq!(rt; kind.description(), text);
     }
     match UriTemplateStr::new("http://a/b/{}") {
         Ok(_) => assert!(rt; false),
-        Err(error) => assert_eq!(rt;
+        Err(error) => same(
+            &rt,
             format!(in rt.alloc(); "{error}")?.as_str(),
-            "invalid URI template: invalid expression (at 12-th byte)"
+            "invalid URI template: invalid expression (at 12-th byte)",
         ),
     }
     Ok(())

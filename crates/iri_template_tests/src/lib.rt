@@ -17,4 +17,6 @@ mod members;
 #[cfg(test)]
 mod names;
 #[cfg(test)]
+mod same;
+#[cfg(test)]
 mod templates;

@@ -30,7 +30,7 @@ static BORDERS: [(&str, bool); 16] = [
 
 #[test]
 fn borders(rt: HostRuntime) {
-    for (text, taken) in BORDERS {
+    for &(text, taken) in &BORDERS {
         match UriTemplateStr::new(text) {
             Ok(_) => assert!(rt; taken, "taken: {text:?}"),
             Err(error) => {
@@ -69,7 +69,7 @@ static EXPANSIONS: [(&str, &str, &str); 5] = [
 
 #[test]
 fn expansions(rt: HostRuntime) -> Result<(), Fail> {
-    for (template, uri, iri) in EXPANSIONS {
+    for &(template, uri, iri) in &EXPANSIONS {
         assert_eq!(rt; expanded::<UriSpec>(rt.alloc(), template)?.as_str(), uri);
         assert_eq!(rt; expanded::<IriSpec>(rt.alloc(), template)?.as_str(), iri);
     }

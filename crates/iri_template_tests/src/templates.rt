@@ -1,4 +1,5 @@
 // Borrowed and owned templates.
+use crate::same::same;
 use iri_template::creation::CreateTemplateError;
 use iri_template::error::ErrorKind;
 use iri_template::laws;
@@ -24,20 +25,20 @@ fn made_and_joined(rt: HostRuntime) -> Result<(), Fail> {
         Ok(other) => template.append(other)?,
         Err(_) => assert!(rt; false),
     }
-    assert_eq!(rt; template.as_str(), "x{a}");
+    same(&rt, template.as_str(), "x{a}");
     let bytes = UriTemplateString::try_from_bytes(rt.alloc(), b"x{a}")?;
-    assert_eq!(rt; bytes.as_str(), "x{a}");
+    same(&rt, bytes.as_str(), "x{a}");
     let copy = UriTemplateString::from_view(rt.alloc(), template.as_slice())?;
-    assert_eq!(rt; copy.as_str(), "x{a}");
+    same(&rt, copy.as_str(), "x{a}");
     let clone = template.try_clone(rt.alloc())?;
-    assert_eq!(rt; clone.as_str(), "x{a}");
+    same(&rt, clone.as_str(), "x{a}");
     template.shrink_to_fit()?;
-    assert_eq!(rt; template.as_str(), "x{a}");
+    same(&rt, template.as_str(), "x{a}");
     assert!(rt; template.capacity() >= 4);
     assert!(rt; template == copy && copy == clone);
     let given = UriTemplateString::try_from_string("{b}".to_string(rt.alloc())?);
     match given {
-        Ok(given) => assert_eq!(rt; given.into_string().as_str(), "{b}"),
+        Ok(given) => same(&rt, given.into_string().as_str(), "{b}"),
         Err(_) => assert!(rt; false),
     }
     Ok(())
@@ -49,32 +50,34 @@ fn refused(rt: HostRuntime) -> Result<(), Fail> {
     match UriTemplateString::try_from_string("x{a".to_string(rt.alloc())?) {
         Ok(_) => assert!(rt; false),
         Err(error) => {
-            assert_eq!(rt;
+            same(
+                &rt,
                 error.validation_error().kind(),
-                ErrorKind::ExpressionNotClosed
+                ErrorKind::ExpressionNotClosed,
             );
-            assert_eq!(rt; error.validation_error().location(), 1);
-            assert_eq!(rt; told(&error, rt.alloc())?.as_str(), want);
-            assert_eq!(rt; error.into_source().as_str(), "x{a");
+            same(&rt, error.validation_error().location(), 1);
+            same(&rt, told(&error, rt.alloc())?.as_str(), want);
+            same(&rt, error.into_source().as_str(), "x{a");
         }
     }
     match UriTemplateString::try_from_str(rt.alloc(), "x{a") {
         Ok(_) => assert!(rt; false),
         Err(CreateTemplateError::Memory(error)) => return Err(error)?,
-        Err(error) => assert_eq!(rt; told(&error, rt.alloc())?.as_str(), want),
+        Err(error) => same(&rt, told(&error, rt.alloc())?.as_str(), want),
     }
     match UriTemplateString::try_from_bytes(rt.alloc(), b"x\xFF") {
         Ok(_) => assert!(rt; false),
         Err(CreateTemplateError::Memory(error)) => return Err(error)?,
         Err(error) => {
             let want = "invalid URI template: invalid utf-8 byte sequence (at 1-th byte)";
-            assert_eq!(rt; told(&error, rt.alloc())?.as_str(), want);
+            same(&rt, told(&error, rt.alloc())?.as_str(), want);
         }
     }
     let refused = CreateTemplateError::Memory(AllocError);
-    assert_eq!(rt;
+    same(
+        &rt,
         told(&refused, rt.alloc())?.as_str(),
-        "memory allocation failed"
+        "memory allocation failed",
     );
     Ok(())
 }
@@ -89,10 +92,10 @@ fn hash_of<T: Hash>(value: &T) -> u64 {
 fn as_texts(rt: HostRuntime) -> Result<(), Fail> {
     let a = UriTemplateString::try_from_str(rt.alloc(), "{a}")?;
     let b = UriTemplateString::try_from_str(rt.alloc(), "{b}")?;
-    assert_eq!(rt; a.as_slice().try_to_string(rt.alloc())?.as_str(), "{a}");
-    assert_eq!(rt; a.try_to_string(rt.alloc())?.as_str(), "{a}");
+    same(&rt, a.as_slice().try_to_string(rt.alloc())?.as_str(), "{a}");
+    same(&rt, a.try_to_string(rt.alloc())?.as_str(), "{a}");
     let (x, y) = (a.as_slice(), b.as_slice());
-    assert_eq!(rt; format!(in rt.alloc(); "{x} {b}")?.as_str(), "{a} {b}");
+    same(&rt, format!(in rt.alloc(); "{x} {b}")?.as_str(), "{a} {b}");
     assert!(rt; x.len() == 3 && !x.is_empty() && x.as_str() == "{a}");
     assert!(rt; UriTemplateStr::from_valid(x.as_str()) == x && x != y && a != b);
     assert!(rt; x < y && a.cmp(&b) == Ordering::Less && a.partial_cmp(&b) == Some(Ordering::Less));
@@ -132,9 +135,9 @@ fn kept_where_memory_is_refused(rt: HostRuntime) -> Result<(), Fail> {
     let mut template = UriTemplateString::try_from_str(rt.alloc(), "x")?;
     let other = UriTemplateStr::new("{a_name_that_is_long}")?;
     if template.append(other).is_err() {
-        assert_eq!(rt; template.as_str(), "x");
+        same(&rt, template.as_str(), "x");
         return Err(AllocError)?;
     }
-    assert_eq!(rt; template.as_str(), "x{a_name_that_is_long}");
+    same(&rt, template.as_str(), "x{a_name_that_is_long}");
     Ok(())
 }

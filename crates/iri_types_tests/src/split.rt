@@ -1,3 +1,4 @@
+use crate::same::same;
 use iri_grammar::error::ErrorKind;
 use iri_grammar::spec::{IriSpec, UriSpec};
 use iri_types::kind::{Absolute, Reference};
@@ -14,17 +15,17 @@ fn cut_once(rt: HostRuntime) -> Result<(), Fail> {
         return Err("a reference is refused")?;
     };
     let again = whole.clone()?;
-    assert_eq!(rt; again.view().as_str(), URL);
-    assert_eq!(rt; again.parts().scheme(), Some("foo"));
-    assert_eq!(rt; again.parts().authority(), Some("example.com:8042"));
-    assert_eq!(rt; again.parts().path(), "/over/there");
-    assert_eq!(rt; again.parts().query(), Some("name=ferret"));
-    assert_eq!(rt; again.parts().fragment(), Some("nose"));
+    same(&rt, again.view().as_str(), URL);
+    same(&rt, again.parts().scheme(), Some("foo"));
+    same(&rt, again.parts().authority(), Some("example.com:8042"));
+    same(&rt, again.parts().path(), "/over/there");
+    same(&rt, again.parts().query(), Some("name=ferret"));
+    same(&rt, again.parts().fragment(), Some("nose"));
     let Ok(base) = IriAbsoluteStr::new("urn:\u{3B1}") else {
         return Err("a base is refused")?;
     };
     let base = SplitView::of(base);
-    assert_eq!(rt; base.parts().path(), "\u{3B1}");
+    same(&rt, base.parts().path(), "\u{3B1}");
     assert!(rt; base.parts().authority().is_none());
     Ok(())
 }
@@ -39,9 +40,9 @@ fn fault(bytes: &[u8]) -> Option<ErrorKind> {
 
 #[test]
 fn refusals(rt: HostRuntime) {
-    assert_eq!(rt; fault(b"\xFF"), Some(ErrorKind::InvalidUtf8));
-    assert_eq!(rt; fault(b"1a:b"), Some(ErrorKind::InvalidPath));
-    assert_eq!(rt; fault("?\u{3B1}".as_bytes()), None);
+    same(&rt, fault(b"\xFF"), Some(ErrorKind::InvalidUtf8));
+    same(&rt, fault(b"1a:b"), Some(ErrorKind::InvalidPath));
+    same(&rt, fault("?\u{3B1}".as_bytes()), None);
     let view = UriReferenceStr::new("##");
     assert!(rt; view.is_err() && SplitView::<'_, UriSpec, Reference>::new("##").is_err());
 }

@@ -1,3 +1,4 @@
+use crate::same::same;
 use iri_grammar::error::{Error, ErrorKind};
 use iri_text::write_to_slice;
 use iri_types::authority::AuthorityComponents;
@@ -80,50 +81,58 @@ where
 
 #[test]
 fn refusals(rt: HostRuntime) {
-    assert_eq!(rt; fault(IriStr::new("http://a/#f")), None);
-    assert_eq!(rt;
+    same(&rt, fault(IriStr::new("http://a/#f")), None);
+    same(
+        &rt,
         fault(UriStr::new("a")),
-        Some(ErrorKind::UnexpectedRelative)
+        Some(ErrorKind::UnexpectedRelative),
     );
-    assert_eq!(rt;
+    same(
+        &rt,
         fault(IriStr::try_from_bytes(&[0xFF])),
-        Some(ErrorKind::InvalidUtf8)
+        Some(ErrorKind::InvalidUtf8),
     );
     let spaced = b"http://a/ \xFF";
-    assert_eq!(rt;
+    same(
+        &rt,
         fault(IriStr::try_from_bytes(spaced)),
-        Some(ErrorKind::InvalidUtf8)
+        Some(ErrorKind::InvalidUtf8),
     );
-    assert_eq!(rt;
+    same(
+        &rt,
         fault(IriStr::try_from_bytes(b"http://a/ ")),
-        Some(ErrorKind::InvalidPath)
+        Some(ErrorKind::InvalidPath),
     );
-    assert_eq!(rt;
+    same(
+        &rt,
         fault(UriAbsoluteStr::new("a:#")),
-        Some(ErrorKind::UnexpectedFragment)
+        Some(ErrorKind::UnexpectedFragment),
     );
-    assert_eq!(rt;
+    same(
+        &rt,
         fault(UriRelativeStr::new("a:b")),
-        Some(ErrorKind::InvalidPath)
+        Some(ErrorKind::InvalidPath),
     );
-    assert_eq!(rt;
+    same(
+        &rt,
         fault(UriQueryStr::new("\u{3B1}")),
-        Some(ErrorKind::InvalidQuery)
+        Some(ErrorKind::InvalidQuery),
     );
-    assert_eq!(rt; fault(IriQueryStr::new("\u{3B1}")), None);
-    assert_eq!(rt;
+    same(&rt, fault(IriQueryStr::new("\u{3B1}")), None);
+    same(
+        &rt,
         fault(UriFragmentStr::new("#")),
-        Some(ErrorKind::InvalidFragment)
+        Some(ErrorKind::InvalidFragment),
     );
-    assert_eq!(rt; fault(IriAbsoluteStr::new("a:\u{3B1}")), None);
-    assert_eq!(rt; fault(IriRelativeStr::new("\u{3B1}")), None);
-    assert_eq!(rt; fault(IriFragmentStr::new("\u{3B1}")), None);
+    same(&rt, fault(IriAbsoluteStr::new("a:\u{3B1}")), None);
+    same(&rt, fault(IriRelativeStr::new("\u{3B1}")), None);
+    same(&rt, fault(IriFragmentStr::new("\u{3B1}")), None);
 }
 
 #[test]
 fn behind_marks(rt: HostRuntime) {
     match UriQueryStr::from_prefixed("??a") {
-        Ok(query) => assert_eq!(rt; query.as_str(), "?a"),
+        Ok(query) => same(&rt, query.as_str(), "?a"),
         Err(_) => assert!(rt; false),
     }
     match UriFragmentStr::from_prefixed("#") {
@@ -131,12 +140,12 @@ fn behind_marks(rt: HostRuntime) {
         Err(_) => assert!(rt; false),
     }
     let query = Some(ErrorKind::InvalidQuery);
-    assert_eq!(rt; fault(UriQueryStr::from_prefixed("a")), query);
-    assert_eq!(rt; fault(UriQueryStr::from_prefixed("")), query);
-    assert_eq!(rt; fault(UriQueryStr::from_prefixed("?a#")), query);
+    same(&rt, fault(UriQueryStr::from_prefixed("a")), query);
+    same(&rt, fault(UriQueryStr::from_prefixed("")), query);
+    same(&rt, fault(UriQueryStr::from_prefixed("?a#")), query);
     let fragment = Some(ErrorKind::InvalidFragment);
-    assert_eq!(rt; fault(UriFragmentStr::from_prefixed("?a")), fragment);
-    assert_eq!(rt; fault(UriFragmentStr::from_prefixed("##")), fragment);
+    same(&rt, fault(UriFragmentStr::from_prefixed("?a")), fragment);
+    same(&rt, fault(UriFragmentStr::from_prefixed("##")), fragment);
 }
 
 #[test]
@@ -144,23 +153,27 @@ fn kinds(rt: HostRuntime) {
     match UriReferenceStr::new("http://a/?q#f") {
         Ok(reference) => match reference.to_iri() {
             Ok(iri) => {
-                assert_eq!(rt; iri.scheme_str(), "http");
-                assert_eq!(rt; iri.fragment_str(), Some("f"));
-                assert_eq!(rt; iri.as_reference(), reference);
-                assert_eq!(rt; iri.to_absolute().as_str(), "http://a/?q");
+                same(&rt, iri.scheme_str(), "http");
+                same(&rt, iri.fragment_str(), Some("f"));
+                same(&rt, iri.as_reference(), reference);
+                same(&rt, iri.to_absolute().as_str(), "http://a/?q");
                 let (absolute, fragment) = iri.to_absolute_and_fragment();
-                assert_eq!(rt; absolute.scheme_str(), "http");
-                assert_eq!(rt; absolute.query_str(), Some("q"));
-                assert_eq!(rt; absolute.as_iri().as_str(), "http://a/?q");
+                same(&rt, absolute.scheme_str(), "http");
+                same(&rt, absolute.query_str(), Some("q"));
+                same(&rt, absolute.as_iri().as_str(), "http://a/?q");
                 assert!(rt; absolute.as_iri().to_absolute_and_fragment().1.is_none());
                 match fragment {
-                    Some(fragment) => assert_eq!(rt; fragment.to_iri_spec().as_str(), "f"),
+                    Some(fragment) => same(&rt, fragment.to_iri_spec().as_str(), "f"),
                     None => assert!(rt; false),
                 }
-                assert_eq!(rt; iri.to_iri_spec().as_str(), "http://a/?q#f");
+                same(&rt, iri.to_iri_spec().as_str(), "http://a/?q#f");
                 let text = iri.as_str();
-                assert_eq!(rt; UriStr::from_valid(text), iri);
-                assert_eq!(rt; UriReferenceStr::from_valid(reference.as_str()).len(), 13);
+                same(&rt, UriStr::from_valid(text), iri);
+                same(
+                    &rt,
+                    UriReferenceStr::from_valid(reference.as_str()).len(),
+                    13,
+                );
             }
             Err(_) => assert!(rt; false),
         },
@@ -169,10 +182,10 @@ fn kinds(rt: HostRuntime) {
     match IriReferenceStr::new("//a/b?q#f") {
         Ok(reference) => match reference.to_relative_iri() {
             Ok(relative) => {
-                assert_eq!(rt; relative.authority_str(), Some("a"));
-                assert_eq!(rt; relative.path_str(), "/b");
-                assert_eq!(rt; relative.fragment_str(), Some("f"));
-                assert_eq!(rt; relative.as_reference().len(), 9);
+                same(&rt, relative.authority_str(), Some("a"));
+                same(&rt, relative.path_str(), "/b");
+                same(&rt, relative.fragment_str(), Some("f"));
+                same(&rt, relative.as_reference().len(), 9);
             }
             Err(_) => assert!(rt; false),
         },
@@ -222,20 +235,20 @@ fn views_as_texts(rt: HostRuntime) -> Result<(), Fail> {
     match (UriStr::new("a:b"), UriStr::new("a:c")) {
         (Ok(a), Ok(b)) => {
             let again = a.clone()?;
-            assert_eq!(rt; again, a);
+            same(&rt, again, a);
             assert!(rt; !equal_as_texts(a, b));
-            assert_eq!(rt; ordered_as_texts(a, b), Ordering::Less);
+            same(&rt, ordered_as_texts(a, b), Ordering::Less);
             assert!(rt; a < b);
             let mut state = DefaultHasher::new();
             hashed_as_texts(again, &mut state);
-            assert_eq!(rt; state.finish(), hash_of(&a));
+            same(&rt, state.finish(), hash_of(&a));
             let told = format!(in rt.alloc(); "<{a}>")?;
-            assert_eq!(rt; told.as_str(), "<a:b>");
+            same(&rt, told.as_str(), "<a:b>");
             let told = format!(in rt.alloc(); "{a:?}")?;
             assert!(rt; told.as_str().contains("\"a:b\""));
             let mut three = [0u8; 3];
             match write_to_slice(&mut three, &a) {
-                Ok(text) => assert_eq!(rt; text, "a:b"),
+                Ok(text) => same(&rt, text, "a:b"),
                 Err(_) => assert!(rt; false),
             }
         }
@@ -246,7 +259,7 @@ fn views_as_texts(rt: HostRuntime) -> Result<(), Fail> {
             (Some(x), Some(y)) => {
                 let copy = x.clone()?;
                 assert!(rt; copy == y);
-                assert_eq!(rt; hash_of(&x), hash_of(&y));
+                same(&rt, hash_of(&x), hash_of(&y));
             }
             _ => assert!(rt; false),
         },
@@ -264,32 +277,36 @@ fn by_the_traits_of_std(rt: HostRuntime) -> Result<(), Fail> {
     // RFC 3986 section 1.1.2.
     let url = "http://www.ietf.org/rfc/rfc2396.txt";
     let link = UriStr::try_from(url)?;
-    assert_eq!(rt; length_of(&link), 35);
-    assert_eq!(rt; UriStr::try_from(url.as_bytes())?, link);
-    assert_eq!(rt; <&str>::from(link), url);
+    same(&rt, length_of(&link), 35);
+    same(&rt, UriStr::try_from(url.as_bytes())?, link);
+    same(&rt, <&str>::from(link), url);
     let reference = UriReferenceStr::from(link);
-    assert_eq!(rt; UriStr::try_from(reference)?, link);
+    same(&rt, UriStr::try_from(reference)?, link);
     let absolute = UriAbsoluteStr::try_from(link)?;
-    assert_eq!(rt; UriStr::from(absolute), link);
-    assert_eq!(rt; UriReferenceStr::from(absolute), reference);
+    same(&rt, UriStr::from(absolute), link);
+    same(&rt, UriReferenceStr::from(absolute), reference);
     let relative = UriRelativeStr::try_from("../g")?;
-    assert_eq!(rt; UriReferenceStr::from(relative).as_str(), "../g");
-    assert_eq!(rt; IriStr::from(link).as_str(), url);
-    assert_eq!(rt;
+    same(&rt, UriReferenceStr::from(relative).as_str(), "../g");
+    same(&rt, IriStr::from(link).as_str(), url);
+    same(
+        &rt,
         fault(UriStr::try_from("//a")),
-        Some(ErrorKind::UnexpectedRelative)
+        Some(ErrorKind::UnexpectedRelative),
     );
-    assert_eq!(rt;
+    same(
+        &rt,
         fault(UriStr::try_from(b"a:\xFF" as &[u8])),
-        Some(ErrorKind::InvalidUtf8)
+        Some(ErrorKind::InvalidUtf8),
     );
-    assert_eq!(rt;
+    same(
+        &rt,
         fault(UriRelativeStr::try_from(reference)),
-        Some(ErrorKind::InvalidPath)
+        Some(ErrorKind::InvalidPath),
     );
-    assert_eq!(rt;
+    same(
+        &rt,
         fault(UriAbsoluteStr::try_from(UriStr::new("a:#")?)),
-        Some(ErrorKind::UnexpectedFragment)
+        Some(ErrorKind::UnexpectedFragment),
     );
     Ok(())
 }
@@ -302,6 +319,6 @@ fn printed_for_a_programmer(rt: HostRuntime) -> Result<(), Fail> {
     let authority = AuthorityComponents::from_iri(link).ok_or("an authority")?;
     let told = format!(in rt.alloc(); "{authority:?}")?;
     let want = "AuthorityComponents { userinfo: Some(\"u\"), host: \"a\", port: Some(\"1\") }";
-    assert_eq!(rt; told.as_str(), want);
+    same(&rt, told.as_str(), want);
     Ok(())
 }

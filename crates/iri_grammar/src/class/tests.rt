@@ -17,23 +17,23 @@ fn answers<S: Spec>(c: char) -> [bool; 8] {
 
 #[test]
 fn delimiters_are_in_their_classes(rt: HostRuntime) {
-    let all = [true, true, true, true, true, true, true, true];
-    let reg_name = [false, true, true, true, true, true, true, true];
-    let userinfo = [false, false, true, true, true, true, true, true];
-    let segment = [false, false, false, true, true, true, true, true];
-    let path = [false, false, false, false, true, true, true, true];
-    let query = [false, false, false, false, false, true, true, true];
-    let any = [false, false, false, false, false, false, false, true];
-    let none = [false, false, false, false, false, false, false, false];
-    for (text, want) in [
-        ("azAZ09-._~", all),
-        ("!$&'()*+,;=", reg_name),
-        (":", userinfo),
-        ("@", segment),
-        ("/", path),
-        ("?", query),
-        ("#[]", any),
-        ("%\"<>\\^`{|} \u{0}\u{7F}", none),
+    const ALL: [bool; 8] = [true, true, true, true, true, true, true, true];
+    const REG_NAME: [bool; 8] = [false, true, true, true, true, true, true, true];
+    const USERINFO: [bool; 8] = [false, false, true, true, true, true, true, true];
+    const SEGMENT: [bool; 8] = [false, false, false, true, true, true, true, true];
+    const PATH: [bool; 8] = [false, false, false, false, true, true, true, true];
+    const QUERY: [bool; 8] = [false, false, false, false, false, true, true, true];
+    const ANY: [bool; 8] = [false, false, false, false, false, false, false, true];
+    const NONE: [bool; 8] = [false, false, false, false, false, false, false, false];
+    for &(text, want) in &[
+        ("azAZ09-._~", ALL),
+        ("!$&'()*+,;=", REG_NAME),
+        (":", USERINFO),
+        ("@", SEGMENT),
+        ("/", PATH),
+        ("?", QUERY),
+        ("#[]", ANY),
+        ("%\"<>\\^`{|} \u{0}\u{7F}", NONE),
     ] {
         for c in text.chars() {
             assert!(rt; answers::<UriSpec>(c) == want, "at {c}");
@@ -44,7 +44,7 @@ fn delimiters_are_in_their_classes(rt: HostRuntime) {
 
 #[test]
 fn borders_of_ucschar(rt: HostRuntime) {
-    for (c, want) in [
+    for &(c, want) in &[
         ('\u{80}', false),
         ('\u{9F}', false),
         ('\u{A0}', true),
@@ -79,7 +79,7 @@ fn borders_of_ucschar(rt: HostRuntime) {
 #[test]
 fn borders_of_ucschar_in_each_plane(rt: HostRuntime) {
     for plane in 1..14u32 {
-        for (last, want) in [(0, true), (0xFFFD, true), (0xFFFE, false), (0xFFFF, false)] {
+        for &(last, want) in &[(0, true), (0xFFFD, true), (0xFFFE, false), (0xFFFF, false)] {
             match char::from_u32((plane << 16) | last) {
                 Some(c) => {
                     assert!(rt; is_unreserved::<IriSpec>(c) == want, "at {c}");
@@ -93,7 +93,7 @@ fn borders_of_ucschar_in_each_plane(rt: HostRuntime) {
 
 #[test]
 fn borders_of_iprivate(rt: HostRuntime) {
-    for (c, want) in [
+    for &(c, want) in &[
         ('\u{D7FF}', false),
         ('\u{E000}', true),
         ('\u{F8FF}', true),

@@ -24,7 +24,7 @@ fn notes(text: &str) -> Option<[bool; 6]> {
 
 #[test]
 fn what_needs_no_note(rt: HostRuntime) {
-    for text in [
+    for &text in &[
         "",
         "http://www.example.com:8080/over/there.html?Name=A#Nose",
         "//h:80",
@@ -40,7 +40,7 @@ fn what_needs_no_note(rt: HostRuntime) {
 
 #[test]
 fn what_is_noted(rt: HostRuntime) {
-    for (text, notes_of) in [
+    for &(text, notes_of) in &[
         ("/a%20b", [true, false, false, false, false, false]),
         ("?%41", [false, true, false, false, false, false]),
         ("#%41", [false, false, true, false, false, false]),
@@ -66,10 +66,10 @@ fn what_is_noted(rt: HostRuntime) {
 
 #[test]
 fn ports_and_faults(rt: HostRuntime) {
-    for text in ["//h:8a", "//h:80:90", "//h::", "//h:80@a:b:c"] {
+    for &text in &["//h:8a", "//h:80:90", "//h::", "//h:80@a:b:c"] {
         assert!(rt; Splitter::new::<UriSpec>(text).is_err(), "{text}");
     }
-    for (text, authority) in [
+    for &(text, authority) in &[
         ("//h:80?q", "h:80"),
         ("//:80#f", ":80"),
         ("//h:8080/", "h:8080"),

@@ -25,7 +25,7 @@ impl Spec for TestsAlone {
 // At the borders of what the first byte tells of a character, and of `ucschar`.
 #[test]
 fn characters_by_their_first_bytes(rt: HostRuntime) {
-    for (c, want) in [
+    for &(c, want) in &[
         ('\u{9F}', false),
         ('\u{A0}', true),
         ('\u{BF}', true),

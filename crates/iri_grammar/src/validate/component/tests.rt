@@ -3,6 +3,7 @@ use crate::host::host_is_reg_name;
 use crate::spec::{IriSpec, UriSpec};
 use crate::validate::whole::{absolute_iri, iri};
 use std::alloc::Global;
+use std::process::Abort;
 use std::test::Fail;
 
 fn kind(answer: Result<(), Error>) -> Option<ErrorKind> {
@@ -15,7 +16,7 @@ fn kind(answer: Result<(), Error>) -> Option<ErrorKind> {
 // RFC 3986 section 3.2.2, with the examples of section 1.1.2 and of RFC 4291 section 2.2.
 #[test]
 fn literals_that_are_hosts(rt: HostRuntime) {
-    for text in [
+    for &text in &[
         "[::]",
         "[::1]",
         "[1::]",
@@ -53,7 +54,7 @@ fn literals_that_are_hosts(rt: HostRuntime) {
 
 #[test]
 fn literals_that_are_no_hosts(rt: HostRuntime) {
-    for text in [
+    for &text in &[
         "[]",
         "[:]",
         "[:::]",
@@ -115,7 +116,7 @@ fn reg_name_told<S: Spec>(text: &str) -> Option<bool> {
 
 #[test]
 fn hosts_that_are_registered_names(rt: HostRuntime) {
-    for (text, want) in [
+    for &(text, want) in &[
         ("255.255.255.256", true),
         ("255.255.255.255", false),
         ("127.0.0.01", true),
@@ -147,7 +148,7 @@ fn hosts_that_are_registered_names(rt: HostRuntime) {
 
 #[test]
 fn authorities(rt: HostRuntime) {
-    for (text, want) in [
+    for &(text, want) in &[
         ("", None),
         ("example.com:8042", None),
         ("user:pw@[2001:db8::7]:80", None),
@@ -176,7 +177,7 @@ fn has_parts<S: Spec>(text: &str, userinfo: Option<&str>, host: &str, port: Opti
 
 #[test]
 fn parts_of_authorities(rt: HostRuntime) {
-    for (text, userinfo, host, port) in [
+    for &(text, userinfo, host, port) in &[
         ("", None, "", None),
         ("example.com:8042", None, "example.com", Some("8042")),
         ("example.com:", None, "example.com", Some("")),
@@ -190,60 +191,85 @@ fn parts_of_authorities(rt: HostRuntime) {
     }
 }
 
+fn answers(rt: &impl Abort, answer: Result<(), Error>, want: Option<ErrorKind>) {
+    assert_eq!(rt; kind(answer), want);
+}
+
 #[test]
 fn other_components(rt: HostRuntime) {
-    assert_eq!(rt; kind(scheme("svn+ssh")), None);
-    assert_eq!(rt; kind(scheme("1a")), Some(ErrorKind::InvalidScheme));
-    assert_eq!(rt; kind(userinfo::<UriSpec>("a:%C3%A9")), None);
-    assert_eq!(rt;
-        kind(userinfo::<UriSpec>("a@")),
-        Some(ErrorKind::InvalidUserInfo)
+    answers(&rt, scheme("svn+ssh"), None);
+    answers(&rt, scheme("1a"), Some(ErrorKind::InvalidScheme));
+    answers(&rt, userinfo::<UriSpec>("a:%C3%A9"), None);
+    answers(
+        &rt,
+        userinfo::<UriSpec>("a@"),
+        Some(ErrorKind::InvalidUserInfo),
     );
-    assert_eq!(rt; kind(port("")), None);
-    assert_eq!(rt; kind(port("99999999999999999999999")), None);
-    assert_eq!(rt; kind(port("8a")), Some(ErrorKind::InvalidPort));
-    assert_eq!(rt; kind(path::<UriSpec>("//a:b/")), None);
-    assert_eq!(rt; kind(path::<UriSpec>("/?")), Some(ErrorKind::InvalidPath));
-    assert_eq!(rt; kind(path_segment::<UriSpec>("a:@")), None);
-    assert_eq!(rt;
-        kind(path_segment::<UriSpec>("/")),
-        Some(ErrorKind::InvalidPath)
+    answers(&rt, port(""), None);
+    answers(&rt, port("99999999999999999999999"), None);
+    answers(&rt, port("8a"), Some(ErrorKind::InvalidPort));
+    answers(&rt, path::<UriSpec>("//a:b/"), None);
+    answers(&rt, path::<UriSpec>("/?"), Some(ErrorKind::InvalidPath));
+    answers(&rt, path_segment::<UriSpec>("a:@"), None);
+    answers(
+        &rt,
+        path_segment::<UriSpec>("/"),
+        Some(ErrorKind::InvalidPath),
     );
-    assert_eq!(rt; kind(query::<IriSpec>("\u{E000}\u{E9}%C3%a9/?")), None);
-    assert_eq!(rt;
-        kind(query::<UriSpec>("\u{E9}")),
-        Some(ErrorKind::InvalidQuery)
+    answers(&rt, query::<IriSpec>("\u{E000}\u{E9}%C3%a9/?"), None);
+    answers(
+        &rt,
+        query::<UriSpec>("\u{E9}"),
+        Some(ErrorKind::InvalidQuery),
     );
-    assert_eq!(rt; kind(fragment::<IriSpec>("\u{E9}/?")), None);
-    assert_eq!(rt;
-        kind(fragment::<IriSpec>("\u{E000}")),
-        Some(ErrorKind::InvalidFragment)
+    answers(&rt, fragment::<IriSpec>("\u{E9}/?"), None);
+    answers(
+        &rt,
+        fragment::<IriSpec>("\u{E000}"),
+        Some(ErrorKind::InvalidFragment),
     );
 }
 
-// Whether the fault is told in these words.
-fn is_told(alloc: Global, answer: Result<(), Error>, want: &str) -> Result<bool, Fail> {
+// The fault is told in these words.
+fn is_told(
+    rt: &impl Abort,
+    alloc: Global,
+    answer: Result<(), Error>,
+    want: &str,
+) -> Result<(), Fail> {
     let error = answer.err().ok_or("taken")?;
+    assert_eq!(rt; error.kind().description(), want);
     let told = format!(in alloc; "{error}")?;
     let whole = format!(in alloc; "invalid IRI: {want}")?;
-    Ok(error.kind().description() == want && told.as_str() == whole.as_str())
+    assert_eq!(rt; told.as_str(), whole.as_str());
+    Ok(())
 }
 
 #[test]
 fn faults_in_words(rt: HostRuntime) -> Result<(), Fail> {
     let alloc = rt.alloc();
-    assert!(rt; is_told(alloc, scheme("1a"), "invalid scheme")?);
-    assert!(rt; is_told(alloc, userinfo::<UriSpec>("a@"), "invalid userinfo")?);
-    assert!(rt; is_told(alloc, host::<UriSpec>("["), "invalid host")?);
-    assert!(rt; is_told(alloc, reg_name::<UriSpec>("127.0.0.1"), "invalid reg-name")?);
-    assert!(rt; is_told(alloc, port("8a"), "invalid port")?);
-    assert!(rt; is_told(alloc, path_segment::<UriSpec>("/"), "invalid path")?);
-    assert!(rt; is_told(alloc, query::<UriSpec>("#"), "invalid query")?);
-    assert!(rt; is_told(alloc, fragment::<UriSpec>("#"), "invalid fragment")?);
-    assert!(rt; is_told(alloc, absolute_iri::<UriSpec>("a:#"), "unexpected fragment")?);
+    is_told(&rt, alloc, scheme("1a"), "invalid scheme")?;
+    is_told(&rt, alloc, userinfo::<UriSpec>("a@"), "invalid userinfo")?;
+    is_told(&rt, alloc, host::<UriSpec>("["), "invalid host")?;
+    is_told(
+        &rt,
+        alloc,
+        reg_name::<UriSpec>("127.0.0.1"),
+        "invalid reg-name",
+    )?;
+    is_told(&rt, alloc, port("8a"), "invalid port")?;
+    is_told(&rt, alloc, path_segment::<UriSpec>("/"), "invalid path")?;
+    is_told(&rt, alloc, query::<UriSpec>("#"), "invalid query")?;
+    is_told(&rt, alloc, fragment::<UriSpec>("#"), "invalid fragment")?;
+    is_told(
+        &rt,
+        alloc,
+        absolute_iri::<UriSpec>("a:#"),
+        "unexpected fragment",
+    )?;
     let relative = "expected an absolute IRI but got a relative IRI";
-    assert!(rt; is_told(alloc, iri::<UriSpec>("a"), relative)?);
+    is_told(&rt, alloc, iri::<UriSpec>("a"), relative)?;
     let no_utf8 = Err(Error::new(ErrorKind::InvalidUtf8));
-    assert!(rt; is_told(alloc, no_utf8, "invalid utf-8 bytes")?);
+    is_told(&rt, alloc, no_utf8, "invalid utf-8 bytes")?;
     Ok(())
 }

@@ -1,6 +1,7 @@
 use super::*;
 use crate::spec::{IriSpec, UriSpec};
 use crate::{authority_laws, laws};
+use std::process::Abort;
 
 fn fault(answer: Result<(), Error>) -> Option<ErrorKind> {
     match answer {
@@ -9,8 +10,12 @@ fn fault(answer: Result<(), Error>) -> Option<ErrorKind> {
     }
 }
 
+fn answers(rt: &impl Abort, answer: Result<(), Error>, want: Option<ErrorKind>) {
+    assert_eq!(rt; fault(answer), want);
+}
+
 // RFC 3986 section 1.1.2.
-const URIS: [&str; 8] = [
+static URIS: [&str; 8] = [
     "ftp://ftp.is.co.za/rfc/rfc1808.txt",
     "http://www.ietf.org/rfc/rfc2396.txt",
     "ldap://[2001:db8::7]/c=GB?objectClass?one",
@@ -22,7 +27,7 @@ const URIS: [&str; 8] = [
 ];
 
 // RFC 3986 sections 5.4.1 and 5.4.2, and each kind of host of section 3.2.2.
-const RELATIVES: [&str; 36] = [
+static RELATIVES: [&str; 36] = [
     "g",
     "./g",
     "g/",
@@ -63,13 +68,13 @@ const RELATIVES: [&str; 36] = [
 
 #[test]
 fn takes_the_examples(rt: HostRuntime) {
-    for text in URIS {
+    for &text in &URIS {
         assert_eq!(rt; fault(iri_reference::<UriSpec>(text)), None, "{text}");
         assert_eq!(rt; fault(iri::<UriSpec>(text)), None, "{text}");
         assert_eq!(rt; fault(absolute_iri::<UriSpec>(text)), None, "{text}");
         assert_eq!(rt; fault(iri::<IriSpec>(text)), None, "{text}");
     }
-    for text in RELATIVES {
+    for &text in &RELATIVES {
         assert_eq!(rt; fault(iri_reference::<UriSpec>(text)), None, "{text}");
         assert_eq!(rt; fault(relative_ref::<UriSpec>(text)), None, "{text}");
         assert_eq!(rt; fault(relative_ref::<IriSpec>(text)), None, "{text}");
@@ -78,7 +83,7 @@ fn takes_the_examples(rt: HostRuntime) {
 
 #[test]
 fn tells_the_first_fault_of_a_reference(rt: HostRuntime) {
-    let rows = [
+    for &(text, want) in &[
         ("http:g", None),
         ("1a:b", Some(ErrorKind::InvalidPath)),
         (":", Some(ErrorKind::InvalidPath)),
@@ -93,8 +98,7 @@ fn tells_the_first_fault_of_a_reference(rt: HostRuntime) {
         ("http://a/ b?%#%", Some(ErrorKind::InvalidPath)),
         ("http://a/?%#%", Some(ErrorKind::InvalidQuery)),
         ("http://a/?b#%", Some(ErrorKind::InvalidFragment)),
-    ];
-    for (text, want) in rows {
+    ] {
         assert_eq!(rt; fault(iri_reference::<UriSpec>(text)), want, "{text}");
         assert_eq!(rt; fault(iri_reference::<IriSpec>(text)), want, "{text}");
     }
@@ -103,11 +107,11 @@ fn tells_the_first_fault_of_a_reference(rt: HostRuntime) {
 #[test]
 fn tells_what_the_kind_of_text_asks(rt: HostRuntime) {
     let relative = Some(ErrorKind::UnexpectedRelative);
-    for text in ["a/b", "", "//a/", "?y", "a%"] {
+    for &text in &["a/b", "", "//a/", "?y", "a%"] {
         assert_eq!(rt; fault(iri::<UriSpec>(text)), relative, "{text}");
         assert_eq!(rt; fault(absolute_iri::<UriSpec>(text)), relative, "{text}");
     }
-    for text in ["1a:b", ":", "//a?b:c", "./a:b"] {
+    for &text in &["1a:b", ":", "//a?b:c", "./a:b"] {
         assert_eq!(rt;
             fault(iri::<UriSpec>(text)),
             Some(ErrorKind::InvalidScheme),
@@ -115,12 +119,13 @@ fn tells_what_the_kind_of_text_asks(rt: HostRuntime) {
         );
     }
     let unexpected = Some(ErrorKind::UnexpectedFragment);
-    assert_eq!(rt; fault(iri::<UriSpec>("http://a/#f")), None);
-    assert_eq!(rt; fault(absolute_iri::<UriSpec>("http://a/#f")), unexpected);
-    assert_eq!(rt; fault(absolute_iri::<UriSpec>("http://a/#%")), unexpected);
-    assert_eq!(rt;
-        fault(relative_ref::<UriSpec>("http:g")),
-        Some(ErrorKind::InvalidPath)
+    answers(&rt, iri::<UriSpec>("http://a/#f"), None);
+    answers(&rt, absolute_iri::<UriSpec>("http://a/#f"), unexpected);
+    answers(&rt, absolute_iri::<UriSpec>("http://a/#%"), unexpected);
+    answers(
+        &rt,
+        relative_ref::<UriSpec>("http:g"),
+        Some(ErrorKind::InvalidPath),
     );
 }
 
@@ -128,18 +133,24 @@ fn tells_what_the_kind_of_text_asks(rt: HostRuntime) {
 fn takes_characters_past_ascii_in_iris_alone(rt: HostRuntime) {
     let path = Some(ErrorKind::InvalidPath);
     let query = Some(ErrorKind::InvalidQuery);
-    assert_eq!(rt;
-        fault(iri::<IriSpec>("http://\u{E9}/\u{E9}?\u{E9}#\u{E9}")),
-        None
+    answers(
+        &rt,
+        iri::<IriSpec>("http://\u{E9}/\u{E9}?\u{E9}#\u{E9}"),
+        None,
     );
-    assert_eq!(rt; fault(iri::<UriSpec>("http:\u{E9}")), path);
-    assert_eq!(rt; fault(iri_reference::<IriSpec>("?\u{E000}")), None);
-    assert_eq!(rt; fault(iri_reference::<UriSpec>("?\u{E000}")), query);
-    assert_eq!(rt; fault(iri_reference::<IriSpec>("\u{E000}")), path);
-    assert_eq!(rt;
-        fault(iri_reference::<IriSpec>("#\u{E000}")),
-        Some(ErrorKind::InvalidFragment)
+    answers(&rt, iri::<UriSpec>("http:\u{E9}"), path);
+    answers(&rt, iri_reference::<IriSpec>("?\u{E000}"), None);
+    answers(&rt, iri_reference::<UriSpec>("?\u{E000}"), query);
+    answers(&rt, iri_reference::<IriSpec>("\u{E000}"), path);
+    answers(
+        &rt,
+        iri_reference::<IriSpec>("#\u{E000}"),
+        Some(ErrorKind::InvalidFragment),
     );
+}
+
+fn is_part(rt: &impl Abort, part: Option<&str>, want: Option<&str>) {
+    assert_eq!(rt; part, want);
 }
 
 #[test]
@@ -148,17 +159,17 @@ fn splits_what_was_validated(rt: HostRuntime) {
     match iri_reference::<IriSpec>(text) {
         Ok(()) => {
             let parts = Splitter::of::<IriSpec>(text);
-            assert_eq!(rt; parts.scheme(), Some("foo"));
-            assert_eq!(rt; parts.authority(), Some("example.com:8042"));
-            assert_eq!(rt; parts.path(), "/over/there");
-            assert_eq!(rt; parts.query(), Some("name=ferret"));
-            assert_eq!(rt; parts.fragment(), Some("nose"));
+            is_part(&rt, parts.scheme(), Some("foo"));
+            is_part(&rt, parts.authority(), Some("example.com:8042"));
+            is_part(&rt, Some(parts.path()), Some("/over/there"));
+            is_part(&rt, parts.query(), Some("name=ferret"));
+            is_part(&rt, parts.fragment(), Some("nose"));
         }
         Err(e) => assert_eq!(rt; Some(e.kind()), None),
     }
     let parts = Splitter::cut("a#b?c");
-    assert_eq!(rt; parts.query(), None);
-    assert_eq!(rt; parts.fragment(), Some("b?c"));
+    is_part(&rt, parts.query(), None);
+    is_part(&rt, parts.fragment(), Some("b?c"));
 }
 
 // The laws of one spec, where they speak of it.
@@ -180,7 +191,7 @@ fn what_the_laws_say(rt: HostRuntime) {
     laws_of::<IriSpec>();
     laws::utf8_and_chars();
     authority_laws::ipv6_is_groups();
-    for text in RELATIVES {
+    for &text in &RELATIVES {
         assert!(rt; iri::<UriSpec>(text).is_err(), "{text}");
         assert!(rt; relative_ref::<IriSpec>(text).is_ok(), "{text}");
     }
