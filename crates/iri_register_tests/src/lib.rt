@@ -4,3 +4,5 @@
 
 #[cfg(test)]
 mod register;
+#[cfg(test)]
+mod same;

@@ -1,3 +1,4 @@
+use crate::same::same;
 use iri_grammar::error::ErrorKind;
 use iri_grammar::spec::{IriSpec, Spec, UriSpec};
 use iri_normal::resolver::FixedBaseResolver;
@@ -83,7 +84,7 @@ fn is_no_entry<S: Spec>(register: &Register<S>, place: usize) -> bool {
 #[test]
 fn answers(rt: HostRuntime) -> Result<(), Fail> {
     let mut register = register::<UriSpec>(rt.alloc(), "http://a/")?;
-    let rows: [(u8, &[u8], Answer, usize); 20] = [
+    static ROWS: [(u8, &[u8], Answer, usize); 20] = [
         (b'a', b"%4", Answer::Bad(ErrorKind::InvalidPath), 0),
         (b'f', b"", Answer::Nothing, 0),
         (b'a', b"x/../b", Answer::Put(Added::New(1)), 1),
@@ -106,7 +107,7 @@ fn answers(rt: HostRuntime) -> Result<(), Fail> {
         (b'a', b"http://a:80/d", Answer::Put(Added::New(4)), 4),
         (b'a', b"D", Answer::Put(Added::New(5)), 5),
     ];
-    for (number, (letter, reference, answer, len)) in rows.iter().enumerate() {
+    for (number, (letter, reference, answer, len)) in ROWS.iter().enumerate() {
         let told = call(&mut register, *letter, reference, number as u64)?;
         assert_eq!(rt; told, *answer, "row {number}");
         assert_eq!(rt; register.len(), *len, "row {number}");
@@ -123,8 +124,8 @@ fn answers(rt: HostRuntime) -> Result<(), Fail> {
 #[test]
 fn one_link_in_twenty_spellings(rt: HostRuntime) -> Result<(), Fail> {
     let mut register = register::<UriSpec>(rt.alloc(), "http://a/b/c")?;
-    assert_eq!(rt; register.add(b"d?q=%2F", 2)?, Added::New(1));
-    for spelling in [
+    same(&rt, register.add(b"d?q=%2F", 2)?, Added::New(1));
+    for &spelling in &[
         "./d?q=%2F",
         "d?q=%2f",
         "%64?q=%2f",
@@ -157,12 +158,17 @@ fn one_link_in_twenty_spellings(rt: HostRuntime) -> Result<(), Fail> {
 #[test]
 fn other_links_stay_apart(rt: HostRuntime) -> Result<(), Fail> {
     let mut register = register::<UriSpec>(rt.alloc(), "http://a/")?;
-    for (index, link) in ["d?q=/", "d?q=%2F", "d", "d?", "d#", "D", "http://a:80/d"]
-        .iter()
-        .enumerate()
-    {
+    for &(place, link) in &[
+        (1, "d?q=/"),
+        (2, "d?q=%2F"),
+        (3, "d"),
+        (4, "d?"),
+        (5, "d#"),
+        (6, "D"),
+        (7, "http://a:80/d"),
+    ] {
         let added = register.add(link.as_bytes(), 2)?;
-        assert_eq!(rt; added, Added::New(index + 1), "{link}");
+        assert_eq!(rt; added, Added::New(place), "{link}");
     }
     Ok(())
 }
@@ -171,12 +177,13 @@ fn other_links_stay_apart(rt: HostRuntime) -> Result<(), Fail> {
 fn a_reference_of_iris_alone(rt: HostRuntime) -> Result<(), Fail> {
     let link = "\u{e9}".as_bytes();
     let mut uris = register::<UriSpec>(rt.alloc(), "http://a/")?;
-    assert_eq!(rt;
+    same(
+        &rt,
         call(&mut uris, b'a', link, 2)?,
-        Answer::Bad(ErrorKind::InvalidPath)
+        Answer::Bad(ErrorKind::InvalidPath),
     );
     let mut iris = register::<IriSpec>(rt.alloc(), "http://a/")?;
-    for (letter, answer) in [
+    for &(letter, answer) in &[
         (b'a', Answer::Put(Added::New(1))),
         (b'f', Answer::At(1)),
         (b'd', Answer::Gone(1)),
@@ -206,7 +213,7 @@ fn has_two_links(register: &Register<UriSpec>) -> bool {
 #[test]
 fn kept_where_a_reference_is_bad(rt: HostRuntime) -> Result<(), Fail> {
     let mut register = two_links(rt.alloc())?;
-    let rows: [(u8, &[u8], ErrorKind); 9] = [
+    static ROWS: [(u8, &[u8], ErrorKind); 9] = [
         (b'a', b"\xff", ErrorKind::InvalidUtf8),
         (b'd', b"b\xc3", ErrorKind::InvalidUtf8),
         (b'f', b"\x80", ErrorKind::InvalidUtf8),
@@ -217,7 +224,7 @@ fn kept_where_a_reference_is_bad(rt: HostRuntime) -> Result<(), Fail> {
         (b'd', b"b##", ErrorKind::InvalidFragment),
         (b'f', b"c#^", ErrorKind::InvalidFragment),
     ];
-    for (letter, reference, fault) in rows {
+    for &(letter, reference, fault) in &ROWS {
         let told = call(&mut register, letter, reference, 9)?;
         assert_eq!(rt; told, Answer::Bad(fault), "{reference:?}");
         assert!(rt; has_two_links(&register), "{reference:?}");
@@ -277,10 +284,10 @@ fn refusals_in_words(rt: HostRuntime) -> Result<(), Fail> {
         Err(error) => error,
     };
     let told = format!(in rt.alloc(); "{error}")?;
-    assert_eq!(rt; told.as_str(), "invalid IRI: invalid path");
+    same(&rt, told.as_str(), "invalid IRI: invalid path");
     let memory = RegisterError::Memory;
     let told = format!(in rt.alloc(); "{memory}")?;
-    assert_eq!(rt; told.as_str(), "out of memory");
+    same(&rt, told.as_str(), "out of memory");
     Ok(())
 }
 
@@ -342,11 +349,16 @@ fn keyed(rt: HostRuntime) -> Result<(), Fail> {
     let base = RiAbsoluteString::<UriSpec>::try_from_str(rt.alloc(), "http://a/")?;
     let key = 0x0123_4567_89ab_cdef_0123_4567_89ab_cdef;
     let mut register = Register::with_key(rt.alloc(), base, key);
-    assert!(rt; register.find(b"b")?.is_none());
-    assert!(rt; register.add(b"b", 2)? == Added::New(1));
-    assert!(rt; register.add(b"/b", 3)? == Added::Old(1));
-    assert!(rt; register.find(b"c")?.is_none());
-    assert!(rt; register.remove(b"b")? == Some(2));
+    for &(letter, reference, answer) in &[
+        (b'f', "b", Answer::Nothing),
+        (b'a', "b", Answer::Put(Added::New(1))),
+        (b'a', "/b", Answer::Put(Added::Old(1))),
+        (b'f', "c", Answer::Nothing),
+        (b'd', "b", Answer::Gone(2)),
+    ] {
+        let told = call(&mut register, letter, reference.as_bytes(), 2)?;
+        assert_eq!(rt; told, answer, "{letter} {reference}");
+    }
     Ok(())
 }
 
@@ -359,6 +371,6 @@ fn references_against_a_resolver(rt: HostRuntime) -> Result<(), Fail> {
     assert!(rt; matches!(register.find(b"http://b/c/d"), Ok(Some(1))));
     assert!(rt; matches!(register.find(b"d"), Ok(None)));
     assert!(rt; matches!(register.remove_against(&page, b"d"), Ok(Some(1))));
-    assert_eq!(rt; register.len(), 0);
+    same(&rt, register.len(), 0);
     Ok(())
 }
