@@ -6,7 +6,7 @@ use std::test::Fail;
 
 #[test]
 fn rows(rt: HostRuntime) -> Result<(), Fail> {
-    let rows: [(&str, &str, u8, &str); 7] = [
+    static ROWS: [(&str, &str, u8, &str); 7] = [
         (
             "uri",
             "http://a/\nr User-agent: *\nr Disallow: /\nr User-Agent: ExampleBot/1.0\nr Disallow: /p\nr Allow: /p/*.html$\nr disallow: /\u{e9}\nu p/x.html\nu p/x.html?y\nu q\nu /%c3%a9\nu http://b/\n",
@@ -52,7 +52,7 @@ fn rows(rt: HostRuntime) -> Result<(), Fail> {
             "base expected an absolute IRI but got a relative IRI\n",
         ),
     ];
-    for (grammar, input, status, output) in rows {
+    for &(grammar, input, status, output) in &ROWS {
         let words = ["robots", grammar, "examplebot"];
         let mut source = PlainSource::new(input.as_bytes());
         let holds = answers(&rt, &words, &mut source, &[], status, output.as_bytes())?;
@@ -63,7 +63,7 @@ fn rows(rt: HostRuntime) -> Result<(), Fail> {
 
 #[test]
 fn words(rt: HostRuntime) -> Result<(), Fail> {
-    let rows: [(&[&str], u8); 7] = [
+    static ROWS: [(&[&str], u8); 7] = [
         (&["robots", "uri", "a-_Z"], 0),
         (&["robots", "iri", "x"], 0),
         (&["robots", "uri"], 2),
@@ -72,7 +72,7 @@ fn words(rt: HostRuntime) -> Result<(), Fail> {
         (&["robots", "url", "a"], 2),
         (&["robots", "uri", "a", "b"], 2),
     ];
-    for (words, status) in rows {
+    for &(words, status) in &ROWS {
         let mut source = PlainSource::new(b"a:");
         let holds = answers(&rt, words, &mut source, &[], status, b"")?;
         assert!(rt; holds, "{words:?}");

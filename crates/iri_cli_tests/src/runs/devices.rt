@@ -6,11 +6,10 @@ use std::test::Fail;
 // A character in triplets is one, wherever its bytes are cut.
 #[test]
 fn cuts(rt: HostRuntime) -> Result<(), Fail> {
-    let rows = [
+    for &(input, output) in &[
         ("http://a/\n//%C3%89X.COM", "ok http://ÉX.COM\n"),
         ("http://a/\n%ce%ce%b1%b1", "ok http://a/%CEα%B1\n"),
-    ];
-    for (input, output) in rows {
+    ] {
         for cut in 1..4 {
             let cuts = [cut];
             let mut source = MemorySource::new(input.as_bytes(), &cuts, &[]);
@@ -44,8 +43,8 @@ fn failing_sources(rt: HostRuntime) -> Result<(), Fail> {
 // Each answer is one put, which fails once: the answers before it are written.
 #[test]
 fn failing_sinks(rt: HostRuntime) -> Result<(), Fail> {
-    let rows: [(u64, &[u8]); 2] = [(1, b""), (2, b"ok http://a/b\n")];
-    for (put, written) in rows {
+    static ROWS: [(u64, &[u8]); 2] = [(1, b""), (2, b"ok http://a/b\n")];
+    for &(put, written) in &ROWS {
         let fails = [put];
         let mut source = PlainSource::new(LINES);
         assert!(rt;

@@ -30,7 +30,7 @@ fn both_docs(rt: &HostRuntime, input: &str, status: u8, output: &str) -> Result<
 
 #[test]
 fn rows(rt: HostRuntime) -> Result<(), Fail> {
-    let rows: [(&str, u8, &str); 7] = [
+    static ROWS: [(&str, u8, &str); 7] = [
         (
             "http://a/\n{\n[1]\n{\"template\":\"{v}\",\"vars\":{\"v\":true}}\n{\"template\":\"\",\"vars\":{\"a\":1.5}}\n{\"template\":\"{v\"}\n",
             1,
@@ -67,7 +67,7 @@ fn rows(rt: HostRuntime) -> Result<(), Fail> {
             "base expected an absolute IRI but got a relative IRI\n",
         ),
     ];
-    for (input, status, output) in rows {
+    for &(input, status, output) in &ROWS {
         assert!(rt; both_docs(&rt, input, status, output)?, "{input}");
     }
     Ok(())
@@ -98,12 +98,12 @@ fn past_ascii(rt: HostRuntime) -> Result<(), Fail> {
 // An expansion has at most 1,048,576 bytes, which is told before whether it is a reference.
 #[test]
 fn long_expansions(rt: HostRuntime) -> Result<(), Fail> {
-    let rows: [(&[u8], usize, usize, &[u8]); 3] = [
+    static ROWS: [(&[u8], usize, usize, &[u8]); 3] = [
         (b"{v}{v}", 524288, 1048576, b"ok http://a/"),
         (b"{v}{v}a", 524288, 0, b"bad expansion too long"),
         (b"1:{v}{v}", 524288, 0, b"bad expansion too long"),
     ];
-    for (template, count, written, answer) in rows {
+    for &(template, count, written, answer) in &ROWS {
         let mut front = Vec::new(rt.alloc());
         front.extend_from_slice(b"http://a/\n{\"template\":\"")?;
         front.extend_from_slice(template)?;
@@ -134,14 +134,14 @@ fn runs_that_are_cut_off(rt: HostRuntime) -> Result<(), Fail> {
 
 #[test]
 fn words_of_docs(rt: HostRuntime) -> Result<(), Fail> {
-    let rows: [(&[&str], u8); 5] = [
+    static ROWS: [(&[&str], u8); 5] = [
         (&["docs", "uri"], 0),
         (&["docs", "iri"], 0),
         (&["docs"], 2),
         (&["docs", "url"], 2),
         (&["docs", "uri", "a"], 2),
     ];
-    for (words, status) in rows {
+    for &(words, status) in &ROWS {
         let mut source = PlainSource::new(b"a:");
         let holds = answers(&rt, words, &mut source, &[], status, b"")?;
         assert!(rt; holds, "{words:?}");

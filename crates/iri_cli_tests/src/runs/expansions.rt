@@ -35,7 +35,7 @@ fn both_expand(rt: &HostRuntime, base: &str, rows: &[Row<'_>]) -> Result<bool, F
 
 #[test]
 fn one_of_each_line(rt: HostRuntime) -> Result<(), Fail> {
-    let rows: [Row<'_>; 14] = [
+    static ROWS: [Row<'static>; 14] = [
         (b"s v 6", None),
         (b"s who fred", None),
         (b"s empty ", None),
@@ -57,7 +57,7 @@ fn one_of_each_line(rt: HostRuntime) -> Result<(), Fail> {
         (b"t", Some("bad line")),
         (b"t ", Some("ok http://a/b/")),
     ];
-    assert!(rt; both_expand(&rt, "http://a/b/", &rows)?);
+    assert!(rt; both_expand(&rt, "http://a/b/", &ROWS)?);
     Ok(())
 }
 
@@ -85,7 +85,7 @@ const VARIABLES: [Row<'_>; 17] = [
 // Its examples, each answered by the canonical text of its expansion.
 #[test]
 fn examples_of_the_standard(rt: HostRuntime) -> Result<(), Fail> {
-    let templates: [Row<'_>; 14] = [
+    static TEMPLATES: [Row<'static>; 14] = [
         (
             b"t {/list*,path:4}",
             Some("ok http://a/red/green/blue/%2Ffoo"),
@@ -116,7 +116,7 @@ fn examples_of_the_standard(rt: HostRuntime) -> Result<(), Fail> {
         ),
         (b"t O{undef}X", Some("ok http://a/b/OX")),
     ];
-    for template in templates {
+    for &template in &TEMPLATES {
         let mut rows = Vec::new(rt.alloc());
         rows.extend_from_slice(&VARIABLES)?;
         rows.push(template)?;
@@ -128,7 +128,7 @@ fn examples_of_the_standard(rt: HostRuntime) -> Result<(), Fail> {
 // Triplets that stay: a length counts characters in triplets, and triplets that begin none.
 #[test]
 fn expansions_of_each_grammar(rt: HostRuntime) -> Result<(), Fail> {
-    let rows: [(&str, &str, &str, &str); 5] = [
+    static ROWS: [(&str, &str, &str, &str); 5] = [
         (
             "s v %CE%CE%B1%B1%CE%CE%B2%B2",
             "t {+v:4}",
@@ -150,7 +150,7 @@ fn expansions_of_each_grammar(rt: HostRuntime) -> Result<(), Fail> {
             "ok http://a/?é=ü",
         ),
     ];
-    for (value, template, uri, iri) in rows {
+    for &(value, template, uri, iri) in &ROWS {
         for (grammar, answer) in [("uri", uri), ("iri", iri)] {
             let rows: [Row<'_>; 2] = [
                 (value.as_bytes(), None),
@@ -165,7 +165,7 @@ fn expansions_of_each_grammar(rt: HostRuntime) -> Result<(), Fail> {
 // Lines of no form, each behind a line that gives `v` a value, which stays.
 #[test]
 fn bad_lines(rt: HostRuntime) -> Result<(), Fail> {
-    let lines: [&[u8]; 38] = [
+    static LINES: [&[u8]; 38] = [
         b"",
         b" ",
         b"s",
@@ -205,7 +205,7 @@ fn bad_lines(rt: HostRuntime) -> Result<(), Fail> {
         b"T {v}",
         b"x v 1",
     ];
-    for line in lines {
+    for &line in &LINES {
         let rows: [Row<'_>; 3] = [
             (b"s v 6", None),
             (line, Some("bad line")),
@@ -219,7 +219,7 @@ fn bad_lines(rt: HostRuntime) -> Result<(), Fail> {
 // A template's first fault, and how many bytes of it stand before.
 #[test]
 fn refused_templates(rt: HostRuntime) -> Result<(), Fail> {
-    let rows: [Row<'_>; 12] = [
+    static ROWS: [Row<'static>; 12] = [
         (b"l v a", None),
         (b"t \xff", Some("template invalid utf-8 byte sequence at 0")),
         (
@@ -243,14 +243,14 @@ fn refused_templates(rt: HostRuntime) -> Result<(), Fail> {
         (b"u v", None),
         (b"t {v:3}", Some("ok http://a/")),
     ];
-    assert!(rt; both_expand(&rt, "http://a/", &rows)?);
+    assert!(rt; both_expand(&rt, "http://a/", &ROWS)?);
     Ok(())
 }
 
 // Fields may be empty, and the last one may hold spaces.
 #[test]
 fn fields(rt: HostRuntime) -> Result<(), Fail> {
-    let rows: [Row<'_>; 16] = [
+    static ROWS: [Row<'static>; 16] = [
         (b"s v a b  c ", None),
         (b"t {v}", Some("ok http://a/a%20b%20%20c%20")),
         (b"s v  ", None),
@@ -268,14 +268,14 @@ fn fields(rt: HostRuntime) -> Result<(), Fail> {
         (b"t {%41.b..c_1.}", Some("ok http://a/x")),
         (b"t {A.b..c_1.}", Some("ok http://a/")),
     ];
-    assert!(rt; both_expand(&rt, "http://a/", &rows)?);
+    assert!(rt; both_expand(&rt, "http://a/", &ROWS)?);
     Ok(())
 }
 
 // Each kind of value gives way to each other.
 #[test]
 fn values_that_change(rt: HostRuntime) -> Result<(), Fail> {
-    let rows: [Row<'_>; 26] = [
+    static ROWS: [Row<'static>; 26] = [
         (b"t {?v*}", Some("ok http://a/")),
         (b"s v a", None),
         (b"t {?v*}", Some("ok http://a/?v=a")),
@@ -303,19 +303,19 @@ fn values_that_change(rt: HostRuntime) -> Result<(), Fail> {
         (b"s W l", None),
         (b"t {?w,W}", Some("ok http://a/?W=l")),
     ];
-    assert!(rt; both_expand(&rt, "http://a/", &rows)?);
+    assert!(rt; both_expand(&rt, "http://a/", &ROWS)?);
     Ok(())
 }
 
 // An expansion may have 1,048,576 bytes. One with more is too long, whatever else is wrong with it.
 #[test]
 fn long_expansions(rt: HostRuntime) -> Result<(), Fail> {
-    let rest: [(&[u8], usize, &[u8]); 3] = [
+    static REST: [(&[u8], usize, &[u8]); 3] = [
         (b"\ns w aaaa\nt {v}{w}\n", 1048576, b"ok http://a/"),
         (b"\ns w aaaaa\nt {v}{w}\n", 0, b"bad expansion too long"),
         (b"\ns w 1:a\nt {+w}:{v}{v}\n", 0, b"bad expansion too long"),
     ];
-    for (lines, count, answer) in rest {
+    for &(lines, count, answer) in &REST {
         let mut input = long_line(&rt, b"http://a/\ns v ", 1048572)?;
         input.extend_from_slice(lines)?;
         let mut output = long_line(&rt, answer, count)?;
@@ -331,7 +331,7 @@ fn long_expansions(rt: HostRuntime) -> Result<(), Fail> {
 #[test]
 fn endings(rt: HostRuntime) -> Result<(), Fail> {
     let words = ["expand", "iri"];
-    let ends: [(&[u8], u8, &[u8]); 4] = [
+    static ENDS: [(&[u8], u8, &[u8]); 4] = [
         (
             b"",
             3,
@@ -341,7 +341,7 @@ fn endings(rt: HostRuntime) -> Result<(), Fail> {
         (b"http://a/", 0, b""),
         (b"http://a/\ns v 1\nu v", 0, b""),
     ];
-    for (input, status, output) in ends {
+    for &(input, status, output) in &ENDS {
         let mut source = PlainSource::new(input);
         assert!(rt; answers(&rt, &words, &mut source, &[], status, output)?);
     }

@@ -29,7 +29,7 @@ fn both_links(rt: &HostRuntime, input: &[u8], status: u8, output: &[u8]) -> Resu
 
 #[test]
 fn rows(rt: HostRuntime) -> Result<(), Fail> {
-    let rows: [(&[u8], u8, &[u8]); 8] = [
+    static ROWS: [(&[u8], u8, &[u8]); 8] = [
         (
             b"https://api.example.com/items?page=2\n<https://api.example.com/items?page=3>; rel=\"next\", <?page=1>; rel=prev\n</%7Eu/../x>;REL=up;title=\"a\\\"b\";\n",
             0,
@@ -64,14 +64,14 @@ fn rows(rt: HostRuntime) -> Result<(), Fail> {
             0,
             b"ok <http://example.com/TheBook/chapter2>; rel=\"previous\"; title=\"previous chapter\"\nok <http://example.com/>; rel=\"http://example.net/foo\"\nok <http://example.com/terms>; rel=\"copyright\"; anchor=\"#foo\"\nok <http://example.com/TheBook/chapter2>; rel=\"previous\"; title*=\"UTF-8'de'letztes%20Kapitel\", <http://example.com/TheBook/chapter4>; rel=\"next\"; title*=\"UTF-8'de'n%c3%a4chstes%20Kapitel\"\nok <http://example.org/>; rel=\"start http://example.net/relation/other\"\n",
         ),
-        ("http://a/".as_bytes(), 0, b""),
+        (b"http://a/", 0, b""),
         (
             b"a\n<b>\n",
             3,
             b"base expected an absolute IRI but got a relative IRI\n",
         ),
     ];
-    for (input, status, output) in rows {
+    for &(input, status, output) in &ROWS {
         assert!(rt; both_links(&rt, input, status, output)?, "{input:?}");
     }
     Ok(())
@@ -93,7 +93,7 @@ fn past_ascii(rt: HostRuntime) -> Result<(), Fail> {
 fn written_forms(rt: HostRuntime) -> Result<(), Fail> {
     let forms =
         b"<https://api.example.com/items?page=3>; rel=\"next\", <http://a/b>; rel=\"prev\"; title=\"a\\\"b\\\\\"; q\n";
-    for base in [
+    for &base in &[
         "a:",
         "http://h/x/y?q",
         "https://api.example.com/items?page=2",
@@ -126,7 +126,7 @@ fn runs_that_are_cut_off(rt: HostRuntime) -> Result<(), Fail> {
 
 #[test]
 fn words_of_links(rt: HostRuntime) -> Result<(), Fail> {
-    let rows: [(&[&str], u8); 6] = [
+    static ROWS: [(&[&str], u8); 6] = [
         (&["links", "uri"], 0),
         (&["links", "iri"], 0),
         (&["links"], 2),
@@ -134,7 +134,7 @@ fn words_of_links(rt: HostRuntime) -> Result<(), Fail> {
         (&["link", "uri"], 2),
         (&["links", "uri", "a"], 2),
     ];
-    for (words, status) in rows {
+    for &(words, status) in &ROWS {
         let mut source = PlainSource::new(b"a:");
         let holds = answers(&rt, words, &mut source, &[], status, b"")?;
         assert!(rt; holds, "{words:?}");

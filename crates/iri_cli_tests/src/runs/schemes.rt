@@ -10,7 +10,7 @@ use std::test::Fail;
 // RFC 3986 section 6.2.3: the default port goes, and an empty path beside an authority becomes `/`, for five schemes alone.
 #[test]
 fn default_ports_and_empty_paths(rt: HostRuntime) -> Result<(), Fail> {
-    let rows = [
+    static ROWS: [(&str, &str); 25] = [
         ("", "ok http://h/"),
         ("?q", "ok http://h/?q"),
         ("g", "ok http://h/g"),
@@ -38,34 +38,53 @@ fn default_ports_and_empty_paths(rt: HostRuntime) -> Result<(), Fail> {
         ("#%", "bad invalid fragment"),
     ];
     for grammar in ["uri", "iri"] {
-        let right = right_rows(&rt, &["canon", grammar, "scheme"], "HTTP://H:80", &rows)?;
-        assert_eq!(rt; right, rows.len());
+        let right = right_rows(&rt, &["canon", grammar, "scheme"], "HTTP://H:80", &ROWS)?;
+        assert_eq!(rt; right, ROWS.len());
     }
-    let rows = [
-        ("", "ok http://\u{c9}/"),
-        ("//h:80/%C3%A9", "ok http://h/\u{e9}"),
-    ];
-    let right = right_rows(&rt, &["canon", "iri", "scheme"], "HTTP://\u{c9}:80", &rows)?;
-    assert_eq!(rt; right, rows.len());
-    let rows = [
-        ("", "ok http://a/"),
-        ("https://h:443?q", "ok https://h/?q"),
-        ("//h:080/", "ok http://h:080/"),
-        ("foo://h:80", "ok foo://h:80"),
-        ("wss://U@H:443/x", "ok wss://U@h/x"),
-    ];
-    let right = right_rows(&rt, &["canon", "uri", "scheme"], "HTTP://a:80", &rows)?;
-    assert_eq!(rt; right, rows.len());
-    let rows = [("", "ok http://a:80"), ("foo://h:80", "ok foo://h:80")];
-    let right = right_rows(&rt, &["canon", "uri"], "HTTP://a:80", &rows)?;
-    assert_eq!(rt; right, rows.len());
+    Ok(())
+}
+
+// The words of a run, a base, and the answers to references against it.
+static OTHER_BASES: [(&[&str], &str, &[(&str, &str)]); 3] = [
+    (
+        &["canon", "iri", "scheme"],
+        "HTTP://\u{c9}:80",
+        &[
+            ("", "ok http://\u{c9}/"),
+            ("//h:80/%C3%A9", "ok http://h/\u{e9}"),
+        ],
+    ),
+    (
+        &["canon", "uri", "scheme"],
+        "HTTP://a:80",
+        &[
+            ("", "ok http://a/"),
+            ("https://h:443?q", "ok https://h/?q"),
+            ("//h:080/", "ok http://h:080/"),
+            ("foo://h:80", "ok foo://h:80"),
+            ("wss://U@H:443/x", "ok wss://U@h/x"),
+        ],
+    ),
+    (
+        &["canon", "uri"],
+        "HTTP://a:80",
+        &[("", "ok http://a:80"), ("foo://h:80", "ok foo://h:80")],
+    ),
+];
+
+#[test]
+fn other_bases_with_the_rules_and_without(rt: HostRuntime) -> Result<(), Fail> {
+    for &(words, base, rows) in &OTHER_BASES {
+        let right = right_rows(&rt, words, base, rows)?;
+        assert_eq!(rt; right, rows.len(), "{base}");
+    }
     Ok(())
 }
 
 // The rules of every scheme take the empty port alone.
 #[test]
 fn ports_and_paths_that_stay(rt: HostRuntime) -> Result<(), Fail> {
-    let rows = [
+    static ROWS: [(&str, &str); 12] = [
         ("", "ok http://h:80"),
         ("?q", "ok http://h:80?q"),
         ("g", "ok http://h:80/g"),
@@ -80,8 +99,8 @@ fn ports_and_paths_that_stay(rt: HostRuntime) -> Result<(), Fail> {
         ("#%", "bad invalid fragment"),
     ];
     for grammar in ["uri", "iri"] {
-        let right = right_rows(&rt, &["canon", grammar], "HTTP://H:80", &rows)?;
-        assert_eq!(rt; right, rows.len());
+        let right = right_rows(&rt, &["canon", grammar], "HTTP://H:80", &ROWS)?;
+        assert_eq!(rt; right, ROWS.len());
     }
     Ok(())
 }
@@ -109,11 +128,11 @@ fn ends_of_a_run(rt: HostRuntime) -> Result<(), Fail> {
 
 #[test]
 fn lines_in_a_mode(rt: HostRuntime) -> Result<(), Fail> {
-    let rows = [
-        (CanonMode::Default, b"ok http://h:80\n".as_slice()),
-        (CanonMode::Scheme, b"ok http://h/\n".as_slice()),
+    static ROWS: [(CanonMode, &[u8]); 2] = [
+        (CanonMode::Default, b"ok http://h:80\n"),
+        (CanonMode::Scheme, b"ok http://h/\n"),
     ];
-    for (mode, output) in rows {
+    for &(mode, output) in &ROWS {
         let buffers = CanonBuffers::new(rt.alloc())?;
         let mut source = PlainSource::new(b"http://h:80\n\n");
         let mut room = [0; 64];
