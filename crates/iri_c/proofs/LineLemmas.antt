@@ -18,24 +18,24 @@ use Rattle.iri_c.specs.Numbers.{ok, short}
 use Rattle.iri_c.specs.declared.lines.Batch.{Batch}
 
 -- one byte of a line
-byte : (front : List ℕ) (b : ℕ) (bs : List ℕ) → b ≢ 10 → ended_from front (b ∷ bs) ≡ ended_from (front ++ b ∷ []) bs
+byte : (prefix : List ℕ) (b : ℕ) (bs : List ℕ) → b ≢ 10 → ended_from prefix (b ∷ bs) ≡ ended_from (prefix ++ b ∷ []) bs
 unfolding ended_from
-byte front b bs h = grind (arith, nat_tests)
+byte prefix b bs h = grind (arith, nat_tests)
 
 -- the bytes of a line
-along : (front raw rest : List ℕ) → NoLf raw → ended_from front (raw ++ rest) ≡ ended_from (front ++ raw) rest
-along front [] rest n = ap (λ f. ended_from f rest) (sym (append-nil front))
-along front (b ∷ raw) rest n =
-    byte front b (raw ++ rest) n.0 ∙ along (front ++ b ∷ []) raw rest n.1
-    ∙ ap (λ f. ended_from f rest) (append_assoc front (b ∷ []) raw)
+along : (prefix raw rest : List ℕ) → NoLf raw → ended_from prefix (raw ++ rest) ≡ ended_from (prefix ++ raw) rest
+along prefix [] rest n = ap (λ f. ended_from f rest) (sym (append-nil prefix))
+along prefix (b ∷ raw) rest n =
+    byte prefix b (raw ++ rest) n.0 ∙ along (prefix ++ b ∷ []) raw rest n.1
+    ∙ ap (λ f. ended_from f rest) (append_assoc prefix (b ∷ []) raw)
 
-lf : (front rest : List ℕ) → ended_from front (10 ∷ rest) ≡ front ∷ ended rest
+lf : (prefix rest : List ℕ) → ended_from prefix (10 ∷ rest) ≡ prefix ∷ ended rest
 unfolding ended_from
-lf front rest = refl
+lf prefix rest = refl
 
-nothing : (front : List ℕ) → ended_from front [] ≡ []
+nothing : (prefix : List ℕ) → ended_from prefix [] ≡ []
 unfolding ended_from
-nothing front = refl
+nothing prefix = refl
 
 -- a line that an LF ends
 pub ended-lf : (raw rest : List ℕ) → NoLf raw → ended (raw ++ 10 ∷ rest) ≡ raw ∷ ended rest
@@ -45,8 +45,8 @@ ended-lf raw rest n = along [] raw (10 ∷ rest) n ∙ lf raw rest
 pub ended-none : (raw : List ℕ) → NoLf raw → ended raw ≡ []
 ended-none raw n = ap ended (sym (append-nil raw)) ∙ along [] raw [] n ∙ nothing raw
 
-get_or-front : (xs : List ℕ) (i j : ℕ) → j < i → i ≤ length xs → get_or (take i xs) j 0 ≡ get_or xs j 0
-get_or-front xs i j h l = grind (arith, common_steps)
+get_or-prefix : (xs : List ℕ) (i j : ℕ) → j < i → i ≤ length xs → get_or (take i xs) j 0 ≡ get_or xs j 0
+get_or-prefix xs i j h l = grind (arith, common_steps)
 
 -- what a search says
 pub first-lf : (xs : List ℕ) (r : Option ℕ) → IsFirstByte (is_byte 10) xs r
@@ -56,7 +56,7 @@ first-lf xs (Some i) is =
     let low : i < length xs = is.0.high in
     let none : (j : ℕ) → j < length (take i xs) → get_or (take i xs) j 0 ≢ 10 = (λ j l e.
     let l' : j < i = grind (arith, l, common_steps) in
-    is.0.before j (omega arith) l' (eq-eqb _ _ (sym (get_or-front xs i j l' (omega (arith, low))) ∙ e))) in
+    is.0.before j (omega arith) l' (eq-eqb _ _ (sym (get_or-prefix xs i j l' (omega (arith, low))) ∙ e))) in
     (low, NoLf-nowhere (take i xs) none, eqb-true _ _ is.1)
 
 -- the first LF stands there
@@ -142,17 +142,17 @@ module _ (answer : List ℕ → List ℕ) (input : List ℕ) (start : BufferSink
     going_end-bytes e =
         sym (ap (λ ls. over_at written (flat_map answer ls) now.buf.now) e ∙ over_at-none written now.buf.now) ∙ g.out
 
-    module _ (raw behind : List ℕ) (is : ended rest ≡ raw ∷ ended behind) where
+    module _ (raw after : List ℕ) (is : ended rest ≡ raw ∷ ended after) where
       pub going_short : length start.buf.now < written + length (answer raw)
           → record { consumed = length input - length rest; written = written; status = short }
           ≡ batch answer (length start.buf.now) (ended input)
       going_short h =
           sym (later-done (length input - length rest) written short)
           ∙ ap (later (length input - length rest) written) (sym (ap (batch answer (length start.buf.now - written)) is
-          ∙ batch-short answer (length start.buf.now - written) raw (ended behind) (omega (arith, g.fits, h))))
+          ∙ batch-short answer (length start.buf.now - written) raw (ended after) (omega (arith, g.fits, h))))
           ∙ g.told
 
-      out-line : over_at written (answer raw ++ flat_map answer (ended behind)) now.buf.now
+      out-line : over_at written (answer raw ++ flat_map answer (ended after)) now.buf.now
           ≡ over (flat_map answer (ended input)) start.buf.now
       out-line = sym (ap (λ ls. over_at written (flat_map answer ls) now.buf.now) is) ∙ g.out
 
@@ -161,14 +161,14 @@ module _ (answer : List ℕ → List ℕ) (input : List ℕ) (start : BufferSink
           → next.buf.now ≡ over (flat_map answer (ended input)) start.buf.now
       going_short-bytes next h e =
           e ∙ ap (λ n. over_at n (answer raw) now.buf.now) g.len
-          ∙ sym (over_at-long written (answer raw) (flat_map answer (ended behind)) now.buf.now (omega (arith, g.width, h)))
+          ∙ sym (over_at-long written (answer raw) (flat_map answer (ended after)) now.buf.now (omega (arith, g.width, h)))
           ∙ out-line
 
-      pub going_next : (next : BufferSink) → length rest ≡ length raw + 1 + length behind → BufferPuts now (answer raw) next
-          → next.len ≤ length start.buf.now → Going answer input start behind next.len next
+      pub going_next : (next : BufferSink) → length rest ≡ length raw + 1 + length after → BufferPuts now (answer raw) next
+          → next.len ≤ length start.buf.now → Going answer input start after next.len next
       going_next next cut p low =
-          let a = answer raw in let more = flat_map answer (ended behind) in
-          let consumed : (length input - length rest) + (length raw + 1) ≡ length input - length behind = omega (arith, g.part, cut) in
+          let a = answer raw in let more = flat_map answer (ended after) in
+          let consumed : (length input - length rest) + (length raw + 1) ≡ length input - length after = omega (arith, g.part, cut) in
           let total : written + length a ≡ next.len = omega (arith, p.len, g.len) in
           let left : (length start.buf.now - written) - length a ≡ length start.buf.now - next.len = omega (arith, p.len, g.len) in
           let room : length a ≤ length start.buf.now - written = omega (arith, p.len, g.len, low) in
@@ -184,11 +184,11 @@ module _ (answer : List ℕ → List ℕ) (input : List ℕ) (start : BufferSink
             told =
                 sym (ap (λ ls. later (length input - length rest) written (batch answer (length start.buf.now - written) ls)) is
                 ∙ ap (later (length input - length rest) written)
-                (batch-fits answer (length start.buf.now - written) raw (ended behind) room)
+                (batch-fits answer (length start.buf.now - written) raw (ended after) room)
                 ∙ later-later (length input - length rest) written (length raw + 1) (length a)
-                (batch answer ((length start.buf.now - written) - length a) (ended behind))
-                ∙ ap (λ n. later n (written + length a) (batch answer ((length start.buf.now - written) - length a) (ended behind))) consumed
-                ∙ ap (λ n. later (length input - length behind) n (batch answer ((length start.buf.now - written) - length a) (ended behind))) total
-                ∙ ap (λ n. later (length input - length behind) next.len (batch answer n (ended behind))) left)
+                (batch answer ((length start.buf.now - written) - length a) (ended after))
+                ∙ ap (λ n. later n (written + length a) (batch answer ((length start.buf.now - written) - length a) (ended after))) consumed
+                ∙ ap (λ n. later (length input - length after) n (batch answer ((length start.buf.now - written) - length a) (ended after))) total
+                ∙ ap (λ n. later (length input - length after) next.len (batch answer n (ended after))) left)
                 ∙ g.told;
           }

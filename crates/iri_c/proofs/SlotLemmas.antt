@@ -2,16 +2,16 @@
 use Rattle.std.proofs.Common.{◌≡◌, ◌++◌, ◌∷◌, [], ℕ, List, length, refl, ap, ◌∙◌, arith, length-append, Option, Some, None}
 use Rattle.iri_grammar.specs.Authority.{AuthorityParts, authority_parts, recompose_authority, userinfo_text}
 use Rattle.iri_grammar.specs.Characters.{at_sign, colon, number_sign, question_mark}
-use Rattle.iri_grammar.specs.Cut.{marked}
+use Rattle.iri_grammar.specs.Cut.{delimited}
 use Rattle.iri_grammar.specs.Parts.{Parts, recompose, scheme_text, authority_text}
 use Rattle.iri_grammar.specs.Split.{split_of}
 use Rattle.iri_grammar.proofs.AuthorityLaws.{authority_recomposed}
 use Rattle.iri_grammar.proofs.SplitLaws.{recompose_split}
 use Rattle.iri_c.specs.Slots.{width, total, authority_total}
 
-behind-mark : (c : ℕ) (o : Option (List ℕ)) → width 1 o ≡ length (marked c o)
-behind-mark c None = refl
-behind-mark c (Some x) = omega arith
+after-delimiter : (c : ℕ) (o : Option (List ℕ)) → width 1 o ≡ length (delimited c o)
+after-delimiter c None = refl
+after-delimiter c (Some x) = omega arith
 
 of-scheme : (o : Option (List ℕ)) → width 1 o ≡ length (scheme_text o)
 of-scheme None = refl
@@ -28,17 +28,17 @@ of-authority (Some x) = omega arith
 total-recompose : (p : Parts) → total p ≡ length (recompose p)
 unfolding recompose
 total-recompose p =
-    let tail = marked question_mark p.query ++ marked number_sign p.fragment in
+    let tail = delimited question_mark p.query ++ delimited number_sign p.fragment in
     omega (
       arith,
       of-scheme p.scheme,
       of-authority p.authority,
-      behind-mark question_mark p.query,
-      behind-mark number_sign p.fragment,
+      after-delimiter question_mark p.query,
+      after-delimiter number_sign p.fragment,
       length-append (scheme_text p.scheme) (authority_text p.authority ++ (p.path ++ tail)),
       length-append (authority_text p.authority) (p.path ++ tail),
       length-append p.path tail,
-      length-append (marked question_mark p.query) (marked number_sign p.fragment),
+      length-append (delimited question_mark p.query) (delimited number_sign p.fragment),
     )
 
 authority_total-recompose : (a : AuthorityParts) → authority_total a ≡ length (recompose_authority a)
@@ -47,9 +47,9 @@ authority_total-recompose a =
     omega (
       arith,
       of-userinfo a.userinfo,
-      behind-mark colon a.port,
-      length-append (userinfo_text a.userinfo) (a.host ++ marked colon a.port),
-      length-append a.host (marked colon a.port),
+      after-delimiter colon a.port,
+      length-append (userinfo_text a.userinfo) (a.host ++ delimited colon a.port),
+      length-append a.host (delimited colon a.port),
     )
 
 pub total_split : (t : List ℕ) → total (split_of t) ≡ length t

@@ -15,10 +15,10 @@ use Rattle.iri_c.specs.Outcome.{Told}
 use Rattle.iri_c.specs.Outcome.Outcome.{fault, plain}
 use Rattle.iri_c.specs.declared.lines.Batch.{Batch}
 
--- the lines that an LF ends, without it, where the first of them begins with the bytes of `front`
+-- the lines that an LF ends, without it, where the first of them begins with the bytes of `prefix`
 unfoldable pub ended_from : List ℕ → List ℕ → List (List ℕ)
-ended_from front [] = []
-ended_from front (b ∷ bs) = cond (b == line_feed) (front ∷ ended_from [] bs) (ended_from (front ++ b ∷ []) bs)
+ended_from prefix [] = []
+ended_from prefix (b ∷ bs) = cond (b == line_feed) (prefix ∷ ended_from [] bs) (ended_from (prefix ++ b ∷ []) bs)
 
 -- the lines of a text that an LF ends
 abbrev pub ended : List ℕ → List (List ℕ)

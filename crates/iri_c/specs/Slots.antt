@@ -16,17 +16,17 @@ use Rattle.iri_c.specs.declared.parts.Slots.{Slots}
 
 -- how many bytes a part has together with its delimiters, of which there are so many
 abbrev pub width : ℕ → Option (List ℕ) → ℕ
-width marks None = 0
-width marks (Some x) = length x + marks
+width delimiters None = 0
+width delimiters (Some x) = length x + delimiters
 
 -- no part stands
 abbrev pub nowhere : Slot
 nowhere = record { offset = 2 ^ 64 - 1; len = 0 }
 
--- a part that begins so many delimiters behind an offset
+-- a part that begins so many delimiters after an offset
 abbrev pub place : ℕ → ℕ → Option (List ℕ) → Slot
-place offset marks None = nowhere
-place offset marks (Some x) = record { offset = offset + marks; len = length x }
+place offset delimiters None = nowhere
+place offset delimiters (Some x) = record { offset = offset + delimiters; len = length x }
 
 -- the bytes of a recomposed authority, and of a recomposed reference (RFC 3986 sections 3.2 and 5.3)
 abbrev pub authority_total : AuthorityParts → ℕ

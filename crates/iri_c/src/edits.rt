@@ -146,17 +146,17 @@ pub extern "C" fn irikit_remove_fragment(
 // A text and the fragment after it.
 #[derive(Drop)]
 struct Fragmented<'a> {
-    front: &'a str,
+    prefix: &'a str,
     fragment: &'a str,
 }
 
 impl Show for Fragmented<'_> {
     ghost use Rattle.std.specs.Prelude.{◌++◌, ◌∷◌};
 
-    ghost text = { λ f. f.front.now ++ 35 ∷ f.fragment.now };
+    ghost text = { λ f. f.prefix.now ++ 35 ∷ f.fragment.now };
 
     fn show<W: TextSink>(&self, sink: &mut W) -> Result<(), Stop> {
-        show_three(sink, &self.front, &"#", &self.fragment)
+        show_three(sink, &self.prefix, &"#", &self.fragment)
     }
 }
 
@@ -170,9 +170,9 @@ fn set_fragment_in<S: Spec>(text: &[u8], fragment: &[u8], out: &mut [u8], told: 
     };
     match RiFragmentStr::<S>::try_from_bytes(fragment) {
         Ok(fragment) => {
-            let front = before_fragment(view);
+            let prefix = before_fragment(view);
             let fragment = fragment.as_str();
-            answer_text(out, &Fragmented { front, fragment }, told)
+            answer_text(out, &Fragmented { prefix, fragment }, told)
         }
         Err(error) => answer_fault(BAD_PART, error.kind(), told),
     }

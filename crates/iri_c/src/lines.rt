@@ -97,7 +97,7 @@ fn answer_lines<S: Spec>(
     let mut written = 0;
     'lines: loop {
         let consumed = input.len() - rest.len();
-        let Some((raw, behind)) = cut_line(rest) else {
+        let Some((raw, after)) = cut_line(rest) else {
             return Batch {
                 consumed,
                 written,
@@ -124,7 +124,7 @@ fn answer_lines<S: Spec>(
             return short;
         }
         written = count;
-        rest = behind;
+        rest = after;
     }
 }
 

@@ -61,24 +61,24 @@ const NO_AUTHORITY: AuthoritySlots = AuthoritySlots {
 };
 
 // How many bytes a part has together with so many bytes of delimiters.
-fn width(marks: usize, part: Option<&str>) -> usize
-    requires { width marks (now_of part) < 2 ^ 64 }
-    ensures { result ≡ width marks (now_of part.entry) }
+fn width(delimiters: usize, part: Option<&str>) -> usize
+    requires { width delimiters (now_of part) < 2 ^ 64 }
+    ensures { result ≡ width delimiters (now_of part.entry) }
 {
     match part {
-        Some(part) => part.len() + marks,
+        Some(part) => part.len() + delimiters,
         None => 0,
     }
 }
 
 // Where a part stands that begins so many bytes of delimiters after this offset.
-fn place(offset: usize, marks: usize, part: Option<&str>) -> Slot
-    requires { offset + width marks (now_of part) < 2 ^ 64 }
-    ensures { result ≡ place offset marks (now_of part.entry) }
+fn place(offset: usize, delimiters: usize, part: Option<&str>) -> Slot
+    requires { offset + width delimiters (now_of part) < 2 ^ 64 }
+    ensures { result ≡ place offset delimiters (now_of part.entry) }
 {
     match part {
         Some(part) => Slot {
-            offset: offset + marks,
+            offset: offset + delimiters,
             len: part.len(),
         },
         None => NOWHERE,

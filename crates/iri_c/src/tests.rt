@@ -71,8 +71,8 @@ fn room_for_each_length(rt: HostRuntime) {
         let status = irikit_canonical(0, 0, b"http://a/b/c/d;p?q", b"../g", room, &mut told);
         assert!(rt; status == if size < 12 { 1 } else { 0 });
         assert!(rt; told == 12);
-        let front = size.min(12);
-        assert!(rt; out.starts_with(&text[..front]) && out[front..].iter().all(|b| *b == b'.'));
+        let prefix = size.min(12);
+        assert!(rt; out.starts_with(&text[..prefix]) && out[prefix..].iter().all(|b| *b == b'.'));
     }
 }
 

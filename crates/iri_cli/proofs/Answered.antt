@@ -12,7 +12,7 @@ use Rattle.iri_text.specs.Reader.{Advances}
 use Rattle.iri_text.specs.declared.streams.reader.LineFault.{LineFault}
 use Rattle.iri_text.specs.declared.streams.reader.LineFault.TheVariants.{Source, LineTooLong as FaultLineTooLong}
 use Rattle.iri_text.specs.declared.streams.reader.LineFault.TheVariants.{InputTooLong as FaultInputTooLong}
-use Rattle.iri_text.proofs.Puts.{Appends-append, Appends-none, front-after, front-longer, room-then, room-longer, room-so}
+use Rattle.iri_text.proofs.Puts.{Appends-append, Appends-none, prefix-after, prefix-longer, room-then, room-longer, room-so}
 use Rattle.iri_cli.specs.run.Ending.{Rules, Ending, answers, answered, IsBaseTaken, ending}
 use Rattle.iri_cli.specs.run.Read.{HasRead, ReadsAll, ReadsSome, ReadsPast, IsGoing}
 use Rattle.iri_cli.specs.run.Run.{outside, Finishes, Decides, StopsShort, RanTo, Ran}
@@ -27,7 +27,7 @@ use Rattle.iri_cli.proofs.Ends.{one_more, one_more_good, first_read, first_lines
 
 -- all of these bytes are a prefix of them
 pub whole_prefix : {a b : Option (List ℕ)} {xs : List ℕ} → Appends a b xs → AppendsPrefix a b xs
-whole_prefix {xs = xs} p = record { front = xs; rest = []; split = append-nil xs; appended = p }
+whole_prefix {xs = xs} p = record { prefix = xs; rest = []; split = append-nil xs; appended = p }
 
 -- what was taken to the end is all
 pub taken_is : (lo ln : Option (List ℕ)) (x taken : List ℕ) → lo ≡ Some x → Consumes lo ln taken → IsAtEnd ln → x ≡ taken
@@ -171,7 +171,7 @@ module _ (stands_at : Answering → Type 0) (start : Answering) (reader0 old new
         by_error AnswerFailed q k = record {
           to = omega (arith, q.1, go.sink_same);
           prefix = λ x told. let h = output x told in
-              subst (AppendsPrefix wo wn) (sym h.1) (front-longer h.0 (front-after out go.writes q.0));
+              subst (AppendsPrefix wo wn) (sym h.1) (prefix-longer h.0 (prefix-after out go.writes q.0));
           source_later = omega (arith, earlier, go.source_later, a.later);
           sink_later = omega (arith, q.2, go.sink_same);
           room = room_of AnswerFailed k;
@@ -188,7 +188,7 @@ module _ (stands_at : Answering → Type 0) (start : Answering) (reader0 old new
           prefix = λ x told.
               let h = output x told in
               subst (AppendsPrefix wo wn) (sym (h.1 ∙ append_assoc out (start.rules.answer start.base go.between new.line) h.0))
-              (front-longer (start.rules.answer start.base go.between new.line ++ h.0)
+              (prefix-longer (start.rules.answer start.base go.between new.line ++ h.0)
               (whole_prefix (subst (λ (w : Option (List ℕ)). Appends wo w out) (sym q.1) go.writes)));
           source_later = omega (arith, earlier, go.source_later, a.later);
           sink_later = omega (arith, q.2, go.sink_same);
@@ -263,7 +263,7 @@ module _ (stands_at : Answering → Type 0) (start : Answering) (reader0 old new
         }
         by_end SinkFailed q f = record {
           to = omega (arith, q.1, go.sink_same);
-          prefix = prefix_of (front-after out go.writes q.0);
+          prefix = prefix_of (prefix-after out go.writes q.0);
           source_later = source;
           sink_later = omega (arith, q.2, go.sink_same);
           room = room_of SinkFailed f;
@@ -293,7 +293,7 @@ module _ (stands_at : Answering → Type 0) (start : Answering) (reader0 old new
         prefix_of : (x : List ℕ) → before ≡ Some x → AppendsPrefix wo wm (ending start.rules x).output
         prefix_of x told =
             let h = first_read start.rules start.base taken before lm old go.between (go.read before first) x told in
-            subst (AppendsPrefix wo wm) (sym h.1) (front-longer h.0 (whole_prefix go.writes))
+            subst (AppendsPrefix wo wm) (sym h.1) (prefix-longer h.0 (whole_prefix go.writes))
 
         decided : (status : ℕ) → ReadsPast start.rules status before ln (start.base ∷ go.between)
             → Decides start.rules status (outside before wo faults ko) (outside ln wm sn km)
@@ -341,7 +341,7 @@ fails_first start reader before left wo wn faults sn ko kn ro rn taken read kept
   prefix = λ x told.
       let h = first_read start.rules start.base taken before left reader [] read x told in
       subst (λ (w : Option (List ℕ)). AppendsPrefix wo w (ending start.rules x).output) (sym kept)
-      (record { front = []; rest = (ending start.rules x).output; split = refl; appended = Appends-none wo });
+      (record { prefix = []; rest = (ending start.rules x).output; split = refl; appended = Appends-none wo });
   source_later = later;
   sink_later = sink;
   room = λ x told. room-longer (ending start.rules x).output (room-so (λ h. absurd h) room);

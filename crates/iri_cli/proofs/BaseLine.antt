@@ -70,7 +70,7 @@ module _ (rules : Rules) where
         → ReadsBase rules lo ln fo fn new base (Err fault)
     gives_fault base fault a written k r = record {
       to = by_fault fault a;
-      prefix = λ x told. record { front = []; rest = (ending rules x).output; split = refl; appended = Appends-none written };
+      prefix = λ x told. record { prefix = []; rest = (ending rules x).output; split = refl; appended = Appends-none written };
       source_later = a.later;
       sink_later = omega arith;
       room = λ x told. room-same r (ending rules x).output (λ _. not_sink fault);

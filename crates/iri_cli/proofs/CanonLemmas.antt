@@ -32,7 +32,7 @@ puts_nothing w f r = record {
   same = refl;
   later = omega arith;
   cause = tt;
-  front = tt;
+  prefix = tt;
   room = room-same r [] (λ _. refl);
 }
 
@@ -45,7 +45,7 @@ closes_nothing at w f r none = subst (λ t. PutsAll w w f f r r (Ok tt) t) (sym 
 pub puts_line : {wo wn : Option (List ℕ)} {fo fn : ℕ} {ro rn : Option ℕ} (good : Bool) (r : Result (Unit {0}) Failed) (text : List ℕ)
     → PutsAll wo wn fo fn ro rn r text → good ≡ is_ok text → PutsLine wo wn fo fn text (told_of good r)
 puts_line good (Ok x) text p e = (p.whole, p.same, e)
-puts_line good (Err f) text p e = (p.front, p.cause, p.later)
+puts_line good (Err f) text p e = (p.prefix, p.cause, p.later)
 
 pub line_room : {wo wn : Option (List ℕ)} {fo fn : ℕ} {ro rn : Option ℕ} (good : Bool) (r : Result (Unit {0}) Failed) (text : List ℕ)
     → PutsAll wo wn fo fn ro rn r text → KeepsRoom ro rn text (told_of good r ≢ Err SinkFailed)

@@ -22,7 +22,7 @@ pub ends_in_memory : (rules : Rules) (lo ln wo : Option (List ℕ)) (fo fn ko : 
     → Ran rules (outside lo wo fo ko) (outside ln wo fn ko) ro ro Memory
 ends_in_memory rules lo ln wo fo fn ko ro takes later = record {
   to = record { takes_memory = takes; whole = []; first = λ x told. (_, refl); base_taken = tt; writes = Appends-none wo; sink = refl };
-  prefix = λ x told. record { front = []; rest = (ending rules x).output; split = refl; appended = Appends-none wo };
+  prefix = λ x told. record { prefix = []; rest = (ending rules x).output; split = refl; appended = Appends-none wo };
   source_later = later;
   sink_later = omega arith;
   room = λ x told. room-same ro (ending rules x).output (λ _ h. cc h);

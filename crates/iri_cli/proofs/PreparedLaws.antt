@@ -5,7 +5,7 @@ use Rattle.std.specs.Prelude.{is_some, IsNone, IsSome}
 use Rattle.iri_grammar.specs.Classes.{Tests, IsSpec}
 use Rattle.iri_grammar.specs.Parts.{Parts, Fits, Splits, IsAbsolute, path_rules, recompose, is_empty, starts_with_slash, scheme_text}
 use Rattle.iri_grammar.specs.Parts.{authority_text}
-use Rattle.iri_grammar.specs.Cut.{marked}
+use Rattle.iri_grammar.specs.Cut.{delimited}
 use Rattle.iri_grammar.specs.Authority.{is_authority}
 use Rattle.iri_grammar.specs.Components.{if_there}
 use Rattle.iri_grammar.specs.Split.{split_of}
@@ -203,7 +203,7 @@ prepared_short s base k b =
 -- ---- what is written
 abbrev pub shown_text : Tests → List ℕ → List ℕ
 shown_text s base = prefix_in s true (split_of base)
-    ++ (prepared_path (is_some (split_of base).authority) (split_of base).path ++ marked 63 (split_of base).query)
+    ++ (prepared_path (is_some (split_of base).authority) (split_of base).path ++ delimited 63 (split_of base).query)
 
 pub prepared_text : (s : Tests) (base : List ℕ) → IsSpec s → IsAbsolute s base → shown_text s base ≡ prepared s base
 unfolding prepared recompose normal_form form
@@ -213,9 +213,9 @@ prepared_text s base k b =
     let scheme = scheme_text (normal_form s t).scheme in
     let authority = authority_text (normal_form s t).authority in
     let path = prepared_path (is_some t.authority) t.path in
-    append_assoc scheme authority (path ++ marked 63 t.query)
+    append_assoc scheme authority (path ++ delimited 63 t.query)
     ∙ ap (λ q. scheme ++ (authority ++ (path ++ q)))
-    (sym (ap (λ f. marked 63 t.query ++ marked 35 f) none ∙ append-nil (marked 63 t.query)))
+    (sym (ap (λ f. delimited 63 t.query ++ delimited 35 f) none ∙ append-nil (delimited 63 t.query)))
   where
     no_fragment : (o : Option (List ℕ)) → IsNone o → o ≡ None
     no_fragment None i = refl

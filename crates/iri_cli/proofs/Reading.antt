@@ -247,7 +247,7 @@ module _ (rules : Rules) where
         from_open : (old.ended ≡ false) × IsOpen rules go.given whole → ReadsPast rules 7 lo ln whole
         from_open o =
             let t = a.says.1 in
-            let l = last_of t.front rules.line_limit (omega (arith, t.long, a.line_limit, is.line_limit)) t.whole in
+            let l = last_of t.prefix rules.line_limit (omega (arith, t.long, a.line_limit, is.line_limit)) t.whole in
             past_prefix 7 l.prefix (l.last ∷ t.rest) o.1 l.whole a.moved
             (sym t.split ∙ ap (λ (b : List ℕ). b ++ t.rest) l.split ∙ append_assoc l.prefix (l.last ∷ []) t.rest) a.moves
             (λ more. past_long rules (length go.given) l.last l.prefix (t.rest ++ more) l.whole l.other l.size
@@ -272,13 +272,13 @@ module _ (rules : Rules) where
         from_open : (old.ended ≡ false) × IsOpen rules go.given whole → ReadsPast rules 8 lo ln whole
         from_open o =
             let t = a.says.1 in
-            past_prefix 8 t.front (t.last ∷ []) o.1 t.whole a.moved (sym t.split) a.moves
-            (λ more. past_over rules (length go.given) t.last t.front more t.whole (omega (arith, t.short, a.line_limit, is.line_limit))
+            past_prefix 8 t.prefix (t.last ∷ []) o.1 t.whole a.moved (sym t.split) a.moves
+            (λ more. past_over rules (length go.given) t.last t.prefix more t.whole (omega (arith, t.short, a.line_limit, is.line_limit))
             (omega (
               arith,
               t.over,
               ap length t.split,
-              length-append t.front (t.last ∷ []),
+              length-append t.prefix (t.last ∷ []),
               a.input_limit,
               is.input_limit,
               a.counted,

@@ -138,7 +138,7 @@ entries_left es i e =
 said_of : (rules : Rules) (wo wn : Option (List ℕ)) (fo fn : ℕ) (ro rn : Option ℕ) (good : Bool) (r : Result (Unit {0}) Failed)
     (text : List ℕ) → PutsAll wo wn fo fn ro rn r text → good ≡ rules.is_good text → PutsAnswer rules wo wn fo fn text (told_of good r)
 said_of rules wo wn fo fn ro rn good (Ok x) text p e = (p.whole, p.same, e)
-said_of rules wo wn fo fn ro rn good (Err f) text p e = (p.front, p.cause, p.later)
+said_of rules wo wn fo fn ro rn good (Err f) text p e = (p.prefix, p.cause, p.later)
 
 on_told : {X : Type 0} (good : Bool) (r : Result (Unit {0}) Failed) → X → OnOk (told_of good r) X
 on_told good (Ok x) h = h

@@ -52,7 +52,7 @@ replies {wo} {wn} {fo} {fn} good r text p e = record { puts = by r p; room = lin
   where
     by : {ro rn : Option ℕ} (r : Result (Unit {0}) Failed) → PutsAll wo wn fo fn ro rn r text → Replies wo wn fo fn text (told_of good r)
     by (Ok x) p = (p.whole, p.same, e)
-    by (Err f) p = (p.front, p.cause, p.later)
+    by (Err f) p = (p.prefix, p.cause, p.later)
 
 pub no_reply : (wo : Option (List ℕ)) (fo : ℕ) (ro : Option ℕ) → PutsReply wo wo fo fo ro ro [] (Ok true)
 no_reply wo fo ro = record { puts = (Appends-none wo, refl, refl); room = room-same ro [] (λ _ h. cc h) }

@@ -37,7 +37,7 @@ fn answers<I: Source>(
     let mut sink = MemorySink::new(&mut room, sink_fails);
     let ended = run(rt.alloc(), &list, source, &mut sink);
     // Where allocation failed, whole answer lines were written.
-    if ended == MEMORY && is_front_of_lines(sink.written(), output) {
+    if ended == MEMORY && is_prefix_of_lines(sink.written(), output) {
         return Err(AllocError.into());
     }
     Ok(ended == status && sink.written() == output)
@@ -52,8 +52,8 @@ fn unless_memory(status: u8) -> Result<u8, AllocError> {
 }
 
 // Whether these are the first lines of others.
-fn is_front_of_lines(front: &[u8], all: &[u8]) -> bool {
-    all.starts_with(front) && (front.is_empty() || front.ends_with(b"\n"))
+fn is_prefix_of_lines(prefix: &[u8], all: &[u8]) -> bool {
+    all.starts_with(prefix) && (prefix.is_empty() || prefix.ends_with(b"\n"))
 }
 
 // The same over plain bytes.
@@ -228,9 +228,9 @@ fn notices(rt: HostRuntime) -> Result<(), Fail> {
 }
 
 // What is before the line, then so many times `a`.
-fn long_line(rt: &HostRuntime, front: &[u8], count: usize) -> Result<Vec<u8>, Fail> {
+fn long_line(rt: &HostRuntime, prefix: &[u8], count: usize) -> Result<Vec<u8>, Fail> {
     let mut input = Vec::new(rt.alloc());
-    input.extend_from_slice(front)?;
+    input.extend_from_slice(prefix)?;
     input.extend_from_slice(&vec![in rt.alloc(); b'a'; count]?)?;
     Ok(input)
 }

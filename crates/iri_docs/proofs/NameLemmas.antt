@@ -14,7 +14,7 @@ shown-kept (held.String t) = refl
 shown-kept (held.List l) = refl
 shown-kept (held.Assoc l) = refl
 
--- one more variable behind others
+-- one more variable after others
 pub value_among-append : (before : ShownValue) (es : List (List ℕ × ShownValue)) (e : List ℕ × ShownValue) (n : List ℕ)
     → value_among before (es ++ e ∷ []) n ≡ (if bytes_eq n e.0 then e.1 else value_among before es n)
 value_among-append before [] e n = refl

@@ -24,7 +24,7 @@ abbrev pub result_and_then : {A B : Type 0} → (A → Result B DocError) → Re
 result_and_then f (Ok x) = f x
 result_and_then f (Err e) = Err e
 
--- an answer and those behind it: all of them, or the first fault
+-- an answer and those after it: all of them, or the first fault
 abbrev pub followed : {A : Type 0} → Result A DocError → Result (List A) DocError → Result (List A) DocError
 followed (Ok x) rest = result_map (λ xs. x ∷ xs) rest
 followed (Err e) rest = Err e

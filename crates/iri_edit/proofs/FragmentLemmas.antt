@@ -6,7 +6,7 @@ use Rattle.std.proofs.lemmas.List.{append-nil}
 use Rattle.std.proofs.lemmas.Str.{IsCharBoundary-end}
 use Rattle.iri_grammar.specs.Classes.{Tests, IsSpec}
 use Rattle.iri_grammar.specs.Components.{is_fragment}
-use Rattle.iri_grammar.specs.Cut.{before, behind, marked}
+use Rattle.iri_grammar.specs.Cut.{before, after, delimited}
 use Rattle.iri_grammar.proofs.CutLaws.{joined}
 use Rattle.iri_grammar.proofs.FaultLaws.{splits_where_no_fault}
 use Rattle.iri_grammar.proofs.KindLaws.{splits_without_fragment}
@@ -25,36 +25,36 @@ module _ (s : Tests) (k : IsSpec s) (t : List ℕ) (h : reference_fault s t ≡ 
   unfolding with_fragment
   fragment-removed = (splits_without_fragment s k t (split_of t) (splits_where_no_fault s t h)).text
 
-  behind-front : (f : List ℕ) → with_fragment t (Some f) ≡ with_fragment t None ++ 35 ∷ f
+  after-prefix : (f : List ℕ) → with_fragment t (Some f) ≡ with_fragment t None ++ 35 ∷ f
   unfolding with_fragment recompose
-  behind-front f = regroup (scheme_text (split_of t).scheme) (authority_text (split_of t).authority) (split_of t).path
-      (marked 63 (split_of t).query) (35 ∷ f)
+  after-prefix f = regroup (scheme_text (split_of t).scheme) (authority_text (split_of t).authority) (split_of t).path
+      (delimited 63 (split_of t).query) (35 ∷ f)
     where
       regroup : (a b c d e : List ℕ) → a ++ (b ++ (c ++ (d ++ e))) ≡ (a ++ (b ++ (c ++ (d ++ [])))) ++ e
       regroup a b c d e = simp (append_assoc, append-nil)
 
   pub fragment-put : (f : List ℕ) → with_fragment t (Some f) ≡ before 35 t ++ 35 ∷ f
-  fragment-put f = behind-front f ∙ ap (λ z. z ++ 35 ∷ f) fragment-removed
+  fragment-put f = after-prefix f ∙ ap (λ z. z ++ 35 ∷ f) fragment-removed
 
 pub fragment-boundary : (t : List ℕ) → IsCharBoundary t (length (before 35 t))
-fragment-boundary t = at (behind 35 t) (joined 35 t)
+fragment-boundary t = at (after 35 t) (joined 35 t)
   where
-    at : (o : Option (List ℕ)) → before 35 t ++ marked 35 o ≡ t → IsCharBoundary t (length (before 35 t))
+    at : (o : Option (List ℕ)) → before 35 t ++ delimited 35 o ≡ t → IsCharBoundary t (length (before 35 t))
     at None e = subst (λ z. IsCharBoundary t (length z)) (sym (sym (append-nil (before 35 t)) ∙ e)) (IsCharBoundary-end t)
     at (Some x) e = ascii-boundary t (before 35 t) x 35 (omega arith) e
 
 pub fragment-place : (t : List ℕ) → IsFragmentAt t (length (before 35 t)) (length t)
 fragment-place t =
-    let all : before 35 t ++ (marked 35 (behind 35 t) ++ []) ≡ t =
-    ap (λ z. before 35 t ++ z) (append-nil (marked 35 (behind 35 t))) ∙ joined 35 t in
-    let n : length (before 35 t) + length (marked 35 (behind 35 t)) ≡ length t =
-    sym (length-append (before 35 t) (marked 35 (behind 35 t))) ∙ ap length (joined 35 t) in
+    let all : before 35 t ++ (delimited 35 (after 35 t) ++ []) ≡ t =
+    ap (λ z. before 35 t ++ z) (append-nil (delimited 35 (after 35 t))) ∙ joined 35 t in
+    let n : length (before 35 t) + length (delimited 35 (after 35 t)) ≡ length t =
+    sym (length-append (before 35 t) (delimited 35 (after 35 t))) ∙ ap length (joined 35 t) in
     record {
       ordered = omega (arith, n);
       at_end = refl;
       low = fragment-boundary t;
       high = IsCharBoundary-end t;
-      replaces = λ new. spliced-at (before 35 t) (marked 35 (behind 35 t)) [] new t (length (before 35 t)) (length t) all refl n
+      replaces = λ new. spliced-at (before 35 t) (delimited 35 (after 35 t)) [] new t (length (before 35 t)) (length t) all refl n
           ∙ ap (λ z. before 35 t ++ z) (append-nil new);
     }
 
@@ -65,9 +65,9 @@ spliced-end t new n e =
     spliced-at t [] [] new t n n all (sym e) (omega arith) ∙ ap (λ z. t ++ z) (append-nil new)
 
 -- a fragment put after a text that ends with a number sign
-pub put-behind : (s : Tests) → IsSpec s → (t : List ℕ) → reference_fault s t ≡ None → (signed f : List ℕ) (n : ℕ)
+pub put-after : (s : Tests) → IsSpec s → (t : List ℕ) → reference_fault s t ≡ None → (signed f : List ℕ) (n : ℕ)
     → signed ≡ before 35 t ++ 35 ∷ [] → n ≡ length signed → spliced signed n n f ≡ with_fragment t (Some f)
-put-behind s k t h signed f n e l = spliced-end signed f n l
+put-after s k t h signed f n e l = spliced-end signed f n l
     ∙ (ap (λ z. z ++ f) e ∙ (append_assoc (before 35 t) (35 ∷ []) f ∙ sym (fragment-put s k t h f)))
 
 pub empty_fragment : (s : Tests) → is_fragment s [] ≡ true

@@ -4,7 +4,7 @@ use Rattle.std.specs.Prelude.{not, ◌&&◌}
 use Rattle.std.proofs.lemmas.List.{append-nil}
 use Rattle.iri_grammar.specs.Authority.{authority_parts, recompose_authority}
 use Rattle.iri_grammar.proofs.AuthorityLaws.{authority_recomposed}
-use Rattle.iri_grammar.specs.Cut.{before, behind, lacks, marked}
+use Rattle.iri_grammar.specs.Cut.{before, after, lacks, delimited}
 use Rattle.iri_grammar.proofs.CutLaws.{joined, by_test}
 use Rattle.iri_grammar.specs.Parts.{recompose}
 use Rattle.iri_grammar.specs.Split.{split_of}
@@ -13,18 +13,18 @@ use Rattle.iri_edit.specs.Edited.{edited, edited_authority}
 use Rattle.iri_edit.specs.Password.{password_of, password_in, userinfo_in, user_with, user_alone, where_userinfo, with_userinfo}
 use Rattle.iri_edit.specs.Password.{with_password, without_password}
 
-lacking : (u : List ℕ) → behind 58 u ≡ None → lacks 58 u ≡ true
+lacking : (u : List ℕ) → after 58 u ≡ None → lacks 58 u ≡ true
 lacking [] h = refl
-lacking (x ∷ xs) h = by_test x 58 (λ b. cond b (Some xs) (behind 58 xs) ≡ None → (not b && lacks 58 xs) ≡ true) (λ _ k. cc)
+lacking (x ∷ xs) h = by_test x 58 (λ b. cond b (Some xs) (after 58 xs) ≡ None → (not b && lacks 58 xs) ≡ true) (λ _ k. cc)
     (λ _ k. lacking xs k) h
 
-user_with-same : (w u : List ℕ) → behind 58 u ≡ None → user_with w u ≡ u
+user_with-same : (w u : List ℕ) → after 58 u ≡ None → user_with w u ≡ u
 user_with-same w u h = ap (λ b. cond b u (before 58 u ++ 58 ∷ w)) (lacking u h)
 
-user_alone-same : (u : List ℕ) → behind 58 u ≡ None → user_alone u ≡ u
-user_alone-same u h = sym (append-nil (before 58 u)) ∙ (ap (λ o. before 58 u ++ marked 58 o) (sym h) ∙ joined 58 u)
+user_alone-same : (u : List ℕ) → after 58 u ≡ None → user_alone u ≡ u
+user_alone-same u h = sym (append-nil (before 58 u)) ∙ (ap (λ o. before 58 u ++ delimited 58 o) (sym h) ∙ joined 58 u)
 
-module _ (f : List ℕ → List ℕ) (same : (u : List ℕ) → behind 58 u ≡ None → f u ≡ u) where
+module _ (f : List ℕ → List ℕ) (same : (u : List ℕ) → after 58 u ≡ None → f u ≡ u) where
   same-userinfo : (o : Option (List ℕ)) → password_in o ≡ None → where_userinfo f o ≡ o
   same-userinfo None h = refl
   same-userinfo (Some u) h = ap Some (same u h)

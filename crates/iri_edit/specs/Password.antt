@@ -1,7 +1,7 @@
 -- The password of a whole text: what follows the first `:` of its userinfo (RFC 3986 section 3.2.1).
 use Rattle.std.specs.Prelude.{ℕ, cond, List, [], ◌∷◌, ◌++◌, Option, Some, None}
 use Rattle.iri_grammar.specs.Authority.{AuthorityParts, authority_parts}
-use Rattle.iri_grammar.specs.Cut.{before, behind, lacks}
+use Rattle.iri_grammar.specs.Cut.{before, after, lacks}
 use Rattle.iri_grammar.specs.Split.{split_of}
 use Rattle.iri_edit.specs.Edited.{edited}
 use Rattle.iri_grammar.specs.Characters.{colon}
@@ -14,7 +14,7 @@ userinfo_in (Some a) = (authority_parts a).userinfo
 -- what follows the first colon of a userinfo that may stand
 abbrev pub password_in : Option (List ℕ) → Option (List ℕ)
 password_in None = None
-password_in (Some u) = behind colon u
+password_in (Some u) = after colon u
 
 -- the password of a text, where its userinfo has a colon
 unfoldable pub password_of : List ℕ → Option (List ℕ)

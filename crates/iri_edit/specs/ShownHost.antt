@@ -6,7 +6,7 @@ use Rattle.iri_edit.specs.declared.shown_host.WithHost.{WithHost}
 
 -- what is shown
 abbrev pub shown : WithHost → List ℕ
-shown w = w.front.now ++ (w.host.now ++ w.back.now)
+shown w = w.prefix.now ++ (w.host.now ++ w.back.now)
 
 -- the text is shown with the new host exactly where its host is replaced
 abbrev pub HostShown : Tests → Bool → List ℕ → List ℕ → Option WithHost → Type 0

@@ -4,4 +4,4 @@ use Rattle.iri_edit.specs.declared.shown_removal.WithoutPassword.{WithoutPasswor
 
 -- what is shown
 abbrev pub shown : WithoutPassword → List ℕ
-shown w = w.front.now ++ w.back.now
+shown w = w.prefix.now ++ w.back.now

@@ -9,7 +9,7 @@ ghost use Rattle.iri_grammar.specs.OptionalSlices.{now_of};
 ghost use Rattle.iri_text.specs.Shown.{Shows};
 
 use crate::build_kind::{BuildKind, Host, Port, Scheme, Userinfo};
-use crate::recomposed::{keeps_rules, normal_text, or_nothing, show_ended, show_marked};
+use crate::recomposed::{keeps_rules, normal_text, or_nothing, show_delimited, show_ended};
 use iri_grammar::error::{Error, ErrorKind};
 use iri_grammar::spec::Spec;
 use iri_grammar::validate;
@@ -368,7 +368,7 @@ impl<'a> Builder<'a> {
         sink.put("//")?;
         show_ended(sink, self.userinfo, "@", b'@')?;
         sink.put(or_nothing(self.host))?;
-        show_marked(sink, ":", b':', self.port)
+        show_delimited(sink, ":", b':', self.port)
     }
 
     // Whether the normal form is asked for, and a scheme is set.
@@ -420,8 +420,8 @@ impl Show for Builder<'_> {
         show_ended(sink, self.scheme, ":", b':')?;
         self.show_authority(sink)?;
         sink.put(self.path)?;
-        show_marked(sink, "?", b'?', self.query)?;
-        show_marked(sink, "#", b'#', self.fragment)
+        show_delimited(sink, "?", b'?', self.query)?;
+        show_delimited(sink, "#", b'#', self.fragment)
     }
 }
 

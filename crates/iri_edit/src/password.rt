@@ -85,8 +85,8 @@ fn show_masked<S: Spec, W: TextSink>(
     let Some((colon, end)) = password_at(reference) else {
         return sink.put(text);
     };
-    let (front, back) = around(text, colon + 1, end);
-    show_two(sink, &front, &back)
+    let (prefix, back) = around(text, colon + 1, end);
+    show_two(sink, &prefix, &back)
 }
 
 // Shows a reference with another text in place of its password.
@@ -102,8 +102,8 @@ fn show_replaced<S: Spec, D: Show, W: TextSink>(
     let Some((colon, end)) = password_at(reference) else {
         return sink.put(text);
     };
-    let (front, back) = around(text, colon + 1, end);
-    show_three(sink, &front, alt, &back)
+    let (prefix, back) = around(text, colon + 1, end);
+    show_three(sink, &prefix, alt, &back)
 }
 
 impl<'a, S: Spec, K: WholeKind> PasswordMasked<'a, View<'a, S, K>> {

@@ -48,8 +48,8 @@ pub(crate) fn password_at<S: Spec>(reference: RiReferenceStr<'_, S>) -> Option<(
     let Some(userinfo) = AuthoritySpan::of::<S>(authority).userinfo() else {
         return None;
     };
-    let (user, behind) = cut(userinfo, b':');
-    let Some(password) = behind else {
+    let (user, after) = cut(userinfo, b':');
+    let Some(password) = after else {
         return None;
     };
     let colon = start + user.len();
@@ -82,7 +82,7 @@ pub(crate) fn host_at<'a, S: Spec>(reference: RiReferenceStr<'a, S>) -> Option<(
 pub(crate) fn around(text: &str, start: usize, end: usize) -> (&str, &str)
     requires low { IsCharBoundary text.now start }
     requires high { IsCharBoundary text.now end }
-    ensures front { result.0.now ≡ take start text.now }
+    ensures prefix { result.0.now ≡ take start text.now }
     ensures back { result.1.now ≡ drop end text.now }
 {
     (&text[..start], &text[end..])

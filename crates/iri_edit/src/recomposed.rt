@@ -3,7 +3,7 @@ ghost use Rattle.std.specs.Prelude.{◌≡◌, [], ◌∷◌, ◌||◌, IfOk, No
 ghost use Rattle.iri_edit.specs.Built.{or_empty};
 ghost use Rattle.iri_edit.specs.inside.Rules.{ended, rules_by};
 ghost use Rattle.iri_grammar.specs.Authority.{recompose_authority};
-ghost use Rattle.iri_grammar.specs.Cut.{marked};
+ghost use Rattle.iri_grammar.specs.Cut.{delimited};
 ghost use Rattle.iri_grammar.specs.Parts.{recompose, starts_with_slash, starts_with_slashes, is_empty};
 ghost use Rattle.iri_grammar.specs.Split.{split_of};
 ghost use Rattle.iri_grammar.specs.OptionalSlices.{now_of};
@@ -22,33 +22,33 @@ use std::alloc::{AllocError, Global};
 pub(crate) fn show_ended<W: TextSink>(
     sink: &mut W,
     part: Option<&str>,
-    mark: &str,
+    delimiter: &str,
     code: u8,
 ) -> Result<(), Stop>
-    requires { mark.now ≡ code ∷ [] }
+    requires { delimiter.now ≡ code ∷ [] }
     ensures { Shows W.puts W.halts W.stops sink.old (ended code (now_of part.entry)) sink.new result }
 {
     let Some(part) = part else {
         return Ok(());
     };
     sink.put(part)?;
-    sink.put(mark)
+    sink.put(delimiter)
 }
 
 // A delimiter and the part after it, where there is one.
-pub(crate) fn show_marked<W: TextSink>(
+pub(crate) fn show_delimited<W: TextSink>(
     sink: &mut W,
-    mark: &str,
+    delimiter: &str,
     code: u8,
     part: Option<&str>,
 ) -> Result<(), Stop>
-    requires { mark.now ≡ code ∷ [] }
-    ensures { Shows W.puts W.halts W.stops sink.old (marked code (now_of part.entry)) sink.new result }
+    requires { delimiter.now ≡ code ∷ [] }
+    ensures { Shows W.puts W.halts W.stops sink.old (delimited code (now_of part.entry)) sink.new result }
 {
     let Some(part) = part else {
         return Ok(());
     };
-    sink.put(mark)?;
+    sink.put(delimiter)?;
     sink.put(part)
 }
 

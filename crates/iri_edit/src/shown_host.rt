@@ -12,7 +12,7 @@ use iri_types::view::RiReferenceStr;
 /// A text that is shown with another host, without memory.
 #[derive(Clone, Copy)]
 pub struct WithHost<'a> {
-    front: &'a str,
+    prefix: &'a str,
     host: &'a str,
     back: &'a str,
 }
@@ -23,7 +23,7 @@ impl Show for WithHost<'_> {
     ghost text = { shown };
 
     fn show<W: TextSink>(&self, sink: &mut W) -> Result<(), Stop> {
-        show_three(sink, &self.front, &self.host, &self.back)
+        show_three(sink, &self.prefix, &self.host, &self.back)
     }
 }
 
@@ -41,9 +41,9 @@ fn with_other_host<'a, S: Spec>(
     if !may_replace::<S>(host, new_host, names_only) {
         return None;
     }
-    let (front, back) = around(reference.as_str(), start, start + host.len());
+    let (prefix, back) = around(reference.as_str(), start, start + host.len());
     Some(WithHost {
-        front,
+        prefix,
         host: new_host,
         back,
     })

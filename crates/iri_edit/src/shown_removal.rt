@@ -12,7 +12,7 @@ use iri_types::view::RiReferenceStr;
 /// A text that is shown without its password and the colon before it, without memory.
 #[derive(Clone, Copy)]
 pub struct WithoutPassword<'a> {
-    front: &'a str,
+    prefix: &'a str,
     back: &'a str,
 }
 
@@ -22,7 +22,7 @@ impl Show for WithoutPassword<'_> {
     ghost text = { shown };
 
     fn show<W: TextSink>(&self, sink: &mut W) -> Result<(), Stop> {
-        show_two(sink, &self.front, &self.back)
+        show_two(sink, &self.prefix, &self.back)
     }
 }
 
@@ -42,10 +42,10 @@ pub fn without_password<'a, S: Spec>(reference: RiReferenceStr<'a, S>) -> Withou
     let text = reference.as_str();
     let Some((colon, end)) = password_at(reference) else {
         return WithoutPassword {
-            front: text,
+            prefix: text,
             back: "",
         };
     };
-    let (front, back) = around(text, colon, end);
-    WithoutPassword { front, back }
+    let (prefix, back) = around(text, colon, end);
+    WithoutPassword { prefix, back }
 }

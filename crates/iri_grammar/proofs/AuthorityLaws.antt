@@ -6,8 +6,8 @@ use Rattle.std.specs.Char.{is_ascii_digit}
 use Rattle.std.proofs.Math.Bool.{and-false}
 use Rattle.iri_grammar.specs.Classes.{Tests, IsSpec, userinfo_char, reg_name_char, is_ascii_userinfo, is_ascii_reg_name}
 use Rattle.iri_grammar.specs.Classes.{is_ascii_unreserved, is_sub_delim}
-use Rattle.iri_grammar.specs.Cut.{before, behind, lacks, marked}
-use Rattle.iri_grammar.proofs.CutLaws.{both, joined, before-marked, behind-marked, lacks-append, lacks-other, all-lacks}
+use Rattle.iri_grammar.specs.Cut.{before, after, lacks, delimited}
+use Rattle.iri_grammar.proofs.CutLaws.{both, joined, before-delimited, after-delimited, lacks-append, lacks-other, all-lacks}
 use Rattle.iri_grammar.specs.Components.{is_userinfo, is_port, if_there}
 use Rattle.iri_grammar.specs.IpLiteral.{is_end, is_ip_literal}
 use Rattle.iri_grammar.specs.Ipv6Test.{is_ipv6}
@@ -18,7 +18,7 @@ use Rattle.iri_grammar.specs.Authority.{after_userinfo, host_of, port_of, is_aut
 use Rattle.iri_grammar.proofs.AuthorityTexts.{over_text-lacks, whole, port-digits}
 use Rattle.iri_grammar.proofs.LiteralChars.{is_literal_char, ip_literal-chars}
 
--- ---- the host has no `@`, and no colon with only digits behind it
+-- ---- the host has no `@`, and no colon with only digits after it
 at_apart : (s : Tests) → IsSpec s → (userinfo_char s 64 ≡ false) × (reg_name_char s 64 ≡ false) × (reg_name_char s 58 ≡ false)
 unfolding userinfo_char reg_name_char is_ascii_userinfo is_ascii_reg_name is_ascii_unreserved is_sub_delim
 at_apart s k = (rw (k.ucs_ascii 64 (omega arith)) refl, rw (k.ucs_ascii 64 (omega arith)) refl, rw (k.ucs_ascii 58 (omega arith)) refl)
@@ -61,9 +61,9 @@ no_colon (x ∷ xs) t =
 literal_end : (h : List ℕ) → is_ip_literal h ≡ true → (b : List ℕ) × (b ++ 93 ∷ [] ≡ h)
 literal_end [] t = cc
 literal_end (x ∷ xs) t =
-    let one = both (x == 91 && is_end (behind 93 xs)) (is_ipv6 (before 93 xs) || is_ipvfuture (before 93 xs)) t in
-    let two = both (x == 91) (is_end (behind 93 xs)) one.0 in
-    (x ∷ before 93 xs, ap (λ ys. x ∷ ys) (ap (λ o. before 93 xs ++ marked 93 o) (sym (ended (behind 93 xs) two.1)) ∙ joined 93 xs))
+    let one = both (x == 91 && is_end (after 93 xs)) (is_ipv6 (before 93 xs) || is_ipvfuture (before 93 xs)) t in
+    let two = both (x == 91) (is_end (after 93 xs)) one.0 in
+    (x ∷ before 93 xs, ap (λ ys. x ∷ ys) (ap (λ o. before 93 xs ++ delimited 93 o) (sym (ended (after 93 xs) two.1)) ∙ joined 93 xs))
   where
     ended : (o : Option (List ℕ)) → is_end o ≡ true → o ≡ Some []
     ended None e = cc
@@ -84,51 +84,51 @@ host_then_port (x ∷ h) d t =
     let rest = not_digits h 58 d refl in
     (rw (rest, and-false (x == 58)) (ap (λ ys. x ∷ ys) r.0), rw (rest, and-false (x == 58)) r.1)
 
-nothing_behind : (h : List ℕ) → h ++ [] ≡ h
-nothing_behind [] = refl
-nothing_behind (x ∷ xs) = ap (λ ys. x ∷ ys) (nothing_behind xs)
+nothing_after : (h : List ℕ) → h ++ [] ≡ h
+nothing_after [] = refl
+nothing_after (x ∷ xs) = ap (λ ys. x ∷ ys) (nothing_after xs)
 
 host_port : (s : Tests) → IsSpec s → (h : List ℕ) (p : Option (List ℕ)) → is_host s h ≡ true → if_there is_port p ≡ true
-    → (host_of (h ++ marked 58 p) ≡ h) × (port_of (h ++ marked 58 p) ≡ p)
-host_port s k h None t d = subst (λ z. (host_of z ≡ h) × (port_of z ≡ None)) (sym (nothing_behind h)) (host_alone s k h t)
+    → (host_of (h ++ delimited 58 p) ≡ h) × (port_of (h ++ delimited 58 p) ≡ p)
+host_port s k h None t d = subst (λ z. (host_of z ≡ h) × (port_of z ≡ None)) (sym (nothing_after h)) (host_alone s k h t)
 host_port s k h (Some p) t d = host_then_port h p d
 
-port_no_at : (p : Option (List ℕ)) → if_there is_port p ≡ true → lacks 64 (marked 58 p) ≡ true
+port_no_at : (p : Option (List ℕ)) → if_there is_port p ≡ true → lacks 64 (delimited 58 p) ≡ true
 port_no_at None d = refl
 port_no_at (Some p) d = lacks-other 64 58 p refl (all-lacks is_ascii_digit 64 p refl d)
 
 -- ---- the reading
-no_userinfo : (t : List ℕ) → lacks 64 t ≡ true → behind 64 t ≡ None
-no_userinfo t l = sym (ap (behind 64) (nothing_behind t)) ∙ behind-marked 64 t None l
+no_userinfo : (t : List ℕ) → lacks 64 t ≡ true → after 64 t ≡ None
+no_userinfo t l = sym (ap (after 64) (nothing_after t)) ∙ after-delimited 64 t None l
 
 read_back : (s : Tests) → IsSpec s → (u : Option (List ℕ)) (h : List ℕ) (p : Option (List ℕ)) → if_there (is_userinfo s) u ≡ true
     → is_host s h ≡ true → if_there is_port p ≡ true
-    → authority_parts (userinfo_text u ++ (h ++ marked 58 p)) ≡ record { userinfo = u; host = h; port = p }
+    → authority_parts (userinfo_text u ++ (h ++ delimited 58 p)) ≡ record { userinfo = u; host = h; port = p }
 unfolding authority_parts
 read_back s k None h p f t d =
-    let rest = h ++ marked 58 p in
-    let gone = no_userinfo rest (lacks-append 64 h (marked 58 p) (host_no_at s k h t) (port_no_at p d)) in
+    let rest = h ++ delimited 58 p in
+    let gone = no_userinfo rest (lacks-append 64 h (delimited 58 p) (host_no_at s k h t) (port_no_at p d)) in
     let r = host_port s k h p t d in
     rw (gone, r.0, r.1) refl
 read_back s k (Some u) h p f t d =
-    let rest = h ++ marked 58 p in
+    let rest = h ++ delimited 58 p in
     let plain = over_text-lacks (userinfo_char s) 64 u (omega arith) (at_apart s k).0 refl refl f in
-    let front = before-marked 64 u (Some rest) plain in
-    let back = behind-marked 64 u (Some rest) plain in
+    let prefix = before-delimited 64 u (Some rest) plain in
+    let back = after-delimited 64 u (Some rest) plain in
     let r = host_port s k h p t d in
-    rw (append_assoc u (64 ∷ []) rest, front, back, r.0, r.1) refl
+    rw (append_assoc u (64 ∷ []) rest, prefix, back, r.0, r.1) refl
 
 -- of a name and a port
 name_port : (h : List ℕ) (p : Option (List ℕ)) → lacks 58 h ≡ true → if_there is_port p ≡ true
-    → (host_of (h ++ marked 58 p) ≡ h) × (port_of (h ++ marked 58 p) ≡ p)
-name_port h None c d = subst (λ z. (host_of z ≡ h) × (port_of z ≡ None)) (sym (nothing_behind h)) (no_colon h c)
+    → (host_of (h ++ delimited 58 p) ≡ h) × (port_of (h ++ delimited 58 p) ≡ p)
+name_port h None c d = subst (λ z. (host_of z ≡ h) × (port_of z ≡ None)) (sym (nothing_after h)) (no_colon h c)
 name_port h (Some p) c d = host_then_port h p d
 
 pub name_parts : (h : List ℕ) (p : Option (List ℕ)) → lacks 64 h ≡ true → lacks 58 h ≡ true → if_there is_port p ≡ true
-    → authority_parts (h ++ marked 58 p) ≡ record { userinfo = None; host = h; port = p }
+    → authority_parts (h ++ delimited 58 p) ≡ record { userinfo = None; host = h; port = p }
 unfolding authority_parts
 name_parts h p a c d =
-    let gone = no_userinfo (h ++ marked 58 p) (lacks-append 64 h (marked 58 p) a (port_no_at p d)) in
+    let gone = no_userinfo (h ++ delimited 58 p) (lacks-append 64 h (delimited 58 p) a (port_no_at p d)) in
     let r = name_port h p c d in
     rw (gone, r.0, r.1) refl
 

@@ -14,17 +14,17 @@ use Rattle.iri_grammar.specs.Components.{if_there, is_port, is_userinfo}
 use Rattle.iri_grammar.specs.IpLiteral.{is_ip_literal}
 use Rattle.iri_grammar.specs.Host.{is_host, is_reg_name}
 use Rattle.iri_grammar.specs.Authority.{is_authority, authority_parts, userinfo_text, userinfo_of, after_userinfo, or_all, host_of, port_of}
-use Rattle.iri_grammar.specs.Cut.{before, behind, lacks, marked}
+use Rattle.iri_grammar.specs.Cut.{before, after, lacks, delimited}
 use Rattle.iri_grammar.proofs.CutLaws.{both, joined, lacks-append, lacks-other, all-lacks}
 use Rattle.iri_grammar.proofs.CutBytes.{text-lacks}
 use Rattle.iri_grammar.proofs.LiteralChars.{is_literal_char, ip_literal-chars}
 
 -- ---- the authority is put together from its parts
-host_port : (xs : List ℕ) → host_of xs ++ marked 58 (port_of xs) ≡ xs
+host_port : (xs : List ℕ) → host_of xs ++ delimited 58 (port_of xs) ≡ xs
 host_port [] = refl
 host_port (x ∷ xs) =
     elim (x == 58 && is_port xs) as (λ b. (x == 58 && is_port xs) ≡ b
-    → cond b [] (x ∷ host_of xs) ++ marked 58 (cond b (Some xs) (port_of xs)) ≡ x ∷ xs) [
+    → cond b [] (x ∷ host_of xs) ++ delimited 58 (cond b (Some xs) (port_of xs)) ≡ x ∷ xs) [
       | true ↦ λ e. let n : x ≡ 58 = same x (both (x == 58) (is_port xs) e).0 in ap (λ y. y ∷ xs) (sym n)
       | false ↦ λ _. ap (λ ys. x ∷ ys) (host_port xs)
     ] refl
@@ -40,7 +40,7 @@ port-digits (x ∷ xs) =
       | false ↦ λ _. port-digits xs
     ] refl
 
-userinfo_rest : (b : List ℕ) (o : Option (List ℕ)) (xs : List ℕ) → b ++ marked 64 o ≡ xs
+userinfo_rest : (b : List ℕ) (o : Option (List ℕ)) (xs : List ℕ) → b ++ delimited 64 o ≡ xs
     → userinfo_text (cond (is_some o) (Some b) None) ++ or_all xs o ≡ xs
 userinfo_rest b None xs h = refl
 userinfo_rest b (Some r) xs h = two b r ∙ h
@@ -49,9 +49,9 @@ userinfo_rest b (Some r) xs h = two b r ∙ h
     two [] r = refl
     two (x ∷ b) r = ap (λ ys. x ∷ ys) (two b r)
 
-pub whole : (xs : List ℕ) → userinfo_text (userinfo_of xs) ++ (host_of (after_userinfo xs) ++ marked 58 (port_of (after_userinfo xs))) ≡ xs
+pub whole : (xs : List ℕ) → userinfo_text (userinfo_of xs) ++ (host_of (after_userinfo xs) ++ delimited 58 (port_of (after_userinfo xs))) ≡ xs
 whole xs = ap (λ ys. userinfo_text (userinfo_of xs) ++ ys) (host_port (after_userinfo xs))
-    ∙ userinfo_rest (before 64 xs) (behind 64 xs) xs (joined 64 xs)
+    ∙ userinfo_rest (before 64 xs) (after 64 xs) xs (joined 64 xs)
 
 -- ---- what an authority lacks
 -- a byte that stands in no part of an authority
@@ -84,7 +84,7 @@ host-lacks s c xs f h =
       | false ↦ λ _ k. over_text-lacks (reg_name_char s) c xs f.ascii f.reg_name f.percent f.hex k
     ] refl h
 
-port-lacks : (s : Tests) (c : ℕ) (o : Option (List ℕ)) → IsForeign s c → if_there is_port o ≡ true → lacks c (marked 58 o) ≡ true
+port-lacks : (s : Tests) (c : ℕ) (o : Option (List ℕ)) → IsForeign s c → if_there is_port o ≡ true → lacks c (delimited 58 o) ≡ true
 port-lacks s c None f h = refl
 port-lacks s c (Some xs) f h = lacks-other c 58 xs f.colon (all-lacks is_ascii_digit c xs f.digit h)
 
@@ -125,9 +125,9 @@ slash-foreign s k = record {
   literal = refl;
 }
 
-pub mark-foreign : (s : Tests) → IsSpec s → IsForeign s 63
+pub delimiter-foreign : (s : Tests) → IsSpec s → IsForeign s 63
 unfolding userinfo_char reg_name_char is_ascii_userinfo is_ascii_reg_name is_ascii_unreserved is_sub_delim is_literal_char
-mark-foreign s k = record {
+delimiter-foreign s k = record {
   ascii = omega arith;
   percent = refl;
   hex = refl;
@@ -168,8 +168,8 @@ one_byte-utf8 c l = IsUtf8-from_ascii (c ∷ []) (λ i. at i)
     at zero = l
     at (suc i) = omega arith
 
-pub marked-utf8 : (c : ℕ) (xs : List ℕ) → c < 128 → IsUtf8 xs → IsUtf8 (c ∷ xs)
-marked-utf8 c xs l u = IsUtf8-append (c ∷ []) xs (one_byte-utf8 c l) u
+pub delimited-utf8 : (c : ℕ) (xs : List ℕ) → c < 128 → IsUtf8 xs → IsUtf8 (c ∷ xs)
+delimited-utf8 c xs l u = IsUtf8-append (c ∷ []) xs (one_byte-utf8 c l) u
 
 pub host-utf8 : (s : Tests) (xs : List ℕ) → is_host s xs ≡ true → IsUtf8 xs
 host-utf8 s xs h =
@@ -181,9 +181,9 @@ host-utf8 s xs h =
 nothing : IsUtf8 []
 nothing = IsUtf8-from_ascii [] (λ i. omega arith)
 
-port_text-utf8 : (o : Option (List ℕ)) → if_there is_port o ≡ true → IsUtf8 (marked 58 o)
+port_text-utf8 : (o : Option (List ℕ)) → if_there is_port o ≡ true → IsUtf8 (delimited 58 o)
 port_text-utf8 None h = nothing
-port_text-utf8 (Some xs) h = marked-utf8 58 xs (omega arith) (port-utf8 xs h)
+port_text-utf8 (Some xs) h = delimited-utf8 58 xs (omega arith) (port-utf8 xs h)
 
 userinfo_text-utf8 : (s : Tests) (o : Option (List ℕ)) → if_there (is_userinfo s) o ≡ true → IsUtf8 (userinfo_text o)
 userinfo_text-utf8 s None h = nothing

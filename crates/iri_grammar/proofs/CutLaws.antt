@@ -4,7 +4,7 @@ use Rattle.std.proofs.Common.{subst, arith}
 use Rattle.std.specs.Prelude.{◌==◌}
 use Rattle.std.specs.List.{list_all}
 use Rattle.std.proofs.lemmas.Bool.Decides.{nat_tests}
-use Rattle.iri_grammar.specs.Cut.{before, from, behind, lacks, marked}
+use Rattle.iri_grammar.specs.Cut.{before, from, after, lacks, delimited}
 
 -- ---- tests
 pub by_test : (x c : ℕ) (P : Bool → Type 0) → (x ≡ c → P true) → (x ≢ c → P false) → P (x == c)
@@ -19,10 +19,10 @@ both true b h = (refl, h)
 both false b h = cc
 
 -- ---- cutting
-pub joined : (c : ℕ) (t : List ℕ) → before c t ++ marked c (behind c t) ≡ t
+pub joined : (c : ℕ) (t : List ℕ) → before c t ++ delimited c (after c t) ≡ t
 joined c [] = refl
 joined c (x ∷ xs) =
-    by_test x c (λ b. cond b [] (x ∷ before c xs) ++ marked c (cond b (Some xs) (behind c xs)) ≡ x ∷ xs) (λ e. ap (λ n. n ∷ xs) (sym e))
+    by_test x c (λ b. cond b [] (x ∷ before c xs) ++ delimited c (cond b (Some xs) (after c xs)) ≡ x ∷ xs) (λ e. ap (λ n. n ∷ xs) (sym e))
     (λ _. ap (λ ys. x ∷ ys) (joined c xs))
 
 pub joined_from : (c : ℕ) (t : List ℕ) → before c t ++ from c t ≡ t
@@ -30,19 +30,19 @@ joined_from c [] = refl
 joined_from c (x ∷ xs) = by_test x c (λ b. cond b [] (x ∷ before c xs) ++ cond b (x ∷ xs) (from c xs) ≡ x ∷ xs) (λ _. refl)
     (λ _. ap (λ ys. x ∷ ys) (joined_from c xs))
 
-pub before-marked : (c : ℕ) (xs : List ℕ) (o : Option (List ℕ)) → lacks c xs ≡ true → before c (xs ++ marked c o) ≡ xs
-before-marked c [] None h = refl
-before-marked c [] (Some ys) h = by_test c c (λ b. cond b [] (c ∷ before c ys) ≡ []) (λ _. refl) (λ ne. absurd (ne refl))
-before-marked c (x ∷ xs) o h =
-    by_test x c (λ b. (not b && lacks c xs) ≡ true → cond b [] (x ∷ before c (xs ++ marked c o)) ≡ x ∷ xs) (λ _ k. cc)
-    (λ _ k. ap (λ ys. x ∷ ys) (before-marked c xs o k)) h
+pub before-delimited : (c : ℕ) (xs : List ℕ) (o : Option (List ℕ)) → lacks c xs ≡ true → before c (xs ++ delimited c o) ≡ xs
+before-delimited c [] None h = refl
+before-delimited c [] (Some ys) h = by_test c c (λ b. cond b [] (c ∷ before c ys) ≡ []) (λ _. refl) (λ ne. absurd (ne refl))
+before-delimited c (x ∷ xs) o h =
+    by_test x c (λ b. (not b && lacks c xs) ≡ true → cond b [] (x ∷ before c (xs ++ delimited c o)) ≡ x ∷ xs) (λ _ k. cc)
+    (λ _ k. ap (λ ys. x ∷ ys) (before-delimited c xs o k)) h
 
-pub behind-marked : (c : ℕ) (xs : List ℕ) (o : Option (List ℕ)) → lacks c xs ≡ true → behind c (xs ++ marked c o) ≡ o
-behind-marked c [] None h = refl
-behind-marked c [] (Some ys) h = by_test c c (λ b. cond b (Some ys) (behind c ys) ≡ Some ys) (λ _. refl) (λ ne. absurd (ne refl))
-behind-marked c (x ∷ xs) o h =
-    by_test x c (λ b. (not b && lacks c xs) ≡ true → cond b (Some (xs ++ marked c o)) (behind c (xs ++ marked c o)) ≡ o) (λ _ k. cc)
-    (λ _ k. behind-marked c xs o k) h
+pub after-delimited : (c : ℕ) (xs : List ℕ) (o : Option (List ℕ)) → lacks c xs ≡ true → after c (xs ++ delimited c o) ≡ o
+after-delimited c [] None h = refl
+after-delimited c [] (Some ys) h = by_test c c (λ b. cond b (Some ys) (after c ys) ≡ Some ys) (λ _. refl) (λ ne. absurd (ne refl))
+after-delimited c (x ∷ xs) o h =
+    by_test x c (λ b. (not b && lacks c xs) ≡ true → cond b (Some (xs ++ delimited c o)) (after c (xs ++ delimited c o)) ≡ o) (λ _ k. cc)
+    (λ _ k. after-delimited c xs o k) h
 
 -- before and from, where what follows is nothing or begins with c
 pub before-at : (c : ℕ) (xs ys : List ℕ) → lacks c xs ≡ true → before c ys ≡ [] → before c (xs ++ ys) ≡ xs

@@ -1,4 +1,4 @@
--- Where a byte first stands, and what stands before and behind it.
+-- Where a byte first stands, and what stands before and after it.
 use Rattle.std.proofs.Common.{◌≡◌, ℕ, zero, suc, ◌<◌, Bool, true, false, List, [], ◌∷◌, Some, None, Option, MatchOption, length, refl, ap}
 use Rattle.std.proofs.Common.{arith, add-one}
 use Rattle.std.specs.Prelude.{◌==◌, slice_index}
@@ -16,7 +16,7 @@ cut_at c [] k l n p = absurd (omega arith)
 cut_at c (x ∷ xs) zero l n p = record {
   inside = l;
   byte = eqb-true x c p;
-  front = rw p refl;
+  prefix = rw p refl;
   rest = rw p refl;
   tail = rw p refl;
   has = rw p refl;
@@ -27,18 +27,18 @@ cut_at c (x ∷ xs) (suc k) l n p =
     record {
       inside = l;
       byte = h.byte;
-      front = rw miss (ap (λ ys. x ∷ ys) h.front);
+      prefix = rw miss (ap (λ ys. x ∷ ys) h.prefix);
       rest = rw miss h.rest;
       tail = rw (miss, add-one) (rw add-one at h.tail);
       has = rw miss h.has;
     }
 
 none_at : (c : ℕ) (bs : List ℕ) → ((j : ℕ) → j < length bs → (slice_index bs j == c) ≡ true → ⊥) → NoCut c bs
-none_at c [] n = record { front = refl; rest = refl; tail = refl; has = refl }
+none_at c [] n = record { prefix = refl; rest = refl; tail = refl; has = refl }
 none_at c (x ∷ xs) n =
     let miss : (x == c) ≡ false = false-where (x == c) (n 0 (omega arith)) in
     let h = none_at c xs (λ j b. n (suc j) (omega arith)) in
-    record { front = rw miss (ap (λ ys. x ∷ ys) h.front); rest = rw miss h.rest; tail = rw miss h.tail; has = rw miss h.has }
+    record { prefix = rw miss (ap (λ ys. x ∷ ys) h.prefix); rest = rw miss h.rest; tail = rw miss h.tail; has = rw miss h.has }
 
 -- what `memchr` says, in these words
 pub found : (c : ℕ) (bs : List ℕ) (r : Option ℕ) → IsFirstByte (is_byte c) bs r → MatchOption r (NoCut c bs) (λ k. CutAt c bs k)

@@ -1,4 +1,4 @@
--- What begins a dot behind a slash, looked for in eight places at a time.
+-- What begins a dot after a slash, looked for in eight places at a time.
 use Rattle.std.proofs.Common.{◌≡◌, ℕ, zero, suc, ◌+◌, ◌-◌, ◌*◌, ◌%◌, ◌^◌, ◌<◌, ◌≤◌, Bool, true, false, cond, not, eqb, ◌&&◌, ◌||◌, List, [], ◌∷◌, map, length, take, drop, get_or, replicate}
 use Rattle.std.proofs.Common.{refl, sym, ◌∙◌, ap, ap₂, arith, drop-cons, inl, inr}
 use Rattle.std.specs.Prelude.{◌==◌, slice_index}
@@ -51,16 +51,16 @@ no_bit : (b : Bool) (n : ℕ) → cond b 1 0 + 2 * n ≡ 0 → (b ≡ false) × 
 no_bit true n e = absurd (omega (arith, e))
 no_bit false n e = (refl, omega (arith, e))
 
-none_marked : (xs ys : List ℕ) → mask_l (map (top 7) (zip2 bit_and (map slash_lane xs) (map dot_lane ys))) ≡ 0
+none_delimited : (xs ys : List ℕ) → mask_l (map (top 7) (zip2 bit_and (map slash_lane xs) (map dot_lane ys))) ≡ 0
     → (k : ℕ) → k < length xs → k < length ys → begins_plain (get_or xs k 0) (get_or ys k 0) ≡ true
-none_marked [] ys e k l m = absurd (omega arith)
-none_marked (x ∷ xs) [] e k l m = absurd (omega arith)
-none_marked (x ∷ xs) (y ∷ ys) e zero l m =
+none_delimited [] ys e k l m = absurd (omega arith)
+none_delimited (x ∷ xs) [] e k l m = absurd (omega arith)
+none_delimited (x ∷ xs) (y ∷ ys) e zero l m =
     let h = no_bit (top 7 (bit_and (slash_lane x) (dot_lane y))) (mask_l (map (top 7) (zip2 bit_and (map slash_lane xs) (map dot_lane ys)))) e in
     ap not (sym (one_lane (x == 47) (y == 46) (y == 37)) ∙ h.0)
-none_marked (x ∷ xs) (y ∷ ys) e (suc k) l m =
+none_delimited (x ∷ xs) (y ∷ ys) e (suc k) l m =
     let h = no_bit (top 7 (bit_and (slash_lane x) (dot_lane y))) (mask_l (map (top 7) (zip2 bit_and (map slash_lane xs) (map dot_lane ys)))) e in
-    none_marked xs ys h.1 k (omega arith) (omega arith)
+    none_delimited xs ys h.1 k (omega arith) (omega arith)
 
 is_zero : (n : ℕ) → not (eqb n 0) ≡ false → n ≡ 0
 is_zero n h = eqb-true n 0 (elim (eqb n 0) as (λ b. not b ≡ false → b ≡ true) [ true ↦ λ _. refl | false ↦ λ k. cc ] h)
@@ -75,7 +75,7 @@ none-found xs ys n m h k l =
     ∙ (length-map xs slash_lane ∙ n)) in
     let none : mask_l ms ≡ 0 = sym (mask_l-mod ms 64 (omega (arith, long)))
     ∙ (ap (λ l. mask_l (map (top 7) l) % 2 ^ 64) (sym same) ∙ is_zero (mask_l (map (top 7) (lanes xs ys)) % 2 ^ 64) h) in
-    none_marked xs ys none k (omega (arith, n, l)) (omega (arith, m, l))
+    none_delimited xs ys none k (omega (arith, n, l)) (omega (arith, m, l))
 
 -- ---- none in eight places
 not-not : (b : Bool) → not b ≡ true → b ≡ false

@@ -5,7 +5,7 @@ use Rattle.std.specs.Prelude.{◌==◌}
 use Rattle.std.proofs.lemmas.Bool.{eqb-true}
 use Rattle.iri_grammar.proofs.CutLaws.{both}
 use Rattle.iri_grammar.proofs.CutLemmas.{false-where}
-use Rattle.iri_grammar.specs.Ipv6Test.{begins, before_double, behind_double}
+use Rattle.iri_grammar.specs.Ipv6Test.{begins, before_double, after_double}
 
 -- none at the start
 none_here : (x : ℕ) (xs : List ℕ) → ((rest : List ℕ) → x ∷ xs ≢ 58 ∷ 58 ∷ rest) → (x == 58 && begins 58 xs) ≡ false
@@ -15,7 +15,7 @@ none_here x (y ∷ ys) n =
     n ys (ap (λ c. c ∷ y ∷ ys) (eqb-true x 58 two.0) ∙ ap (λ c. 58 ∷ c ∷ ys) (eqb-true y 58 two.1)))
 
 pub no_double : (bs : List ℕ) → ((i : ℕ) → i ≤ length bs → (rest : List ℕ) → drop i bs ≢ 58 ∷ 58 ∷ rest)
-    → (bs ≡ before_double bs) × (None ≡ behind_double bs)
+    → (bs ≡ before_double bs) × (None ≡ after_double bs)
 no_double [] n = (refl, refl)
 no_double (x ∷ xs) n =
     let here = none_here x xs (n 0 (omega arith)) in
@@ -23,8 +23,8 @@ no_double (x ∷ xs) n =
     (rw here (ap (λ ys. x ∷ ys) r.0), rw here r.1)
 
 pub first_double : (bs ys : List ℕ) (k : ℕ) → ((i : ℕ) → i < k → (rest : List ℕ) → drop i bs ≢ 58 ∷ 58 ∷ rest) → drop k bs ≡ 58 ∷ 58 ∷ ys
-    → (take k bs ≡ before_double bs) × (Some ys ≡ behind_double bs)
-first_double bs ys zero n e = subst (λ l. ([] ≡ before_double l) × (Some ys ≡ behind_double l)) (sym e) (refl, refl)
+    → (take k bs ≡ before_double bs) × (Some ys ≡ after_double bs)
+first_double bs ys zero n e = subst (λ l. ([] ≡ before_double l) × (Some ys ≡ after_double l)) (sym e) (refl, refl)
 first_double [] ys (suc k) n e = cc
 first_double (x ∷ xs) ys (suc k) n e =
     let here = none_here x xs (n 0 (omega arith)) in

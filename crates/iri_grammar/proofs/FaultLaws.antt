@@ -8,12 +8,12 @@ use Rattle.iri_grammar.specs.Classes.{Tests, IsSpec}
 use Rattle.iri_grammar.specs.Components.{if_there, is_scheme, is_userinfo, is_path, is_query, is_fragment}
 use Rattle.iri_grammar.specs.Host.{is_host}
 use Rattle.iri_grammar.specs.Authority.{authority_parts, is_authority}
-use Rattle.iri_grammar.specs.Cut.{before, from, behind, lacks}
-use Rattle.iri_grammar.proofs.CutLaws.{both, before-marked}
+use Rattle.iri_grammar.specs.Cut.{before, from, after, lacks}
+use Rattle.iri_grammar.proofs.CutLaws.{both, before-delimited}
 use Rattle.iri_grammar.specs.Parts.{Parts, Fits, Splits, IsReference, IsIri, IsAbsolute, IsRelative, recompose, path_rules, is_empty}
 use Rattle.iri_grammar.specs.Parts.{starts_with_slash, starts_with_slashes}
 use Rattle.iri_grammar.specs.Split.{split_of, relative_split_of, parts_of, hier_of, scheme_of, after_scheme, authority_of, path_of}
-use Rattle.iri_grammar.specs.Split.{behind_slashes}
+use Rattle.iri_grammar.specs.Split.{after_slashes}
 use Rattle.iri_grammar.proofs.SplitLaws.{recompose_split, recompose_relative_split, relative_split_is, scheme-lacks, colon_ends}
 use Rattle.iri_grammar.proofs.SplitUnique.{split_is, splits-utf8}
 use Rattle.iri_grammar.proofs.AuthorityTexts.{authority-utf8}
@@ -84,10 +84,10 @@ rules-kept : (sch : Option (List ℕ)) (h : List ℕ) → (is_some sch || is_som
     → path_rules sch (authority_of h) (path_of h) ≡ true
 rules-kept sch h =
     elim (starts_with_slashes h) as (λ b. starts_with_slashes h ≡ b
-    → (is_some sch || is_some (cond b (Some (before 47 (behind_slashes h))) None)
-    || lacks 58 (before 47 (cond b (from 47 (behind_slashes h)) h))) ≡ true
-    → path_rules sch (cond b (Some (before 47 (behind_slashes h))) None) (cond b (from 47 (behind_slashes h)) h) ≡ true) [
-      | true ↦ λ _ _. edge (behind_slashes h)
+    → (is_some sch || is_some (cond b (Some (before 47 (after_slashes h))) None)
+    || lacks 58 (before 47 (cond b (from 47 (after_slashes h)) h))) ≡ true
+    → path_rules sch (cond b (Some (before 47 (after_slashes h))) None) (cond b (from 47 (after_slashes h)) h) ≡ true) [
+      | true ↦ λ _ _. edge (after_slashes h)
       | false ↦ λ e k. at_rest sch e k
     ] refl
   where
@@ -146,7 +146,7 @@ fits-from s sch r k n =
       authority = n.authority;
       path = n.path;
       query = n.query;
-      fragment = part-passed (is_fragment s) InvalidFragment (behind 35 r) n.fragment;
+      fragment = part-passed (is_fragment s) InvalidFragment (after 35 r) n.fragment;
       rules = rules-kept sch (hier_of r) n.colon;
     }
 
@@ -170,7 +170,7 @@ scheme_of-scheme x b =
 
 split-fits : (s : Tests) (t : List ℕ) → NoFault s (fragment_fault s) (split_of t) → Fits s (split_of t)
 unfolding split_of
-split-fits s t n = fits-from s (scheme_of t) (after_scheme t) (scheme_of-scheme (before 58 t) (is_some (behind 58 t))) n
+split-fits s t n = fits-from s (scheme_of t) (after_scheme t) (scheme_of-scheme (before 58 t) (is_some (after 58 t))) n
 
 pub splits_where_no_fault : (s : Tests) (t : List ℕ) → reference_fault s t ≡ None → Splits s t (split_of t)
 splits_where_no_fault s t h = record {
@@ -186,11 +186,11 @@ pub reference-law : (s : Tests) → IsSpec s → (t : List ℕ) → (reference_f
 reference-law s k t = (λ h. (split_of t, splits_where_no_fault s t h), λ r. no_fault_where_splits s k t r.0 r.1)
 
 -- ---- texts with a scheme
-some-behind : (t : List ℕ) → lacks 58 t ≡ false → is_some (behind 58 t) ≡ true
-some-behind [] h = cc
-some-behind (x ∷ xs) h =
+some-after : (t : List ℕ) → lacks 58 t ≡ false → is_some (after 58 t) ≡ true
+some-after [] h = cc
+some-after (x ∷ xs) h =
     elim (x == 58) as (λ b. (not b && lacks 58 xs) ≡ false
-    → is_some (cond b (Some xs) (behind 58 xs)) ≡ true) [ true ↦ λ _. refl | false ↦ λ k. some-behind xs k ] h
+    → is_some (cond b (Some xs) (after 58 xs)) ≡ true) [ true ↦ λ _. refl | false ↦ λ k. some-after xs k ] h
 
 colon-there : (b : Bool) (k : ErrorKind) (o : Option ErrorKind) → cond b (Some k) o ≡ None → (b ≡ false) × (o ≡ None)
 colon-there true k o h = cc
@@ -200,24 +200,24 @@ scheme-there : (t : List ℕ) → missing_scheme_fault t ≡ None → IsSome (sp
 unfolding split_of
 scheme-there t h =
     let m = colon-there (lacks 58 t) _ (scheme_fault (before 58 t)) h in
-    rw (passed (is_scheme (before 58 t)) _ m.1, some-behind t m.0) refl
+    rw (passed (is_scheme (before 58 t)) _ m.1, some-after t m.0) refl
 
 pub lacks-joined : (xs ys : List ℕ) → lacks 58 (xs ++ 58 ∷ ys) ≡ false
 lacks-joined [] ys = refl
 lacks-joined (x ∷ xs) ys = elim (x == 58) as (λ b. (not b && lacks 58 (xs ++ 58 ∷ ys)) ≡ false) [ true ↦ refl | false ↦ lacks-joined xs ys ]
 
-scheme-in_front : (x rest t : List ℕ) → is_scheme x ≡ true → (x ++ 58 ∷ []) ++ rest ≡ t → missing_scheme_fault t ≡ None
-scheme-in_front x rest t h e =
+scheme-before : (x rest t : List ℕ) → is_scheme x ≡ true → (x ++ 58 ∷ []) ++ rest ≡ t → missing_scheme_fault t ≡ None
+scheme-before x rest t h e =
     let f : x ++ 58 ∷ rest ≡ t = sym (append_assoc x (58 ∷ []) rest) ∙ e in
     subst (λ z. missing_scheme_fault z ≡ None) f (rw
-    (lacks-joined x rest, before-marked 58 x (Some rest) (scheme-lacks 58 x colon_ends h), h) refl)
+    (lacks-joined x rest, before-delimited 58 x (Some rest) (scheme-lacks 58 x colon_ends h), h) refl)
 
 scheme-given : (s : Tests) (t : List ℕ) (o a : Option (List ℕ)) (p : List ℕ) (q f : Option (List ℕ))
     → if_there is_scheme o ≡ true → IsSome o → recompose (record { scheme = o; authority = a; path = p; query = q; fragment = f }) ≡ t
     → missing_scheme_fault t ≡ None
 unfolding recompose
 scheme-given s t None a p q f h i e = cc
-scheme-given s t (Some x) a p q f h i e = scheme-in_front x _ t h e
+scheme-given s t (Some x) a p q f h i e = scheme-before x _ t h e
 
 no_missing_scheme : (s : Tests) (t : List ℕ) (p : Parts) → Splits s t p → IsSome p.scheme → missing_scheme_fault t ≡ None
 no_missing_scheme s t p h i = scheme-given s t p.scheme p.authority p.path p.query p.fragment h.fits.scheme i h.text

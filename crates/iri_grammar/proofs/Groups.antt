@@ -2,7 +2,7 @@
 use Rattle.std.proofs.Common.{◌≡◌, ℕ, ◌+◌, Bool, true, false, cond, ◌&&◌, ◌||◌, List, [], ◌∷◌, Option, Some, None, refl, sym, ◌∙◌, ap}
 use Rattle.std.proofs.Common.{arith}
 use Rattle.std.specs.Prelude.{◌==◌, nat_lt}
-use Rattle.iri_grammar.specs.Cut.{before, behind}
+use Rattle.iri_grammar.specs.Cut.{before, after}
 use Rattle.iri_grammar.specs.Pieces.{pieces}
 use Rattle.iri_grammar.proofs.PiecesLaws.{pieces_cut}
 use Rattle.iri_grammar.specs.Ipv4.{is_ipv4}
@@ -11,10 +11,10 @@ use Rattle.iri_grammar.specs.Ipv6Test.{is_full, is_shortened}
 use Rattle.iri_grammar.specs.inside.Ipv6Counts.{count, plus, last_units}
 use Rattle.iri_grammar.proofs.Ipv6Laws.{group_is_no_ipv4}
 
-count_last : (v : Bool) (t : List ℕ) → behind 58 t ≡ None → count v (pieces 58 t) ≡ last_units v (before 58 t)
+count_last : (v : Bool) (t : List ℕ) → after 58 t ≡ None → count v (pieces 58 t) ≡ last_units v (before 58 t)
 count_last v t e = rw (pieces_cut 58 t, e) refl
 
-count_more : (v : Bool) (t r : List ℕ) → behind 58 t ≡ Some r
+count_more : (v : Bool) (t r : List ℕ) → after 58 t ≡ Some r
     → count v (pieces 58 t) ≡ cond (is_group (before 58 t)) (plus 1 (count v (pieces 58 r))) None
 count_more v t r e = rw (pieces_cut 58 t, e, pieces_cut 58 r) refl
 
@@ -25,38 +25,38 @@ plus_plus n (Some m) = ap Some (omega arith)
 plus_none : (n : ℕ) (o : Option ℕ) → o ≡ None → plus n o ≡ None
 plus_none n o e = rw e refl
 
-pub step_more : (v : Bool) (n : ℕ) (t r : List ℕ) (total : Option ℕ) → behind 58 t ≡ Some r → is_group (before 58 t) ≡ true
+pub step_more : (v : Bool) (n : ℕ) (t r : List ℕ) (total : Option ℕ) → after 58 t ≡ Some r → is_group (before 58 t) ≡ true
     → plus n (count v (pieces 58 t)) ≡ total → plus (n + 1) (count v (pieces 58 r)) ≡ total
 step_more v n t r total e g h = plus_plus n (count v (pieces 58 r)) ∙ (sym (ap (plus n) (rw (count_more v t r e, g) refl)) ∙ h)
 
-pub step_bad : (v : Bool) (n : ℕ) (t r : List ℕ) (total : Option ℕ) → behind 58 t ≡ Some r → is_group (before 58 t) ≡ false
+pub step_bad : (v : Bool) (n : ℕ) (t r : List ℕ) (total : Option ℕ) → after 58 t ≡ Some r → is_group (before 58 t) ≡ false
     → plus n (count v (pieces 58 t)) ≡ total → None ≡ total
 step_bad v n t r total e g h = sym (plus_none n (count v (pieces 58 t)) (rw (count_more v t r e, g) refl)) ∙ h
 
-pub last_one : (v : Bool) (n : ℕ) (t : List ℕ) (total : Option ℕ) → behind 58 t ≡ None → is_group (before 58 t) ≡ true
+pub last_one : (v : Bool) (n : ℕ) (t : List ℕ) (total : Option ℕ) → after 58 t ≡ None → is_group (before 58 t) ≡ true
     → plus n (count v (pieces 58 t)) ≡ total → Some (n + 1) ≡ total
 last_one v n t total e g h = let one : count v (pieces 58 t) ≡ Some 1 = rw (count_last v t e, g) refl in sym (ap (plus n) one) ∙ h
 
-pub last_two : (v : Bool) (n : ℕ) (t : List ℕ) (total : Option ℕ) → behind 58 t ≡ None → is_group (before 58 t) ≡ false
+pub last_two : (v : Bool) (n : ℕ) (t : List ℕ) (total : Option ℕ) → after 58 t ≡ None → is_group (before 58 t) ≡ false
     → (v && is_ipv4 (before 58 t)) ≡ true → plus n (count v (pieces 58 t)) ≡ total → Some (n + 2) ≡ total
 last_two v n t total e g w h = let two : count v (pieces 58 t) ≡ Some 2 = rw (count_last v t e, g, w) refl in sym (ap (plus n) two) ∙ h
 
-pub last_none : (v : Bool) (n : ℕ) (t : List ℕ) (total : Option ℕ) → behind 58 t ≡ None → is_group (before 58 t) ≡ false
+pub last_none : (v : Bool) (n : ℕ) (t : List ℕ) (total : Option ℕ) → after 58 t ≡ None → is_group (before 58 t) ≡ false
     → (v && is_ipv4 (before 58 t)) ≡ false → plus n (count v (pieces 58 t)) ≡ total → None ≡ total
 last_none v n t total e g w h = sym (plus_none n (count v (pieces 58 t)) (rw (count_last v t e, g, w) refl)) ∙ h
 
 -- what the count says
-pub counted_front : (ps : List (List ℕ)) → count false ps ≡ cond (are_groups ps) (Some (group_count ps)) None
-counted_front [] = refl
-counted_front (p ∷ []) =
+pub counted_prefix : (ps : List (List ℕ)) → count false ps ≡ cond (are_groups ps) (Some (group_count ps)) None
+counted_prefix [] = refl
+counted_prefix (p ∷ []) =
     elim (is_group p) as (λ b. is_group p ≡ b → cond b (Some 1) None ≡ cond (b && true) (Some (cond (is_ipv4 p) 2 1 + 0)) None) [
       | true ↦ λ e. rw (group_is_no_ipv4 p e) refl
       | false ↦ λ _. refl
     ] refl
-counted_front (p ∷ q ∷ ps) =
+counted_prefix (p ∷ q ∷ ps) =
     elim (is_group p) as (λ b. is_group p ≡ b → cond b (plus 1 (count false (q ∷ ps))) None
     ≡ cond (b && are_groups (q ∷ ps)) (Some (cond (is_ipv4 p) 2 1 + group_count (q ∷ ps))) None) [
-      | true ↦ λ e. rw (group_is_no_ipv4 p e) (ap (plus 1) (counted_front (q ∷ ps))
+      | true ↦ λ e. rw (group_is_no_ipv4 p e) (ap (plus 1) (counted_prefix (q ∷ ps))
           ∙ plus_cond (are_groups (q ∷ ps)) (group_count (q ∷ ps)))
       | false ↦ λ _. refl
     ] refl
@@ -103,12 +103,12 @@ full_none ps h = rw (untold (are_groups_or_ipv4 ps) (group_count ps) (sym (count
 pub short_count : (fs bs : List (List ℕ)) (m n : ℕ) → count false fs ≡ Some m → count true bs ≡ Some n
     → nat_lt (m + n) 8 ≡ is_shortened fs bs
 short_count fs bs m n h k =
-    let a = told (are_groups fs) (group_count fs) m (sym (counted_front fs) ∙ h) in
+    let a = told (are_groups fs) (group_count fs) m (sym (counted_prefix fs) ∙ h) in
     let b = told (are_groups_or_ipv4 bs) (group_count bs) n (sym (counted_back bs) ∙ k) in
     rw (a.0, b.0, a.1, b.1) refl
 
-pub short_front_none : (fs bs : List (List ℕ)) → count false fs ≡ None → false ≡ is_shortened fs bs
-short_front_none fs bs h = rw (untold (are_groups fs) (group_count fs) (sym (counted_front fs) ∙ h)) refl
+pub short_prefix_none : (fs bs : List (List ℕ)) → count false fs ≡ None → false ≡ is_shortened fs bs
+short_prefix_none fs bs h = rw (untold (are_groups fs) (group_count fs) (sym (counted_prefix fs) ∙ h)) refl
 
 pub short_back_none : (fs bs : List (List ℕ)) → count true bs ≡ None → false ≡ is_shortened fs bs
 short_back_none fs bs h = rw (untold (are_groups_or_ipv4 bs) (group_count bs) (sym (counted_back bs) ∙ h))

@@ -6,28 +6,28 @@ use Rattle.std.proofs.lemmas.Bool.{eqb-true}
 use Rattle.iri_grammar.specs.declared.unit.TheConstants.{HEX_DIGITS}
 use Rattle.iri_grammar.proofs.Tables.{agree_below, agree_at}
 
-abbrev marked : ℕ → ℕ → Bool
-marked mark b = get_or HEX_DIGITS b 0 == mark
+abbrev delimited : ℕ → ℕ → Bool
+delimited delimiter b = get_or HEX_DIGITS b 0 == delimiter
 
 abbrev is_other : ℕ → Bool
 is_other b = not (is_ascii_hexdigit b)
 
-ones : agree_below (marked 49) is_ascii_hexdigit 256 ≡ true
+ones : agree_below (delimited 49) is_ascii_hexdigit 256 ≡ true
 ones = refl
 
-zeros : agree_below (marked 48) is_other 256 ≡ true
+zeros : agree_below (delimited 48) is_other 256 ≡ true
 zeros = refl
 
-digit-mark : (b : ℕ) → b < 256 → get_or HEX_DIGITS b 0 ≡ cond (is_ascii_hexdigit b) 49 48
-digit-mark b lt =
+digit-delimiter : (b : ℕ) → b < 256 → get_or HEX_DIGITS b 0 ≡ cond (is_ascii_hexdigit b) 49 48
+digit-delimiter b lt =
     elim (is_ascii_hexdigit b) as (λ v. is_ascii_hexdigit b ≡ v → get_or HEX_DIGITS b 0 ≡ cond v 49 48) [
-      | true ↦ λ e. eqb-true (get_or HEX_DIGITS b 0) 49 (agree_at (marked 49) is_ascii_hexdigit 256 ones b lt ∙ e)
-      | false ↦ λ e. eqb-true (get_or HEX_DIGITS b 0) 48 (agree_at (marked 48) is_other 256 zeros b lt ∙ ap not e)
+      | true ↦ λ e. eqb-true (get_or HEX_DIGITS b 0) 49 (agree_at (delimited 49) is_ascii_hexdigit 256 ones b lt ∙ e)
+      | false ↦ λ e. eqb-true (get_or HEX_DIGITS b 0) 48 (agree_at (delimited 48) is_other 256 zeros b lt ∙ ap not e)
     ] refl
 
 pub both-digits : (a b : ℕ) → a < 256 → b < 256
     → (bit_and (get_or HEX_DIGITS a 0) (get_or HEX_DIGITS b 0) == 49) ≡ (is_ascii_hexdigit a && is_ascii_hexdigit b)
-both-digits a b l m = rw (digit-mark a l, digit-mark b m) (four (is_ascii_hexdigit a) (is_ascii_hexdigit b))
+both-digits a b l m = rw (digit-delimiter a l, digit-delimiter b m) (four (is_ascii_hexdigit a) (is_ascii_hexdigit b))
   where
     four : (x y : Bool) → (bit_and (cond x 49 48) (cond y 49 48) == 49) ≡ (x && y)
     four true true = refl

@@ -5,14 +5,14 @@ use Rattle.std.specs.Prelude.{◌==◌, nat_lt}
 use Rattle.std.specs.Char.{is_ascii_digit, is_ascii_hexdigit}
 use Rattle.std.specs.List.{list_all}
 use Rattle.std.proofs.lemmas.Bool.Decides.{nat_tests}
-use Rattle.iri_grammar.specs.Cut.{before, behind, lacks, tail}
+use Rattle.iri_grammar.specs.Cut.{before, after, lacks, tail}
 use Rattle.iri_grammar.proofs.CutLaws.{all-lacks, by_test, both}
 use Rattle.iri_grammar.specs.Pieces.{pieces, onto, joined}
 use Rattle.iri_grammar.specs.inside.PiecesLaws.{more_pieces}
 use Rattle.iri_grammar.proofs.PiecesLaws.{pieces_cut}
 use Rattle.iri_grammar.specs.Ipv4.{is_ipv4, is_dec_octet, are_four_octets}
 use Rattle.iri_grammar.specs.Ipv6.{IsFullIpv6, IsShortenedIpv6, IsIpv6, is_group, are_groups, are_groups_or_ipv4, group_count}
-use Rattle.iri_grammar.specs.Ipv6Test.{begins, before_double, behind_double, group_texts, is_ipv6_around, is_ipv6}
+use Rattle.iri_grammar.specs.Ipv6Test.{begins, before_double, after_double, group_texts, is_ipv6_around, is_ipv6}
 use Rattle.iri_grammar.proofs.LiteralChars.{octet-digits}
 
 -- a text without a delimiter is one piece
@@ -46,7 +46,7 @@ joined_pieces c [] = refl
 joined_pieces c (x ∷ xs) =
     by_test x c (λ b. joined c (cond b ([] ∷ pieces c xs) (onto x (pieces c xs))) ≡ x ∷ xs)
     (λ e. rw (pieces_cut c xs) (ap (λ ys. c ∷ ys) (rw pieces_cut at (joined_pieces c xs)) ∙ ap (λ n. n ∷ xs) (sym e)))
-    (λ _. rw (pieces_cut c xs) (joined_onto c x (before c xs) (more_pieces c (behind c xs))
+    (λ _. rw (pieces_cut c xs) (joined_onto c x (before c xs) (more_pieces c (after c xs))
     ∙ ap (λ ys. x ∷ ys) (rw pieces_cut at (joined_pieces c xs))))
 
 joined_parts : (t : List ℕ) → joined 58 (group_texts t) ≡ t
@@ -132,7 +132,7 @@ no_double_before false xs r h = refl
 no_double_before true [] r h = cc
 no_double_before true (y ∷ ys) r h = elim (y == 58) as (λ b. not b ≡ true → b ≡ false) [ true ↦ λ k. cc | false ↦ λ _. refl ] h
 
-single_whole : (t : List ℕ) → is_single t ≡ true → (before_double t ≡ t) × (behind_double t ≡ None)
+single_whole : (t : List ℕ) → is_single t ≡ true → (before_double t ≡ t) × (after_double t ≡ None)
 unfolding is_single
 single_whole [] h = (refl, refl)
 single_whole (x ∷ xs) h =
@@ -142,7 +142,7 @@ single_whole (x ∷ xs) h =
     (rw here (ap (λ ys. x ∷ ys) r.0), rw here r.1)
 
 single_then_double : (t r : List ℕ) → is_single t ≡ true
-    → (before_double (t ++ 58 ∷ 58 ∷ r) ≡ t) × (behind_double (t ++ 58 ∷ 58 ∷ r) ≡ Some r)
+    → (before_double (t ++ 58 ∷ 58 ∷ r) ≡ t) × (after_double (t ++ 58 ∷ 58 ∷ r) ≡ Some r)
 unfolding is_single
 single_then_double [] r h = (refl, refl)
 single_then_double (x ∷ xs) r h =
@@ -220,26 +220,26 @@ passes_full t f =
 
 passes_shortened : (t : List ℕ) → IsShortenedIpv6 t → is_ipv6 t ≡ true
 passes_shortened t s =
-    let fronts = groups_parts s.front s.front_groups in
+    let prefixes = groups_parts s.prefix s.prefix_groups in
     let backs = mixed_parts s.back s.back_groups in
-    let cut = single_then_double (joined 58 s.front) (joined 58 s.back) (single_joined s.front fronts) in
-    let few : nat_lt (group_count s.front + group_count s.back) 8 ≡ true = grind (arith, nat_tests, s.count) in
-    let test : is_ipv6 (joined 58 s.front ++ (58 ∷ 58 ∷ joined 58 s.back)) ≡ true =
-    rw (cut.1, cut.0, parts_joined s.front fronts, parts_joined s.back backs, s.front_groups, s.back_groups, few) refl in
+    let cut = single_then_double (joined 58 s.prefix) (joined 58 s.back) (single_joined s.prefix prefixes) in
+    let few : nat_lt (group_count s.prefix + group_count s.back) 8 ≡ true = grind (arith, nat_tests, s.count) in
+    let test : is_ipv6 (joined 58 s.prefix ++ (58 ∷ 58 ∷ joined 58 s.back)) ≡ true =
+    rw (cut.1, cut.0, parts_joined s.prefix prefixes, parts_joined s.back backs, s.prefix_groups, s.back_groups, few) refl in
     subst (λ z. is_ipv6 z ≡ true) (sym s.text) test
 
-double_none : (t : List ℕ) → behind_double t ≡ None → before_double t ≡ t
+double_none : (t : List ℕ) → after_double t ≡ None → before_double t ≡ t
 double_none [] h = refl
 double_none (x ∷ xs) h =
-    elim (x == 58 && begins 58 xs) as (λ b. cond b (Some (tail xs)) (behind_double xs) ≡ None → cond b [] (x ∷ before_double xs) ≡ x ∷ xs) [
+    elim (x == 58 && begins 58 xs) as (λ b. cond b (Some (tail xs)) (after_double xs) ≡ None → cond b [] (x ∷ before_double xs) ≡ x ∷ xs) [
       | true ↦ λ k. cc
       | false ↦ λ k. ap (λ ys. x ∷ ys) (double_none xs k)
     ] h
 
-double_some : (t r : List ℕ) → behind_double t ≡ Some r → before_double t ++ (58 ∷ 58 ∷ r) ≡ t
+double_some : (t r : List ℕ) → after_double t ≡ Some r → before_double t ++ (58 ∷ 58 ∷ r) ≡ t
 double_some [] r h = cc
 double_some (x ∷ xs) r h =
-    elim (x == 58 && begins 58 xs) as (λ b. (x == 58 && begins 58 xs) ≡ b → cond b (Some (tail xs)) (behind_double xs) ≡ Some r
+    elim (x == 58 && begins 58 xs) as (λ b. (x == 58 && begins 58 xs) ≡ b → cond b (Some (tail xs)) (after_double xs) ≡ Some r
     → cond b [] (x ∷ before_double xs) ++ (58 ∷ 58 ∷ r) ≡ x ∷ xs) [
       | true ↦ λ e k. two x xs e k
       | false ↦ λ _ k. ap (λ ys. x ∷ ys) (double_some xs r k)
@@ -254,7 +254,7 @@ double_some (x ∷ xs) r h =
         let same : ys ≡ r = cc in
         ap (λ n. n ∷ 58 ∷ r) one ∙ (ap (λ n. x ∷ n ∷ r) other ∙ ap (λ zs. x ∷ y ∷ zs) (sym same))
 
-tells : (t : List ℕ) (back : Option (List ℕ)) → behind_double t ≡ back → is_ipv6_around (before_double t) back ≡ true → IsIpv6 t
+tells : (t : List ℕ) (back : Option (List ℕ)) → after_double t ≡ back → is_ipv6_around (before_double t) back ≡ true → IsIpv6 t
 tells t None e h =
     let k = both (are_groups_or_ipv4 (group_texts (before_double t))) (group_count (group_texts (before_double t)) == 8) h in
     let same = double_none t e in
@@ -269,13 +269,13 @@ tells t (Some back) e h =
     (nat_lt (group_count (group_texts (before_double t)) + group_count (group_texts back)) 8) h in
     let two = both (are_groups (group_texts (before_double t))) (are_groups_or_ipv4 (group_texts back)) one.0 in
     inr (record {
-      front = group_texts (before_double t);
+      prefix = group_texts (before_double t);
       back = group_texts back;
-      front_groups = two.0;
+      prefix_groups = two.0;
       back_groups = two.1;
       text = sym (rw (joined_parts (before_double t), joined_parts back) (double_some t back e));
       count = grind (arith, nat_tests, one.1);
     })
 
 pub ipv6_law : (t : List ℕ) → (is_ipv6 t ≡ true) ↔ IsIpv6 t
-ipv6_law t = (λ h. tells t (behind_double t) refl h, λ i. elim i [ inl f ↦ passes_full t f | inr s ↦ passes_shortened t s ])
+ipv6_law t = (λ h. tells t (after_double t) refl h, λ i. elim i [ inl f ↦ passes_full t f | inr s ↦ passes_shortened t s ])

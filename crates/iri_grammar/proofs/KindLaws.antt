@@ -3,12 +3,12 @@ use Rattle.std.proofs.Common.{◌≡◌, ℕ, true, List, [], ◌∷◌, ◌++�
 use Rattle.std.specs.Prelude.{IsSome}
 use Rattle.iri_grammar.specs.Classes.{Tests, IsSpec}
 use Rattle.iri_grammar.specs.Components.{if_there, is_scheme}
-use Rattle.iri_grammar.specs.Cut.{before, lacks, marked}
-use Rattle.iri_grammar.proofs.CutLaws.{before-marked, lacks-append, lacks-other}
+use Rattle.iri_grammar.specs.Cut.{before, lacks, delimited}
+use Rattle.iri_grammar.proofs.CutLaws.{before-delimited, lacks-append, lacks-other}
 use Rattle.iri_grammar.specs.Parts.{Parts, Splits, recompose, scheme_text, authority_text}
 use Rattle.iri_grammar.specs.Split.{split_of}
-use Rattle.iri_grammar.proofs.SplitLaws.{Marks, scheme-lacks, hash_ends, authority_text-lacks, marked-lacks}
-use Rattle.iri_grammar.proofs.SplitUnique.{fits-marks, split_is}
+use Rattle.iri_grammar.proofs.SplitLaws.{Delimiters, scheme-lacks, hash_ends, authority_text-lacks, delimited-lacks}
+use Rattle.iri_grammar.proofs.SplitUnique.{fits-delimiters, split_is}
 use Rattle.iri_grammar.specs.WholeFault.{iri_fault}
 use Rattle.iri_grammar.proofs.FaultLaws.{iri-law}
 
@@ -20,27 +20,27 @@ iri-has_scheme s k t h = let r = (iri-law s k t).0 h in subst (λ p. IsSome p.sc
 abbrev pub without_fragment : Parts → Parts
 without_fragment p = record { scheme = p.scheme; authority = p.authority; path = p.path; query = p.query; fragment = None }
 
-nothing_behind : (xs : List ℕ) → xs ++ [] ≡ xs
-nothing_behind [] = refl
-nothing_behind (x ∷ xs) = ap (λ ys. x ∷ ys) (nothing_behind xs)
+nothing_after : (xs : List ℕ) → xs ++ [] ≡ xs
+nothing_after [] = refl
+nothing_after (x ∷ xs) = ap (λ ys. x ∷ ys) (nothing_after xs)
 
 pub scheme_text-lacks : (o : Option (List ℕ)) → if_there is_scheme o ≡ true → lacks 35 (scheme_text o) ≡ true
 scheme_text-lacks None h = refl
 scheme_text-lacks (Some x) h = lacks-append 35 x (58 ∷ []) (scheme-lacks 35 x hash_ends h) (lacks-other 35 58 [] refl refl)
 
 before-hash : (sch a : Option (List ℕ)) (p : List ℕ) (q f : Option (List ℕ))
-    → Marks (record { scheme = sch; authority = a; path = p; query = q; fragment = f })
+    → Delimiters (record { scheme = sch; authority = a; path = p; query = q; fragment = f })
     → recompose (record { scheme = sch; authority = a; path = p; query = q; fragment = None })
     ≡ before 35 (recompose (record { scheme = sch; authority = a; path = p; query = q; fragment = f }))
 unfolding recompose
 before-hash sch a p q f m =
-    let front = scheme_text sch ++ (authority_text a ++ (p ++ marked 63 q)) in
+    let prefix = scheme_text sch ++ (authority_text a ++ (p ++ delimited 63 q)) in
     let plain = lacks-append 35 (scheme_text sch) _ (scheme_text-lacks sch m.scheme)
     (lacks-append 35 (authority_text a) _ (authority_text-lacks 35 a refl m.authority_hash)
-    (lacks-append 35 p (marked 63 q) m.path_hash (marked-lacks 35 63 q refl m.query_hash))) in
-    let grouped : scheme_text sch ++ (authority_text a ++ (p ++ (marked 63 q ++ marked 35 f))) ≡ front ++ marked 35 f = simp append_assoc in
-    ap (λ z. scheme_text sch ++ (authority_text a ++ (p ++ z))) (nothing_behind (marked 63 q))
-    ∙ sym (ap (before 35) grouped ∙ before-marked 35 front f plain)
+    (lacks-append 35 p (delimited 63 q) m.path_hash (delimited-lacks 35 63 q refl m.query_hash))) in
+    let grouped : scheme_text sch ++ (authority_text a ++ (p ++ (delimited 63 q ++ delimited 35 f))) ≡ prefix ++ delimited 35 f = simp append_assoc in
+    ap (λ z. scheme_text sch ++ (authority_text a ++ (p ++ z))) (nothing_after (delimited 63 q))
+    ∙ sym (ap (before 35) grouped ∙ before-delimited 35 prefix f plain)
 
 pub splits_without_fragment : (s : Tests) → IsSpec s → (t : List ℕ) (p : Parts) → Splits s t p → Splits s (before 35 t) (without_fragment p)
 splits_without_fragment s k t p h =
@@ -53,5 +53,5 @@ splits_without_fragment s k t p h =
         fragment = refl;
         rules = h.fits.rules;
       };
-      text = before-hash p.scheme p.authority p.path p.query p.fragment (fits-marks s p k h.fits) ∙ ap (before 35) h.text;
+      text = before-hash p.scheme p.authority p.path p.query p.fragment (fits-delimiters s p k h.fits) ∙ ap (before 35) h.text;
     }

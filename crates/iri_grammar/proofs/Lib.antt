@@ -3,12 +3,12 @@ pub mod Tables
 pub mod Units
 pub mod UnitRuns
 pub mod HexDigits
-pub mod MarkLemmas
+pub mod DelimiterLemmas
 pub mod PlainTails
 pub mod PlainAuthorities
 pub mod DotPlaces
 pub mod Octets
-pub mod Marks
+pub mod Delimiters
 pub mod Groups
 pub mod Doubles
 pub mod Ports

@@ -9,9 +9,9 @@ use Rattle.iri_grammar.specs.Classes.{is_ascii_userinfo, is_ascii_reg_name, is_a
 use Rattle.iri_grammar.specs.Pieces.{pieces, onto}
 use Rattle.iri_grammar.specs.Ipv4.{is_ipv4, is_dec_octet, is_hundreds, are_four_octets}
 use Rattle.iri_grammar.specs.Ipv6.{is_group, are_groups, are_groups_or_ipv4, group_count}
-use Rattle.iri_grammar.specs.Ipv6Test.{begins, before_double, behind_double, group_texts, is_ipv6_around, is_ipv6}
+use Rattle.iri_grammar.specs.Ipv6Test.{begins, before_double, after_double, group_texts, is_ipv6_around, is_ipv6}
 use Rattle.iri_grammar.specs.IpLiteral.{some_of, is_future_address, is_ipvfuture, is_end, is_ip_literal}
-use Rattle.iri_grammar.specs.Cut.{before, behind, marked, tail}
+use Rattle.iri_grammar.specs.Cut.{before, after, delimited, tail}
 use Rattle.iri_grammar.proofs.CutLaws.{by_test, both, joined}
 
 -- brackets, and what stands in them: hex digits, `.`, `:` and the other ASCII characters of a userinfo
@@ -136,29 +136,29 @@ begun [] h k = refl
 begun (x ∷ xs) h k = by_test x 58 (λ b. b ≡ true → (is_literal_char x && list_all is_literal_char xs) ≡ true)
     (λ e _. rw (e, colon-literal) k) (λ _ n. cc) h
 
-double-literal : (xs : List ℕ) → list_all is_literal_char (before_double xs) ≡ true → all_there (behind_double xs) ≡ true
+double-literal : (xs : List ℕ) → list_all is_literal_char (before_double xs) ≡ true → all_there (after_double xs) ≡ true
     → list_all is_literal_char xs ≡ true
 double-literal [] h k = refl
 double-literal (x ∷ xs) h k =
     elim (x == 58 && begins 58 xs) as (λ b. (x == 58 && begins 58 xs) ≡ b
     → list_all is_literal_char (cond b [] (x ∷ before_double xs)) ≡ true
-    → all_there (cond b (Some (tail xs)) (behind_double xs)) ≡ true
+    → all_there (cond b (Some (tail xs)) (after_double xs)) ≡ true
     → (is_literal_char x && list_all is_literal_char xs) ≡ true) [
       | true ↦ λ e _ m. let t = both (x == 58) (begins 58 xs) e in begun (x ∷ xs) t.0 (begun xs t.1 m)
       | false ↦ λ _ l m. let t = both (is_literal_char x) (list_all is_literal_char (before_double xs)) l in
           rw t.0 (double-literal xs t.1 m)
     ] refl h k
 
-around-literal : (front : List ℕ) (back : Option (List ℕ)) → is_ipv6_around front back ≡ true
-    → (list_all is_literal_char front ≡ true) × (all_there back ≡ true)
-around-literal front None h = (
-  parts-literal front
-      (mixed-literal (group_texts front) (both (are_groups_or_ipv4 (group_texts front)) (group_count (group_texts front) == 8) h).0),
+around-literal : (prefix : List ℕ) (back : Option (List ℕ)) → is_ipv6_around prefix back ≡ true
+    → (list_all is_literal_char prefix ≡ true) × (all_there back ≡ true)
+around-literal prefix None h = (
+  parts-literal prefix
+      (mixed-literal (group_texts prefix) (both (are_groups_or_ipv4 (group_texts prefix)) (group_count (group_texts prefix) == 8) h).0),
   refl,
 )
-around-literal front (Some back) h =
-    let k = three (are_groups (group_texts front)) (are_groups_or_ipv4 (group_texts back)) _ h in
-    (parts-literal front (groups-literal (group_texts front) k.0), parts-literal back (mixed-literal (group_texts back) k.1))
+around-literal prefix (Some back) h =
+    let k = three (are_groups (group_texts prefix)) (are_groups_or_ipv4 (group_texts back)) _ h in
+    (parts-literal prefix (groups-literal (group_texts prefix) k.0), parts-literal back (mixed-literal (group_texts back) k.1))
   where
     three : (a b c : Bool) → (a && b && c) ≡ true → (a ≡ true) × (b ≡ true)
     three true true c h = (refl, refl)
@@ -166,14 +166,14 @@ around-literal front (Some back) h =
     three false b c h = cc
 
 ipv6-literal : (xs : List ℕ) → is_ipv6 xs ≡ true → list_all is_literal_char xs ≡ true
-ipv6-literal xs h = let k = around-literal (before_double xs) (behind_double xs) h in double-literal xs k.0 k.1
+ipv6-literal xs h = let k = around-literal (before_double xs) (after_double xs) h in double-literal xs k.0 k.1
 
 -- ---- IPvFuture
 some-all : (p : ℕ → Bool) (xs : List ℕ) → some_of p xs ≡ true → list_all p xs ≡ true
 some-all p [] h = refl
 some-all p (x ∷ xs) h = h
 
-address-literal : (o : Option (List ℕ)) → is_future_address o ≡ true → list_all is_literal_char (marked 46 o) ≡ true
+address-literal : (o : Option (List ℕ)) → is_future_address o ≡ true → list_all is_literal_char (delimited 46 o) ≡ true
 address-literal None h = refl
 address-literal (Some xs) h = rw dot-literal (all-weaken is_ascii_userinfo is_literal_char userinfo-literal xs
     (some-all is_ascii_userinfo xs h))
@@ -185,10 +185,10 @@ version-literal v h = grind (arith, nat_tests)
 future-literal : (xs : List ℕ) → is_ipvfuture xs ≡ true → list_all is_literal_char xs ≡ true
 future-literal [] h = refl
 future-literal (v ∷ xs) h =
-    let k = three (v == 118 || v == 86) (some_of is_ascii_hexdigit (before 46 xs)) (is_future_address (behind 46 xs)) h in
+    let k = three (v == 118 || v == 86) (some_of is_ascii_hexdigit (before 46 xs)) (is_future_address (after 46 xs)) h in
     let digits = all-weaken is_ascii_hexdigit is_literal_char hex-literal (before 46 xs) (some-all is_ascii_hexdigit (before 46 xs) k.1) in
     rw (version-literal v k.0) (subst (λ ys. list_all is_literal_char ys ≡ true) (joined 46 xs)
-    (all-join is_literal_char (before 46 xs) (marked 46 (behind 46 xs)) digits (address-literal (behind 46 xs) k.2)))
+    (all-join is_literal_char (before 46 xs) (delimited 46 (after 46 xs)) digits (address-literal (after 46 xs) k.2)))
   where
     three : (a b c : Bool) → (a && b && c) ≡ true → (a ≡ true) × (b ≡ true) × (c ≡ true)
     three true true c h = (refl, refl, h)
@@ -204,7 +204,7 @@ close-literal : is_literal_char 93 ≡ true
 unfolding is_literal_char is_ascii_userinfo is_ascii_reg_name is_ascii_unreserved is_sub_delim
 close-literal = refl
 
-end-literal : (o : Option (List ℕ)) → is_end o ≡ true → list_all is_literal_char (marked 93 o) ≡ true
+end-literal : (o : Option (List ℕ)) → is_end o ≡ true → list_all is_literal_char (delimited 93 o) ≡ true
 end-literal None h = refl
 end-literal (Some []) h = rw close-literal refl
 end-literal (Some (x ∷ xs)) h = cc
@@ -219,9 +219,9 @@ address xs h =
 pub ip_literal-chars : (xs : List ℕ) → is_ip_literal xs ≡ true → list_all is_literal_char xs ≡ true
 ip_literal-chars [] h = refl
 ip_literal-chars (b ∷ xs) h =
-    let k = three (b == 91) (is_end (behind 93 xs)) (is_ipv6 (before 93 xs) || is_ipvfuture (before 93 xs)) h in
+    let k = three (b == 91) (is_end (after 93 xs)) (is_ipv6 (before 93 xs) || is_ipvfuture (before 93 xs)) h in
     rw (open-literal b k.0) (subst (λ ys. list_all is_literal_char ys ≡ true) (joined 93 xs)
-    (all-join is_literal_char (before 93 xs) (marked 93 (behind 93 xs)) (address (before 93 xs) k.2) (end-literal (behind 93 xs) k.1)))
+    (all-join is_literal_char (before 93 xs) (delimited 93 (after 93 xs)) (address (before 93 xs) k.2) (end-literal (after 93 xs) k.1)))
   where
     three : (a b c : Bool) → (a && b && c) ≡ true → (a ≡ true) × (b ≡ true) × (c ≡ true)
     three true true c h = (refl, refl, h)

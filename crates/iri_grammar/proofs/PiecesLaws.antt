@@ -1,25 +1,25 @@
 -- Pieces and the first delimiter.
 use Rattle.std.proofs.Common.{◌≡◌, ℕ, ◌+◌, ◌≤◌, true, false, cond, List, [], ◌∷◌, Some, length, refl, ap, arith}
 use Rattle.std.specs.Prelude.{◌==◌}
-use Rattle.iri_grammar.specs.Cut.{before, behind}
+use Rattle.iri_grammar.specs.Cut.{before, after}
 use Rattle.iri_grammar.specs.Pieces.{onto, pieces}
 use Rattle.iri_grammar.specs.inside.PiecesLaws.{more_pieces}
 
 -- the first piece stands before the first delimiter
-pub pieces_cut : (c : ℕ) (t : List ℕ) → pieces c t ≡ before c t ∷ more_pieces c (behind c t)
+pub pieces_cut : (c : ℕ) (t : List ℕ) → pieces c t ≡ before c t ∷ more_pieces c (after c t)
 pieces_cut c [] = refl
 pieces_cut c (x ∷ xs) =
     elim (x == c) as (λ b. cond b ([] ∷ pieces c xs) (onto x (pieces c xs))
-    ≡ cond b [] (x ∷ before c xs) ∷ more_pieces c (cond b (Some xs) (behind c xs))) [
+    ≡ cond b [] (x ∷ before c xs) ∷ more_pieces c (cond b (Some xs) (after c xs))) [
       | true ↦ refl
       | false ↦ ap (onto x) (pieces_cut c xs)
     ]
 
 -- what follows a delimiter is shorter
-pub behind_shorter : (c : ℕ) (t r : List ℕ) → behind c t ≡ Some r → length r + 1 ≤ length t
-behind_shorter c [] r e = cc
-behind_shorter c (x ∷ xs) r e =
-    elim (x == c) as (λ b. cond b (Some xs) (behind c xs) ≡ Some r → length r + 1 ≤ length (x ∷ xs)) [
+pub after_shorter : (c : ℕ) (t r : List ℕ) → after c t ≡ Some r → length r + 1 ≤ length t
+after_shorter c [] r e = cc
+after_shorter c (x ∷ xs) r e =
+    elim (x == c) as (λ b. cond b (Some xs) (after c xs) ≡ Some r → length r + 1 ≤ length (x ∷ xs)) [
       | true ↦ λ k. let same : xs ≡ r = cc in omega (arith, ap length same)
-      | false ↦ λ k. omega (arith, behind_shorter c xs r k)
+      | false ↦ λ k. omega (arith, after_shorter c xs r k)
     ] e

@@ -15,7 +15,7 @@ use Rattle.iri_grammar.specs.Authority.{authority_parts, is_authority}
 use Rattle.iri_grammar.specs.Classes.{Tests, IsSpec, is_ascii_userinfo, is_ascii_reg_name, is_ascii_unreserved, is_sub_delim}
 use Rattle.iri_grammar.specs.ClassTests.{ascii_test}
 use Rattle.iri_grammar.specs.Components.{if_there, is_port, is_userinfo}
-use Rattle.iri_grammar.specs.Cut.{lacks, marked}
+use Rattle.iri_grammar.specs.Cut.{lacks, delimited}
 use Rattle.iri_grammar.specs.Fault.{authority_fault, part_fault}
 use Rattle.iri_grammar.specs.IpLiteral.{is_ip_literal}
 use Rattle.iri_grammar.specs.Runs.{run_of}
@@ -43,7 +43,7 @@ port_le (x ∷ xs) =
 -- what stands there is a port that isn't empty, with its colon, or nothing
 record PortPiece (t : List ℕ) : Type 0 where
   port : Option (List ℕ)
-  is : t ≡ marked 58 port
+  is : t ≡ delimited 58 port
   digits : if_there is_port port ≡ true
   kept : is_kept_port port ≡ true
 
@@ -85,7 +85,7 @@ all_of : (p q : ℕ → Bool) → ((x : ℕ) → p x ≡ true → q x ≡ true) 
 all_of p q f [] h = refl
 all_of p q f (x ∷ xs) h = let k = both (p x) (list_all p xs) h in rw (f x k.0) (all_of p q f xs k.1)
 
-port_chars : (p : Option (List ℕ)) → if_there is_port p ≡ true → list_all (ascii_test Userinfo) (marked 58 p) ≡ true
+port_chars : (p : Option (List ℕ)) → if_there is_port p ≡ true → list_all (ascii_test Userinfo) (delimited 58 p) ≡ true
 unfolding is_ascii_userinfo is_ascii_reg_name is_ascii_unreserved is_sub_delim
 port_chars None h = refl
 port_chars (Some d) h = all_of is_ascii_digit (ascii_test Userinfo) digit_char d h
@@ -99,10 +99,10 @@ unfolding is_ascii_reg_name is_ascii_unreserved is_sub_delim
 no_colon h n = all-lacks (ascii_test RegName) 58 h refl n
 
 plain_of : (h : List ℕ) (p : Option (List ℕ)) → list_all (ascii_test RegName) h ≡ true → if_there is_port p ≡ true → is_kept_port p ≡ true
-    → Plain (h ++ marked 58 p)
+    → Plain (h ++ delimited 58 p)
 unfolding is_plain_authority
 plain_of h p n d k = record {
-  chars = list_all-append (ascii_test Userinfo) h (marked 58 p)
+  chars = list_all-append (ascii_test Userinfo) h (delimited 58 p)
       ∙ rw (all_of (ascii_test RegName) (ascii_test Userinfo) name_char h n) (port_chars p d);
   plain = rw (name_parts h p (no_at h n) (no_colon h n) d, n, k) refl;
 }
@@ -120,7 +120,7 @@ small_name (x ∷ xs) h =
 digit_small : (x : ℕ) → is_ascii_digit x ≡ true → is_small x ≡ true
 digit_small x h = grind (arith, nat_tests)
 
-pub port_small : (p : Option (List ℕ)) → if_there is_port p ≡ true → list_all is_small (marked 58 p) ≡ true
+pub port_small : (p : Option (List ℕ)) → if_there is_port p ≡ true → list_all is_small (delimited 58 p) ≡ true
 port_small None h = refl
 port_small (Some d) h = all_of is_ascii_digit is_small digit_small d h
 
@@ -163,7 +163,7 @@ plain_cut t =
     let n = name_len t in
     let r = drop n t in
     let p = port_piece r in
-    let whole : take (plain_len t) t ≡ take n t ++ marked 58 p.port = take-add n (port_len r) t ∙ ap (λ x. take n t ++ x) p.is in
+    let whole : take (plain_len t) t ≡ take n t ++ delimited 58 p.port = take-add n (port_len r) t ∙ ap (λ x. take n t ++ x) p.is in
     let k = plain_of (take n t) p.port (run-all (ascii_test RegName) t) p.digits p.kept in
     let chars = ap (list_all (ascii_test Userinfo)) whole ∙ k.chars in
     record {
@@ -171,7 +171,7 @@ plain_cut t =
       text = IsUtf8-from_ascii (take (plain_len t) t) (all_below (ascii_test Userinfo) (ascii_test_below Userinfo) (take (plain_len t) t) chars);
       chars = chars;
       plain = ap is_plain_authority whole ∙ k.plain;
-      small = λ h. ap (list_all is_small) whole ∙ list_all-append is_small (take n t) (marked 58 p.port) ∙ rw (small_name t h) (port_small p.port p.digits);
+      small = λ h. ap (list_all is_small) whole ∙ list_all-append is_small (take n t) (delimited 58 p.port) ∙ rw (small_name t h) (port_small p.port p.digits);
     }
 
 -- ---- such an authority has no fault

@@ -8,11 +8,11 @@ use Rattle.std.proofs.lemmas.Str.{IsUtf8-from_ascii}
 use Rattle.std.proofs.lemmas.Bool.{eqb-true}
 use Rattle.iri_grammar.specs.Authority.{recompose_authority}
 use Rattle.iri_grammar.specs.Classes.{Tests, IsSpec, path_char, is_ascii_reg_name, is_ascii_userinfo, is_ascii_unreserved, is_sub_delim}
-use Rattle.iri_grammar.specs.Marks.{before_any, from_any}
-use Rattle.iri_grammar.specs.inside.Marks.{ends_at_start, ends_authority}
+use Rattle.iri_grammar.specs.Delimiters.{before_any, from_any}
+use Rattle.iri_grammar.specs.inside.Delimiters.{ends_at_start, ends_authority}
 use Rattle.iri_grammar.specs.ClassTests.{ascii_test, class_test}
 use Rattle.iri_grammar.specs.Components.{if_there, is_fragment, is_query}
-use Rattle.iri_grammar.specs.Cut.{before, behind, lacks, marked}
+use Rattle.iri_grammar.specs.Cut.{before, after, lacks, delimited}
 use Rattle.iri_grammar.specs.Fault.{authority_fault, first, fragment_fault, part_fault, unless}
 use Rattle.iri_grammar.specs.IpLiteral.{is_ip_literal}
 use Rattle.iri_grammar.specs.OptionalSlices.{now_of}
@@ -31,8 +31,8 @@ use Rattle.iri_grammar.proofs.SplitUnique.{path_apart, queries-lack}
 use Rattle.iri_grammar.proofs.ClassLaws.{ascii_test_below, class_has_ascii, class_has_no_percent}
 use Rattle.iri_grammar.proofs.AuthorityLaws.{passes}
 use Rattle.iri_grammar.proofs.FaultLaws.{authority-no_fault, part-no_fault}
-use Rattle.iri_grammar.proofs.CutLaws.{both, test_apart, before-marked, behind-marked, lacks-append, lacks-other}
-use Rattle.iri_grammar.proofs.MarkLemmas.{run_of_all}
+use Rattle.iri_grammar.proofs.CutLaws.{both, test_apart, before-delimited, after-delimited, lacks-append, lacks-other}
+use Rattle.iri_grammar.proofs.DelimiterLemmas.{run_of_all}
 use Rattle.iri_grammar.proofs.Units.{nothing_left, of_text, run_past}
 
 -- ---- runs
@@ -49,26 +49,26 @@ pub nothing : (r : List ℕ) → (length r == 0) ≡ true → r ≡ []
 nothing [] h = refl
 nothing (x ∷ xs) h = let none = eqb-true (length (x ∷ xs)) 0 h in absurd (omega (arith, none))
 
-marked-lacks : (o : Option (List ℕ)) → if_there (lacks 35) o ≡ true → lacks 35 (marked 63 o) ≡ true
-marked-lacks None h = refl
-marked-lacks (Some q) h = lacks-other 35 63 q refl h
+delimited-lacks : (o : Option (List ℕ)) → if_there (lacks 35) o ≡ true → lacks 35 (delimited 63 o) ≡ true
+delimited-lacks None h = refl
+delimited-lacks (Some q) h = lacks-other 35 63 q refl h
 
 pub over-tail : (s : Tests) → IsSpec s → (t : List ℕ) (p : Tail)
-    → t ≡ p.path.now ++ (marked 63 (now_of p.query) ++ marked 35 (now_of p.fragment)) → IsOverTail s p → IsTail t p
+    → t ≡ p.path.now ++ (delimited 63 (now_of p.query) ++ delimited 35 (now_of p.fragment)) → IsOverTail s p → IsTail t p
 over-tail s k t p e h =
     let x = p.path.now in
     let q = now_of p.query in
     let f = now_of p.fragment in
     let apart = path_apart s k in
-    let whole = e ∙ sym (append_assoc x (marked 63 q) (marked 35 f)) in
+    let whole = e ∙ sym (append_assoc x (delimited 63 q) (delimited 35 f)) in
     let hash = over_text-lacks (path_char s) 35 x (omega arith) apart.0 refl refl h.0 in
-    let mark = over_text-lacks (path_char s) 63 x (omega arith) apart.1 refl refl h.0 in
-    let front = lacks-append 35 x (marked 63 q) hash (marked-lacks q (queries-lack s q k h.1)) in
-    let first = ap (before 35) whole ∙ before-marked 35 (x ++ marked 63 q) f front in
+    let delimiter = over_text-lacks (path_char s) 63 x (omega arith) apart.1 refl refl h.0 in
+    let prefix = lacks-append 35 x (delimited 63 q) hash (delimited-lacks q (queries-lack s q k h.1)) in
+    let first = ap (before 35) whole ∙ before-delimited 35 (x ++ delimited 63 q) f prefix in
     record {
-      path = sym (ap (before 63) first ∙ before-marked 63 x q mark);
-      query = sym (ap (behind 63) first ∙ behind-marked 63 x q mark);
-      fragment = sym (ap (behind 35) whole ∙ behind-marked 35 (x ++ marked 63 q) f front);
+      path = sym (ap (before 63) first ∙ before-delimited 63 x q delimiter);
+      query = sym (ap (after 63) first ∙ after-delimited 63 x q delimiter);
+      fragment = sym (ap (after 35) whole ∙ after-delimited 35 (x ++ delimited 63 q) f prefix);
     }
 
 -- ---- such a part is in its production

@@ -2,5 +2,5 @@
 use Rattle.std.proofs.Common.{◌≡◌, ℕ, List, take, slice_range, arith}
 use Rattle.std.proofs.lemmas.Grind.{common_steps}
 
-pub range_front : (t : List ℕ) (n : ℕ) → slice_range t 0 n ≡ take n t
-range_front t n = grind (arith, common_steps)
+pub range_prefix : (t : List ℕ) (n : ℕ) → slice_range t 0 n ≡ take n t
+range_prefix t n = grind (arith, common_steps)

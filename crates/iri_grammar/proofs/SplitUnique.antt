@@ -10,12 +10,12 @@ use Rattle.iri_grammar.specs.Classes.{is_ascii_reg_name, is_ascii_unreserved, is
 use Rattle.iri_grammar.specs.Over.{text_over}
 use Rattle.iri_grammar.specs.Components.{if_there, is_scheme, is_scheme_char, is_query}
 use Rattle.iri_grammar.specs.Authority.{is_authority}
-use Rattle.iri_grammar.specs.Cut.{lacks, marked}
+use Rattle.iri_grammar.specs.Cut.{lacks, delimited}
 use Rattle.iri_grammar.specs.Parts.{Parts, Fits, Splits, IsReference, IsIri, IsRelative, recompose, scheme_text, authority_text}
 use Rattle.iri_grammar.specs.Split.{split_of}
-use Rattle.iri_grammar.proofs.SplitLaws.{Marks, split_parts, scheme-chars}
-use Rattle.iri_grammar.proofs.AuthorityTexts.{IsForeign, authority-lacks, hash-foreign, slash-foreign, mark-foreign, over_text-lacks}
-use Rattle.iri_grammar.proofs.AuthorityTexts.{text_over-utf8, authority-utf8, one_byte-utf8, marked-utf8, all_below}
+use Rattle.iri_grammar.proofs.SplitLaws.{Delimiters, split_parts, scheme-chars}
+use Rattle.iri_grammar.proofs.AuthorityTexts.{IsForeign, authority-lacks, hash-foreign, slash-foreign, delimiter-foreign, over_text-lacks}
+use Rattle.iri_grammar.proofs.AuthorityTexts.{text_over-utf8, authority-utf8, one_byte-utf8, delimited-utf8, all_below}
 
 -- ---- the parts of a tuple that fits
 authorities-lack : (s : Tests) (c : ℕ) (o : Option (List ℕ)) → IsForeign s c → if_there (is_authority s) o ≡ true
@@ -35,23 +35,23 @@ pub queries-lack : (s : Tests) (o : Option (List ℕ)) → IsSpec s → if_there
 queries-lack s None k h = refl
 queries-lack s (Some xs) k h = over_text-lacks (query_char s) 35 xs (omega arith) (query_apart s k) refl refl h
 
-pub fits-marks : (s : Tests) (p : Parts) → IsSpec s → Fits s p → Marks p
-fits-marks s p k f =
+pub fits-delimiters : (s : Tests) (p : Parts) → IsSpec s → Fits s p → Delimiters p
+fits-delimiters s p k f =
     let a = path_apart s k in
     record {
       scheme = f.scheme;
       authority_hash = authorities-lack s 35 p.authority (hash-foreign s k) f.authority;
-      authority_mark = authorities-lack s 63 p.authority (mark-foreign s k) f.authority;
+      authority_delimiter = authorities-lack s 63 p.authority (delimiter-foreign s k) f.authority;
       authority_slash = authorities-lack s 47 p.authority (slash-foreign s k) f.authority;
       path_hash = over_text-lacks (path_char s) 35 p.path (omega arith) a.0 refl refl f.path;
-      path_mark = over_text-lacks (path_char s) 63 p.path (omega arith) a.1 refl refl f.path;
+      path_delimiter = over_text-lacks (path_char s) 63 p.path (omega arith) a.1 refl refl f.path;
       query_hash = queries-lack s p.query k f.query;
       rules = f.rules;
     }
 
 -- the split is the function
 pub split_is : (s : Tests) (t : List ℕ) (p : Parts) → IsSpec s → Splits s t p → split_of t ≡ p
-split_is s t p k h = ap split_of (sym h.text) ∙ split_parts p.scheme p.authority p.path p.query p.fragment (fits-marks s p k h.fits)
+split_is s t p k h = ap split_of (sym h.text) ∙ split_parts p.scheme p.authority p.path p.query p.fragment (fits-delimiters s p k h.fits)
 
 pub one_split : (s : Tests) → IsSpec s → (t : List ℕ) (a b : Parts) → Splits s t a → Splits s t b → a ≡ b
 one_split s k t a b ha hb = sym (split_is s t a k ha) ∙ split_is s t b k hb
@@ -88,11 +88,11 @@ scheme_text-utf8 (Some xs) h = IsUtf8-append xs (58 ∷ []) (scheme-utf8 xs h) (
 
 authority_text-utf8 : (s : Tests) (o : Option (List ℕ)) → if_there (is_authority s) o ≡ true → IsUtf8 (authority_text o)
 authority_text-utf8 s None h = nothing
-authority_text-utf8 s (Some xs) h = marked-utf8 47 (47 ∷ xs) (omega arith) (marked-utf8 47 xs (omega arith) (authority-utf8 s xs h))
+authority_text-utf8 s (Some xs) h = delimited-utf8 47 (47 ∷ xs) (omega arith) (delimited-utf8 47 xs (omega arith) (authority-utf8 s xs h))
 
-pub part-utf8 : (p : ℕ → Bool) (c : ℕ) (o : Option (List ℕ)) → c < 128 → if_there (text_over p) o ≡ true → IsUtf8 (marked c o)
+pub part-utf8 : (p : ℕ → Bool) (c : ℕ) (o : Option (List ℕ)) → c < 128 → if_there (text_over p) o ≡ true → IsUtf8 (delimited c o)
 part-utf8 p c None l h = nothing
-part-utf8 p c (Some xs) l h = marked-utf8 c xs l (text_over-utf8 p xs h)
+part-utf8 p c (Some xs) l h = delimited-utf8 c xs l (text_over-utf8 p xs h)
 
 recompose-utf8 : (s : Tests) (p : Parts) → Fits s p → IsUtf8 (recompose p)
 unfolding recompose
@@ -100,7 +100,7 @@ recompose-utf8 s p f =
     IsUtf8-append (scheme_text p.scheme) _ (scheme_text-utf8 p.scheme f.scheme)
     (IsUtf8-append (authority_text p.authority) _ (authority_text-utf8 s p.authority f.authority)
     (IsUtf8-append p.path _ (text_over-utf8 (path_char s) p.path f.path)
-    (IsUtf8-append (marked 63 p.query) _ (part-utf8 (query_char s) 63 p.query (omega arith) f.query)
+    (IsUtf8-append (delimited 63 p.query) _ (part-utf8 (query_char s) 63 p.query (omega arith) f.query)
     (part-utf8 (fragment_char s) 35 p.fragment (omega arith) f.fragment))))
 
 pub splits-utf8 : (s : Tests) (t : List ℕ) (p : Parts) → Splits s t p → IsUtf8 t

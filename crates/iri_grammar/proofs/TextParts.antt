@@ -5,15 +5,15 @@ use Rattle.std.specs.Str.{is_utf8, IsUtf8}
 use Rattle.std.proofs.lemmas.List.{take-append-drop}
 use Rattle.std.proofs.lemmas.Str.{IsUtf8-append, IsUtf8-from_is_utf8, is_utf8-from_IsUtf8}
 use Rattle.iri_grammar.specs.Classes.{Tests, fragment_char, path_char, query_char}
-use Rattle.iri_grammar.specs.Cut.{marked}
+use Rattle.iri_grammar.specs.Cut.{delimited}
 use Rattle.iri_grammar.specs.Fault.{Answers, bytes_fault}
 use Rattle.iri_grammar.specs.declared.error.Error.{Error}
 use Rattle.iri_grammar.specs.declared.error.ErrorKind.{ErrorKind}
 use Rattle.iri_grammar.specs.declared.error.ErrorKind.TheVariants.{InvalidUtf8}
-use Rattle.iri_grammar.specs.inside.Marks.{SchemeAt}
+use Rattle.iri_grammar.specs.inside.Delimiters.{SchemeAt}
 use Rattle.iri_grammar.specs.inside.Tails.{AreOver}
 use Rattle.iri_grammar.proofs.CutLemmas.{false-where}
-use Rattle.iri_grammar.proofs.AuthorityTexts.{marked-utf8, text_over-utf8}
+use Rattle.iri_grammar.proofs.AuthorityTexts.{delimited-utf8, text_over-utf8}
 use Rattle.iri_grammar.proofs.SplitUnique.{part-utf8}
 
 pub text-by_parts : (t : List ℕ) (n : ℕ) → IsUtf8 (take n t) → IsUtf8 (drop n t) → IsUtf8 t
@@ -24,14 +24,14 @@ pub scheme-text : (t : List ℕ) (k : ℕ) → SchemeAt t k → IsUtf8 (drop (k 
 scheme-text t k at u =
     let colon : slice_index t k < 128 = omega (arith, at.byte) in
     let rest : drop k t ≡ slice_index t k ∷ drop (k + 1) t = rw add-one (drop-cons t k 0 at.inside) in
-    text-by_parts t k at.text (subst IsUtf8 (sym rest) (marked-utf8 (slice_index t k) (drop (k + 1) t) colon u))
+    text-by_parts t k at.text (subst IsUtf8 (sym rest) (delimited-utf8 (slice_index t k) (drop (k + 1) t) colon u))
 
 -- path, query and fragment in their productions
-pub tail-text : (s : Tests) (t path : List ℕ) (query fragment : Option (List ℕ)) → t ≡ path ++ (marked 63 query ++ marked 35 fragment)
+pub tail-text : (s : Tests) (t path : List ℕ) (query fragment : Option (List ℕ)) → t ≡ path ++ (delimited 63 query ++ delimited 35 fragment)
     → AreOver s path query fragment → IsUtf8 t
 tail-text s t path query fragment e h =
-    subst IsUtf8 (sym e) (IsUtf8-append path (marked 63 query ++ marked 35 fragment) (text_over-utf8 (path_char s) path h.0)
-    (IsUtf8-append (marked 63 query) (marked 35 fragment) (part-utf8 (query_char s) 63 query (omega arith) h.1)
+    subst IsUtf8 (sym e) (IsUtf8-append path (delimited 63 query ++ delimited 35 fragment) (text_over-utf8 (path_char s) path h.0)
+    (IsUtf8-append (delimited 63 query) (delimited 35 fragment) (part-utf8 (query_char s) 63 query (omega arith) h.1)
     (part-utf8 (fragment_char s) 35 fragment (omega arith) h.2)))
 
 -- ---- the fault of bytes

@@ -22,7 +22,7 @@ use Rattle.iri_grammar.specs.Cut.{lacks}
 use Rattle.iri_grammar.proofs.ClassLaws.{no_percent}
 use Rattle.iri_grammar.proofs.CutBytes.{encode-lacks}
 use Rattle.iri_grammar.proofs.PlainTails.{plain-over, run-all}
-use Rattle.iri_grammar.proofs.Units.{ascii_front, char_past, char_stops, hex_is_ascii, nothing_left, of_text, run_of_le, triplet_past}
+use Rattle.iri_grammar.proofs.Units.{ascii_prefix, char_past, char_stops, hex_is_ascii, nothing_left, of_text, run_of_le, triplet_past}
 
 -- ---- units decide nothing: what follows them decides as the whole does
 over-past : (p : ℕ → Bool) (n : ℕ) (xs ys : List ℕ) → over_from p n xs ≡ true → over_from p n (xs ++ ys) ≡ over p ys
@@ -54,7 +54,7 @@ text_over-append p xs ys h k =
     of_text p (xs ++ ys) (IsUtf8-append xs ys u w)
     ∙ rw e (over-past p 0 (chars xs) (chars ys) (sym (of_text p xs u) ∙ h) ∙ (sym (of_text p ys w) ∙ k))
 
--- ---- none, and some behind others
+-- ---- none, and some after others
 nothing_over : (p : ℕ → Bool) → text_over p [] ≡ true
 unfolding over_from chars is_utf8
 nothing_over p = refl
@@ -92,14 +92,14 @@ pub char_lacks : (p : ℕ → Bool) (c n : ℕ) (t : List ℕ) → take n t ≡ 
 char_lacks p c n t e h k = ap (lacks 37) e ∙ encode-lacks 37 c (omega arith) (test_apart p 37 c h k)
 
 -- the same of the character c that a text begins with, before r
-pub front_of : (c : ℕ) (t r : List ℕ) → t ≡ encode_utf8 c ++ r → take (length t - length r) t ≡ encode_utf8 c
-front_of c t r e =
+pub prefix_of : (c : ℕ) (t r : List ℕ) → t ≡ encode_utf8 c ++ r → take (length t - length r) t ≡ encode_utf8 c
+prefix_of c t r e =
     let x = encode_utf8 c in
     let len : length t - length r ≡ length x = omega (arith, ap length e, length-append x r) in
     ap (λ n. take n t) len ∙ (ap (take (length x)) e ∙ take-append_seam x r)
 
-pub front_text : (t r : List ℕ) (c : ℕ) → IsUtf8 t → t ≡ encode_utf8 c ++ r → IsUtf8 (take (length t - length r) t)
-front_text t r c u e =
+pub prefix_text : (t r : List ℕ) (c : ℕ) → IsUtf8 t → t ≡ encode_utf8 c ++ r → IsUtf8 (take (length t - length r) t)
+prefix_text t r c u e =
     let x = encode_utf8 c in
     let len : length t - length r ≡ length x = omega (arith, ap length e, length-append x r) in
     let rest : drop (length t - length r) t ≡ r = ap (λ n. drop n t) len ∙ (ap (drop (length x)) e ∙ drop-append_seam x r) in
@@ -145,7 +145,7 @@ run_lacks k t = all-lacks (ascii_test k) 37 (take (run_of (ascii_test k) t) t) (
 -- of a text that begins in ASCII
 pub near_stops : (p : ℕ → Bool) (t : List ℕ) → IsUtf8 t → slice_index t 0 < 128 → LacksNearUnit p t → HasNoUnit p t
 near_stops p [] u l h = nothing_left p [] refl
-near_stops p (x ∷ xs) u l h = char_stops p x (x ∷ xs) xs u (ascii_front x xs l) (omega arith) h.triplet (h.ascii l (omega arith))
+near_stops p (x ∷ xs) u l h = char_stops p x (x ∷ xs) xs u (ascii_prefix x xs l) (omega arith) h.triplet (h.ascii l (omega arith))
 
 -- no triplet begins with another byte
 pub no_triplet_at : (t : List ℕ) → slice_index t 0 ≢ 37 → begins_with_triplet t ≡ false

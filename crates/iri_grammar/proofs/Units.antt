@@ -15,14 +15,14 @@ use Rattle.iri_grammar.specs.Runs.{run_of}
 use Rattle.iri_grammar.specs.inside.Runs.{begins_with_digit, begins_with_triplet, HasNoUnit}
 
 -- an ASCII byte is a character
-pub ascii_front : (b : ℕ) (bs : List ℕ) → b < 128 → b ∷ bs ≡ encode_utf8 b ++ bs
-ascii_front b bs h = sym (ap (λ l. l ++ bs) (encode_ascii b h))
+pub ascii_prefix : (b : ℕ) (bs : List ℕ) → b < 128 → b ∷ bs ≡ encode_utf8 b ++ bs
+ascii_prefix b bs h = sym (ap (λ l. l ++ bs) (encode_ascii b h))
 
 pub chars_ascii : (b : ℕ) (bs : List ℕ) → IsUtf8 (b ∷ bs) → b < 128 → chars (b ∷ bs) ≡ b ∷ chars bs
-chars_ascii b bs u h = chars_past_char (b ∷ bs) bs b u (ascii_front b bs h)
+chars_ascii b bs u h = chars_past_char (b ∷ bs) bs b u (ascii_prefix b bs h)
 
 pub text_after_ascii : (b : ℕ) (bs : List ℕ) → IsUtf8 (b ∷ bs) → b < 128 → IsUtf8 bs
-text_after_ascii b bs u h = IsUtf8-past_char (b ∷ bs) bs b u (ascii_front b bs h)
+text_after_ascii b bs u h = IsUtf8-past_char (b ∷ bs) bs b u (ascii_prefix b bs h)
 
 pub hex_is_ascii : (x : ℕ) → is_ascii_hexdigit x ≡ true → x < 128
 hex_is_ascii x h = grind (arith, nat_tests)
@@ -118,14 +118,14 @@ char_stops p c t r u e some none h =
   where
     at_percent : c ≡ 37 → over p (chars t) ≡ false
     at_percent same =
-        let front : t ≡ 37 ∷ r = e ∙ (ap (λ d. encode_utf8 d ++ r) same ∙ ap (λ l. l ++ r) (encode_ascii 37 (omega arith))) in
-        ap (λ l. over p (chars l)) front ∙ no_triplet p r (subst IsUtf8 front u) (sym (ap begins_with_triplet front) ∙ none)
+        let prefix : t ≡ 37 ∷ r = e ∙ (ap (λ d. encode_utf8 d ++ r) same ∙ ap (λ l. l ++ r) (encode_ascii 37 (omega arith))) in
+        ap (λ l. over p (chars l)) prefix ∙ no_triplet p r (subst IsUtf8 prefix u) (sym (ap begins_with_triplet prefix) ∙ none)
 
 pub percent_stops : (p : ℕ → Bool) (t : List ℕ) → IsUtf8 t → slice_index t 0 ≡ 37 → 0 < length t → begins_with_triplet t ≡ false → HasNoUnit p t
 percent_stops p [] u e some none = absurd (omega (arith, some))
 percent_stops p (x ∷ xs) u e some none =
-    let front : x ∷ xs ≡ 37 ∷ xs = ap (λ b. b ∷ xs) e in
-    ap (λ l. over p (chars l)) front ∙ (no_triplet p xs (subst IsUtf8 front u) (sym (ap begins_with_triplet front) ∙ none) ∙ sym (empty_test (x ∷ xs) some))
+    let prefix : x ∷ xs ≡ 37 ∷ xs = ap (λ b. b ∷ xs) e in
+    ap (λ l. over p (chars l)) prefix ∙ (no_triplet p xs (subst IsUtf8 prefix u) (sym (ap begins_with_triplet prefix) ∙ none) ∙ sym (empty_test (x ∷ xs) some))
 
 pub nothing_left : (p : ℕ → Bool) (t : List ℕ) → length t ≡ 0 → HasNoUnit p t
 unfolding over_from
@@ -148,7 +148,7 @@ run_past p q (x ∷ xs) w n u =
     elim (q x) as (λ b. q x ≡ b → over p (chars (drop (cond b (suc (run_of q xs)) 0) (x ∷ xs))) ≡ over p (chars (x ∷ xs))) [
       | true ↦ λ e.
           let k = w x e in
-          run_past p q xs w n (text_after_ascii x xs u k.0) ∙ char_past p x (x ∷ xs) xs u (ascii_front x xs k.0) n k.1
+          run_past p q xs w n (text_after_ascii x xs u k.0) ∙ char_past p x (x ∷ xs) xs u (ascii_prefix x xs k.0) n k.1
       | false ↦ λ _. refl
     ] refl
 

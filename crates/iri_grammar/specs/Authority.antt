@@ -1,7 +1,7 @@
 -- The authority and its one reading (RFC 3986 section 3.2).
 use Rattle.std.specs.Prelude.{◌≡◌, ℕ, Bool, true, cond, ◌&&◌, ◌==◌, List, [], ◌∷◌, ◌++◌, Option, Some, None, is_some}
 use Rattle.iri_grammar.specs.Classes.{Tests}
-use Rattle.iri_grammar.specs.Cut.{before, behind, marked}
+use Rattle.iri_grammar.specs.Cut.{before, after, delimited}
 use Rattle.iri_grammar.specs.Components.{is_userinfo, is_port, if_there}
 use Rattle.iri_grammar.specs.Host.{is_host}
 use Rattle.iri_grammar.specs.Characters.{at_sign, colon}
@@ -18,7 +18,7 @@ userinfo_text (Some u) = u ++ at_sign ∷ []
 
 -- [userinfo `@`] host [`:` port]
 unfoldable pub recompose_authority : AuthorityParts → List ℕ
-recompose_authority a = userinfo_text a.userinfo ++ (a.host ++ marked colon a.port)
+recompose_authority a = userinfo_text a.userinfo ++ (a.host ++ delimited colon a.port)
 
 -- each part is in its production
 pub record FitsAuthority (s : Tests) (a : AuthorityParts) : Type 0 where
@@ -42,7 +42,7 @@ port_of (x ∷ xs) = cond (x == colon && is_port xs) (Some xs) (port_of xs)
 
 -- what stands before the first `@`, where there is one
 abbrev pub userinfo_of : List ℕ → Option (List ℕ)
-userinfo_of t = cond (is_some (behind at_sign t)) (Some (before at_sign t)) None
+userinfo_of t = cond (is_some (after at_sign t)) (Some (before at_sign t)) None
 
 -- what follows the first `@`, or all
 abbrev pub or_all : List ℕ → Option (List ℕ) → List ℕ
@@ -50,7 +50,7 @@ or_all t None = t
 or_all t (Some r) = r
 
 abbrev pub after_userinfo : List ℕ → List ℕ
-after_userinfo t = or_all t (behind at_sign t)
+after_userinfo t = or_all t (after at_sign t)
 
 -- the reading of a text. That an authority has no other one is a law
 unfoldable pub authority_parts : List ℕ → AuthorityParts

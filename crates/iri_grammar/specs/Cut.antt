@@ -12,10 +12,10 @@ abbrev pub from : ℕ → List ℕ → List ℕ
 from c [] = []
 from c (x ∷ xs) = cond (x == c) (x ∷ xs) (from c xs)
 
--- what stands behind the first c, where there is one
-abbrev pub behind : ℕ → List ℕ → Option (List ℕ)
-behind c [] = None
-behind c (x ∷ xs) = cond (x == c) (Some xs) (behind c xs)
+-- what stands after the first c, where there is one
+abbrev pub after : ℕ → List ℕ → Option (List ℕ)
+after c [] = None
+after c (x ∷ xs) = cond (x == c) (Some xs) (after c xs)
 
 -- what follows the first byte
 abbrev pub tail : List ℕ → List ℕ
@@ -27,23 +27,23 @@ abbrev pub lacks : ℕ → List ℕ → Bool
 lacks c [] = true
 lacks c (x ∷ xs) = not (x == c) && lacks c xs
 
--- a delimiter and the part behind it, where the part stands
-abbrev pub marked : ℕ → Option (List ℕ) → List ℕ
-marked c None = []
-marked c (Some xs) = c ∷ xs
+-- a delimiter and the part after it, where the part stands
+abbrev pub delimited : ℕ → Option (List ℕ) → List ℕ
+delimited c None = []
+delimited c (Some xs) = c ∷ xs
 
 -- the first c stands at k
 pub record CutAt (c : ℕ) (bs : List ℕ) (k : ℕ) : Type 0 where
   pub inside : k < length bs
   pub byte : slice_index bs k ≡ c
-  pub front : take k bs ≡ before c bs
+  pub prefix : take k bs ≡ before c bs
   pub rest : drop k bs ≡ from c bs
-  pub tail : Some (drop (k + 1) bs) ≡ behind c bs
+  pub tail : Some (drop (k + 1) bs) ≡ after c bs
   pub has : lacks c bs ≡ false
 
 -- no c stands in the text
 pub record NoCut (c : ℕ) (bs : List ℕ) : Type 0 where
-  pub front : bs ≡ before c bs
+  pub prefix : bs ≡ before c bs
   pub rest : [] ≡ from c bs
-  pub tail : None ≡ behind c bs
+  pub tail : None ≡ after c bs
   pub has : lacks c bs ≡ true

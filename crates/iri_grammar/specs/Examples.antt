@@ -97,14 +97,14 @@ references :
 unfolding split_of is_letter is_scheme_char
 references = (refl, refl, refl, refl, refl, refl, refl, refl)
 
--- the first delimiter decides: a `?` behind the `#` is the fragment's, and a `:` behind `/`, `?` or `#` begins no scheme
-marks :
+-- the first delimiter decides: a `?` after the `#` is the fragment's, and a `:` after `/`, `?` or `#` begins no scheme
+delimiters :
     (split_of (codes "a#b?c") ≡ record { scheme = None; authority = None; path = codes "a"; query = None; fragment = Some (codes "b?c") })
     × (split_of (codes "?a:b") ≡ record { scheme = None; authority = None; path = []; query = Some (codes "a:b"); fragment = None })
     × (split_of (codes "./a:b") ≡ record { scheme = None; authority = None; path = codes "./a:b"; query = None; fragment = None })
     × (split_of (codes "//a:b") ≡ record { scheme = None; authority = Some (codes "a:b"); path = []; query = None; fragment = None })
 unfolding split_of is_letter is_scheme_char
-marks = (refl, refl, refl, refl)
+delimiters = (refl, refl, refl, refl)
 
 -- recomposition (section 5.3) gives the texts back
 recomposed :

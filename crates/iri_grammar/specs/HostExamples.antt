@@ -17,17 +17,17 @@ loopback : is_ipv6 (codes "::1") ≡ true
 unfolding is_group
 loopback = refl
 
-nothing_behind : is_ipv6 (codes "1::") ≡ true
+nothing_after : is_ipv6 (codes "1::") ≡ true
 unfolding is_group
-nothing_behind = refl
+nothing_after = refl
 
-seven_in_front : is_ipv6 (codes "1:2:3:4:5:6:7::") ≡ true
+seven_before : is_ipv6 (codes "1:2:3:4:5:6:7::") ≡ true
 unfolding is_group
-seven_in_front = refl
+seven_before = refl
 
-eight_in_front : is_ipv6 (codes "1:2:3:4:5:6:7:8::") ≡ false
+eight_before : is_ipv6 (codes "1:2:3:4:5:6:7:8::") ≡ false
 unfolding is_group
-eight_in_front = refl
+eight_before = refl
 
 full : is_ipv6 (codes "2001:db8:0:0:0:0:0:7") ≡ true
 unfolding is_group
@@ -45,17 +45,17 @@ three_colons : is_ipv6 (codes ":::") ≡ false
 unfolding is_group
 three_colons = refl
 
-ipv4_behind : is_ipv6 (codes "::1.2.3.4") ≡ true
+ipv4_after : is_ipv6 (codes "::1.2.3.4") ≡ true
 unfolding is_group is_hundreds
-ipv4_behind = refl
+ipv4_after = refl
 
 ipv4_counts_two : is_ipv6 (codes "1:2:3:4:5:6:7:1.2.3.4") ≡ false
 unfolding is_group is_hundreds
 ipv4_counts_two = refl
 
-ipv4_in_front : is_ipv6 (codes "1.2.3.4::") ≡ false
+ipv4_before : is_ipv6 (codes "1.2.3.4::") ≡ false
 unfolding is_group is_hundreds
-ipv4_in_front = refl
+ipv4_before = refl
 
 three_numbers : is_ipv6 (codes "::1.2.3") ≡ false
 unfolding is_group is_hundreds

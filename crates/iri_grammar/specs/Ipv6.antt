@@ -34,12 +34,12 @@ pub record IsFullIpv6 (t : List ℕ) : Type 0 where
 
 -- one `::` and at most seven groups; an IPv4 text may stand at the end alone
 pub record IsShortenedIpv6 (t : List ℕ) : Type 0 where
-  pub front : List (List ℕ)
+  pub prefix : List (List ℕ)
   pub back : List (List ℕ)
-  pub front_groups : are_groups front ≡ true
+  pub prefix_groups : are_groups prefix ≡ true
   pub back_groups : are_groups_or_ipv4 back ≡ true
-  pub text : t ≡ joined colon front ++ (colon ∷ colon ∷ joined colon back)
-  pub count : group_count front + group_count back ≤ 7
+  pub text : t ≡ joined colon prefix ++ (colon ∷ colon ∷ joined colon back)
+  pub count : group_count prefix + group_count back ≤ 7
 
 -- `IPv6address`
 abbrev pub IsIpv6 : List ℕ → Type 0

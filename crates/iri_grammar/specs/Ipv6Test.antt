@@ -15,10 +15,10 @@ abbrev pub before_double : List ℕ → List ℕ
 before_double [] = []
 before_double (x ∷ xs) = cond (x == colon && begins colon xs) [] (x ∷ before_double xs)
 
--- what stands behind the first `::`, where there is one
-abbrev pub behind_double : List ℕ → Option (List ℕ)
-behind_double [] = None
-behind_double (x ∷ xs) = cond (x == colon && begins colon xs) (Some (tail xs)) (behind_double xs)
+-- what stands after the first `::`, where there is one
+abbrev pub after_double : List ℕ → Option (List ℕ)
+after_double [] = None
+after_double (x ∷ xs) = cond (x == colon && begins colon xs) (Some (tail xs)) (after_double xs)
 
 -- the parts between the colons; the empty text has none
 abbrev pub group_texts : List ℕ → List (List ℕ)
@@ -29,11 +29,11 @@ abbrev pub is_full : List (List ℕ) → Bool
 is_full ps = are_groups_or_ipv4 ps && group_count ps == 8
 
 abbrev pub is_shortened : List (List ℕ) → List (List ℕ) → Bool
-is_shortened front back = are_groups front && are_groups_or_ipv4 back && nat_lt (group_count front + group_count back) 8
+is_shortened prefix back = are_groups prefix && are_groups_or_ipv4 back && nat_lt (group_count prefix + group_count back) 8
 
 abbrev pub is_ipv6_around : List ℕ → Option (List ℕ) → Bool
-is_ipv6_around front None = is_full (group_texts front)
-is_ipv6_around front (Some back) = is_shortened (group_texts front) (group_texts back)
+is_ipv6_around prefix None = is_full (group_texts prefix)
+is_ipv6_around prefix (Some back) = is_shortened (group_texts prefix) (group_texts back)
 
 abbrev pub is_ipv6 : List ℕ → Bool
-is_ipv6 t = is_ipv6_around (before_double t) (behind_double t)
+is_ipv6 t = is_ipv6_around (before_double t) (after_double t)

@@ -23,5 +23,5 @@ pub mod WholeFault
 pub mod Seen
 pub mod Splitters
 pub mod Examples
-pub mod Marks
+pub mod Delimiters
 pub mod inside

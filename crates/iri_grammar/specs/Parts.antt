@@ -3,7 +3,7 @@ use Rattle.std.specs.Prelude.{◌≡◌, ℕ, Bool, true, false, not, ◌&&◌, 
 use Rattle.iri_grammar.specs.Classes.{Tests}
 use Rattle.iri_grammar.specs.Components.{if_there, is_scheme, is_path, is_query, is_fragment}
 use Rattle.iri_grammar.specs.Authority.{is_authority}
-use Rattle.iri_grammar.specs.Cut.{before, lacks, marked}
+use Rattle.iri_grammar.specs.Cut.{before, lacks, delimited}
 use Rattle.iri_grammar.specs.Characters.{colon, number_sign, question_mark, slash}
 
 -- scheme, authority, path, query and fragment; all but the path may be undefined
@@ -27,7 +27,7 @@ authority_text (Some x) = slash ∷ slash ∷ x
 -- recomposition (RFC 3986 section 5.3): [scheme `:`] [`//` authority] path [`?` query] [`#` fragment]
 unfoldable pub recompose : Parts → List ℕ
 recompose p = scheme_text p.scheme ++ (authority_text p.authority
-    ++ (p.path ++ (marked question_mark p.query ++ marked number_sign p.fragment)))
+    ++ (p.path ++ (delimited question_mark p.query ++ delimited number_sign p.fragment)))
 
 abbrev pub is_empty : List ℕ → Bool
 is_empty [] = true

@@ -25,12 +25,12 @@ abbrev pub begins_dot : List ℕ → Bool
 begins_dot [] = false
 begins_dot (x ∷ xs) = x == dot || x == percent_sign && goes_on_as_dot xs
 
--- the same behind a slash at the start
+-- the same after a slash at the start
 abbrev pub slash_and_dot : List ℕ → Bool
 slash_and_dot [] = false
 slash_and_dot (x ∷ xs) = x == slash && begins_dot xs
 
--- the same behind any slash
+-- the same after any slash
 abbrev pub has_slash_and_dot : List ℕ → Bool
 has_slash_and_dot [] = false
 has_slash_and_dot (x ∷ xs) = slash_and_dot (x ∷ xs) || has_slash_and_dot xs

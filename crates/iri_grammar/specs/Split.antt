@@ -2,29 +2,29 @@
 use Rattle.std.specs.Prelude.{ℕ, cond, ◌&&◌, List, [], ◌∷◌, Option, Some, None, is_some}
 use Rattle.iri_grammar.specs.Components.{is_scheme}
 use Rattle.iri_grammar.specs.Authority.{or_all}
-use Rattle.iri_grammar.specs.Cut.{before, from, behind}
+use Rattle.iri_grammar.specs.Cut.{before, from, after}
 use Rattle.iri_grammar.specs.Parts.{Parts, starts_with_slashes}
 use Rattle.iri_grammar.specs.Characters.{colon, number_sign, question_mark, slash}
 
 -- what stands before the first `:`, where it is a scheme
 abbrev pub scheme_of : List ℕ → Option (List ℕ)
-scheme_of t = cond (is_scheme (before colon t) && is_some (behind colon t)) (Some (before colon t)) None
+scheme_of t = cond (is_scheme (before colon t) && is_some (after colon t)) (Some (before colon t)) None
 
 -- what follows the scheme and its colon, or all
 abbrev pub after_scheme : List ℕ → List ℕ
-after_scheme t = cond (is_scheme (before colon t)) (or_all t (behind colon t)) t
+after_scheme t = cond (is_scheme (before colon t)) (or_all t (after colon t)) t
 
-abbrev pub behind_slashes : List ℕ → List ℕ
-behind_slashes [] = []
-behind_slashes (x ∷ []) = []
-behind_slashes (x ∷ y ∷ xs) = xs
+abbrev pub after_slashes : List ℕ → List ℕ
+after_slashes [] = []
+after_slashes (x ∷ []) = []
+after_slashes (x ∷ y ∷ xs) = xs
 
--- the authority stands behind `//` up to the next `/`; the rest is the path
+-- the authority stands after `//` up to the next `/`; the rest is the path
 abbrev pub authority_of : List ℕ → Option (List ℕ)
-authority_of h = cond (starts_with_slashes h) (Some (before slash (behind_slashes h))) None
+authority_of h = cond (starts_with_slashes h) (Some (before slash (after_slashes h))) None
 
 abbrev pub path_of : List ℕ → List ℕ
-path_of h = cond (starts_with_slashes h) (from slash (behind_slashes h)) h
+path_of h = cond (starts_with_slashes h) (from slash (after_slashes h)) h
 
 -- what stands before the first `?` or `#`: `hier-part` or `relative-part`
 abbrev pub hier_of : List ℕ → List ℕ
@@ -36,8 +36,8 @@ parts_of sch r = record {
   scheme = sch;
   authority = authority_of (hier_of r);
   path = path_of (hier_of r);
-  query = behind question_mark (before number_sign r);
-  fragment = behind number_sign r;
+  query = after question_mark (before number_sign r);
+  fragment = after number_sign r;
 }
 
 -- the parts of a text read as a reference

@@ -4,7 +4,7 @@ pub mod Halves
 pub mod Ipv6Counts
 pub mod LastColon
 pub mod Laws
-pub mod Marks
+pub mod Delimiters
 pub mod PiecesLaws
 pub mod PlainAuthority
 pub mod Runs

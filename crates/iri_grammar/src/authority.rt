@@ -31,10 +31,10 @@ pub struct AuthoritySpan<'a> {
 }
 
 // Where the last byte of this kind is.
-fn rfind(s: &str, mark: u8) -> Option<usize>
-    ensures { IsLastByte (is_byte mark) s.now result }
+fn rfind(s: &str, delimiter: u8) -> Option<usize>
+    ensures { IsLastByte (is_byte delimiter) s.now result }
 {
-    memrchr(mark, s.as_bytes())
+    memrchr(delimiter, s.as_bytes())
 }
 
 // Where the last colon is.

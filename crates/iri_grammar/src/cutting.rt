@@ -1,25 +1,25 @@
 //! A text cut at a delimiter: an ASCII character that parts a text from what follows, as `?` or `#`.
 ghost use Rattle.std.specs.Prelude.{◌≡◌, ◌<◌, MatchOption};
-ghost use Rattle.iri_grammar.specs.Cut.{before, behind, from, lacks, CutAt, NoCut};
+ghost use Rattle.iri_grammar.specs.Cut.{before, after, from, lacks, CutAt, NoCut};
 ghost use Rattle.iri_grammar.specs.OptionalSlices.{now_of};
 
 use memchr::memchr;
 
 /// Where the delimiter first is, in bytes; `None` exactly where it is nowhere.
-pub fn find(s: &str, mark: u8) -> Option<usize>
-    ensures { MatchOption result (NoCut mark s.now) (λ k. CutAt mark s.now k) }
+pub fn find(s: &str, delimiter: u8) -> Option<usize>
+    ensures { MatchOption result (NoCut delimiter s.now) (λ k. CutAt delimiter s.now k) }
 {
-    memchr(mark, s.as_bytes())
+    memchr(delimiter, s.as_bytes())
 }
 
 /// What comes before the first delimiter, or all, and what comes after it, `None` exactly where it is nowhere. It has a
 /// condition: the delimiter is ASCII (`u8::is_ascii`).
-pub fn cut(s: &str, mark: u8) -> (&str, Option<&str>)
-    requires { mark < 128 }
-    ensures before { result.0.now ≡ before mark s.now }
-    ensures behind { now_of result.1 ≡ behind mark s.now }
+pub fn cut(s: &str, delimiter: u8) -> (&str, Option<&str>)
+    requires { delimiter < 128 }
+    ensures before { result.0.now ≡ before delimiter s.now }
+    ensures after { now_of result.1 ≡ after delimiter s.now }
 {
-    match find(s, mark) {
+    match find(s, delimiter) {
         Some(i) => (&s[..i], Some(&s[i + 1..])),
         None => (s, None),
     }
@@ -27,20 +27,20 @@ pub fn cut(s: &str, mark: u8) -> (&str, Option<&str>)
 
 /// What comes before the first delimiter, or all, and the rest from it on. It has a condition: the delimiter is ASCII
 /// (`u8::is_ascii`).
-pub fn cut_before(s: &str, mark: u8) -> (&str, &str)
-    requires { mark < 128 }
-    ensures before { result.0.now ≡ before mark s.now }
-    ensures from { result.1.now ≡ from mark s.now }
+pub fn cut_before(s: &str, delimiter: u8) -> (&str, &str)
+    requires { delimiter < 128 }
+    ensures before { result.0.now ≡ before delimiter s.now }
+    ensures from { result.1.now ≡ from delimiter s.now }
 {
-    match find(s, mark) {
+    match find(s, delimiter) {
         Some(i) => (&s[..i], &s[i..]),
         None => (s, ""),
     }
 }
 
 /// Whether the delimiter is nowhere in the text.
-pub fn lacks(s: &str, mark: u8) -> bool
-    ensures { result ≡ lacks mark s.now }
+pub fn lacks(s: &str, delimiter: u8) -> bool
+    ensures { result ≡ lacks delimiter s.now }
 {
-    find(s, mark).is_none()
+    find(s, delimiter).is_none()
 }

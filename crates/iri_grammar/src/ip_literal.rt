@@ -3,7 +3,7 @@ ghost use Rattle.std.specs.Prelude.{◌≡◌, ◌&&◌, ◌||◌, ◌==◌};
 ghost use Rattle.std.specs.Char.{is_ascii_hexdigit};
 ghost use Rattle.std.specs.List.{list_all};
 ghost use Rattle.iri_grammar.specs.Classes.{is_ascii_userinfo};
-ghost use Rattle.iri_grammar.specs.Cut.{before, behind};
+ghost use Rattle.iri_grammar.specs.Cut.{before, after};
 ghost use Rattle.iri_grammar.specs.Ipv6Test.{is_ipv6};
 ghost use Rattle.iri_grammar.specs.IpLiteral.{some_of, is_future_address, is_ipvfuture, is_end, is_ip_literal};
 ghost use Rattle.iri_grammar.specs.Characters.{dot, right_bracket};
@@ -35,7 +35,7 @@ fn is_address(s: &[u8]) -> bool
 
 // Whether the text is what follows the `v` of an IPvFuture.
 fn is_versioned(s: &str) -> bool
-    ensures { result ≡ (some_of is_ascii_hexdigit (before dot s.now) && is_future_address (behind dot s.now)) }
+    ensures { result ≡ (some_of is_ascii_hexdigit (before dot s.now) && is_future_address (after dot s.now)) }
 {
     match cut(s, b'.') {
         (version, Some(address)) => {
@@ -63,7 +63,7 @@ fn is_ipvfuture(s: &str) -> bool
 
 // Whether the text is what follows the opening bracket of an IP literal.
 fn is_closed_literal(s: &str) -> bool
-    ensures { result ≡ (is_end (behind right_bracket s.now)
+    ensures { result ≡ (is_end (after right_bracket s.now)
         && (is_ipv6 (before right_bracket s.now) || is_ipvfuture (before right_bracket s.now))) }
 {
     match cut(s, b']') {

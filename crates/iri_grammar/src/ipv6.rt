@@ -2,7 +2,7 @@
 ghost use Rattle.std.specs.Prelude.{◌≡◌};
 ghost use Rattle.iri_grammar.specs.Ipv6.{is_group};
 ghost use Rattle.iri_grammar.specs.Pieces.{pieces};
-ghost use Rattle.iri_grammar.specs.Ipv6Test.{before_double, behind_double, group_texts, is_full, is_shortened, is_ipv6};
+ghost use Rattle.iri_grammar.specs.Ipv6Test.{before_double, after_double, group_texts, is_full, is_shortened, is_ipv6};
 ghost use Rattle.iri_grammar.specs.inside.Ipv6Counts.{count};
 ghost use Rattle.iri_grammar.specs.OptionalSlices.{now_of};
 ghost use Rattle.iri_grammar.specs.Characters.{colon};
@@ -62,10 +62,10 @@ fn count_groups(s: &str, ipv4: bool) -> Option<usize>
 // What comes before the first `::`, or all, and what comes after it.
 fn cut_double(s: &str) -> (&str, Option<&str>)
     ensures before { result.0.now ≡ before_double s.now }
-    ensures behind { now_of result.1 ≡ behind_double s.now }
+    ensures after { now_of result.1 ≡ after_double s.now }
 {
     match s.split_once("::") {
-        Some((before, behind)) => (before, Some(behind)),
+        Some((before, after)) => (before, Some(after)),
         None => (s, None),
     }
 }
@@ -79,10 +79,10 @@ fn is_full(s: &str) -> bool
     }
 }
 
-fn is_shortened(front: &str, back: &str) -> bool
-    ensures { result ≡ is_shortened (group_texts front.now) (group_texts back.now) }
+fn is_shortened(prefix: &str, back: &str) -> bool
+    ensures { result ≡ is_shortened (group_texts prefix.now) (group_texts back.now) }
 {
-    match (count_groups(front, false), count_groups(back, true)) {
+    match (count_groups(prefix, false), count_groups(back, true)) {
         (Some(m), Some(n)) => m < 8 && n < 8 - m,
         _ => false,
     }
@@ -94,7 +94,7 @@ pub(crate) fn is_ipv6(s: &str) -> bool
     ensures { result ≡ is_ipv6 s.now }
 {
     match cut_double(s) {
-        (front, Some(back)) => is_shortened(front, back),
-        (front, None) => is_full(front),
+        (prefix, Some(back)) => is_shortened(prefix, back),
+        (prefix, None) => is_full(prefix),
     }
 }

@@ -5,9 +5,9 @@ ghost use Rattle.std.specs.Str.{IsUtf8};
 ghost use Rattle.iri_grammar.specs.Characters.{slash};
 ghost use Rattle.iri_grammar.specs.Components.{if_there, is_scheme, is_scheme_char};
 ghost use Rattle.iri_grammar.specs.Fault.{Answers, bytes_fault};
-ghost use Rattle.iri_grammar.specs.Marks.{before_any, from_any};
-ghost use Rattle.iri_grammar.specs.inside.Marks.{ends_scheme, SchemeAt, NoScheme, ends_authority, AuthorityEndAt, EndsAuthority};
-ghost use Rattle.iri_grammar.specs.inside.Marks.{NoAuthorityEnd, IsPastAuthority, ends_at_start};
+ghost use Rattle.iri_grammar.specs.Delimiters.{before_any, from_any};
+ghost use Rattle.iri_grammar.specs.inside.Delimiters.{ends_scheme, SchemeAt, NoScheme, ends_authority, AuthorityEndAt, EndsAuthority};
+ghost use Rattle.iri_grammar.specs.inside.Delimiters.{NoAuthorityEnd, IsPastAuthority, ends_at_start};
 ghost use Rattle.iri_grammar.specs.inside.Tails.{AreOver};
 ghost use Rattle.iri_grammar.specs.inside.AuthorityCuts.{KeepsAuthorityNotes};
 ghost use Rattle.iri_grammar.specs.Parts.{Splits, starts_with_slashes};
@@ -25,7 +25,7 @@ use crate::error::{Error, ErrorKind};
 use crate::seen::Seen;
 use crate::spec::Spec;
 use crate::tail::Tail;
-use crate::validate::{judge, judge_front};
+use crate::validate::{judge, judge_scanned};
 use memchr::memchr3;
 use std::alloc::AllocError;
 use std::str;
@@ -97,7 +97,7 @@ fn are_small(bytes: &[u8]) -> bool
 }
 
 // Whether each byte may be in a scheme.
-#[tactic(auto, using(crate::proofs::MarkLemmas::run_of_all))]
+#[tactic(auto, using(crate::proofs::DelimiterLemmas::run_of_all))]
 fn all_scheme_bytes(bytes: &[u8]) -> bool
     ensures { result ≡ list_all is_scheme_char bytes.now }
 {
@@ -116,7 +116,7 @@ pub(crate) fn is_scheme(s: &str) -> bool
 }
 
 // Whether the colon after a scheme is here.
-#[tactic(auto, unfolding(crate::specs::inside::Marks::ends_scheme))]
+#[tactic(auto, unfolding(crate::specs::inside::Delimiters::ends_scheme))]
 fn ends_scheme(bytes: &[u8], end: usize) -> bool
     ensures { result ≡ ends_scheme bytes.now end }
 {
@@ -124,7 +124,7 @@ fn ends_scheme(bytes: &[u8], end: usize) -> bool
 }
 
 // Where the colon after the scheme is.
-#[tactic(auto, using(crate::proofs::MarkLemmas::scheme_at, crate::proofs::MarkLemmas::no_scheme))]
+#[tactic(auto, using(crate::proofs::DelimiterLemmas::scheme_at, crate::proofs::DelimiterLemmas::no_scheme))]
 fn scheme_end(bytes: &[u8]) -> Option<usize>
     ensures { MatchOption result (NoScheme bytes.now) (λ k. SchemeAt bytes.now k) }
 {
@@ -163,7 +163,7 @@ fn look_at_scheme(s: &[u8]) -> (Option<&str>, &[u8])
 }
 
 // Where the first `/`, `?` or `#` is.
-#[tactic(auto, using(crate::proofs::MarkLemmas::authority_end))]
+#[tactic(auto, using(crate::proofs::DelimiterLemmas::authority_end))]
 fn authority_end(bytes: &[u8]) -> Option<usize>
     ensures { MatchOption result (NoAuthorityEnd bytes.now) (λ k. AuthorityEndAt bytes.now k) }
 {
@@ -172,7 +172,7 @@ fn authority_end(bytes: &[u8]) -> Option<usize>
 
 // What comes before the end of an authority, and the rest from it on.
 fn cut_before_end(s: &str) -> (&str, &str)
-    ensures front { result.0.now ≡ before_any ends_authority s.now }
+    ensures prefix { result.0.now ≡ before_any ends_authority s.now }
     ensures rest { result.1.now ≡ from_any ends_authority s.now }
 {
     match authority_end(s.as_bytes()) {
@@ -233,7 +233,7 @@ fn text_before_end(s: &[u8]) -> Option<(&str, &[u8])>
 {
     let end = authority_len(s);
     match str::from_utf8(&s[..end]) {
-        Ok(front) => Some((front, &s[end..])),
+        Ok(prefix) => Some((prefix, &s[end..])),
         Err(_) => None,
     }
 }
@@ -246,18 +246,18 @@ fn look_before_end(s: &[u8]) -> Option<AuthorityCut<'_>>
         × (IsUtf8 r.rest.now → IsUtf8 s.now)) }
 {
     // Most are a name and perhaps a port: one look, and no search for the end.
-    let (front, rest, capitals) = cut_plain(s);
+    let (prefix, rest, capitals) = cut_plain(s);
     if ends_at_start(rest) {
         return Some(AuthorityCut {
-            authority: Some(front),
+            authority: Some(prefix),
             rest,
             capitals,
             other: false,
         });
     }
-    let (front, rest) = text_before_end(s)?;
+    let (prefix, rest) = text_before_end(s)?;
     Some(AuthorityCut {
-        authority: Some(front),
+        authority: Some(prefix),
         rest,
         capitals: true,
         other: true,
@@ -266,7 +266,7 @@ fn look_before_end(s: &[u8]) -> Option<AuthorityCut<'_>>
 
 // What follows two slashes at the start.
 #[inline(always)]
-fn behind_slashes(s: &[u8]) -> Option<&[u8]>
+fn after_slashes(s: &[u8]) -> Option<&[u8]>
     ensures { MatchOption result (starts_with_slashes s.now ≡ false) (λ r. s.now ≡ slash ∷ slash ∷ r.now) }
 {
     match s {
@@ -281,7 +281,7 @@ fn look_at_authority(s: &[u8]) -> Option<AuthorityCut<'_>>
     ensures { MatchOption result (Unit {0}) (λ r. (now_of r.authority ≡ authority_of (hier_of s.now))
         × IsPastAuthority s.now r.rest.now × KeepsAuthorityNotes r × (IsUtf8 r.rest.now → IsUtf8 s.now)) }
 {
-    match behind_slashes(s) {
+    match after_slashes(s) {
         Some(rest) => look_before_end(rest),
         None => Some(AuthorityCut {
             authority: None,
@@ -331,7 +331,7 @@ impl<'a> Splitter<'a> {
         ensures value { IfOk result (λ p. parts p ≡ split_of bytes.now) }
     {
         match Splitter::scan::<S>(bytes) {
-            Some(parts) => match judge_front::<S>(&parts) {
+            Some(parts) => match judge_scanned::<S>(&parts) {
                 Ok(()) => Ok(parts),
                 Err(fault) => Err(fault),
             },
@@ -406,7 +406,7 @@ impl<'a> Splitter<'a> {
         ensures { parts result ≡ split_of text.now }
     {
         let (scheme, rest) = cut_scheme(text);
-        Splitter::behind(scheme, rest)
+        Splitter::after(scheme, rest)
     }
 
     // The parts of any text read as a relative reference.
@@ -414,11 +414,11 @@ impl<'a> Splitter<'a> {
     pub(crate) fn cut_relative(text: &'a str) -> Splitter<'a>
         ensures { parts result ≡ relative_split_of text.now }
     {
-        Splitter::behind(None, text)
+        Splitter::after(None, text)
     }
 
     // A scheme, and the parts of what follows it.
-    fn behind(scheme: Option<&'a str>, rest: &'a str) -> Splitter<'a>
+    fn after(scheme: Option<&'a str>, rest: &'a str) -> Splitter<'a>
         ensures { parts result ≡ parts_of (now_of scheme.entry) rest.now }
     {
         let (authority, rest) = cut_authority(rest);

@@ -3,9 +3,9 @@ ghost use Rattle.std.specs.Prelude.{◌≡◌, ◌++◌, true, MatchOption};
 ghost use Rattle.std.specs.Str.{IsUtf8};
 ghost use Rattle.iri_grammar.specs.Characters.{number_sign, percent_sign, question_mark};
 ghost use Rattle.iri_grammar.specs.Components.{if_there, is_fragment, is_query};
-ghost use Rattle.iri_grammar.specs.Cut.{lacks, marked};
+ghost use Rattle.iri_grammar.specs.Cut.{lacks, delimited};
 ghost use Rattle.iri_grammar.specs.OptionalSlices.{now_of};
-ghost use Rattle.iri_grammar.specs.inside.Marks.{TailAt, NoTail};
+ghost use Rattle.iri_grammar.specs.inside.Delimiters.{TailAt, NoTail};
 ghost use Rattle.iri_grammar.specs.inside.Tails.{IsTail, IsOverTail, KeepsNotes};
 
 use crate::class::Class;
@@ -26,7 +26,7 @@ pub(crate) struct Tail<'a> {
 }
 
 // Where the first `?` or `#` is.
-#[tactic(auto, using(crate::proofs::MarkLemmas::tail_found))]
+#[tactic(auto, using(crate::proofs::DelimiterLemmas::tail_found))]
 fn find_tail(bytes: &[u8]) -> Option<usize>
     ensures { MatchOption result (NoTail bytes.now) (λ k. TailAt bytes.now k) }
 {
@@ -36,7 +36,7 @@ fn find_tail(bytes: &[u8]) -> Option<usize>
 // The characters of a query after a `?` at the start, the rest, and whether no percent-encoded octet was found.
 #[inline(always)]
 fn cut_query<S: Spec>(s: &[u8]) -> (Option<&str>, &[u8], bool)
-    ensures whole { s.now ≡ marked question_mark (now_of result.0) ++ result.1.now }
+    ensures whole { s.now ≡ delimited question_mark (now_of result.0) ++ result.1.now }
     ensures over { if_there (is_query S.tests) (now_of result.0) ≡ true }
     ensures bare { result.2 ≡ true → if_there (lacks percent_sign) (now_of result.0) ≡ true }
 {
@@ -52,7 +52,7 @@ fn cut_query<S: Spec>(s: &[u8]) -> (Option<&str>, &[u8], bool)
 // The same of a fragment after a `#`.
 #[inline(always)]
 fn cut_fragment<S: Spec>(s: &[u8]) -> (Option<&str>, &[u8], bool)
-    ensures whole { s.now ≡ marked number_sign (now_of result.0) ++ result.1.now }
+    ensures whole { s.now ≡ delimited number_sign (now_of result.0) ++ result.1.now }
     ensures over { if_there (is_fragment S.tests) (now_of result.0) ≡ true }
     ensures bare { result.2 ≡ true → if_there (lacks percent_sign) (now_of result.0) ≡ true }
 {

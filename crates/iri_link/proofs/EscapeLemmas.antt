@@ -1,4 +1,4 @@
--- The written form of a value, from mark to mark.
+-- The written form of a value, from delimiter to delimiter.
 use Rattle.std.proofs.Common.{◌≡◌, ℕ, zero, suc, ◌+◌, ◌-◌, ◌<◌, Bool, true, false, cond, List, [], ◌∷◌, ◌++◌, Option, Some, None, length, take, drop, refl, ap, ◌∙◌, arith}
 use Rattle.std.specs.Prelude.{◌==◌, ◌||◌, slice_index, slice_range, MatchOption}
 use Rattle.std.proofs.lemmas.Grind.{common_steps}
@@ -6,48 +6,48 @@ use Rattle.std.proofs.Math.Seq.{drop-cons}
 use Rattle.iri_grammar.proofs.CutLemmas.{false-where}
 use Rattle.memchr.specs.Find.{IsFirstByte, is_byte2}
 use Rattle.iri_link.specs.Written.{escaped}
-use Rattle.iri_link.specs.inside.CutMarks.{IsMarkAt, IsCutAtMark}
+use Rattle.iri_link.specs.inside.CutDelimiters.{IsDelimiterAt, IsCutAtDelimiter}
 
 -- a `"` or a `\`
-abbrev pub is_mark : ℕ → Bool
-is_mark c = c == 34 || c == 92
+abbrev pub is_delimiter : ℕ → Bool
+is_delimiter c = c == 34 || c == 92
 
-pub escaped-same : (t : List ℕ) → ((k : ℕ) → k < length t → is_mark (slice_index t k) ≡ true → ⊥) → escaped t ≡ t
+pub escaped-same : (t : List ℕ) → ((k : ℕ) → k < length t → is_delimiter (slice_index t k) ≡ true → ⊥) → escaped t ≡ t
 escaped-same [] h = refl
 escaped-same (c ∷ cs) h =
-    let none : is_mark c ≡ false = false-where (is_mark c) (h 0 (omega arith)) in
+    let none : is_delimiter c ≡ false = false-where (is_delimiter c) (h 0 (omega arith)) in
     let rest = escaped-same cs (λ k l m. h (suc k) (omega arith) m) in
     ap (λ b. cond b (92 ∷ c ∷ escaped cs) (c ∷ escaped cs)) none ∙ ap (λ l. c ∷ l) rest
 
-pub escaped-at : (t : List ℕ) (k : ℕ) → k < length t → ((j : ℕ) → j < k → is_mark (slice_index t j) ≡ true → ⊥)
-    → is_mark (slice_index t k) ≡ true → escaped t ≡ (take k t ++ (92 ∷ slice_index t k ∷ [])) ++ escaped (drop (suc k) t)
+pub escaped-at : (t : List ℕ) (k : ℕ) → k < length t → ((j : ℕ) → j < k → is_delimiter (slice_index t j) ≡ true → ⊥)
+    → is_delimiter (slice_index t k) ≡ true → escaped t ≡ (take k t ++ (92 ∷ slice_index t k ∷ [])) ++ escaped (drop (suc k) t)
 escaped-at [] k l h m = absurd (omega arith)
 escaped-at (c ∷ cs) zero l h m = ap (λ b. cond b (92 ∷ c ∷ escaped cs) (c ∷ escaped cs)) m
 escaped-at (c ∷ cs) (suc k) l h m =
-    let none : is_mark c ≡ false = false-where (is_mark c) (h 0 (omega arith)) in
+    let none : is_delimiter c ≡ false = false-where (is_delimiter c) (h 0 (omega arith)) in
     let rest = escaped-at cs k (omega arith) (λ j i n. h (suc j) (omega arith) n) m in
     ap (λ b. cond b (92 ∷ c ∷ escaped cs) (c ∷ escaped cs)) none ∙ ap (λ l. c ∷ l) rest
 
-mark-low : (c : ℕ) → is_mark c ≡ true → c < 128
-mark-low c h = grind (arith, common_steps)
+delimiter-low : (c : ℕ) → is_delimiter c ≡ true → c < 128
+delimiter-low c h = grind (arith, common_steps)
 
 -- what `memchr2` says, in these words
-pub mark_found : (t : List ℕ) (r : Option ℕ) → IsFirstByte (is_byte2 34 92) t r → MatchOption r (escaped t ≡ t) (λ k. IsMarkAt t k)
-mark_found t None h = escaped-same t (λ k l m. h k (omega arith) l m)
-mark_found t (Some k) h = record {
+pub delimiter_found : (t : List ℕ) (r : Option ℕ) → IsFirstByte (is_byte2 34 92) t r → MatchOption r (escaped t ≡ t) (λ k. IsDelimiterAt t k)
+delimiter_found t None h = escaped-same t (λ k l m. h k (omega arith) l m)
+delimiter_found t (Some k) h = record {
   inside = h.0.high;
-  low = mark-low (slice_index t k) h.1;
+  low = delimiter-low (slice_index t k) h.1;
   written = escaped-at t k h.0.high (λ j l m. h.0.before j (omega arith) l m) h.1;
 }
 
-pub mark_cut : (t front mark rest : List ℕ) (k : ℕ) → IsMarkAt t k → front ≡ take (k - 0) t → mark ≡ slice_range t k (k + 1) → rest ≡ drop (k + 1) t
-    → IsCutAtMark t front mark rest
-mark_cut t front mark rest k h a b d =
+pub delimiter_cut : (t prefix delimiter rest : List ℕ) (k : ℕ) → IsDelimiterAt t k → prefix ≡ take (k - 0) t → delimiter ≡ slice_range t k (k + 1) → rest ≡ drop (k + 1) t
+    → IsCutAtDelimiter t prefix delimiter rest
+delimiter_cut t prefix delimiter rest k h a b d =
     let n : k - 0 ≡ k = omega arith in
     let one : k + 1 - k ≡ 1 = omega arith in
     let s : k + 1 ≡ suc k = omega arith in
-    let f : front ≡ take k t = a ∙ ap (λ i. take i t) n in
+    let f : prefix ≡ take k t = a ∙ ap (λ i. take i t) n in
     let l : k < length t = h.inside in
-    let m : mark ≡ slice_index t k ∷ [] = b ∙ (ap (λ i. take i (drop k t)) one ∙ ap (take 1) (drop-cons t k 0 l)) in
+    let m : delimiter ≡ slice_index t k ∷ [] = b ∙ (ap (λ i. take i (drop k t)) one ∙ ap (take 1) (drop-cons t k 0 l)) in
     let r : rest ≡ drop (suc k) t = d ∙ ap (λ i. drop i t) s in
     rw (f, m, r) (record { written = h.written; shorter = grind (arith, common_steps) })

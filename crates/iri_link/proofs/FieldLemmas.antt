@@ -11,13 +11,13 @@ use Rattle.iri_grammar.specs.Classes.{Tests}
 use Rattle.iri_grammar.specs.Cut.{before, lacks}
 use Rattle.iri_grammar.specs.WholeFault.{reference_fault}
 use Rattle.iri_grammar.specs.declared.error.ErrorKind.{ErrorKind}
-use Rattle.iri_grammar.proofs.CutLaws.{both, by_test, before-marked, lacks-other}
+use Rattle.iri_grammar.proofs.CutLaws.{both, by_test, before-delimited, lacks-other}
 use Rattle.iri_link.specs.Token.{is_pair_char, is_plain_char, is_blank, is_blanks, is_token_char, is_token, IsQuoted, done, plain, pair}
 use Rattle.iri_link.specs.Field.{LinkParam, LinkValue, IsValue, token, quoted, IsParam, bare, valued, IsParams, none, empty, param}
 use Rattle.iri_link.specs.Field.{IsLink, link, IsElement, empty as no_element, link as element, IsField, last, more as more_elements}
 use Rattle.iri_link.specs.Fault.{Fault, fault_from, closes_from, target_fault, told_target, earlier, place_in, field_fault}
 use Rattle.iri_link.specs.Links.{HasReference, HasLinks}
-use Rattle.iri_link.specs.Phases.{before_link, in_target, behind_param, behind_semicolon, in_name, behind_name, behind_equals, in_token, in_quoted, in_pair}
+use Rattle.iri_link.specs.Phases.{before_link, in_target, after_param, after_semicolon, in_name, after_name, after_equals, in_token, in_quoted, in_pair}
 use Rattle.iri_link.specs.declared.error.LinkKind.TheVariants.{NotUtf8, NoTarget, OpenTarget, NoParam, NoValue, OpenString}
 use Rattle.iri_link.proofs.OneListLemmas.{name_stops, semicolon-name as semicolon_read, equals-token as equals_read}
 use Rattle.iri_link.proofs.ParamLemmas.{no_param}
@@ -40,27 +40,27 @@ pub data Ends (s : Tests) : List ℕ → List LinkValue → Type 0 where
   nothing : Ends s [] []
   comma : (y : List ℕ) (ls : List LinkValue) → IsField y ls → All (HasReference s) ls → Ends s (44 ∷ y) ls
 
--- t is such a front, blanks, and what follows a link-value
+-- t is such a prefix, blanks, and what follows a link-value
 pub record Has (s : Tests) (P : List ℕ → Type 0) (t : List ℕ) (ls : List LinkValue) : Type 0 where
-  front : List ℕ
+  prefix : List ℕ
   blanks : List ℕ
   rest : List ℕ
-  whole : t ≡ front ++ (blanks ++ rest)
-  fits : P front
+  whole : t ≡ prefix ++ (blanks ++ rest)
+  fits : P prefix
   all : is_blanks blanks ≡ true
   ends : Ends s rest ls
 
 module _ {s : Tests} {P Q : List ℕ → Type 0} {t : List ℕ} {ls : List LinkValue} where
   has_map : ((f : List ℕ) → P f → Q f) → Has s P t ls → Has s Q t ls
-  has_map g h = record { front = h.front; blanks = h.blanks; rest = h.rest; whole = h.whole; fits = g h.front h.fits; all = h.all; ends = h.ends }
+  has_map g h = record { prefix = h.prefix; blanks = h.blanks; rest = h.rest; whole = h.whole; fits = g h.prefix h.fits; all = h.all; ends = h.ends }
 
-  has_front : (c : ℕ) → ((f : List ℕ) → P f → Q (c ∷ f)) → Has s P t ls → Has s Q (c ∷ t) ls
-  has_front c g h = record {
-    front = c ∷ h.front;
+  has_prefix : (c : ℕ) → ((f : List ℕ) → P f → Q (c ∷ f)) → Has s P t ls → Has s Q (c ∷ t) ls
+  has_prefix c g h = record {
+    prefix = c ∷ h.prefix;
     blanks = h.blanks;
     rest = h.rest;
     whole = ap (λ l. c ∷ l) h.whole;
-    fits = g h.front h.fits;
+    fits = g h.prefix h.fits;
     all = h.all;
     ends = h.ends;
   }
@@ -68,9 +68,9 @@ module _ {s : Tests} {P Q : List ℕ → Type 0} {t : List ℕ} {ls : List LinkV
 has_blank : {s : Tests} {P : List ℕ → Type 0} {t : List ℕ} {ls : List LinkValue} (c : ℕ) → is_blank c ≡ true → ((f : List ℕ) → P f → (f ≡ []) ⊎ P (c ∷ f))
     → Has s P t ls → Has s P (c ∷ t) ls
 has_blank {s} {P} {t} {ls} c b g h =
-    elim (g h.front h.fits) [
+    elim (g h.prefix h.fits) [
       | inl e ↦ record {
-        front = [];
+        prefix = [];
         blanks = c ∷ h.blanks;
         rest = h.rest;
         whole = ap (λ l. c ∷ l) (h.whole ∙ ap (λ f. f ++ (h.blanks ++ h.rest)) e);
@@ -78,15 +78,15 @@ has_blank {s} {P} {t} {ls} c b g h =
         all = rw b h.all;
         ends = h.ends;
       }
-      | inr p ↦ record { front = c ∷ h.front; blanks = h.blanks; rest = h.rest; whole = ap (λ l. c ∷ l) h.whole; fits = p; all = h.all; ends = h.ends }
+      | inr p ↦ record { prefix = c ∷ h.prefix; blanks = h.blanks; rest = h.rest; whole = ap (λ l. c ∷ l) h.whole; fits = p; all = h.all; ends = h.ends }
     ]
 
 -- a comma, or the end
 at_comma : {s : Tests} {P : List ℕ → Type 0} (y : List ℕ) (ls : List LinkValue) → P [] → IsField y ls × All (HasReference s) ls → Has s P (44 ∷ y) ls
-at_comma y ls p h = record { front = []; blanks = []; rest = 44 ∷ y; whole = refl; fits = p; all = refl; ends = comma y ls h.0 h.1 }
+at_comma y ls p h = record { prefix = []; blanks = []; rest = 44 ∷ y; whole = refl; fits = p; all = refl; ends = comma y ls h.0 h.1 }
 
 at_end : {s : Tests} {P : List ℕ → Type 0} → P [] → Has s P [] []
-at_end p = record { front = []; blanks = []; rest = []; whole = refl; fits = p; all = refl; ends = nothing }
+at_end p = record { prefix = []; blanks = []; rest = []; whole = refl; fits = p; all = refl; ends = nothing }
 
 -- ---- what may be left in each phase
 data IsSemicolonRest : List ℕ → List LinkParam → Type 0 where
@@ -147,11 +147,11 @@ record HasTarget (s : Tests) (t text : List ℕ) (ps : List LinkParam) (ls : Lis
 pub record Complete (s : Tests) (t : List ℕ) : Type 0 where
   start : fault_from s before_link t ≡ None → IsField t (links_in t) × All (HasReference s) (links_in t)
   target : lacks 62 t ≡ false → fault_from s in_target t ≡ None → HasTarget s t (reading in_target t).text (reading in_target t).params (reading in_target t).links
-  params : fault_from s behind_param t ≡ None → Has s (λ f. IsParams f (reading behind_param t).params) t (reading behind_param t).links
-  semicolon : fault_from s behind_semicolon t ≡ None → Has s (λ f. IsSemicolonRest f (reading behind_semicolon t).params) t (reading behind_semicolon t).links
+  params : fault_from s after_param t ≡ None → Has s (λ f. IsParams f (reading after_param t).params) t (reading after_param t).links
+  semicolon : fault_from s after_semicolon t ≡ None → Has s (λ f. IsSemicolonRest f (reading after_semicolon t).params) t (reading after_semicolon t).links
   name : fault_from s in_name t ≡ None → Has s (λ f. IsNameText f (reading in_name t).text (reading in_name t).value (reading in_name t).params) t (reading in_name t).links
-  named : fault_from s behind_name t ≡ None → Has s (λ f. IsNameRest f (reading behind_name t).value (reading behind_name t).params) t (reading behind_name t).links
-  equals : fault_from s behind_equals t ≡ None → Has s (λ f. IsEqualsRest f (reading behind_equals t).text (reading behind_equals t).params) t (reading behind_equals t).links
+  named : fault_from s after_name t ≡ None → Has s (λ f. IsNameRest f (reading after_name t).value (reading after_name t).params) t (reading after_name t).links
+  equals : fault_from s after_equals t ≡ None → Has s (λ f. IsEqualsRest f (reading after_equals t).text (reading after_equals t).params) t (reading after_equals t).links
   token : fault_from s in_token t ≡ None → Has s (λ f. IsTokenRest f (reading in_token t).text (reading in_token t).params) t (reading in_token t).links
   quoted : closes_from false t ≡ true → fault_from s in_quoted t ≡ None → Has s (λ f. IsQuotedRest f (reading in_quoted t).text (reading in_quoted t).params) t (reading in_quoted t).links
   pair : closes_from true t ≡ true → fault_from s in_pair t ≡ None → Has s (λ f. IsPairRest f (reading in_pair t).text (reading in_pair t).params) t (reading in_pair t).links
@@ -238,42 +238,42 @@ token_equals c k f v ps h = record {
 
 -- ---- the steps of parameters
 module _ (s : Tests) (c : ℕ) (cs : List ℕ) (i : Complete s cs) where
-  params_step : fault_from s behind_param (c ∷ cs) ≡ None → Has s (λ f. IsParams f (reading behind_param (c ∷ cs)).params) (c ∷ cs) (reading behind_param (c ∷ cs)).links
+  params_step : fault_from s after_param (c ∷ cs) ≡ None → Has s (λ f. IsParams f (reading after_param (c ∷ cs)).params) (c ∷ cs) (reading after_param (c ∷ cs)).links
   unfolding reading fault_from
   params_step =
-      let P : ℕ → Type 0 = λ d. fault_from s behind_param (d ∷ cs) ≡ None → Has s (λ f. IsParams f (reading behind_param (d ∷ cs)).params) (d ∷ cs) (reading behind_param (d ∷ cs)).links in
-      at_char c 59 P (λ h. has_front 59 (λ f k. semicolon_params f _ k) (i.semicolon h))
+      let P : ℕ → Type 0 = λ d. fault_from s after_param (d ∷ cs) ≡ None → Has s (λ f. IsParams f (reading after_param (d ∷ cs)).params) (d ∷ cs) (reading after_param (d ∷ cs)).links in
+      at_char c 59 P (λ h. has_prefix 59 (λ f k. semicolon_params f _ k) (i.semicolon h))
       (λ a. at_char c 44 P (λ h. at_comma cs (links_in cs) none (i.start h))
       (λ b. at_char c 32 P (λ h. has_blank 32 refl (λ f k. params_blank 32 refl f _ k) (i.params h))
       (λ d. at_char c 9 P (λ h. has_blank 9 refl (λ f k. params_blank 9 refl f _ k) (i.params h))
       (λ e h. let w = no_param s (c ∷ cs) (rw (d, e) refl) a b in cc))))
 
-  semicolon_step : fault_from s behind_semicolon (c ∷ cs) ≡ None
-      → Has s (λ f. IsSemicolonRest f (reading behind_semicolon (c ∷ cs)).params) (c ∷ cs) (reading behind_semicolon (c ∷ cs)).links
+  semicolon_step : fault_from s after_semicolon (c ∷ cs) ≡ None
+      → Has s (λ f. IsSemicolonRest f (reading after_semicolon (c ∷ cs)).params) (c ∷ cs) (reading after_semicolon (c ∷ cs)).links
   unfolding reading fault_from
   semicolon_step =
-      let P : ℕ → Type 0 = λ d. fault_from s behind_semicolon (d ∷ cs) ≡ None → Has s (λ f. IsSemicolonRest f (reading behind_semicolon (d ∷ cs)).params) (d ∷ cs) (reading behind_semicolon (d ∷ cs)).links in
-      at_char c 59 P (λ h. has_front 59 (λ f k. skipped [] (59 ∷ f) _ refl (semicolon_params f _ k)) (i.semicolon h))
+      let P : ℕ → Type 0 = λ d. fault_from s after_semicolon (d ∷ cs) ≡ None → Has s (λ f. IsSemicolonRest f (reading after_semicolon (d ∷ cs)).params) (d ∷ cs) (reading after_semicolon (d ∷ cs)).links in
+      at_char c 59 P (λ h. has_prefix 59 (λ f k. skipped [] (59 ∷ f) _ refl (semicolon_params f _ k)) (i.semicolon h))
       (λ a. at_char c 44 P (λ h. at_comma cs (links_in cs) (skipped [] [] [] refl none) (i.start h))
-      (λ b. at_char c 32 P (λ h. has_front 32 (λ f k. semicolon_blank 32 refl f _ k) (i.semicolon h))
-      (λ d. at_char c 9 P (λ h. has_front 9 (λ f k. semicolon_blank 9 refl f _ k) (i.semicolon h))
+      (λ b. at_char c 32 P (λ h. has_prefix 32 (λ f k. semicolon_blank 32 refl f _ k) (i.semicolon h))
+      (λ d. at_char c 9 P (λ h. has_prefix 9 (λ f k. semicolon_blank 9 refl f _ k) (i.semicolon h))
       (λ e. when (is_token_char c) (P c)
       (λ k h.
       let g : fault_from s in_name cs ≡ None = sym (name-run s (c ∷ []) cs (rw k refl)) ∙ (sym (semicolon-name s (c ∷ cs) k) ∙ h) in
-      subst (λ r. Has s (λ f. IsSemicolonRest f r.params) (c ∷ cs) r.links) (sym (semicolon_read c cs k)) (has_front c (λ f n. name_param c k f _ _ _ n) (i.name g)))
-      (λ k h. let w : fault_from s behind_semicolon (c ∷ cs) ≡ Some (record { kind = NoParam; rest = c ∷ cs }) = rw (k, d, e, a, b) refl in cc)))))
+      subst (λ r. Has s (λ f. IsSemicolonRest f r.params) (c ∷ cs) r.links) (sym (semicolon_read c cs k)) (has_prefix c (λ f n. name_param c k f _ _ _ n) (i.name g)))
+      (λ k h. let w : fault_from s after_semicolon (c ∷ cs) ≡ Some (record { kind = NoParam; rest = c ∷ cs }) = rw (k, d, e, a, b) refl in cc)))))
 
-  named_step : fault_from s behind_name (c ∷ cs) ≡ None
-      → Has s (λ f. IsNameRest f (reading behind_name (c ∷ cs)).value (reading behind_name (c ∷ cs)).params) (c ∷ cs) (reading behind_name (c ∷ cs)).links
+  named_step : fault_from s after_name (c ∷ cs) ≡ None
+      → Has s (λ f. IsNameRest f (reading after_name (c ∷ cs)).value (reading after_name (c ∷ cs)).params) (c ∷ cs) (reading after_name (c ∷ cs)).links
   unfolding reading fault_from
   named_step =
-      let P : ℕ → Type 0 = λ d. fault_from s behind_name (d ∷ cs) ≡ None → Has s (λ f. IsNameRest f (reading behind_name (d ∷ cs)).value (reading behind_name (d ∷ cs)).params) (d ∷ cs) (reading behind_name (d ∷ cs)).links in
-      at_char c 61 P (λ h. has_front 61 (λ f k. equals_name f _ _ k) (i.equals h))
-      (λ z. at_char c 59 P (λ h. has_front 59 (λ f k. alone (59 ∷ f) _ (semicolon_params f _ k)) (i.semicolon h))
+      let P : ℕ → Type 0 = λ d. fault_from s after_name (d ∷ cs) ≡ None → Has s (λ f. IsNameRest f (reading after_name (d ∷ cs)).value (reading after_name (d ∷ cs)).params) (d ∷ cs) (reading after_name (d ∷ cs)).links in
+      at_char c 61 P (λ h. has_prefix 61 (λ f k. equals_name f _ _ k) (i.equals h))
+      (λ z. at_char c 59 P (λ h. has_prefix 59 (λ f k. alone (59 ∷ f) _ (semicolon_params f _ k)) (i.semicolon h))
       (λ a. at_char c 44 P (λ h. at_comma cs (links_in cs) (alone [] [] none) (i.start h))
       (λ b. at_char c 32 P (λ h. has_blank 32 refl (λ f k. name_blank 32 refl f _ _ k) (i.named h))
       (λ d. at_char c 9 P (λ h. has_blank 9 refl (λ f k. name_blank 9 refl f _ _ k) (i.named h))
-      (λ e h. let w : fault_from s behind_name (c ∷ cs) ≡ Some (record { kind = NoParam; rest = c ∷ cs }) = rw (z, d, e, a, b) refl in cc)))))
+      (λ e h. let w : fault_from s after_name (c ∷ cs) ≡ Some (record { kind = NoParam; rest = c ∷ cs }) = rw (z, d, e, a, b) refl in cc)))))
 
   name_read : is_token_char c ≡ true → reading in_name (c ∷ cs) ≡ more c (reading in_name cs)
   unfolding reading
@@ -286,9 +286,9 @@ module _ (s : Tests) (c : ℕ) (cs : List ℕ) (i : Complete s cs) where
       (λ k.
       let g : fault_from s in_name cs ≡ None = sym (name-run s (c ∷ []) cs (rw k refl)) ∙ h in
       subst (λ r. Has s (λ f. IsNameText f r.text r.value r.params) (c ∷ cs) r.links) (sym (name_read k))
-      (has_front c (λ f n. record { q = n.q; whole = ap (λ l. c ∷ l) n.whole; all = rw k n.all; rest = n.rest }) (i.name g)))
+      (has_prefix c (λ f n. record { q = n.q; whole = ap (λ l. c ∷ l) n.whole; all = rw k n.all; rest = n.rest }) (i.name g)))
       (λ k.
-      let g : fault_from s behind_name (c ∷ cs) ≡ None = sym (name-ends s (c ∷ cs) k) ∙ h in
+      let g : fault_from s after_name (c ∷ cs) ≡ None = sym (name-ends s (c ∷ cs) k) ∙ h in
       let n = name_stops (c ∷ cs) k in
       subst (λ r. Has s (λ f. IsNameText f r.text r.value r.params) (c ∷ cs) r.links) (sym n.0)
       (has_map (λ f r. record { q = f; whole = ap (λ x. x ++ f) (sym n.1); all = rw n.1 refl; rest = r }) (named_step g)))
@@ -296,9 +296,9 @@ module _ (s : Tests) (c : ℕ) (cs : List ℕ) (i : Complete s cs) where
   param_end-text : (d : ℕ) (r : Reading) → (param_end d r).text ≡ []
   param_end-text d r = by_test d 44 (λ b. (cond b (of_links r.links) (of_params r.params r.links)).text ≡ []) (λ _. refl) (λ _. refl)
 
-  token_stops : is_token_char c ≡ false → (reading in_token (c ∷ cs) ≡ reading behind_param (c ∷ cs)) × ((reading behind_param (c ∷ cs)).text ≡ [])
+  token_stops : is_token_char c ≡ false → (reading in_token (c ∷ cs) ≡ reading after_param (c ∷ cs)) × ((reading after_param (c ∷ cs)).text ≡ [])
   unfolding reading
-  token_stops k = (rw k refl, param_end-text c (reading (cond (c == 59) behind_semicolon (cond (c == 44) before_link behind_param)) cs))
+  token_stops k = (rw k refl, param_end-text c (reading (cond (c == 59) after_semicolon (cond (c == 44) before_link after_param)) cs))
 
   token_read : is_token_char c ≡ true → reading in_token (c ∷ cs) ≡ more c (reading in_token cs)
   unfolding reading
@@ -311,9 +311,9 @@ module _ (s : Tests) (c : ℕ) (cs : List ℕ) (i : Complete s cs) where
       (λ k.
       let g : fault_from s in_token cs ≡ None = sym (token-run s (c ∷ []) cs (rw k refl)) ∙ h in
       subst (λ r. Has s (λ f. IsTokenRest f r.text r.params) (c ∷ cs) r.links) (sym (token_read k))
-      (has_front c (λ f n. record { q = n.q; whole = ap (λ l. c ∷ l) n.whole; all = rw k n.all; params = n.params }) (i.token g)))
+      (has_prefix c (λ f n. record { q = n.q; whole = ap (λ l. c ∷ l) n.whole; all = rw k n.all; params = n.params }) (i.token g)))
       (λ k.
-      let g : fault_from s behind_param (c ∷ cs) ≡ None = sym (token-ends s (c ∷ cs) k) ∙ h in
+      let g : fault_from s after_param (c ∷ cs) ≡ None = sym (token-ends s (c ∷ cs) k) ∙ h in
       let n = token_stops k in
       subst (λ r. Has s (λ f. IsTokenRest f r.text r.params) (c ∷ cs) r.links) (sym n.0)
       (has_map (λ f r. record { q = f; whole = ap (λ x. x ++ f) (sym n.1); all = rw n.1 refl; params = r }) (params_step g)))
@@ -322,22 +322,22 @@ module _ (s : Tests) (c : ℕ) (cs : List ℕ) (i : Complete s cs) where
   closed_none true f e h = (refl, h)
   closed_none false f e h = cc
 
-  equals_step : fault_from s behind_equals (c ∷ cs) ≡ None
-      → Has s (λ f. IsEqualsRest f (reading behind_equals (c ∷ cs)).text (reading behind_equals (c ∷ cs)).params) (c ∷ cs) (reading behind_equals (c ∷ cs)).links
+  equals_step : fault_from s after_equals (c ∷ cs) ≡ None
+      → Has s (λ f. IsEqualsRest f (reading after_equals (c ∷ cs)).text (reading after_equals (c ∷ cs)).params) (c ∷ cs) (reading after_equals (c ∷ cs)).links
   unfolding reading fault_from
   equals_step =
-      let P : ℕ → Type 0 = λ d. fault_from s behind_equals (d ∷ cs) ≡ None → Has s (λ f. IsEqualsRest f (reading behind_equals (d ∷ cs)).text (reading behind_equals (d ∷ cs)).params) (d ∷ cs) (reading behind_equals (d ∷ cs)).links in
+      let P : ℕ → Type 0 = λ d. fault_from s after_equals (d ∷ cs) ≡ None → Has s (λ f. IsEqualsRest f (reading after_equals (d ∷ cs)).text (reading after_equals (d ∷ cs)).params) (d ∷ cs) (reading after_equals (d ∷ cs)).links in
       at_char c 34 P
       (λ h.
       let k = closed_none (closes_from false cs) (fault_from s in_quoted cs) (record { kind = OpenString; rest = 34 ∷ cs }) h in
-      has_front 34 (λ f n. quoted_equals f _ _ n) (i.quoted k.0 k.1))
-      (λ a. at_char c 32 P (λ h. has_front 32 (λ f k. equals_blank 32 refl f _ _ k) (i.equals h))
-      (λ d. at_char c 9 P (λ h. has_front 9 (λ f k. equals_blank 9 refl f _ _ k) (i.equals h))
+      has_prefix 34 (λ f n. quoted_equals f _ _ n) (i.quoted k.0 k.1))
+      (λ a. at_char c 32 P (λ h. has_prefix 32 (λ f k. equals_blank 32 refl f _ _ k) (i.equals h))
+      (λ d. at_char c 9 P (λ h. has_prefix 9 (λ f k. equals_blank 9 refl f _ _ k) (i.equals h))
       (λ e. when (is_token_char c) (P c)
       (λ k h.
       let g : fault_from s in_token cs ≡ None = sym (token-run s (c ∷ []) cs (rw k refl)) ∙ (sym (equals-token s (c ∷ cs) k) ∙ h) in
-      subst (λ r. Has s (λ f. IsEqualsRest f r.text r.params) (c ∷ cs) r.links) (sym (equals_read c cs k)) (has_front c (λ f n. token_equals c k f _ _ n) (i.token g)))
-      (λ k h. let w : fault_from s behind_equals (c ∷ cs) ≡ Some (record { kind = NoValue; rest = c ∷ cs }) = rw (a, k, d, e) refl in cc))))
+      subst (λ r. Has s (λ f. IsEqualsRest f r.text r.params) (c ∷ cs) r.links) (sym (equals_read c cs k)) (has_prefix c (λ f n. token_equals c k f _ _ n) (i.token g)))
+      (λ k h. let w : fault_from s after_equals (c ∷ cs) ≡ Some (record { kind = NoValue; rest = c ∷ cs }) = rw (a, k, d, e) refl in cc))))
 
   -- ---- the steps of quoted strings
   quoted_step : closes_from false (c ∷ cs) ≡ true → fault_from s in_quoted (c ∷ cs) ≡ None
@@ -346,9 +346,9 @@ module _ (s : Tests) (c : ℕ) (cs : List ℕ) (i : Complete s cs) where
   quoted_step =
       let P : ℕ → Type 0 = λ d. closes_from false (d ∷ cs) ≡ true → fault_from s in_quoted (d ∷ cs) ≡ None
       → Has s (λ f. IsQuotedRest f (reading in_quoted (d ∷ cs)).text (reading in_quoted (d ∷ cs)).params) (d ∷ cs) (reading in_quoted (d ∷ cs)).links in
-      at_char c 34 P (λ _ h. has_front 34 (λ f k. record { u = []; q = f; whole = refl; value = done; params = k }) (i.params h))
+      at_char c 34 P (λ _ h. has_prefix 34 (λ f k. record { u = []; q = f; whole = refl; value = done; params = k }) (i.params h))
       (λ a. at_char c 92 P
-      (λ z h. has_front 92 (λ f k. record {
+      (λ z h. has_prefix 92 (λ f k. record {
         u = 92 ∷ k.c ∷ k.u;
         q = k.q;
         whole = ap (λ l. 92 ∷ l) k.whole;
@@ -365,14 +365,14 @@ module _ (s : Tests) (c : ℕ) (cs : List ℕ) (i : Complete s cs) where
           let g : fault_from s in_quoted cs ≡ None = let w : fault_from s in_quoted (c ∷ cs) ≡ fault_from s in_quoted cs = rw (a, b) refl in sym w ∙ h in
           let r : reading in_quoted (c ∷ cs) ≡ more c (reading in_quoted cs) = rw (a, b) refl in
           subst (λ x. Has s (λ f. IsQuotedRest f x.text x.params) (c ∷ cs) x.links) (sym r)
-          (has_front c (λ f n. record { u = c ∷ n.u; q = n.q; whole = ap (λ l. c ∷ l) n.whole; value = plain c n.u _ k.0 n.value; params = n.params }) (i.quoted k.1 g))
+          (has_prefix c (λ f n. record { u = c ∷ n.u; q = n.q; whole = ap (λ l. c ∷ l) n.whole; value = plain c n.u _ k.0 n.value; params = n.params }) (i.quoted k.1 g))
 
   pair_step : closes_from true (c ∷ cs) ≡ true → fault_from s in_pair (c ∷ cs) ≡ None
       → Has s (λ f. IsPairRest f (reading in_pair (c ∷ cs)).text (reading in_pair (c ∷ cs)).params) (c ∷ cs) (reading in_pair (c ∷ cs)).links
   unfolding reading fault_from closes_from
   pair_step z h =
       let k = both (is_pair_char c) (closes_from false cs) z in
-      has_front c (λ f n. record { c = c; u = n.u; v = _; q = n.q; whole = ap (λ l. c ∷ l) n.whole; char = k.0; text_is = refl; value = n.value; params = n.params }) (i.quoted k.1 h)
+      has_prefix c (λ f n. record { c = c; u = n.u; v = _; q = n.q; whole = ap (λ l. c ∷ l) n.whole; char = k.0; text_is = refl; value = n.value; params = n.params }) (i.quoted k.1 h)
 
   -- ---- the steps of targets and link-values
   target_step : lacks 62 (c ∷ cs) ≡ false → fault_from s in_target (c ∷ cs) ≡ None
@@ -427,15 +427,15 @@ module _ (s : Tests) (c : ℕ) (cs : List ℕ) (i : Complete s cs) where
       let R = reading in_target cs in
       let o = open_none h in
       let t = i.target o.0 g in
-      let e : before 62 cs ≡ R.text = ap (before 62) t.whole ∙ before-marked 62 R.text (Some t.mid) t.closed in
+      let e : before 62 cs ≡ R.text = ap (before 62) t.whole ∙ before-delimited 62 R.text (Some t.mid) t.closed in
       let valid : reference_fault s R.text ≡ None = ap (reference_fault s) (sym e) ∙ o.1 in
       let m = t.rest in
       let l : LinkValue = record { target = R.text; params = R.params } in
-      let x = 60 ∷ (R.text ++ 62 ∷ m.front) in
+      let x = 60 ∷ (R.text ++ 62 ∷ m.prefix) in
       let whole : x ++ (m.blanks ++ m.rest) ≡ 60 ∷ cs =
-      ap (λ w. 60 ∷ w) (append_assoc R.text (62 ∷ m.front) (m.blanks ++ m.rest) ∙ (ap (λ w. R.text ++ 62 ∷ w) (sym m.whole) ∙ sym t.whole)) in
+      ap (λ w. 60 ∷ w) (append_assoc R.text (62 ∷ m.prefix) (m.blanks ++ m.rest) ∙ (ap (λ w. R.text ++ 62 ∷ w) (sym m.whole) ∙ sym t.whole)) in
       subst (λ w. IsField w (l ∷ R.links) × All (HasReference s) (l ∷ R.links)) whole
-      (ended x m.blanks m.rest l R.links (link R.text m.front R.params t.closed m.fits) m.all valid m.ends)
+      (ended x m.blanks m.rest l R.links (link R.text m.prefix R.params t.closed m.fits) m.all valid m.ends)
 
   start_step : fault_from s before_link (c ∷ cs) ≡ None → IsField (c ∷ cs) (links_in (c ∷ cs)) × All (HasReference s) (links_in (c ∷ cs))
   unfolding reading fault_from

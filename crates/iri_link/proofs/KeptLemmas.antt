@@ -9,16 +9,16 @@ use Rattle.std.proofs.lemmas.Bool.Decides.{nat_tests}
 use Rattle.std.proofs.lemmas.List.{append-nil}
 use Rattle.std.proofs.lemmas.Str.{IsUtf8-nil}
 use Rattle.std.proofs.lemmas.Str.Ascii.{lowercase-lowercase, lowercase_is}
-use Rattle.iri_grammar.proofs.AuthorityTexts.{marked-utf8}
+use Rattle.iri_grammar.proofs.AuthorityTexts.{delimited-utf8}
 use Rattle.std.proofs.lemmas.List.Elements.{All-append, All-nil, All-cons}
 use Rattle.iri_grammar.proofs.CutLaws.{both}
-use Rattle.iri_grammar.proofs.Marks.{text_after_mark}
+use Rattle.iri_grammar.proofs.Delimiters.{text_after_delimiter}
 use Rattle.iri_grammar.proofs.Units.{text_after_ascii}
 use Rattle.iri_link.specs.Token.{is_pair_char, is_plain_char, is_blank, is_blanks, is_token_char, is_token, IsQuoted, done, plain, pair}
 use Rattle.iri_link.specs.Field.{LinkParam, LinkValue, IsValue, token, quoted, IsParam, bare, valued, IsParams, none, empty, param}
 use Rattle.iri_link.specs.Field.{IsLink, link, IsElement, empty as no_element, link as element, IsField, last, more}
 use Rattle.iri_link.proofs.RunLemmas.{blank-low, token-low}
-use Rattle.iri_link.proofs.Utf8Lemmas.{text_before_mark, value-utf8}
+use Rattle.iri_link.proofs.Utf8Lemmas.{text_before_delimiter, value-utf8}
 
 -- a value of characters that a quoted string can have
 pub record IsKeptText (v : List ℕ) : Type 0 where
@@ -80,7 +80,7 @@ run_after p low (c ∷ cs) z h u =
 
 run_utf8 : (p : ℕ → Bool) → ((c : ℕ) → p c ≡ true → c < 128) → (xs : List ℕ) → list_all p xs ≡ true → IsUtf8 xs
 run_utf8 p low [] h = IsUtf8-nil
-run_utf8 p low (c ∷ cs) h = let k = both (p c) (list_all p cs) h in marked-utf8 c cs (low c k.0) (run_utf8 p low cs k.1)
+run_utf8 p low (c ∷ cs) h = let k = both (p c) (list_all p cs) h in delimited-utf8 c cs (low c k.0) (run_utf8 p low cs k.1)
 
 token_chars : (v : List ℕ) → is_token v ≡ true → list_all is_token_char v ≡ true
 token_chars [] h = cc
@@ -109,7 +109,7 @@ value-kept : (t v z : List ℕ) → IsValue t v → IsUtf8 (t ++ z) → IsKeptTe
 value-kept t v z (token w h) u = (record { chars = token-pairs w (token_chars w h); utf8 = token-utf8 w h }, token_after w z h u)
 value-kept t v z (quoted w x q) u =
     let all : IsUtf8 (w ++ 34 ∷ z) = subst IsUtf8 (append_assoc w (34 ∷ []) z) (text_after_ascii 34 ((w ++ 34 ∷ []) ++ z) u (omega arith)) in
-    (record { chars = quoted-pairs w x q; utf8 = value-utf8 w x (text_before_mark 34 w z (omega arith) all) q }, text_after_mark 34 w z (omega arith) all)
+    (record { chars = quoted-pairs w x q; utf8 = value-utf8 w x (text_before_delimiter 34 w z (omega arith) all) q }, text_after_delimiter 34 w z (omega arith) all)
 
 -- ---- parameters
 param-kept : (p z : List ℕ) (q : LinkParam) → IsParam p q → IsUtf8 (p ++ z) → IsKeptParam q × IsUtf8 z
@@ -118,25 +118,25 @@ param-kept p z q (valued n a b t v h ha hb hv) u =
     let e : (n ++ (a ++ 61 ∷ (b ++ t))) ++ z ≡ n ++ (a ++ 61 ∷ (b ++ (t ++ z))) =
     append_assoc n (a ++ 61 ∷ (b ++ t)) z ∙ ap (λ l. n ++ l) (append_assoc a (61 ∷ (b ++ t)) z ∙ ap (λ l. a ++ 61 ∷ l) (append_assoc b t z)) in
     let rest = token_after n (a ++ 61 ∷ (b ++ (t ++ z))) h (subst IsUtf8 e u) in
-    let k = value-kept t v z hv (blanks_after b (t ++ z) hb (text_after_mark 61 a (b ++ (t ++ z)) (omega arith) rest)) in
+    let k = value-kept t v z hv (blanks_after b (t ++ z) hb (text_after_delimiter 61 a (b ++ (t ++ z)) (omega arith) rest)) in
     (record { token = lowered-token n h; small = lowered-twice n; value = k.0 }, k.1)
 
 params-kept : (p z : List ℕ) (ps : List LinkParam) → IsParams p ps → IsUtf8 (p ++ z) → All IsKeptParam ps × IsUtf8 z
 params-kept p z ps none u = (All-nil IsKeptParam, u)
 params-kept p z ps (empty a b t rs ha hb h) u =
     let e : (a ++ 59 ∷ (b ++ t)) ++ z ≡ a ++ 59 ∷ (b ++ (t ++ z)) = append_assoc a (59 ∷ (b ++ t)) z ∙ ap (λ l. a ++ 59 ∷ l) (append_assoc b t z) in
-    params-kept t z rs h (blanks_after b (t ++ z) hb (text_after_mark 59 a (b ++ (t ++ z)) (omega arith) (subst IsUtf8 e u)))
+    params-kept t z rs h (blanks_after b (t ++ z) hb (text_after_delimiter 59 a (b ++ (t ++ z)) (omega arith) (subst IsUtf8 e u)))
 params-kept p z ps (param a b x t q rs ha hb hx h) u =
     let e : (a ++ 59 ∷ (b ++ (x ++ t))) ++ z ≡ a ++ 59 ∷ (b ++ (x ++ (t ++ z))) =
     append_assoc a (59 ∷ (b ++ (x ++ t))) z ∙ ap (λ l. a ++ 59 ∷ l) (append_assoc b (x ++ t) z ∙ ap (λ l. b ++ l) (append_assoc x t z)) in
-    let k = param-kept x (t ++ z) q hx (blanks_after b (x ++ (t ++ z)) hb (text_after_mark 59 a (b ++ (x ++ (t ++ z))) (omega arith) (subst IsUtf8 e u))) in
+    let k = param-kept x (t ++ z) q hx (blanks_after b (x ++ (t ++ z)) hb (text_after_delimiter 59 a (b ++ (x ++ (t ++ z))) (omega arith) (subst IsUtf8 e u))) in
     let i = params-kept t z rs h k.1 in
     (All-cons IsKeptParam q rs k.0 i.0, i.1)
 
 -- ---- link-values
 link-kept : (x z : List ℕ) (l : LinkValue) → IsLink x l → IsUtf8 (x ++ z) → HasKeptParams l × IsUtf8 z
 link-kept x z l (link t p ps closed h) u =
-    params-kept p z ps h (text_after_mark 62 (60 ∷ t) (p ++ z) (omega arith) (subst IsUtf8 (ap (λ l. 60 ∷ l) (append_assoc t (62 ∷ p) z)) u))
+    params-kept p z ps h (text_after_delimiter 62 (60 ∷ t) (p ++ z) (omega arith) (subst IsUtf8 (ap (λ l. 60 ∷ l) (append_assoc t (62 ∷ p) z)) u))
 
 element-kept : (x z : List ℕ) (ls : List LinkValue) → IsElement x ls → IsUtf8 (x ++ z) → All HasKeptParams ls × IsUtf8 z
 element-kept x z ls (no_element a h) u = (All-nil HasKeptParams, blanks_after a z h u)

@@ -10,14 +10,14 @@ use Rattle.iri_link.specs.declared.halt.Halt.TheVariants.{Fault as Halted, Memor
 use Rattle.std.proofs.lemmas.List.{append-nil, map-append}
 use Rattle.std.proofs.lemmas.List.Elements.{All-append, All-nil, All-cons}
 use Rattle.iri_grammar.specs.Classes.{Tests}
-use Rattle.iri_grammar.specs.Cut.{before, behind, marked}
+use Rattle.iri_grammar.specs.Cut.{before, after, delimited}
 use Rattle.iri_grammar.proofs.CutLaws.{both, joined}
 use Rattle.iri_grammar.specs.WholeFault.{reference_fault}
 use Rattle.iri_grammar.specs.declared.error.Error.{Error}
 use Rattle.iri_normal.specs.NormalForm.{canonical}
 use Rattle.iri_link.specs.Token.{is_blank, is_blanks}
 use Rattle.iri_link.specs.Field.{LinkParam, LinkValue, IsLink, link, IsElement, empty, link as element, IsField, last, more}
-use Rattle.iri_link.specs.Phases.{before_link, in_target, behind_param, next}
+use Rattle.iri_link.specs.Phases.{before_link, in_target, after_param, next}
 use Rattle.iri_link.specs.Fault.{fault_from, target_fault, earlier}
 use Rattle.iri_link.specs.inside.Runs.{begins, IsRun}
 use Rattle.iri_link.specs.inside.ReadParams.{ends_link, ReadsParams}
@@ -25,30 +25,30 @@ use Rattle.iri_link.specs.inside.Halts.{HaltsAt, HaltsIn}
 use Rattle.iri_link.specs.Links.{HasReference}
 use Rattle.iri_link.specs.Refusals.{KeepsTarget}
 use Rattle.iri_link.specs.Resolved.{resolved}
-use Rattle.iri_link.specs.inside.ReadLinks.{CutsTarget, ReadsLink, SkipsEmpty, AddsLink, ReadsField, ReadsUpTo, fault_behind, KeepsBehind}
+use Rattle.iri_link.specs.inside.ReadLinks.{CutsTarget, ReadsLink, SkipsEmpty, AddsLink, ReadsField, ReadsUpTo, fault_after, KeepsAfter}
 use Rattle.iri_link.specs.declared.error.LinkKind.TheVariants.{NoTarget, OpenTarget, BadTarget}
 use Rattle.iri_link.proofs.PhaseLemmas.{by_blank, start-blanks}
 use Rattle.iri_link.proofs.TargetLemmas.{before-lacks, some-lacks, none-lacks, target-goes, open_goes}
 
 -- ---- a target
 module _ (s : Tests) (w t target_text : List ℕ) (begun : w ≡ 60 ∷ t) (is : target_text ≡ before 62 t) where
-  pub target_cut : (rest seen : List ℕ) → Some rest ≡ behind 62 t → seen ≡ target_text → reference_fault s target_text ≡ None → CutsTarget s t rest seen
+  pub target_cut : (rest seen : List ℕ) → Some rest ≡ after 62 t → seen ≡ target_text → reference_fault s target_text ≡ None → CutsTarget s t rest seen
   target_cut rest seen h e valid =
       let has = some-lacks 62 t rest h in
       let none : reference_fault s (before 62 t) ≡ None = ap (reference_fault s) (sym is) ∙ valid in
       let right : target_fault s t ≡ None = rw (has, none) refl in
       rw (e, is) (record {
-        whole = sym (joined 62 t) ∙ ap (λ o. before 62 t ++ marked 62 o) (sym h);
+        whole = sym (joined 62 t) ∙ ap (λ o. before 62 t ++ delimited 62 o) (sym h);
         closed = before-lacks 62 t;
         valid = none;
         goes = open_goes s t ∙ (ap (λ o. earlier o (fault_from s in_target t)) right ∙ target-goes s t rest h);
       })
 
-  pub target_open : None ≡ behind 62 t → fault_from s before_link w ≡ Some (record { kind = OpenTarget; rest = w })
+  pub target_open : None ≡ after 62 t → fault_from s before_link w ≡ Some (record { kind = OpenTarget; rest = w })
   target_open h = let no = none-lacks 62 t h in let wrong : target_fault s t ≡ Some (record { kind = OpenTarget; rest = 60 ∷ t }) = rw no refl in
       ap (fault_from s before_link) begun ∙ (open_goes s t ∙ (ap (λ o. earlier o (fault_from s in_target t)) wrong ∙ ap (λ r. Some (record { kind = OpenTarget; rest = r })) (sym begun)))
 
-  pub target_bad : (rest : List ℕ) (e : Error) → Some rest ≡ behind 62 t → reference_fault s target_text ≡ Some e.kind → fault_from s before_link w ≡ Some (record { kind = BadTarget e; rest = t })
+  pub target_bad : (rest : List ℕ) (e : Error) → Some rest ≡ after 62 t → reference_fault s target_text ≡ Some e.kind → fault_from s before_link w ≡ Some (record { kind = BadTarget e; rest = t })
   target_bad rest e h bad =
       let has = some-lacks 62 t rest h in
       let some : reference_fault s (before 62 t) ≡ Some e.kind = ap (reference_fault s) (sym is) ∙ bad in
@@ -59,11 +59,11 @@ module _ (s : Tests) (w t target_text : List ℕ) (begun : w ≡ 60 ∷ t) (is :
 pub link_read : (s : Tests) (base w t mid rest tt kept_target : List ℕ) (ps : List LinkParam) → w ≡ 60 ∷ t → CutsTarget s t mid tt → kept_target ≡ canonical s base tt → ReadsParams mid rest ps
     → ReadsLink s base w rest (record { target = kept_target; params = ps })
 link_read s base w t mid rest tt kept_target ps begun cut is p = record {
-  front = 60 ∷ (tt ++ 62 ∷ p.front);
+  prefix = 60 ∷ (tt ++ 62 ∷ p.prefix);
   blanks = p.blanks;
   source = record { target = tt; params = ps };
-  whole = begun ∙ ap (λ l. 60 ∷ l) (cut.whole ∙ (ap (λ l. tt ++ 62 ∷ l) p.whole ∙ sym (append_assoc tt (62 ∷ p.front) (p.blanks ++ rest))));
-  link = link tt p.front ps cut.closed p.params;
+  whole = begun ∙ ap (λ l. 60 ∷ l) (cut.whole ∙ (ap (λ l. tt ++ 62 ∷ l) p.whole ∙ sym (append_assoc tt (62 ∷ p.prefix) (p.blanks ++ rest))));
+  link = link tt p.prefix ps cut.closed p.params;
   valid = cut.valid;
   kept = ap (λ z. record { target = z; params = ps }) is;
   all = p.all;
@@ -74,7 +74,7 @@ link_read s base w t mid rest tt kept_target ps begun cut is p = record {
 -- ---- a target that is kept
 pub target_kept : (s : Tests) (w t rest target_text : List ℕ) → w ≡ 60 ∷ t → CutsTarget s t rest target_text → KeepsTarget s w
 target_kept s w t rest target_text begun cut = record {
-  front = [];
+  prefix = [];
   target = target_text;
   rest = rest;
   whole = begun ∙ ap (λ l. 60 ∷ l) cut.whole;
@@ -84,13 +84,13 @@ target_kept s w t rest target_text begun cut = record {
 }
 
 pub params_halt : (e : Halt) (s : Tests) (w t rest target_text : List ℕ) → w ≡ 60 ∷ t → CutsTarget s t rest target_text
-    → HaltsAt e (fault_from s behind_param rest) → HaltsIn s w e
+    → HaltsAt e (fault_from s after_param rest) → HaltsIn s w e
 params_halt (Halted k r) s w t rest target_text begun cut h = ap (fault_from s before_link) begun ∙ (cut.goes ∙ h)
 params_halt Memory s w t rest target_text begun cut h = target_kept s w t rest target_text begun cut
 
-kept-front : (s : Tests) (t x z : List ℕ) (l : LinkValue) → t ≡ x ++ z → IsLink x l → HasReference s l → KeepsTarget s t
-kept-front s t x z l e (link u p ps closed h) valid = record {
-  front = [];
+kept-prefix : (s : Tests) (t x z : List ℕ) (l : LinkValue) → t ≡ x ++ z → IsLink x l → HasReference s l → KeepsTarget s t
+kept-prefix s t x z l e (link u p ps closed h) valid = record {
+  prefix = [];
   target = u;
   rest = p ++ z;
   whole = e ∙ ap (λ y. 60 ∷ y) (append_assoc u (62 ∷ p) z);
@@ -100,7 +100,7 @@ kept-front s t x z l e (link u p ps closed h) valid = record {
 }
 
 pub link_kept : (s : Tests) (base t rest : List ℕ) (l : LinkValue) → ReadsLink s base t rest l → KeepsTarget s t
-link_kept s base t rest l r = kept-front s t r.front (r.blanks ++ rest) r.source r.whole r.link r.valid
+link_kept s base t rest l r = kept-prefix s t r.prefix (r.blanks ++ rest) r.source r.whole r.link r.valid
 
 skipped-blanks : (a y : List ℕ) → is_blanks a ≡ true → list_all (λ c. is_blank c || c == 44) y ≡ true
     → list_all (λ c. is_blank c || c == 44) (a ++ y) ≡ true
@@ -112,11 +112,11 @@ skipped-blanks (c ∷ cs) y h k =
 
 kept-blanks : (s : Tests) (a y : List ℕ) → is_blanks a ≡ true → KeepsTarget s y → KeepsTarget s (a ++ y)
 kept-blanks s a y h k = record {
-  front = a ++ k.front;
+  prefix = a ++ k.prefix;
   target = k.target;
   rest = k.rest;
-  whole = ap (λ l. a ++ l) k.whole ∙ sym (append_assoc a k.front (60 ∷ (k.target ++ 62 ∷ k.rest)));
-  skipped = skipped-blanks a k.front h k.skipped;
+  whole = ap (λ l. a ++ l) k.whole ∙ sym (append_assoc a k.prefix (60 ∷ (k.target ++ 62 ∷ k.rest)));
+  skipped = skipped-blanks a k.prefix h k.skipped;
   closed = k.closed;
   valid = k.valid;
 }
@@ -125,10 +125,10 @@ kept-blanks s a y h k = record {
 kept-run : (s : Tests) (rest a next : List ℕ) → IsRun is_blank rest a next → KeepsTarget s next → KeepsTarget s rest
 kept-run s rest a next h k = subst (λ z. KeepsTarget s z) (sym h.whole) (kept-blanks s a next h.all k)
 
-kept-comma : (s : Tests) (t : List ℕ) (o : Option (List ℕ)) → t ≡ marked 44 o → KeepsBehind s o → KeepsTarget s t
+kept-comma : (s : Tests) (t : List ℕ) (o : Option (List ℕ)) → t ≡ delimited 44 o → KeepsAfter s o → KeepsTarget s t
 kept-comma s t None e k = absurd k
 kept-comma s t (Some r) e k = rw e (record {
-  front = 44 ∷ k.front;
+  prefix = 44 ∷ k.prefix;
   target = k.target;
   rest = k.rest;
   whole = ap (λ l. 44 ∷ l) k.whole;
@@ -139,19 +139,19 @@ kept-comma s t (Some r) e k = rw e (record {
 
 -- ---- an element
 pub comma_or_end : (t : List ℕ) (o : Option (Bor (List ℕ))) → MatchOption o (begins (λ c. c == 44) t ≡ false) (λ r. t ≡ 44 ∷ r.now) → ends_link t ≡ true
-    → (t ≡ marked 44 (now_of o)) × ((s : Tests) → fault_from s behind_param t ≡ fault_behind s (now_of o))
+    → (t ≡ delimited 44 (now_of o)) × ((s : Tests) → fault_from s after_param t ≡ fault_after s (now_of o))
 unfolding fault_from
 comma_or_end [] None h e = (refl, λ s. refl)
 comma_or_end (c ∷ cs) None h e = cc
-comma_or_end t (Some r) h e = (h, λ s. ap (fault_from s behind_param) h)
+comma_or_end t (Some r) h e = (h, λ s. ap (fault_from s after_param) h)
 
-pub link_added : (s : Tests) (base t rest : List ℕ) (l : LinkValue) (o : Option (List ℕ)) (old new : List LinkValue) → ReadsLink s base t rest l → rest ≡ marked 44 o
-    → ((k : Tests) → fault_from k behind_param rest ≡ fault_behind k o) → new ≡ old ++ (l ∷ []) → AddsLink s base t o old new
+pub link_added : (s : Tests) (base t rest : List ℕ) (l : LinkValue) (o : Option (List ℕ)) (old new : List LinkValue) → ReadsLink s base t rest l → rest ≡ delimited 44 o
+    → ((k : Tests) → fault_from k after_param rest ≡ fault_after k o) → new ≡ old ++ (l ∷ []) → AddsLink s base t o old new
 link_added s base t rest l o old new r e goes k = record {
-  front = r.front ++ r.blanks;
+  prefix = r.prefix ++ r.blanks;
   sources = r.source ∷ [];
-  whole = r.whole ∙ (ap (λ z. r.front ++ (r.blanks ++ z)) e ∙ sym (append_assoc r.front r.blanks (marked 44 o)));
-  element = λ a ha. element a r.front r.blanks r.source ha r.link r.all;
+  whole = r.whole ∙ (ap (λ z. r.prefix ++ (r.blanks ++ z)) e ∙ sym (append_assoc r.prefix r.blanks (delimited 44 o)));
+  element = λ a ha. element a r.prefix r.blanks r.source ha r.link r.all;
   valid = All-cons (HasReference s) r.source [] r.valid (All-nil (HasReference s));
   kept = k ∙ ap (λ z. old ++ (z ∷ [])) r.kept;
   goes = r.goes ∙ goes s;
@@ -160,7 +160,7 @@ link_added s base t rest l o old new r e goes k = record {
 
 pub empty_added : (s : Tests) (base t : List ℕ) (o : Option (List ℕ)) (old : List LinkValue) → SkipsEmpty t o → AddsLink s base t o old old
 empty_added s base t o old e = record {
-  front = [];
+  prefix = [];
   sources = [];
   whole = e.whole;
   element = λ a ha. subst (λ z. IsElement z []) (sym (append-nil a)) (empty a ha);
@@ -197,33 +197,33 @@ pub up_none : (s : Tests) (base x : List ℕ) (ls : List LinkValue) → ls ≡ [
 up_none s base x ls e = record { sources = []; read = λ ms f. f; valid = All-nil (HasReference s); kept = e; goes = refl; keeps = λ k. k }
 
 module _ (s : Tests) (base x rest a next : List ℕ) (o : Option (List ℕ)) (old new : List LinkValue) (u : ReadsUpTo s base x rest old) (h : IsRun is_blank rest a next) (k : AddsLink s base next o old new) where
-  parts : rest ≡ (a ++ k.front) ++ marked 44 o
-  parts = h.whole ∙ (ap (λ l. a ++ l) k.whole ∙ sym (append_assoc a k.front (marked 44 o)))
+  parts : rest ≡ (a ++ k.prefix) ++ delimited 44 o
+  parts = h.whole ∙ (ap (λ l. a ++ l) k.whole ∙ sym (append_assoc a k.prefix (delimited 44 o)))
 
   grown : new ≡ map (resolved s base) (u.sources ++ k.sources)
   grown = k.kept ∙ (ap (λ l. l ++ map (resolved s base) k.sources) u.kept ∙ sym (map-append (resolved s base) u.sources k.sources))
 
-  gone : fault_from s before_link x ≡ fault_behind s o
+  gone : fault_from s before_link x ≡ fault_after s o
   gone = u.goes ∙ (ap (fault_from s before_link) h.whole ∙ (start-blanks s a next h.all ∙ k.goes))
 
-  pub up_more : (behind : List ℕ) → o ≡ Some behind → ReadsUpTo s base x behind new
-  up_more behind e = record {
+  pub up_more : (after : List ℕ) → o ≡ Some after → ReadsUpTo s base x after new
+  up_more after e = record {
     sources = u.sources ++ k.sources;
     read = λ ms f.
-        let is : (a ++ k.front) ++ 44 ∷ behind ≡ rest = ap (λ z. (a ++ k.front) ++ marked 44 z) (sym e) ∙ sym parts in
-        subst (λ z. IsField x z) (sym (append_assoc u.sources k.sources ms)) (u.read (k.sources ++ ms) (subst (λ z. IsField z (k.sources ++ ms)) is (more (a ++ k.front) behind k.sources ms (k.element a h.all) f)));
+        let is : (a ++ k.prefix) ++ 44 ∷ after ≡ rest = ap (λ z. (a ++ k.prefix) ++ delimited 44 z) (sym e) ∙ sym parts in
+        subst (λ z. IsField x z) (sym (append_assoc u.sources k.sources ms)) (u.read (k.sources ++ ms) (subst (λ z. IsField z (k.sources ++ ms)) is (more (a ++ k.prefix) after k.sources ms (k.element a h.all) f)));
     valid = All-append (HasReference s) u.sources k.sources u.valid k.valid;
     kept = grown;
-    goes = gone ∙ ap (fault_behind s) e;
-    keeps = λ t. u.keeps (kept-run s rest a next h (k.keeps (subst (KeepsBehind s) (sym e) t)));
+    goes = gone ∙ ap (fault_after s) e;
+    keeps = λ t. u.keeps (kept-run s rest a next h (k.keeps (subst (KeepsAfter s) (sym e) t)));
   }
 
   pub up_end : o ≡ None → ReadsField s base x new
   up_end e =
-      let is : a ++ k.front ≡ rest = sym (append-nil (a ++ k.front)) ∙ (ap (λ z. (a ++ k.front) ++ marked 44 z) (sym e) ∙ sym parts) in
+      let is : a ++ k.prefix ≡ rest = sym (append-nil (a ++ k.prefix)) ∙ (ap (λ z. (a ++ k.prefix) ++ delimited 44 z) (sym e) ∙ sym parts) in
       record {
         sources = u.sources ++ k.sources;
-        field = u.read k.sources (subst (λ z. IsField z k.sources) is (last (a ++ k.front) k.sources (k.element a h.all)));
+        field = u.read k.sources (subst (λ z. IsField z k.sources) is (last (a ++ k.prefix) k.sources (k.element a h.all)));
         valid = All-append (HasReference s) u.sources k.sources u.valid k.valid;
         kept = grown;
       }

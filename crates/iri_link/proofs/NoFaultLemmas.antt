@@ -11,13 +11,13 @@ use Rattle.iri_link.specs.Token.{is_pair_char, is_plain_char, is_blank, is_blank
 use Rattle.iri_link.specs.Field.{LinkParam, LinkValue, IsValue, token, quoted, IsParam, bare, valued, IsParams, none, empty, param}
 use Rattle.iri_link.specs.Field.{IsLink, link, IsElement, empty as no_element, link as element, IsField, last, more}
 use Rattle.iri_link.specs.Links.{HasReference, HasLinks}
-use Rattle.iri_link.specs.Phases.{before_link, behind_param, behind_semicolon, in_name, behind_name, behind_equals, in_quoted}
+use Rattle.iri_link.specs.Phases.{before_link, after_param, after_semicolon, in_name, after_name, after_equals, in_quoted}
 use Rattle.iri_link.specs.Fault.{fault_from, closes_from, place_in, field_fault}
 use Rattle.iri_link.specs.inside.Runs.{begins}
 use Rattle.iri_link.proofs.TargetLemmas.{closed_goes}
 use Rattle.iri_link.proofs.PhaseLemmas.{equals-token, token-run, token-ends, by_blank, start-blanks, ready-blanks, semicolon-blanks, semicolon-name, equals-blanks, named-blanks, name-run, name-ends}
 
-pub quoted_closes : (s : Tests) (t v z : List ℕ) → IsQuoted t v → (closes_from false (t ++ 34 ∷ z) ≡ true) × (fault_from s in_quoted (t ++ 34 ∷ z) ≡ fault_from s behind_param z)
+pub quoted_closes : (s : Tests) (t v z : List ℕ) → IsQuoted t v → (closes_from false (t ++ 34 ∷ z) ≡ true) × (fault_from s in_quoted (t ++ 34 ∷ z) ≡ fault_from s after_param z)
 unfolding closes_from fault_from
 quoted_closes s t v z done = (refl, refl)
 quoted_closes s t v z (plain c u w h r) =
@@ -28,38 +28,38 @@ quoted_closes s t v z (plain c u w h r) =
     (rw (a, b, k.0) q.0, rw (a, b) q.1)
 quoted_closes s t v z (pair c u w h r) = let q = quoted_closes s u w z r in (rw h q.0, q.1)
 
-equals_quoted : (s : Tests) (y : List ℕ) → closes_from false y ≡ true → fault_from s behind_equals (34 ∷ y) ≡ fault_from s in_quoted y
+equals_quoted : (s : Tests) (y : List ℕ) → closes_from false y ≡ true → fault_from s after_equals (34 ∷ y) ≡ fault_from s in_quoted y
 unfolding fault_from
 equals_quoted s y h = rw h refl
 
--- behind a value nothing that a token has may stand
-pub value_goes : (s : Tests) (t v z : List ℕ) → IsValue t v → begins is_token_char z ≡ false → fault_from s behind_equals (t ++ z) ≡ fault_from s behind_param z
+-- after a value nothing that a token has may stand
+pub value_goes : (s : Tests) (t v z : List ℕ) → IsValue t v → begins is_token_char z ≡ false → fault_from s after_equals (t ++ z) ≡ fault_from s after_param z
 value_goes s t v z (token [] h) e = cc
 value_goes s t v z (token (c ∷ cs) h) e =
     equals-token s ((c ∷ cs) ++ z) (both (is_token_char c) (list_all is_token_char cs) h).0 ∙ (token-run s (c ∷ cs) z h ∙ token-ends s z e)
 value_goes s t v z (quoted u w q) e =
     let k = quoted_closes s u w z q in
-    ap (λ l. fault_from s behind_equals (34 ∷ l)) (append_assoc u (34 ∷ []) z) ∙ (equals_quoted s (u ++ 34 ∷ z) k.0 ∙ k.1)
+    ap (λ l. fault_from s after_equals (34 ∷ l)) (append_assoc u (34 ∷ []) z) ∙ (equals_quoted s (u ++ 34 ∷ z) k.0 ∙ k.1)
 
 -- what may follow a parameter
 pub record IsStop (s : Tests) (z : List ℕ) : Type 0 where
   pub token_ends : begins is_token_char z ≡ false
-  pub named_ends : fault_from s behind_name z ≡ fault_from s behind_param z
-  pub semicolon_ends : fault_from s behind_semicolon z ≡ fault_from s behind_param z
+  pub named_ends : fault_from s after_name z ≡ fault_from s after_param z
+  pub semicolon_ends : fault_from s after_semicolon z ≡ fault_from s after_param z
 
 pub blank_no_token : (a y : List ℕ) → is_blanks a ≡ true → begins is_token_char y ≡ false → begins is_token_char (a ++ y) ≡ false
 blank_no_token [] y h e = e
 blank_no_token (c ∷ cs) y h e = by_blank c (λ d. is_token_char d ≡ false) refl refl (both (is_blank c) (list_all is_blank cs) h).0
 
-equals_goes : (s : Tests) (y : List ℕ) → fault_from s behind_name (61 ∷ y) ≡ fault_from s behind_equals y
+equals_goes : (s : Tests) (y : List ℕ) → fault_from s after_name (61 ∷ y) ≡ fault_from s after_equals y
 unfolding fault_from
 equals_goes s y = refl
 
-semicolon_same : (s : Tests) (y : List ℕ) → (fault_from s behind_name (59 ∷ y) ≡ fault_from s behind_semicolon y) × (fault_from s behind_param (59 ∷ y) ≡ fault_from s behind_semicolon y) × (fault_from s behind_semicolon (59 ∷ y) ≡ fault_from s behind_semicolon y)
+semicolon_same : (s : Tests) (y : List ℕ) → (fault_from s after_name (59 ∷ y) ≡ fault_from s after_semicolon y) × (fault_from s after_param (59 ∷ y) ≡ fault_from s after_semicolon y) × (fault_from s after_semicolon (59 ∷ y) ≡ fault_from s after_semicolon y)
 unfolding fault_from
 semicolon_same s y = (refl, refl, refl)
 
-pub param_goes : (s : Tests) (p z : List ℕ) (q : LinkParam) → IsParam p q → IsStop s z → (begins is_token_char (p ++ z) ≡ true) × (fault_from s in_name (p ++ z) ≡ fault_from s behind_param z)
+pub param_goes : (s : Tests) (p z : List ℕ) (q : LinkParam) → IsParam p q → IsStop s z → (begins is_token_char (p ++ z) ≡ true) × (fault_from s in_name (p ++ z) ≡ fault_from s after_param z)
 param_goes s p z q (bare [] h) k = cc
 param_goes s p z q (bare (c ∷ cs) h) k = ((both (is_token_char c) (list_all is_token_char cs) h).0, name-run s (c ∷ cs) z h ∙ (name-ends s z k.token_ends ∙ k.named_ends))
 param_goes s p z q (valued [] a b t v h ha hb hv) k = cc
@@ -73,7 +73,7 @@ param_goes s p z q (valued (c ∷ cs) a b t v h ha hb hv) k =
     )
 
 -- blanks and a `;` end a parameter
-semicolon_stop : (s : Tests) (a y : List ℕ) → is_blanks a ≡ true → IsStop s (a ++ 59 ∷ y) × (fault_from s behind_param (a ++ 59 ∷ y) ≡ fault_from s behind_semicolon y)
+semicolon_stop : (s : Tests) (a y : List ℕ) → is_blanks a ≡ true → IsStop s (a ++ 59 ∷ y) × (fault_from s after_param (a ++ 59 ∷ y) ≡ fault_from s after_semicolon y)
 semicolon_stop s a y h =
     let k = semicolon_same s y in
     let r = ready-blanks s a (59 ∷ y) h ∙ k.1 in (
@@ -85,32 +85,32 @@ semicolon_stop s a y h =
       r,
     )
 
-pub params_go : (s : Tests) (p z : List ℕ) (ps : List LinkParam) → IsParams p ps → IsStop s z → IsStop s (p ++ z) × (fault_from s behind_param (p ++ z) ≡ fault_from s behind_param z)
+pub params_go : (s : Tests) (p z : List ℕ) (ps : List LinkParam) → IsParams p ps → IsStop s z → IsStop s (p ++ z) × (fault_from s after_param (p ++ z) ≡ fault_from s after_param z)
 params_go s p z ps none k = (k, refl)
 params_go s p z ps (empty a b t rs ha hb h) k =
     let i = params_go s t z rs h k in
     let j = semicolon_stop s a (b ++ (t ++ z)) ha in
     let e : a ++ 59 ∷ (b ++ (t ++ z)) ≡ (a ++ 59 ∷ (b ++ t)) ++ z = ap (λ l. a ++ 59 ∷ l) (sym (append_assoc b t z)) ∙ sym (append_assoc a (59 ∷ (b ++ t)) z) in
-    (subst (IsStop s) e j.0, ap (fault_from s behind_param) (sym e) ∙ (j.1 ∙ (semicolon-blanks s b (t ++ z) hb ∙ (i.0.semicolon_ends ∙ i.1))))
+    (subst (IsStop s) e j.0, ap (fault_from s after_param) (sym e) ∙ (j.1 ∙ (semicolon-blanks s b (t ++ z) hb ∙ (i.0.semicolon_ends ∙ i.1))))
 params_go s p z ps (param a b x t q rs ha hb hx h) k =
     let i = params_go s t z rs h k in
     let j = semicolon_stop s a (b ++ (x ++ (t ++ z))) ha in
     let m = param_goes s x (t ++ z) q hx i.0 in
     let e : a ++ 59 ∷ (b ++ (x ++ (t ++ z))) ≡ (a ++ 59 ∷ (b ++ (x ++ t))) ++ z =
     ap (λ l. a ++ 59 ∷ (b ++ l)) (sym (append_assoc x t z)) ∙ (ap (λ l. a ++ 59 ∷ l) (sym (append_assoc b (x ++ t) z)) ∙ sym (append_assoc a (59 ∷ (b ++ (x ++ t))) z)) in
-    (subst (IsStop s) e j.0, ap (fault_from s behind_param) (sym e) ∙ (j.1 ∙ (semicolon-blanks s b (x ++ (t ++ z)) hb ∙ (semicolon-name s (x ++ (t ++ z)) m.0 ∙ (m.1 ∙ i.1)))))
+    (subst (IsStop s) e j.0, ap (fault_from s after_param) (sym e) ∙ (j.1 ∙ (semicolon-blanks s b (x ++ (t ++ z)) hb ∙ (semicolon-name s (x ++ (t ++ z)) m.0 ∙ (m.1 ∙ i.1)))))
 
 -- what may follow a link-value: blanks, and nothing or a comma
-comma_same : (s : Tests) (y : List ℕ) → (fault_from s behind_name (44 ∷ y) ≡ fault_from s before_link y) × (fault_from s behind_param (44 ∷ y) ≡ fault_from s before_link y)
-    × (fault_from s behind_semicolon (44 ∷ y) ≡ fault_from s before_link y) × (fault_from s before_link (44 ∷ y) ≡ fault_from s before_link y)
+comma_same : (s : Tests) (y : List ℕ) → (fault_from s after_name (44 ∷ y) ≡ fault_from s before_link y) × (fault_from s after_param (44 ∷ y) ≡ fault_from s before_link y)
+    × (fault_from s after_semicolon (44 ∷ y) ≡ fault_from s before_link y) × (fault_from s before_link (44 ∷ y) ≡ fault_from s before_link y)
 unfolding fault_from
 comma_same s y = (refl, refl, refl, refl)
 
-end_same : (s : Tests) → (fault_from s behind_name [] ≡ None) × (fault_from s behind_param [] ≡ None) × (fault_from s behind_semicolon [] ≡ None) × (fault_from s before_link [] ≡ None)
+end_same : (s : Tests) → (fault_from s after_name [] ≡ None) × (fault_from s after_param [] ≡ None) × (fault_from s after_semicolon [] ≡ None) × (fault_from s before_link [] ≡ None)
 unfolding fault_from
 end_same s = (refl, refl, refl, refl)
 
-comma_stop : (s : Tests) (a y : List ℕ) → is_blanks a ≡ true → IsStop s (a ++ 44 ∷ y) × (fault_from s behind_param (a ++ 44 ∷ y) ≡ fault_from s before_link y)
+comma_stop : (s : Tests) (a y : List ℕ) → is_blanks a ≡ true → IsStop s (a ++ 44 ∷ y) × (fault_from s after_param (a ++ 44 ∷ y) ≡ fault_from s before_link y)
 comma_stop s a y h =
     let k = comma_same s y in
     let r = ready-blanks s a (44 ∷ y) h ∙ k.1 in (
@@ -122,7 +122,7 @@ comma_stop s a y h =
       r,
     )
 
-end_stop : (s : Tests) (a : List ℕ) → is_blanks a ≡ true → IsStop s (a ++ []) × (fault_from s behind_param (a ++ []) ≡ None)
+end_stop : (s : Tests) (a : List ℕ) → is_blanks a ≡ true → IsStop s (a ++ []) × (fault_from s after_param (a ++ []) ≡ None)
 end_stop s a h =
     let k = end_same s in
     let r = ready-blanks s a [] h ∙ k.1 in (
@@ -134,7 +134,7 @@ end_stop s a h =
       r,
     )
 
-link_goes : (s : Tests) (x z : List ℕ) (l : LinkValue) → IsLink x l → HasReference s l → IsStop s z → fault_from s before_link (x ++ z) ≡ fault_from s behind_param z
+link_goes : (s : Tests) (x z : List ℕ) (l : LinkValue) → IsLink x l → HasReference s l → IsStop s z → fault_from s before_link (x ++ z) ≡ fault_from s after_param z
 link_goes s x z l (link t p ps closed hp) valid k =
     ap (λ w. fault_from s before_link (60 ∷ w)) (append_assoc t (62 ∷ p) z) ∙ (closed_goes s t (p ++ z) closed valid ∙ (params_go s p z ps hp k).1)
 

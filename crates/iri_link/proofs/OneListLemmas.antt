@@ -9,7 +9,7 @@ use Rattle.iri_grammar.proofs.CutLaws.{both, by_test, test_apart}
 use Rattle.iri_link.specs.Token.{is_plain_char, is_blank, is_blanks, is_token_char, is_token, IsQuoted, done, plain, pair}
 use Rattle.iri_link.specs.Field.{LinkParam, LinkValue, IsValue, token, quoted, IsParam, bare, valued, IsParams, none, empty, param}
 use Rattle.iri_link.specs.Field.{IsLink, link, IsElement, empty as no_element, link as element, IsField, last, more as more_elements}
-use Rattle.iri_link.specs.Phases.{before_link, in_target, behind_param, behind_semicolon, in_name, behind_name, behind_equals, in_token, in_quoted}
+use Rattle.iri_link.specs.Phases.{before_link, in_target, after_param, after_semicolon, in_name, after_name, after_equals, in_token, in_quoted}
 use Rattle.iri_link.specs.inside.Runs.{begins}
 use Rattle.iri_link.proofs.NoFaultLemmas.{blank_no_token, element_parts}
 use Rattle.iri_link.proofs.PhaseLemmas.{by_blank}
@@ -27,46 +27,46 @@ pub record Same (r z : Reading) : Type 0 where
   pub links : r.links ≡ z.links
 
 -- ---- blanks
-param-blanks : (a y : List ℕ) → is_blanks a ≡ true → Same (reading behind_param (a ++ y)) (reading behind_param y)
+param-blanks : (a y : List ℕ) → is_blanks a ≡ true → Same (reading after_param (a ++ y)) (reading after_param y)
 unfolding reading
 param-blanks [] y h = record { params = refl; links = refl }
 param-blanks (c ∷ cs) y h =
     let k = both (is_blank c) (list_all is_blank cs) h in
     let r = param-blanks cs y k.1 in
-    by_blank c (λ d. Same (reading behind_param (d ∷ (cs ++ y))) (reading behind_param y)) (record { params = r.params; links = r.links })
+    by_blank c (λ d. Same (reading after_param (d ∷ (cs ++ y))) (reading after_param y)) (record { params = r.params; links = r.links })
     (record { params = r.params; links = r.links }) k.0
 
-semicolon-blanks : (a y : List ℕ) → is_blanks a ≡ true → Same (reading behind_semicolon (a ++ y)) (reading behind_semicolon y)
+semicolon-blanks : (a y : List ℕ) → is_blanks a ≡ true → Same (reading after_semicolon (a ++ y)) (reading after_semicolon y)
 unfolding reading
 semicolon-blanks [] y h = record { params = refl; links = refl }
 semicolon-blanks (c ∷ cs) y h =
     let k = both (is_blank c) (list_all is_blank cs) h in
     let r = semicolon-blanks cs y k.1 in
-    by_blank c (λ d. Same (reading behind_semicolon (d ∷ (cs ++ y))) (reading behind_semicolon y)) (record { params = r.params; links = r.links })
+    by_blank c (λ d. Same (reading after_semicolon (d ∷ (cs ++ y))) (reading after_semicolon y)) (record { params = r.params; links = r.links })
     (record { params = r.params; links = r.links }) k.0
 
--- behind a name: its value, and what follows
+-- after a name: its value, and what follows
 pub record Names (r : Reading) (v : Option (List ℕ)) (z : Reading) : Type 0 where
   pub value : r.value ≡ v
   pub params : r.params ≡ z.params
   pub links : r.links ≡ z.links
 
-name-blanks : (a y : List ℕ) (v : Option (List ℕ)) (z : Reading) → is_blanks a ≡ true → Names (reading behind_name y) v z → Names (reading behind_name (a ++ y)) v z
+name-blanks : (a y : List ℕ) (v : Option (List ℕ)) (z : Reading) → is_blanks a ≡ true → Names (reading after_name y) v z → Names (reading after_name (a ++ y)) v z
 unfolding reading
 name-blanks [] y v z h n = n
 name-blanks (c ∷ cs) y v z h n =
     let k = both (is_blank c) (list_all is_blank cs) h in
     let r = name-blanks cs y v z k.1 n in
-    by_blank c (λ d. Names (reading behind_name (d ∷ (cs ++ y))) v z) (record { value = r.value; params = r.params; links = r.links })
+    by_blank c (λ d. Names (reading after_name (d ∷ (cs ++ y))) v z) (record { value = r.value; params = r.params; links = r.links })
     (record { value = r.value; params = r.params; links = r.links }) k.0
 
-equals-blanks : (a y : List ℕ) → is_blanks a ≡ true → reading behind_equals (a ++ y) ≡ reading behind_equals y
+equals-blanks : (a y : List ℕ) → is_blanks a ≡ true → reading after_equals (a ++ y) ≡ reading after_equals y
 unfolding reading
 equals-blanks [] y h = refl
 equals-blanks (c ∷ cs) y h =
     let k = both (is_blank c) (list_all is_blank cs) h in
     let r = equals-blanks cs y k.1 in
-    by_blank c (λ d. reading behind_equals (d ∷ (cs ++ y)) ≡ reading behind_equals y) r r k.0
+    by_blank c (λ d. reading after_equals (d ∷ (cs ++ y)) ≡ reading after_equals y) r r k.0
 
 start-blanks : (a y : List ℕ) → is_blanks a ≡ true → links_in (a ++ y) ≡ links_in y
 unfolding reading
@@ -77,7 +77,7 @@ start-blanks (c ∷ cs) y h =
     by_blank c (λ d. links_in (d ∷ (cs ++ y)) ≡ links_in y) r r k.0
 
 -- ---- values
-quoted-given : (t v z : List ℕ) → IsQuoted t v → Gives (reading in_quoted (t ++ 34 ∷ z)) v (reading behind_param z)
+quoted-given : (t v z : List ℕ) → IsQuoted t v → Gives (reading in_quoted (t ++ 34 ∷ z)) v (reading after_param z)
 unfolding reading
 quoted-given t v z done = record { text = refl; params = refl; links = refl }
 quoted-given t v z (plain c u w h r) =
@@ -88,15 +88,15 @@ quoted-given t v z (plain c u w h r) =
 quoted-given t v z (pair c u w h r) =
     let q = quoted-given u w z r in record { text = ap (λ l. c ∷ l) q.text; params = q.params; links = q.links }
 
-token-end : (z : List ℕ) → begins is_token_char z ≡ false → Gives (reading in_token z) [] (reading behind_param z)
+token-end : (z : List ℕ) → begins is_token_char z ≡ false → Gives (reading in_token z) [] (reading after_param z)
 unfolding reading
 token-end [] e = record { text = refl; params = refl; links = refl }
 token-end (c ∷ cs) e =
-    rw e (by_test c 44 (λ b. Gives (cond b (of_links (reading (cond (c == 59) behind_semicolon (cond b before_link behind_param)) cs).links) (of_params (reading (cond (c == 59) behind_semicolon (cond b before_link behind_param)) cs).params (reading (cond (c == 59) behind_semicolon (cond b before_link behind_param)) cs).links)) []
-    (cond b (of_links (reading (cond (c == 59) behind_semicolon (cond b before_link behind_param)) cs).links) (of_params (reading (cond (c == 59) behind_semicolon (cond b before_link behind_param)) cs).params (reading (cond (c == 59) behind_semicolon (cond b before_link behind_param)) cs).links)))
+    rw e (by_test c 44 (λ b. Gives (cond b (of_links (reading (cond (c == 59) after_semicolon (cond b before_link after_param)) cs).links) (of_params (reading (cond (c == 59) after_semicolon (cond b before_link after_param)) cs).params (reading (cond (c == 59) after_semicolon (cond b before_link after_param)) cs).links)) []
+    (cond b (of_links (reading (cond (c == 59) after_semicolon (cond b before_link after_param)) cs).links) (of_params (reading (cond (c == 59) after_semicolon (cond b before_link after_param)) cs).params (reading (cond (c == 59) after_semicolon (cond b before_link after_param)) cs).links)))
     (λ _. record { text = refl; params = refl; links = refl }) (λ _. record { text = refl; params = refl; links = refl }))
 
-token-given : (t z : List ℕ) → list_all is_token_char t ≡ true → begins is_token_char z ≡ false → Gives (reading in_token (t ++ z)) t (reading behind_param z)
+token-given : (t z : List ℕ) → list_all is_token_char t ≡ true → begins is_token_char z ≡ false → Gives (reading in_token (t ++ z)) t (reading after_param z)
 unfolding reading
 token-given [] z h e = token-end z e
 token-given (c ∷ cs) z h e =
@@ -104,22 +104,22 @@ token-given (c ∷ cs) z h e =
     let r = token-given cs z k.1 e in
     rw k.0 (record { text = ap (λ l. c ∷ l) r.text; params = r.params; links = r.links })
 
-pub equals-token : (c : ℕ) (cs : List ℕ) → is_token_char c ≡ true → reading behind_equals (c ∷ cs) ≡ more c (reading in_token cs)
+pub equals-token : (c : ℕ) (cs : List ℕ) → is_token_char c ≡ true → reading after_equals (c ∷ cs) ≡ more c (reading in_token cs)
 unfolding reading
 equals-token c cs h = rw (test_apart is_token_char 34 c refl h, h) refl
 
-equals-quoted : (y : List ℕ) → reading behind_equals (34 ∷ y) ≡ reading in_quoted y
+equals-quoted : (y : List ℕ) → reading after_equals (34 ∷ y) ≡ reading in_quoted y
 unfolding reading
 equals-quoted y = refl
 
-value-given : (t v z : List ℕ) → IsValue t v → begins is_token_char z ≡ false → Gives (reading behind_equals (t ++ z)) v (reading behind_param z)
+value-given : (t v z : List ℕ) → IsValue t v → begins is_token_char z ≡ false → Gives (reading after_equals (t ++ z)) v (reading after_param z)
 value-given t v z (token [] h) e = cc
 value-given t v z (token (c ∷ cs) h) e =
     let k = both (is_token_char c) (list_all is_token_char cs) h in
     let r = token-given cs z k.1 e in
     rw (equals-token c (cs ++ z) k.0) (record { text = ap (λ l. c ∷ l) r.text; params = r.params; links = r.links })
 value-given t v z (quoted u w q) e =
-    subst (λ l. Gives (reading behind_equals (34 ∷ l)) w (reading behind_param z)) (sym (append_assoc u (34 ∷ []) z))
+    subst (λ l. Gives (reading after_equals (34 ∷ l)) w (reading after_param z)) (sym (append_assoc u (34 ∷ []) z))
     (rw (equals-quoted (u ++ 34 ∷ z)) (quoted-given u w z q))
 
 -- ---- names
@@ -131,10 +131,10 @@ name_end-text c r =
       | false ↦ refl
     ])
 
-pub name_stops : (y : List ℕ) → begins is_token_char y ≡ false → (reading in_name y ≡ reading behind_name y) × ((reading behind_name y).text ≡ [])
+pub name_stops : (y : List ℕ) → begins is_token_char y ≡ false → (reading in_name y ≡ reading after_name y) × ((reading after_name y).text ≡ [])
 unfolding reading
 name_stops [] e = (refl, refl)
-name_stops (c ∷ cs) e = (rw e refl, name_end-text c (reading (cond (c == 61) behind_equals (cond (c == 59) behind_semicolon (cond (c == 44) before_link behind_name))) cs))
+name_stops (c ∷ cs) e = (rw e refl, name_end-text c (reading (cond (c == 61) after_equals (cond (c == 59) after_semicolon (cond (c == 44) before_link after_name))) cs))
 
 -- a name, its value, and what follows
 record GivesName (r : Reading) (n : List ℕ) (v : Option (List ℕ)) (z : Reading) : Type 0 where
@@ -143,7 +143,7 @@ record GivesName (r : Reading) (n : List ℕ) (v : Option (List ℕ)) (z : Readi
   params : r.params ≡ z.params
   links : r.links ≡ z.links
 
-name-given : (n y : List ℕ) (v : Option (List ℕ)) (z : Reading) → list_all is_token_char n ≡ true → begins is_token_char y ≡ false → Names (reading behind_name y) v z
+name-given : (n y : List ℕ) (v : Option (List ℕ)) (z : Reading) → list_all is_token_char n ≡ true → begins is_token_char y ≡ false → Names (reading after_name y) v z
     → GivesName (reading in_name (n ++ y)) n v z
 unfolding reading
 name-given [] y v z h e k = let s = name_stops y e in rw s.0 (record { text = s.1; value = k.value; params = k.params; links = k.links })
@@ -153,27 +153,27 @@ name-given (c ∷ cs) y v z h e k =
     rw b.0 (record { text = ap (λ l. c ∷ l) r.text; value = r.value; params = r.params; links = r.links })
 
 pub semicolon-name : (c : ℕ) (cs : List ℕ) → is_token_char c ≡ true
-    → reading behind_semicolon (c ∷ cs) ≡ of_params (record { name = str_to_ascii_lowercase (c ∷ (reading in_name cs).text); value = (reading in_name cs).value } ∷ (reading in_name cs).params) (reading in_name cs).links
+    → reading after_semicolon (c ∷ cs) ≡ of_params (record { name = str_to_ascii_lowercase (c ∷ (reading in_name cs).text); value = (reading in_name cs).value } ∷ (reading in_name cs).params) (reading in_name cs).links
 unfolding reading
 semicolon-name c cs h = rw h refl
 
-name-equals : (u v : List ℕ) (z : Reading) → Gives (reading behind_equals u) v z → Names (reading behind_name (61 ∷ u)) (Some v) z
+name-equals : (u v : List ℕ) (z : Reading) → Gives (reading after_equals u) v z → Names (reading after_name (61 ∷ u)) (Some v) z
 unfolding reading
 name-equals u v z g = record { value = ap Some g.text; params = g.params; links = g.links }
 
 -- ---- parameters
 record IsStop (z : List ℕ) : Type 0 where
   token_ends : begins is_token_char z ≡ false
-  name_ends : Names (reading behind_name z) None (reading behind_param z)
-  semicolon_ends : Same (reading behind_semicolon z) (reading behind_param z)
+  name_ends : Names (reading after_name z) None (reading after_param z)
+  semicolon_ends : Same (reading after_semicolon z) (reading after_param z)
 
 -- a parameter, and what follows it
 record Adds (r : Reading) (q : LinkParam) (z : Reading) : Type 0 where
   params : r.params ≡ q ∷ z.params
   links : r.links ≡ z.links
 
-param-named : (c : ℕ) (cs y : List ℕ) (v : Option (List ℕ)) (z : Reading) → is_token (c ∷ cs) ≡ true → begins is_token_char y ≡ false → Names (reading behind_name y) v z
-    → Adds (reading behind_semicolon ((c ∷ cs) ++ y)) (record { name = str_to_ascii_lowercase (c ∷ cs); value = v }) z
+param-named : (c : ℕ) (cs y : List ℕ) (v : Option (List ℕ)) (z : Reading) → is_token (c ∷ cs) ≡ true → begins is_token_char y ≡ false → Names (reading after_name y) v z
+    → Adds (reading after_semicolon ((c ∷ cs) ++ y)) (record { name = str_to_ascii_lowercase (c ∷ cs); value = v }) z
 param-named c cs y v z h e k =
     let b = both (is_token_char c) (list_all is_token_char cs) h in
     let r = name-given cs y v z b.1 e k in
@@ -185,42 +185,42 @@ param-named c cs y v z h e k =
       links = r.links;
     })
 
-param-given : (p z : List ℕ) (q : LinkParam) → IsParam p q → IsStop z → Adds (reading behind_semicolon (p ++ z)) q (reading behind_param z)
+param-given : (p z : List ℕ) (q : LinkParam) → IsParam p q → IsStop z → Adds (reading after_semicolon (p ++ z)) q (reading after_param z)
 param-given p z q (bare [] h) k = cc
-param-given p z q (bare (c ∷ cs) h) k = param-named c cs z None (reading behind_param z) h k.token_ends k.name_ends
+param-given p z q (bare (c ∷ cs) h) k = param-named c cs z None (reading after_param z) h k.token_ends k.name_ends
 param-given p z q (valued [] a b t v h ha hb hv) k = cc
 param-given p z q (valued (c ∷ cs) a b t v h ha hb hv) k =
     let u = b ++ (t ++ z) in
     let e : ((c ∷ cs) ++ (a ++ 61 ∷ (b ++ t))) ++ z ≡ (c ∷ cs) ++ (a ++ 61 ∷ u) =
     append_assoc (c ∷ cs) (a ++ 61 ∷ (b ++ t)) z ∙ ap (λ l. (c ∷ cs) ++ l) (append_assoc a (61 ∷ (b ++ t)) z ∙ ap (λ l. a ++ 61 ∷ l) (append_assoc b t z)) in
-    let value = subst (λ r. Gives r v (reading behind_param z)) (sym (equals-blanks b (t ++ z) hb)) (value-given t v z hv k.token_ends) in
-    let names = name-blanks a (61 ∷ u) (Some v) (reading behind_param z) ha (name-equals u v (reading behind_param z) value) in
-    subst (λ x. Adds (reading behind_semicolon x) (record { name = str_to_ascii_lowercase (c ∷ cs); value = Some v }) (reading behind_param z)) (sym e)
-    (param-named c cs (a ++ 61 ∷ u) (Some v) (reading behind_param z) h (blank_no_token a (61 ∷ u) ha refl) names)
+    let value = subst (λ r. Gives r v (reading after_param z)) (sym (equals-blanks b (t ++ z) hb)) (value-given t v z hv k.token_ends) in
+    let names = name-blanks a (61 ∷ u) (Some v) (reading after_param z) ha (name-equals u v (reading after_param z) value) in
+    subst (λ x. Adds (reading after_semicolon x) (record { name = str_to_ascii_lowercase (c ∷ cs); value = Some v }) (reading after_param z)) (sym e)
+    (param-named c cs (a ++ 61 ∷ u) (Some v) (reading after_param z) h (blank_no_token a (61 ∷ u) ha refl) names)
 
-at_semicolon : (y : List ℕ) → Names (reading behind_name (59 ∷ y)) None (reading behind_semicolon y) × Same (reading behind_param (59 ∷ y)) (reading behind_semicolon y)
-    × Same (reading behind_semicolon (59 ∷ y)) (reading behind_semicolon y)
+at_semicolon : (y : List ℕ) → Names (reading after_name (59 ∷ y)) None (reading after_semicolon y) × Same (reading after_param (59 ∷ y)) (reading after_semicolon y)
+    × Same (reading after_semicolon (59 ∷ y)) (reading after_semicolon y)
 unfolding reading
 at_semicolon y = (record { value = refl; params = refl; links = refl }, record { params = refl; links = refl }, record { params = refl; links = refl })
 
-at_comma : (y : List ℕ) → Names (reading behind_name (44 ∷ y)) None (of_links (links_in y)) × Same (reading behind_param (44 ∷ y)) (of_links (links_in y))
-    × Same (reading behind_semicolon (44 ∷ y)) (of_links (links_in y)) × (links_in (44 ∷ y) ≡ links_in y)
+at_comma : (y : List ℕ) → Names (reading after_name (44 ∷ y)) None (of_links (links_in y)) × Same (reading after_param (44 ∷ y)) (of_links (links_in y))
+    × Same (reading after_semicolon (44 ∷ y)) (of_links (links_in y)) × (links_in (44 ∷ y) ≡ links_in y)
 unfolding reading
 at_comma y = (record { value = refl; params = refl; links = refl }, record { params = refl; links = refl }, record { params = refl; links = refl }, refl)
 
-at_end : Names (reading behind_name []) None (of_links []) × Same (reading behind_param []) (of_links []) × Same (reading behind_semicolon []) (of_links []) × (links_in [] ≡ [])
+at_end : Names (reading after_name []) None (of_links []) × Same (reading after_param []) (of_links []) × Same (reading after_semicolon []) (of_links []) × (links_in [] ≡ [])
 unfolding reading
 at_end = (record { value = refl; params = refl; links = refl }, record { params = refl; links = refl }, record { params = refl; links = refl }, refl)
 
--- blanks, and what gives the same behind a name, a parameter and a semicolon
-stops : (a y : List ℕ) (z : Reading) → is_blanks a ≡ true → begins is_token_char y ≡ false → Names (reading behind_name y) None z → Same (reading behind_param y) z
-    → Same (reading behind_semicolon y) z → IsStop (a ++ y) × Same (reading behind_param (a ++ y)) z
+-- blanks, and what gives the same after a name, a parameter and a semicolon
+stops : (a y : List ℕ) (z : Reading) → is_blanks a ≡ true → begins is_token_char y ≡ false → Names (reading after_name y) None z → Same (reading after_param y) z
+    → Same (reading after_semicolon y) z → IsStop (a ++ y) × Same (reading after_param (a ++ y)) z
 stops a y z h e n p q =
     let n2 = name-blanks a y None z h n in
     let p2 = param-blanks a y h in
     let q2 = semicolon-blanks a y h in
-    let pz : (reading behind_param (a ++ y)).params ≡ z.params = p2.params ∙ p.params in
-    let lz : (reading behind_param (a ++ y)).links ≡ z.links = p2.links ∙ p.links in (
+    let pz : (reading after_param (a ++ y)).params ≡ z.params = p2.params ∙ p.params in
+    let lz : (reading after_param (a ++ y)).links ≡ z.links = p2.links ∙ p.links in (
       record {
         token_ends = blank_no_token a y h e;
         name_ends = record { value = n2.value; params = n2.params ∙ sym pz; links = n2.links ∙ sym lz };
@@ -234,28 +234,28 @@ record AddsAll (r : Reading) (ps : List LinkParam) (z : Reading) : Type 0 where
   params : r.params ≡ ps ++ z.params
   links : r.links ≡ z.links
 
-params-given : (p z : List ℕ) (ps : List LinkParam) → IsParams p ps → IsStop z → IsStop (p ++ z) × AddsAll (reading behind_param (p ++ z)) ps (reading behind_param z)
+params-given : (p z : List ℕ) (ps : List LinkParam) → IsParams p ps → IsStop z → IsStop (p ++ z) × AddsAll (reading after_param (p ++ z)) ps (reading after_param z)
 params-given p z ps none k = (k, record { params = refl; links = refl })
 params-given p z ps (empty a b t rs ha hb h) k =
     let i = params-given t z rs h k in
     let y = b ++ (t ++ z) in
     let s = at_semicolon y in
-    let j = stops a (59 ∷ y) (reading behind_semicolon y) ha refl s.0 s.1 s.2 in
+    let j = stops a (59 ∷ y) (reading after_semicolon y) ha refl s.0 s.1 s.2 in
     let e : a ++ 59 ∷ y ≡ (a ++ 59 ∷ (b ++ t)) ++ z = ap (λ l. a ++ 59 ∷ l) (sym (append_assoc b t z)) ∙ sym (append_assoc a (59 ∷ (b ++ t)) z) in
     let d = semicolon-blanks b (t ++ z) hb in
     let m = i.0.semicolon_ends in
-    subst (λ x. IsStop x × AddsAll (reading behind_param x) rs (reading behind_param z)) e
+    subst (λ x. IsStop x × AddsAll (reading after_param x) rs (reading after_param z)) e
     (j.0, record { params = j.1.params ∙ (d.params ∙ (m.params ∙ i.1.params)); links = j.1.links ∙ (d.links ∙ (m.links ∙ i.1.links)) })
 params-given p z ps (param a b x t q rs ha hb hx h) k =
     let i = params-given t z rs h k in
     let y = b ++ (x ++ (t ++ z)) in
     let s = at_semicolon y in
-    let j = stops a (59 ∷ y) (reading behind_semicolon y) ha refl s.0 s.1 s.2 in
+    let j = stops a (59 ∷ y) (reading after_semicolon y) ha refl s.0 s.1 s.2 in
     let e : a ++ 59 ∷ y ≡ (a ++ 59 ∷ (b ++ (x ++ t))) ++ z =
     ap (λ l. a ++ 59 ∷ (b ++ l)) (sym (append_assoc x t z)) ∙ (ap (λ l. a ++ 59 ∷ l) (sym (append_assoc b (x ++ t) z)) ∙ sym (append_assoc a (59 ∷ (b ++ (x ++ t))) z)) in
     let d = semicolon-blanks b (x ++ (t ++ z)) hb in
     let m = param-given x (t ++ z) q hx i.0 in
-    subst (λ w. IsStop w × AddsAll (reading behind_param w) (q ∷ rs) (reading behind_param z)) e (
+    subst (λ w. IsStop w × AddsAll (reading after_param w) (q ∷ rs) (reading after_param z)) e (
       j.0,
       record {
         params = j.1.params ∙ (d.params ∙ (m.params ∙ ap (λ l. q ∷ l) i.1.params));
@@ -264,20 +264,20 @@ params-given p z ps (param a b x t q rs ha hb hx h) k =
     )
 
 -- ---- link-values
-target-given : (t y : List ℕ) → lacks 62 t ≡ true → Gives (reading in_target (t ++ 62 ∷ y)) t (reading behind_param y)
+target-given : (t y : List ℕ) → lacks 62 t ≡ true → Gives (reading in_target (t ++ 62 ∷ y)) t (reading after_param y)
 unfolding reading
 target-given [] y h = record { text = refl; params = refl; links = refl }
 target-given (c ∷ cs) y h =
     let k = both (not (c == 62)) (lacks 62 cs) h in
     let r = target-given cs y k.1 in
-    by_test c 62 (λ b. not b ≡ true → Gives (cond b (of_params (reading (cond b behind_param in_target) (cs ++ 62 ∷ y)).params (reading (cond b behind_param in_target) (cs ++ 62 ∷ y)).links) (more c (reading (cond b behind_param in_target) (cs ++ 62 ∷ y)))) (c ∷ cs) (reading behind_param y))
+    by_test c 62 (λ b. not b ≡ true → Gives (cond b (of_params (reading (cond b after_param in_target) (cs ++ 62 ∷ y)).params (reading (cond b after_param in_target) (cs ++ 62 ∷ y)).links) (more c (reading (cond b after_param in_target) (cs ++ 62 ∷ y)))) (c ∷ cs) (reading after_param y))
     (λ _ n. cc) (λ _ _. record { text = ap (λ l. c ∷ l) r.text; params = r.params; links = r.links }) k.0
 
 link-open : (y : List ℕ) → links_in (60 ∷ y) ≡ record { target = (reading in_target y).text; params = (reading in_target y).params } ∷ (reading in_target y).links
 unfolding reading
 link-open y = refl
 
-link-given : (x z : List ℕ) (l : LinkValue) (ls : List LinkValue) → IsLink x l → IsStop z → Same (reading behind_param z) (of_links ls) → links_in (x ++ z) ≡ l ∷ ls
+link-given : (x z : List ℕ) (l : LinkValue) (ls : List LinkValue) → IsLink x l → IsStop z → Same (reading after_param z) (of_links ls) → links_in (x ++ z) ≡ l ∷ ls
 link-given x z l ls (link t p ps closed hp) k n =
     let y = t ++ 62 ∷ (p ++ z) in
     let R = reading in_target y in

@@ -5,7 +5,7 @@ use Rattle.std.specs.List.{list_all}
 use Rattle.iri_grammar.specs.Classes.{Tests}
 use Rattle.iri_grammar.proofs.CutLaws.{both, by_test, test_apart}
 use Rattle.iri_link.specs.Token.{is_blank, is_token_char}
-use Rattle.iri_link.specs.Phases.{Phase, before_link, behind_param, behind_semicolon, in_name, behind_name, behind_equals, in_token, next}
+use Rattle.iri_link.specs.Phases.{Phase, before_link, after_param, after_semicolon, in_name, after_name, after_equals, in_token, next}
 use Rattle.iri_link.specs.Fault.{fault_from, wrong, earlier}
 use Rattle.iri_link.specs.inside.Runs.{begins}
 
@@ -28,17 +28,17 @@ by_blank c P a b h =
 pub start-blanks : (s : Tests) (xs r : List ℕ) → list_all is_blank xs ≡ true → fault_from s before_link (xs ++ r) ≡ fault_from s before_link r
 start-blanks s = runs-on s before_link is_blank (λ c cs. by_blank c (λ d. (wrong s before_link d cs ≡ None) × (next before_link d ≡ before_link)) (refl, refl) (refl, refl))
 
-pub ready-blanks : (s : Tests) (xs r : List ℕ) → list_all is_blank xs ≡ true → fault_from s behind_param (xs ++ r) ≡ fault_from s behind_param r
-ready-blanks s = runs-on s behind_param is_blank (λ c cs. by_blank c (λ d. (wrong s behind_param d cs ≡ None) × (next behind_param d ≡ behind_param)) (refl, refl) (refl, refl))
+pub ready-blanks : (s : Tests) (xs r : List ℕ) → list_all is_blank xs ≡ true → fault_from s after_param (xs ++ r) ≡ fault_from s after_param r
+ready-blanks s = runs-on s after_param is_blank (λ c cs. by_blank c (λ d. (wrong s after_param d cs ≡ None) × (next after_param d ≡ after_param)) (refl, refl) (refl, refl))
 
-pub semicolon-blanks : (s : Tests) (xs r : List ℕ) → list_all is_blank xs ≡ true → fault_from s behind_semicolon (xs ++ r) ≡ fault_from s behind_semicolon r
-semicolon-blanks s = runs-on s behind_semicolon is_blank (λ c cs. by_blank c (λ d. (wrong s behind_semicolon d cs ≡ None) × (next behind_semicolon d ≡ behind_semicolon)) (refl, refl) (refl, refl))
+pub semicolon-blanks : (s : Tests) (xs r : List ℕ) → list_all is_blank xs ≡ true → fault_from s after_semicolon (xs ++ r) ≡ fault_from s after_semicolon r
+semicolon-blanks s = runs-on s after_semicolon is_blank (λ c cs. by_blank c (λ d. (wrong s after_semicolon d cs ≡ None) × (next after_semicolon d ≡ after_semicolon)) (refl, refl) (refl, refl))
 
-pub named-blanks : (s : Tests) (xs r : List ℕ) → list_all is_blank xs ≡ true → fault_from s behind_name (xs ++ r) ≡ fault_from s behind_name r
-named-blanks s = runs-on s behind_name is_blank (λ c cs. by_blank c (λ d. (wrong s behind_name d cs ≡ None) × (next behind_name d ≡ behind_name)) (refl, refl) (refl, refl))
+pub named-blanks : (s : Tests) (xs r : List ℕ) → list_all is_blank xs ≡ true → fault_from s after_name (xs ++ r) ≡ fault_from s after_name r
+named-blanks s = runs-on s after_name is_blank (λ c cs. by_blank c (λ d. (wrong s after_name d cs ≡ None) × (next after_name d ≡ after_name)) (refl, refl) (refl, refl))
 
-pub equals-blanks : (s : Tests) (xs r : List ℕ) → list_all is_blank xs ≡ true → fault_from s behind_equals (xs ++ r) ≡ fault_from s behind_equals r
-equals-blanks s = runs-on s behind_equals is_blank (λ c cs. by_blank c (λ d. (wrong s behind_equals d cs ≡ None) × (next behind_equals d ≡ behind_equals)) (refl, refl) (refl, refl))
+pub equals-blanks : (s : Tests) (xs r : List ℕ) → list_all is_blank xs ≡ true → fault_from s after_equals (xs ++ r) ≡ fault_from s after_equals r
+equals-blanks s = runs-on s after_equals is_blank (λ c cs. by_blank c (λ d. (wrong s after_equals d cs ≡ None) × (next after_equals d ≡ after_equals)) (refl, refl) (refl, refl))
 
 -- so do the characters of a token
 pub name-run : (s : Tests) (xs r : List ℕ) → list_all is_token_char xs ≡ true → fault_from s in_name (xs ++ r) ≡ fault_from s in_name r
@@ -48,31 +48,31 @@ pub token-run : (s : Tests) (xs r : List ℕ) → list_all is_token_char xs ≡ 
 token-run s = runs-on s in_token is_token_char (λ c cs h. (rw h refl, rw h refl))
 
 -- a token begins
-pub semicolon-name : (s : Tests) (t : List ℕ) → begins is_token_char t ≡ true → fault_from s behind_semicolon t ≡ fault_from s in_name t
+pub semicolon-name : (s : Tests) (t : List ℕ) → begins is_token_char t ≡ true → fault_from s after_semicolon t ≡ fault_from s in_name t
 unfolding fault_from
 semicolon-name s [] h = cc
 semicolon-name s (c ∷ cs) h = rw h refl
 
-pub equals-token : (s : Tests) (t : List ℕ) → begins is_token_char t ≡ true → fault_from s behind_equals t ≡ fault_from s in_token t
+pub equals-token : (s : Tests) (t : List ℕ) → begins is_token_char t ≡ true → fault_from s after_equals t ≡ fault_from s in_token t
 unfolding fault_from
 equals-token s [] h = cc
 equals-token s (c ∷ cs) h = rw (test_apart is_token_char 34 c refl h, h) refl
 
 -- a token ends
-pub token-ends : (s : Tests) (t : List ℕ) → begins is_token_char t ≡ false → fault_from s in_token t ≡ fault_from s behind_param t
+pub token-ends : (s : Tests) (t : List ℕ) → begins is_token_char t ≡ false → fault_from s in_token t ≡ fault_from s after_param t
 unfolding fault_from
 token-ends s [] h = refl
 token-ends s (c ∷ cs) h = rw h refl
 
-pub name-ends : (s : Tests) (t : List ℕ) → begins is_token_char t ≡ false → fault_from s in_name t ≡ fault_from s behind_name t
+pub name-ends : (s : Tests) (t : List ℕ) → begins is_token_char t ≡ false → fault_from s in_name t ≡ fault_from s after_name t
 unfolding fault_from
 name-ends s [] h = refl
 name-ends s (c ∷ cs) h = rw h refl
 
 -- where no `=` follows, a name ends a parameter
-pub named-ends : (s : Tests) (t : List ℕ) → begins is_blank t ≡ false → begins (λ c. c == 61) t ≡ false → fault_from s behind_name t ≡ fault_from s behind_param t
+pub named-ends : (s : Tests) (t : List ℕ) → begins is_blank t ≡ false → begins (λ c. c == 61) t ≡ false → fault_from s after_name t ≡ fault_from s after_param t
 unfolding fault_from
 named-ends s [] h k = refl
 named-ends s (c ∷ cs) h k =
-    by_test c 59 (λ b. (c == 59) ≡ b → fault_from s behind_name (c ∷ cs) ≡ fault_from s behind_param (c ∷ cs)) (λ _ e. rw (k, h, e) refl)
-    (λ _ e. by_test c 44 (λ b. (c == 44) ≡ b → fault_from s behind_name (c ∷ cs) ≡ fault_from s behind_param (c ∷ cs)) (λ _ f. rw (k, h, e, f) refl) (λ _ f. rw (k, h, e, f) refl) refl) refl
+    by_test c 59 (λ b. (c == 59) ≡ b → fault_from s after_name (c ∷ cs) ≡ fault_from s after_param (c ∷ cs)) (λ _ e. rw (k, h, e) refl)
+    (λ _ e. by_test c 44 (λ b. (c == 44) ≡ b → fault_from s after_name (c ∷ cs) ≡ fault_from s after_param (c ∷ cs)) (λ _ f. rw (k, h, e, f) refl) (λ _ f. rw (k, h, e, f) refl) refl) refl

@@ -4,19 +4,19 @@ use Rattle.std.proofs.Math.Seq.{drop-cons}
 use Rattle.std.proofs.lemmas.List.{drop_all}
 use Rattle.std.specs.Prelude.{◌==◌, slice_index}
 use Rattle.iri_grammar.specs.Classes.{Tests}
-use Rattle.iri_grammar.specs.Cut.{before, behind}
+use Rattle.iri_grammar.specs.Cut.{before, after}
 use Rattle.iri_grammar.proofs.CutLaws.{both, by_test}
 use Rattle.iri_link.specs.Token.{is_pair_char, is_plain_char, IsQuoted, done, plain, pair}
-use Rattle.iri_link.specs.Phases.{Phase, in_quoted, in_pair as escape, behind_param}
+use Rattle.iri_link.specs.Phases.{Phase, in_quoted, in_pair as escape, after_param}
 use Rattle.iri_link.specs.Fault.{closes_from, fault_from}
 use Rattle.iri_link.specs.inside.ReadQuoted.{quoted_len, unquoted, unquoted_from}
 use Rattle.iri_link.specs.inside.Runs.{begins}
 
 -- ---- where it ends
-at_mark : (e : Bool) (c : ℕ) (cs : List ℕ) → (not e && c == 34) ≡ true → (closes_from e (c ∷ cs) ≡ true) × (quoted_len e (c ∷ cs) ≡ 0)
+at_delimiter : (e : Bool) (c : ℕ) (cs : List ℕ) → (not e && c == 34) ≡ true → (closes_from e (c ∷ cs) ≡ true) × (quoted_len e (c ∷ cs) ≡ 0)
 unfolding closes_from quoted_len
-at_mark true c cs h = cc
-at_mark false c cs h = (rw h refl, rw h refl)
+at_delimiter true c cs h = cc
+at_delimiter false c cs h = (rw h refl, rw h refl)
 
 at_bad : (e : Bool) (c : ℕ) (cs : List ℕ) → is_pair_char c ≡ false → closes_from e (c ∷ cs) ≡ false
 unfolding closes_from
@@ -41,7 +41,7 @@ module _ (bs : List ℕ) (i : ℕ) (e : Bool) (inside : i < length bs) (same : c
 
   pub end_found : (i + quoted_len e (drop i bs) ≡ quoted_len false bs) → (not e && get_or bs i 0 == 34) ≡ true → (closes_from false bs ≡ true) × (i ≡ quoted_len false bs)
   end_found counts h =
-      let m = at_mark e (get_or bs i 0) (drop (i + 1) bs) h in
+      let m = at_delimiter e (get_or bs i 0) (drop (i + 1) bs) h in
       let n : quoted_len e (drop i bs) ≡ 0 = ap (quoted_len e) split ∙ m.1 in
       (sym same ∙ (ap (closes_from e) split ∙ m.0), omega (arith, counts, n))
 
@@ -62,21 +62,21 @@ end_none bs i e h same = sym same ∙ ap (closes_from e) (drop_all i bs h)
 -- ---- cut there
 pub record IsClosed (e : Bool) (t : List ℕ) (n : ℕ) : Type 0 where
   pub inside : n < length t
-  pub mark : slice_index t n ≡ 34
+  pub delimiter : slice_index t n ≡ 34
   pub whole : t ≡ take n t ++ 34 ∷ drop (suc n) t
 
 pub closed : (e : Bool) (t : List ℕ) → closes_from e t ≡ true → IsClosed e t (quoted_len e t)
 unfolding closes_from quoted_len
 closed e [] h = cc
-closed true (c ∷ cs) h = let k = closed false cs (both (is_pair_char c) (closes_from false cs) h).1 in record { inside = omega (arith, k.inside); mark = k.mark; whole = ap (λ l. c ∷ l) k.whole }
+closed true (c ∷ cs) h = let k = closed false cs (both (is_pair_char c) (closes_from false cs) h).1 in record { inside = omega (arith, k.inside); delimiter = k.delimiter; whole = ap (λ l. c ∷ l) k.whole }
 closed false (c ∷ cs) h =
     by_test c 34 (λ b. cond b true (cond (c == 92) (closes_from true cs) (is_plain_char c && closes_from false cs)) ≡ true → IsClosed false (c ∷ cs) (cond b 0 (suc (quoted_len (c == 92) cs))))
-    (λ e _. record { inside = omega arith; mark = e; whole = ap (λ d. d ∷ cs) e })
+    (λ e _. record { inside = omega arith; delimiter = e; whole = ap (λ d. d ∷ cs) e })
     (λ _ h2. by_test c 92 (λ b. cond b (closes_from true cs) (is_plain_char c && closes_from false cs) ≡ true → IsClosed false (c ∷ cs) (suc (quoted_len b cs)))
-    (λ _ h3. let k = closed true cs h3 in record { inside = omega (arith, k.inside); mark = k.mark; whole = ap (λ l. c ∷ l) k.whole })
-    (λ _ h3. let k = closed false cs (both (is_plain_char c) (closes_from false cs) h3).1 in record { inside = omega (arith, k.inside); mark = k.mark; whole = ap (λ l. c ∷ l) k.whole }) h2) h
+    (λ _ h3. let k = closed true cs h3 in record { inside = omega (arith, k.inside); delimiter = k.delimiter; whole = ap (λ l. c ∷ l) k.whole })
+    (λ _ h3. let k = closed false cs (both (is_plain_char c) (closes_from false cs) h3).1 in record { inside = omega (arith, k.inside); delimiter = k.delimiter; whole = ap (λ l. c ∷ l) k.whole }) h2) h
 
--- what stands before the mark is quoted text, also behind a `\`
+-- what stands before the delimiter is quoted text, also after a `\`
 pub is_quoted : (t : List ℕ) → closes_from false t ≡ true → IsQuoted (take (quoted_len false t) t) (unquoted (take (quoted_len false t) t))
 unfolding closes_from quoted_len unquoted_from
 is_quoted [] h = cc
@@ -97,18 +97,18 @@ phase_of : Bool → Phase
 phase_of true = escape
 phase_of false = in_quoted
 
-goes_from : (s : Tests) (e : Bool) (t : List ℕ) → closes_from e t ≡ true → fault_from s (phase_of e) t ≡ fault_from s behind_param (drop (suc (quoted_len e t)) t)
+goes_from : (s : Tests) (e : Bool) (t : List ℕ) → closes_from e t ≡ true → fault_from s (phase_of e) t ≡ fault_from s after_param (drop (suc (quoted_len e t)) t)
 unfolding closes_from quoted_len fault_from phase_of
 goes_from s e [] h = cc
 goes_from s true (c ∷ cs) h = goes_from s false cs (both (is_pair_char c) (closes_from false cs) h).1
 goes_from s false (c ∷ cs) h =
-    by_test c 34 (λ b. cond b true (cond (c == 92) (closes_from true cs) (is_plain_char c && closes_from false cs)) ≡ true → fault_from s (cond b behind_param (cond (c == 92) escape in_quoted)) cs ≡ fault_from s behind_param (drop (cond b 0 (suc (quoted_len (c == 92) cs))) cs))
+    by_test c 34 (λ b. cond b true (cond (c == 92) (closes_from true cs) (is_plain_char c && closes_from false cs)) ≡ true → fault_from s (cond b after_param (cond (c == 92) escape in_quoted)) cs ≡ fault_from s after_param (drop (cond b 0 (suc (quoted_len (c == 92) cs))) cs))
     (λ _ _. refl)
-    (λ _ h2. by_test c 92 (λ b. cond b (closes_from true cs) (is_plain_char c && closes_from false cs) ≡ true → fault_from s (cond b escape in_quoted) cs ≡ fault_from s behind_param (drop (suc (quoted_len b cs)) cs))
+    (λ _ h2. by_test c 92 (λ b. cond b (closes_from true cs) (is_plain_char c && closes_from false cs) ≡ true → fault_from s (cond b escape in_quoted) cs ≡ fault_from s after_param (drop (suc (quoted_len b cs)) cs))
     (λ _ h3. goes_from s true cs h3)
     (λ _ h3. goes_from s false cs (both (is_plain_char c) (closes_from false cs) h3).1) h2) h
 
-pub quoted-goes : (s : Tests) (t : List ℕ) → closes_from false t ≡ true → fault_from s in_quoted t ≡ fault_from s behind_param (drop (suc (quoted_len false t)) t)
+pub quoted-goes : (s : Tests) (t : List ℕ) → closes_from false t ≡ true → fault_from s in_quoted t ≡ fault_from s after_param (drop (suc (quoted_len false t)) t)
 unfolding phase_of
 quoted-goes s t h = goes_from s false t h
 
@@ -117,11 +117,11 @@ abbrev pub after_pair : Option (List ℕ) → List ℕ
 after_pair None = []
 after_pair (Some b) = unquoted_from true b
 
-pub unquoted-chunk : (t : List ℕ) → unquoted t ≡ before 92 t ++ after_pair (behind 92 t)
+pub unquoted-chunk : (t : List ℕ) → unquoted t ≡ before 92 t ++ after_pair (after 92 t)
 unfolding unquoted_from
 unquoted-chunk [] = refl
 unquoted-chunk (c ∷ cs) =
-    by_test c 92 (λ b. cond b (unquoted_from true cs) (c ∷ unquoted_from false cs) ≡ cond b [] (c ∷ before 92 cs) ++ after_pair (cond b (Some cs) (behind 92 cs)))
+    by_test c 92 (λ b. cond b (unquoted_from true cs) (c ∷ unquoted_from false cs) ≡ cond b [] (c ∷ before 92 cs) ++ after_pair (cond b (Some cs) (after 92 cs)))
     (λ _. refl) (λ _. ap (λ l. c ∷ l) (unquoted-chunk cs))
 
 pub after_pair-plain : (b : List ℕ) → begins (λ c. c == 92) b ≡ false → unquoted_from true b ≡ unquoted b
@@ -129,8 +129,8 @@ unfolding unquoted_from
 after_pair-plain [] h = refl
 after_pair-plain (c ∷ cs) h = rw h refl
 
-pub behind-shorter : (c : ℕ) (t b : List ℕ) → Some b ≡ behind c t → length b < length t
-behind-shorter c [] b h = cc
-behind-shorter c (x ∷ xs) b h =
-    by_test x c (λ v. Some b ≡ cond v (Some xs) (behind c xs) → length b < suc (length xs))
-    (λ _ k. let e : b ≡ xs = cc in omega (arith, ap length e)) (λ _ k. omega (arith, behind-shorter c xs b k)) h
+pub after-shorter : (c : ℕ) (t b : List ℕ) → Some b ≡ after c t → length b < length t
+after-shorter c [] b h = cc
+after-shorter c (x ∷ xs) b h =
+    by_test x c (λ v. Some b ≡ cond v (Some xs) (after c xs) → length b < suc (length xs))
+    (λ _ k. let e : b ≡ xs = cc in omega (arith, ap length e)) (λ _ k. omega (arith, after-shorter c xs b k)) h

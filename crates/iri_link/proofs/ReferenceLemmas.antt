@@ -4,14 +4,14 @@ use Rattle.iri_grammar.specs.Classes.{Tests, IsSpec, userinfo_char, reg_name_cha
 use Rattle.iri_grammar.specs.Classes.{is_ascii_userinfo, is_ascii_reg_name, is_ascii_unreserved, is_sub_delim, is_ascii_path, is_ascii_pchar, is_ascii_query}
 use Rattle.iri_grammar.specs.Authority.{is_authority}
 use Rattle.iri_grammar.specs.Components.{if_there, is_fragment, is_query, is_scheme, is_scheme_char}
-use Rattle.iri_grammar.specs.Cut.{lacks, marked}
+use Rattle.iri_grammar.specs.Cut.{lacks, delimited}
 use Rattle.iri_grammar.specs.Parts.{Parts, Splits, recompose, scheme_text, authority_text}
 use Rattle.iri_grammar.specs.WholeFault.{reference_fault}
 use Rattle.iri_grammar.proofs.AuthorityTexts.{IsForeign, authority-lacks, over_text-lacks}
 use Rattle.iri_grammar.proofs.CutLaws.{lacks-append}
 use Rattle.iri_grammar.proofs.FaultLaws.{reference-law}
 use Rattle.iri_grammar.proofs.LiteralChars.{is_literal_char}
-use Rattle.iri_grammar.proofs.SplitLaws.{scheme-lacks, authority_text-lacks, marked-lacks}
+use Rattle.iri_grammar.proofs.SplitLaws.{scheme-lacks, authority_text-lacks, delimited-lacks}
 
 greater_foreign : (s : Tests) → IsSpec s → IsForeign s 62
 unfolding userinfo_char reg_name_char is_ascii_userinfo is_ascii_reg_name is_ascii_unreserved is_sub_delim is_literal_char
@@ -59,8 +59,8 @@ split-none s k t p h =
     (lacks-append 62 (scheme_text p.scheme) _ (scheme-none p.scheme f.scheme)
     (lacks-append 62 (authority_text p.authority) _ (authority_text-lacks 62 p.authority refl (authority-none s k p.authority f.authority))
     (lacks-append 62 p.path _ (over_text-lacks (path_char s) 62 p.path (omega arith) (no_class s k).0 refl refl f.path)
-    (lacks-append 62 (marked 63 p.query) (marked 35 p.fragment) (marked-lacks 62 63 p.query refl (query-none s k p.query f.query))
-    (marked-lacks 62 35 p.fragment refl (fragment-none s k p.fragment f.fragment))))))
+    (lacks-append 62 (delimited 63 p.query) (delimited 35 p.fragment) (delimited-lacks 62 63 p.query refl (query-none s k p.query f.query))
+    (delimited-lacks 62 35 p.fragment refl (fragment-none s k p.fragment f.fragment))))))
 
 pub reference-closed : (s : Tests) → IsSpec s → (t : List ℕ) → reference_fault s t ≡ None → lacks 62 t ≡ true
 reference-closed s k t h = let r = (reference-law s k t).0 h in split-none s k t r.0 r.1

@@ -2,30 +2,30 @@
 use Rattle.std.proofs.Common.{◌≡◌, ℕ, true, false, cond, not, ◌&&◌, List, [], ◌∷◌, ◌++◌, Some, None, refl, sym, ap, ◌∙◌}
 use Rattle.std.specs.Prelude.{◌==◌}
 use Rattle.iri_grammar.specs.Classes.{Tests}
-use Rattle.iri_grammar.specs.Cut.{before, behind, lacks}
+use Rattle.iri_grammar.specs.Cut.{before, after, lacks}
 use Rattle.iri_grammar.specs.WholeFault.{reference_fault}
-use Rattle.iri_grammar.proofs.CutLaws.{by_test, before-marked, behind-marked}
+use Rattle.iri_grammar.proofs.CutLaws.{by_test, before-delimited, after-delimited}
 use Rattle.iri_link.specs.Fault.{fault_from, target_fault, earlier}
-use Rattle.iri_link.specs.Phases.{before_link, in_target, behind_param}
+use Rattle.iri_link.specs.Phases.{before_link, in_target, after_param}
 
 pub before-lacks : (c : ℕ) (t : List ℕ) → lacks c (before c t) ≡ true
 before-lacks c [] = refl
 before-lacks c (x ∷ xs) = by_test x c (λ b. (x == c) ≡ b → lacks c (cond b [] (x ∷ before c xs)) ≡ true) (λ _ _. refl) (λ _ e. rw e (before-lacks c xs)) refl
 
-pub some-lacks : (c : ℕ) (t b : List ℕ) → Some b ≡ behind c t → lacks c t ≡ false
+pub some-lacks : (c : ℕ) (t b : List ℕ) → Some b ≡ after c t → lacks c t ≡ false
 some-lacks c [] b h = cc
-some-lacks c (x ∷ xs) b h = by_test x c (λ v. Some b ≡ cond v (Some xs) (behind c xs) → (not v && lacks c xs) ≡ false) (λ _ _. refl) (λ _ k. some-lacks c xs b k) h
+some-lacks c (x ∷ xs) b h = by_test x c (λ v. Some b ≡ cond v (Some xs) (after c xs) → (not v && lacks c xs) ≡ false) (λ _ _. refl) (λ _ k. some-lacks c xs b k) h
 
-pub none-lacks : (c : ℕ) (t : List ℕ) → None ≡ behind c t → lacks c t ≡ true
+pub none-lacks : (c : ℕ) (t : List ℕ) → None ≡ after c t → lacks c t ≡ true
 none-lacks c [] h = refl
-none-lacks c (x ∷ xs) h = by_test x c (λ v. None ≡ cond v (Some xs) (behind c xs) → (not v && lacks c xs) ≡ true) (λ _ k. cc) (λ _ k. none-lacks c xs k) h
+none-lacks c (x ∷ xs) h = by_test x c (λ v. None ≡ cond v (Some xs) (after c xs) → (not v && lacks c xs) ≡ true) (λ _ k. cc) (λ _ k. none-lacks c xs k) h
 
-pub target-goes : (s : Tests) (t b : List ℕ) → Some b ≡ behind 62 t → fault_from s in_target t ≡ fault_from s behind_param b
+pub target-goes : (s : Tests) (t b : List ℕ) → Some b ≡ after 62 t → fault_from s in_target t ≡ fault_from s after_param b
 unfolding fault_from
 target-goes s [] b h = cc
 target-goes s (x ∷ xs) b h =
-    by_test x 62 (λ v. Some b ≡ cond v (Some xs) (behind 62 xs) → fault_from s (cond v behind_param in_target) xs ≡ fault_from s behind_param b)
-    (λ _ k. let e : xs ≡ b = cc in ap (fault_from s behind_param) e) (λ _ k. target-goes s xs b k) h
+    by_test x 62 (λ v. Some b ≡ cond v (Some xs) (after 62 xs) → fault_from s (cond v after_param in_target) xs ≡ fault_from s after_param b)
+    (λ _ k. let e : xs ≡ b = cc in ap (fault_from s after_param) e) (λ _ k. target-goes s xs b k) h
 
 pub open_goes : (s : Tests) (t : List ℕ) → fault_from s before_link (60 ∷ t) ≡ earlier (target_fault s t) (fault_from s in_target t)
 unfolding fault_from
@@ -33,11 +33,11 @@ open_goes s t = refl
 
 -- a target that is a reference has no fault
 pub closed_goes : (s : Tests) (t rest : List ℕ) → lacks 62 t ≡ true → reference_fault s t ≡ None
-    → fault_from s before_link (60 ∷ (t ++ 62 ∷ rest)) ≡ fault_from s behind_param rest
+    → fault_from s before_link (60 ∷ (t ++ 62 ∷ rest)) ≡ fault_from s after_param rest
 closed_goes s t rest closed valid =
     let text = t ++ 62 ∷ rest in
-    let h : Some rest ≡ behind 62 text = sym (behind-marked 62 t (Some rest) closed) in
+    let h : Some rest ≡ after 62 text = sym (after-delimited 62 t (Some rest) closed) in
     let has = some-lacks 62 text rest h in
-    let none : reference_fault s (before 62 text) ≡ None = ap (reference_fault s) (before-marked 62 t (Some rest) closed) ∙ valid in
+    let none : reference_fault s (before 62 text) ≡ None = ap (reference_fault s) (before-delimited 62 t (Some rest) closed) ∙ valid in
     let right : target_fault s text ≡ None = rw (has, none) refl in
     open_goes s text ∙ (ap (λ o. earlier o (fault_from s in_target text)) right ∙ target-goes s text rest h)

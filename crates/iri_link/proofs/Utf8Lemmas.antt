@@ -9,23 +9,23 @@ use Rattle.std.proofs.lemmas.Str.{IsUtf8-append, IsUtf8-nil, IsUtf8-encode, IsUt
 use Rattle.std.proofs.Math.Seq.{get_or-append_seam}
 use lib.Utf8.{encode, encodes, scalar, scalars}
 use Rattle.iri_grammar.specs.Cut.{lacks}
-use Rattle.iri_grammar.proofs.AuthorityTexts.{marked-utf8}
+use Rattle.iri_grammar.proofs.AuthorityTexts.{delimited-utf8}
 use Rattle.iri_grammar.proofs.CutBytes.{lacks-encodes}
 use Rattle.iri_grammar.proofs.CutLaws.{both, by_test}
 use Rattle.iri_link.specs.Token.{IsQuoted, done, plain, pair}
 use Rattle.iri_link.specs.Written.{escaped}
 
 -- ---- what stands before an ASCII character
-pub text_before_mark : (c : ℕ) (b r : List ℕ) → c < 128 → IsUtf8 (b ++ c ∷ r) → IsUtf8 b
-text_before_mark c b r l u =
+pub text_before_delimiter : (c : ℕ) (b r : List ℕ) → c < 128 → IsUtf8 (b ++ c ∷ r) → IsUtf8 b
+text_before_delimiter c b r l u =
     let t = b ++ c ∷ r in
     let at : get_or t (length b) 0 ≡ c = get_or-append_seam b c r 0 in
     let inside : length b < length t = omega (arith, length-append b (c ∷ r)) in
-    subst IsUtf8 (front b (c ∷ r)) (IsUtf8-take t (length b) u (IsCharBoundary-before_ascii t (length b) inside (omega (arith, at))))
+    subst IsUtf8 (prefix b (c ∷ r)) (IsUtf8-take t (length b) u (IsCharBoundary-before_ascii t (length b) inside (omega (arith, at))))
   where
-    front : (xs ys : List ℕ) → take (length xs) (xs ++ ys) ≡ xs
-    front [] ys = refl
-    front (x ∷ xs) ys = ap (λ l. x ∷ l) (front xs ys)
+    prefix : (xs ys : List ℕ) → take (length xs) (xs ++ ys) ≡ xs
+    prefix [] ys = refl
+    prefix (x ∷ xs) ys = ap (λ l. x ∷ l) (prefix xs ys)
 
 -- ---- characters
 low_encoded : (x : ℕ) → x < 128 → encode x ≡ x ∷ []
@@ -87,7 +87,7 @@ first_bytes (b ∷ m) rest v h q =
     negated true e = cc
     negated false e = refl
 
--- the value of quoted characters, and of those behind a `\`
+-- the value of quoted characters, and of those after a `\`
 record ValuesAreTexts (xs : List ℕ) : Type 0 where
   all : (v : List ℕ) → IsQuoted (encodes xs) v → IsUtf8 v
   paired : (c : ℕ) (u w : List ℕ) → encodes xs ≡ c ∷ u → IsQuoted u w → IsUtf8 (c ∷ w)
@@ -106,7 +106,7 @@ low_values x xs l i =
           let k : x ∷ encodes xs ≡ c ∷ u = sym e ∙ same in
           let first : x ≡ c = cc in
           let rest : u ≡ encodes xs = cc in
-          subst (λ z. IsUtf8 (z ∷ w)) first (marked-utf8 x w l (i.all w (subst (λ z. IsQuoted z w) rest q)));
+          subst (λ z. IsUtf8 (z ∷ w)) first (delimited-utf8 x w l (i.all w (subst (λ z. IsQuoted z w) rest q)));
     }
   where
     whole : (v : List ℕ) → IsQuoted (x ∷ encodes xs) v → IsUtf8 v
@@ -118,7 +118,7 @@ low_values x xs l i =
               rw f.whole (i.paired f.char f.text f.rest f.begins f.quoted)
           | false ↦ λ e.
               let f = first_plain (x ∷ encodes xs) v q x (encodes xs) refl e in
-              rw f.whole (marked-utf8 x f.rest l (i.all f.rest f.quoted))
+              rw f.whole (delimited-utf8 x f.rest l (i.all f.rest f.quoted))
         ] refl
 
 high_values : (x : ℕ) (xs : List ℕ) → 128 ≤ x → scalar x ≡ true → ValuesAreTexts xs → ValuesAreTexts (x ∷ xs)
@@ -126,12 +126,12 @@ high_values x xs h s i = record {
   all = λ v q.
       let f = first_bytes (encode x) (encodes xs) v (high_lacks 92 x (omega arith) h) q in
       rw f.whole (IsUtf8-append (encode x) f.value (IsUtf8-encode x s) (i.all f.value f.quoted));
-  paired = λ c u w same q. behind (encode x) (high_lacks 92 x (omega arith) h) (IsUtf8-encode x s) same q;
+  paired = λ c u w same q. after (encode x) (high_lacks 92 x (omega arith) h) (IsUtf8-encode x s) same q;
 }
   where
-    behind : (m : List ℕ) → lacks 92 m ≡ true → IsUtf8 m → {c : ℕ} {u w : List ℕ} → m ++ encodes xs ≡ c ∷ u → IsQuoted u w → IsUtf8 (c ∷ w)
-    behind [] n t {c} {u} {w} same q = i.paired c u w same q
-    behind (b ∷ m) n t {c} {u} {w} same q =
+    after : (m : List ℕ) → lacks 92 m ≡ true → IsUtf8 m → {c : ℕ} {u w : List ℕ} → m ++ encodes xs ≡ c ∷ u → IsQuoted u w → IsUtf8 (c ∷ w)
+    after [] n t {c} {u} {w} same q = i.paired c u w same q
+    after (b ∷ m) n t {c} {u} {w} same q =
         let k = both (not (b == 92)) (lacks 92 m) n in
         let first : b ≡ c = cc in
         let rest : u ≡ m ++ encodes xs = cc in
@@ -174,8 +174,8 @@ one_escaped x s =
     elim (cases_lt x 128) [
       | inl l ↦ rw (low_encoded x l)
           (elim (x == 34 || x == 92) as (λ b. IsUtf8 (cond b (92 ∷ x ∷ []) (x ∷ []))) [
-            | true ↦ marked-utf8 92 (x ∷ []) (omega arith) (marked-utf8 x [] l IsUtf8-nil)
-            | false ↦ marked-utf8 x [] l IsUtf8-nil
+            | true ↦ delimited-utf8 92 (x ∷ []) (omega arith) (delimited-utf8 x [] l IsUtf8-nil)
+            | false ↦ delimited-utf8 x [] l IsUtf8-nil
           ])
       | inr ge ↦ rw (escaped-same (encode x) (high_lacks 34 x (omega arith) ge) (high_lacks 92 x (omega arith) ge)) (IsUtf8-encode x s)
     ]

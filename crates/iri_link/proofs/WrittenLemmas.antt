@@ -9,7 +9,7 @@ use Rattle.std.proofs.lemmas.Str.{IsUtf8-append, IsUtf8-nil}
 use Rattle.iri_grammar.specs.Classes.{Tests, IsSpec}
 use Rattle.iri_grammar.specs.Cut.{lacks}
 use Rattle.iri_grammar.specs.Parts.{IsAbsolute}
-use Rattle.iri_grammar.proofs.AuthorityTexts.{marked-utf8, one_byte-utf8}
+use Rattle.iri_grammar.proofs.AuthorityTexts.{delimited-utf8, one_byte-utf8}
 use Rattle.iri_grammar.proofs.FaultLaws.{reference-law, reference-utf8}
 use Rattle.iri_normal.specs.NormalForm.{canonical}
 use Rattle.iri_normal.proofs.CanonLaws.{canonical-iri, canonical-own}
@@ -86,30 +86,30 @@ module _ (s : Tests) (k : IsSpec s) where
   value_utf8 : (v : Option (List ℕ)) → IsKeptValue v → IsUtf8 (written_value v)
   value_utf8 None h = IsUtf8-nil
   value_utf8 (Some v) h =
-      marked-utf8 61 (34 ∷ (escaped v ++ 34 ∷ [])) (omega arith)
-      (marked-utf8 34 (escaped v ++ 34 ∷ []) (omega arith) (IsUtf8-append (escaped v) (34 ∷ []) (escaped-utf8 v h.utf8) (one_byte-utf8 34 (omega arith))))
+      delimited-utf8 61 (34 ∷ (escaped v ++ 34 ∷ [])) (omega arith)
+      (delimited-utf8 34 (escaped v ++ 34 ∷ []) (omega arith) (IsUtf8-append (escaped v) (34 ∷ []) (escaped-utf8 v h.utf8) (one_byte-utf8 34 (omega arith))))
 
   params_utf8 : (ps : List LinkParam) → All IsKeptParam ps → IsUtf8 (flat_map written_param ps)
   params_utf8 [] h = IsUtf8-nil
   params_utf8 (p ∷ ps) h =
       let kept = All-head IsKeptParam p ps h in
       IsUtf8-append (written_param p) (flat_map written_param ps)
-      (marked-utf8 59 (32 ∷ (p.name ++ written_value p.value)) (omega arith)
-      (marked-utf8 32 (p.name ++ written_value p.value) (omega arith) (IsUtf8-append p.name (written_value p.value) (token-utf8 p.name kept.token) (value_utf8 p.value kept.value))))
+      (delimited-utf8 59 (32 ∷ (p.name ++ written_value p.value)) (omega arith)
+      (delimited-utf8 32 (p.name ++ written_value p.value) (omega arith) (IsUtf8-append p.name (written_value p.value) (token-utf8 p.name kept.token) (value_utf8 p.value kept.value))))
       (params_utf8 ps (All-tail IsKeptParam p ps h))
 
   link_utf8 : (l : LinkValue) → HasReference s l → HasKeptParams l → IsUtf8 (written_link l)
   link_utf8 l valid kept =
-      marked-utf8 60 (l.target ++ 62 ∷ flat_map written_param l.params) (omega arith)
+      delimited-utf8 60 (l.target ++ 62 ∷ flat_map written_param l.params) (omega arith)
       (IsUtf8-append l.target (62 ∷ flat_map written_param l.params) (reference-utf8 s l.target ((reference-law s k l.target).0 valid))
-      (marked-utf8 62 (flat_map written_param l.params) (omega arith) (params_utf8 l.params kept)))
+      (delimited-utf8 62 (flat_map written_param l.params) (omega arith) (params_utf8 l.params kept)))
 
   written_utf8 : (ls : List LinkValue) → AreKept s ls → IsUtf8 (written ls)
   written_utf8 [] h = IsUtf8-nil
   written_utf8 (l ∷ []) h = link_utf8 l (All-head (HasReference s) l [] h.valid) (All-head HasKeptParams l [] h.params)
   written_utf8 (l ∷ m ∷ ls) h =
       IsUtf8-append (written_link l) (44 ∷ 32 ∷ written (m ∷ ls)) (link_utf8 l (All-head (HasReference s) l (m ∷ ls) h.valid) (All-head HasKeptParams l (m ∷ ls) h.params))
-      (marked-utf8 44 (32 ∷ written (m ∷ ls)) (omega arith) (marked-utf8 32 (written (m ∷ ls)) (omega arith)
+      (delimited-utf8 44 (32 ∷ written (m ∷ ls)) (omega arith) (delimited-utf8 32 (written (m ∷ ls)) (omega arith)
       (written_utf8 (m ∷ ls) (record { valid = All-tail (HasReference s) l (m ∷ ls) h.valid; params = All-tail HasKeptParams l (m ∷ ls) h.params }))))
 
   written_has : (ls : List LinkValue) → AreKept s ls → HasLinks s (written ls) ls

@@ -16,7 +16,7 @@ use Rattle.iri_link.specs.Fault.{Told, field_fault, fault_from, closes_from}
 use Rattle.iri_link.specs.Written.{written}
 use Rattle.iri_link.specs.declared.error.LinkKind.TheVariants.{NoTarget, OpenTarget, BadTarget, NoParam, NoValue, OpenString}
 
--- a name in capitals, an escaped mark, and a semicolon without a parameter behind it
+-- a name in capitals, an escaped delimiter, and a semicolon without a parameter after it
 abbrev x_up : LinkValue
 x_up = record {
   target = codes "/x";
@@ -78,7 +78,7 @@ unfolding fault_from closes_from split_of fault_before_fragment parts_fault is_l
     is_ascii_path is_ascii_pchar is_ascii_reg_name is_ascii_unreserved is_sub_delim query_char is_ascii_query
 no_fault = refl
 
--- one form: each value in quotes, marks escaped, one comma and one blank between
+-- one form: each value in quotes, delimiters escaped, one comma and one blank between
 written_x_up :
     written (record { target = codes "https://h/p?page=3"; params = record { name = codes "crossorigin"; value = None } ∷ [] }
     ∷ x_up ∷ [])

@@ -9,7 +9,7 @@ use Rattle.iri_grammar.specs.WholeFault.{reference_fault}
 use Rattle.iri_grammar.specs.declared.error.ErrorKind.{ErrorKind}
 use Rattle.iri_link.specs.Characters.{backslash, greater_than_sign, less_than_sign, quotation_mark}
 use Rattle.iri_link.specs.Token.{is_blank, is_token_char, is_plain_char, is_pair_char}
-use Rattle.iri_link.specs.Phases.{Phase, before_link, in_target, behind_param, behind_semicolon, in_name, behind_name, behind_equals}
+use Rattle.iri_link.specs.Phases.{Phase, before_link, in_target, after_param, after_semicolon, in_name, after_name, after_equals}
 use Rattle.iri_link.specs.Phases.{in_token, in_quoted, in_pair, next, may_follow}
 use Rattle.iri_link.specs.declared.error.LinkKind.{LinkKind}
 use Rattle.iri_link.specs.declared.error.LinkKind.TheVariants.{NotUtf8, NoTarget, OpenTarget, BadTarget, NoParam, NoValue, OpenString}
@@ -33,39 +33,39 @@ abbrev pub told_target : Option ErrorKind → List ℕ → Option Fault
 told_target None r = None
 told_target (Some k) r = Some (record { kind = BadTarget (record { kind = k }); rest = r })
 
--- behind a `<`: a `>` must follow, and what stands before it must be a `URI-Reference`
+-- after a `<`: a `>` must follow, and what stands before it must be a `URI-Reference`
 abbrev pub target_fault : Tests → List ℕ → Option Fault
 target_fault s cs =
     cond (lacks greater_than_sign cs) (Some (record { kind = OpenTarget; rest = less_than_sign ∷ cs }))
     (told_target (reference_fault s (before greater_than_sign cs)) cs)
 
--- behind a `"`, or a `\` there: whether a quoted string ends
+-- after a `"`, or a `\` there: whether a quoted string ends
 unfoldable pub closes_from : Bool → List ℕ → Bool
 closes_from e [] = false
 closes_from true (c ∷ cs) = is_pair_char c && closes_from false cs
 closes_from false (c ∷ cs) =
     cond (c == quotation_mark) true (cond (c == backslash) (closes_from true cs) (is_plain_char c && closes_from false cs))
 
--- What is wrong with a byte c, behind which cs stands. Within a target and within a quoted string nothing is: they were looked at
+-- What is wrong with a byte c, after which cs stands. Within a target and within a quoted string nothing is: they were looked at
 -- as a whole at their first byte.
 abbrev pub wrong : Tests → Phase → ℕ → List ℕ → Option Fault
 wrong s before_link c cs =
     cond (is_blank c || c == comma) None (cond (c == less_than_sign) (target_fault s cs) (unless false NoTarget (c ∷ cs)))
 wrong s in_target c cs = None
-wrong s behind_param c cs = unless (may_follow c) NoParam (c ∷ cs)
-wrong s behind_semicolon c cs = unless (is_token_char c || may_follow c) NoParam (c ∷ cs)
+wrong s after_param c cs = unless (may_follow c) NoParam (c ∷ cs)
+wrong s after_semicolon c cs = unless (is_token_char c || may_follow c) NoParam (c ∷ cs)
 wrong s in_name c cs = unless (is_token_char c || (c == equals_sign || may_follow c)) NoParam (c ∷ cs)
-wrong s behind_name c cs = unless (c == equals_sign || may_follow c) NoParam (c ∷ cs)
-wrong s behind_equals c cs =
+wrong s after_name c cs = unless (c == equals_sign || may_follow c) NoParam (c ∷ cs)
+wrong s after_equals c cs =
     cond (c == quotation_mark) (unless (closes_from false cs) OpenString (c ∷ cs))
     (unless (is_token_char c || is_blank c) NoValue (c ∷ cs))
 wrong s in_token c cs = unless (is_token_char c || may_follow c) NoParam (c ∷ cs)
 wrong s in_quoted c cs = None
 wrong s in_pair c cs = None
 
--- what is wrong where the text ends: a value is wanting behind a `=`
+-- what is wrong where the text ends: a value is wanting after a `=`
 abbrev pub wrong_end : Phase → Option Fault
-wrong_end behind_equals = Some (record { kind = NoValue; rest = [] })
+wrong_end after_equals = Some (record { kind = NoValue; rest = [] })
 wrong_end _ = None
 
 -- the first fault of what is left, where the reading stands so

@@ -4,11 +4,11 @@ use Rattle.std.specs.Str.{str_to_ascii_lowercase}
 use Rattle.iri_grammar.specs.Characters.{comma, equals_sign, semicolon}
 use Rattle.iri_link.specs.Characters.{backslash, greater_than_sign, less_than_sign, quotation_mark}
 use Rattle.iri_link.specs.Field.{LinkParam, LinkValue}
-use Rattle.iri_link.specs.Phases.{Phase, before_link, in_target, behind_param, behind_semicolon, in_name, behind_name, behind_equals}
+use Rattle.iri_link.specs.Phases.{Phase, before_link, in_target, after_param, after_semicolon, in_name, after_name, after_equals}
 use Rattle.iri_link.specs.Phases.{in_token, in_quoted, in_pair, next}
 use Rattle.iri_link.specs.Token.{is_token_char}
 
--- what is left of a target, a name or a value; the value behind a name; and what follows: parameters, then link-values
+-- what is left of a target, a name or a value; the value after a name; and what follows: parameters, then link-values
 pub record Reading : Type 0 where
   pub text : List ℕ
   pub value : Option (List ℕ)
@@ -28,26 +28,26 @@ of_value v r = record { text = []; value = v; params = r.params; links = r.links
 abbrev pub more : ℕ → Reading → Reading
 more c r = record { text = c ∷ r.text; value = r.value; params = r.params; links = r.links }
 
--- at a byte behind a parameter
+-- at a byte after a parameter
 abbrev pub param_end : ℕ → Reading → Reading
 param_end c r = cond (c == comma) (of_links r.links) (of_params r.params r.links)
 
--- at a byte behind a name
+-- at a byte after a name
 abbrev pub name_end : ℕ → Reading → Reading
 name_end c r =
     cond (c == equals_sign) (of_value (Some r.text) r) (cond (c == semicolon || c == comma) (param_end c r) (of_value r.value r))
 
--- what a byte gives, by what the text behind it gives
+-- what a byte gives, by what the text after it gives
 abbrev pub after : Phase → ℕ → Reading → Reading
 after before_link c r = cond (c == less_than_sign) (of_links (record { target = r.text; params = r.params } ∷ r.links)) (of_links r.links)
 after in_target c r = cond (c == greater_than_sign) (of_params r.params r.links) (more c r)
-after behind_param c r = param_end c r
-after behind_semicolon c r =
+after after_param c r = param_end c r
+after after_semicolon c r =
     cond (is_token_char c) (of_params (record { name = str_to_ascii_lowercase (c ∷ r.text); value = r.value } ∷ r.params) r.links)
     (param_end c r)
 after in_name c r = cond (is_token_char c) (more c r) (name_end c r)
-after behind_name c r = name_end c r
-after behind_equals c r = cond (is_token_char c) (more c r) r
+after after_name c r = name_end c r
+after after_equals c r = cond (is_token_char c) (more c r) r
 after in_token c r = cond (is_token_char c) (more c r) (param_end c r)
 after in_quoted c r = cond (c == quotation_mark) (of_params r.params r.links) (cond (c == backslash) r (more c r))
 after in_pair c r = more c r

@@ -14,13 +14,13 @@ use Rattle.iri_link.specs.Token.{is_blank}
 use Rattle.iri_link.specs.declared.error.LinkError.{LinkError}
 use Rattle.iri_link.specs.declared.error.LinkError.TheVariants.{Fault, Memory}
 
--- Behind blanks and commas a target stands in angle brackets, which is a `URI-Reference`: the first text that is kept.
+-- After blanks and commas a target stands in angle brackets, which is a `URI-Reference`: the first text that is kept.
 pub record KeepsTarget (s : Tests) (x : List ℕ) : Type 0 where
-  pub front : List ℕ
+  pub prefix : List ℕ
   pub target : List ℕ
   pub rest : List ℕ
-  pub whole : x ≡ front ++ less_than_sign ∷ (target ++ greater_than_sign ∷ rest)
-  pub skipped : list_all (λ c. is_blank c || c == comma) front ≡ true
+  pub whole : x ≡ prefix ++ less_than_sign ∷ (target ++ greater_than_sign ∷ rest)
+  pub skipped : list_all (λ c. is_blank c || c == comma) prefix ≡ true
   pub closed : lacks greater_than_sign target ≡ true
   pub valid : reference_fault s target ≡ None
 

@@ -13,7 +13,7 @@ is_blank c = c == space || c == tab
 abbrev pub is_token_char : ℕ → Bool
 is_token_char c = is_ascii_alphanumeric c || char_set_contains (codes "!#$%&'*+-.^_`|~") c
 
--- what may stand behind a `\` in a quoted string: a tab, a space, a printable ASCII character, or a byte of one past ASCII
+-- what may stand after a `\` in a quoted string: a tab, a space, a printable ASCII character, or a byte of one past ASCII
 abbrev pub is_pair_char : ℕ → Bool
 is_pair_char c = c == tab || (is_in_range 32 126 c || nat_lt 127 c)
 
@@ -30,7 +30,7 @@ abbrev pub is_token : List ℕ → Bool
 is_token [] = false
 is_token (c ∷ cs) = list_all is_token_char (c ∷ cs)
 
--- what stands between the marks of a `quoted-string`, and its value: a `\` goes, and what stands behind it stays
+-- what stands between the delimiters of a `quoted-string`, and its value: a `\` goes, and what stands after it stays
 pub data IsQuoted : List ℕ → List ℕ → Type 0 where
   done : IsQuoted [] []
   plain : (c : ℕ) (t v : List ℕ) → is_plain_char c ≡ true → IsQuoted t v → IsQuoted (c ∷ t) (c ∷ v)

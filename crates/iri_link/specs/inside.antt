@@ -1,5 +1,5 @@
 -- What private contracts cite.
-pub mod CutMarks
+pub mod CutDelimiters
 pub mod Halts
 pub mod ReadLinks
 pub mod ReadParams

@@ -90,12 +90,12 @@ fn read_link<'a, S: Spec>(
 // What follows an element that begins with neither a blank nor `<`: it is empty, or no element.
 fn past_empty<'a>(s: &'a str) -> Result<Option<&'a str>, Halt<'a>>
     requires blank { begins is_blank s.now ≡ false }
-    requires mark { begins (λ c. c == less_than_sign) s.now ≡ false }
+    requires delimiter { begins (λ c. c == less_than_sign) s.now ≡ false }
     ensures { MatchResult result (λ r. SkipsEmpty s.now (now_of r))
         (λ e. (t : Tests) → HaltsIn t s.now e) }
 {
     match past(s, b',') {
-        Some(behind) => Ok(Some(behind)),
+        Some(after) => Ok(Some(after)),
         None => {
             if s.is_empty() {
                 Ok(None)
@@ -146,7 +146,7 @@ pub(crate) fn read_text<'a, S: Spec>(
     'links: loop {
         let (_, next) = cut_run(Run::Blank, rest);
         match push_link(alloc, resolver, &mut links, next) {
-            Ok(Some(behind)) => rest = behind,
+            Ok(Some(after)) => rest = after,
             Ok(None) => return Ok(links),
             Err(halt) => return Err(halt),
         }

@@ -2,7 +2,7 @@
 ghost use Rattle.std.specs.Prelude.{◌≡◌, false, true, map, MatchOption, MatchResult};
 ghost use Rattle.iri_grammar.specs.Classes.{Tests};
 ghost use Rattle.iri_link.specs.Fault.{fault_from};
-ghost use Rattle.iri_link.specs.Phases.{behind_param, behind_semicolon, in_name, behind_name};
+ghost use Rattle.iri_link.specs.Phases.{after_param, after_semicolon, in_name, after_name};
 ghost use Rattle.iri_link.specs.Stored.{param_of};
 ghost use Rattle.iri_link.specs.Token.{is_blank, is_token_char};
 ghost use Rattle.iri_link.specs.inside.Halts.{HaltsAt};
@@ -24,13 +24,13 @@ pub(crate) struct Param {
 
 // What follows a `=` and the blanks round it, where it comes after a name.
 fn past_equals(s: &str) -> Option<&str>
-    ensures { MatchOption result ((t : Tests) → fault_from t behind_name s.now ≡ fault_from t behind_param s.now)
+    ensures { MatchOption result ((t : Tests) → fault_from t after_name s.now ≡ fault_from t after_param s.now)
         (λ r. ReadsEquals s.now r.now) }
 {
     let (_, next) = cut_run(Run::Blank, s);
     match past(next, b'=') {
-        Some(behind) => {
-            let (_, value) = cut_run(Run::Blank, behind);
+        Some(following) => {
+            let (_, value) = cut_run(Run::Blank, following);
             Some(value)
         }
         None => None,
@@ -48,7 +48,7 @@ fn read_param<'a>(alloc: Global, s: &'a str) -> Result<(Param, &'a str), Halt<'a
         return Err(Halt::Memory);
     };
     match past_equals(rest) {
-        Some(behind) => match read_value(alloc, behind) {
+        Some(following) => match read_value(alloc, following) {
             Ok((value, rest)) => Ok((
                 Param {
                     name,
@@ -67,7 +67,7 @@ fn push_param<'a>(alloc: Global, params: &mut Vec<Param>, s: &'a str) -> Result<
     requires { begins is_blank s.now ≡ false }
     ensures { MatchResult result
         (λ r. AddsParam s.now r.now (map param_of params.old.items) (map param_of params.new.items))
-        (λ e. (t : Tests) → HaltsAt e (fault_from t behind_semicolon s.now)) }
+        (λ e. (t : Tests) → HaltsAt e (fault_from t after_semicolon s.now)) }
 {
     if !begins_token(s) {
         return Ok(s);
@@ -94,19 +94,19 @@ fn ends_link(s: &str) -> bool
 // The parameters of a link-value, and what follows them and blanks: nothing, or a comma.
 pub(crate) fn read_params<'a>(alloc: Global, s: &'a str) -> Result<(Vec<Param>, &'a str), Halt<'a>>
     ensures { MatchResult result (λ r. ReadsParams s.now r.1.now (map param_of r.0.items))
-        (λ e. (t : Tests) → HaltsAt e (fault_from t behind_param s.now)) }
+        (λ e. (t : Tests) → HaltsAt e (fault_from t after_param s.now)) }
 {
     let mut params = Vec::new(alloc);
     let mut rest = s;
     'params: loop {
         let (_, next) = cut_run(Run::Blank, rest);
-        let Some(behind) = past(next, b';') else {
+        let Some(following) = past(next, b';') else {
             if ends_link(next) {
                 return Ok((params, next));
             }
             return Err(Halt::Fault(LinkKind::NoParam, next));
         };
-        let (_, piece) = cut_run(Run::Blank, behind);
+        let (_, piece) = cut_run(Run::Blank, following);
         match push_param(alloc, &mut params, piece) {
             Ok(after) => rest = after,
             Err(halt) => return Err(halt),

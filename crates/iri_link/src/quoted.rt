@@ -16,10 +16,10 @@ fn is_pair_char(b: u8) -> bool
 }
 
 // Whether the byte is the delimiter, and no `\` comes before it.
-fn stands_free(escaped: bool, b: u8, mark: u8) -> bool
-    ensures { result ≡ (not escaped && b == mark) }
+fn stands_free(escaped: bool, b: u8, delimiter: u8) -> bool
+    ensures { result ≡ (not escaped && b == delimiter) }
 {
-    !escaped && b == mark
+    !escaped && b == delimiter
 }
 
 // Where the `"` is that ends a quoted string, after its first one.
@@ -57,17 +57,17 @@ pub(crate) fn unquote(alloc: Global, raw: &str) -> Result<String, AllocError>
     let mut value = String::new(alloc);
     let mut rest = raw;
     'chunks: loop {
-        let (chunk, behind) = cut(rest, b'\\');
+        let (chunk, after) = cut(rest, b'\\');
         value.push_str(chunk)?;
-        let Some(behind) = behind else {
+        let Some(after) = after else {
             return Ok(value);
         };
-        match past(behind, b'\\') {
+        match past(after, b'\\') {
             Some(next) => {
                 value.push_str("\\")?;
                 rest = next;
             }
-            None => rest = behind,
+            None => rest = after,
         }
     }
 }

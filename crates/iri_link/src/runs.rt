@@ -63,21 +63,21 @@ pub(crate) fn cut_run(run: Run, s: &str) -> (&str, &str)
 }
 
 // Whether the delimiter comes first.
-fn begins_with(bytes: &[u8], mark: u8) -> bool
-    ensures { result ≡ begins (λ c. c == mark) bytes.now }
+fn begins_with(bytes: &[u8], delimiter: u8) -> bool
+    ensures { result ≡ begins (λ c. c == delimiter) bytes.now }
 {
     match bytes {
-        [b, ..] => *b == mark,
+        [b, ..] => *b == delimiter,
         _ => false,
     }
 }
 
 // What follows the delimiter at the start, where it is there. The delimiter must be ASCII.
-pub(crate) fn past(s: &str, mark: u8) -> Option<&str>
-    requires { mark < 128 }
-    ensures { MatchOption result (begins (λ c. c == mark) s.now ≡ false) (λ r. s.now ≡ mark ∷ r.now) }
+pub(crate) fn past(s: &str, delimiter: u8) -> Option<&str>
+    requires { delimiter < 128 }
+    ensures { MatchOption result (begins (λ c. c == delimiter) s.now ≡ false) (λ r. s.now ≡ delimiter ∷ r.now) }
 {
-    if begins_with(s.as_bytes(), mark) {
+    if begins_with(s.as_bytes(), delimiter) {
         Some(&s[1..])
     } else {
         None

@@ -3,7 +3,7 @@ ghost use Rattle.std.specs.Prelude.{◌≡◌, ◌==◌, ◌∷◌, false, Match
 ghost use Rattle.iri_grammar.specs.Classes.{Tests};
 ghost use Rattle.iri_link.specs.Characters.{quotation_mark};
 ghost use Rattle.iri_link.specs.Fault.{fault_from};
-ghost use Rattle.iri_link.specs.Phases.{behind_equals};
+ghost use Rattle.iri_link.specs.Phases.{after_equals};
 ghost use Rattle.iri_link.specs.Token.{is_blank};
 ghost use Rattle.iri_link.specs.inside.Halts.{HaltsAt};
 ghost use Rattle.iri_link.specs.inside.ReadParams.{ReadsValue};
@@ -17,10 +17,10 @@ use std::alloc::Global;
 
 // A value that is a token.
 fn read_token<'a>(alloc: Global, s: &'a str) -> Result<(String, &'a str), Halt<'a>>
-    requires mark { begins (λ c. c == quotation_mark) s.now ≡ false }
+    requires delimiter { begins (λ c. c == quotation_mark) s.now ≡ false }
     requires blank { begins is_blank s.now ≡ false }
     ensures { MatchResult result (λ r. ReadsValue s.now r.1.now (string_bytes r.0))
-        (λ e. (t : Tests) → HaltsAt e (fault_from t behind_equals s.now)) }
+        (λ e. (t : Tests) → HaltsAt e (fault_from t after_equals s.now)) }
 {
     let (token, rest) = cut_run(Run::Token, s);
     if token.is_empty() {
@@ -36,7 +36,7 @@ fn read_token<'a>(alloc: Global, s: &'a str) -> Result<(String, &'a str), Halt<'
 fn read_quoted<'a>(alloc: Global, s: &'a str, inner: &'a str) -> Result<(String, &'a str), Halt<'a>>
     requires { s.now ≡ quotation_mark ∷ inner.now }
     ensures { MatchResult result (λ r. ReadsValue s.now r.1.now (string_bytes r.0))
-        (λ e. (t : Tests) → HaltsAt e (fault_from t behind_equals s.now)) }
+        (λ e. (t : Tests) → HaltsAt e (fault_from t after_equals s.now)) }
 {
     match cut_quoted(inner) {
         Some((raw, rest)) => match unquote(alloc, raw) {
@@ -51,7 +51,7 @@ fn read_quoted<'a>(alloc: Global, s: &'a str, inner: &'a str) -> Result<(String,
 pub(crate) fn read_value<'a>(alloc: Global, s: &'a str) -> Result<(String, &'a str), Halt<'a>>
     requires { begins is_blank s.now ≡ false }
     ensures { MatchResult result (λ r. ReadsValue s.now r.1.now (string_bytes r.0))
-        (λ e. (t : Tests) → HaltsAt e (fault_from t behind_equals s.now)) }
+        (λ e. (t : Tests) → HaltsAt e (fault_from t after_equals s.now)) }
 {
     match past(s, b'"') {
         Some(inner) => read_quoted(alloc, s, inner),

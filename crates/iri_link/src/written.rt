@@ -3,7 +3,7 @@ ghost use Rattle.std.specs.Prelude.{◌≡◌, ◌++◌, ◌∷◌, MatchOption}
 ghost use Rattle.iri_text.specs.Shown.{Shows};
 ghost use Rattle.iri_link.specs.Stored.{links_of};
 ghost use Rattle.iri_link.specs.Written.{escaped, written};
-ghost use Rattle.iri_link.specs.inside.CutMarks.{IsMarkAt, IsCutAtMark};
+ghost use Rattle.iri_link.specs.inside.CutDelimiters.{IsDelimiterAt, IsCutAtDelimiter};
 
 use crate::link::Link;
 use crate::param::Param;
@@ -11,17 +11,17 @@ use iri_text::{Show, Stop, TextSink, show_each, show_five, show_three, show_two}
 use memchr::memchr2;
 
 // Where the first `"` or `\` stands.
-fn find_mark(s: &str) -> Option<usize>
-    ensures { MatchOption result (escaped s.now ≡ s.now) (λ at. IsMarkAt s.now at) }
+fn find_delimiter(s: &str) -> Option<usize>
+    ensures { MatchOption result (escaped s.now ≡ s.now) (λ at. IsDelimiterAt s.now at) }
 {
     memchr2(b'"', b'\\', s.as_bytes())
 }
 
 // What comes before the first `"` or `\`, that byte, and what follows it.
-fn cut_mark(s: &str) -> Option<(&str, &str, &str)>
-    ensures { MatchOption result (escaped s.now ≡ s.now) (λ r. IsCutAtMark s.now r.0.now r.1.now r.2.now) }
+fn cut_delimiter(s: &str) -> Option<(&str, &str, &str)>
+    ensures { MatchOption result (escaped s.now ≡ s.now) (λ r. IsCutAtDelimiter s.now r.0.now r.1.now r.2.now) }
 {
-    match find_mark(s) {
+    match find_delimiter(s) {
         Some(at) => Some((&s[..at], &s[at..at + 1], &s[at + 1..])),
         None => None,
     }
@@ -32,11 +32,11 @@ fn show_escaped<W: TextSink>(sink: &mut W, value: &str) -> Result<(), Stop>
     ensures { Shows W.puts W.halts W.stops sink.old (escaped value.now) sink.new result }
 {
     let mut rest = value;
-    'marks: loop {
-        match cut_mark(rest) {
-            Some((front, mark, behind)) => {
-                show_three(sink, &front, &"\\", &mark)?;
-                rest = behind;
+    'delimiters: loop {
+        match cut_delimiter(rest) {
+            Some((prefix, delimiter, after)) => {
+                show_three(sink, &prefix, &"\\", &delimiter)?;
+                rest = after;
             }
             None => return sink.put(rest),
         }

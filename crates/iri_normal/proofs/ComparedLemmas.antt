@@ -15,8 +15,8 @@ stands t p r h e = sym (take-append-drop (length p) t) ∙ ap (λ z. z ++ drop (
 
 pub apart : (t p : List ℕ) → bytes_eq (take (length p) t) p ≡ false → IsApart t p
 apart t p h r e =
-    let front : take (length p) t ≡ p = ap (take (length p)) e ∙ take-append_seam p r in
-    let no : true ≡ false = sym ((bytes_eq-Decides (take (length p) t) p).1 front) ∙ h in
+    let prefix : take (length p) t ≡ p = ap (take (length p)) e ∙ take-append_seam p r in
+    let no : true ≡ false = sym ((bytes_eq-Decides (take (length p) t) p).1 prefix) ∙ h in
     cc
 
 -- what `strip_prefix` answers, said of the whole text

@@ -5,10 +5,10 @@ use Rattle.std.specs.Prelude.{◌==◌, slice_index}
 use Rattle.std.proofs.lemmas.Bool.{eqb-true}
 use Rattle.std.proofs.lemmas.List.{drop_at, take_at}
 use Rattle.memchr.specs.Find.{is_byte, IsLastByte}
-use Rattle.iri_grammar.specs.Cut.{before, behind, lacks, marked}
+use Rattle.iri_grammar.specs.Cut.{before, after, lacks, delimited}
 use Rattle.iri_grammar.proofs.CutLaws.{joined}
 use Rattle.iri_normal.specs.Target.{ends_at_slash, last_segment}
-use Rattle.iri_normal.proofs.SlashLemmas.{at_last_slash, behind_slash}
+use Rattle.iri_normal.proofs.SlashLemmas.{at_last_slash, after_slash}
 
 -- ---- where a text ends with a slash
 take-ends-suc : (t : List ℕ) (i : ℕ) → i < length t → slice_index t i ≡ 47 → ends_at_slash (take (suc i) t) ≡ true
@@ -46,25 +46,25 @@ slash-ends (x ∷ y ∷ ys) = slash-ends (y ∷ ys)
 
 -- such a text is what stands before its last slash, and the slash
 pub record EndSlash (t : List ℕ) : Type 0 where
-  pub front : List ℕ
-  pub whole : t ≡ front ++ 47 ∷ []
+  pub prefix : List ℕ
+  pub whole : t ≡ prefix ++ 47 ∷ []
 
 pub end_slash : (t : List ℕ) → ends_at_slash t ≡ true → 0 < length t → EndSlash t
 end_slash [] h l = absurd (omega arith)
-end_slash (x ∷ []) h l = record { front = []; whole = ap (λ c. c ∷ []) (eqb-true x 47 h) }
-end_slash (x ∷ y ∷ ys) h l = let r = end_slash (y ∷ ys) h (omega arith) in record { front = x ∷ r.front; whole = ap (λ l. x ∷ l) r.whole }
+end_slash (x ∷ []) h l = record { prefix = []; whole = ap (λ c. c ∷ []) (eqb-true x 47 h) }
+end_slash (x ∷ y ∷ ys) h l = let r = end_slash (y ∷ ys) h (omega arith) in record { prefix = x ∷ r.prefix; whole = ap (λ l. x ∷ l) r.whole }
 
 pub without_end : (t : List ℕ) → ends_at_slash t ≡ true → 0 < length t → t ≡ take (length t - 1) t ++ 47 ∷ []
 without_end t h l =
     let r = end_slash t h l in
-    let n : length r.front ≡ length t - 1 = omega (arith, ap length r.whole, length-append r.front (47 ∷ [])) in
-    let front : take (length t - 1) t ≡ r.front = ap (take (length t - 1)) r.whole ∙ take_at r.front (47 ∷ []) (length t - 1) n in
-    r.whole ∙ ap (λ f. f ++ 47 ∷ []) (sym front)
+    let n : length r.prefix ≡ length t - 1 = omega (arith, ap length r.whole, length-append r.prefix (47 ∷ [])) in
+    let prefix : take (length t - 1) t ≡ r.prefix = ap (take (length t - 1)) r.whole ∙ take_at r.prefix (47 ∷ []) (length t - 1) n in
+    r.whole ∙ ap (λ f. f ++ 47 ∷ []) (sym prefix)
 
 -- ---- the last slash
-pub behind_last : (t a b : List ℕ) (k : ℕ) → IsLastByte (is_byte 47) t (Some k) → t ≡ a ++ b → length a ≡ k + 1 → lacks 47 b ≡ true
-behind_last t a b k h e n =
-    let same : b ≡ last_segment t = sym (ap (drop (k + 1)) e ∙ drop_at a b (k + 1) n) ∙ behind_slash t k h in
+pub after_last : (t a b : List ℕ) (k : ℕ) → IsLastByte (is_byte 47) t (Some k) → t ≡ a ++ b → length a ≡ k + 1 → lacks 47 b ≡ true
+after_last t a b k h e n =
+    let same : b ≡ last_segment t = sym (ap (drop (k + 1)) e ∙ drop_at a b (k + 1) n) ∙ after_slash t k h in
     ap (lacks 47) same ∙ (at_last_slash t).1
 
 -- ---- segments without dots
@@ -75,5 +75,5 @@ neither false b h = (refl, h)
 -- ---- the first segment
 
 -- what stands before it, and what follows
-pub first_whole : (t r : List ℕ) → behind 47 t ≡ Some r → t ≡ (before 47 t ++ 47 ∷ []) ++ r
-first_whole t r e = sym (joined 47 t) ∙ (ap (λ o. before 47 t ++ marked 47 o) e ∙ sym (append_assoc (before 47 t) (47 ∷ []) r))
+pub first_whole : (t r : List ℕ) → after 47 t ≡ Some r → t ≡ (before 47 t ++ 47 ∷ []) ++ r
+first_whole t r e = sym (joined 47 t) ∙ (ap (λ o. before 47 t ++ delimited 47 o) e ∙ sym (append_assoc (before 47 t) (47 ∷ []) r))

@@ -9,7 +9,7 @@ use Rattle.std.proofs.lemmas.Bool.Decides.{nat_tests}
 use lib.Utf8.{scalar}
 use Rattle.iri_grammar.specs.Classes.{Tests, IsSpec, reg_name_char, is_ascii_reg_name, is_ascii_unreserved, is_sub_delim}
 use Rattle.iri_grammar.specs.Components.{is_scheme, is_scheme_char}
-use Rattle.iri_grammar.specs.Cut.{marked}
+use Rattle.iri_grammar.specs.Cut.{delimited}
 use Rattle.iri_grammar.proofs.CutLaws.{both}
 use Rattle.iri_grammar.specs.Host.{is_host}
 use Rattle.iri_grammar.specs.IpLiteral.{is_ip_literal}
@@ -91,17 +91,17 @@ pub authority-in : (n : Bool) (f : List ℕ → List ℕ) (o : Option (Bor (List
 authority-in true f o a e = ap (λ (p : Option (Bor (List ℕ))). authority_text (where_there f (now_of p))) (sym e)
 authority-in false f o a e = ap (λ (p : Option (Bor (List ℕ))). authority_text (now_of p)) (sym e)
 
-pub marked-in : (s : Tests) (n : Bool) (m : List ℕ) (c : ℕ) (o : Option (Bor (List ℕ))) (a : Bor (List ℕ)) → m ≡ c ∷ [] → o ≡ Some a
-    → m ++ in_form s n a.now ≡ marked c (part_in n (pct s) (now_of o))
-marked-in s true m c o a h e = ap (λ l. l ++ pct s a.now) h
-    ∙ ap (λ (p : Option (Bor (List ℕ))). marked c (where_there (pct s) (now_of p))) (sym e)
-marked-in s false m c o a h e = ap (λ l. l ++ a.now) h ∙ ap (λ (p : Option (Bor (List ℕ))). marked c (now_of p)) (sym e)
+pub delimited-in : (s : Tests) (n : Bool) (m : List ℕ) (c : ℕ) (o : Option (Bor (List ℕ))) (a : Bor (List ℕ)) → m ≡ c ∷ [] → o ≡ Some a
+    → m ++ in_form s n a.now ≡ delimited c (part_in n (pct s) (now_of o))
+delimited-in s true m c o a h e = ap (λ l. l ++ pct s a.now) h
+    ∙ ap (λ (p : Option (Bor (List ℕ))). delimited c (where_there (pct s) (now_of p))) (sym e)
+delimited-in s false m c o a h e = ap (λ l. l ++ a.now) h ∙ ap (λ (p : Option (Bor (List ℕ))). delimited c (now_of p)) (sym e)
 
 -- ---- an empty path beside an authority
 empty-append : (a b : List ℕ) → is_empty (a ++ b) ≡ (is_empty a && is_empty b)
 empty-append [] b = refl
 empty-append (x ∷ a) b = refl
 
-pub slash-told : (d o : Option (List ℕ)) (front path port authority : List ℕ) → d ≡ Some port → o ≡ Some authority
-    → becomes_slash d o (front ++ path) ≡ (is_empty front && is_empty path)
-slash-told d o front path port authority e h = rw (e, h) (empty-append front path)
+pub slash-told : (d o : Option (List ℕ)) (prefix path port authority : List ℕ) → d ≡ Some port → o ≡ Some authority
+    → becomes_slash d o (prefix ++ path) ≡ (is_empty prefix && is_empty path)
+slash-told d o prefix path port authority e h = rw (e, h) (empty-append prefix path)

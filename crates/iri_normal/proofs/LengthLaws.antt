@@ -5,7 +5,7 @@ use Rattle.std.specs.Prelude.{is_some}
 use Rattle.std.specs.Char.{to_ascii_uppercase, to_ascii_lowercase, encode_utf8}
 use Rattle.iri_grammar.specs.Classes.{Tests, IsSpec, unreserved, path_char}
 use Rattle.iri_grammar.specs.Components.{if_there, is_userinfo, is_path, is_query, is_fragment}
-use Rattle.iri_grammar.specs.Cut.{lacks, marked}
+use Rattle.iri_grammar.specs.Cut.{lacks, delimited}
 use Rattle.iri_grammar.specs.Authority.{AuthorityParts, FitsAuthority, recompose_authority, userinfo_text, authority_parts, is_authority}
 use Rattle.iri_grammar.proofs.AuthorityLaws.{authority_recomposed}
 use Rattle.iri_grammar.specs.Parts.{Parts, Fits, IsReference, IsAbsolute, recompose, scheme_text, authority_text, is_empty}
@@ -29,7 +29,7 @@ use Rattle.iri_normal.specs.Target.{target, target_under, target_path, target_qu
 use Rattle.iri_normal.specs.NormalForm.{becomes_slash, canonical_in, canonical_parts_in, normal_parts, normal_path, slash_or}
 use Rattle.iri_normal.proofs.CanonLaws.{canonical_in-text}
 use Rattle.iri_normal.proofs.SchemeForm.{normal-is}
-use Rattle.iri_normal.proofs.OutputLaws.{closed_text, text_behind, text_from, dots-text}
+use Rattle.iri_normal.proofs.OutputLaws.{closed_text, text_after, text_from, dots-text}
 use Rattle.iri_normal.proofs.StableLaws.{slashed, unsplit, unsplit-pieces}
 use Rattle.iri_normal.proofs.TargetLaws.{target-fits, slash_in_path}
 use Rattle.iri_percent.proofs.WholeLaws.{userinfo-whole, host-whole, path-whole, query-whole, fragment-whole}
@@ -72,11 +72,11 @@ length-userinfo s None k h = omega arith
 length-userinfo s (Some u) k h =
     let l = length-pct s u (userinfo-whole s u k h) in omega (arith, length-append (pct s u) (64 ∷ []), length-append u (64 ∷ []))
 
-length-port : (d o : Option (List ℕ)) → length (marked 58 (normal_port_in d o)) ≤ length (marked 58 o)
+length-port : (d o : Option (List ℕ)) → length (delimited 58 (normal_port_in d o)) ≤ length (delimited 58 o)
 length-port d None = omega arith
 length-port d (Some []) = omega arith
-length-port d (Some (x ∷ xs)) = elim (is_dropped d (x ∷ xs)) as (λ b. length (marked 58 (cond b None (Some (x ∷ xs))))
-    ≤ length (marked 58 (Some (x ∷ xs)))) [ true ↦ omega arith | false ↦ omega arith ]
+length-port d (Some (x ∷ xs)) = elim (is_dropped d (x ∷ xs)) as (λ b. length (delimited 58 (cond b None (Some (x ∷ xs))))
+    ≤ length (delimited 58 (Some (x ∷ xs)))) [ true ↦ omega arith | false ↦ omega arith ]
 
 length-authority_parts : (s : Tests) (d : Option (List ℕ)) (a : AuthorityParts) → IsSpec s → FitsAuthority s a
     → length (recompose_authority (normal_authority_parts_in s d a)) ≤ length (recompose_authority a)
@@ -85,8 +85,8 @@ length-authority_parts s d a k f =
     let u = length-userinfo s a.userinfo k f.userinfo in
     let h = length-host s a.host (host-whole s a.host k f.host) in
     let p = length-port d a.port in
-    let left = sum (userinfo_text (normal_userinfo s a.userinfo)) (normal_host s a.host) (marked 58 (normal_port_in d a.port)) in
-    let right = sum (userinfo_text a.userinfo) a.host (marked 58 a.port) in
+    let left = sum (userinfo_text (normal_userinfo s a.userinfo)) (normal_host s a.host) (delimited 58 (normal_port_in d a.port)) in
+    let right = sum (userinfo_text a.userinfo) a.host (delimited 58 a.port) in
     omega arith
   where
     sum : (xs ys zs : List ℕ) → length (xs ++ (ys ++ zs)) ≡ length xs + (length ys + length zs)
@@ -112,16 +112,16 @@ length-closed : (ss : List (List ℕ)) (o : List ℕ) → length (closed_text ss
 length-closed [] o = omega (arith, length-append o (47 ∷ []))
 length-closed (s ∷ ss) o = omega arith
 
-length-behind : (o : List ℕ) (ss : List (List ℕ)) → length (text_behind o ss) ≤ length o + length (slashed ss)
-length-behind o [] = omega arith
-length-behind o (s ∷ ss) =
+length-after : (o : List ℕ) (ss : List (List ℕ)) → length (text_after o ss) ≤ length o + length (slashed ss)
+length-after o [] = omega arith
+length-after o (s ∷ ss) =
     let left = length-left (is_two_dots s) o in
     let shut = length-closed ss (cond (is_two_dots s) (without_last o) o) in
-    let one = length-behind (closed_text ss (cond (is_two_dots s) (without_last o) o)) ss in
-    let two = length-behind (o ++ 47 ∷ s) ss in
+    let one = length-after (closed_text ss (cond (is_two_dots s) (without_last o) o)) ss in
+    let two = length-after (o ++ 47 ∷ s) ss in
     let all = length-append s (slashed ss) in
-    elim (is_dot_segment s) as (λ b. length (cond b (text_behind (closed_text ss (cond (is_two_dots s) (without_last o) o)) ss)
-    (text_behind (o ++ 47 ∷ s) ss)) ≤ length o + length (slashed (s ∷ ss))) [
+    elim (is_dot_segment s) as (λ b. length (cond b (text_after (closed_text ss (cond (is_two_dots s) (without_last o) o)) ss)
+    (text_after (o ++ 47 ∷ s) ss)) ≤ length o + length (slashed (s ∷ ss))) [
       | true ↦ omega arith
       | false ↦ omega (arith, length-append o (47 ∷ s))
     ]
@@ -135,9 +135,9 @@ length-from o [] = omega arith
 length-from o (s ∷ ss) =
     let one = length-from o ss in
     let less = length-unsplit ss in
-    let two = length-behind (o ++ s) ss in
+    let two = length-after (o ++ s) ss in
     let all = length-append s (slashed ss) in
-    elim (is_dot_segment s) as (λ b. length (cond b (text_from o ss) (text_behind (o ++ s) ss))
+    elim (is_dot_segment s) as (λ b. length (cond b (text_from o ss) (text_after (o ++ s) ss))
     ≤ length o + length (unsplit (s ∷ ss))) [ true ↦ omega arith | false ↦ omega (arith, length-append o s) ]
 
 pub length-dots : (p : List ℕ) → length (dots p) ≤ length p
@@ -156,16 +156,16 @@ length-path s a p k h =
 
 -- ---- the parts
 pub length-parts : (p : Parts) → length (recompose p) ≡ length (scheme_text p.scheme)
-    + (length (authority_text p.authority) + (length p.path + (length (marked 63 p.query) + length (marked 35 p.fragment))))
+    + (length (authority_text p.authority) + (length p.path + (length (delimited 63 p.query) + length (delimited 35 p.fragment))))
 unfolding recompose
 length-parts p =
-    let q = marked 63 p.query ++ marked 35 p.fragment in
+    let q = delimited 63 p.query ++ delimited 35 p.fragment in
     omega (
       arith,
       length-append (scheme_text p.scheme) (authority_text p.authority ++ (p.path ++ q)),
       length-append (authority_text p.authority) (p.path ++ q),
       length-append p.path q,
-      length-append (marked 63 p.query) (marked 35 p.fragment),
+      length-append (delimited 63 p.query) (delimited 35 p.fragment),
     )
 
 pub length-scheme : (o : Option (List ℕ)) → length (scheme_text (where_there lowered o)) ≤ length (scheme_text o)
@@ -182,12 +182,12 @@ pub length-authorities : (s : Tests) (o : Option (List ℕ)) → IsSpec s → if
 length-authorities s o k h = length-authorities_in s None o k h
 
 length-query : (s : Tests) (o : Option (List ℕ)) → IsSpec s → if_there (is_query s) o ≡ true
-    → length (marked 63 (where_there (pct s) o)) ≤ length (marked 63 o)
+    → length (delimited 63 (where_there (pct s) o)) ≤ length (delimited 63 o)
 length-query s None k h = omega arith
 length-query s (Some x) k h = let l = length-pct s x (query-whole s x k h) in omega arith
 
 length-fragment : (s : Tests) (o : Option (List ℕ)) → IsSpec s → if_there (is_fragment s) o ≡ true
-    → length (marked 35 (where_there (pct s) o)) ≤ length (marked 35 o)
+    → length (delimited 35 (where_there (pct s) o)) ≤ length (delimited 35 o)
 length-fragment s None k h = omega arith
 length-fragment s (Some x) k h = let l = length-pct s x (fragment-whole s x k h) in omega arith
 
@@ -215,15 +215,15 @@ length-to_last_slash (x ∷ xs) =
     let l = length-to_last_slash xs in elim (lacks 47 (x ∷ xs)) as (λ b. length (cond b [] (x ∷ to_last_slash xs))
     ≤ length (x ∷ xs)) [ true ↦ omega arith | false ↦ omega arith ]
 
-length-front : (base : Parts) → length (merge_prefix base) ≤ length base.path + 1
-length-front base =
+length-prefix : (base : Parts) → length (merge_prefix base) ≤ length base.path + 1
+length-prefix base =
     let l = length-to_last_slash base.path in
     elim (is_some base.authority && is_empty base.path) as (λ b. length (cond b (47 ∷ []) (to_last_slash base.path))
     ≤ length base.path + 1) [ true ↦ omega arith | false ↦ omega arith ]
 
 length-merged : (base : Parts) (path : List ℕ) → length (merged base path) ≤ length base.path + length path + 1
 length-merged base path =
-    let l = length-front base in
+    let l = length-prefix base in
     elim (starts_with_slash path) as (λ b. length (cond b path (merge_prefix base ++ path))
     ≤ length base.path + length path + 1) [ true ↦ omega arith | false ↦ omega (arith, length-append (merge_prefix base) path) ]
 
@@ -231,11 +231,11 @@ length-target_path : (base : Parts) (path : List ℕ) → length (target_path ba
 length-target_path base [] = omega arith
 length-target_path base (x ∷ xs) = length-merged base (x ∷ xs)
 
-length-target_query : (base r : Parts) → length (marked 63 (target_query base r))
-    ≤ length (marked 63 base.query) + length (marked 63 r.query)
+length-target_query : (base r : Parts) → length (delimited 63 (target_query base r))
+    ≤ length (delimited 63 base.query) + length (delimited 63 r.query)
 length-target_query base r = at (is_empty r.path) r.query base.query
   where
-    at : (e : Bool) (q o : Option (List ℕ)) → length (marked 63 (cond e (or_base q o) q)) ≤ length (marked 63 o) + length (marked 63 q)
+    at : (e : Bool) (q o : Option (List ℕ)) → length (delimited 63 (cond e (or_base q o) q)) ≤ length (delimited 63 o) + length (delimited 63 q)
     at true None o = omega arith
     at true (Some x) o = omega arith
     at false q o = omega arith

@@ -7,11 +7,11 @@ use Rattle.std.specs.Int.{is_in_range}
 use Rattle.std.specs.List.{list_all}
 use Rattle.std.proofs.lemmas.Bool.Decides.{nat_tests}
 use Rattle.iri_grammar.specs.Classes.{is_ascii_userinfo, is_ascii_reg_name, is_ascii_unreserved, is_sub_delim}
-use Rattle.iri_grammar.specs.Cut.{before, behind, tail}
+use Rattle.iri_grammar.specs.Cut.{before, after, tail}
 use Rattle.iri_grammar.specs.Pieces.{pieces, onto}
 use Rattle.iri_grammar.specs.Ipv4.{is_ipv4, is_dec_octet, is_hundreds, are_four_octets}
 use Rattle.iri_grammar.specs.Ipv6.{is_group, are_groups, are_groups_or_ipv4, group_count}
-use Rattle.iri_grammar.specs.Ipv6Test.{begins, before_double, behind_double, group_texts, is_ipv6_around, is_ipv6}
+use Rattle.iri_grammar.specs.Ipv6Test.{begins, before_double, after_double, group_texts, is_ipv6_around, is_ipv6}
 use Rattle.iri_grammar.specs.IpLiteral.{some_of, is_future_address, is_ipvfuture, is_end, is_ip_literal}
 use Rattle.iri_normal.specs.LowerCase.{lowered, where_there}
 
@@ -74,11 +74,11 @@ before-lower m (x ∷ xs) h =
     rw (h x, before-lower m xs h) (elim (x == m) as (λ b. cond b [] (to_ascii_lowercase x ∷ lowered (before m xs))
     ≡ lowered (cond b [] (x ∷ before m xs))) [ true ↦ refl | false ↦ refl ])
 
-behind-lower : (m : ℕ) (xs : List ℕ) → Stays m → behind m (lowered xs) ≡ where_there lowered (behind m xs)
-behind-lower m [] h = refl
-behind-lower m (x ∷ xs) h =
-    rw (h x, behind-lower m xs h) (elim (x == m) as (λ b. cond b (Some (lowered xs)) (where_there lowered (behind m xs))
-    ≡ where_there lowered (cond b (Some xs) (behind m xs))) [ true ↦ refl | false ↦ refl ])
+after-lower : (m : ℕ) (xs : List ℕ) → Stays m → after m (lowered xs) ≡ where_there lowered (after m xs)
+after-lower m [] h = refl
+after-lower m (x ∷ xs) h =
+    rw (h x, after-lower m xs h) (elim (x == m) as (λ b. cond b (Some (lowered xs)) (where_there lowered (after m xs))
+    ≡ where_there lowered (cond b (Some xs) (after m xs))) [ true ↦ refl | false ↦ refl ])
 
 -- ---- IPv4
 hundreds-lower : (a b c : ℕ) → is_hundreds (to_ascii_lowercase a) (to_ascii_lowercase b) (to_ascii_lowercase c) ≡ is_hundreds a b c
@@ -151,32 +151,32 @@ before_double-lower (x ∷ xs) =
     (elim (x == 58 && begins 58 xs) as (λ b. cond b [] (to_ascii_lowercase x ∷ lowered (before_double xs))
     ≡ lowered (cond b [] (x ∷ before_double xs))) [ true ↦ refl | false ↦ refl ])
 
-behind_double-lower : (xs : List ℕ) → behind_double (lowered xs) ≡ where_there lowered (behind_double xs)
-behind_double-lower [] = refl
-behind_double-lower (x ∷ xs) =
-    rw (colon_stays x, begins-lower 58 xs colon_stays, behind_double-lower xs, tail-lower xs)
-    (elim (x == 58 && begins 58 xs) as (λ b. cond b (Some (lowered (tail xs))) (where_there lowered (behind_double xs))
-    ≡ where_there lowered (cond b (Some (tail xs)) (behind_double xs))) [ true ↦ refl | false ↦ refl ])
+after_double-lower : (xs : List ℕ) → after_double (lowered xs) ≡ where_there lowered (after_double xs)
+after_double-lower [] = refl
+after_double-lower (x ∷ xs) =
+    rw (colon_stays x, begins-lower 58 xs colon_stays, after_double-lower xs, tail-lower xs)
+    (elim (x == 58 && begins 58 xs) as (λ b. cond b (Some (lowered (tail xs))) (where_there lowered (after_double xs))
+    ≡ where_there lowered (cond b (Some (tail xs)) (after_double xs))) [ true ↦ refl | false ↦ refl ])
 
 parts-lower : (xs : List ℕ) → group_texts (lowered xs) ≡ map lowered (group_texts xs)
 parts-lower [] = refl
 parts-lower (x ∷ xs) = pieces-lower 58 (x ∷ xs) colon_stays
 
-around-lower : (front : List ℕ) (back : Option (List ℕ))
-    → is_ipv6_around (lowered front) (where_there lowered back) ≡ is_ipv6_around front back
-around-lower front None = rw (parts-lower front, mixed-lower (group_texts front), units-lower (group_texts front)) refl
-around-lower front (Some back) =
+around-lower : (prefix : List ℕ) (back : Option (List ℕ))
+    → is_ipv6_around (lowered prefix) (where_there lowered back) ≡ is_ipv6_around prefix back
+around-lower prefix None = rw (parts-lower prefix, mixed-lower (group_texts prefix), units-lower (group_texts prefix)) refl
+around-lower prefix (Some back) =
     rw (
-      parts-lower front,
+      parts-lower prefix,
       parts-lower back,
-      groups-lower (group_texts front),
+      groups-lower (group_texts prefix),
       mixed-lower (group_texts back),
-      units-lower (group_texts front),
+      units-lower (group_texts prefix),
       units-lower (group_texts back),
     ) refl
 
 ipv6-lower : (xs : List ℕ) → is_ipv6 (lowered xs) ≡ is_ipv6 xs
-ipv6-lower xs = rw (before_double-lower xs, behind_double-lower xs) (around-lower (before_double xs) (behind_double xs))
+ipv6-lower xs = rw (before_double-lower xs, after_double-lower xs) (around-lower (before_double xs) (after_double xs))
 
 -- ---- IPvFuture and the whole
 version-lower : (v : ℕ) → (to_ascii_lowercase v == 118 || to_ascii_lowercase v == 86) ≡ (v == 118 || v == 86)
@@ -192,9 +192,9 @@ future-lower (v ∷ t) =
     rw (
       version-lower v,
       before-lower 46 t dot_stays,
-      behind-lower 46 t dot_stays,
+      after-lower 46 t dot_stays,
       some-lower is_ascii_hexdigit (before 46 t) hex-lower,
-      address-lower (behind 46 t),
+      address-lower (after 46 t),
     ) refl
 
 end-lower : (o : Option (List ℕ)) → is_end (where_there lowered o) ≡ is_end o
@@ -208,8 +208,8 @@ literal-lower (b ∷ t) =
     rw (
       open_stays b,
       before-lower 93 t close_stays,
-      behind-lower 93 t close_stays,
-      end-lower (behind 93 t),
+      after-lower 93 t close_stays,
+      end-lower (after 93 t),
       ipv6-lower (before 93 t),
       future-lower (before 93 t),
     ) refl

@@ -9,7 +9,7 @@ use Rattle.std.specs.Str.{IsUtf8}
 use Rattle.memchr.specs.Find.{IsFirstByte, is_byte}
 use Rattle.iri_grammar.specs.Classes.{Tests, path_char}
 use Rattle.iri_grammar.specs.Components.{is_path}
-use Rattle.iri_grammar.specs.Cut.{before, behind, lacks, marked}
+use Rattle.iri_grammar.specs.Cut.{before, after, lacks, delimited}
 use Rattle.iri_grammar.proofs.CutLaws.{both, joined}
 use Rattle.iri_grammar.proofs.CutLemmas.{found}
 use Rattle.std.proofs.lemmas.Bool.{eqb-true}
@@ -21,7 +21,7 @@ use Rattle.iri_grammar.proofs.AuthorityTexts.{text_over-utf8}
 use Rattle.iri_grammar.proofs.PiecesLaws.{pieces_cut}
 use Rattle.iri_grammar.proofs.UnitRuns.{text_over-append}
 use Rattle.iri_percent.specs.Triplets.{pct}
-use Rattle.iri_percent.proofs.MarkLaws.{pct_mark, slash}
+use Rattle.iri_percent.proofs.DelimiterLaws.{pct_delimiter, slash}
 use Rattle.iri_normal.specs.DotRemoval.{dots, is_two_dots}
 use Rattle.iri_normal.specs.Dots.{is_dot_segment, any_dot_segment, has_dot_segment}
 use Rattle.iri_normal.specs.Kept.{kept, taken}
@@ -46,11 +46,11 @@ path-two s [] b h w = (nothing_over (path_char s), w)
 path-two s (x ∷ xs) b h w =
     let p = path_char s in
     let e = end_slash (x ∷ xs) h (omega arith) in
-    let sides = text_over-cut p e.front b (subst (λ l. text_over p l ≡ true)
-    (ap (λ l. l ++ b) e.whole ∙ append_assoc e.front (47 ∷ []) b) w) in
-    (subst (λ l. text_over p l ≡ true) (sym e.whole) (text_over-append p e.front (47 ∷ []) sides.left (slash_over p (slash_in_path s))), sides.right)
+    let sides = text_over-cut p e.prefix b (subst (λ l. text_over p l ≡ true)
+    (ap (λ l. l ++ b) e.whole ∙ append_assoc e.prefix (47 ∷ []) b) w) in
+    (subst (λ l. text_over p l ≡ true) (sym e.whole) (text_over-append p e.prefix (47 ∷ []) sides.left (slash_over p (slash_in_path s))), sides.right)
 
-pub first-path : (s : Tests) (t r : List ℕ) → behind 47 t ≡ Some r → is_path s t ≡ true → (is_path s (before 47 t) ≡ true) × (is_path s r ≡ true)
+pub first-path : (s : Tests) (t r : List ℕ) → after 47 t ≡ Some r → is_path s t ≡ true → (is_path s (before 47 t) ≡ true) × (is_path s r ≡ true)
 first-path s t r e w =
     let sides = text_over-cut (path_char s) (before 47 t) r (subst (λ l. is_path s l ≡ true)
     (first_whole t r e ∙ append_assoc (before 47 t) (47 ∷ []) r) w) in
@@ -62,7 +62,7 @@ path-parts s a [] c w = (ap (is_path s) (sym (append-nil a)) ∙ w, nothing_over
 path-parts s a (x ∷ xs) c w = path-two s a (x ∷ xs) c w
 
 pub before-lacks : (t : List ℕ) → lacks 47 (before 47 t) ≡ true
-before-lacks t = (both (lacks 47 (before 47 t)) (all_lack (more_pieces 47 (behind 47 t))) (ap all_lack (sym (pieces_cut 47 t)) ∙ pieces-lack t)).0
+before-lacks t = (both (lacks 47 (before 47 t)) (all_lack (more_pieces 47 (after 47 t))) (ap all_lack (sym (pieces_cut 47 t)) ∙ pieces-lack t)).0
 
 pub path-utf8 : (s : Tests) (t : List ℕ) → is_path s t ≡ true → IsUtf8 t
 path-utf8 s t w = text_over-utf8 (path_char s) t w
@@ -96,7 +96,7 @@ all-taken t n h =
     let size : length ps.rest ≡ slashes t = omega (arith, ap length ps.whole, pieces-count t) in
     ap (λ qs. taken qs n) ps.whole ∙ (r ∙ ap (λ k. n - k) (size ∙ is_count_by slashes (is_byte 47) refl (λ x xs. refl) t))
 
-taken-dot : (m : List ℕ) (n : ℕ) (o : Option (List ℕ)) → behind 47 m ≡ o → is_dot_segment (before 47 m) ≡ true
+taken-dot : (m : List ℕ) (n : ℕ) (o : Option (List ℕ)) → after 47 m ≡ o → is_dot_segment (before 47 m) ≡ true
     → taken (pieces 47 m) n ≡ cond (is_two_dots (before 47 m)) (taken (pieces 47 (or_nothing o)) n + 1) (taken (pieces 47 (or_nothing o)) n)
 taken-dot m n None e h =
     ap (λ ps. taken ps n) (pieces_cut 47 m ∙ ap (λ o. before 47 m ∷ more_pieces 47 o) e) ∙ rw (h, nothing-is_no_dot) refl
@@ -112,9 +112,9 @@ taken-next t a two r n h =
     ap (λ l. taken (pieces 47 l) n) h.whole
     ∙ (taken-two a m n h.ends
     ∙ (all-taken a (taken (pieces 47 m) n) h.plain
-    ∙ ap (λ k. k - count_by (is_byte 47) a) (taken-dot m n (behind 47 m) refl h.front.dots
-    ∙ (ap (λ v. cond v (taken (pieces 47 (or_nothing (behind 47 m))) n + 1) (taken (pieces 47 (or_nothing (behind 47 m))) n)) (sym h.front.kind)
-    ∙ ap (λ l. cond two (taken (pieces 47 l) n + 1) (taken (pieces 47 l) n)) (sym h.front.rest_is)))))
+    ∙ ap (λ k. k - count_by (is_byte 47) a) (taken-dot m n (after 47 m) refl h.prefix.dots
+    ∙ (ap (λ v. cond v (taken (pieces 47 (or_nothing (after 47 m))) n + 1) (taken (pieces 47 (or_nothing (after 47 m))) n)) (sym h.prefix.kind)
+    ∙ ap (λ l. cond two (taken (pieces 47 l) n + 1) (taken (pieces 47 l) n)) (sym h.prefix.rest_is)))))
 
 -- ---- where a text is cut
 pub slash-before-end : (t : List ℕ) (r : Option ℕ) → 1 ≤ length t → IsFirstByte (is_byte 47) (take (length t - 1) t) r
@@ -135,28 +135,28 @@ cut-there t i l e = record {
 }
 
 -- ---- what is shown
-gone-first : (t : List ℕ) (o : Option (List ℕ)) → behind 47 t ≡ o → is_dot_segment (before 47 t) ≡ true → written [] t ≡ written [] (or_nothing o)
+gone-first : (t : List ℕ) (o : Option (List ℕ)) → after 47 t ≡ o → is_dot_segment (before 47 t) ≡ true → written [] t ≡ written [] (or_nothing o)
 gone-first t o e h = written-dot [] t h
-    ∙ (ap (λ l. written l (or_nothing (behind 47 t))) (left-nothing (is_two_dots (before 47 t))) ∙ ap (λ o. written [] (or_nothing o)) e)
+    ∙ (ap (λ l. written l (or_nothing (after 47 t))) (left-nothing (is_two_dots (before 47 t))) ∙ ap (λ o. written [] (or_nothing o)) e)
 
-pub gone-dots : (t r : List ℕ) → behind 47 t ≡ Some r → is_dot_segment (before 47 t) ≡ true → written [] t ≡ written [] r
+pub gone-dots : (t r : List ℕ) → after 47 t ≡ Some r → is_dot_segment (before 47 t) ≡ true → written [] t ≡ written [] r
 gone-dots t r e h = gone-first t (Some r) e h
 
-pub gone-all : (t : List ℕ) → behind 47 t ≡ None → is_dot_segment (before 47 t) ≡ true → written [] t ≡ written [] []
+pub gone-all : (t : List ℕ) → after 47 t ≡ None → is_dot_segment (before 47 t) ≡ true → written [] t ≡ written [] []
 gone-all t e h = gone-first t None e h
 
 -- after a first segment that isn't a dot segment
-written-first : (t r : List ℕ) → behind 47 t ≡ Some r → is_dot_segment (before 47 t) ≡ false → written [] t ≡ written (before 47 t ++ 47 ∷ []) r
+written-first : (t r : List ℕ) → after 47 t ≡ Some r → is_dot_segment (before 47 t) ≡ false → written [] t ≡ written (before 47 t ++ 47 ∷ []) r
 written-first t r e h =
     let ps = pieces-some r in
     ap (written_segments []) (pieces_cut 47 t ∙ ap (λ o. before 47 t ∷ more_pieces 47 o) e)
     ∙ subst (λ qs. written_segments [] (before 47 t ∷ qs) ≡ written_segments (before 47 t ++ 47 ∷ []) qs) (sym ps.whole) (rw h refl)
 
-pub no-slash : (t : List ℕ) → behind 47 t ≡ None → (ends_at_slash t && not (is_empty t)) ≡ false
+pub no-slash : (t : List ℕ) → after 47 t ≡ None → (ends_at_slash t && not (is_empty t)) ≡ false
 no-slash [] e = refl
-no-slash (x ∷ []) e = elim (x == 47) as (λ b. cond b (Some []) (behind 47 []) ≡ None → (b && true) ≡ false) [ true ↦ λ k. cc | false ↦ λ _. refl ] e
+no-slash (x ∷ []) e = elim (x == 47) as (λ b. cond b (Some []) (after 47 []) ≡ None → (b && true) ≡ false) [ true ↦ λ k. cc | false ↦ λ _. refl ] e
 no-slash (x ∷ y ∷ ys) e =
-    elim (x == 47) as (λ b. cond b (Some (y ∷ ys)) (behind 47 (y ∷ ys)) ≡ None → (ends_at_slash (y ∷ ys) && true) ≡ false) [
+    elim (x == 47) as (λ b. cond b (Some (y ∷ ys)) (after 47 (y ∷ ys)) ≡ None → (ends_at_slash (y ∷ ys) && true) ≡ false) [
       | true ↦ λ k. cc
       | false ↦ λ k. no-slash (y ∷ ys) k
     ] e
@@ -169,11 +169,11 @@ empty-is : (t : List ℕ) → is_empty t ≡ true → t ≡ []
 empty-is [] h = refl
 empty-is (x ∷ xs) h = cc
 
-whole-before : (t : List ℕ) → behind 47 t ≡ None → before 47 t ≡ t
-whole-before t e = sym (ap (λ o. before 47 t ++ marked 47 o) e ∙ append-nil (before 47 t)) ∙ joined 47 t
+whole-before : (t : List ℕ) → after 47 t ≡ None → before 47 t ≡ t
+whole-before t e = sym (ap (λ o. before 47 t ++ delimited 47 o) e ∙ append-nil (before 47 t)) ∙ joined 47 t
 
 -- one segment, with nothing after it
-pub one-alone : (t m : List ℕ) → behind 47 t ≡ None → is_dot_segment (before 47 t) ≡ false
+pub one-alone : (t m : List ℕ) → after 47 t ≡ None → is_dot_segment (before 47 t) ≡ false
     → (is_empty m || (ends_at_slash t && not (is_empty t))) ≡ true → t ≡ written (written [] t) m
 one-alone t m e h c =
     let ps : pieces 47 t ≡ before 47 t ∷ [] = pieces_cut 47 t ∙ ap (λ o. before 47 t ∷ more_pieces 47 o) e in
@@ -181,7 +181,7 @@ one-alone t m e h c =
     let none : m ≡ [] = empty-is m (or_left (is_empty m) (ends_at_slash t && not (is_empty t)) (no-slash t e) c) in
     sym (ap (written (written [] t)) none ∙ (written-nothing (written [] t) ∙ (plain ∙ whole-before t e)))
 
-pub more-ends : (t m r : List ℕ) → behind 47 t ≡ Some r → (is_empty m || (ends_at_slash t && not (is_empty t))) ≡ true
+pub more-ends : (t m r : List ℕ) → after 47 t ≡ Some r → (is_empty m || (ends_at_slash t && not (is_empty t))) ≡ true
     → (is_empty m || ends_at_slash r) ≡ true
 more-ends t [] r e c = refl
 more-ends t (x ∷ xs) r e c =
@@ -213,7 +213,7 @@ times-ends zero b h = h
 times-ends (suc n) b h = times-ends n (popped b) (popped-ends b)
 
 -- the first segment, what stays of the others, and of what follows
-pub form-three : (s : Tests) (normal : Bool) (t r m : List ℕ) (i k : ℕ) → behind 47 t ≡ Some r → is_dot_segment (before 47 t) ≡ false
+pub form-three : (s : Tests) (normal : Bool) (t r m : List ℕ) (i k : ℕ) → after 47 t ≡ Some r → is_dot_segment (before 47 t) ≡ false
     → (is_empty m || (ends_at_slash t && not (is_empty t))) ≡ true → k ≡ taken (pieces 47 m) 0 → i ≡ taken (pieces 47 r) k
     → in_form s normal (popped_times i (before 47 t ++ 47 ∷ [])) ++ (in_form s normal (kept (pieces 47 r) k) ++ in_form s normal (kept (pieces 47 m) 0))
     ≡ in_form s normal (written (written [] t) m)
@@ -250,7 +250,7 @@ form-two s normal t a b n k h r =
 
 -- the slash of the first segment
 form-slash : (s : Tests) (normal : Bool) (a : List ℕ) → in_form s normal a ++ 47 ∷ [] ≡ in_form s normal (a ++ 47 ∷ [])
-form-slash s true a = sym (pct_mark s 47 a [] slash ∙ ap (λ l. pct s a ++ 47 ∷ l) (pct_nil s))
+form-slash s true a = sym (pct_delimiter s 47 a [] slash ∙ ap (λ l. pct s a ++ 47 ∷ l) (pct_nil s))
 form-slash s false a = refl
 
 pub form-gone : (s : Tests) (normal : Bool) (a : List ℕ) (n : ℕ) → lacks 47 a ≡ true → 0 < n

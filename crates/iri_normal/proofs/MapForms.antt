@@ -21,7 +21,7 @@ use Rattle.iri_grammar.proofs.SplitLaws.{scheme-chars}
 use Rattle.iri_grammar.proofs.SplitUnique.{split_is}
 use Rattle.iri_percent.proofs.ClassLaws.{IsText, ended, letter, escape, text-from_over}
 use Rattle.iri_percent.specs.Mapping.{mapped, mapped_parts}
-use Rattle.iri_percent.proofs.MapMarks.{mapped-empty, mapped-slash}
+use Rattle.iri_percent.proofs.MapDelimiters.{mapped-empty, mapped-slash}
 use Rattle.iri_percent.proofs.MapTexts.{mapped-low, mapped-append, mapped-triplet, mapped-spells, encode-high}
 use Rattle.iri_percent.proofs.MapKinds.{mapped_authority, mapped-recomposed_authority, mapped-recomposed, mapped-authority}
 use Rattle.iri_percent.proofs.MapKinds.{authority-reads, each-low, scheme_low, literal_low, mapped-scheme, mapped-port, mapped-split}
@@ -216,8 +216,8 @@ target_path-some : (base : Parts) (p : List ℕ) → is_empty p ≡ false → ta
 target_path-some base [] h = cc
 target_path-some base (x ∷ xs) h = refl
 
-mapped-front : (base : Parts) → merge_prefix (mapped_parts base) ≡ mapped (merge_prefix base)
-mapped-front base =
+mapped-prefix : (base : Parts) → merge_prefix (mapped_parts base) ≡ mapped (merge_prefix base)
+mapped-prefix base =
     rw (mapped-stands base.authority, mapped-empty base.path, mapped-last_slash base.path)
     (elim (is_some base.authority && is_empty base.path) as (λ b. cond b (47 ∷ []) (mapped (to_last_slash base.path))
     ≡ mapped (cond b (47 ∷ []) (to_last_slash base.path))) [ true ↦ refl | false ↦ refl ])
@@ -225,7 +225,7 @@ mapped-front base =
 mapped-merged : (base : Parts) (p : List ℕ) → merged (mapped_parts base) (mapped p) ≡ mapped (merged base p)
 mapped-merged base p =
     ap (λ b. cond b (mapped p) (merge_prefix (mapped_parts base) ++ mapped p)) (mapped-slash p)
-    ∙ ap (λ z. cond (starts_with_slash p) (mapped p) (z ++ mapped p)) (mapped-front base)
+    ∙ ap (λ z. cond (starts_with_slash p) (mapped p) (z ++ mapped p)) (mapped-prefix base)
     ∙ (elim (starts_with_slash p) as (λ b. cond b (mapped p) (mapped (merge_prefix base) ++ mapped p)
     ≡ mapped (cond b p (merge_prefix base ++ p))) [ true ↦ refl | false ↦ sym (mapped-append (merge_prefix base) p) ])
 

@@ -9,9 +9,9 @@ use Rattle.iri_grammar.specs.Parts.{starts_with_slashes}
 use Rattle.iri_grammar.specs.Pieces.{pieces, onto}
 use Rattle.iri_percent.specs.Mapping.{capital_hex, triplet, mapped}
 use Rattle.iri_percent.proofs.MapTexts.{mapped-low, mapped-high, mapped-append}
-use Rattle.iri_percent.proofs.MapMarks.{slash-apart, slash_hex, high_apart, mapped-lacks, mapped-slashes}
-use Rattle.iri_normal.specs.Dots.{behind_dot, is_dot_segment}
-use Rattle.iri_normal.specs.DotRemoval.{is_all, is_one_dot, is_one_dot_behind, is_two_dots, without_top, closed, remove_behind}
+use Rattle.iri_percent.proofs.MapDelimiters.{slash-apart, slash_hex, high_apart, mapped-lacks, mapped-slashes}
+use Rattle.iri_normal.specs.Dots.{after_dot, is_dot_segment}
+use Rattle.iri_normal.specs.DotRemoval.{is_all, is_one_dot, is_one_dot_after, is_two_dots, without_top, closed, remove_after}
 use Rattle.iri_normal.specs.DotRemoval.{remove_dots, path_text, dots}
 use Rattle.iri_normal.specs.Guard.{guard}
 use Rattle.iri_normal.specs.LowerCase.{where_there}
@@ -74,68 +74,68 @@ mapped-pieces (x ∷ xs) =
     ] refl
 
 -- ---- dots
-pub behind_dot-plain : (x : ℕ) (xs : List ℕ) → (x == 37) ≡ false → behind_dot (x ∷ xs) ≡ cond (x == 46) (Some xs) None
-behind_dot-plain x [] h = refl
-behind_dot-plain x (y ∷ []) h = refl
-behind_dot-plain x (y ∷ z ∷ xs) h = rw h refl
+pub after_dot-plain : (x : ℕ) (xs : List ℕ) → (x == 37) ≡ false → after_dot (x ∷ xs) ≡ cond (x == 46) (Some xs) None
+after_dot-plain x [] h = refl
+after_dot-plain x (y ∷ []) h = refl
+after_dot-plain x (y ∷ z ∷ xs) h = rw h refl
 
-behind_percent : (y z : ℕ) (xs : List ℕ) → (y == 50 && (z == 69 || z == 101)) ≡ false → behind_dot (37 ∷ y ∷ z ∷ xs) ≡ None
-behind_percent y z xs h = rw h refl
+no_dot_after_percent : (y z : ℕ) (xs : List ℕ) → (y == 50 && (z == 69 || z == 101)) ≡ false → after_dot (37 ∷ y ∷ z ∷ xs) ≡ None
+no_dot_after_percent y z xs h = rw h refl
 
 not_two : (x : ℕ) → nat_lt x 128 ≡ false → (capital_hex (x / 16) == 50) ≡ false
 not_two x h = grind (arith, nat_tests)
 
-no_dot-triplet : (x : ℕ) (ys : List ℕ) → nat_lt x 128 ≡ false → behind_dot (triplet x ++ ys) ≡ None
-no_dot-triplet x ys h = behind_percent (capital_hex (x / 16)) (capital_hex (x % 16)) ys (rw (not_two x h) refl)
+no_dot-triplet : (x : ℕ) (ys : List ℕ) → nat_lt x 128 ≡ false → after_dot (triplet x ++ ys) ≡ None
+no_dot-triplet x ys h = no_dot_after_percent (capital_hex (x / 16)) (capital_hex (x % 16)) ys (rw (not_two x h) refl)
 
-no_dot-high : (x : ℕ) (xs : List ℕ) → nat_lt x 128 ≡ false → behind_dot (x ∷ xs) ≡ None
-no_dot-high x xs h = behind_dot-plain x xs (high_apart x 37 h (omega arith)) ∙ rw (high_apart x 46 h (omega arith)) refl
+no_dot-high : (x : ℕ) (xs : List ℕ) → nat_lt x 128 ≡ false → after_dot (x ∷ xs) ≡ None
+no_dot-high x xs h = after_dot-plain x xs (high_apart x 37 h (omega arith)) ∙ rw (high_apart x 46 h (omega arith)) refl
 
--- behind a `%`
-after_percent : (xs : List ℕ) → behind_dot (37 ∷ mapped xs) ≡ where_there mapped (behind_dot (37 ∷ xs))
+-- after a `%`
+after_percent : (xs : List ℕ) → after_dot (37 ∷ mapped xs) ≡ where_there mapped (after_dot (37 ∷ xs))
 after_percent [] = refl
 after_percent (y ∷ []) =
-    elim (nat_lt y 128) as (λ b. behind_dot (37 ∷ (cond b (y ∷ []) (triplet y) ++ [])) ≡ None) [ true ↦ refl | false ↦ refl ]
+    elim (nat_lt y 128) as (λ b. after_dot (37 ∷ (cond b (y ∷ []) (triplet y) ++ [])) ≡ None) [ true ↦ refl | false ↦ refl ]
 after_percent (y ∷ z ∷ xs) =
-    elim (nat_lt y 128) as (λ b. nat_lt y 128 ≡ b → behind_dot (37 ∷ mapped (y ∷ z ∷ xs))
-    ≡ where_there mapped (behind_dot (37 ∷ y ∷ z ∷ xs))) [
-      | true ↦ λ e. ap (λ t. behind_dot (37 ∷ t)) (mapped-low y (z ∷ xs) e) ∙ second e
-      | false ↦ λ e. ap (λ t. behind_dot (37 ∷ t)) (mapped-high y (z ∷ xs) e)
-          ∙ sym (ap (where_there mapped) (behind_percent y z xs (rw (high_apart y 50 e (omega arith)) refl)))
+    elim (nat_lt y 128) as (λ b. nat_lt y 128 ≡ b → after_dot (37 ∷ mapped (y ∷ z ∷ xs))
+    ≡ where_there mapped (after_dot (37 ∷ y ∷ z ∷ xs))) [
+      | true ↦ λ e. ap (λ t. after_dot (37 ∷ t)) (mapped-low y (z ∷ xs) e) ∙ second e
+      | false ↦ λ e. ap (λ t. after_dot (37 ∷ t)) (mapped-high y (z ∷ xs) e)
+          ∙ sym (ap (where_there mapped) (no_dot_after_percent y z xs (rw (high_apart y 50 e (omega arith)) refl)))
     ] refl
   where
     and_false : (b : Bool) → (b && false) ≡ false
     and_false true = refl
     and_false false = refl
 
-    second : nat_lt y 128 ≡ true → behind_dot (37 ∷ y ∷ mapped (z ∷ xs)) ≡ where_there mapped (behind_dot (37 ∷ y ∷ z ∷ xs))
+    second : nat_lt y 128 ≡ true → after_dot (37 ∷ y ∷ mapped (z ∷ xs)) ≡ where_there mapped (after_dot (37 ∷ y ∷ z ∷ xs))
     second d =
         elim (nat_lt z 128) as (λ b. nat_lt z 128 ≡ b
-        → behind_dot (37 ∷ y ∷ mapped (z ∷ xs)) ≡ where_there mapped (behind_dot (37 ∷ y ∷ z ∷ xs))) [
-          | true ↦ λ e. ap (λ t. behind_dot (37 ∷ y ∷ t)) (mapped-low z xs e)
+        → after_dot (37 ∷ y ∷ mapped (z ∷ xs)) ≡ where_there mapped (after_dot (37 ∷ y ∷ z ∷ xs))) [
+          | true ↦ λ e. ap (λ t. after_dot (37 ∷ y ∷ t)) (mapped-low z xs e)
               ∙ (elim (y == 50 && (z == 69 || z == 101)) as (λ b. cond b (Some (mapped xs)) None
               ≡ where_there mapped (cond b (Some xs) None)) [ true ↦ refl | false ↦ refl ])
           | false ↦ λ e.
-              ap (λ t. behind_dot (37 ∷ y ∷ t)) (mapped-high z xs e)
-              ∙ behind_percent y 37 (capital_hex (z / 16) ∷ capital_hex (z % 16) ∷ mapped xs) (and_false (y == 50))
-              ∙ sym (ap (where_there mapped) (behind_percent y z xs
+              ap (λ t. after_dot (37 ∷ y ∷ t)) (mapped-high z xs e)
+              ∙ no_dot_after_percent y 37 (capital_hex (z / 16) ∷ capital_hex (z % 16) ∷ mapped xs) (and_false (y == 50))
+              ∙ sym (ap (where_there mapped) (no_dot_after_percent y z xs
               (rw (high_apart z 69 e (omega arith), high_apart z 101 e (omega arith)) (and_false (y == 50)))))
         ] refl
 
-mapped-dot : (xs : List ℕ) → behind_dot (mapped xs) ≡ where_there mapped (behind_dot xs)
+mapped-dot : (xs : List ℕ) → after_dot (mapped xs) ≡ where_there mapped (after_dot xs)
 mapped-dot [] = refl
 mapped-dot (x ∷ xs) =
-    elim (nat_lt x 128) as (λ b. nat_lt x 128 ≡ b → behind_dot (mapped (x ∷ xs)) ≡ where_there mapped (behind_dot (x ∷ xs))) [
-      | true ↦ λ e. ap behind_dot (mapped-low x xs e)
-          ∙ by_test x 37 (λ b. (x == 37) ≡ b → behind_dot (x ∷ mapped xs) ≡ where_there mapped (behind_dot (x ∷ xs)))
-          (λ same _. subst (λ y. behind_dot (y ∷ mapped xs) ≡ where_there mapped (behind_dot (y ∷ xs))) (sym same) (after_percent xs))
-          (λ _ n. behind_dot-plain x (mapped xs) n
+    elim (nat_lt x 128) as (λ b. nat_lt x 128 ≡ b → after_dot (mapped (x ∷ xs)) ≡ where_there mapped (after_dot (x ∷ xs))) [
+      | true ↦ λ e. ap after_dot (mapped-low x xs e)
+          ∙ by_test x 37 (λ b. (x == 37) ≡ b → after_dot (x ∷ mapped xs) ≡ where_there mapped (after_dot (x ∷ xs)))
+          (λ same _. subst (λ y. after_dot (y ∷ mapped xs) ≡ where_there mapped (after_dot (y ∷ xs))) (sym same) (after_percent xs))
+          (λ _ n. after_dot-plain x (mapped xs) n
           ∙ (elim (x == 46) as (λ b. cond b (Some (mapped xs)) None ≡ where_there mapped (cond b (Some xs) None)) [
             | true ↦ refl
             | false ↦ refl
-          ]) ∙ ap (where_there mapped) (sym (behind_dot-plain x xs n)))
+          ]) ∙ ap (where_there mapped) (sym (after_dot-plain x xs n)))
           refl
-      | false ↦ λ e. ap behind_dot (mapped-high x xs e) ∙ no_dot-triplet x (mapped xs) e
+      | false ↦ λ e. ap after_dot (mapped-high x xs e) ∙ no_dot-triplet x (mapped xs) e
           ∙ ap (where_there mapped) (sym (no_dot-high x xs e))
     ] refl
 
@@ -148,14 +148,14 @@ all-mapped (Some (x ∷ xs)) = elim (nat_lt x 128) as (λ b. is_all (Some (cond 
 ]
 
 mapped-one_dot : (t : List ℕ) → is_one_dot (mapped t) ≡ is_one_dot t
-mapped-one_dot t = ap is_all (mapped-dot t) ∙ all-mapped (behind_dot t)
+mapped-one_dot t = ap is_all (mapped-dot t) ∙ all-mapped (after_dot t)
 
-behind-mapped : (o : Option (List ℕ)) → is_one_dot_behind (where_there mapped o) ≡ is_one_dot_behind o
-behind-mapped None = refl
-behind-mapped (Some r) = mapped-one_dot r
+after-mapped : (o : Option (List ℕ)) → is_one_dot_after (where_there mapped o) ≡ is_one_dot_after o
+after-mapped None = refl
+after-mapped (Some r) = mapped-one_dot r
 
 mapped-two_dots : (t : List ℕ) → is_two_dots (mapped t) ≡ is_two_dots t
-mapped-two_dots t = ap is_one_dot_behind (mapped-dot t) ∙ behind-mapped (behind_dot t)
+mapped-two_dots t = ap is_one_dot_after (mapped-dot t) ∙ after-mapped (after_dot t)
 
 mapped-dot_segment : (t : List ℕ) → is_dot_segment (mapped t) ≡ is_dot_segment t
 mapped-dot_segment t = dot_kinds (mapped t) ∙ (rw (mapped-one_dot t, mapped-two_dots t) (sym (dot_kinds t)))
@@ -174,27 +174,27 @@ closed-map : (ss st : List (List ℕ)) → closed (map mapped ss) (map mapped st
 closed-map [] st = refl
 closed-map (t ∷ ts) st = refl
 
-behind-map : (st ss : List (List ℕ)) → remove_behind (map mapped st) (map mapped ss) ≡ map mapped (remove_behind st ss)
-behind-map st [] = refl
-behind-map st (t ∷ ts) =
+after-map : (st ss : List (List ℕ)) → remove_after (map mapped st) (map mapped ss) ≡ map mapped (remove_after st ss)
+after-map st [] = refl
+after-map st (t ∷ ts) =
     rw (mapped-dot_segment t, mapped-two_dots t)
-    (elim (is_dot_segment t) as (λ b. cond b (remove_behind (closed (map mapped ts) (left (is_two_dots t) (map mapped st))) (map mapped ts))
-    (remove_behind (map mapped (t ∷ st)) (map mapped ts))
-    ≡ map mapped (cond b (remove_behind (closed ts (left (is_two_dots t) st)) ts) (remove_behind (t ∷ st) ts))) [
-      | true ↦ ap (λ o. remove_behind (closed (map mapped ts) o) (map mapped ts)) (left-map (is_two_dots t) st)
-          ∙ (ap (λ o. remove_behind o (map mapped ts)) (closed-map ts (left (is_two_dots t) st))
-          ∙ behind-map (closed ts (left (is_two_dots t) st)) ts)
-      | false ↦ behind-map (t ∷ st) ts
+    (elim (is_dot_segment t) as (λ b. cond b (remove_after (closed (map mapped ts) (left (is_two_dots t) (map mapped st))) (map mapped ts))
+    (remove_after (map mapped (t ∷ st)) (map mapped ts))
+    ≡ map mapped (cond b (remove_after (closed ts (left (is_two_dots t) st)) ts) (remove_after (t ∷ st) ts))) [
+      | true ↦ ap (λ o. remove_after (closed (map mapped ts) o) (map mapped ts)) (left-map (is_two_dots t) st)
+          ∙ (ap (λ o. remove_after o (map mapped ts)) (closed-map ts (left (is_two_dots t) st))
+          ∙ after-map (closed ts (left (is_two_dots t) st)) ts)
+      | false ↦ after-map (t ∷ st) ts
     ])
 
 removed-map : (ss : List (List ℕ)) → remove_dots (map mapped ss) ≡ map mapped (remove_dots ss)
 removed-map [] = refl
 removed-map (t ∷ ts) =
     rw (mapped-dot_segment t)
-    (elim (is_dot_segment t) as (λ b. cond b (remove_dots (map mapped ts)) (remove_behind (map mapped (t ∷ [])) (map mapped ts))
-    ≡ map mapped (cond b (remove_dots ts) (remove_behind (t ∷ []) ts))) [
+    (elim (is_dot_segment t) as (λ b. cond b (remove_dots (map mapped ts)) (remove_after (map mapped (t ∷ [])) (map mapped ts))
+    ≡ map mapped (cond b (remove_dots ts) (remove_after (t ∷ []) ts))) [
       | true ↦ removed-map ts
-      | false ↦ behind-map (t ∷ []) ts
+      | false ↦ after-map (t ∷ []) ts
     ])
 
 text-map : (st : List (List ℕ)) → path_text (map mapped st) ≡ mapped (path_text st)

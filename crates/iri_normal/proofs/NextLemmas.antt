@@ -5,38 +5,38 @@ use Rattle.std.proofs.lemmas.Bool.{eqb-true}
 use Rattle.std.proofs.lemmas.Bool.Decides.{nat_tests}
 use Rattle.std.proofs.lemmas.List.{append-nil, length-take-le, take-append-drop}
 use Rattle.std.specs.Prelude.{◌==◌, slice_index}
-use Rattle.iri_grammar.specs.Cut.{before, behind}
+use Rattle.iri_grammar.specs.Cut.{before, after}
 use Rattle.iri_grammar.proofs.CutLaws.{both, by_test}
-use Rattle.iri_grammar.proofs.PiecesLaws.{behind_shorter, pieces_cut}
+use Rattle.iri_grammar.proofs.PiecesLaws.{after_shorter, pieces_cut}
 use Rattle.iri_grammar.specs.Parts.{is_empty}
-use Rattle.iri_normal.specs.DotRemoval.{is_all, is_one_dot_behind, is_two_dots}
-use Rattle.iri_normal.specs.Dots.{any_dot_segment, behind_dot, is_dot_segment, has_dot_segment}
+use Rattle.iri_normal.specs.DotRemoval.{is_all, is_one_dot_after, is_two_dots}
+use Rattle.iri_normal.specs.Dots.{any_dot_segment, after_dot, is_dot_segment, has_dot_segment}
 use Rattle.iri_normal.specs.Target.{ends_at_slash}
-use Rattle.iri_normal.specs.inside.DotSearch.{dots_in_front, slash_and_dots, dots_behind}
-use Rattle.iri_normal.proofs.DotLemmas.{cut_rest, dot_cut, empty_behind, first_or_behind, next_place, one_dot_first, plain_front, too_short, two_dots_first}
+use Rattle.iri_normal.specs.inside.DotSearch.{dots_before, slash_and_dots, dots_after}
+use Rattle.iri_normal.proofs.DotLemmas.{cut_rest, dot_cut, empty_after, first_or_after, next_place, one_dot_first, plain_prefix, too_short, two_dots_first}
 use Rattle.iri_normal.proofs.EndedLemmas.{both-end, take-ends}
 use Rattle.iri_normal.proofs.PieceLaws.{nothing-is_no_dot}
 use Rattle.iri_normal.proofs.SegmentLemmas.{dot_in_two, nothing-plain}
-use Rattle.iri_normal.specs.inside.NextDots.{IsInFront, IsNext}
+use Rattle.iri_normal.specs.inside.NextDots.{IsBefore, IsNext}
 use Rattle.iri_normal.specs.inside.Written.{left, or_nothing, written}
 use Rattle.iri_normal.proofs.WrittenLemmas.{left-ends, written-dot, written-run}
 
 -- ---- a dot segment at the start
 -- a dot has no slash in it
-pub behind-dot : (d r : List ℕ) → behind_dot d ≡ Some r → behind 47 d ≡ behind 47 r
-behind-dot [] r h = cc
-behind-dot (x ∷ []) r h =
-    by_test x 46 (λ b. cond b (Some []) None ≡ Some r → behind 47 (x ∷ []) ≡ behind 47 r) (λ e k. let n : [] ≡ r = cc in rw (e, ← n) refl)
+pub after-dot : (d r : List ℕ) → after_dot d ≡ Some r → after 47 d ≡ after 47 r
+after-dot [] r h = cc
+after-dot (x ∷ []) r h =
+    by_test x 46 (λ b. cond b (Some []) None ≡ Some r → after 47 (x ∷ []) ≡ after 47 r) (λ e k. let n : [] ≡ r = cc in rw (e, ← n) refl)
     (λ _ k. cc) h
-behind-dot (x ∷ y ∷ []) r h =
-    by_test x 46 (λ b. cond b (Some (y ∷ [])) None ≡ Some r → behind 47 (x ∷ y ∷ []) ≡ behind 47 r)
+after-dot (x ∷ y ∷ []) r h =
+    by_test x 46 (λ b. cond b (Some (y ∷ [])) None ≡ Some r → after 47 (x ∷ y ∷ []) ≡ after 47 r)
     (λ e k. let n : y ∷ [] ≡ r = cc in rw (e, ← n) refl) (λ _ k. cc) h
-behind-dot (x ∷ y ∷ z ∷ xs) r h =
+after-dot (x ∷ y ∷ z ∷ xs) r h =
     by_test x 46 (λ b. cond b (Some (y ∷ z ∷ xs)) (cond (x == 37 && y == 50 && (z == 69 || z == 101)) (Some xs) None) ≡ Some r
-    → behind 47 (x ∷ y ∷ z ∷ xs) ≡ behind 47 r)
+    → after 47 (x ∷ y ∷ z ∷ xs) ≡ after 47 r)
     (λ e k. let n : y ∷ z ∷ xs ≡ r = cc in rw (e, ← n) refl)
     (λ _ k. elim (x == 37 && y == 50 && (z == 69 || z == 101)) as (λ b. (x == 37 && y == 50 && (z == 69 || z == 101)) ≡ b
-    → cond b (Some xs) None ≡ Some r → behind 47 (x ∷ y ∷ z ∷ xs) ≡ behind 47 r) [
+    → cond b (Some xs) None ≡ Some r → after 47 (x ∷ y ∷ z ∷ xs) ≡ after 47 r) [
       | true ↦ λ t l. let n : xs ≡ r = cc in let m = slashless x y z t in rw (m.0, m.1, m.2, ← n) refl
       | false ↦ λ _ l. cc
     ] refl k)
@@ -46,39 +46,39 @@ behind-dot (x ∷ y ∷ z ∷ xs) r h =
         → ((x == 47) ≡ false) × ((y == 47) ≡ false) × ((z == 47) ≡ false)
     slashless x y z t = (grind (arith, nat_tests), grind (arith, nat_tests), grind (arith, nat_tests))
 
-two-kind : (t r : List ℕ) → Some r ≡ behind_dot t → is_two_dots (before 47 t) ≡ is_all (cut_rest (behind_dot r))
-two-kind t r h = ap is_one_dot_behind (dot_cut t ∙ ap cut_rest (sym h)) ∙ ap is_all (dot_cut r)
+two-kind : (t r : List ℕ) → Some r ≡ after_dot t → is_two_dots (before 47 t) ≡ is_all (cut_rest (after_dot r))
+two-kind t r h = ap is_one_dot_after (dot_cut t ∙ ap cut_rest (sym h)) ∙ ap is_all (dot_cut r)
 
 nothing-before : (xs : List ℕ) → is_empty xs ≡ true → [] ≡ xs
 nothing-before [] h = refl
 nothing-before (x ∷ xs) h = cc
 
-pub in_front-one : (t r q : List ℕ) → Some r ≡ behind_dot t → is_empty (before 47 r) ≡ true → q ≡ or_nothing (behind 47 r)
-    → IsInFront t false q
-in_front-one t r q h e w = record {
+pub before-one : (t r q : List ℕ) → Some r ≡ after_dot t → is_empty (before 47 r) ≡ true → q ≡ or_nothing (after 47 r)
+    → IsBefore t false q
+before-one t r q h e w = record {
   dots = one_dot_first t r h e;
-  kind = sym (ap is_one_dot_behind (dot_cut t ∙ ap cut_rest (sym h))
-      ∙ ap (λ l. is_all (behind_dot l)) (sym (nothing-before (before 47 r) e)));
-  rest_is = w ∙ ap or_nothing (sym (behind-dot t r (sym h)));
+  kind = sym (ap is_one_dot_after (dot_cut t ∙ ap cut_rest (sym h))
+      ∙ ap (λ l. is_all (after_dot l)) (sym (nothing-before (before 47 r) e)));
+  rest_is = w ∙ ap or_nothing (sym (after-dot t r (sym h)));
 }
 
-pub in_front-two : (t r s q : List ℕ) → Some r ≡ behind_dot t → is_empty (before 47 r) ≡ false → Some s ≡ behind_dot r
-    → is_empty (before 47 s) ≡ true → q ≡ or_nothing (behind 47 s) → IsInFront t true q
-in_front-two t r s q h e k f w =
+pub before-two : (t r s q : List ℕ) → Some r ≡ after_dot t → is_empty (before 47 r) ≡ false → Some s ≡ after_dot r
+    → is_empty (before 47 s) ≡ true → q ≡ or_nothing (after 47 s) → IsBefore t true q
+before-two t r s q h e k f w =
     let n = nothing-before (before 47 s) f in
     record {
-      dots = two_dots_first t r h e ∙ (ap (λ o. empty_behind (cut_rest o)) (sym k) ∙ f);
+      dots = two_dots_first t r h e ∙ (ap (λ o. empty_after (cut_rest o)) (sym k) ∙ f);
       kind = sym (two-kind t r h ∙ (ap (λ o. is_all (cut_rest o)) (sym k) ∙ ap (λ l. is_all (Some l)) (sym n)));
-      rest_is = w ∙ ap or_nothing (sym (behind-dot t r (sym h) ∙ behind-dot r s (sym k)));
+      rest_is = w ∙ ap or_nothing (sym (after-dot t r (sym h) ∙ after-dot r s (sym k)));
     }
 
-pub none-second : (t r : List ℕ) → Some r ≡ behind_dot t → is_empty (before 47 r) ≡ false → None ≡ behind_dot r
+pub none-second : (t r : List ℕ) → Some r ≡ after_dot t → is_empty (before 47 r) ≡ false → None ≡ after_dot r
     → is_dot_segment (before 47 t) ≡ false
-none-second t r h e k = two_dots_first t r h e ∙ ap (λ o. empty_behind (cut_rest o)) (sym k)
+none-second t r h e k = two_dots_first t r h e ∙ ap (λ o. empty_after (cut_rest o)) (sym k)
 
-pub none-end : (t r s : List ℕ) → Some r ≡ behind_dot t → is_empty (before 47 r) ≡ false → Some s ≡ behind_dot r
+pub none-end : (t r s : List ℕ) → Some r ≡ after_dot t → is_empty (before 47 r) ≡ false → Some s ≡ after_dot r
     → is_empty (before 47 s) ≡ false → is_dot_segment (before 47 t) ≡ false
-none-end t r s h e k f = two_dots_first t r h e ∙ (ap (λ o. empty_behind (cut_rest o)) (sym k) ∙ f)
+none-end t r s h e k f = two_dots_first t r h e ∙ (ap (λ o. empty_after (cut_rest o)) (sym k) ∙ f)
 
 -- ---- places without one
 or_right : (a : Bool) {b : Bool} → b ≡ true → (a || b) ≡ true
@@ -93,21 +93,21 @@ before-cut : (x : ℕ) (xs m : List ℕ) → (is_empty m || ends_at_slash (x ∷
 before-cut x xs [] h = ap (before 47) (append-nil (x ∷ xs))
 before-cut x xs (y ∷ ys) h = before-ended x xs (y ∷ ys) h
 
-pub none-behind : (a m : List ℕ) → (is_empty m || ends_at_slash a) ≡ true
-    → ((k : ℕ) → k + 1 < length a → slash_and_dots (drop k (a ++ m)) ≡ false) → dots_behind a ≡ false
-none-behind [] m h n = refl
-none-behind (x ∷ []) m h n = too_short (x ∷ []) (omega arith)
-none-behind (x ∷ y ∷ ys) m h n =
+pub none-after : (a m : List ℕ) → (is_empty m || ends_at_slash a) ≡ true
+    → ((k : ℕ) → k + 1 < length a → slash_and_dots (drop k (a ++ m)) ≡ false) → dots_after a ≡ false
+none-after [] m h n = refl
+none-after (x ∷ []) m h n = too_short (x ∷ []) (omega arith)
+none-after (x ∷ y ∷ ys) m h n =
     let first : slash_and_dots (x ∷ y ∷ ys) ≡ false =
     ap (λ l. x == 47 && is_dot_segment l) (sym (before-cut y ys m h)) ∙ n 0 (omega arith) in
-    next_place (x ∷ y ∷ ys) (omega arith) ∙ rw first (none-behind (y ∷ ys) m h (λ k l. n (suc k) (omega arith)))
+    next_place (x ∷ y ∷ ys) (omega arith) ∙ rw first (none-after (y ∷ ys) m h (λ k l. n (suc k) (omega arith)))
 
 none-before : (a m : List ℕ) → (is_empty m || ends_at_slash a) ≡ true → is_dot_segment (before 47 (a ++ m)) ≡ false
     → ((k : ℕ) → k + 1 < length a → slash_and_dots (drop k (a ++ m)) ≡ false) → has_dot_segment a ≡ false
 none-before [] m h f n = nothing-plain
 none-before (x ∷ xs) m h f n =
-    let first : dots_in_front (x ∷ xs) ≡ false = ap is_dot_segment (sym (before-cut x xs m h)) ∙ f in
-    first_or_behind (x ∷ xs) ∙ rw first (none-behind (x ∷ xs) m h n)
+    let first : dots_before (x ∷ xs) ≡ false = ap is_dot_segment (sym (before-cut x xs m h)) ∙ f in
+    first_or_after (x ∷ xs) ∙ rw first (none-after (x ∷ xs) m h n)
 
 pub none-there : (t : List ℕ) (i : ℕ) → length t ≤ i → is_dot_segment (before 47 t) ≡ false
     → ((k : ℕ) → k + 1 < i → slash_and_dots (drop k t) ≡ false) → has_dot_segment t ≡ false
@@ -119,12 +119,12 @@ none-there t i l f n =
 -- the first one
 pub found : (t : List ℕ) (i : ℕ) (two : Bool) (r : List ℕ) → 1 ≤ i → i < length t → is_dot_segment (before 47 t) ≡ false
     → ((k : ℕ) → k + 1 < i → slash_and_dots (drop k t) ≡ false) → slash_and_dots (drop (i - 1) t) ≡ true
-    → IsInFront (drop i t) two r → IsNext t (take i t) two r
+    → IsBefore (drop i t) two r → IsNext t (take i t) two r
 found t i two r low l f n s h =
     let whole = take-append-drop i t in
     let at : drop (i - 1) t ≡ slice_index t (i - 1) ∷ drop (suc (i - 1)) t = drop-cons t (i - 1) 0 (omega arith) in
     let byte : slice_index t (i - 1) ≡ 47 = eqb-true (slice_index t (i - 1)) 47
-    (both (slice_index t (i - 1) == 47) (dots_in_front (drop (suc (i - 1)) t)) (ap slash_and_dots (sym at) ∙ s)).0 in
+    (both (slice_index t (i - 1) == 47) (dots_before (drop (suc (i - 1)) t)) (ap slash_and_dots (sym at) ∙ s)).0 in
     let place : i - 1 + 1 ≡ i = omega arith in
     let ends : ends_at_slash (take i t) ≡ true = subst (λ k. ends_at_slash (take k t) ≡ true) place (take-ends t (i - 1) (omega arith) byte) in
     let size : length (take i t) ≡ i = length-take-le i t (omega arith) in
@@ -134,7 +134,7 @@ found t i two r low l f n s h =
       ends = ends;
       plain = none-before (take i t) (drop i t) (or_right (is_empty (drop i t)) ends) (ap (λ u. is_dot_segment (before 47 u)) whole ∙ f)
           (λ k m. ap (λ u. slash_and_dots (drop k u)) whole ∙ n k (omega arith));
-      front = h;
+      prefix = h;
     }
 
 -- ---- places that are passed
@@ -155,7 +155,7 @@ place-other t i l h = ap slash_and_dots (drop-cons t i 0 l) ∙ rw h refl
 
 plain-at : (t : List ℕ) (i : ℕ) → i < length t → (slice_index t i == 46) ≡ false → (slice_index t i == 37) ≡ false
     → is_dot_segment (before 47 (drop i t)) ≡ false
-plain-at t i l h k = ap (λ u. is_dot_segment (before 47 u)) (drop-cons t i 0 l) ∙ plain_front (slice_index t i) (drop (suc i) t) h k
+plain-at t i l h k = ap (λ u. is_dot_segment (before 47 u)) (drop-cons t i 0 l) ∙ plain_prefix (slice_index t i) (drop (suc i) t) h k
 
 other-than : (x c : ℕ) → (x ≡ c → ⊥) → (x == c) ≡ false
 other-than x c n = by_test x c (λ b. b ≡ false) (λ e. absurd (n e)) (λ _. refl)
@@ -189,15 +189,15 @@ pub next-more : (m : List ℕ) → is_dot_segment (before 47 m) ≡ true → 0 <
 next-more [] h = let n : false ≡ true = sym nothing-is_no_dot ∙ h in cc
 next-more (x ∷ xs) h = omega arith
 
-rest-shorter : (m : List ℕ) (o : Option (List ℕ)) → 0 < length m → behind 47 m ≡ o → length (or_nothing o) < length m
+rest-shorter : (m : List ℕ) (o : Option (List ℕ)) → 0 < length m → after 47 m ≡ o → length (or_nothing o) < length m
 rest-shorter m None l e = l
-rest-shorter m (Some r) l e = omega (arith, behind_shorter 47 m r e)
+rest-shorter m (Some r) l e = omega (arith, after_shorter 47 m r e)
 
 pub next-shorter : (t a : List ℕ) (two : Bool) (r : List ℕ) → IsNext t a two r → length a + length r < length t
 next-shorter t a two r h =
-    let l = next-more h.more h.front.dots in
-    let s = rest-shorter h.more (behind 47 h.more) l refl in
-    omega (arith, ap length h.whole, length-append a h.more, ap length h.front.rest_is, s)
+    let l = next-more h.more h.prefix.dots in
+    let s = rest-shorter h.more (after 47 h.more) l refl in
+    omega (arith, ap length h.whole, length-append a h.more, ap length h.prefix.rest_is, s)
 
 not-empty : (t : List ℕ) → 0 < length t → is_empty t ≡ false
 not-empty [] l = absurd (omega arith)
@@ -220,11 +220,11 @@ pub written-next : (b t a : List ℕ) (two : Bool) (r : List ℕ) → IsNext t a
 written-next b t a two r h =
     ap (written b) h.whole
     ∙ (written-run b a h.more h.ends h.plain
-    ∙ (written-dot (b ++ a) h.more h.front.dots
-    ∙ (ap (λ k. written (left k (b ++ a)) (or_nothing (behind 47 h.more))) (sym h.front.kind)
-    ∙ ap (written (left two (b ++ a))) (sym h.front.rest_is))))
+    ∙ (written-dot (b ++ a) h.more h.prefix.dots
+    ∙ (ap (λ k. written (left k (b ++ a)) (or_nothing (after 47 h.more))) (sym h.prefix.kind)
+    ∙ ap (written (left two (b ++ a))) (sym h.prefix.rest_is))))
 
 pub next-dotted : (t a : List ℕ) (two : Bool) (r : List ℕ) → IsNext t a two r → has_dot_segment t ≡ true
 next-dotted t a two r h =
-    let more : has_dot_segment h.more ≡ true = ap any_dot_segment (pieces_cut 47 h.more) ∙ rw h.front.dots refl in
+    let more : has_dot_segment h.more ≡ true = ap any_dot_segment (pieces_cut 47 h.more) ∙ rw h.prefix.dots refl in
     ap has_dot_segment h.whole ∙ (dot_in_two a h.more h.ends ∙ or_right (has_dot_segment a) more)

@@ -10,7 +10,7 @@ use Rattle.iri_grammar.specs.OptionalSlices.{now_of}
 use Rattle.iri_grammar.specs.Components.{is_path}
 use Rattle.iri_grammar.proofs.CutLaws.{both}
 use Rattle.iri_grammar.specs.Parts.{is_empty}
-use Rattle.iri_percent.proofs.MarkLaws.{pct_mark, slash}
+use Rattle.iri_percent.proofs.DelimiterLaws.{pct_delimiter, slash}
 use Rattle.iri_percent.specs.Triplets.{pct, normal}
 use Rattle.iri_percent.specs.Units.{whole_triplets, two_digits}
 use Rattle.iri_percent.specs.CharUnits.{char_units_from}
@@ -34,8 +34,8 @@ pct_nil s = refl
 pct_at : (s : Tests) (init p : List ℕ) → pct s ((init ++ 47 ∷ []) ++ p) ≡ pct s (init ++ 47 ∷ []) ++ pct s p
 pct_at s init p =
     ap (pct s) (append_assoc init (47 ∷ []) p)
-    ∙ (pct_mark s 47 init p slash
-    ∙ sym (ap (λ l. l ++ pct s p) (pct_mark s 47 init [] slash ∙ ap (λ l. pct s init ++ 47 ∷ l) (pct_nil s))
+    ∙ (pct_delimiter s 47 init p slash
+    ∙ sym (ap (λ l. l ++ pct s p) (pct_delimiter s 47 init [] slash ∙ ap (λ l. pct s init ++ 47 ∷ l) (pct_nil s))
     ∙ append_assoc (pct s init) (47 ∷ []) (pct s p)))
 
 pub pct_two : (s : Tests) (f p : List ℕ) → ends_at_slash f ≡ true → pct s (f ++ p) ≡ pct s f ++ pct s p

@@ -5,22 +5,22 @@ use Rattle.iri_grammar.specs.Cut.{lacks}
 use Rattle.iri_grammar.proofs.CutLaws.{both}
 use Rattle.iri_grammar.specs.Pieces.{pieces}
 use Rattle.iri_normal.specs.Dots.{is_dot_segment}
-use Rattle.iri_normal.specs.DotRemoval.{is_two_dots, without_last, without_top, closed, remove_behind, remove_dots, path_text, dots}
+use Rattle.iri_normal.specs.DotRemoval.{is_two_dots, without_last, without_top, closed, remove_after, remove_dots, path_text, dots}
 use Rattle.iri_normal.proofs.PieceLaws.{all_lack, pieces-lack}
 
--- the segments that follow a slash, behind the text that was put out
+-- the segments that follow a slash, after the text that was put out
 abbrev pub closed_text : List (List ℕ) → List ℕ → List ℕ
 closed_text [] output = output ++ 47 ∷ []
 closed_text (s ∷ ss) output = output
 
-abbrev pub text_behind : List ℕ → List (List ℕ) → List ℕ
-text_behind output [] = output
-text_behind output (s ∷ ss) = cond (is_dot_segment s) (text_behind (closed_text ss (cond (is_two_dots s) (without_last output) output)) ss)
-    (text_behind (output ++ 47 ∷ s) ss)
+abbrev pub text_after : List ℕ → List (List ℕ) → List ℕ
+text_after output [] = output
+text_after output (s ∷ ss) = cond (is_dot_segment s) (text_after (closed_text ss (cond (is_two_dots s) (without_last output) output)) ss)
+    (text_after (output ++ 47 ∷ s) ss)
 
 abbrev pub text_from : List ℕ → List (List ℕ) → List ℕ
 text_from output [] = output
-text_from output (s ∷ ss) = cond (is_dot_segment s) (text_from output ss) (text_behind (output ++ s) ss)
+text_from output (s ∷ ss) = cond (is_dot_segment s) (text_from output ss) (text_after (output ++ s) ss)
 
 -- at least one segment, and none has a slash
 abbrev pub is_output : List (List ℕ) → Bool
@@ -82,29 +82,29 @@ pub text-left : (two : Bool) (st : List (List ℕ)) → is_output st ≡ true
 text-left true st h = text-without_top st h
 text-left false st h = refl
 
-pub text-behind : (st ss : List (List ℕ)) → is_output st ≡ true → all_lack ss ≡ true
-    → text_behind (path_text st) ss ≡ path_text (remove_behind st ss)
-text-behind st [] h k = refl
-text-behind st (s ∷ ss) h k =
+pub text-after : (st ss : List (List ℕ)) → is_output st ≡ true → all_lack ss ≡ true
+    → text_after (path_text st) ss ≡ path_text (remove_after st ss)
+text-after st [] h k = refl
+text-after st (s ∷ ss) h k =
     let parts = both (lacks 47 s) (all_lack ss) k in
     let l = output-left (is_two_dots s) st h in
-    elim (is_dot_segment s) as (λ b. cond b (text_behind
-    (closed_text ss (cond (is_two_dots s) (without_last (path_text st)) (path_text st))) ss) (text_behind (path_text st ++ 47 ∷ s) ss)
-    ≡ path_text (cond b (remove_behind (closed ss (left (is_two_dots s) st)) ss) (remove_behind (s ∷ st) ss))) [
-      | true ↦ ap (λ o. text_behind (closed_text ss o) ss) (text-left (is_two_dots s) st h)
-          ∙ (ap (λ o. text_behind o ss) (text-closed ss (left (is_two_dots s) st) l)
-          ∙ text-behind (closed ss (left (is_two_dots s) st)) ss (output-closed ss (left (is_two_dots s) st) l) parts.1)
-      | false ↦ ap (λ o. text_behind o ss) (sym (text-push s st h)) ∙ text-behind (s ∷ st) ss (output-push s st parts.0 h) parts.1
+    elim (is_dot_segment s) as (λ b. cond b (text_after
+    (closed_text ss (cond (is_two_dots s) (without_last (path_text st)) (path_text st))) ss) (text_after (path_text st ++ 47 ∷ s) ss)
+    ≡ path_text (cond b (remove_after (closed ss (left (is_two_dots s) st)) ss) (remove_after (s ∷ st) ss))) [
+      | true ↦ ap (λ o. text_after (closed_text ss o) ss) (text-left (is_two_dots s) st h)
+          ∙ (ap (λ o. text_after o ss) (text-closed ss (left (is_two_dots s) st) l)
+          ∙ text-after (closed ss (left (is_two_dots s) st)) ss (output-closed ss (left (is_two_dots s) st) l) parts.1)
+      | false ↦ ap (λ o. text_after o ss) (sym (text-push s st h)) ∙ text-after (s ∷ st) ss (output-push s st parts.0 h) parts.1
     ]
 
 text-from : (ss : List (List ℕ)) → all_lack ss ≡ true → text_from [] ss ≡ path_text (remove_dots ss)
 text-from [] h = refl
 text-from (s ∷ ss) h =
     let parts = both (lacks 47 s) (all_lack ss) h in
-    elim (is_dot_segment s) as (λ b. cond b (text_from [] ss) (text_behind s ss)
-    ≡ path_text (cond b (remove_dots ss) (remove_behind (s ∷ []) ss))) [
+    elim (is_dot_segment s) as (λ b. cond b (text_from [] ss) (text_after s ss)
+    ≡ path_text (cond b (remove_dots ss) (remove_after (s ∷ []) ss))) [
       | true ↦ text-from ss parts.1
-      | false ↦ text-behind (s ∷ []) ss (rw parts.0 refl) parts.1
+      | false ↦ text-after (s ∷ []) ss (rw parts.0 refl) parts.1
     ]
 
 pub dots-text : (p : List ℕ) → text_from [] (pieces 47 p) ≡ dots p

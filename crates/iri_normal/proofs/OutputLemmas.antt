@@ -6,7 +6,7 @@ use Rattle.std.specs.Prelude.{slice_set}
 use Rattle.memchr.specs.Find.{is_byte, IsLastByte}
 use Rattle.iri_normal.specs.DotRemoval.{without_last}
 use Rattle.iri_normal.specs.Target.{ends_at_slash}
-use Rattle.iri_normal.proofs.EndedLemmas.{behind_last, without_end}
+use Rattle.iri_normal.proofs.EndedLemmas.{after_last, without_end}
 use Rattle.iri_normal.proofs.OutputLaws.{without_last-all, without_last-slash}
 use Rattle.iri_normal.proofs.SlashLemmas.{no_slash, slash_is}
 use Rattle.iri_normal.specs.inside.Written.{popped}
@@ -26,11 +26,11 @@ last-gone t i h =
     let at = slash_is t i h in
     let whole = take-append-drop (i + 1) t in
     let size : length (take (i + 1) t) ≡ i + 1 = length-take-le (i + 1) t (omega arith) in
-    let plain = behind_last t (take (i + 1) t) (drop (i + 1) t) i h (sym whole) size in
-    let front : take (i + 1) t ≡ take i t ++ 47 ∷ [] = take_more t i 0 at.0 ∙ ap (λ b. take i t ++ b ∷ []) at.1 in
+    let plain = after_last t (take (i + 1) t) (drop (i + 1) t) i h (sym whole) size in
+    let prefix : take (i + 1) t ≡ take i t ++ 47 ∷ [] = take_more t i 0 at.0 ∙ ap (λ b. take i t ++ b ∷ []) at.1 in
     let text : t ≡ take i t ++ 47 ∷ drop (i + 1) t =
-    sym whole ∙ (ap (λ f. f ++ drop (i + 1) t) front ∙ append_assoc (take i t) (47 ∷ []) (drop (i + 1) t)) in
-    ap (λ o. o ++ 47 ∷ []) (ap without_last text ∙ without_last-slash (take i t) (drop (i + 1) t) plain) ∙ sym front
+    sym whole ∙ (ap (λ f. f ++ drop (i + 1) t) prefix ∙ append_assoc (take i t) (47 ∷ []) (drop (i + 1) t)) in
+    ap (λ o. o ++ 47 ∷ []) (ap without_last text ∙ without_last-slash (take i t) (drop (i + 1) t) plain) ∙ sym prefix
 
 pub popped-some : (t : List ℕ) (n i : ℕ) → 0 < n → n ≤ length t → ends_at_slash (take n t) ≡ true
     → IsLastByte (is_byte 47) (take (n - 1) t) (Some i) → take (i + 1) t ≡ popped (take n t)

@@ -16,7 +16,7 @@ use Rattle.iri_percent.specs.Units.{whole_triplets}
 use Rattle.iri_percent.proofs.NormalLaws.{normal_nil, normal_plain}
 use Rattle.iri_percent.proofs.Stability.{pct-stable}
 use Rattle.iri_normal.specs.Dots.{is_dot_segment}
-use Rattle.iri_normal.specs.DotRemoval.{is_two_dots, without_last, closed, remove_behind, remove_dots, path_text, dots}
+use Rattle.iri_normal.specs.DotRemoval.{is_two_dots, without_last, closed, remove_after, remove_dots, path_text, dots}
 use Rattle.iri_normal.specs.Guard.{guard}
 use Rattle.iri_normal.specs.NormalForm.{normal_path}
 use Rattle.iri_grammar.proofs.UnitRuns.{text_over-append}
@@ -24,7 +24,7 @@ use Rattle.iri_normal.proofs.TextLaws.{nothing_over, slash_over, point_over, tex
 use Rattle.iri_normal.proofs.TargetLaws.{slash_in_path}
 use Rattle.iri_normal.specs.LowerCase.{where_there}
 use Rattle.iri_normal.proofs.PieceLaws.{nothing-is_no_dot, pieces-some}
-use Rattle.iri_normal.proofs.OutputLaws.{left, text_behind, dots-text}
+use Rattle.iri_normal.proofs.OutputLaws.{left, text_after, dots-text}
 use Rattle.iri_normal.proofs.StableLaws.{unsplit, unsplit-pieces, dots-stable, guard-dots}
 use Rattle.iri_normal.proofs.TripletPaths.{dots-pct}
 use Rattle.iri_normal.proofs.TripletHeads.{pct-head}
@@ -42,24 +42,24 @@ each-closed : (P : List ℕ → Bool) (ss st : List (List ℕ)) → P [] ≡ tru
 each-closed P [] st n h = rw n h
 each-closed P (s ∷ ss) st n h = h
 
-each-behind : (P : List ℕ → Bool) (st ss : List (List ℕ)) → P [] ≡ true → list_all P st ≡ true → list_all P ss ≡ true
-    → list_all P (remove_behind st ss) ≡ true
-each-behind P st [] n h k = h
-each-behind P st (s ∷ ss) n h k =
+each-after : (P : List ℕ → Bool) (st ss : List (List ℕ)) → P [] ≡ true → list_all P st ≡ true → list_all P ss ≡ true
+    → list_all P (remove_after st ss) ≡ true
+each-after P st [] n h k = h
+each-after P st (s ∷ ss) n h k =
     let l = both (P s) (list_all P ss) k in
-    elim (is_dot_segment s) as (λ b. list_all P (cond b (remove_behind (closed ss (left (is_two_dots s) st)) ss)
-    (remove_behind (s ∷ st) ss)) ≡ true) [
-      | true ↦ each-behind P (closed ss (left (is_two_dots s) st)) ss n
+    elim (is_dot_segment s) as (λ b. list_all P (cond b (remove_after (closed ss (left (is_two_dots s) st)) ss)
+    (remove_after (s ∷ st) ss)) ≡ true) [
+      | true ↦ each-after P (closed ss (left (is_two_dots s) st)) ss n
           (each-closed P ss (left (is_two_dots s) st) n (each-left P (is_two_dots s) st n h)) l.1
-      | false ↦ each-behind P (s ∷ st) ss n (rw l.0 h) l.1
+      | false ↦ each-after P (s ∷ st) ss n (rw l.0 h) l.1
     ]
 
 each-removed : (P : List ℕ → Bool) (ss : List (List ℕ)) → P [] ≡ true → list_all P ss ≡ true → list_all P (remove_dots ss) ≡ true
 each-removed P [] n h = rw n refl
 each-removed P (s ∷ ss) n h =
     let l = both (P s) (list_all P ss) h in
-    elim (is_dot_segment s) as (λ b. list_all P (cond b (remove_dots ss) (remove_behind (s ∷ []) ss))
-    ≡ true) [ true ↦ each-removed P ss n l.1 | false ↦ each-behind P (s ∷ []) ss n (rw l.0 refl) l.1 ]
+    elim (is_dot_segment s) as (λ b. list_all P (cond b (remove_dots ss) (remove_after (s ∷ []) ss))
+    ≡ true) [ true ↦ each-removed P ss n l.1 | false ↦ each-after P (s ∷ []) ss n (rw l.0 refl) l.1 ]
 
 -- ---- the class of a path
 each-over : (p : ℕ → Bool) (t : List ℕ) (ss : List (List ℕ)) → text_over p (unsplit (t ∷ ss)) ≡ true
@@ -104,24 +104,24 @@ slash-pushed : (o s : List ℕ) → rooted o ≡ true → starts_with_slash (o +
 slash-pushed [] s h = refl
 slash-pushed (x ∷ xs) s h = h
 
-slash-behind : (o s : List ℕ) (ss : List (List ℕ)) → rooted o ≡ true → starts_with_slash (text_behind o (s ∷ ss)) ≡ true
-slash-behind o s [] h =
+slash-after : (o s : List ℕ) (ss : List (List ℕ)) → rooted o ≡ true → starts_with_slash (text_after o (s ∷ ss)) ≡ true
+slash-after o s [] h =
     elim (is_dot_segment s) as (λ b. starts_with_slash (cond b (cond (is_two_dots s) (without_last o) o ++ 47 ∷ []) (o ++ 47 ∷ s)) ≡ true) [
       | true ↦ slash-pushed (cond (is_two_dots s) (without_last o) o) [] (rooted-left (is_two_dots s) o h)
       | false ↦ slash-pushed o s h
     ]
-slash-behind o s (t ∷ ts) h =
+slash-after o s (t ∷ ts) h =
     elim (is_dot_segment s) as (λ b. starts_with_slash
-    (cond b (text_behind (cond (is_two_dots s) (without_last o) o) (t ∷ ts)) (text_behind (o ++ 47 ∷ s) (t ∷ ts))) ≡ true) [
-      | true ↦ slash-behind (cond (is_two_dots s) (without_last o) o) t ts (rooted-left (is_two_dots s) o h)
-      | false ↦ slash-behind (o ++ 47 ∷ s) t ts (slash-rooted (o ++ 47 ∷ s) (slash-pushed o s h))
+    (cond b (text_after (cond (is_two_dots s) (without_last o) o) (t ∷ ts)) (text_after (o ++ 47 ∷ s) (t ∷ ts))) ≡ true) [
+      | true ↦ slash-after (cond (is_two_dots s) (without_last o) o) t ts (rooted-left (is_two_dots s) o h)
+      | false ↦ slash-after (o ++ 47 ∷ s) t ts (slash-rooted (o ++ 47 ∷ s) (slash-pushed o s h))
     ]
 
 pub dots-slash : (t : List ℕ) → starts_with_slash t ≡ true → starts_with_slash (dots t) ≡ true
 dots-slash [] h = cc
 dots-slash (x ∷ xs) h =
     let r = pieces-some xs in subst (λ z. starts_with_slash z ≡ true) (dots-text (x ∷ xs))
-    (rw (h, nothing-is_no_dot, r.whole) (slash-behind [] r.first r.rest refl))
+    (rw (h, nothing-is_no_dot, r.whole) (slash-after [] r.first r.rest refl))
 
 pub dots-nothing : dots [] ≡ []
 unfolding dots

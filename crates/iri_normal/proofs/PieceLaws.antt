@@ -6,8 +6,8 @@ use Rattle.std.proofs.lemmas.Bool.Decides.{nat_tests}
 use Rattle.iri_grammar.specs.Cut.{lacks}
 use Rattle.iri_grammar.proofs.CutLaws.{by_test, both}
 use Rattle.iri_grammar.specs.Pieces.{pieces, onto}
-use Rattle.iri_normal.specs.Dots.{behind_dot, is_dot_segment, is_dot_segment_behind, is_dot_or_nothing}
-use Rattle.iri_normal.specs.DotRemoval.{is_all, is_one_dot, is_one_dot_behind, is_two_dots}
+use Rattle.iri_normal.specs.Dots.{after_dot, is_dot_segment, is_dot_segment_after, is_dot_or_nothing}
+use Rattle.iri_normal.specs.DotRemoval.{is_all, is_one_dot, is_one_dot_after, is_two_dots}
 
 -- each of the texts lacks the slash
 abbrev pub all_lack : List (List ℕ) → Bool
@@ -63,15 +63,15 @@ pieces-lack (x ∷ xs) =
 
 -- ---- dot segments
 -- a dot has no slash in it
-pub behind_dot-lacks : (d r : List ℕ) → behind_dot d ≡ Some r → lacks 47 d ≡ lacks 47 r
-behind_dot-lacks [] r h = cc
-behind_dot-lacks (x ∷ []) r h =
+pub after_dot-lacks : (d r : List ℕ) → after_dot d ≡ Some r → lacks 47 d ≡ lacks 47 r
+after_dot-lacks [] r h = cc
+after_dot-lacks (x ∷ []) r h =
     by_test x 46 (λ b. cond b (Some []) None ≡ Some r → lacks 47 (x ∷ []) ≡ lacks 47 r) (λ e k. let n : [] ≡ r = cc in rw (e, ← n) refl)
     (λ _ k. cc) h
-behind_dot-lacks (x ∷ y ∷ []) r h =
+after_dot-lacks (x ∷ y ∷ []) r h =
     by_test x 46 (λ b. cond b (Some (y ∷ [])) None ≡ Some r → lacks 47 (x ∷ y ∷ []) ≡ lacks 47 r)
     (λ e k. let n : y ∷ [] ≡ r = cc in rw (e, ← n) refl) (λ _ k. cc) h
-behind_dot-lacks (x ∷ y ∷ z ∷ xs) r h =
+after_dot-lacks (x ∷ y ∷ z ∷ xs) r h =
     by_test x 46 (λ b. cond b (Some (y ∷ z ∷ xs)) (cond (x == 37 && y == 50 && (z == 69 || z == 101)) (Some xs) None) ≡ Some r
     → lacks 47 (x ∷ y ∷ z ∷ xs) ≡ lacks 47 r)
     (λ e k. let n : y ∷ z ∷ xs ≡ r = cc in rw (e, ← n) refl)
@@ -88,40 +88,40 @@ behind_dot-lacks (x ∷ y ∷ z ∷ xs) r h =
 
 nothing_or_dot-lacks : (r : List ℕ) → is_dot_or_nothing r ≡ true → lacks 47 r ≡ true
 nothing_or_dot-lacks [] h = refl
-nothing_or_dot-lacks (x ∷ xs) h = by_rest (behind_dot (x ∷ xs)) refl
+nothing_or_dot-lacks (x ∷ xs) h = by_rest (after_dot (x ∷ xs)) refl
   where
-    by_rest : (o : Option (List ℕ)) → behind_dot (x ∷ xs) ≡ o → lacks 47 (x ∷ xs) ≡ true
+    by_rest : (o : Option (List ℕ)) → after_dot (x ∷ xs) ≡ o → lacks 47 (x ∷ xs) ≡ true
     by_rest None e = let n : false ≡ true = rw e at h in cc
-    by_rest (Some []) e = behind_dot-lacks (x ∷ xs) [] e
+    by_rest (Some []) e = after_dot-lacks (x ∷ xs) [] e
     by_rest (Some (y ∷ ys)) e = let n : false ≡ true = rw e at h in cc
 
 pub dot_segment-lacks : (d : List ℕ) → is_dot_segment d ≡ true → lacks 47 d ≡ true
 unfolding is_dot_segment
-dot_segment-lacks d h = by_rest (behind_dot d) refl h
+dot_segment-lacks d h = by_rest (after_dot d) refl h
   where
-    by_rest : (o : Option (List ℕ)) → behind_dot d ≡ o → is_dot_segment_behind o ≡ true → lacks 47 d ≡ true
+    by_rest : (o : Option (List ℕ)) → after_dot d ≡ o → is_dot_segment_after o ≡ true → lacks 47 d ≡ true
     by_rest None e k = cc
-    by_rest (Some r) e k = behind_dot-lacks d r e ∙ nothing_or_dot-lacks r k
+    by_rest (Some r) e k = after_dot-lacks d r e ∙ nothing_or_dot-lacks r k
 
 -- a dot segment is one dot or two
 pub dot_kinds : (d : List ℕ) → is_dot_segment d ≡ (is_one_dot d || is_two_dots d)
 unfolding is_dot_segment
-dot_kinds d = by_rest (behind_dot d)
+dot_kinds d = by_rest (after_dot d)
   where
-    second : (x : ℕ) (xs : List ℕ) (o : Option (List ℕ)) → behind_dot (x ∷ xs) ≡ o → is_dot_or_nothing (x ∷ xs) ≡ is_one_dot (x ∷ xs)
+    second : (x : ℕ) (xs : List ℕ) (o : Option (List ℕ)) → after_dot (x ∷ xs) ≡ o → is_dot_or_nothing (x ∷ xs) ≡ is_one_dot (x ∷ xs)
     second x xs None e = rw e refl
     second x xs (Some []) e = rw e refl
     second x xs (Some (y ∷ ys)) e = rw e refl
 
-    by_rest : (o : Option (List ℕ)) → is_dot_segment_behind o ≡ (is_all o || is_one_dot_behind o)
+    by_rest : (o : Option (List ℕ)) → is_dot_segment_after o ≡ (is_all o || is_one_dot_after o)
     by_rest None = refl
     by_rest (Some []) = refl
-    by_rest (Some (x ∷ xs)) = second x xs (behind_dot (x ∷ xs)) refl
+    by_rest (Some (x ∷ xs)) = second x xs (after_dot (x ∷ xs)) refl
 
 pub one_dot-is_not_two : (d : List ℕ) → is_one_dot d ≡ true → is_two_dots d ≡ false
-one_dot-is_not_two d h = by_rest (behind_dot d) h
+one_dot-is_not_two d h = by_rest (after_dot d) h
   where
-    by_rest : (o : Option (List ℕ)) → is_all o ≡ true → is_one_dot_behind o ≡ false
+    by_rest : (o : Option (List ℕ)) → is_all o ≡ true → is_one_dot_after o ≡ false
     by_rest None k = cc
     by_rest (Some []) k = refl
     by_rest (Some (x ∷ xs)) k = cc

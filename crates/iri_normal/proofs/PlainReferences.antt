@@ -12,7 +12,7 @@ use Rattle.std.specs.Prelude.{◌==◌, is_some, MatchOption}
 use Rattle.std.specs.List.{list_all}
 use Rattle.iri_grammar.specs.Classes.{Tests, IsSpec}
 use Rattle.iri_grammar.specs.Components.{if_there, is_fragment, is_query, is_scheme, is_scheme_char}
-use Rattle.iri_grammar.specs.Cut.{lacks, marked}
+use Rattle.iri_grammar.specs.Cut.{lacks, delimited}
 use Rattle.iri_grammar.specs.Parts.{Parts, Fits, authority_text, is_empty, path_rules, recompose, scheme_text, starts_with_slash}
 use Rattle.iri_grammar.specs.Parts.{starts_with_slashes}
 use Rattle.iri_grammar.specs.Seen.{is_plain_authority, is_small}
@@ -21,12 +21,12 @@ use Rattle.iri_grammar.proofs.CutLaws.{both, lacks-append, lacks-other}
 use Rattle.iri_grammar.proofs.SplitLaws.{scheme-chars, scheme-lacks}
 use Rattle.iri_grammar.proofs.SplitUnique.{scheme_char-below}
 use Rattle.iri_grammar.proofs.AuthorityTexts.{all_below}
-use Rattle.iri_percent.specs.MarkLaws.{IsMark}
+use Rattle.iri_percent.specs.DelimiterLaws.{IsOutsideTriplets}
 use Rattle.iri_percent.specs.NormalHost.{normal_authority}
 use Rattle.iri_percent.specs.Triplets.{pct}
 use Rattle.iri_percent.specs.Units.{whole_triplets}
-use Rattle.iri_percent.proofs.MarkLaws.{pct_mark}
-use Rattle.iri_percent.proofs.PlainTexts.{pct-front, pct-marked, plain-ascii, plain-lacks, plain_authority, small-lowered}
+use Rattle.iri_percent.proofs.DelimiterLaws.{pct_delimiter}
+use Rattle.iri_percent.proofs.PlainTexts.{pct-directory, pct-delimited, plain-ascii, plain-lacks, plain_authority, small-lowered}
 use Rattle.iri_percent.proofs.Reading.{whole_plain}
 use Rattle.iri_percent.proofs.WholeLaws.{fragment-whole, lacks-whole, path-whole, query-whole, whole-append}
 use Rattle.iri_normal.specs.Dots.{has_dot_segment}
@@ -36,7 +36,7 @@ use Rattle.iri_normal.specs.NormalForm.{canonical, normal_form, normal_path}
 use Rattle.iri_normal.specs.Prefix.{IsPrefix, prefix_in}
 use Rattle.iri_normal.specs.Target.{ends_at_slash, merge_prefix, target, target_path}
 use Rattle.iri_normal.specs.declared.mode.Mode.TheVariants.{Normal}
-use Rattle.iri_normal.specs.inside.Unchanged.{EndsCanonical, IsLowered, KeepsPrefix, LacksTriplets, StandBefore, is_plain_front, lacks_triplets_and_dots}
+use Rattle.iri_normal.specs.inside.Unchanged.{EndsCanonical, IsLowered, KeepsPrefix, LacksTriplets, StandBefore, is_plain_prefix, lacks_triplets_and_dots}
 use Rattle.iri_normal.proofs.EndedLemmas.{neither}
 use Rattle.iri_normal.proofs.PieceLaws.{nothing-is_no_dot}
 use Rattle.iri_normal.proofs.PrefixLemmas.{prefix-form, rest, text-cut}
@@ -137,42 +137,42 @@ path-form s a p k d w g =
     ∙ (ap (λ b. cond (is_some a || not b) (pct s p) (47 ∷ 46 ∷ pct s p)) (pct-heads s p k w)
     ∙ ap (λ b. cond b (pct s p) (47 ∷ 46 ∷ pct s p)) g)
 
-no_dots : (front path : List ℕ) → has_dot_segment front ≡ false → ends_at_slash front ≡ true → has_dot_segment path ≡ false
-    → has_dot_segment (front ++ path) ≡ false
-no_dots front path f e d = dot_in_parts front path (ap (λ b. is_empty path || b) e ∙ or-true (is_empty path)) ∙ rw (f, d) refl
+no_dots : (directory path : List ℕ) → has_dot_segment directory ≡ false → ends_at_slash directory ≡ true → has_dot_segment path ≡ false
+    → has_dot_segment (directory ++ path) ≡ false
+no_dots directory path f e d = dot_in_parts directory path (ap (λ b. is_empty path || b) e ∙ or-true (is_empty path)) ∙ rw (f, d) refl
 
 -- ---- what follows scheme and authority
-query_mark : IsMark 63
-query_mark = record { percent = refl; digit = refl }
+query_delimiter : IsOutsideTriplets 63
+query_delimiter = record { percent = refl; digit = refl }
 
-fragment_mark : IsMark 35
-fragment_mark = record { percent = refl; digit = refl }
+fragment_delimiter : IsOutsideTriplets 35
+fragment_delimiter = record { percent = refl; digit = refl }
 
-rest-form : (s : Tests) (p : List ℕ) (q f : Option (List ℕ)) → pct s (p ++ (marked 63 q ++ marked 35 f))
-    ≡ pct s p ++ (marked 63 (where_there (pct s) q) ++ marked 35 (where_there (pct s) f))
-rest-form s p None f = pct-marked s 35 p f fragment_mark
-rest-form s p (Some q) f = pct_mark s 63 p (q ++ marked 35 f) query_mark ∙ ap (λ l. pct s p ++ 63 ∷ l) (pct-marked s 35 q f fragment_mark)
+rest-form : (s : Tests) (p : List ℕ) (q f : Option (List ℕ)) → pct s (p ++ (delimited 63 q ++ delimited 35 f))
+    ≡ pct s p ++ (delimited 63 (where_there (pct s) q) ++ delimited 35 (where_there (pct s) f))
+rest-form s p None f = pct-delimited s 35 p f fragment_delimiter
+rest-form s p (Some q) f = pct_delimiter s 63 p (q ++ delimited 35 f) query_delimiter ∙ ap (λ l. pct s p ++ 63 ∷ l) (pct-delimited s 35 q f fragment_delimiter)
 
-marked-whole : (m : ℕ) (t : List ℕ → Bool) (o : Option (List ℕ)) → (m == 37) ≡ false → ((x : List ℕ) → t x ≡ true → whole_triplets x ≡ true)
-    → if_there t o ≡ true → whole_triplets (marked m o) ≡ true
-marked-whole m t None n w h = lacks-whole [] refl
-marked-whole m t (Some x) n w h = whole_plain m x n ∙ w x h
+delimited-whole : (m : ℕ) (t : List ℕ → Bool) (o : Option (List ℕ)) → (m == 37) ≡ false → ((x : List ℕ) → t x ≡ true → whole_triplets x ≡ true)
+    → if_there t o ≡ true → whole_triplets (delimited m o) ≡ true
+delimited-whole m t None n w h = lacks-whole [] refl
+delimited-whole m t (Some x) n w h = whole_plain m x n ∙ w x h
 
 rest-whole : (s : Tests) (r : Parts) → IsSpec s → Fits s r → whole_triplets (rest r) ≡ true
 rest-whole s r k f =
-    whole-append r.path (marked 63 r.query ++ marked 35 r.fragment) (path-whole s r.path k f.path)
-    (whole-append (marked 63 r.query) (marked 35 r.fragment)
-    (marked-whole 63 (is_query s) r.query refl (λ x h. query-whole s x k h) f.query)
-    (marked-whole 35 (is_fragment s) r.fragment refl (λ x h. fragment-whole s x k h) f.fragment))
+    whole-append r.path (delimited 63 r.query ++ delimited 35 r.fragment) (path-whole s r.path k f.path)
+    (whole-append (delimited 63 r.query) (delimited 35 r.fragment)
+    (delimited-whole 63 (is_query s) r.query refl (λ x h. query-whole s x k h) f.query)
+    (delimited-whole 35 (is_fragment s) r.fragment refl (λ x h. fragment-whole s x k h) f.fragment))
 
-marked-lacks : (m : ℕ) (o : Option (List ℕ)) → (m == 37) ≡ false → if_there (lacks 37) o ≡ true → lacks 37 (marked m o) ≡ true
-marked-lacks m None n h = refl
-marked-lacks m (Some x) n h = lacks-other 37 m x n h
+delimited-lacks : (m : ℕ) (o : Option (List ℕ)) → (m == 37) ≡ false → if_there (lacks 37) o ≡ true → lacks 37 (delimited m o) ≡ true
+delimited-lacks m None n h = refl
+delimited-lacks m (Some x) n h = lacks-other 37 m x n h
 
 rest-lacks : (r : Parts) → LacksTriplets r → lacks 37 (rest r) ≡ true
 rest-lacks r h =
-    lacks-append 37 r.path (marked 63 r.query ++ marked 35 r.fragment) h.0
-    (lacks-append 37 (marked 63 r.query) (marked 35 r.fragment) (marked-lacks 63 r.query refl h.1) (marked-lacks 35 r.fragment refl h.2))
+    lacks-append 37 r.path (delimited 63 r.query ++ delimited 35 r.fragment) h.0
+    (lacks-append 37 (delimited 63 r.query) (delimited 35 r.fragment) (delimited-lacks 63 r.query refl h.1) (delimited-lacks 35 r.fragment refl h.2))
 
 -- ---- the canonical text
 -- prefix and path of the base, the prefix of the reference and the rest of it
@@ -180,38 +180,38 @@ shift : (p f h q tail : List ℕ) → q ++ f ≡ p ++ (f ++ h) → q ++ ((f ++ t
 shift p f h q tail e =
     sym (append_assoc q f tail) ∙ (ap (λ l. l ++ tail) e ∙ (append_assoc p (f ++ h) tail ∙ ap (λ l. p ++ l) (append_assoc f h tail)))
 
-whole-form : (s : Tests) (base r : Parts) (prefix front own : List ℕ) → IsSpec s → Fits s r → StandBefore s base r prefix front own
+whole-form : (s : Tests) (base r : Parts) (prefix directory own : List ℕ) → IsSpec s → Fits s r → StandBefore s base r prefix directory own
     → has_dot_segment r.path ≡ false → recompose (normal_form s (target base r))
-    ≡ prefix ++ (front ++ (own ++ (pct s r.path ++ (marked 63 (where_there (pct s) r.query) ++ marked 35 (where_there (pct s) r.fragment)))))
+    ≡ prefix ++ (directory ++ (own ++ (pct s r.path ++ (delimited 63 (where_there (pct s) r.query) ++ delimited 35 (where_there (pct s) r.fragment)))))
 unfolding normal_form
-whole-form s base r prefix front own k f b n =
+whole-form s base r prefix directory own k f b n =
     let u = target base r in
-    let plain = both (lacks 37 front) (not (has_dot_segment front)) b.plain in
-    let dots = no_dots front r.path (not-true (has_dot_segment front) plain.1) b.ends n in
-    let whole = whole-append front r.path (lacks-whole front plain.0) (path-whole s r.path k f.path) in
-    let path : normal_path s u.authority u.path ≡ front ++ pct s r.path =
+    let plain = both (lacks 37 directory) (not (has_dot_segment directory)) b.plain in
+    let dots = no_dots directory r.path (not-true (has_dot_segment directory) plain.1) b.ends n in
+    let whole = whole-append directory r.path (lacks-whole directory plain.0) (path-whole s r.path k f.path) in
+    let path : normal_path s u.authority u.path ≡ directory ++ pct s r.path =
     ap (normal_path s u.authority) b.path
-    ∙ (path-form s u.authority (front ++ r.path) k dots whole b.unguarded ∙ pct-front s front r.path plain.0) in
-    let tail = marked 63 (where_there (pct s) r.query) ++ marked 35 (where_there (pct s) r.fragment) in
+    ∙ (path-form s u.authority (directory ++ r.path) k dots whole b.unguarded ∙ pct-directory s directory r.path plain.0) in
+    let tail = delimited 63 (where_there (pct s) r.query) ++ delimited 35 (where_there (pct s) r.fragment) in
     sym (prefix-form s Normal false u (prefix_in s true u) refl refl)
-    ∙ (ap (λ x. prefix_in s true u ++ (x ++ (marked 63 (where_there (pct s) u.query) ++ marked 35 (where_there (pct s) u.fragment)))) path
-    ∙ (ap (λ x. prefix_in s true u ++ ((front ++ pct s r.path) ++ (marked 63 (where_there (pct s) x)
-    ++ marked 35 (where_there (pct s) u.fragment)))) b.query
-    ∙ (ap (λ x. prefix_in s true u ++ ((front ++ pct s r.path) ++ (marked 63 (where_there (pct s) r.query)
-    ++ marked 35 (where_there (pct s) x)))) b.fragment
-    ∙ (ap (λ x. prefix_in s true u ++ x) (append_assoc front (pct s r.path) tail)
-    ∙ shift prefix front own (prefix_in s true u) (pct s r.path ++ tail) b.text))))
+    ∙ (ap (λ x. prefix_in s true u ++ (x ++ (delimited 63 (where_there (pct s) u.query) ++ delimited 35 (where_there (pct s) u.fragment)))) path
+    ∙ (ap (λ x. prefix_in s true u ++ ((directory ++ pct s r.path) ++ (delimited 63 (where_there (pct s) x)
+    ++ delimited 35 (where_there (pct s) u.fragment)))) b.query
+    ∙ (ap (λ x. prefix_in s true u ++ ((directory ++ pct s r.path) ++ (delimited 63 (where_there (pct s) r.query)
+    ++ delimited 35 (where_there (pct s) x)))) b.fragment
+    ∙ (ap (λ x. prefix_in s true u ++ x) (append_assoc directory (pct s r.path) tail)
+    ∙ shift prefix directory own (prefix_in s true u) (pct s r.path ++ tail) b.text))))
 
-pub unchanged : (s : Tests) (base t prefix front : List ℕ) → IsSpec s → Fits s (split_of t)
-    → StandBefore s (split_of base) (split_of t) prefix front (prefix_in s false (split_of t)) → has_dot_segment (split_of t).path ≡ false
-    → EndsCanonical s base t prefix front
+pub unchanged : (s : Tests) (base t prefix directory : List ℕ) → IsSpec s → Fits s (split_of t)
+    → StandBefore s (split_of base) (split_of t) prefix directory (prefix_in s false (split_of t)) → has_dot_segment (split_of t).path ≡ false
+    → EndsCanonical s base t prefix directory
 unfolding canonical
-unchanged s base t prefix front k f b n =
+unchanged s base t prefix directory k f b n =
     let r = split_of t in
     let own = prefix_in s false r in
-    let form = ap (pct s) (text-cut t) ∙ (pct-front s own (rest r) b.percent ∙ ap (λ x. own ++ x) (rest-form s r.path r.query r.fragment)) in
+    let form = ap (pct s) (text-cut t) ∙ (pct-directory s own (rest r) b.percent ∙ ap (λ x. own ++ x) (rest-form s r.path r.query r.fragment)) in
     record {
-      text = whole-form s (split_of base) r prefix front own k f b n ∙ ap (λ x. prefix ++ (front ++ x)) (sym form);
+      text = whole-form s (split_of base) r prefix directory own k f b n ∙ ap (λ x. prefix ++ (directory ++ x)) (sym form);
       whole = ap whole_triplets (text-cut t) ∙ whole-append own (rest r) (lacks-whole own b.percent) (rest-whole s r k f);
       bare = λ h. ap (lacks 37) (text-cut t) ∙ lacks-append 37 own (rest r) b.percent (rest-lacks r h);
     }
@@ -320,7 +320,7 @@ rooted-before s b r p h k n st f i =
     (rooted-rules b.authority r h k f.rules)
 
 pub merged-before : (s : Tests) (b r : Parts) (p f : List ℕ) → r.scheme ≡ None → r.authority ≡ None → is_empty r.path ≡ false
-    → starts_with_slash r.path ≡ false → IsPrefix s b (Some p) → f ≡ merge_prefix b → ends_at_slash f ≡ true → is_plain_front b f ≡ true
+    → starts_with_slash r.path ≡ false → IsPrefix s b (Some p) → f ≡ merge_prefix b → ends_at_slash f ≡ true → is_plain_prefix b f ≡ true
     → StandBefore s b r p f (prefix_in s false r)
 merged-before s b r p f h k n st i m e plain =
     let both-of = both (is_some b.authority) (lacks_triplets_and_dots f f) plain in

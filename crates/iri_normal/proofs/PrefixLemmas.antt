@@ -4,7 +4,7 @@ use Rattle.std.proofs.Common.{subst, arith, append_assoc, append-nil, length-app
 use Rattle.std.proofs.lemmas.Str.{IsCharBoundary-from_take}
 use Rattle.std.proofs.Math.Seq.{take-append_seam}
 use Rattle.iri_grammar.specs.Classes.{Tests, IsSpec, path_char}
-use Rattle.iri_grammar.specs.Cut.{marked}
+use Rattle.iri_grammar.specs.Cut.{delimited}
 use Rattle.iri_grammar.proofs.SplitUnique.{splits-utf8}
 use Rattle.std.specs.Str.{IsUtf8, IsCharBoundary}
 use Rattle.iri_grammar.specs.Parts.{Parts, Fits, Splits, path_rules, recompose, scheme_text, authority_text}
@@ -28,7 +28,7 @@ prefix-kept s b r o h k p = rw (h, k) p
 
 -- what follows the prefix of a text
 abbrev pub rest : Parts → List ℕ
-rest p = p.path ++ (marked 63 p.query ++ marked 35 p.fragment)
+rest p = p.path ++ (delimited 63 p.query ++ delimited 35 p.fragment)
 
 pub prefix-cut : (p : Parts) → recompose p ≡ (scheme_text p.scheme ++ authority_text p.authority) ++ rest p
 unfolding recompose
@@ -43,7 +43,7 @@ put a b tail p e = ap (λ l. l ++ tail) e ∙ append_assoc a b tail
 
 pub prefix-form : (s : Tests) (mode : Mode) (whole : Bool) (t : Parts) (p : List ℕ) → is_by_scheme mode ≡ false
     → p ≡ prefix_in s (is_normalizing mode) t → p ++ (path_in s mode whole t.authority t.path
-    ++ (marked 63 (part_in (is_normalizing mode) (pct s) t.query) ++ marked 35 (part_in (is_normalizing mode) (pct s) t.fragment)))
+    ++ (delimited 63 (part_in (is_normalizing mode) (pct s) t.query) ++ delimited 35 (part_in (is_normalizing mode) (pct s) t.fragment)))
     ≡ recompose (form s mode whole t)
 unfolding form recompose
 prefix-form s Plain whole t p h e = put _ _ _ p e
@@ -51,7 +51,7 @@ prefix-form s Normal whole t p h e = put _ _ _ p e
 prefix-form s Preserving whole t p h e = put _ _ _ p e
 prefix-form s ByScheme whole t p h e = cc
 
--- scheme and authority with nothing behind them
+-- scheme and authority with nothing after them
 abbrev alone : Parts → Parts
 alone p = record { scheme = p.scheme; authority = p.authority; path = []; query = None; fragment = None }
 
@@ -78,23 +78,23 @@ alone-splits s p k f = record {
   text = alone-text p;
 }
 
--- where a text is cut behind its prefix
+-- where a text is cut after its prefix
 cut-length : (s : Tests) (t : List ℕ) → length t ≡ length (prefix_in s false (split_of t)) + length (rest (split_of t))
 cut-length s t = ap length (text-cut t) ∙ length-append (prefix_in s false (split_of t)) (rest (split_of t))
 
 pub cut-inside : (s : Tests) (t : List ℕ) → length (prefix_in s false (split_of t)) ≤ length t
 cut-inside s t = omega (arith, cut-length s t)
 
-pub cut-front : (s : Tests) (t : List ℕ) → take (length (prefix_in s false (split_of t))) t ≡ prefix_in s false (split_of t)
-cut-front s t = ap (take (length (prefix_in s false (split_of t)))) (text-cut t)
+pub cut-directory : (s : Tests) (t : List ℕ) → take (length (prefix_in s false (split_of t))) t ≡ prefix_in s false (split_of t)
+cut-directory s t = ap (take (length (prefix_in s false (split_of t)))) (text-cut t)
     ∙ take-append_seam (prefix_in s false (split_of t)) (rest (split_of t))
 
 pub cut-boundary : (s : Tests) (t : List ℕ) → IsSpec s → Fits s (split_of t) → IsUtf8 t
     → IsCharBoundary t (length (prefix_in s false (split_of t)))
 cut-boundary s t k f u =
-    let front = prefix_in s false (split_of t) in
-    IsCharBoundary-from_take t (length front) u (cut-inside s t)
-    (subst IsUtf8 (sym (cut-front s t)) (splits-utf8 s front (alone (split_of t)) (alone-splits s (split_of t) k f)))
+    let directory = prefix_in s false (split_of t) in
+    IsCharBoundary-from_take t (length directory) u (cut-inside s t)
+    (subst IsUtf8 (sym (cut-directory s t)) (splits-utf8 s directory (alone (split_of t)) (alone-splits s (split_of t) k f)))
 
 -- the prefix of parts that are given one by one
 pub prefix-parts : (s : Tests) (scheme authority : Option (List ℕ)) (q p : Parts) → scheme ≡ q.scheme → authority ≡ q.authority → q ≡ p

@@ -18,8 +18,8 @@ ended [] h = record { segments = []; whole = λ m. refl }
 ended (x ∷ xs) h =
     let e = end_slash (x ∷ xs) h (omega arith) in
     record {
-      segments = pieces 47 e.front;
-      whole = λ m. ap (λ l. pieces 47 (l ++ m)) e.whole ∙ (ap (pieces 47) (append_assoc e.front (47 ∷ []) m) ∙ pieces-append e.front m);
+      segments = pieces 47 e.prefix;
+      whole = λ m. ap (λ l. pieces 47 (l ++ m)) e.whole ∙ (ap (pieces 47) (append_assoc e.prefix (47 ∷ []) m) ∙ pieces-append e.prefix m);
     }
 
 pub alone : (t : List ℕ) (e : Ended t) → pieces 47 t ≡ e.segments ++ [] ∷ []

@@ -37,9 +37,9 @@ pub last_slash : (bs : List ℕ) (k : ℕ) → IsLastByte (is_byte 47) bs (Some 
 last_slash bs k h = (last_at bs k h.0.high (λ j a b. h.0.after j (omega arith) b) h.1).0
 
 -- ---- the last segment
-pub none_behind : (xs : List ℕ) → lacks 47 xs ≡ true → last_segment xs ≡ xs
-none_behind [] h = refl
-none_behind (x ∷ xs) h = rw h refl
+pub none_after : (xs : List ℕ) → lacks 47 xs ≡ true → last_segment xs ≡ xs
+none_after [] h = refl
+none_after (x ∷ xs) h = rw h refl
 
 pub at_last_slash : (xs : List ℕ) → (to_last_slash xs ++ last_segment xs ≡ xs) × (lacks 47 (last_segment xs) ≡ true)
 at_last_slash [] = (refl, refl)
@@ -51,20 +51,20 @@ at_last_slash (x ∷ xs) =
       | false ↦ λ e. (ap (λ ys. x ∷ ys) r.0, r.1)
     ] refl
 
-pub behind_slash : (bs : List ℕ) (k : ℕ) → IsLastByte (is_byte 47) bs (Some k) → drop (k + 1) bs ≡ last_segment bs
-behind_slash bs k h =
-    let front = last_slash bs k h in
-    let size : length (to_last_slash bs) ≡ k + 1 = sym (ap length front) ∙ length-take-le (k + 1) bs (omega (arith, h.0.high)) in
+pub after_slash : (bs : List ℕ) (k : ℕ) → IsLastByte (is_byte 47) bs (Some k) → drop (k + 1) bs ≡ last_segment bs
+after_slash bs k h =
+    let prefix = last_slash bs k h in
+    let size : length (to_last_slash bs) ≡ k + 1 = sym (ap length prefix) ∙ length-take-le (k + 1) bs (omega (arith, h.0.high)) in
     ap (drop (k + 1)) (sym (at_last_slash bs).0) ∙ drop_at (to_last_slash bs) (last_segment bs) (k + 1) size
 
 -- what is cut at the last slash ends with it
-has_front : (xs : List ℕ) → lacks 47 xs ≡ false → is_empty (to_last_slash xs) ≡ false
-has_front [] h = cc
-has_front (x ∷ xs) h = rw h refl
+has_prefix : (xs : List ℕ) → lacks 47 xs ≡ false → is_empty (to_last_slash xs) ≡ false
+has_prefix [] h = cc
+has_prefix (x ∷ xs) h = rw h refl
 
-none_front : (xs : List ℕ) → lacks 47 xs ≡ true → to_last_slash xs ≡ []
-none_front [] h = refl
-none_front (x ∷ xs) h = rw h refl
+none_prefix : (xs : List ℕ) → lacks 47 xs ≡ true → to_last_slash xs ≡ []
+none_prefix [] h = refl
+none_prefix (x ∷ xs) h = rw h refl
 
 pub ends : (xs : List ℕ) → ends_at_slash (to_last_slash xs) ≡ true
 ends [] = refl
@@ -77,7 +77,7 @@ ends (x ∷ xs) =
     at_last : lacks 47 xs ≡ true → ends_at_slash (cond (not (x == 47) && true) [] (x ∷ to_last_slash xs)) ≡ true
     at_last e =
         elim (x == 47) as (λ v. (x == 47) ≡ v → ends_at_slash (cond (not v && true) [] (x ∷ to_last_slash xs)) ≡ true) [
-          | true ↦ λ k. rw (none_front xs e) k
+          | true ↦ λ k. rw (none_prefix xs e) k
           | false ↦ λ _. refl
         ] refl
 
@@ -85,6 +85,6 @@ ends (x ∷ xs) =
         → ends_at_slash (cond (not (x == 47) && false) [] (x ∷ to_last_slash xs)) ≡ true
     at_more r e =
         elim (x == 47) as (λ v. ends_at_slash (cond (not v && false) [] (x ∷ to_last_slash xs)) ≡ true) [
-          | true ↦ rw (has_front xs e) r
-          | false ↦ rw (has_front xs e) r
+          | true ↦ rw (has_prefix xs e) r
+          | false ↦ rw (has_prefix xs e) r
         ]

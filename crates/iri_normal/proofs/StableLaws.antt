@@ -5,7 +5,7 @@ use Rattle.iri_grammar.proofs.CutLaws.{by_test, both}
 use Rattle.iri_grammar.specs.Parts.{starts_with_slash}
 use Rattle.iri_grammar.specs.Pieces.{pieces, onto}
 use Rattle.iri_normal.specs.Dots.{is_dot_segment, any_dot_segment, has_dot_segment}
-use Rattle.iri_normal.specs.DotRemoval.{is_two_dots, closed, remove_behind, remove_dots, path_text, dots}
+use Rattle.iri_normal.specs.DotRemoval.{is_two_dots, closed, remove_after, remove_dots, path_text, dots}
 use Rattle.iri_normal.specs.Guard.{guard}
 use Rattle.iri_normal.proofs.PieceLaws.{all_lack, pieces-some, pieces-append, pieces-whole, pieces-lack, nothing-is_no_dot}
 use Rattle.iri_normal.proofs.OutputLaws.{is_output, left, output-push, output-left, output-closed}
@@ -22,42 +22,42 @@ plain-closed : (ss st : List (List ℕ)) → any_dot_segment st ≡ false → an
 plain-closed [] st h = rw nothing-is_no_dot h
 plain-closed (s ∷ ss) st h = h
 
-plain-behind : (st ss : List (List ℕ)) → any_dot_segment st ≡ false → any_dot_segment (remove_behind st ss) ≡ false
-plain-behind st [] h = h
-plain-behind st (s ∷ ss) h =
+plain-after : (st ss : List (List ℕ)) → any_dot_segment st ≡ false → any_dot_segment (remove_after st ss) ≡ false
+plain-after st [] h = h
+plain-after st (s ∷ ss) h =
     elim (is_dot_segment s) as (λ b. is_dot_segment s ≡ b
-    → any_dot_segment (cond b (remove_behind (closed ss (left (is_two_dots s) st)) ss) (remove_behind (s ∷ st) ss)) ≡ false) [
-      | true ↦ λ _. plain-behind (closed ss (left (is_two_dots s) st)) ss
+    → any_dot_segment (cond b (remove_after (closed ss (left (is_two_dots s) st)) ss) (remove_after (s ∷ st) ss)) ≡ false) [
+      | true ↦ λ _. plain-after (closed ss (left (is_two_dots s) st)) ss
           (plain-closed ss (left (is_two_dots s) st) (plain-left (is_two_dots s) st h))
-      | false ↦ λ e. plain-behind (s ∷ st) ss (rw e h)
+      | false ↦ λ e. plain-after (s ∷ st) ss (rw e h)
     ] refl
 
 plain-removed : (ss : List (List ℕ)) → any_dot_segment (remove_dots ss) ≡ false
 plain-removed [] = rw nothing-is_no_dot refl
 plain-removed (s ∷ ss) =
-    elim (is_dot_segment s) as (λ b. is_dot_segment s ≡ b → any_dot_segment (cond b (remove_dots ss) (remove_behind (s ∷ []) ss)) ≡ false) [
+    elim (is_dot_segment s) as (λ b. is_dot_segment s ≡ b → any_dot_segment (cond b (remove_dots ss) (remove_after (s ∷ []) ss)) ≡ false) [
       | true ↦ λ _. plain-removed ss
-      | false ↦ λ e. plain-behind (s ∷ []) ss (rw e refl)
+      | false ↦ λ e. plain-after (s ∷ []) ss (rw e refl)
     ] refl
 
-pub output-behind : (st ss : List (List ℕ)) → is_output st ≡ true → all_lack ss ≡ true → is_output (remove_behind st ss) ≡ true
-output-behind st [] h k = h
-output-behind st (s ∷ ss) h k =
+pub output-after : (st ss : List (List ℕ)) → is_output st ≡ true → all_lack ss ≡ true → is_output (remove_after st ss) ≡ true
+output-after st [] h k = h
+output-after st (s ∷ ss) h k =
     let parts = both (lacks 47 s) (all_lack ss) k in
-    elim (is_dot_segment s) as (λ b. is_output (cond b (remove_behind (closed ss (left (is_two_dots s) st)) ss)
-    (remove_behind (s ∷ st) ss)) ≡ true) [
-      | true ↦ output-behind (closed ss (left (is_two_dots s) st)) ss
+    elim (is_dot_segment s) as (λ b. is_output (cond b (remove_after (closed ss (left (is_two_dots s) st)) ss)
+    (remove_after (s ∷ st) ss)) ≡ true) [
+      | true ↦ output-after (closed ss (left (is_two_dots s) st)) ss
           (output-closed ss (left (is_two_dots s) st) (output-left (is_two_dots s) st h)) parts.1
-      | false ↦ output-behind (s ∷ st) ss (output-push s st parts.0 h) parts.1
+      | false ↦ output-after (s ∷ st) ss (output-push s st parts.0 h) parts.1
     ]
 
 pub output-removed : (ss : List (List ℕ)) → all_lack ss ≡ true → is_output (remove_dots ss) ≡ true
 output-removed [] h = refl
 output-removed (s ∷ ss) h =
     let parts = both (lacks 47 s) (all_lack ss) h in
-    elim (is_dot_segment s) as (λ b. is_output (cond b (remove_dots ss) (remove_behind (s ∷ []) ss)) ≡ true) [
+    elim (is_dot_segment s) as (λ b. is_output (cond b (remove_dots ss) (remove_after (s ∷ []) ss)) ≡ true) [
       | true ↦ output-removed ss parts.1
-      | false ↦ output-behind (s ∷ []) ss (rw parts.0 refl) parts.1
+      | false ↦ output-after (s ∷ []) ss (rw parts.0 refl) parts.1
     ]
 
 any-append : (xs ys : List (List ℕ)) → any_dot_segment xs ≡ false → any_dot_segment ys ≡ false → any_dot_segment (xs ++ ys) ≡ false
@@ -101,21 +101,21 @@ unsplit-pieces (x ∷ xs) =
     (λ e. slashed-some xs ∙ (ap (λ ys. 47 ∷ ys) (unsplit-pieces xs) ∙ ap (λ y. y ∷ xs) (sym e)))
     (λ _. unsplit-onto x (pieces 47 xs) ∙ ap (λ ys. x ∷ ys) (unsplit-pieces xs))
 
-same-behind : (t : List ℕ) (st ss : List (List ℕ)) → any_dot_segment ss ≡ false
-    → path_text (remove_behind (t ∷ st) ss) ≡ path_text (t ∷ st) ++ slashed ss
-same-behind t st [] h = sym (append-nothing (path_text (t ∷ st)))
+same-after : (t : List ℕ) (st ss : List (List ℕ)) → any_dot_segment ss ≡ false
+    → path_text (remove_after (t ∷ st) ss) ≡ path_text (t ∷ st) ++ slashed ss
+same-after t st [] h = sym (append-nothing (path_text (t ∷ st)))
   where
     append-nothing : (xs : List ℕ) → xs ++ [] ≡ xs
     append-nothing [] = refl
     append-nothing (x ∷ xs) = ap (λ ys. x ∷ ys) (append-nothing xs)
-same-behind t st (s ∷ ss) h =
+same-after t st (s ∷ ss) h =
     let n = neither (is_dot_segment s) (any_dot_segment ss) h in
-    rw n.0 (same-behind s (t ∷ st) ss n.1 ∙ append_assoc (path_text (t ∷ st)) (47 ∷ s) (slashed ss))
+    rw n.0 (same-after s (t ∷ st) ss n.1 ∙ append_assoc (path_text (t ∷ st)) (47 ∷ s) (slashed ss))
 
 same-removed : (ss : List (List ℕ)) → any_dot_segment ss ≡ false → path_text (remove_dots ss) ≡ unsplit ss
 same-removed [] h = refl
 same-removed (s ∷ ss) h =
-    let n = neither (is_dot_segment s) (any_dot_segment ss) h in rw n.0 (same-behind s [] ss n.1)
+    let n = neither (is_dot_segment s) (any_dot_segment ss) h in rw n.0 (same-after s [] ss n.1)
 
 pub no_dots-same : (p : List ℕ) → has_dot_segment p ≡ false → dots p ≡ p
 unfolding dots
@@ -125,9 +125,9 @@ pub dots-stable : (p : List ℕ) → dots (dots p) ≡ dots p
 dots-stable p = no_dots-same (dots p) (no_dots_left p)
 
 -- ---- the guard
-pub dot_in_front : (q : List ℕ) → dots (47 ∷ 46 ∷ 47 ∷ q) ≡ dots (47 ∷ q)
+pub dot_before : (q : List ℕ) → dots (47 ∷ 46 ∷ 47 ∷ q) ≡ dots (47 ∷ q)
 unfolding dots is_dot_segment
-dot_in_front q = let r = pieces-some q in rw r.whole refl
+dot_before q = let r = pieces-some q in rw r.whole refl
 
 pub guard-dots : (q : List ℕ) (stands : Bool) → dots (guard q stands) ≡ dots q
 guard-dots [] true = refl
@@ -136,7 +136,7 @@ guard-dots (x ∷ xs) true = refl
 guard-dots (x ∷ xs) false =
     by_test x 47 (λ b. dots (cond (not (b && starts_with_slash xs)) (x ∷ xs) (47 ∷ 46 ∷ x ∷ xs)) ≡ dots (x ∷ xs))
     (λ e. elim (starts_with_slash xs) as (λ b. dots (cond (not b) (x ∷ xs) (47 ∷ 46 ∷ x ∷ xs))
-    ≡ dots (x ∷ xs)) [ true ↦ rw e (dot_in_front xs) | false ↦ refl ])
+    ≡ dots (x ∷ xs)) [ true ↦ rw e (dot_before xs) | false ↦ refl ])
     (λ _. refl)
 
 pub guarded-stable : (p : List ℕ) (stands : Bool) → dots (guard (dots p) stands) ≡ dots p

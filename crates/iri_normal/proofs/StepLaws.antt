@@ -2,7 +2,7 @@
 use Rattle.std.proofs.Common.{◌≡◌, ◌↔◌, ℕ, zero, suc, ◌+◌, ◌≤◌, true, false, cond, List, [], ◌∷◌, ◌++◌, Option, Some, None, length, refl}
 use Rattle.std.proofs.Common.{sym, ◌∙◌, ap, subst, append-nil, arith, length-append}
 use Rattle.std.specs.Prelude.{◌==◌}
-use Rattle.iri_grammar.specs.Cut.{before, from, behind}
+use Rattle.iri_grammar.specs.Cut.{before, from, after}
 use Rattle.iri_grammar.proofs.CutLaws.{by_test, joined}
 use Rattle.iri_grammar.specs.Pieces.{pieces, onto}
 use Rattle.iri_grammar.specs.inside.PiecesLaws.{more_pieces}
@@ -14,7 +14,7 @@ use Rattle.iri_normal.specs.DotRemoval.Step.{move_segment}
 use Rattle.iri_normal.specs.DotRemoval.LeadsTo.{ended, onward}
 use Rattle.iri_normal.proofs.PieceLaws.{pieces-some, pieces-slash, pieces-whole, dot_segment-lacks, one_dot-is_dot, one_dot-is_not_two}
 use Rattle.iri_normal.proofs.PieceLaws.{two_dots-is_dot, dot-is_one, nothing-is_no_dot}
-use Rattle.iri_normal.proofs.OutputLaws.{text_behind, text_from, dots-text}
+use Rattle.iri_normal.proofs.OutputLaws.{text_after, text_from, dots-text}
 
 -- what steps from an input and an output lead to
 abbrev result_of : List ℕ → List ℕ → List ℕ
@@ -23,13 +23,13 @@ result_of input output = text_from output (pieces 47 input)
 nothing_more : (output : List ℕ) → result_of [] output ≡ output
 nothing_more output = rw nothing-is_no_dot (append-nil output)
 
--- behind the first segment the input begins with a slash, or ends
-at_slash : (output xs : List ℕ) → text_behind output (more_pieces 47 (behind 47 xs)) ≡ result_of (from 47 xs) output
+-- after the first segment the input begins with a slash, or ends
+at_slash : (output xs : List ℕ) → text_after output (more_pieces 47 (after 47 xs)) ≡ result_of (from 47 xs) output
 at_slash output [] = sym (nothing_more output)
 at_slash output (x ∷ xs) =
-    elim (x == 47) as (λ b. (x == 47) ≡ b → text_behind output (more_pieces 47 (cond b (Some xs) (behind 47 xs)))
+    elim (x == 47) as (λ b. (x == 47) ≡ b → text_after output (more_pieces 47 (cond b (Some xs) (after 47 xs)))
     ≡ text_from output (pieces 47 (cond b (x ∷ xs) (from 47 xs)))) [
-      | true ↦ λ e. rw (e, nothing-is_no_dot) (ap (λ o. text_behind o (pieces 47 xs)) (sym (append-nil output)))
+      | true ↦ λ e. rw (e, nothing-is_no_dot) (ap (λ o. text_after o (pieces 47 xs)) (sym (append-nil output)))
       | false ↦ λ _. at_slash output xs
     ] refl
 
@@ -108,10 +108,10 @@ some_byte : (d : List ℕ) → is_dot_segment d ≡ true → 1 ≤ length d
 some_byte [] h = let n : false ≡ true = rw nothing-is_no_dot at h in cc
 some_byte (x ∷ xs) h = omega arith
 
--- a dot segment behind a slash
-progress_behind : (xs output : List ℕ) (o : Option (List ℕ)) → behind 47 xs ≡ o → is_dot_segment (before 47 xs) ≡ true
+-- a dot segment after a slash
+progress_after : (xs output : List ℕ) (o : Option (List ℕ)) → after 47 xs ≡ o → is_dot_segment (before 47 xs) ≡ true
     → Progress (47 ∷ xs) output
-progress_behind xs output None e h =
+progress_after xs output None e h =
     let whole : before 47 xs ≡ xs = sym (append-nil (before 47 xs)) ∙ (rw e at (joined 47 xs)) in
     let l = some_byte xs (rw whole at h) in
     elim (is_two_dots xs) as (λ b. is_two_dots xs ≡ b → Progress (47 ∷ xs) output) [
@@ -128,7 +128,7 @@ progress_behind xs output None e h =
         shorter = omega arith;
       }
     ] refl
-progress_behind xs output (Some r) e h =
+progress_after xs output (Some r) e h =
     let d = before 47 xs in
     let whole : 47 ∷ xs ≡ 47 ∷ (d ++ 47 ∷ r) = ap (λ ys. 47 ∷ ys) (sym (rw e at (joined 47 xs))) in
     let l : length (47 ∷ r) + 1 ≤ length (47 ∷ xs) = omega (arith, ap length whole, length-append d (47 ∷ r)) in
@@ -148,12 +148,12 @@ progress_behind xs output (Some r) e h =
     ] refl
 
 -- a dot segment at the start
-progress_front : (x : ℕ) (xs output : List ℕ) (o : Option (List ℕ)) → behind 47 xs ≡ o → is_dot_segment (x ∷ before 47 xs) ≡ true
+progress_prefix : (x : ℕ) (xs output : List ℕ) (o : Option (List ℕ)) → after 47 xs ≡ o → is_dot_segment (x ∷ before 47 xs) ≡ true
     → Progress (x ∷ xs) output
-progress_front x xs output None e h =
+progress_prefix x xs output None e h =
     let whole : before 47 xs ≡ xs = sym (append-nil (before 47 xs)) ∙ (rw e at (joined 47 xs)) in
     record { next_input = []; next_output = output; step = remove_all (rw whole at h) refl refl; shorter = omega arith }
-progress_front x xs output (Some r) e h =
+progress_prefix x xs output (Some r) e h =
     let d = before 47 xs in
     let whole : x ∷ xs ≡ x ∷ (d ++ 47 ∷ r) = ap (λ ys. x ∷ ys) (sym (rw e at (joined 47 xs))) in
     record {
@@ -167,8 +167,8 @@ progress : (x : ℕ) (xs output : List ℕ) → Progress (x ∷ xs) output
 progress x xs output =
     elim (is_dot_segment (first_segment x xs)) as (λ b. is_dot_segment (first_segment x xs) ≡ b → Progress (x ∷ xs) output) [
       | true ↦ λ h. by_test x 47 (λ b. is_dot_segment (cond b (before 47 xs) (x ∷ before 47 xs)) ≡ true → Progress (x ∷ xs) output)
-          (λ e k. rw e (progress_behind xs output (behind 47 xs) refl k))
-          (λ _ k. progress_front x xs output (behind 47 xs) refl k)
+          (λ e k. rw e (progress_after xs output (after 47 xs) refl k))
+          (λ _ k. progress_prefix x xs output (after 47 xs) refl k)
           h
       | false ↦ λ h. let l = from-length xs in record {
         next_input = from 47 xs;

@@ -21,9 +21,9 @@ parts_over : (p : ℕ → Bool) (f l : List ℕ) → ends_at_slash f ≡ true �
 parts_over p [] l h k = (nothing_over p, k)
 parts_over p (x ∷ xs) l h k =
     let e = end_slash (x ∷ xs) h (omega arith) in
-    let whole : x ∷ (xs ++ l) ≡ e.front ++ 47 ∷ l = ap (λ f. f ++ l) e.whole ∙ append_assoc e.front (47 ∷ []) l in
-    let c = text_over-cut p e.front l (subst (λ z. text_over p z ≡ true) whole k) in
-    (subst (λ z. text_over p z ≡ true) (sym e.whole) (text_over-append p e.front (47 ∷ []) c.left c.slash), c.right)
+    let whole : x ∷ (xs ++ l) ≡ e.prefix ++ 47 ∷ l = ap (λ f. f ++ l) e.whole ∙ append_assoc e.prefix (47 ∷ []) l in
+    let c = text_over-cut p e.prefix l (subst (λ z. text_over p z ≡ true) whole k) in
+    (subst (λ z. text_over p z ≡ true) (sym e.whole) (text_over-append p e.prefix (47 ∷ []) c.left c.slash), c.right)
 
 pub cut_over : (p : ℕ → Bool) (path : List ℕ) → text_over p path ≡ true
     → (text_over p (to_last_slash path) ≡ true) × (text_over p (last_segment path) ≡ true)

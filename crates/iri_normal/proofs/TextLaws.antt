@@ -33,8 +33,8 @@ over-cut p (suc n) (x ∷ xs) ys h =
     record { left = rw k.0 r.left; slash = r.slash; right = r.right }
 
 -- ---- the same of bytes
-pub utf8-behind : (c : ℕ) (xs ys : List ℕ) → c < 128 → IsUtf8 (xs ++ c ∷ ys) → IsUtf8 ys
-utf8-behind c xs ys a u =
+pub utf8-after : (c : ℕ) (xs ys : List ℕ) → c < 128 → IsUtf8 (xs ++ c ∷ ys) → IsUtf8 ys
+utf8-after c xs ys a u =
     let bs = xs ++ c ∷ ys in
     let at : get_or bs (length xs) 0 ≡ c = get_or-append_seam xs c ys 0 in
     let l : length xs < length bs = omega (arith, length-append xs (c ∷ ys)) in
@@ -42,10 +42,10 @@ utf8-behind c xs ys a u =
     subst (λ z. IsUtf8 z) d (IsUtf8-drop bs (length xs + 1) u (IsCharBoundary-after_ascii bs (length xs) u l (omega arith)))
 
 pub utf8-from : (c : ℕ) (xs ys : List ℕ) → c < 128 → IsUtf8 (xs ++ c ∷ ys) → IsUtf8 (c ∷ ys)
-utf8-from c xs ys a u = IsUtf8-append (c ∷ []) ys (one_byte-utf8 c a) (utf8-behind c xs ys a u)
+utf8-from c xs ys a u = IsUtf8-append (c ∷ []) ys (one_byte-utf8 c a) (utf8-after c xs ys a u)
 
-pub utf8-front : (c : ℕ) (xs ys : List ℕ) → c < 128 → IsUtf8 (xs ++ c ∷ ys) → IsUtf8 xs
-utf8-front c xs ys a u =
+pub utf8-prefix : (c : ℕ) (xs ys : List ℕ) → c < 128 → IsUtf8 (xs ++ c ∷ ys) → IsUtf8 xs
+utf8-prefix c xs ys a u =
     let bs = xs ++ c ∷ ys in
     let l : length xs < length bs = omega (arith, length-append xs (c ∷ ys)) in
     let d : drop (length xs) bs ≡ c ∷ ys = drop-append_seam xs (c ∷ ys) in
@@ -85,9 +85,9 @@ point_over p h = is_utf8-of p (46 ∷ []) (one_byte-utf8 46 (omega arith)) (rw h
 pub text_over-cut : (p : ℕ → Bool) (xs ys : List ℕ) → text_over p (xs ++ 47 ∷ ys) ≡ true → TextSides p xs ys
 text_over-cut p xs ys h =
     let u = text_over-utf8 p (xs ++ 47 ∷ ys) h in
-    let front = utf8-front 47 xs ys (omega arith) u in
-    let back = utf8-behind 47 xs ys (omega arith) u in
+    let prefix = utf8-prefix 47 xs ys (omega arith) u in
+    let back = utf8-after 47 xs ys (omega arith) u in
     let e : chars (xs ++ 47 ∷ ys) ≡ chars xs ++ 47 ∷ chars ys =
-    chars-append xs (47 ∷ ys) front ∙ ap (λ z. chars xs ++ z) (chars-slash ys) in
+    chars-append xs (47 ∷ ys) prefix ∙ ap (λ z. chars xs ++ z) (chars-slash ys) in
     let c = over-cut p 0 (chars xs) (chars ys) (subst (λ z. over_from p 0 z ≡ true) e (over-of p (xs ++ 47 ∷ ys) h)) in
-    record { left = is_utf8-of p xs front c.left; slash = slash_over p c.slash; right = is_utf8-of p ys back c.right }
+    record { left = is_utf8-of p xs prefix c.left; slash = slash_over p c.slash; right = is_utf8-of p ys back c.right }

@@ -17,12 +17,12 @@ use Rattle.iri_percent.proofs.NormalLaws.{normal_nil, normal_plain, normal_lone,
 use Rattle.iri_percent.proofs.Reading.{Reading, done, plain, char, lone, whole_plain, whole_triplet, percent_follows, read}
 use Rattle.iri_percent.proofs.Stability.{upper_hex, upper_octet, unreserved_percent}
 use Rattle.iri_normal.specs.LowerCase.{where_there}
-use Rattle.iri_normal.specs.Dots.{behind_dot, is_dot_segment}
-use Rattle.iri_normal.specs.DotRemoval.{is_all, is_one_dot, is_one_dot_behind, is_two_dots}
+use Rattle.iri_normal.specs.Dots.{after_dot, is_dot_segment}
+use Rattle.iri_normal.specs.DotRemoval.{is_all, is_one_dot, is_one_dot_after, is_two_dots}
 use Rattle.iri_normal.proofs.PieceLaws.{dot_kinds}
 use Rattle.iri_percent.proofs.MapForms.{value_small as small}
-use Rattle.iri_normal.proofs.DotLemmas.{one_dot as behind_dot-point}
-use Rattle.iri_normal.proofs.MapPaths.{behind_dot-plain}
+use Rattle.iri_normal.proofs.DotLemmas.{one_dot as after_dot-point}
+use Rattle.iri_normal.proofs.MapPaths.{after_dot-plain}
 
 -- ---- a dot at the start
 two : (a : ℕ) → is_ascii_hexdigit a ≡ true → (a == 50) ≡ (digit_value a == 2)
@@ -34,14 +34,14 @@ fourteen a h = grind (arith, nat_tests)
 digits : (x y : ℕ) → y < 16 → (x == 2 && y == 14) ≡ (x * 16 + y == 46)
 digits x y h = grind (arith, nat_tests)
 
-behind_dot-triplet : (a b : ℕ) (xs : List ℕ) → is_ascii_hexdigit a ≡ true → is_ascii_hexdigit b ≡ true
-    → behind_dot (37 ∷ a ∷ b ∷ xs) ≡ cond (octet a b == 46) (Some xs) None
-behind_dot-triplet a b xs p q = ap (λ v. cond v (Some xs) None)
+after_dot-triplet : (a b : ℕ) (xs : List ℕ) → is_ascii_hexdigit a ≡ true → is_ascii_hexdigit b ≡ true
+    → after_dot (37 ∷ a ∷ b ∷ xs) ≡ cond (octet a b == 46) (Some xs) None
+after_dot-triplet a b xs p q = ap (λ v. cond v (Some xs) None)
     (rw (two a p, fourteen b q) (digits (digit_value a) (digit_value b) (small b q)))
 
 no_dot : (a b : ℕ) (xs : List ℕ) → is_ascii_hexdigit a ≡ true → is_ascii_hexdigit b ≡ true → (octet a b == 46) ≡ false
-    → behind_dot (37 ∷ a ∷ b ∷ xs) ≡ None
-no_dot a b xs p q h = behind_dot-triplet a b xs p q ∙ rw h refl
+    → after_dot (37 ∷ a ∷ b ∷ xs) ≡ None
+no_dot a b xs p q h = after_dot-triplet a b xs p q ∙ rw h refl
 
 -- ---- characters
 pub point_unreserved : (s : Tests) → unreserved s 46 ≡ true
@@ -68,47 +68,47 @@ nothing_spelled sp os (more a b sp' os' p q k) e = cc
 
 -- a lone triplet
 lone-dot : (s : Tests) (a b : ℕ) (xs : List ℕ) → is_ascii_hexdigit a ≡ true → is_ascii_hexdigit b ≡ true → (octet a b == 46) ≡ false
-    → behind_dot (37 ∷ to_ascii_uppercase a ∷ to_ascii_uppercase b ∷ xs) ≡ None
+    → after_dot (37 ∷ to_ascii_uppercase a ∷ to_ascii_uppercase b ∷ xs) ≡ None
 lone-dot s a b xs p q h = no_dot (to_ascii_uppercase a) (to_ascii_uppercase b) xs (upper_hex a p) (upper_hex b q)
     (ap (λ o. o == 46) (upper_octet a b p q) ∙ h)
 
 -- a character in triplets
 char-dot : (s : Tests) (c : ℕ) (sp os xs : List ℕ) → IsSpec s → Spells sp os → os ≡ encode_utf8 c
-    → behind_dot (cond (unreserved s c) (map as_it_is (encode_utf8 c)) (map to_ascii_uppercase sp) ++ pct s xs)
-    ≡ where_there (pct s) (behind_dot (sp ++ xs))
+    → after_dot (cond (unreserved s c) (map as_it_is (encode_utf8 c)) (map to_ascii_uppercase sp) ++ pct s xs)
+    ≡ where_there (pct s) (after_dot (sp ++ xs))
 char-dot s c sp os xs k none e = let g = encode_bytes c in let no : [] ≡ g.lead ∷ g.tail = e ∙ g.split in cc
 char-dot s c sp os xs k (more a b sp' os' p q m) e =
-    by_test c 46 (λ v. (c == 46) ≡ v → behind_dot (cond (unreserved s c) (map as_it_is (encode_utf8 c))
-    (map to_ascii_uppercase (37 ∷ a ∷ b ∷ sp')) ++ pct s xs) ≡ where_there (pct s) (behind_dot (37 ∷ a ∷ b ∷ (sp' ++ xs))))
+    by_test c 46 (λ v. (c == 46) ≡ v → after_dot (cond (unreserved s c) (map as_it_is (encode_utf8 c))
+    (map to_ascii_uppercase (37 ∷ a ∷ b ∷ sp')) ++ pct s xs) ≡ where_there (pct s) (after_dot (37 ∷ a ∷ b ∷ (sp' ++ xs))))
     (λ same _. at_point same)
     (λ _ n. at_other n)
     refl
   where
-    at_point : c ≡ 46 → behind_dot (cond (unreserved s c) (map as_it_is (encode_utf8 c)) (map to_ascii_uppercase (37 ∷ a ∷ b ∷ sp'))
-        ++ pct s xs) ≡ where_there (pct s) (behind_dot (37 ∷ a ∷ b ∷ (sp' ++ xs)))
+    at_point : c ≡ 46 → after_dot (cond (unreserved s c) (map as_it_is (encode_utf8 c)) (map to_ascii_uppercase (37 ∷ a ∷ b ∷ sp'))
+        ++ pct s xs) ≡ where_there (pct s) (after_dot (37 ∷ a ∷ b ∷ (sp' ++ xs)))
     at_point same =
         let whole : octet a b ∷ os' ≡ 46 ∷ [] = e ∙ (ap encode_utf8 same ∙ encode_point) in
         let o : octet a b ≡ 46 = cc in
         let rest : os' ≡ [] = cc in
         let gone = nothing_spelled sp' os' m rest in
-        let right : behind_dot (37 ∷ a ∷ b ∷ (sp' ++ xs)) ≡ Some xs =
-        behind_dot-triplet a b (sp' ++ xs) p q
+        let right : after_dot (37 ∷ a ∷ b ∷ (sp' ++ xs)) ≡ Some xs =
+        after_dot-triplet a b (sp' ++ xs) p q
         ∙ (ap (λ v. cond (v == 46) (Some (sp' ++ xs)) None) o ∙ ap (λ ys. Some (ys ++ xs)) gone) in
-        rw (right, same, point_unreserved s, encode_point) (behind_dot-point (pct s xs))
+        rw (right, same, point_unreserved s, encode_point) (after_dot-point (pct s xs))
 
-    at_other : (c == 46) ≡ false → behind_dot (cond (unreserved s c) (map as_it_is (encode_utf8 c))
-        (map to_ascii_uppercase (37 ∷ a ∷ b ∷ sp')) ++ pct s xs) ≡ where_there (pct s) (behind_dot (37 ∷ a ∷ b ∷ (sp' ++ xs)))
+    at_other : (c == 46) ≡ false → after_dot (cond (unreserved s c) (map as_it_is (encode_utf8 c))
+        (map to_ascii_uppercase (37 ∷ a ∷ b ∷ sp')) ++ pct s xs) ≡ where_there (pct s) (after_dot (37 ∷ a ∷ b ∷ (sp' ++ xs)))
     at_other n =
         let g = encode_bytes c in
         let first : octet a b ≡ g.lead = let w : octet a b ∷ os' ≡ g.lead ∷ g.tail = e ∙ g.split in cc in
         let apart : (g.lead == 46) ≡ false = let l : lacks 46 (g.lead ∷ g.tail) ≡ true = ap (lacks 46) (sym g.split) ∙ no_point c n in
         not-true (g.lead == 46) (both (not (g.lead == 46)) (lacks 46 g.tail) l).0 in
         let far : (octet a b == 46) ≡ false = ap (λ o. o == 46) first ∙ apart in
-        let right : behind_dot (37 ∷ a ∷ b ∷ (sp' ++ xs)) ≡ None = no_dot a b (sp' ++ xs) p q far in
+        let right : after_dot (37 ∷ a ∷ b ∷ (sp' ++ xs)) ≡ None = no_dot a b (sp' ++ xs) p q far in
         rw right (elim (unreserved s c) as (λ v. unreserved s c ≡ v
-        → behind_dot (cond v (map as_it_is (encode_utf8 c)) (map to_ascii_uppercase (37 ∷ a ∷ b ∷ sp')) ++ pct s xs) ≡ None) [
+        → after_dot (cond v (map as_it_is (encode_utf8 c)) (map to_ascii_uppercase (37 ∷ a ∷ b ∷ sp')) ++ pct s xs) ≡ None) [
           | true ↦ λ u. rw (map_same (encode_utf8 c), g.split)
-              (behind_dot-plain g.lead (g.tail ++ pct s xs) (g.percent ∙ unreserved_percent s c k u) ∙ rw apart refl)
+              (after_dot-plain g.lead (g.tail ++ pct s xs) (g.percent ∙ unreserved_percent s c k u) ∙ rw apart refl)
           | false ↦ λ _. lone-dot s a b (map to_ascii_uppercase sp' ++ pct s xs) p q far
         ] refl)
       where
@@ -128,10 +128,10 @@ lone-far a b xs p q n =
     cc)
     (λ _. refl)
 
-dot-read : (s : Tests) (t : List ℕ) → IsSpec s → Reading t → behind_dot (pct s t) ≡ where_there (pct s) (behind_dot t)
+dot-read : (s : Tests) (t : List ℕ) → IsSpec s → Reading t → after_dot (pct s t) ≡ where_there (pct s) (after_dot t)
 dot-read s t k done = rw (normal_nil s as_it_is) refl
 dot-read s t k (plain x xs h r) =
-    rw (normal_plain s as_it_is x xs h, behind_dot-plain x xs h, behind_dot-plain x (pct s xs) h)
+    rw (normal_plain s as_it_is x xs h, after_dot-plain x xs h, after_dot-plain x (pct s xs) h)
     (elim (x == 46) as (λ b. cond b (Some (pct s xs)) None ≡ where_there (pct s) (cond b (Some xs) None)) [
       | true ↦ refl
       | false ↦ refl
@@ -144,7 +144,7 @@ dot-read s t k (lone a b xs p q n r) =
       lone-dot s a b (pct s xs) p q far,
     ) refl
 
-triplet-whole : (x : ℕ) (xs r : List ℕ) → whole_triplets (x ∷ xs) ≡ true → behind_dot (x ∷ xs) ≡ Some r → x ≡ 37 → whole_triplets r ≡ true
+triplet-whole : (x : ℕ) (xs r : List ℕ) → whole_triplets (x ∷ xs) ≡ true → after_dot (x ∷ xs) ≡ Some r → x ≡ 37 → whole_triplets r ≡ true
 triplet-whole x xs r w e same =
     let f = percent_follows xs (ap (λ y. whole_triplets (y ∷ xs)) (sym same) ∙ w) in
     let text : x ∷ xs ≡ 37 ∷ f.a ∷ f.b ∷ f.ys = ap (λ y. y ∷ xs) same ∙ ap (λ ys. 37 ∷ ys) f.text in
@@ -152,12 +152,12 @@ triplet-whole x xs r w e same =
     elim (octet f.a f.b == 46) as (λ b. cond b (Some f.ys) None ≡ Some r → whole_triplets r ≡ true) [
       | true ↦ λ l. let y : f.ys ≡ r = cc in subst (λ z. whole_triplets z ≡ true) y rest
       | false ↦ λ l. cc
-    ] (sym (behind_dot-triplet f.a f.b f.ys f.first f.second) ∙ (ap behind_dot (sym text) ∙ e))
+    ] (sym (after_dot-triplet f.a f.b f.ys f.first f.second) ∙ (ap after_dot (sym text) ∙ e))
 
--- what stands behind a dot has no stray `%` either
-pub behind_dot-whole : (t r : List ℕ) → whole_triplets t ≡ true → behind_dot t ≡ Some r → whole_triplets r ≡ true
-behind_dot-whole [] r w e = cc
-behind_dot-whole (x ∷ xs) r w e =
+-- what stands after a dot has no stray `%` either
+pub after_dot-whole : (t r : List ℕ) → whole_triplets t ≡ true → after_dot t ≡ Some r → whole_triplets r ≡ true
+after_dot-whole [] r w e = cc
+after_dot-whole (x ∷ xs) r w e =
     elim (x == 37) as (λ b. (x == 37) ≡ b → whole_triplets r ≡ true) [
       | false ↦ λ n. plain-whole n
       | true ↦ λ y. triplet-whole x xs r w e (eqb-true x 37 y)
@@ -169,11 +169,11 @@ behind_dot-whole (x ∷ xs) r w e =
           | true ↦ λ l. let same : xs ≡ r = cc in
               subst (λ z. whole_triplets z ≡ true) same (sym (whole_plain x xs n) ∙ w)
           | false ↦ λ l. cc
-        ] (sym (behind_dot-plain x xs n) ∙ e)
+        ] (sym (after_dot-plain x xs n) ∙ e)
 
-pub behind_dot-pct : (s : Tests) (t : List ℕ) → IsSpec s → whole_triplets t ≡ true
-    → behind_dot (pct s t) ≡ where_there (pct s) (behind_dot t)
-behind_dot-pct s t k w = dot-read s t k (read t w)
+pub after_dot-pct : (s : Tests) (t : List ℕ) → IsSpec s → whole_triplets t ≡ true
+    → after_dot (pct s t) ≡ where_there (pct s) (after_dot t)
+after_dot-pct s t k w = dot-read s t k (read t w)
 
 -- ---- nothing stays nothing, and something something
 empty-read : (s : Tests) (t : List ℕ) → Reading t → is_empty (pct s t) ≡ is_empty t
@@ -207,15 +207,15 @@ mapped-all s (Some (x ∷ xs)) h = all-some (pct s (x ∷ xs)) (empty-read s (x 
     all-some (y ∷ ys) e = refl
 
 pub one_dot-pct : (s : Tests) (t : List ℕ) → IsSpec s → whole_triplets t ≡ true → is_one_dot (pct s t) ≡ is_one_dot t
-one_dot-pct s t k w = ap is_all (behind_dot-pct s t k w) ∙ mapped-all s (behind_dot t) (λ r e. behind_dot-whole t r w e)
+one_dot-pct s t k w = ap is_all (after_dot-pct s t k w) ∙ mapped-all s (after_dot t) (λ r e. after_dot-whole t r w e)
 
-mapped-behind : (s : Tests) (o : Option (List ℕ)) → IsSpec s → ((r : List ℕ) → o ≡ Some r → whole_triplets r ≡ true)
-    → is_one_dot_behind (where_there (pct s) o) ≡ is_one_dot_behind o
-mapped-behind s None k h = refl
-mapped-behind s (Some r) k h = one_dot-pct s r k (h r refl)
+mapped-after : (s : Tests) (o : Option (List ℕ)) → IsSpec s → ((r : List ℕ) → o ≡ Some r → whole_triplets r ≡ true)
+    → is_one_dot_after (where_there (pct s) o) ≡ is_one_dot_after o
+mapped-after s None k h = refl
+mapped-after s (Some r) k h = one_dot-pct s r k (h r refl)
 
 pub two_dots-pct : (s : Tests) (t : List ℕ) → IsSpec s → whole_triplets t ≡ true → is_two_dots (pct s t) ≡ is_two_dots t
-two_dots-pct s t k w = ap is_one_dot_behind (behind_dot-pct s t k w) ∙ mapped-behind s (behind_dot t) k (λ r e. behind_dot-whole t r w e)
+two_dots-pct s t k w = ap is_one_dot_after (after_dot-pct s t k w) ∙ mapped-after s (after_dot t) k (λ r e. after_dot-whole t r w e)
 
 pub dot_segment-pct : (s : Tests) (t : List ℕ) → IsSpec s → whole_triplets t ≡ true → is_dot_segment (pct s t) ≡ is_dot_segment t
 dot_segment-pct s t k w = dot_kinds (pct s t) ∙ (rw (one_dot-pct s t k w, two_dots-pct s t k w) (sym (dot_kinds t)))

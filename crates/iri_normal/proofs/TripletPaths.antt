@@ -4,7 +4,7 @@ use Rattle.std.proofs.Common.{append-nil}
 use Rattle.std.specs.Prelude.{◌==◌}
 use Rattle.std.specs.Char.{is_ascii_hexdigit, to_ascii_uppercase, encode_utf8}
 use Rattle.iri_grammar.specs.Classes.{Tests, IsSpec, unreserved, is_ascii_unreserved}
-use Rattle.iri_grammar.specs.Cut.{lacks, before, behind}
+use Rattle.iri_grammar.specs.Cut.{lacks, before, after}
 use Rattle.iri_grammar.proofs.CutLaws.{by_test, both, lacks-append, lacks-other, test_apart}
 use Rattle.iri_grammar.proofs.CutBytes.{lacks-encodes}
 use Rattle.iri_grammar.specs.Pieces.{pieces, onto}
@@ -13,13 +13,13 @@ use Rattle.iri_grammar.proofs.PiecesLaws.{pieces_cut}
 use Rattle.iri_percent.specs.Units.{whole_triplets, two_digits}
 use Rattle.iri_percent.specs.Triplets.{as_it_is, pct}
 use Rattle.iri_percent.proofs.UnitLaws.{Spells, none, more}
-use Rattle.iri_percent.specs.MarkLaws.{IsMark}
-use Rattle.iri_percent.proofs.MarkLaws.{pct_mark, slash}
+use Rattle.iri_percent.specs.DelimiterLaws.{IsOutsideTriplets}
+use Rattle.iri_percent.proofs.DelimiterLaws.{pct_delimiter, slash}
 use Rattle.iri_percent.proofs.NormalLaws.{normal_nil, normal_plain, normal_lone, normal_char}
 use Rattle.iri_percent.proofs.Reading.{Reading, done, plain, char, lone, read}
 use Rattle.iri_percent.proofs.Stability.{upper_hex}
 use Rattle.iri_normal.specs.Dots.{is_dot_segment}
-use Rattle.iri_normal.specs.DotRemoval.{is_two_dots, without_top, closed, remove_behind, remove_dots, path_text, dots}
+use Rattle.iri_normal.specs.DotRemoval.{is_two_dots, without_top, closed, remove_after, remove_dots, path_text, dots}
 use Rattle.iri_normal.proofs.PieceLaws.{all_lack, pieces-whole, pieces-slash, pieces-lack}
 use Rattle.iri_normal.proofs.OutputLaws.{left}
 use Rattle.iri_normal.proofs.StableLaws.{unsplit, unsplit-pieces}
@@ -28,30 +28,30 @@ use Rattle.iri_normal.proofs.TripletDots.{map_same, two_dots-pct, dot_segment-pc
 -- ---- a delimiter stays away
 -- an ASCII byte that is no part of a triplet and never decoded
 pub record IsDelimiter (s : Tests) (m : ℕ) : Type 0 where
-  pub mark : IsMark m
+  pub delimiter : IsOutsideTriplets m
   pub ascii : m < 128
   pub reserved : unreserved s m ≡ false
 
-hex-apart : (m a : ℕ) → IsMark m → is_ascii_hexdigit a ≡ true → (a == m) ≡ false
+hex-apart : (m a : ℕ) → IsOutsideTriplets m → is_ascii_hexdigit a ≡ true → (a == m) ≡ false
 hex-apart m a k h = test_apart is_ascii_hexdigit m a k.digit h
 
-percent-apart : (m : ℕ) → IsMark m → (37 == m) ≡ false
+percent-apart : (m : ℕ) → IsOutsideTriplets m → (37 == m) ≡ false
 percent-apart m k = by_test 37 m (λ b. b ≡ false) (λ e. let no : (37 == 37) ≡ false = subst (λ y. (y == 37) ≡ false) (sym e) k.percent in
     cc) (λ _. refl)
 
-triplet-lacks : (m a b : ℕ) (xs : List ℕ) → IsMark m → is_ascii_hexdigit a ≡ true → is_ascii_hexdigit b ≡ true → lacks m xs ≡ true
+triplet-lacks : (m a b : ℕ) (xs : List ℕ) → IsOutsideTriplets m → is_ascii_hexdigit a ≡ true → is_ascii_hexdigit b ≡ true → lacks m xs ≡ true
     → lacks m (37 ∷ a ∷ b ∷ xs) ≡ true
 triplet-lacks m a b xs k p q h = lacks-other m 37 (a ∷ b ∷ xs) (percent-apart m k)
     (lacks-other m a (b ∷ xs) (hex-apart m a k p) (lacks-other m b xs (hex-apart m b k q) h))
 
-upper-lacks : (m : ℕ) (sp os : List ℕ) → IsMark m → Spells sp os → lacks m (map to_ascii_uppercase sp) ≡ true
+upper-lacks : (m : ℕ) (sp os : List ℕ) → IsOutsideTriplets m → Spells sp os → lacks m (map to_ascii_uppercase sp) ≡ true
 upper-lacks m sp os k none = refl
 upper-lacks m sp os k (more a b sp' os' p q r) = triplet-lacks m (to_ascii_uppercase a) (to_ascii_uppercase b)
     (map to_ascii_uppercase sp') k (upper_hex a p) (upper_hex b q) (upper-lacks m sp' os' k r)
 
-lacks-behind : (m : ℕ) (xs ys : List ℕ) → lacks m (xs ++ ys) ≡ true → lacks m ys ≡ true
-lacks-behind m [] ys h = h
-lacks-behind m (x ∷ xs) ys h = lacks-behind m xs ys (both (not (x == m)) (lacks m (xs ++ ys)) h).1
+lacks-after : (m : ℕ) (xs ys : List ℕ) → lacks m (xs ++ ys) ≡ true → lacks m ys ≡ true
+lacks-after m [] ys h = h
+lacks-after m (x ∷ xs) ys h = lacks-after m xs ys (both (not (x == m)) (lacks m (xs ++ ys)) h).1
 
 pub encoded-lacks : (s : Tests) (m c : ℕ) → IsDelimiter s m → unreserved s c ≡ true → lacks m (map as_it_is (encode_utf8 c)) ≡ true
 encoded-lacks s m c k u =
@@ -64,24 +64,24 @@ lacks-read s m t k done h = rw (normal_nil s as_it_is) refl
 lacks-read s m t k (plain x xs n r) h =
     let l = both (not (x == m)) (lacks m xs) h in rw (normal_plain s as_it_is x xs n, l.0) (lacks-read s m xs k r l.1)
 lacks-read s m t k (char c sp xs n sps r) h =
-    let rest = lacks-read s m xs k r (lacks-behind m sp xs h) in
+    let rest = lacks-read s m xs k r (lacks-after m sp xs h) in
     rw (normal_char s as_it_is c sp xs n sps) (lacks-append m
     (cond (unreserved s c) (map as_it_is (encode_utf8 c)) (map to_ascii_uppercase sp)) (pct s xs)
     (elim (unreserved s c) as (λ v. unreserved s c ≡ v
     → lacks m (cond v (map as_it_is (encode_utf8 c)) (map to_ascii_uppercase sp)) ≡ true) [
       | true ↦ λ u. encoded-lacks s m c k u
-      | false ↦ λ _. upper-lacks m sp (encode_utf8 c) k.mark sps
+      | false ↦ λ _. upper-lacks m sp (encode_utf8 c) k.delimiter sps
     ] refl) rest)
 lacks-read s m t k (lone a b xs p q n r) h =
-    rw (normal_lone s as_it_is a b xs p q n) (triplet-lacks m (to_ascii_uppercase a) (to_ascii_uppercase b) (pct s xs) k.mark
-    (upper_hex a p) (upper_hex b q) (lacks-read s m xs k r (lacks-behind m (37 ∷ a ∷ b ∷ []) xs h)))
+    rw (normal_lone s as_it_is a b xs p q n) (triplet-lacks m (to_ascii_uppercase a) (to_ascii_uppercase b) (pct s xs) k.delimiter
+    (upper_hex a p) (upper_hex b q) (lacks-read s m xs k r (lacks-after m (37 ∷ a ∷ b ∷ []) xs h)))
 
 pub pct-lacks : (s : Tests) (m : ℕ) (t : List ℕ) → IsDelimiter s m → whole_triplets t ≡ true → lacks m t ≡ true → lacks m (pct s t) ≡ true
 pct-lacks s m t k w h = lacks-read s m t k (read t w) h
 
 pub slash-delimits : (s : Tests) → IsSpec s → IsDelimiter s 47
 unfolding unreserved is_ascii_unreserved
-slash-delimits s k = record { mark = slash; ascii = omega arith; reserved = rw (k.ucs_ascii 47 (omega arith)) refl }
+slash-delimits s k = record { delimiter = slash; ascii = omega arith; reserved = rw (k.ucs_ascii 47 (omega arith)) refl }
 
 -- ---- the segments
 abbrev pub all_whole : List (List ℕ) → Bool
@@ -107,7 +107,7 @@ whole-pieces (x ∷ xs) w =
     elim (x == 47) as (λ b. all_whole (cond b ([] ∷ pieces 47 xs) (onto x (pieces 47 xs))) ≡ true) [
       | true ↦ r
       | false ↦
-          let l = both (whole_triplets (before 47 xs)) (all_whole (more_pieces 47 (behind 47 xs)))
+          let l = both (whole_triplets (before 47 xs)) (all_whole (more_pieces 47 (after 47 xs)))
           (subst (λ ps. all_whole ps ≡ true) (pieces_cut 47 xs) r) in
           rw (pieces_cut 47 xs) (rw (percent-before x xs k.0, l.0) l.1)
     ]
@@ -121,14 +121,14 @@ pieces-unsplit s t [] k l w =
 pieces-unsplit s t (u ∷ us) k l w =
     let lt = both (lacks 47 t) (all_lack (u ∷ us)) l in
     let wt = both (whole_triplets t) (all_whole (u ∷ us)) w in
-    ap (pieces 47) (pct_mark s 47 t (unsplit (u ∷ us)) slash)
+    ap (pieces 47) (pct_delimiter s 47 t (unsplit (u ∷ us)) slash)
     ∙ (pieces-slash (pct s t) (pct s (unsplit (u ∷ us))) (pct-lacks s 47 t (slash-delimits s k) wt.0 lt.0)
     ∙ ap (λ ps. pct s t ∷ ps) (pieces-unsplit s u us k lt.1 wt.1))
 
 pub pieces-pct : (s : Tests) (p : List ℕ) → IsSpec s → whole_triplets p ≡ true → pieces 47 (pct s p) ≡ map (pct s) (pieces 47 p)
 pieces-pct s p k w =
     ap (λ t. pieces 47 (pct s t)) (sym (unsplit-pieces p))
-    ∙ (rw (pieces_cut 47 p) (pieces-unsplit s (before 47 p) (more_pieces 47 (behind 47 p)) k
+    ∙ (rw (pieces_cut 47 p) (pieces-unsplit s (before 47 p) (more_pieces 47 (after 47 p)) k
     (subst (λ ps. all_lack ps ≡ true) (pieces_cut 47 p) (pieces-lack p))
     (subst (λ ps. all_whole ps ≡ true) (pieces_cut 47 p) (whole-pieces p w))))
 
@@ -146,19 +146,19 @@ closed-map : (s : Tests) (ss st : List (List ℕ)) → closed (map (pct s) ss) (
 closed-map s [] st = rw (normal_nil s as_it_is) refl
 closed-map s (t ∷ ts) st = refl
 
-behind-map : (s : Tests) (st ss : List (List ℕ)) → IsSpec s → all_whole ss ≡ true
-    → remove_behind (map (pct s) st) (map (pct s) ss) ≡ map (pct s) (remove_behind st ss)
-behind-map s st [] k w = refl
-behind-map s st (t ∷ ts) k w =
+after-map : (s : Tests) (st ss : List (List ℕ)) → IsSpec s → all_whole ss ≡ true
+    → remove_after (map (pct s) st) (map (pct s) ss) ≡ map (pct s) (remove_after st ss)
+after-map s st [] k w = refl
+after-map s st (t ∷ ts) k w =
     let l = both (whole_triplets t) (all_whole ts) w in
     rw (dot_segment-pct s t k l.0, two_dots-pct s t k l.0)
-    (elim (is_dot_segment t) as (λ b. cond b (remove_behind (closed (map (pct s) ts) (left (is_two_dots t) (map (pct s) st)))
-    (map (pct s) ts)) (remove_behind (map (pct s) (t ∷ st)) (map (pct s) ts))
-    ≡ map (pct s) (cond b (remove_behind (closed ts (left (is_two_dots t) st)) ts) (remove_behind (t ∷ st) ts))) [
-      | true ↦ ap (λ o. remove_behind (closed (map (pct s) ts) o) (map (pct s) ts)) (left-map s (is_two_dots t) st)
-          ∙ (ap (λ o. remove_behind o (map (pct s) ts)) (closed-map s ts (left (is_two_dots t) st))
-          ∙ behind-map s (closed ts (left (is_two_dots t) st)) ts k l.1)
-      | false ↦ behind-map s (t ∷ st) ts k l.1
+    (elim (is_dot_segment t) as (λ b. cond b (remove_after (closed (map (pct s) ts) (left (is_two_dots t) (map (pct s) st)))
+    (map (pct s) ts)) (remove_after (map (pct s) (t ∷ st)) (map (pct s) ts))
+    ≡ map (pct s) (cond b (remove_after (closed ts (left (is_two_dots t) st)) ts) (remove_after (t ∷ st) ts))) [
+      | true ↦ ap (λ o. remove_after (closed (map (pct s) ts) o) (map (pct s) ts)) (left-map s (is_two_dots t) st)
+          ∙ (ap (λ o. remove_after o (map (pct s) ts)) (closed-map s ts (left (is_two_dots t) st))
+          ∙ after-map s (closed ts (left (is_two_dots t) st)) ts k l.1)
+      | false ↦ after-map s (t ∷ st) ts k l.1
     ])
 
 removed-map : (s : Tests) (ss : List (List ℕ)) → IsSpec s → all_whole ss ≡ true
@@ -167,16 +167,16 @@ removed-map s [] k w = rw (normal_nil s as_it_is) refl
 removed-map s (t ∷ ts) k w =
     let l = both (whole_triplets t) (all_whole ts) w in
     rw (dot_segment-pct s t k l.0)
-    (elim (is_dot_segment t) as (λ b. cond b (remove_dots (map (pct s) ts)) (remove_behind (map (pct s) (t ∷ [])) (map (pct s) ts))
-    ≡ map (pct s) (cond b (remove_dots ts) (remove_behind (t ∷ []) ts))) [
+    (elim (is_dot_segment t) as (λ b. cond b (remove_dots (map (pct s) ts)) (remove_after (map (pct s) (t ∷ [])) (map (pct s) ts))
+    ≡ map (pct s) (cond b (remove_dots ts) (remove_after (t ∷ []) ts))) [
       | true ↦ removed-map s ts k l.1
-      | false ↦ behind-map s (t ∷ []) ts k l.1
+      | false ↦ after-map s (t ∷ []) ts k l.1
     ])
 
 text-map : (s : Tests) (st : List (List ℕ)) → path_text (map (pct s) st) ≡ pct s (path_text st)
 text-map s [] = sym (normal_nil s as_it_is)
 text-map s (t ∷ []) = refl
-text-map s (t ∷ u ∷ us) = ap (λ xs. xs ++ 47 ∷ pct s t) (text-map s (u ∷ us)) ∙ sym (pct_mark s 47 (path_text (u ∷ us)) t slash)
+text-map s (t ∷ u ∷ us) = ap (λ xs. xs ++ 47 ∷ pct s t) (text-map s (u ∷ us)) ∙ sym (pct_delimiter s 47 (path_text (u ∷ us)) t slash)
 
 pub dots-pct : (s : Tests) (p : List ℕ) → IsSpec s → whole_triplets p ≡ true → dots (pct s p) ≡ pct s (dots p)
 unfolding dots

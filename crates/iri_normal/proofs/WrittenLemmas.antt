@@ -2,7 +2,7 @@
 use Rattle.std.proofs.Common.{◌≡◌, ℕ, Bool, true, false, cond, ◌||◌, List, [], ◌∷◌, ◌++◌, Option, Some, None, refl, sym, ◌∙◌, ap, subst}
 use Rattle.std.proofs.Common.{append_assoc}
 use Rattle.std.proofs.lemmas.List.{append-nil}
-use Rattle.iri_grammar.specs.Cut.{before, behind}
+use Rattle.iri_grammar.specs.Cut.{before, after}
 use Rattle.iri_grammar.specs.Parts.{is_empty}
 use Rattle.iri_grammar.specs.Pieces.{pieces, joined}
 use Rattle.iri_grammar.specs.inside.PiecesLaws.{more_pieces}
@@ -13,7 +13,7 @@ use Rattle.iri_normal.specs.Dots.{is_dot_segment, any_dot_segment, has_dot_segme
 use Rattle.iri_normal.specs.Target.{ends_at_slash}
 use Rattle.iri_normal.proofs.EndedLemmas.{both-end, neither, slash-ends}
 use Rattle.iri_normal.proofs.SegmentLemmas.{alone, ended}
-use Rattle.iri_normal.proofs.OutputLaws.{text_behind, text_from, dots-text}
+use Rattle.iri_normal.proofs.OutputLaws.{text_after, text_from, dots-text}
 use Rattle.iri_normal.proofs.PieceLaws.{pieces-some, nothing-is_no_dot}
 use Rattle.iri_normal.specs.inside.Written.{but_last, popped, left, closing, written_segments, written, or_nothing}
 
@@ -38,7 +38,7 @@ left-nothing false = refl
 pub two_ends : (o s r : List ℕ) → (o ++ 47 ∷ s) ++ r ≡ (o ++ 47 ∷ []) ++ (s ++ r)
 two_ends o s r = append_assoc o (47 ∷ s) r ∙ sym (append_assoc o (47 ∷ []) (s ++ r))
 
-written-output : (o s : List ℕ) (ss : List (List ℕ)) → text_behind o (s ∷ ss) ≡ written_segments (o ++ 47 ∷ []) (s ∷ ss)
+written-output : (o s : List ℕ) (ss : List (List ℕ)) → text_after o (s ∷ ss) ≡ written_segments (o ++ 47 ∷ []) (s ∷ ss)
 written-output o s [] =
     elim (is_dot_segment s) as (λ b. cond b (cond (is_two_dots s) (without_last o) o ++ 47 ∷ []) (o ++ 47 ∷ s)
     ≡ cond b (left (is_two_dots s) (o ++ 47 ∷ [])) ((o ++ 47 ∷ []) ++ (s ++ []))) [
@@ -46,7 +46,7 @@ written-output o s [] =
       | false ↦ sym (append-nil (o ++ 47 ∷ s)) ∙ two_ends o s []
     ]
 written-output o s (t ∷ ts) =
-    elim (is_dot_segment s) as (λ b. cond b (text_behind (cond (is_two_dots s) (without_last o) o) (t ∷ ts)) (text_behind (o ++ 47 ∷ s) (t ∷ ts))
+    elim (is_dot_segment s) as (λ b. cond b (text_after (cond (is_two_dots s) (without_last o) o) (t ∷ ts)) (text_after (o ++ 47 ∷ s) (t ∷ ts))
     ≡ cond b (written_segments (left (is_two_dots s) (o ++ 47 ∷ [])) (t ∷ ts))
     (written_segments ((o ++ 47 ∷ []) ++ (s ++ 47 ∷ [])) (t ∷ ts))) [
       | true ↦ written-output (cond (is_two_dots s) (without_last o) o) t ts
@@ -62,7 +62,7 @@ written-from (s ∷ []) =
       | false ↦ sym (append-nil s)
     ]
 written-from (s ∷ t ∷ ts) =
-    elim (is_dot_segment s) as (λ b. cond b (text_from [] (t ∷ ts)) (text_behind s (t ∷ ts))
+    elim (is_dot_segment s) as (λ b. cond b (text_from [] (t ∷ ts)) (text_after s (t ∷ ts))
     ≡ cond b (written_segments (left (is_two_dots s) []) (t ∷ ts)) (written_segments (s ++ 47 ∷ []) (t ∷ ts))) [
       | true ↦ written-from (t ∷ ts) ∙ ap (λ l. written_segments l (t ∷ ts)) (sym (left-nothing (is_two_dots s)))
       | false ↦ written-output s t ts
@@ -82,8 +82,8 @@ pub written-nothing : (b : List ℕ) → written b [] ≡ b
 written-nothing b = rw nothing-is_no_dot (append-nil b)
 
 pub written-dot : (b m : List ℕ) → is_dot_segment (before 47 m) ≡ true
-    → written b m ≡ written (left (is_two_dots (before 47 m)) b) (or_nothing (behind 47 m))
-written-dot b m h = ap (written_segments b) (pieces_cut 47 m) ∙ rw h (by_rest (left (is_two_dots (before 47 m)) b) (behind 47 m))
+    → written b m ≡ written (left (is_two_dots (before 47 m)) b) (or_nothing (after 47 m))
+written-dot b m h = ap (written_segments b) (pieces_cut 47 m) ∙ rw h (by_rest (left (is_two_dots (before 47 m)) b) (after 47 m))
   where
     by_rest : (l : List ℕ) (o : Option (List ℕ)) → written_segments l (more_pieces 47 o) ≡ written l (or_nothing o)
     by_rest l None = sym (written-nothing l)

@@ -2,7 +2,7 @@
 use Rattle.std.specs.Prelude.{◌≡◌, ℕ, Bool, true, false, cond, ◌==◌, List, [], ◌∷◌, ◌++◌, Option, Some, None}
 use Rattle.iri_grammar.specs.Cut.{before, from, lacks}
 use Rattle.iri_grammar.specs.Pieces.{pieces}
-use Rattle.iri_normal.specs.Dots.{behind_dot, is_dot_segment}
+use Rattle.iri_normal.specs.Dots.{after_dot, is_dot_segment}
 use Rattle.iri_grammar.specs.Characters.{slash}
 
 abbrev pub is_all : Option (List ℕ) → Bool
@@ -12,15 +12,15 @@ is_all (Some (x ∷ xs)) = false
 
 -- `.`, in any spelling
 abbrev pub is_one_dot : List ℕ → Bool
-is_one_dot segment = is_all (behind_dot segment)
+is_one_dot segment = is_all (after_dot segment)
 
-abbrev pub is_one_dot_behind : Option (List ℕ) → Bool
-is_one_dot_behind None = false
-is_one_dot_behind (Some rest) = is_one_dot rest
+abbrev pub is_one_dot_after : Option (List ℕ) → Bool
+is_one_dot_after None = false
+is_one_dot_after (Some rest) = is_one_dot rest
 
 -- `..`, in any spelling
 abbrev pub is_two_dots : List ℕ → Bool
-is_two_dots segment = is_one_dot_behind (behind_dot segment)
+is_two_dots segment = is_one_dot_after (after_dot segment)
 
 -- the output without its last segment and the `/` before it: what stands before the last `/`, or nothing where there is none
 abbrev pub without_last : List ℕ → List ℕ
@@ -70,21 +70,21 @@ without_top [] = [] ∷ []
 without_top (s ∷ []) = [] ∷ []
 without_top (s ∷ t ∷ ss) = t ∷ ss
 
--- behind a dot segment at the end of the path a `/` stays
+-- after a dot segment at the end of the path a `/` stays
 abbrev pub closed : List (List ℕ) → List (List ℕ) → List (List ℕ)
 closed [] output = [] ∷ output
 closed (s ∷ ss) output = output
 
 -- the segments that follow a `/`
-abbrev pub remove_behind : List (List ℕ) → List (List ℕ) → List (List ℕ)
-remove_behind output [] = output
-remove_behind output (s ∷ ss) = cond (is_dot_segment s) (remove_behind (closed ss (cond (is_two_dots s) (without_top output) output)) ss)
-    (remove_behind (s ∷ output) ss)
+abbrev pub remove_after : List (List ℕ) → List (List ℕ) → List (List ℕ)
+remove_after output [] = output
+remove_after output (s ∷ ss) = cond (is_dot_segment s) (remove_after (closed ss (cond (is_two_dots s) (without_top output) output)) ss)
+    (remove_after (s ∷ output) ss)
 
 -- dot segments at the start go
 abbrev pub remove_dots : List (List ℕ) → List (List ℕ)
 remove_dots [] = [] ∷ []
-remove_dots (s ∷ ss) = cond (is_dot_segment s) (remove_dots ss) (remove_behind (s ∷ []) ss)
+remove_dots (s ∷ ss) = cond (is_dot_segment s) (remove_dots ss) (remove_after (s ∷ []) ss)
 
 -- the text of segments, the last one first, with a `/` between each two
 abbrev pub path_text : List (List ℕ) → List ℕ

@@ -4,30 +4,30 @@ use Rattle.iri_grammar.specs.Pieces.{pieces}
 use Rattle.iri_grammar.specs.Characters.{dot, percent_sign, slash}
 
 -- what follows a dot at the start, where there is one, in any spelling
-abbrev pub behind_dot : List ℕ → Option (List ℕ)
-behind_dot [] = None
-behind_dot (x ∷ []) = cond (x == dot) (Some []) None
-behind_dot (x ∷ y ∷ []) = cond (x == dot) (Some (y ∷ [])) None
-behind_dot (x ∷ y ∷ z ∷ xs) = cond (x == dot) (Some (y ∷ z ∷ xs))
+abbrev pub after_dot : List ℕ → Option (List ℕ)
+after_dot [] = None
+after_dot (x ∷ []) = cond (x == dot) (Some []) None
+after_dot (x ∷ y ∷ []) = cond (x == dot) (Some (y ∷ [])) None
+after_dot (x ∷ y ∷ z ∷ xs) = cond (x == dot) (Some (y ∷ z ∷ xs))
     (cond (x == percent_sign && y == 50 && (z == 69 || z == 101)) (Some xs) None)
 
 -- nothing, or one dot more
 abbrev pub is_dot_or_nothing : List ℕ → Bool
 is_dot_or_nothing [] = true
-is_dot_or_nothing (x ∷ xs) = is_nothing (behind_dot (x ∷ xs))
+is_dot_or_nothing (x ∷ xs) = is_nothing (after_dot (x ∷ xs))
   where
     is_nothing : Option (List ℕ) → Bool
     is_nothing None = false
     is_nothing (Some []) = true
     is_nothing (Some (x ∷ xs)) = false
 
-abbrev pub is_dot_segment_behind : Option (List ℕ) → Bool
-is_dot_segment_behind None = false
-is_dot_segment_behind (Some rest) = is_dot_or_nothing rest
+abbrev pub is_dot_segment_after : Option (List ℕ) → Bool
+is_dot_segment_after None = false
+is_dot_segment_after (Some rest) = is_dot_or_nothing rest
 
 -- `.` or `..`, in any spelling
 unfoldable pub is_dot_segment : List ℕ → Bool
-is_dot_segment segment = is_dot_segment_behind (behind_dot segment)
+is_dot_segment segment = is_dot_segment_after (after_dot segment)
 
 abbrev pub any_dot_segment : List (List ℕ) → Bool
 any_dot_segment [] = false

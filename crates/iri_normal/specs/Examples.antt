@@ -33,9 +33,9 @@ segment_and_dots : dots (codes "/b/c/g;x=1/../y") ≡ codes "/b/c/y"
 unfolding dots is_dot_segment
 segment_and_dots = refl
 
-behind_a_segment : dots (codes "/b/c/./g/.") ≡ codes "/b/c/g/"
+after_a_segment : dots (codes "/b/c/./g/.") ≡ codes "/b/c/g/"
 unfolding dots is_dot_segment
-behind_a_segment = refl
+after_a_segment = refl
 
 -- dots in triplets, and what dots leave of paths without authority
 in_triplets : dots (codes "/a/%2E/../b") ≡ codes "/b"
@@ -50,6 +50,6 @@ nothing_left : dots (codes "x/../..") ≡ codes "/"
 unfolding dots is_dot_segment
 nothing_left = refl
 
-at_the_front : dots (codes ".././%2e./a/../b") ≡ codes "/b"
+at_start : dots (codes ".././%2e./a/../b") ≡ codes "/b"
 unfolding dots is_dot_segment
-at_the_front = refl
+at_start = refl

@@ -10,7 +10,7 @@ abbrev pub to_last_slash : List ℕ → List ℕ
 to_last_slash [] = []
 to_last_slash (x ∷ xs) = cond (lacks slash (x ∷ xs)) [] (x ∷ to_last_slash xs)
 
--- what stands behind it, or the whole path where it has none
+-- what stands after it, or the whole path where it has none
 abbrev pub last_segment : List ℕ → List ℕ
 last_segment [] = []
 last_segment (x ∷ xs) = cond (lacks slash (x ∷ xs)) (x ∷ xs) (last_segment xs)
@@ -20,7 +20,7 @@ abbrev pub ends_at_slash : List ℕ → Bool
 ends_at_slash [] = true
 ends_at_slash (x ∷ xs) = cond (is_empty xs) (x == slash) (ends_at_slash xs)
 
--- the prefix that a relative path is put behind (section 5.2.3): `/` beside an authority with an empty path, otherwise
+-- the prefix that a relative path is put after (section 5.2.3): `/` beside an authority with an empty path, otherwise
 -- the base's path up to its last `/`
 abbrev pub merge_prefix : Parts → List ℕ
 merge_prefix base = cond (is_some base.authority && is_empty base.path) (slash ∷ []) (to_last_slash base.path)

@@ -11,7 +11,7 @@ ghost use Rattle.iri_normal.specs.Resolver.{base_text};
 
 use crate::mode::CanonMode;
 use crate::resolver::FixedBaseResolver;
-use crate::unchanged::{cut_lowered, lacks_triplets, show_behind, show_lowered};
+use crate::unchanged::{cut_lowered, lacks_triplets, show_after, show_lowered};
 use iri_grammar::error::Error as GrammarError;
 use iri_grammar::spec::Spec;
 use iri_owned::owned::RiString;
@@ -82,7 +82,7 @@ pub fn show_canonical_in<'a, S: Spec, W: TextSink>(
     if let CanonMode::Default = mode {
         if let Some(before) = resolver.before_unchanged(reference) {
             let bare = lacks_triplets(reference.parts());
-            return show_behind::<S, W>(sink, before, reference.view().as_str(), bare);
+            return show_after::<S, W>(sink, before, reference.view().as_str(), bare);
         }
         if let Some((prefix, rest)) = cut_lowered(reference) {
             let bare = lacks_triplets(reference.parts());

@@ -1,7 +1,7 @@
 // Canonical texts at the end of strings (RFC 3986 sections 5.2, 6.2.2 and 6.2.3).
 ghost use Rattle.std.specs.Prelude.{◌≡◌, ◌++◌, None, OnErr, OnOk, string_bytes};
 ghost use Rattle.iri_grammar.specs.WholeFault.{iri_fault};
-ghost use Rattle.iri_text.specs.Front.{IsFrontAfter};
+ghost use Rattle.iri_text.specs.Prefix.{IsPrefixAfter};
 ghost use Rattle.iri_types.specs.SplitText.{split_text};
 ghost use Rattle.iri_normal.specs.NormalForm.{canonical, canonical_in};
 ghost use Rattle.iri_normal.specs.Resolver.{base_text};
@@ -24,7 +24,7 @@ fn append<'a, S: Spec>(
 ) -> Result<(), AllocError>
     ensures whole { OnOk result (string_bytes dest.new ≡ string_bytes dest.old
         ++ canonical_in S.tests mode (base_text resolver.now) (split_text reference.now)) }
-    ensures prefix { OnErr result (IsFrontAfter (string_bytes dest.old)
+    ensures prefix { OnErr result (IsPrefixAfter (string_bytes dest.old)
         (canonical_in S.tests mode (base_text resolver.now) (split_text reference.now)) (string_bytes dest.new)) }
 {
     let mut sink = StringSink::new(dest);

@@ -13,7 +13,7 @@ pub(crate) struct Comparison<'a> {
 }
 
 // What follows a piece at the start of a text.
-fn behind<'a>(text: &'a [u8], piece: &[u8]) -> Option<&'a [u8]>
+fn after<'a>(text: &'a [u8], piece: &[u8]) -> Option<&'a [u8]>
     ensures { MatchOption result (IsApart text.now piece.now) (λ rest. text.now ≡ piece.now ++ rest.now) }
 {
     text.strip_prefix(piece)
@@ -32,7 +32,7 @@ impl<'a> TextSink for Comparison<'a> {
     ghost rules = { record { none = leaves_none; both = leaves_both; until = differs_until; within = differs_within } };
 
     fn put(&mut self, piece: &str) -> Result<(), Stop> {
-        match behind(self.left, piece.as_bytes()) {
+        match after(self.left, piece.as_bytes()) {
             Some(rest) => {
                 self.left = rest;
                 Ok(())

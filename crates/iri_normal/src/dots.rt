@@ -1,21 +1,21 @@
 // Dot segments.
 ghost use Rattle.std.specs.Prelude.{◌≡◌, ◌<◌, ◌≤◌, ◌-◌, MatchOption, length, drop, false, true};
 ghost use Rattle.iri_grammar.specs.Characters.{slash};
-ghost use Rattle.iri_grammar.specs.Cut.{before, behind};
+ghost use Rattle.iri_grammar.specs.Cut.{before, after};
 ghost use Rattle.iri_grammar.specs.OptionalSlices.{now_of};
 ghost use Rattle.iri_grammar.specs.Parts.{is_empty};
-ghost use Rattle.iri_normal.specs.Dots.{behind_dot, is_dot_segment, has_dot_segment};
+ghost use Rattle.iri_normal.specs.Dots.{after_dot, is_dot_segment, has_dot_segment};
 ghost use Rattle.iri_normal.specs.DotRemoval.{is_two_dots};
 ghost use Rattle.iri_normal.specs.inside.DotSearch.{slash_and_dots};
-ghost use Rattle.iri_normal.specs.inside.NextDots.{IsInFront, IsNext};
+ghost use Rattle.iri_normal.specs.inside.NextDots.{IsBefore, IsNext};
 ghost use Rattle.iri_normal.specs.inside.Written.{or_nothing};
 
 use iri_grammar::dots::may_have_dots;
 
 // What follows a dot at the start, in any spelling.
 #[inline(always)]
-pub(crate) fn behind_dot(s: &[u8]) -> Option<&[u8]>
-    ensures { now_of result ≡ behind_dot s.now }
+pub(crate) fn after_dot(s: &[u8]) -> Option<&[u8]>
+    ensures { now_of result ≡ after_dot s.now }
 {
     match s {
         [b'.', rest @ ..] => Some(rest),
@@ -26,9 +26,9 @@ pub(crate) fn behind_dot(s: &[u8]) -> Option<&[u8]>
 
 // What follows the slash at the start, or nothing where the segment is the last one; `None` where no segment ends there.
 #[inline(always)]
-fn behind_end(s: &[u8]) -> Option<&[u8]>
+fn after_end(s: &[u8]) -> Option<&[u8]>
     ensures { MatchOption result (is_empty (before slash s.now) ≡ false)
-        (λ r. (is_empty (before slash s.now) ≡ true) × (r.now ≡ or_nothing (behind slash s.now))) }
+        (λ r. (is_empty (before slash s.now) ≡ true) × (r.now ≡ or_nothing (after slash s.now))) }
 {
     match s {
         [] => Some(s),
@@ -39,27 +39,27 @@ fn behind_end(s: &[u8]) -> Option<&[u8]>
 
 // A dot segment at the start of a path.
 #[derive(Clone, Copy)]
-struct FrontDots<'a> {
+struct PrefixDots<'a> {
     two: bool,
     rest: &'a [u8],
 }
 
 #[inline(always)]
-fn dots_in_front(path: &[u8]) -> Option<FrontDots<'_>>
+fn dots_before(path: &[u8]) -> Option<PrefixDots<'_>>
     ensures { MatchOption result (is_dot_segment (before slash path.now) ≡ false)
-        (λ d. IsInFront path.now d.two d.rest.now) }
+        (λ d. IsBefore path.now d.two d.rest.now) }
 {
-    let Some(behind) = behind_dot(path) else {
+    let Some(after) = after_dot(path) else {
         return None;
     };
-    if let Some(rest) = behind_end(behind) {
-        return Some(FrontDots { two: false, rest });
+    if let Some(rest) = after_end(after) {
+        return Some(PrefixDots { two: false, rest });
     }
-    let Some(second) = behind_dot(behind) else {
+    let Some(second) = after_dot(after) else {
         return None;
     };
-    match behind_end(second) {
-        Some(end) => Some(FrontDots {
+    match after_end(second) {
+        Some(end) => Some(PrefixDots {
             two: true,
             rest: end,
         }),
@@ -69,13 +69,13 @@ fn dots_in_front(path: &[u8]) -> Option<FrontDots<'_>>
 
 // The dot segment at a place, where a slash comes before it.
 #[inline(always)]
-fn dots_at(path: &[u8], i: usize) -> Option<FrontDots<'_>>
+fn dots_at(path: &[u8], i: usize) -> Option<PrefixDots<'_>>
     requires { (1 ≤ i) × (i < length path.now) }
     ensures { MatchOption result (slash_and_dots (drop (i - 1) path.now) ≡ false)
-        (λ d. (slash_and_dots (drop (i - 1) path.now) ≡ true) × IsInFront (drop i path.now) d.two d.rest.now) }
+        (λ d. (slash_and_dots (drop (i - 1) path.now) ≡ true) × IsBefore (drop i path.now) d.two d.rest.now) }
 {
     if path[i - 1] == b'/' {
-        dots_in_front(&path[i..])
+        dots_before(&path[i..])
     } else {
         None
     }
@@ -95,7 +95,7 @@ pub(crate) fn next_dots(path: &[u8]) -> Option<NextDots<'_>>
     ensures { MatchOption result (has_dot_segment path.now ≡ false)
         (λ n. IsNext path.now n.run.now n.two n.rest.now) }
 {
-    if let Some(dots) = dots_in_front(path) {
+    if let Some(dots) = dots_before(path) {
         return Some(NextDots {
             run: &path[..0],
             two: dots.two,
@@ -130,10 +130,10 @@ pub(crate) fn next_dots(path: &[u8]) -> Option<NextDots<'_>>
 pub fn is_dot_segment(segment: &str) -> bool
     ensures { result ≡ is_dot_segment segment.now }
 {
-    match behind_dot(segment.as_bytes()) {
+    match after_dot(segment.as_bytes()) {
         None => false,
         Some([]) => true,
-        Some(rest) => matches!(behind_dot(rest), Some([])),
+        Some(rest) => matches!(after_dot(rest), Some([])),
     }
 }
 
@@ -141,9 +141,9 @@ pub fn is_dot_segment(segment: &str) -> bool
 pub fn is_two_dots(segment: &str) -> bool
     ensures { result ≡ is_two_dots segment.now }
 {
-    match behind_dot(segment.as_bytes()) {
+    match after_dot(segment.as_bytes()) {
         None => false,
-        Some(rest) => matches!(behind_dot(rest), Some([])),
+        Some(rest) => matches!(after_dot(rest), Some([])),
     }
 }
 

@@ -2,7 +2,7 @@
 ghost use Rattle.std.specs.Prelude.{◌≡◌, ◌&&◌, ◌++◌, ◌∷◌, [], false, true, cond};
 ghost use Rattle.iri_grammar.specs.Authority.{is_authority};
 ghost use Rattle.iri_grammar.specs.Components.{if_there, is_path, is_scheme};
-ghost use Rattle.iri_grammar.specs.Cut.{marked};
+ghost use Rattle.iri_grammar.specs.Cut.{delimited};
 ghost use Rattle.iri_grammar.specs.Parts.{Fits, is_empty, recompose, scheme_text, authority_text};
 ghost use Rattle.iri_grammar.specs.OptionalSlices.{now_of};
 ghost use Rattle.iri_percent.specs.NormalHost.{normal_authority, normal_authority_in};
@@ -112,22 +112,22 @@ pub fn show_prefix<S: Spec, W: TextSink>(
 }
 
 // A delimiter and the part after it, where there is one.
-fn show_marked<S: Spec, W: TextSink>(
+fn show_delimited<S: Spec, W: TextSink>(
     sink: &mut W,
-    mark: &str,
+    delimiter: &str,
     code: u8,
     part: Option<&str>,
     normal: bool,
 ) -> Result<(), Stop>
-    requires mark { mark.now ≡ code ∷ [] }
+    requires delimiter { delimiter.now ≡ code ∷ [] }
     requires part { if_there whole_triplets (now_of part) ≡ true }
     ensures { Shows W.puts W.halts W.stops sink.old
-        (marked code (part_in normal (pct S.tests) (now_of part.entry))) sink.new result }
+        (delimited code (part_in normal (pct S.tests) (now_of part.entry))) sink.new result }
 {
     let Some(part) = part else {
         return Ok(());
     };
-    sink.put(mark)?;
+    sink.put(delimiter)?;
     show_part::<S, W>(sink, part, normal)
 }
 
@@ -140,11 +140,11 @@ fn show_tail<S: Spec, W: TextSink>(
 ) -> Result<(), Stop>
     requires { Fits S.tests (slices target.now) }
     ensures { Shows W.puts W.halts W.stops sink.old
-        (marked question_mark (part_in normal (pct S.tests) (slices target.now).query)
-        ++ marked number_sign (part_in normal (pct S.tests) (slices target.now).fragment)) sink.new result }
+        (delimited question_mark (part_in normal (pct S.tests) (slices target.now).query)
+        ++ delimited number_sign (part_in normal (pct S.tests) (slices target.now).fragment)) sink.new result }
 {
-    show_marked::<S, W>(sink, "?", b'?', target.query, normal)?;
-    show_marked::<S, W>(sink, "#", b'#', target.fragment, normal)
+    show_delimited::<S, W>(sink, "?", b'?', target.query, normal)?;
+    show_delimited::<S, W>(sink, "#", b'#', target.fragment, normal)
 }
 
 // Whether both texts are empty.
@@ -201,8 +201,8 @@ fn show_from_path<S: Spec, W: TextSink>(
     ensures { Shows W.puts W.halts W.stops sink.old
         (slash_or (becomes_slash (now_of dropped.entry) (slices target.now).authority (slices target.now).path)
         (path_in S.tests mode whole (slices target.now).authority (slices target.now).path)
-        ++ (marked question_mark (part_in (is_normalizing mode) (pct S.tests) (slices target.now).query)
-        ++ marked number_sign (part_in (is_normalizing mode) (pct S.tests)
+        ++ (delimited question_mark (part_in (is_normalizing mode) (pct S.tests) (slices target.now).query)
+        ++ delimited number_sign (part_in (is_normalizing mode) (pct S.tests)
         (slices target.now).fragment))) sink.new result }
 {
     let slashed = becomes_slash(target, dropped);
@@ -224,8 +224,8 @@ fn show_from_authority<S: Spec, W: TextSink>(
         (slices target.now).authority)
         ++ (slash_or (becomes_slash (now_of dropped.entry) (slices target.now).authority (slices target.now).path)
         (path_in S.tests mode whole (slices target.now).authority (slices target.now).path)
-        ++ (marked question_mark (part_in (is_normalizing mode) (pct S.tests) (slices target.now).query)
-        ++ marked number_sign (part_in (is_normalizing mode) (pct S.tests)
+        ++ (delimited question_mark (part_in (is_normalizing mode) (pct S.tests) (slices target.now).query)
+        ++ delimited number_sign (part_in (is_normalizing mode) (pct S.tests)
         (slices target.now).fragment)))) sink.new result }
 {
     show_authority::<S, W>(sink, target.authority, is_normalizing(mode), dropped)?;
@@ -258,7 +258,7 @@ pub fn show_form<S: Spec, W: TextSink>(
 /// The same in a mode without scheme rules, with a prefix that was put into the mode before.
 #[tactic(auto, unfolding(crate::specs::NormalForm::form, iri_grammar::specs::Parts::recompose))]
 #[inline(always)]
-pub fn show_behind<S: Spec, W: TextSink>(
+pub fn show_after<S: Spec, W: TextSink>(
     sink: &mut W,
     prefix: &str,
     target: &TargetSlices<'_>,

@@ -8,7 +8,7 @@ ghost use Rattle.iri_normal.specs.Prefix.{IsPrefix};
 ghost use Rattle.iri_normal.specs.Slices.{slices};
 ghost use Rattle.iri_normal.specs.declared.mode.Mode.TheVariants.{ByScheme, Normal, Preserving};
 
-use crate::form::{show_behind, show_form};
+use crate::form::{show_after, show_form};
 use crate::mode::{CanonMode, Mode, is_by_scheme, mode_of};
 use crate::normal_kind::NormalKind;
 use crate::path_writer::is_unresolvable;
@@ -73,11 +73,11 @@ impl<'a, S: Spec, K: NormalKind> NormalizedText<'a, S, K> {
         requires { ∥ AreSound S.tests K.fault target ∥₁ }
         ensures { written result ≡ record { parts = slices target.entry; whole = whole; mode = mode } }
     {
-        NormalizedText::behind(None, target, whole, mode)
+        NormalizedText::after(None, target, whole, mode)
     }
 
     // The same, with their prefix, where that is in normal form as it is.
-    pub(crate) fn behind(
+    pub(crate) fn after(
         prefix: Option<&'a str>,
         target: TargetSlices<'a>,
         whole: bool,
@@ -123,14 +123,14 @@ impl<'a, S: Spec, K: NormalKind> NormalizedText<'a, S, K> {
     pub fn and_normalize(self) -> Self
         ensures { written result ≡ record (written self.entry) { mode = Normal } }
     {
-        NormalizedText::behind(self.prefix, self.target, self.whole, Mode::Normal)
+        NormalizedText::after(self.prefix, self.target, self.whole, Mode::Normal)
     }
 
     /// The same parts in normal form, but a path without authority that doesn't begin with a slash keeps its dot segments.
     pub fn and_normalize_but_preserve_authorityless_relative_path(self) -> Self
         ensures { written result ≡ record (written self.entry) { mode = Preserving } }
     {
-        NormalizedText::behind(self.prefix, self.target, self.whole, Mode::Preserving)
+        NormalizedText::after(self.prefix, self.target, self.whole, Mode::Preserving)
     }
 
     /// The same parts in normal form by scheme rules too (RFC 3986 section 6.2.3).
@@ -144,14 +144,14 @@ impl<'a, S: Spec, K: NormalKind> NormalizedText<'a, S, K> {
     pub fn and_normalize_by_scheme(self) -> Self
         ensures { written result ≡ record (written self.entry) { mode = ByScheme } }
     {
-        NormalizedText::behind(self.prefix, self.target, self.whole, Mode::ByScheme)
+        NormalizedText::after(self.prefix, self.target, self.whole, Mode::ByScheme)
     }
 
     // The same parts in either normal form.
     pub(crate) fn and_normalize_in(self, mode: CanonMode) -> Self
         ensures { written result ≡ record (written self.entry) { mode = mode_of mode } }
     {
-        NormalizedText::behind(self.prefix, self.target, self.whole, mode_of(mode))
+        NormalizedText::after(self.prefix, self.target, self.whole, mode_of(mode))
     }
 
     // The prefix, where it can be used in the mode.
@@ -191,7 +191,7 @@ impl<S: Spec, K: NormalKind> Show for NormalizedText<'_, S, K> {
     fn show<W: TextSink>(&self, sink: &mut W) -> Result<(), Stop> {
         match self.usable_prefix() {
             Some(prefix) => {
-                show_behind::<S, W>(sink, prefix, &self.target, self.mode, self.whole)
+                show_after::<S, W>(sink, prefix, &self.target, self.mode, self.whole)
             }
             None => show_form::<S, W>(sink, &self.target, self.mode, self.whole),
         }

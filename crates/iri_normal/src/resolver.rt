@@ -7,7 +7,7 @@ ghost use Rattle.iri_grammar.specs.OptionalSlices.{now_of};
 ghost use Rattle.iri_types.specs.SplitText.{split_text};
 ghost use Rattle.iri_types.specs.Texts.{text, text_of};
 ghost use Rattle.iri_normal.specs.Prefix.{IsPrefix, prefix_in};
-ghost use Rattle.iri_normal.specs.inside.Unchanged.{EndsCanonical, StandBefore, is_plain_front};
+ghost use Rattle.iri_normal.specs.inside.Unchanged.{EndsCanonical, StandBefore, is_plain_prefix};
 ghost use Rattle.iri_normal.specs.Slices.{slices};
 ghost use Rattle.iri_normal.specs.Target.{ends_at_slash, merge_prefix, target, takes_base_path};
 ghost use Rattle.std.proofs.Props.{props};
@@ -42,13 +42,13 @@ use std::alloc::{AllocError, Global};
 #[derive_where(Debug)]
 pub struct FixedBaseResolver<'a, S: Spec> {
     base: SplitView<'a, S, Absolute>,
-    front: &'a str,
+    directory: &'a str,
     // Nothing in the prefix of relative paths changes.
     plain: bool,
     prefix: Option<&'a str>,
-    pub ghost prepared: { (front.now ≡ merge_prefix (split_of (split_text base))) × (ends_at_slash front.now ≡ true)
+    pub ghost prepared: { (directory.now ≡ merge_prefix (split_of (split_text base))) × (ends_at_slash directory.now ≡ true)
         × IsPrefix S.tests (split_of (split_text base)) (now_of prefix)
-        × (plain ≡ is_plain_front (split_of (split_text base)) front.now) } by { Prim.hlevel props },
+        × (plain ≡ is_plain_prefix (split_of (split_text base)) directory.now) } by { Prim.hlevel props },
 }
 
 impl<S: Spec> Clone for FixedBaseResolver<'_, S> {
@@ -88,12 +88,13 @@ impl<'a, S: Spec> FixedBaseResolver<'a, S> {
     pub fn of_split(base: SplitView<'a, S, Absolute>) -> Self
         ensures { base_text result ≡ split_text base.entry }
     {
-        let front = merge_prefix(base.parts());
-        let plain = base.parts().authority().is_some() && lacks_triplets_and_dots(front, front);
+        let directory = merge_prefix(base.parts());
+        let plain = base.parts().authority().is_some()
+            && lacks_triplets_and_dots(directory, directory);
         let prefix = normal_prefix(&base);
         FixedBaseResolver {
             base,
-            front,
+            directory,
             plain,
             prefix,
         }
@@ -148,7 +149,7 @@ impl<'a, S: Spec> FixedBaseResolver<'a, S> {
         ensures scheme { IsSome (slices result).scheme }
         ensures parts { slices result ≡ target (split_of (base_text self.now)) (split_of (split_text reference.now)) }
     {
-        target(self.base.parts(), self.front, reference.parts())
+        target(self.base.parts(), self.directory, reference.parts())
     }
 
     // The prefix of a reference's target, where it is the base's and in normal form.
@@ -167,7 +168,7 @@ impl<'a, S: Spec> FixedBaseResolver<'a, S> {
     // What the base puts before the path of a reference without dot segments that has neither scheme nor authority. An empty path is the base's.
     fn base_before(&self, path: &str) -> Option<Before<'a>>
         ensures { MatchOption result (Unit {0}) (λ b. (r : Parts) → r.path ≡ path.now → r.scheme ≡ None → r.authority ≡ None
-            → Fits S.tests r → StandBefore S.tests (split_of (base_text self.now)) r b.prefix.now b.front.now
+            → Fits S.tests r → StandBefore S.tests (split_of (base_text self.now)) r b.prefix.now b.directory.now
             (prefix_in S.tests false r)) }
     {
         let prefix = self.prefix?;
@@ -175,11 +176,14 @@ impl<'a, S: Spec> FixedBaseResolver<'a, S> {
             return None;
         }
         if starts_with_slash(path) {
-            return Some(Before { prefix, front: "" });
+            return Some(Before {
+                prefix,
+                directory: "",
+            });
         }
         if self.plain {
-            let front = self.front;
-            Some(Before { prefix, front })
+            let directory = self.directory;
+            Some(Before { prefix, directory })
         } else {
             None
         }
@@ -189,12 +193,12 @@ impl<'a, S: Spec> FixedBaseResolver<'a, S> {
     fn before(&self, reference: &Splitter<'_>) -> Option<Before<'a>>
         requires { Fits S.tests (parts reference.now) }
         ensures { MatchOption result (Unit {0}) (λ b. StandBefore S.tests (split_of (base_text self.now)) (parts reference.now)
-            b.prefix.now b.front.now (prefix_in S.tests false (parts reference.now))) }
+            b.prefix.now b.directory.now (prefix_in S.tests false (parts reference.now))) }
     {
         match (reference.scheme(), reference.authority()) {
             (Some(_), _) if keeps_prefix::<S>(reference) => Some(Before {
                 prefix: "",
-                front: "",
+                directory: "",
             }),
             (None, None) => self.base_before(reference.path()),
             _ => None,
@@ -208,7 +212,7 @@ impl<'a, S: Spec> FixedBaseResolver<'a, S> {
         reference: &SplitView<'a, S, Reference>,
     ) -> Option<Before<'a>>
         ensures { MatchOption result (Unit {0}) (λ b. EndsCanonical S.tests (base_text self.now) (split_text reference.now)
-            b.prefix.now b.front.now) }
+            b.prefix.now b.directory.now) }
     {
         let parts = reference.parts();
         if parts.seen().dots {
@@ -255,7 +259,7 @@ impl<'a, S: Spec> FixedBaseResolver<'a, S> {
     {
         let whole = takes_base_path(reference.parts());
         let prefix = self.prefix(reference);
-        NormalizedText::behind(prefix, self.slices(reference), whole, Mode::Plain)
+        NormalizedText::after(prefix, self.slices(reference), whole, Mode::Plain)
     }
 
     /// The target of a reference (RFC 3986 section 5.2.2), with its dot segments kept.

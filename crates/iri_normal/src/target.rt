@@ -33,7 +33,7 @@ pub(crate) fn last_slash(path: &str) -> Option<usize>
 /// A path up to and with its last slash, or nothing where it has none, and its last segment.
 pub fn cut_last_segment(path: &str) -> (&str, &str)
     ensures ends { ends_at_slash result.0.now ≡ true }
-    ensures front { result.0.now ≡ to_last_slash path.now }
+    ensures directory { result.0.now ≡ to_last_slash path.now }
     ensures last { result.1.now ≡ last_segment path.now }
 {
     match last_slash(path) {
@@ -77,13 +77,13 @@ fn merge<'a>(base: &'a str, path: &'a str) -> MergedPath<'a>
 
 // The target of a reference with neither scheme nor authority.
 #[tactic(auto, unfolding(crate::specs::Target::target))]
-fn behind_base<'a>(
+fn after_base<'a>(
     base: &Splitter<'a>,
-    front: &'a str,
+    directory: &'a str,
     reference: &Splitter<'a>,
 ) -> TargetSlices<'a>
-    requires prefix { front.now ≡ merge_prefix (parts base.now) }
-    requires ends { ends_at_slash front.now ≡ true }
+    requires prefix { directory.now ≡ merge_prefix (parts base.now) }
+    requires ends { ends_at_slash directory.now ≡ true }
     ensures parts { slices result ≡ target_under (parts base.now) (parts reference.now) None None }
 {
     let path = reference.path();
@@ -103,7 +103,7 @@ fn behind_base<'a>(
         TargetSlices {
             scheme: base.scheme(),
             authority: base.authority(),
-            path: merge(front, path),
+            path: merge(directory, path),
             query: reference.query(),
             fragment,
         }
@@ -123,19 +123,23 @@ fn under_scheme<'a>(scheme: Option<&'a str>, reference: &Splitter<'a>) -> Target
     }
 }
 
-/// The target of a reference against a base (RFC 3986 sections 5.2.2 and 5.2.3), with its dot segments kept. `front` is the base's prefix, by
+/// The target of a reference against a base (RFC 3986 sections 5.2.2 and 5.2.3), with its dot segments kept. `directory` is the base's prefix, by
 /// `merge_prefix`.
 #[tactic(auto, unfolding(crate::specs::Target::target))]
 #[inline(always)]
-pub fn target<'a>(base: &Splitter<'a>, front: &'a str, reference: &Splitter<'a>) -> TargetSlices<'a>
-    requires prefix { front.now ≡ merge_prefix (parts base.now) }
-    requires ends { ends_at_slash front.now ≡ true }
+pub fn target<'a>(
+    base: &Splitter<'a>,
+    directory: &'a str,
+    reference: &Splitter<'a>,
+) -> TargetSlices<'a>
+    requires prefix { directory.now ≡ merge_prefix (parts base.now) }
+    requires ends { ends_at_slash directory.now ≡ true }
     ensures parts { slices result ≡ target (parts base.now) (parts reference.now) }
 {
     match (reference.scheme(), reference.authority()) {
         (Some(scheme), _) => under_scheme(Some(scheme), reference),
         (None, Some(_)) => under_scheme(base.scheme(), reference),
-        (None, None) => behind_base(base, front, reference),
+        (None, None) => after_base(base, directory, reference),
     }
 }
 

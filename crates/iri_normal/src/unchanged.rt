@@ -26,7 +26,7 @@ use iri_types::split::SplitView;
 #[derive(Clone, Copy)]
 pub(crate) struct Before<'a> {
     pub prefix: &'a str,
-    pub front: &'a str,
+    pub directory: &'a str,
 }
 
 // Whether a text has no percent-encoded octet, and a path of it no dot segment.
@@ -79,7 +79,7 @@ fn show_text<S: Spec, W: TextSink>(sink: &mut W, text: &str, bare: bool) -> Resu
 
 // Shows a text, its percent-encoded octets in normal form, after what comes before it, of which one or both are often empty.
 #[inline(always)]
-pub(crate) fn show_behind<S: Spec, W: TextSink>(
+pub(crate) fn show_after<S: Spec, W: TextSink>(
     sink: &mut W,
     before: Before<'_>,
     text: &str,
@@ -88,10 +88,10 @@ pub(crate) fn show_behind<S: Spec, W: TextSink>(
     requires whole { whole_triplets text.now ≡ true }
     requires bare { bare ≡ true → lacks percent_sign text.now ≡ true }
     ensures { Shows W.puts W.halts W.stops sink.old
-        (before.entry.prefix.now ++ (before.entry.front.now ++ pct S.tests text.now)) sink.new result }
+        (before.entry.prefix.now ++ (before.entry.directory.now ++ pct S.tests text.now)) sink.new result }
 {
     show_some(sink, before.prefix)?;
-    show_some(sink, before.front)?;
+    show_some(sink, before.directory)?;
     show_text::<S, W>(sink, text, bare)
 }
 

@@ -16,9 +16,9 @@ module _ (old new : List ℕ) (start end : ℕ) (fits : start + length new ≤ e
   length-one = length-paste old start new (length new) (omega arith) (omega arith)
 
   -- what stands before and in the part
-  front : take (start + length new) one ≡ take start old ++ new
+  prefix : take (start + length new) one ≡ take start old ++ new
   unfolding one
-  front = take-paste old start new (length new) (omega arith) (omega arith)
+  prefix = take-paste old start new (length new) (omega arith) (omega arith)
       ∙ ap (λ z. take start old ++ z) (take_all (length new) new (omega arith))
 
   -- what comes after the part
@@ -39,7 +39,7 @@ module _ (old new : List ℕ) (start end : ℕ) (fits : start + length new ≤ e
       let inside_one : start + length new ≤ length one = rw length-one (omega arith) in
       take-paste one (start + length new) (drop end one) n inside_one (omega arith)
       ∙ (ap (λ z. take (start + length new) one ++ z) (take_all n (drop end one) (omega arith) ∙ rest)
-      ∙ (ap (λ z. z ++ drop end old) front ∙ append_assoc (take start old) new (drop end old)))
+      ∙ (ap (λ z. z ++ drop end old) prefix ∙ append_assoc (take start old) new (drop end old)))
 
 pub spliced-utf8 : (old new : List ℕ) (start end : ℕ) → IsUtf8 old → IsUtf8 new → IsCharBoundary old start → IsCharBoundary old end
     → IsUtf8 (spliced old start end new)

@@ -1,7 +1,7 @@
 //! Conversions between kinds by value: they keep the text, or cut it at the fragment, and keep the capacity.
 ghost use Rattle.std.specs.Prelude.{◌≡◌, ◌++◌, IsNone, IsSome, MatchResult, None, Some};
 ghost use Rattle.std.specs.String.{string_bytes, string_capacity};
-ghost use Rattle.iri_grammar.specs.Cut.{before, marked};
+ghost use Rattle.iri_grammar.specs.Cut.{before, delimited};
 ghost use Rattle.iri_grammar.specs.Split.{split_of};
 ghost use Rattle.iri_grammar.specs.WholeFault.{absolute_fault};
 ghost use Rattle.iri_types.specs.Texts.{text_of};
@@ -114,7 +114,7 @@ impl<S: Spec> Owned<S, Iri> {
         ensures cut { MatchResult result (λ r. (r.0.text ≡ before number_sign self.text)
             × (text_within r.1 ≡ (split_of self.text).fragment))
             (λ iri. (iri ≡ self) × IsSome (split_of self.text).fragment) }
-        ensures joined { MatchResult result (λ r. r.0.text ++ marked number_sign (text_within r.1) ≡ self.text)
+        ensures joined { MatchResult result (λ r. r.0.text ++ delimited number_sign (text_within r.1) ≡ self.text)
             (λ _. Unit {0}) }
         ensures capacity { MatchResult result (λ r. r.0.capacity ≡ self.capacity) (λ _. Unit {0}) }
     {

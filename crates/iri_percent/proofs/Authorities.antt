@@ -3,7 +3,7 @@ use Rattle.std.proofs.Common.{◌≡◌, ℕ, Bool, true, List, ◌∷◌, ◌++
 use Rattle.iri_grammar.specs.Classes.{Tests}
 use Rattle.iri_grammar.specs.Authority.{AuthorityParts, authority_parts, recompose_authority}
 use Rattle.iri_grammar.specs.Components.{if_there}
-use Rattle.iri_grammar.specs.Cut.{marked}
+use Rattle.iri_grammar.specs.Cut.{delimited}
 use Rattle.iri_grammar.specs.OptionalSlices.{now_of}
 use Rattle.iri_percent.specs.Units.{whole_triplets}
 use Rattle.iri_percent.specs.NormalHost.{normal_authority, authority_without, normal_authority_in, normal_authority_parts_in}
@@ -14,9 +14,9 @@ unfolding normal_authority authority_without
 authority_in s None t p e = ap (λ q. recompose_authority (normal_authority_parts_in s None q)) e
 authority_in s (Some d) t p e = ap (λ q. recompose_authority (normal_authority_parts_in s (Some d) q)) e
 
--- a port that stands, behind its colon
-pub port_in : (o : Option (Bor (List ℕ))) (port : Bor (List ℕ)) → o ≡ Some port → (58 ∷ []) ++ port.now ≡ marked 58 (now_of o)
-port_in o port e = ap (λ (p : Option (Bor (List ℕ))). marked 58 (now_of p)) (sym e)
+-- a port that stands, after its colon
+pub port_in : (o : Option (Bor (List ℕ))) (port : Bor (List ℕ)) → o ≡ Some port → (58 ∷ []) ++ port.now ≡ delimited 58 (now_of o)
+port_in o port e = ap (λ (p : Option (Bor (List ℕ))). delimited 58 (now_of p)) (sym e)
 
 -- a part that stands has no stray `%`, where no text of its kind has
 pub part_whole : (p : List ℕ → Bool) (o : Option (List ℕ)) → ((x : List ℕ) → p x ≡ true → whole_triplets x ≡ true) → if_there p o ≡ true

@@ -20,10 +20,10 @@ use Rattle.iri_percent.specs.Triplets.{normal}
 use Rattle.iri_percent.proofs.UnitLaws.{octets_triplet, Spells, none, more, spelled, Spelled, length-spelled}
 use Rattle.iri_percent.specs.NormalLaws.{decoded}
 use Rattle.iri_percent.proofs.NormalLaws.{normal_nil, normal_plain, normal_decoded, normal_kept}
-use Rattle.iri_percent.proofs.Reading.{whole_plain, whole_triplet, whole_behind, Follows, percent_follows}
+use Rattle.iri_percent.proofs.Reading.{whole_plain, whole_triplet, whole_after, Follows, percent_follows}
 use Rattle.iri_percent.proofs.CaseLaws.{encode_case, is_decoded}
 use Rattle.iri_percent.proofs.Stability.{IsCase, as_it_is-case, lower-case}
-use Rattle.iri_percent.specs.inside.Pieces.{case_of, octet_text, stays, NoMark, MarkAt, FirstMark, Becomes, Gathered, Writes}
+use Rattle.iri_percent.specs.inside.Pieces.{case_of, octet_text, stays, NoCandidate, CandidateAt, FirstCandidate, Becomes, Gathered, Writes}
 
 -- ---- runs
 stays_percent : (lower : Bool) (x : ℕ) → stays lower x ≡ true → (x == 37) ≡ false
@@ -37,16 +37,16 @@ stays_case : (lower : Bool) (x : ℕ) → stays lower x ≡ true → case_of low
 stays_case true x h = not_upper x (both (not (x == 37)) (not (is_ascii_uppercase x)) h).1
 stays_case false x h = refl
 
-one_more : (t : List ℕ) (i : ℕ) → NoMark false t i → stays false (get_or t i 0) ≡ true → NoMark false t (i + 1)
+one_more : (t : List ℕ) (i : ℕ) → NoCandidate false t i → stays false (get_or t i 0) ≡ true → NoCandidate false t (i + 1)
 one_more t i n s k h =
     elim (ltb k i) as (λ b. ltb k i ≡ b → stays false (get_or t k 0) ≡ true) [
       | true ↦ λ e. n k (ltb-true k i e)
       | false ↦ λ e. let same : i ≡ k = omega (arith, h, ltb-false k i e) in subst (λ m. stays false (get_or t m 0) ≡ true) same s
     ] refl
 
-pub four_more : (t : List ℕ) (i : ℕ) → NoMark false t i
+pub four_more : (t : List ℕ) (i : ℕ) → NoCandidate false t i
     → (stays false (get_or t i 0) ≡ true) × (stays false (get_or t (i + 1) 0) ≡ true)
-    × (stays false (get_or t (i + 2) 0) ≡ true) × (stays false (get_or t (i + 3) 0) ≡ true) → NoMark false t (i + 4)
+    × (stays false (get_or t (i + 2) 0) ≡ true) × (stays false (get_or t (i + 3) 0) ≡ true) → NoCandidate false t (i + 4)
 four_more t i n s k h =
     let two : i + 2 ≡ i + 1 + 1 = omega arith in
     let three : i + 3 ≡ i + 1 + 1 + 1 = omega arith in
@@ -57,7 +57,7 @@ pub record Run (s : Tests) (lower : Bool) (t : List ℕ) (n : ℕ) : Type 0 wher
   pub text : normal s (case_of lower) t ≡ take n t ++ normal s (case_of lower) (drop n t)
   pub whole : whole_triplets (drop n t) ≡ whole_triplets t
 
-pub run : (s : Tests) (lower : Bool) (t : List ℕ) (n : ℕ) → n ≤ length t → NoMark lower t n → Run s lower t n
+pub run : (s : Tests) (lower : Bool) (t : List ℕ) (n : ℕ) → n ≤ length t → NoCandidate lower t n → Run s lower t n
 run s lower t zero l h = record { text = refl; whole = refl }
 run s lower [] (suc n) l h = absurd (omega arith)
 run s lower (x ∷ xs) (suc n) l h =
@@ -69,7 +69,7 @@ run s lower (x ∷ xs) (suc n) l h =
       whole = r.whole ∙ sym (whole_plain x xs (stays_percent lower x first));
     }
 
-pub run_all : (s : Tests) (lower : Bool) (t : List ℕ) → NoMark lower t (length t) → normal s (case_of lower) t ≡ t
+pub run_all : (s : Tests) (lower : Bool) (t : List ℕ) → NoCandidate lower t (length t) → normal s (case_of lower) t ≡ t
 run_all s lower [] h = normal_nil s (case_of lower)
 run_all s lower (x ∷ xs) h =
     let first : stays lower x ≡ true = h 0 (omega arith) in
@@ -77,55 +77,55 @@ run_all s lower (x ∷ xs) h =
     ∙ ap (λ l. x ∷ l) (run_all s lower xs (λ k j. h (suc k) (omega arith)))
 
 -- nothing is gathered yet
-mark_below : (lower : Bool) (x : ℕ) → stays lower x ≡ false → x < 128
-mark_below true x h = grind (arith, nat_tests)
-mark_below false x h = grind (arith, nat_tests)
+delimiter_below : (lower : Bool) (x : ℕ) → stays lower x ≡ false → x < 128
+delimiter_below true x h = grind (arith, nat_tests)
+delimiter_below false x h = grind (arith, nat_tests)
 
-pub first_mark : (s : Tests) (lower : Bool) (t : List ℕ) (o : Option ℕ) → whole_triplets t ≡ true
-    → MatchOption o (NoMark lower t (length t)) (λ i. MarkAt lower t i)
-    → MatchOption o (normal s (case_of lower) t ≡ t) (λ i. FirstMark s lower t i)
-first_mark s lower t None w n = run_all s lower t n
-first_mark s lower t (Some i) w m =
+pub first_candidate : (s : Tests) (lower : Bool) (t : List ℕ) (o : Option ℕ) → whole_triplets t ≡ true
+    → MatchOption o (NoCandidate lower t (length t)) (λ i. CandidateAt lower t i)
+    → MatchOption o (normal s (case_of lower) t ≡ t) (λ i. FirstCandidate s lower t i)
+first_candidate s lower t None w n = run_all s lower t n
+first_candidate s lower t (Some i) w m =
     let r = run s lower t i (omega (arith, m.inside)) m.before in
-    record { inside = m.inside; mark = m.mark; same = r.text; whole = r.whole ∙ w }
+    record { inside = m.inside; delimiter = m.delimiter; same = r.text; whole = r.whole ∙ w }
 
-pub gathers : (s : Tests) (lower : Bool) (t : List ℕ) (at : ℕ) → FirstMark s lower t at → Gathered s lower t at 0 []
+pub gathers : (s : Tests) (lower : Bool) (t : List ℕ) (at : ℕ) → FirstCandidate s lower t at → Gathered s lower t at 0 []
 gathers s lower t at m =
     let same : at ≡ at + 0 = omega arith in
     record {
       text = m.same ∙ ap (λ n. take at t ++ normal s (case_of lower) (drop n t)) same;
       within = omega (arith, m.inside);
-      first = mark_below lower (get_or t at 0) m.mark;
+      first = delimiter_below lower (get_or t at 0) m.delimiter;
       whole = ap (λ n. whole_triplets (drop n t)) (sym same) ∙ m.whole;
     }
 
 pub so_far : {s : Tests} {lower : Bool} {t : List ℕ} {at len : ℕ} {l : List ℕ} → Becomes s lower t at len l → Gathered s lower t at len l
 so_far r = record { text = r.text; within = r.within; first = r.first; whole = r.whole }
 
--- a change behind a change
+-- a change after a change
 pub joined : (s : Tests) (lower : Bool) (t tail : List ℕ) (at n m : ℕ) (l k : List ℕ) → tail ≡ drop (at + n) t
     → Gathered s lower t at n l → Becomes s lower tail 0 m k → Becomes s lower t at (n + m) (l ++ k)
 joined s lower t tail at n m l k is p q =
     let r : Becomes s lower (drop (at + n) t) 0 m k = subst (λ x. Becomes s lower x 0 m k) is q in
-    let behind : drop (0 + m) (drop (at + n) t) ≡ drop (at + (n + m)) t =
+    let after : drop (0 + m) (drop (at + n) t) ≡ drop (at + (n + m)) t =
     drop-drop (0 + m) (at + n) t ∙ ap (λ i. drop i t) (omega arith) in
     let place : at + n + (0 + m - 1) ≡ at + (n + m) - 1 = sum r.some in
     record {
       text = p.text
-          ∙ ap (λ x. take at t ++ (l ++ x)) (r.text ∙ ap (λ x. k ++ normal s (case_of lower) x) behind)
+          ∙ ap (λ x. take at t ++ (l ++ x)) (r.text ∙ ap (λ x. k ++ normal s (case_of lower) x) after)
           ∙ ap (λ x. take at t ++ x) (sym (append_assoc l k (normal s (case_of lower) (drop (at + (n + m)) t))));
       within = omega (arith, p.within, r.within, length-drop (at + n) t);
       some = omega (arith, r.some);
       first = p.first;
       last = subst (λ b. b < 128) (get_or-drop (at + n) t (0 + m - 1) 0 ∙ ap (λ i. get_or t i 0) place) r.last;
-      whole = ap whole_triplets (sym behind) ∙ r.whole;
+      whole = ap whole_triplets (sym after) ∙ r.whole;
     }
   where
     sum : 0 < m → at + n + (0 + m - 1) ≡ at + (n + m) - 1
     sum h = omega arith
 
 -- ---- changes at the start
--- what stands behind a `%`
+-- what stands after a `%`
 at_percent : (t : List ℕ) → whole_triplets t ≡ true → 0 < length t → get_or t 0 0 ≡ 37
     → (f : Follows (drop 1 t)) × (t ≡ 37 ∷ f.a ∷ f.b ∷ f.ys)
 at_percent [] w l e = absurd (omega arith)
@@ -173,7 +173,7 @@ decodes s lower t c w p h = let d = is_decoded s (octets t) c h in at d.1 d.0.is
           some = some;
           first = omega (arith, p);
           last = omega (arith, end, spells_ascii r.sp (encode_utf8 c) r.spells (0 + 3 * len_utf8 c - 1));
-          whole = ap whole_triplets rest ∙ sym (whole_behind r.sp (encode_utf8 c) r.xs r.spells) ∙ sym (ap whole_triplets r.text) ∙ w;
+          whole = ap whole_triplets rest ∙ sym (whole_after r.sp (encode_utf8 c) r.xs r.spells) ∙ sym (ap whole_triplets r.text) ∙ w;
         }
 
 -- a triplet whose digits get capital
@@ -281,13 +281,13 @@ writes_char s lower t old new at written o c w l e is high h put =
     }
 
 -- a letter that is lowered
-pub letter_mark : (lower : Bool) (x : ℕ) → (lower && not (x == 37)) ≡ true → (x == 37) ≡ false
-letter_mark true x h = elim (x == 37) as (λ b. not b ≡ true → b ≡ false) [ true ↦ λ k. cc | false ↦ λ _. refl ] h
-letter_mark false x h = cc
+pub letter_delimiter : (lower : Bool) (x : ℕ) → (lower && not (x == 37)) ≡ true → (x == 37) ≡ false
+letter_delimiter true x h = elim (x == 37) as (λ b. not b ≡ true → b ≡ false) [ true ↦ λ k. cc | false ↦ λ _. refl ] h
+letter_delimiter false x h = cc
 
-pub triplet_mark : (lower : Bool) (x : ℕ) → stays lower x ≡ false → (lower && not (x == 37)) ≡ false → x ≡ 37
-triplet_mark true x m h = grind (arith, nat_tests)
-triplet_mark false x m h = grind (arith, nat_tests)
+pub triplet_delimiter : (lower : Bool) (x : ℕ) → stays lower x ≡ false → (lower && not (x == 37)) ≡ false → x ≡ 37
+triplet_delimiter true x m h = grind (arith, nat_tests)
+triplet_delimiter false x m h = grind (arith, nat_tests)
 
 is_letter : (lower : Bool) (x : ℕ) → stays lower x ≡ false → (x == 37) ≡ false → (lower ≡ true) × (is_ascii_uppercase x ≡ true)
 is_letter true x h n = (refl, grind (arith, nat_tests))
@@ -327,17 +327,17 @@ boundary t at len u some low inside high =
     subst (λ k. 192 ≤ get_or t k 0) next (lead_after_ascii t (at + len - 1) u low (omega arith)
     (subst (λ k. 128 ≤ get_or t k 0) (sym next) high))
 
--- what has been put, with the next run and what is written behind it
-pub one_change : (s : Tests) (lower : Bool) (text rest done front tail : List ℕ) (at len : ℕ) (l : List ℕ)
+-- what has been put, with the next run and what is written after it
+pub one_change : (s : Tests) (lower : Bool) (text rest done prefix tail : List ℕ) (at len : ℕ) (l : List ℕ)
     → normal s (case_of lower) text ≡ done ++ normal s (case_of lower) rest → Becomes s lower rest at len l
-    → front ≡ slice_range rest 0 at → tail ≡ drop (at + len) rest
-    → normal s (case_of lower) text ≡ ((done ++ front) ++ l) ++ normal s (case_of lower) tail
-one_change s lower text rest done front tail at len l h r f b =
+    → prefix ≡ slice_range rest 0 at → tail ≡ drop (at + len) rest
+    → normal s (case_of lower) text ≡ ((done ++ prefix) ++ l) ++ normal s (case_of lower) tail
+one_change s lower text rest done prefix tail at len l h r f b =
     h
     ∙ ap (λ x. done ++ x) (r.text ∙ ap (λ x. x ++ (l ++ normal s (case_of lower) (drop (at + len) rest)))
-    (sym (f ∙ ap (λ n. take n rest) from_start)) ∙ ap (λ x. front ++ (l ++ normal s (case_of lower) x)) (sym b))
-    ∙ sym (append_assoc done front (l ++ normal s (case_of lower) tail))
-    ∙ sym (append_assoc (done ++ front) l (normal s (case_of lower) tail))
+    (sym (f ∙ ap (λ n. take n rest) from_start)) ∙ ap (λ x. prefix ++ (l ++ normal s (case_of lower) x)) (sym b))
+    ∙ sym (append_assoc done prefix (l ++ normal s (case_of lower) tail))
+    ∙ sym (append_assoc (done ++ prefix) l (normal s (case_of lower) tail))
   where
     from_start : at - 0 ≡ at
     from_start = omega arith

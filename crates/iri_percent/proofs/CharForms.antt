@@ -13,7 +13,7 @@ use Rattle.iri_percent.specs.Triplets.{pct, as_it_is, unit_in_form}
 use Rattle.iri_percent.specs.ByteForm.{normal_units}
 use Rattle.iri_percent.proofs.UnitLaws.{Spells, units_lone}
 use Rattle.iri_percent.proofs.NormalLaws.{normal_nil, normal_plains, normal_lone, normal_char}
-use Rattle.iri_percent.proofs.Reading.{whole_triplet, whole_behind}
+use Rattle.iri_percent.proofs.Reading.{whole_triplet, whole_after}
 use Rattle.iri_percent.proofs.Stability.{as_it_is-case, upper_spells, unreserved_percent, encode_percent, whole_plains, units-normal}
 use Rattle.iri_percent.proofs.CharUnits.{CharReading, done, plain, char, lone, stray, read, percent_unit, char_units_char}
 use Rattle.iri_percent.proofs.CharUnits.{char_units_plain, encodes_triplet, encodes_spelled, encodes_percent, octets_encoded}
@@ -76,7 +76,7 @@ encoded_formed s cs i (plain c cs' h e r) w = plain_formed s c (encodes cs') h e
 encoded_formed s cs i (char c sp cs' h k r) w =
     let same = encodes_spelled sp (encode c) cs' k in
     subst (IsFormed s) (sym same) (char_formed s c sp (encodes cs') i h k
-    (encoded_formed s cs' i r (sym (ap whole_triplets same ∙ whole_behind sp (encode c) (encodes cs') k) ∙ w)))
+    (encoded_formed s cs' i r (sym (ap whole_triplets same ∙ whole_after sp (encode c) (encodes cs') k) ∙ w)))
 encoded_formed s cs i (lone a b cs' p q n r) w =
     let same = encodes_triplet a b cs' p q in
     let rest : whole_triplets (encodes cs') ≡ true = sym (ap whole_triplets same ∙ whole_triplet a b (encodes cs') p q) ∙ w in

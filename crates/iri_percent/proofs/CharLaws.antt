@@ -35,7 +35,7 @@ percent_same (a ∷ b ∷ xs) o =
       | false ↦ record { unit = refl; text = refl; bytes = refl }
     ]
 
--- the bytes behind the first one of a character
+-- the bytes after the first one of a character
 continued : (ys xs : List ℕ) → list_all is_continuation ys ≡ true → units (ys ++ xs) ≡ plains ys ++ units xs
 continued [] xs h = refl
 continued (y ∷ ys) xs h =
@@ -45,7 +45,7 @@ continued (y ∷ ys) xs h =
     apart : (y : ℕ) → is_continuation y ≡ true → (y == 37) ≡ false
     apart y h = grind (arith, nat_tests)
 
--- both readings of what stands behind so many bytes
+-- both readings of what stands after so many bytes
 abbrev IsTied : List ℕ → Type 0
 IsTied t = (n : ℕ) → units_from n t ≡ flat_map byte_units (char_units_from n t)
 
@@ -64,14 +64,14 @@ character_tied x c xs tied g =
     let b = encode_bytes c in
     let whole : x ∷ xs ≡ b.lead ∷ (b.tail ++ g.rest) = g.split ∙ ap (λ l. l ++ g.rest) b.split in
     let first : x ≡ b.lead = cc in
-    let behind : xs ≡ b.tail ++ g.rest = cc in
+    let after : xs ≡ b.tail ++ g.rest = cc in
     let less : length (b.lead ∷ b.tail) - 1 ≡ length b.tail = omega arith in
     let rest : units g.rest ≡ units_from (length b.tail) xs =
     sym (units_from_drop (length b.tail) xs ∙ ap units
-    (ap (drop (length b.tail)) behind ∙ drop_at b.tail g.rest (length b.tail) refl)) in
+    (ap (drop (length b.tail)) after ∙ drop_at b.tail g.rest (length b.tail) refl)) in
     subst (λ l. Plain x ∷ units xs ≡ plains l ++ flat_map byte_units (char_units_from (length l - 1) xs)) (sym b.split)
     (ap (λ y. Plain y ∷ units xs) first
-    ∙ ap (λ us. Plain b.lead ∷ us) (ap units behind ∙ continued b.tail g.rest b.continue
+    ∙ ap (λ us. Plain b.lead ∷ us) (ap units after ∙ continued b.tail g.rest b.continue
     ∙ ap (λ us. plains b.tail ++ us) (rest ∙ tied (length b.tail)))
     ∙ sym (ap (λ n. Plain b.lead ∷ (plains b.tail ++ flat_map byte_units (char_units_from n xs))) less))
 

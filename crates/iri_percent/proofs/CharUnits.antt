@@ -15,14 +15,14 @@ use Rattle.iri_percent.specs.Units.{unit_text, units_from, units, two_digits}
 use Rattle.iri_percent.proofs.UnitLaws.{Spells, none, more, octets_other, octets_triplet, octets_spelled, first_char_is, char_first}
 use Rattle.iri_percent.proofs.UnitLaws.{encode_bytes, byte_other, units_plain, units_lone, units_char}
 use Rattle.iri_percent.proofs.CharLaws.{percent_same, units-by_chars}
-use Rattle.iri_percent.proofs.NormalLaws.{FrontTriplet, front_triplet}
+use Rattle.iri_percent.proofs.NormalLaws.{PrefixTriplet, prefix_triplet}
 use Rattle.iri_percent.proofs.MapTexts.{is_high, hex_low, encode-high}
 use Rattle.iri_percent.specs.UnitTexts.{units_text}
 use Rattle.iri_percent.proofs.UnitTexts.{units-text}
 use Rattle.iri_percent.specs.CharUnits.{by_character, first_char_unit, char_unit_text, char_units_from, char_units, plains, byte_units}
 use Rattle.iri_grammar.proofs.Units.{past_hex as high_no_hex}
 
--- ---- digits behind a `%`
+-- ---- digits suffix a `%`
 no_two : (x : ℕ) (xs : List ℕ) → is_ascii_hexdigit x ≡ false → two_digits (x ∷ xs) ≡ false
 no_two x [] h = refl
 no_two x (y ∷ xs) h = rw h refl
@@ -86,22 +86,22 @@ pub data CharReading : List ℕ → Type 0 where
       → CharReading cs → CharReading (37 ∷ a ∷ b ∷ cs)
   stray : (cs : List ℕ) → two_digits cs ≡ false → two_digits (encodes cs) ≡ false → CharReading cs → CharReading (37 ∷ cs)
 
-behind : (xs ys : List ℕ) → scalars (xs ++ ys) ≡ true → scalars ys ≡ true
-behind [] ys h = h
-behind (x ∷ xs) ys h = behind xs ys (both (scalar x) (scalars (xs ++ ys)) h).1
+suffix : (xs ys : List ℕ) → scalars (xs ++ ys) ≡ true → scalars ys ≡ true
+suffix [] ys h = h
+suffix (x ∷ xs) ys h = suffix xs ys (both (scalar x) (scalars (xs ++ ys)) h).1
 
-front : (n a b : ℕ) (ys : List ℕ) → length (37 ∷ a ∷ b ∷ ys) ≤ suc n → is_ascii_hexdigit a ≡ true → is_ascii_hexdigit b ≡ true
+prefix : (n a b : ℕ) (ys : List ℕ) → length (37 ∷ a ∷ b ∷ ys) ≤ suc n → is_ascii_hexdigit a ≡ true → is_ascii_hexdigit b ≡ true
     → scalars ys ≡ true → ((t : List ℕ) → length t ≤ n → scalars t ≡ true → CharReading t) → CharReading (37 ∷ a ∷ b ∷ ys)
-front n a b ys l p q w read =
+prefix n a b ys l p q w read =
     elim (first_char (octets (37 ∷ a ∷ b ∷ ys))) as (λ o. first_char (octets (37 ∷ a ∷ b ∷ ys)) ≡ o → CharReading (37 ∷ a ∷ b ∷ ys)) [
       | None ↦ λ e. lone a b ys p q e (read ys (omega arith) w)
-      | Some c ↦ λ e. let g = first_char_is (octets (37 ∷ a ∷ b ∷ ys)) c e in at c g.is_scalar (front_triplet c a b ys p q g)
+      | Some c ↦ λ e. let g = first_char_is (octets (37 ∷ a ∷ b ∷ ys)) c e in at c g.is_scalar (prefix_triplet c a b ys p q g)
     ] refl
   where
-    at : (c : ℕ) → scalar c ≡ true → FrontTriplet c a b ys → CharReading (37 ∷ a ∷ b ∷ ys)
+    at : (c : ℕ) → scalar c ≡ true → PrefixTriplet c a b ys → CharReading (37 ∷ a ∷ b ∷ ys)
     at c h r =
         let short : length r.rest ≤ n = omega (arith, l, ap length r.text, length-append r.sp r.rest) in
-        let ok : scalars r.rest ≡ true = behind r.sp r.rest (ap scalars (sym r.text) ∙ w) in
+        let ok : scalars r.rest ≡ true = suffix r.sp r.rest (ap scalars (sym r.text) ∙ w) in
         subst (λ t. CharReading (37 ∷ a ∷ b ∷ t)) (sym r.text) (char c (37 ∷ a ∷ b ∷ r.sp) r.rest h r.whole (read r.rest short ok))
 
 percent : (n : ℕ) (xs : List ℕ) → length (37 ∷ xs) ≤ suc n → scalars xs ≡ true
@@ -113,7 +113,7 @@ percent n (a ∷ b ∷ ys) l w read =
     elim (is_ascii_hexdigit a && is_ascii_hexdigit b) as (λ v. (is_ascii_hexdigit a && is_ascii_hexdigit b) ≡ v
     → CharReading (37 ∷ a ∷ b ∷ ys)) [
       | true ↦ λ e. let d = both (is_ascii_hexdigit a) (is_ascii_hexdigit b) e in
-          front n a b ys l d.0 d.1 (both (scalar b) (scalars ys) k.1).1 read
+          prefix n a b ys l d.0 d.1 (both (scalar b) (scalars ys) k.1).1 read
       | false ↦ λ e. stray (a ∷ b ∷ ys) e (two_encoded (a ∷ b ∷ ys) w ∙ e) (read (a ∷ b ∷ ys) (omega arith) w)
     ] refl
 
@@ -264,19 +264,19 @@ char_units-text t = sym (all_bytes (char_units t)) ∙ ap units_text (sym (units
 
 -- ---- where a character in triplets stands
 record IsSplit (c : ℕ) (sp : List ℕ) (us before : List TextUnit) : Type 0 where
-  front : List TextUnit
+  prefix : List TextUnit
   back : List TextUnit
-  split : us ≡ front ++ Char c sp ∷ back
-  same : flat_map byte_units front ≡ before
+  split : us ≡ prefix ++ Char c sp ∷ back
+  same : flat_map byte_units prefix ≡ before
 
-behind_plains : (os : List ℕ) (rest before after : List TextUnit) (c : ℕ) (sp : List ℕ) → plains os ++ rest ≡ before ++ Char c sp ∷ after
+after_plains : (os : List ℕ) (rest before after : List TextUnit) (c : ℕ) (sp : List ℕ) → plains os ++ rest ≡ before ++ Char c sp ∷ after
     → (mid : List TextUnit) × (before ≡ plains os ++ mid) × (rest ≡ mid ++ Char c sp ∷ after)
-behind_plains [] rest before after c sp e = (before, refl, e)
-behind_plains (o ∷ os) rest [] after c sp e = cc
-behind_plains (o ∷ os) rest (v ∷ before) after c sp e =
+after_plains [] rest before after c sp e = (before, refl, e)
+after_plains (o ∷ os) rest [] after c sp e = cc
+after_plains (o ∷ os) rest (v ∷ before) after c sp e =
     let first : Plain o ≡ v = cc in
-    let behind : plains os ++ rest ≡ before ++ Char c sp ∷ after = cc in
-    let r = behind_plains os rest before after c sp behind in
+    let suffix : plains os ++ rest ≡ before ++ Char c sp ∷ after = cc in
+    let r = after_plains os rest before after c sp suffix in
     (r.0, sym (ap (λ x. x ∷ before) first) ∙ ap (λ l. Plain o ∷ l) r.1, r.2)
 
 char_split : (us before after : List TextUnit) (c : ℕ) (sp : List ℕ) → flat_map byte_units us ≡ before ++ Char c sp ∷ after
@@ -284,56 +284,56 @@ char_split : (us before after : List TextUnit) (c : ℕ) (sp : List ℕ) → fla
 char_split [] [] after c sp e = cc
 char_split [] (v ∷ before) after c sp e = cc
 char_split (Plain d ∷ us) before after c sp e =
-    let m = behind_plains (encode d) (flat_map byte_units us) before after c sp e in
+    let m = after_plains (encode d) (flat_map byte_units us) before after c sp e in
     let r = char_split us m.0 after c sp m.2 in
     record {
-      front = Plain d ∷ r.front;
+      prefix = Plain d ∷ r.prefix;
       back = r.back;
       split = ap (λ l. Plain d ∷ l) r.split;
       same = ap (λ l. plains (encode d) ++ l) r.same ∙ sym m.1;
     }
 char_split (Char d sq ∷ us) [] after c sp e =
     let first : Char d sq ≡ Char c sp = cc in
-    record { front = []; back = us; split = ap (λ x. x ∷ us) first; same = refl }
+    record { prefix = []; back = us; split = ap (λ x. x ∷ us) first; same = refl }
 char_split (Lone a b ∷ us) [] after c sp e = cc
 char_split (Stray ∷ us) [] after c sp e = cc
 char_split (IllFormed b ∷ us) [] after c sp e = cc
 char_split (Char d sq ∷ us) (v ∷ before) after c sp e =
     let first : Char d sq ≡ v = cc in
-    let behind : flat_map byte_units us ≡ before ++ Char c sp ∷ after = cc in
-    let r = char_split us before after c sp behind in
+    let suffix : flat_map byte_units us ≡ before ++ Char c sp ∷ after = cc in
+    let r = char_split us before after c sp suffix in
     record {
-      front = Char d sq ∷ r.front;
+      prefix = Char d sq ∷ r.prefix;
       back = r.back;
       split = ap (λ l. Char d sq ∷ l) r.split;
       same = ap (λ l. Char d sq ∷ l) r.same ∙ ap (λ x. x ∷ before) first;
     }
 char_split (Lone a b ∷ us) (v ∷ before) after c sp e =
     let first : Lone a b ≡ v = cc in
-    let behind : flat_map byte_units us ≡ before ++ Char c sp ∷ after = cc in
-    let r = char_split us before after c sp behind in
+    let suffix : flat_map byte_units us ≡ before ++ Char c sp ∷ after = cc in
+    let r = char_split us before after c sp suffix in
     record {
-      front = Lone a b ∷ r.front;
+      prefix = Lone a b ∷ r.prefix;
       back = r.back;
       split = ap (λ l. Lone a b ∷ l) r.split;
       same = ap (λ l. Lone a b ∷ l) r.same ∙ ap (λ x. x ∷ before) first;
     }
 char_split (Stray ∷ us) (v ∷ before) after c sp e =
     let first : Stray ≡ v = cc in
-    let behind : flat_map byte_units us ≡ before ++ Char c sp ∷ after = cc in
-    let r = char_split us before after c sp behind in
+    let suffix : flat_map byte_units us ≡ before ++ Char c sp ∷ after = cc in
+    let r = char_split us before after c sp suffix in
     record {
-      front = Stray ∷ r.front;
+      prefix = Stray ∷ r.prefix;
       back = r.back;
       split = ap (λ l. Stray ∷ l) r.split;
       same = ap (λ l. Stray ∷ l) r.same ∙ ap (λ x. x ∷ before) first;
     }
 char_split (IllFormed b ∷ us) (v ∷ before) after c sp e =
     let first : Plain b ≡ v = cc in
-    let behind : flat_map byte_units us ≡ before ++ Char c sp ∷ after = cc in
-    let r = char_split us before after c sp behind in
+    let suffix : flat_map byte_units us ≡ before ++ Char c sp ∷ after = cc in
+    let r = char_split us before after c sp suffix in
     record {
-      front = IllFormed b ∷ r.front;
+      prefix = IllFormed b ∷ r.prefix;
       back = r.back;
       split = ap (λ l. IllFormed b ∷ l) r.split;
       same = ap (λ l. Plain b ∷ l) r.same ∙ ap (λ x. x ∷ before) first;
@@ -341,13 +341,13 @@ char_split (IllFormed b ∷ us) (v ∷ before) after c sp e =
 
 -- a unit of bytes that is a character in triplets is a unit of characters, at the same byte
 pub record IsPlaced (c : ℕ) (sp t : List ℕ) (place : ℕ) : Type 0 where
-  pub front : List TextUnit
+  pub prefix : List TextUnit
   pub back : List TextUnit
-  pub split : char_units t ≡ front ++ Char c sp ∷ back
-  pub at : length (flat_map char_unit_text front) ≡ place
+  pub split : char_units t ≡ prefix ++ Char c sp ∷ back
+  pub at : length (flat_map char_unit_text prefix) ≡ place
 
 pub char_placed : (c : ℕ) (sp t : List ℕ) (before after : List TextUnit) → units t ≡ before ++ Char c sp ∷ after
     → IsPlaced c sp t (length (units_text before))
 char_placed c sp t before after e =
     let r = char_split (char_units t) before after c sp (sym (units-by_chars t) ∙ e) in
-    record { front = r.front; back = r.back; split = r.split; at = ap length (sym (all_bytes r.front) ∙ ap units_text r.same) }
+    record { prefix = r.prefix; back = r.back; split = r.split; at = ap length (sym (all_bytes r.prefix) ∙ ap units_text r.same) }

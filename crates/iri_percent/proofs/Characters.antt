@@ -10,7 +10,7 @@ use Rattle.std.proofs.lemmas.Bool.Decides.{nat_tests}
 use Rattle.iri_grammar.specs.Classes.{Tests, IsSpec, unreserved, is_ascii_unreserved}
 use Rattle.iri_grammar.proofs.WideChars.{below, not_below, spelled_in_three, spelled_in_two}
 use Rattle.iri_percent.specs.Units.{first_char}
-use Rattle.iri_percent.proofs.UnitLaws.{BeginsChar, first_char_is, char_first, none_in_front, continuation_none, is_continuation, next_continues}
+use Rattle.iri_percent.proofs.UnitLaws.{BeginsChar, first_char_is, char_first, none_before, continuation_none, is_continuation, next_continues}
 use Rattle.iri_percent.specs.NormalLaws.{decoded, unreserved_only}
 use Rattle.iri_percent.specs.inside.Octets.{goes_on, char_from}
 
@@ -193,20 +193,20 @@ four_octets lead a b d os l p q r = decide (lead ∷ (128 + a) ∷ (128 + b) ∷
 pub first_of_four : (os : List ℕ) → first_char (take 4 os) ≡ first_char os
 first_of_four os =
     elim (first_char os) as (λ o. first_char os ≡ o → first_char (take 4 os) ≡ o) [
-      | None ↦ λ h. none_in_front (take 4 os) os (drop 4 os) (sym (take-append-drop 4 os)) h
+      | None ↦ λ h. none_before (take 4 os) os (drop 4 os) (sym (take-append-drop 4 os)) h
       | Some c ↦ λ h.
           let g = first_char_is os c h in
           let short : length (encode c) ≤ 4 = omega (arith, length-encode c, len_utf8_bounds c) in
           let t : take 4 os ≡ encode c ++ take (4 - length (encode c)) g.rest =
-          ap (take 4) g.split ∙ front_of (encode c) g.rest 4 short in
+          ap (take 4) g.split ∙ prefix_of (encode c) g.rest 4 short in
           ap first_char t ∙ char_first c (take (4 - length (encode c)) g.rest) g.is_scalar
     ] refl
   where
-    front_of : (xs ys : List ℕ) (n : ℕ) → length xs ≤ n → take n (xs ++ ys) ≡ xs ++ take (n - length xs) ys
-    front_of [] ys n h = ap (λ m. take m ys) (omega arith)
-    front_of (x ∷ xs) ys zero h = absurd (omega arith)
-    front_of (x ∷ xs) ys (suc n) h = let e : suc n - suc (length xs) ≡ n - length xs = omega arith in
-        ap (λ l. x ∷ l) (front_of xs ys n (omega arith)) ∙ ap (λ m. x ∷ (xs ++ take m ys)) (sym e)
+    prefix_of : (xs ys : List ℕ) (n : ℕ) → length xs ≤ n → take n (xs ++ ys) ≡ xs ++ take (n - length xs) ys
+    prefix_of [] ys n h = ap (λ m. take m ys) (omega arith)
+    prefix_of (x ∷ xs) ys zero h = absurd (omega arith)
+    prefix_of (x ∷ xs) ys (suc n) h = let e : suc n - suc (length xs) ≡ n - length xs = omega arith in
+        ap (λ l. x ∷ l) (prefix_of xs ys n (omega arith)) ∙ ap (λ m. x ∷ (xs ++ take m ys)) (sym e)
 
 -- ---- the unreserved character
 pub none_decoded : (s : Tests) (os : List ℕ) → os ≡ [] → decoded s os ≡ None

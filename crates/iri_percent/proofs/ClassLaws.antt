@@ -91,21 +91,21 @@ over-from_text p t n h =
     let all : over p (chars t) ≡ true = ap (over p) same ∙ over-from_units p k.cs n k.over in
     rw (utf8, all) refl
 
--- ---- what stands behind a triplet
-pub behind_escape : (p : ℕ → Bool) (u : List ℕ) (a b : ℕ) (t : List ℕ) → IsText p u → u ≡ 37 ∷ a ∷ b ∷ t → IsText p t
-behind_escape p u a b t ended e = cc
-behind_escape p u a b t (letter c t' s h n r) e =
+-- ---- what stands after a triplet
+pub after_escape : (p : ℕ → Bool) (u : List ℕ) (a b : ℕ) (t : List ℕ) → IsText p u → u ≡ 37 ∷ a ∷ b ∷ t → IsText p t
+after_escape p u a b t ended e = cc
+after_escape p u a b t (letter c t' s h n r) e =
     let l = encode_bytes c in
     let w : l.lead ∷ (l.tail ++ t') ≡ 37 ∷ a ∷ b ∷ t = ap (λ x. x ++ t') (sym l.split) ∙ e in
     let first : l.lead ≡ 37 = cc in
     let no : (37 == 37) ≡ false = ap (λ x. x == 37) (sym first) ∙ l.percent ∙ n in
     cc
-behind_escape p u a b t (escape a' b' t' ha hb r) e = let same : t' ≡ t = cc in subst (λ x. IsText p x) same r
+after_escape p u a b t (escape a' b' t' ha hb r) e = let same : t' ≡ t = cc in subst (λ x. IsText p x) same r
 
-behind_spelled : (p : ℕ → Bool) (sp os xs : List ℕ) → Spells sp os → IsText p (sp ++ xs) → IsText p xs
-behind_spelled p sp os xs none h = h
-behind_spelled p sp os xs (more a b sp' os' ha hb k) h =
-    behind_spelled p sp' os' xs k (behind_escape p (37 ∷ a ∷ b ∷ (sp' ++ xs)) a b (sp' ++ xs) h refl)
+after_spelled : (p : ℕ → Bool) (sp os xs : List ℕ) → Spells sp os → IsText p (sp ++ xs) → IsText p xs
+after_spelled p sp os xs none h = h
+after_spelled p sp os xs (more a b sp' os' ha hb k) h =
+    after_spelled p sp' os' xs k (after_escape p (37 ∷ a ∷ b ∷ (sp' ++ xs)) a b (sp' ++ xs) h refl)
 
 -- ---- the class is kept
 -- a class that holds what is decoded, and letters in the other case
@@ -149,7 +149,7 @@ kept_within (suc n) s f p t i k l (escape a b t' ha hb r) =
             let all : IsText p (g.sp ++ g.xs) = subst (λ x. IsText p x) g.text (escape a b t' ha hb r) in
             let short : length g.xs ≤ n = omega (arith, l, ap length g.text, length-append g.sp g.xs, some c g.sp g.spells) in
             subst (λ x. IsText p x) (sym (ap (normal s f) g.text ∙ normal_decoded s f c g.sp g.xs h u g.spells))
-            (letter_case s f p c (normal s f g.xs) i k h q m (go g.xs short (behind_spelled p g.sp (encode c) g.xs g.spells all)))
+            (letter_case s f p c (normal s f g.xs) i k h q m (go g.xs short (after_spelled p g.sp (encode c) g.xs g.spells all)))
           where
             some_at : (sp os : List ℕ) → Spells sp os → (b : ℕ) (bs : List ℕ) → os ≡ b ∷ bs → 0 < length sp
             some_at sp os none b bs e = cc

@@ -64,7 +64,7 @@ fragments-plain x [] h = rw h refl
 fragments-plain x (a ∷ []) h = rw h refl
 fragments-plain x (a ∷ b ∷ xs) h = rw h refl
 
--- a run ends in front of a `%`
+-- a run ends before a `%`
 run_ends : (x : ℕ) (ys : List ℕ) → before_fragments x (fragments (37 ∷ ys)) ≡ Run (x ∷ []) ∷ fragments (37 ∷ ys)
 unfolding fragments
 run_ends x [] = refl
@@ -96,7 +96,7 @@ pub run-first : (t : List ℕ) → 0 < length t → get_or t 0 0 ≢ 37 → frag
 run-first [] h n = absurd (omega arith)
 run-first (x ∷ xs) h n = fragments-run x xs (by_test x 37 (λ b. b ≡ false) (λ same. absurd (n same)) (λ _. refl))
 
--- the run's bytes are those in front of the rest
+-- the run's bytes are those before the rest
 pub from-drop : (t : List ℕ) → from 37 t ≡ drop (length (before 37 t)) t
 from-drop [] = refl
 from-drop (x ∷ xs) = by_test x 37 (λ b. cond b (x ∷ xs) (from 37 xs) ≡ drop (length (cond b [] (x ∷ before 37 xs))) (x ∷ xs))

@@ -109,10 +109,10 @@ other_ascii s l k b h = (
       ∙ is_false (ascii_test k b) (both (nat_lt b 128) (not (ascii_test k b)) h).1,
 )
 
--- a character, and the run behind it
-pub run_from_char : (p : ℕ → Bool) (stands : Bool) (c : ℕ) (t whole tail behind rest : List ℕ) → IsUtf8 t → whole ≡ t
-    → whole ≡ encode_utf8 c ++ tail → p c ≡ stands → behind ≡ tail → IsPastRun p stands behind rest → IsPastRun p stands t rest
-run_from_char p stands c t whole tail behind rest u same e h b a =
+-- a character, and the run after it
+pub run_from_char : (p : ℕ → Bool) (stands : Bool) (c : ℕ) (t whole tail after rest : List ℕ) → IsUtf8 t → whole ≡ t
+    → whole ≡ encode_utf8 c ++ tail → p c ≡ stands → after ≡ tail → IsPastRun p stands after rest → IsPastRun p stands t rest
+run_from_char p stands c t whole tail after rest u same e h b a =
     past_more p stands t tail rest (past_char p stands c t tail u (sym same ∙ e) h) (subst (λ l. IsPastRun p stands l rest) b a)
 
 -- where the run ends
@@ -123,10 +123,10 @@ pub run_within : (p : ℕ → Bool) (stands : Bool) (t r : List ℕ) → IsPastR
 run_within p stands t r a = omega (arith, ap length a.is_run.split, length-append a.run r)
 
 -- the text up to there is the run
-pub run_front : (p : ℕ → Bool) (stands : Bool) (t r front : List ℕ) → IsPastRun p stands t r → front ≡ take (length t - length r) t
-    → IsRun p t stands front r
-run_front p stands t r front a e =
-    let same : front ≡ a.run = e ∙ ap (take (length t - length r)) a.is_run.split
+pub run_prefix : (p : ℕ → Bool) (stands : Bool) (t r prefix : List ℕ) → IsPastRun p stands t r → prefix ≡ take (length t - length r) t
+    → IsRun p t stands prefix r
+run_prefix p stands t r prefix a e =
+    let same : prefix ≡ a.run = e ∙ ap (take (length t - length r)) a.is_run.split
     ∙ take_at a.run r (length t - length r) (sym (run_length p stands t r a)) in
     subst (λ l. IsRun p t stands l r) (sym same) a.is_run
 
@@ -134,10 +134,10 @@ pub run_boundary : (p : ℕ → Bool) (stands : Bool) (t r : List ℕ) (n : ℕ)
     → IsCharBoundary t n
 run_boundary p stands t r n a e =
     let is : n ≡ length a.run = e ∙ run_length p stands t r a in
-    let behind : drop n t ≡ r = ap (drop n) a.is_run.split ∙ drop_at a.run r n (sym is) in
-    IsCharBoundary-from_drop t n (omega (arith, ap length a.is_run.split, length-append a.run r)) (subst IsUtf8 (sym behind) a.is_run.utf8)
+    let after : drop n t ≡ r = ap (drop n) a.is_run.split ∙ drop_at a.run r n (sym is) in
+    IsCharBoundary-from_drop t n (omega (arith, ap length a.is_run.split, length-append a.run r)) (subst IsUtf8 (sym after) a.is_run.utf8)
 
 -- what was written, a run, and the rest
-pub run_shown : (p : ℕ → Bool) (stands : Bool) (done t front r : List ℕ) → IsRun p t stands front r
-    → done ++ encoded p t ≡ (done ++ run_text stands front) ++ encoded p r
-run_shown p stands done t front r a = ap (λ l. done ++ l) a.same ∙ sym (append_assoc done (run_text stands front) (encoded p r))
+pub run_shown : (p : ℕ → Bool) (stands : Bool) (done t prefix r : List ℕ) → IsRun p t stands prefix r
+    → done ++ encoded p t ≡ (done ++ run_text stands prefix) ++ encoded p r
+run_shown p stands done t prefix r a = ap (λ l. done ++ l) a.same ∙ sym (append_assoc done (run_text stands prefix) (encoded p r))

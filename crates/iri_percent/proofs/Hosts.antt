@@ -11,7 +11,7 @@ use Rattle.iri_grammar.proofs.CutLaws.{both}
 use Rattle.iri_percent.specs.Units.{two_digits, whole_triplets}
 use Rattle.iri_percent.specs.Triplets.{normal}
 use Rattle.iri_percent.specs.NormalHost.{octet_below_128, is_ascii_host, is_plain_byte, normal_host}
-use Rattle.iri_percent.specs.inside.Pieces.{case_of, stays, NoMark}
+use Rattle.iri_percent.specs.inside.Pieces.{case_of, stays, NoCandidate}
 use Rattle.iri_percent.proofs.Changes.{run_all}
 
 pub percent_digits : (x : ℕ) (xs : List ℕ) → x ≡ 37 → whole_triplets (x ∷ xs) ≡ true → two_digits xs ≡ true
@@ -20,12 +20,12 @@ percent_digits x xs e w = (both (two_digits xs) (whole_triplets xs)
     (ap (λ y. cond (y == 37) (two_digits xs) true && whole_triplets xs) (sym e) ∙ w)).0
 
 -- whether the first byte is ASCII, and the octet of a triplet that it begins
-abbrev pub ascii_front : ℕ → List ℕ → Bool
-ascii_front x xs = nat_lt x 128 && cond (x == 37) (octet_below_128 xs) true
+abbrev pub ascii_prefix : ℕ → List ℕ → Bool
+ascii_prefix x xs = nat_lt x 128 && cond (x == 37) (octet_below_128 xs) true
 
 pub record Step (t tail : List ℕ) : Type 0 where
   pub whole : whole_triplets tail ≡ true
-  pub same : is_ascii_host t ≡ (ascii_front (get_or t 0 0) tail && is_ascii_host tail)
+  pub same : is_ascii_host t ≡ (ascii_prefix (get_or t 0 0) tail && is_ascii_host tail)
 
 step_at : (x : ℕ) (xs : List ℕ) → whole_triplets (x ∷ xs) ≡ true → Step (x ∷ xs) xs
 unfolding whole_triplets is_ascii_host
@@ -70,7 +70,7 @@ plain_four (w ∷ x ∷ y ∷ z ∷ r) l h =
     let c = both (is_plain_byte w) (is_plain_byte x) b.0 in
     rw (c.0, c.1, b.1, a.1) refl
 
-plain_stays : (t : List ℕ) → list_all is_plain_byte t ≡ true → NoMark true t (length t)
+plain_stays : (t : List ℕ) → list_all is_plain_byte t ≡ true → NoCandidate true t (length t)
 plain_stays [] h k j = absurd (omega arith)
 plain_stays (x ∷ xs) h zero j = (both (nat_lt x 128) (stays true x) (both (is_plain_byte x) (list_all is_plain_byte xs) h).0).1
 plain_stays (x ∷ xs) h (suc k) j = plain_stays xs (both (is_plain_byte x) (list_all is_plain_byte xs) h).1 k (omega arith)

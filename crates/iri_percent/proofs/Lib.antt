@@ -17,9 +17,9 @@ pub mod CaseLaws
 pub mod CharLaws
 pub mod ClassLaws
 pub mod MapKinds
-pub mod MapMarks
+pub mod MapDelimiters
 pub mod MapTexts
-pub mod MarkLaws
+pub mod DelimiterLaws
 pub mod NormalLaws
 pub mod Reading
 pub mod SeamLaws

@@ -13,7 +13,7 @@ use Rattle.iri_grammar.proofs.CutLaws.{both}
 use Rattle.iri_grammar.specs.Over.{text_over}
 use Rattle.iri_percent.specs.Units.{octet, octets, first_char}
 use Rattle.iri_percent.specs.Triplets.{normal}
-use Rattle.iri_percent.proofs.ClassLaws.{IsText, ended, letter, escape, text-from_over, behind_escape}
+use Rattle.iri_percent.proofs.ClassLaws.{IsText, ended, letter, escape, text-from_over, after_escape}
 use Rattle.iri_percent.proofs.UnitLaws.{Spells, none, more, spelled, octets_triplet, char_first, encode_bytes}
 use Rattle.iri_percent.specs.NormalLaws.{decoded, unreserved_only}
 use Rattle.iri_percent.proofs.NormalLaws.{normal_nil, normal_plain, normal_plains, normal_char, normal_decoded, normal_kept}
@@ -107,11 +107,11 @@ none-decoded s o os qs h =
     elim (is_ascii_unreserved o) as (λ b. is_ascii_unreserved o ≡ b
     → decoded uri_tests (o ∷ qs) ≡ None) [ true ↦ λ e. let yes' = ascii-decoded s o os e in cc | false ↦ λ e. uri-decoded o qs e ] refl
 
--- ---- what stands behind a triplet
-behind_spelled : (p : ℕ → Bool) (sp os xs : List ℕ) → Spells sp os → IsText p (sp ++ xs) → IsText p xs
-behind_spelled p sp os xs none h = h
-behind_spelled p sp os xs (more a b sp' os' ha hb k) h =
-    behind_spelled p sp' os' xs k (behind_escape p (37 ∷ a ∷ b ∷ (sp' ++ xs)) a b (sp' ++ xs) h refl)
+-- ---- what stands after a triplet
+after_spelled : (p : ℕ → Bool) (sp os xs : List ℕ) → Spells sp os → IsText p (sp ++ xs) → IsText p xs
+after_spelled p sp os xs none h = h
+after_spelled p sp os xs (more a b sp' os' ha hb k) h =
+    after_spelled p sp' os' xs k (after_escape p (37 ∷ a ∷ b ∷ (sp' ++ xs)) a b (sp' ++ xs) h refl)
 
 -- ---- the triplet normal form
 abbrev Maps : Tests → (ℕ → ℕ) → List ℕ → Type 0
@@ -215,7 +215,7 @@ maps_within (suc n) s f p t k i l (escape a b t' ha hb r) =
           some_triplet g.sp (encode c) g.spells (some_bytes c),
         ) in
         subst (λ z. Maps s f z) (sym g.text) (at_decoded s f c g.sp g.xs k i d.0.is_scalar d.1 g.spells
-        (go g.xs short (behind_spelled p g.sp (encode c) g.xs g.spells all)))
+        (go g.xs short (after_spelled p g.sp (encode c) g.xs g.spells all)))
 
 -- mapping commutes with triplet normal form
 pub mapped-normal : (s : Tests) (f : ℕ → ℕ) (p : ℕ → Bool) (t : List ℕ) → IsSpec s → IsCase f → p 37 ≡ false → text_over p t ≡ true

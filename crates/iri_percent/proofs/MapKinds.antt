@@ -11,7 +11,7 @@ use Rattle.iri_grammar.specs.Classes.{Tests, IsSpec, uri_tests, userinfo_char, r
 use Rattle.iri_grammar.specs.Classes.{is_ascii_userinfo, is_ascii_reg_name, is_ascii_unreserved, is_ascii_path, is_ascii_query}
 use Rattle.iri_grammar.specs.Classes.{is_sub_delim}
 use Rattle.iri_grammar.specs.Components.{if_there, is_scheme, is_scheme_char, is_port, is_userinfo, is_path, is_query, is_fragment}
-use Rattle.iri_grammar.specs.Cut.{before, marked}
+use Rattle.iri_grammar.specs.Cut.{before, delimited}
 use Rattle.iri_grammar.proofs.CutLaws.{both}
 use Rattle.iri_grammar.specs.Fault.{query_fault, fragment_fault}
 use Rattle.iri_grammar.proofs.FaultLaws.{passed, no_fault, reference-law, iri-law, absolute-law, relative-law}
@@ -26,7 +26,7 @@ use Rattle.iri_grammar.proofs.SplitUnique.{split_is}
 use Rattle.iri_grammar.specs.WholeFault.{reference_fault, iri_fault, absolute_fault, relative_fault}
 use Rattle.iri_grammar.specs.declared.error.ErrorKind.TheVariants.{InvalidQuery, InvalidFragment}
 use Rattle.iri_percent.specs.Mapping.{mapped, mapped_parts}
-use Rattle.iri_percent.proofs.MapMarks.{slash-apart, colon-apart, mapped-lacks, mapped-before, mapped-empty, mapped-slash, mapped-slashes}
+use Rattle.iri_percent.proofs.MapDelimiters.{slash-apart, colon-apart, mapped-lacks, mapped-before, mapped-empty, mapped-slash, mapped-slashes}
 use Rattle.iri_percent.proofs.MapTexts.{mapped-low, mapped-append, mapped-over, uri-spec}
 use Rattle.iri_percent.proofs.WholeLaws.{reg_name_percent, userinfo_percent, path_percent, query_percent, fragment_percent}
 
@@ -42,15 +42,15 @@ mapped-authority_text : (o : Option (List ℕ)) → mapped (authority_text o) �
 mapped-authority_text None = refl
 mapped-authority_text (Some x) = refl
 
-mapped-query_text : (o : Option (List ℕ)) → mapped (marked 63 o) ≡ marked 63 (option_map mapped o)
+mapped-query_text : (o : Option (List ℕ)) → mapped (delimited 63 o) ≡ delimited 63 (option_map mapped o)
 mapped-query_text None = refl
 mapped-query_text (Some x) = refl
 
-mapped-fragment_text : (o : Option (List ℕ)) → mapped (marked 35 o) ≡ marked 35 (option_map mapped o)
+mapped-fragment_text : (o : Option (List ℕ)) → mapped (delimited 35 o) ≡ delimited 35 (option_map mapped o)
 mapped-fragment_text None = refl
 mapped-fragment_text (Some x) = refl
 
-mapped-port_text : (o : Option (List ℕ)) → mapped (marked 58 o) ≡ marked 58 (option_map mapped o)
+mapped-port_text : (o : Option (List ℕ)) → mapped (delimited 58 o) ≡ delimited 58 (option_map mapped o)
 mapped-port_text None = refl
 mapped-port_text (Some x) = refl
 
@@ -64,10 +64,10 @@ mapped-recomposed t =
     mapped-append (scheme_text t.scheme) _
     ∙ rw (
       mapped-scheme_text t.scheme,
-      mapped-append (authority_text t.authority) (t.path ++ (marked 63 t.query ++ marked 35 t.fragment)),
+      mapped-append (authority_text t.authority) (t.path ++ (delimited 63 t.query ++ delimited 35 t.fragment)),
       mapped-authority_text t.authority,
-      mapped-append t.path (marked 63 t.query ++ marked 35 t.fragment),
-      mapped-append (marked 63 t.query) (marked 35 t.fragment),
+      mapped-append t.path (delimited 63 t.query ++ delimited 35 t.fragment),
+      mapped-append (delimited 63 t.query) (delimited 35 t.fragment),
       mapped-query_text t.query,
       mapped-fragment_text t.fragment,
     ) refl
@@ -75,8 +75,8 @@ mapped-recomposed t =
 pub mapped-recomposed_authority : (a : AuthorityParts) → mapped (recompose_authority a) ≡ recompose_authority (mapped_authority a)
 unfolding recompose_authority
 mapped-recomposed_authority a =
-    mapped-append (userinfo_text a.userinfo) (a.host ++ marked 58 a.port)
-    ∙ rw (mapped-userinfo_text a.userinfo, mapped-append a.host (marked 58 a.port), mapped-port_text a.port) refl
+    mapped-append (userinfo_text a.userinfo) (a.host ++ delimited 58 a.port)
+    ∙ rw (mapped-userinfo_text a.userinfo, mapped-append a.host (delimited 58 a.port), mapped-port_text a.port) refl
 
 -- ---- classes
 low_class : (a u : Bool) → u ≡ false → (a || u) ≡ true → (a || false) ≡ true

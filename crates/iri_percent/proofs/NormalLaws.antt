@@ -72,7 +72,7 @@ kept_char s f c a b sp tail xs h u whole part k =
     ∙ ap (λ t. 37 ∷ to_ascii_uppercase a ∷ to_ascii_uppercase b ∷ t) (sym (continued s f sp tail xs part k))
 
 -- a character that is not decoded stands at the start
-pub record FrontTriplet (c a b : ℕ) (xs : List ℕ) : Type 0 where
+pub record PrefixTriplet (c a b : ℕ) (xs : List ℕ) : Type 0 where
   pub sp : List ℕ
   pub tail : List ℕ
   pub rest : List ℕ
@@ -81,15 +81,15 @@ pub record FrontTriplet (c a b : ℕ) (xs : List ℕ) : Type 0 where
   pub part : Spells sp tail
   pub continue : list_all is_continuation tail ≡ true
 
-pub front_triplet : (c a b : ℕ) (xs : List ℕ) → is_ascii_hexdigit a ≡ true → is_ascii_hexdigit b ≡ true
-    → BeginsChar (octets (37 ∷ a ∷ b ∷ xs)) c → FrontTriplet c a b xs
-front_triplet c a b xs p q g =
+pub prefix_triplet : (c a b : ℕ) (xs : List ℕ) → is_ascii_hexdigit a ≡ true → is_ascii_hexdigit b ≡ true
+    → BeginsChar (octets (37 ∷ a ∷ b ∷ xs)) c → PrefixTriplet c a b xs
+prefix_triplet c a b xs p q g =
     let l = encode_bytes c in
     let w : octet a b ∷ octets xs ≡ l.lead ∷ (l.tail ++ g.rest) =
     sym (octets_triplet a b xs p q) ∙ g.split ∙ ap (λ os. os ++ g.rest) l.split in
     let first : octet a b ≡ l.lead = cc in
-    let behind : octets xs ≡ l.tail ++ g.rest = cc in
-    let r = spelled l.tail g.rest xs behind in
+    let after : octets xs ≡ l.tail ++ g.rest = cc in
+    let r = spelled l.tail g.rest xs after in
     let same : octet a b ∷ l.tail ≡ encode_utf8 c = ap (λ o. o ∷ l.tail) first ∙ sym l.split in
     record {
       sp = r.sp;
@@ -111,10 +111,10 @@ normal_kept s f a b xs p q n =
       | None ↦ λ e _. normal_lone s f a b xs p q e
       | Some c ↦ λ e k.
           let g = first_char_is (octets (37 ∷ a ∷ b ∷ xs)) c e in
-          at c k g.is_scalar (front_triplet c a b xs p q g)
+          at c k g.is_scalar (prefix_triplet c a b xs p q g)
     ] refl n
   where
-    at : (c : ℕ) → unreserved_only s (Some c) ≡ None → scalar c ≡ true → FrontTriplet c a b xs
+    at : (c : ℕ) → unreserved_only s (Some c) ≡ None → scalar c ≡ true → PrefixTriplet c a b xs
         → normal s f (37 ∷ a ∷ b ∷ xs) ≡ 37 ∷ to_ascii_uppercase a ∷ to_ascii_uppercase b ∷ normal s f xs
     at c k h r = subst (λ t. normal s f (37 ∷ a ∷ b ∷ t) ≡ 37 ∷ to_ascii_uppercase a ∷ to_ascii_uppercase b ∷ normal s f t) (sym r.text)
         (kept_char s f c a b r.sp r.tail r.rest h (not_decoded s c k) r.whole r.part r.continue)

@@ -11,7 +11,7 @@ use Rattle.iri_grammar.specs.Classes.{Tests}
 use Rattle.iri_grammar.specs.ClassTests.{ascii_test}
 use Rattle.iri_grammar.specs.Components.{if_there, is_port}
 use Rattle.iri_grammar.specs.Authority.{AuthorityParts, after_userinfo, authority_parts, recompose_authority, userinfo_text}
-use Rattle.iri_grammar.specs.Cut.{lacks, marked}
+use Rattle.iri_grammar.specs.Cut.{lacks, delimited}
 use Rattle.iri_grammar.specs.Seen.{is_kept_port, is_plain_authority, is_small}
 use Rattle.iri_grammar.specs.declared.class.Class.TheVariants.{RegName}
 use Rattle.iri_grammar.proofs.AuthorityLaws.{authority_recomposed}
@@ -19,21 +19,21 @@ use Rattle.iri_grammar.proofs.AuthorityTexts.{all_below, digit-below, port-digit
 use Rattle.iri_grammar.proofs.ClassLaws.{ascii_test_below, no_percent}
 use Rattle.iri_grammar.proofs.CutLaws.{all-lacks, both, lacks-append, test_apart}
 use Rattle.iri_grammar.proofs.PlainAuthorities.{port_small}
-use Rattle.iri_percent.specs.MarkLaws.{IsMark}
+use Rattle.iri_percent.specs.DelimiterLaws.{IsOutsideTriplets}
 use Rattle.iri_percent.specs.NormalHost.{is_ascii_host, normal_authority, normal_authority_parts, normal_host, normal_port, normal_userinfo}
 use Rattle.iri_percent.specs.Triplets.{as_it_is, normal, pct}
-use Rattle.iri_percent.specs.inside.Pieces.{NoMark, case_of}
+use Rattle.iri_percent.specs.inside.Pieces.{NoCandidate, case_of}
 use Rattle.iri_percent.proofs.Changes.{run_all}
 use Rattle.iri_percent.proofs.Hosts.{host_case}
 use Rattle.iri_percent.proofs.MappedRuns.{low}
-use Rattle.iri_percent.proofs.MarkLaws.{pct_mark}
+use Rattle.iri_percent.proofs.DelimiterLaws.{pct_delimiter}
 use Rattle.iri_percent.proofs.NormalLaws.{normal_nil, normal_plains}
 
 -- ---- without a triplet
 percent_apart : (x : ℕ) (xs : List ℕ) → lacks 37 (x ∷ xs) ≡ true → (not (x == 37) ≡ true) × (lacks 37 xs ≡ true)
 percent_apart x xs h = both (not (x == 37)) (lacks 37 xs) h
 
-lacks-stays : (t : List ℕ) → lacks 37 t ≡ true → NoMark false t (length t)
+lacks-stays : (t : List ℕ) → lacks 37 t ≡ true → NoCandidate false t (length t)
 lacks-stays [] h k j = absurd (omega arith)
 lacks-stays (x ∷ xs) h zero j = rw (percent_apart x xs h).0 refl
 lacks-stays (x ∷ xs) h (suc k) j = lacks-stays xs (percent_apart x xs h).1 k (omega arith)
@@ -41,19 +41,19 @@ lacks-stays (x ∷ xs) h (suc k) j = lacks-stays xs (percent_apart x xs h).1 k (
 pub pct-same : (s : Tests) (t : List ℕ) → lacks 37 t ≡ true → pct s t ≡ t
 pct-same s t h = run_all s false t (lacks-stays t h)
 
--- what has no triplet stays in front of what follows
+-- what has no triplet stays before what follows
 same : (t : List ℕ) → map as_it_is t ≡ t
 same [] = refl
 same (x ∷ xs) = ap (λ l. x ∷ l) (same xs)
 
-pub pct-front : (s : Tests) (t r : List ℕ) → lacks 37 t ≡ true → pct s (t ++ r) ≡ t ++ pct s r
-pct-front s t r h = normal_plains s as_it_is t r h ∙ ap (λ l. l ++ pct s r) (same t)
+pub pct-prefix : (s : Tests) (t r : List ℕ) → lacks 37 t ≡ true → pct s (t ++ r) ≡ t ++ pct s r
+pct-prefix s t r h = normal_plains s as_it_is t r h ∙ ap (λ l. l ++ pct s r) (same t)
 
--- a part behind its delimiter
-pub pct-marked : (s : Tests) (m : ℕ) (a : List ℕ) (o : Option (List ℕ)) → IsMark m
-    → pct s (a ++ marked m o) ≡ pct s a ++ marked m (option_map (pct s) o)
-pct-marked s m a None k = ap (pct s) (append-nil a) ∙ sym (append-nil (pct s a))
-pct-marked s m a (Some b) k = pct_mark s m a b k
+-- a part after its delimiter
+pub pct-delimited : (s : Tests) (m : ℕ) (a : List ℕ) (o : Option (List ℕ)) → IsOutsideTriplets m
+    → pct s (a ++ delimited m o) ≡ pct s a ++ delimited m (option_map (pct s) o)
+pct-delimited s m a None k = ap (pct s) (append-nil a) ∙ sym (append-nil (pct s a))
+pct-delimited s m a (Some b) k = pct_delimiter s m a b k
 
 -- ---- letters in lower case
 small_low : (x : ℕ) → is_small x ≡ true → to_ascii_lowercase x ≡ x
@@ -90,7 +90,7 @@ record PlainParts (a : List ℕ) : Type 0 where
   name : list_all (ascii_test RegName) (authority_parts a).host ≡ true
   digits : if_there is_port (authority_parts a).port ≡ true
   kept : normal_port (authority_parts a).port ≡ (authority_parts a).port
-  whole : (authority_parts a).host ++ marked 58 (authority_parts a).port ≡ a
+  whole : (authority_parts a).host ++ delimited 58 (authority_parts a).port ≡ a
 
 nothing-there : (o : Option (List ℕ)) → not (is_some o) ≡ true → o ≡ None
 nothing-there None h = refl
@@ -105,9 +105,9 @@ plain-digits : (a : List ℕ) → if_there is_port (authority_parts a).port ≡ 
 unfolding authority_parts
 plain-digits a = port-digits (after_userinfo a)
 
-plain-whole : (p : AuthorityParts) (a : List ℕ) → p.userinfo ≡ None → recompose_authority p ≡ a → p.host ++ marked 58 p.port ≡ a
+plain-whole : (p : AuthorityParts) (a : List ℕ) → p.userinfo ≡ None → recompose_authority p ≡ a → p.host ++ delimited 58 p.port ≡ a
 unfolding recompose_authority
-plain-whole p a e h = ap (λ u. userinfo_text u ++ (p.host ++ marked 58 p.port)) (sym e) ∙ h
+plain-whole p a e h = ap (λ u. userinfo_text u ++ (p.host ++ delimited 58 p.port)) (sym e) ∙ h
 
 plain-parts : (a : List ℕ) → is_plain_authority a ≡ true → PlainParts a
 unfolding is_plain_authority
@@ -124,13 +124,13 @@ plain-parts a h =
       whole = plain-whole p a none (authority_recomposed a);
     }
 
-port-lowered : (o : Option (List ℕ)) → if_there is_port o ≡ true → map to_ascii_lowercase (marked 58 o) ≡ marked 58 o
-port-lowered o h = small-lowered (marked 58 o) (port_small o h)
+port-lowered : (o : Option (List ℕ)) → if_there is_port o ≡ true → map to_ascii_lowercase (delimited 58 o) ≡ delimited 58 o
+port-lowered o h = small-lowered (delimited 58 o) (port_small o h)
 
 normal-plain : (s : Tests) (p : AuthorityParts) → p.userinfo ≡ None → recompose_authority (normal_authority_parts s p)
-    ≡ normal_host s p.host ++ marked 58 (normal_port p.port)
+    ≡ normal_host s p.host ++ delimited 58 (normal_port p.port)
 unfolding recompose_authority
-normal-plain s p e = ap (λ u. userinfo_text (normal_userinfo s u) ++ (normal_host s p.host ++ marked 58 (normal_port p.port))) e
+normal-plain s p e = ap (λ u. userinfo_text (normal_userinfo s u) ++ (normal_host s p.host ++ delimited 58 (normal_port p.port))) e
 
 -- such an authority is put into lower case
 pub plain_authority : (s : Tests) (a : List ℕ) → is_plain_authority a ≡ true → normal_authority s a ≡ map to_ascii_lowercase a
@@ -139,12 +139,12 @@ plain_authority s a h =
     let p = authority_parts a in
     let k = plain-parts a h in
     normal-plain s p k.userinfo
-    ∙ (ap (λ x. x ++ marked 58 (normal_port p.port)) (name-lowered s p.host k.name)
-    ∙ (ap (λ o. map to_ascii_lowercase p.host ++ marked 58 o) k.kept
+    ∙ (ap (λ x. x ++ delimited 58 (normal_port p.port)) (name-lowered s p.host k.name)
+    ∙ (ap (λ o. map to_ascii_lowercase p.host ++ delimited 58 o) k.kept
     ∙ (ap (λ l. map to_ascii_lowercase p.host ++ l) (sym (port-lowered p.port k.digits))
-    ∙ (sym (map-append to_ascii_lowercase p.host (marked 58 p.port)) ∙ ap (map to_ascii_lowercase) k.whole))))
+    ∙ (sym (map-append to_ascii_lowercase p.host (delimited 58 p.port)) ∙ ap (map to_ascii_lowercase) k.whole))))
 
-port-lacks : (o : Option (List ℕ)) → if_there is_port o ≡ true → lacks 37 (marked 58 o) ≡ true
+port-lacks : (o : Option (List ℕ)) → if_there is_port o ≡ true → lacks 37 (delimited 58 o) ≡ true
 port-lacks None h = refl
 port-lacks (Some d) h = all-lacks is_ascii_digit 37 d refl h
 
@@ -152,9 +152,9 @@ pub plain-lacks : (a : List ℕ) → is_plain_authority a ≡ true → lacks 37 
 plain-lacks a h =
     let p = authority_parts a in
     let k = plain-parts a h in
-    ap (lacks 37) (sym k.whole) ∙ lacks-append 37 p.host (marked 58 p.port) (name-lacks p.host k.name) (port-lacks p.port k.digits)
+    ap (lacks 37) (sym k.whole) ∙ lacks-append 37 p.host (delimited 58 p.port) (name-lacks p.host k.name) (port-lacks p.port k.digits)
 
-plain-chars : (h : List ℕ) (o : Option (List ℕ)) → list_all (ascii_test RegName) h ≡ true → if_there is_port o ≡ true → IsAscii (h ++ marked 58 o)
+plain-chars : (h : List ℕ) (o : Option (List ℕ)) → list_all (ascii_test RegName) h ≡ true → if_there is_port o ≡ true → IsAscii (h ++ delimited 58 o)
 plain-chars [] None n d i = omega arith
 plain-chars [] (Some p) n d zero = omega arith
 plain-chars [] (Some p) n d (suc i) = all_below is_ascii_digit digit-below p d i

@@ -7,7 +7,7 @@ use lib.Utf8.{scalar}
 use Rattle.iri_grammar.proofs.CutLaws.{both}
 use Rattle.iri_percent.specs.Units.{octets, first_char, two_digits, whole_triplets}
 use Rattle.iri_percent.proofs.UnitLaws.{Spells, none, more, hex_apart, first_char_is}
-use Rattle.iri_percent.proofs.NormalLaws.{FrontTriplet, front_triplet}
+use Rattle.iri_percent.proofs.NormalLaws.{PrefixTriplet, prefix_triplet}
 
 pub data Reading : List ℕ → Type 0 where
   done : Reading []
@@ -44,25 +44,25 @@ pub percent_follows : (xs : List ℕ) → whole_triplets (37 ∷ xs) ≡ true �
 unfolding whole_triplets
 percent_follows xs h = digits_follow xs (both (two_digits xs) (whole_triplets xs) h).0
 
-pub whole_behind : (sp os xs : List ℕ) → Spells sp os → whole_triplets (sp ++ xs) ≡ whole_triplets xs
-whole_behind sp os xs none = refl
-whole_behind sp os xs (more a b sp' os' p q k) = whole_triplet a b (sp' ++ xs) p q ∙ whole_behind sp' os' xs k
+pub whole_after : (sp os xs : List ℕ) → Spells sp os → whole_triplets (sp ++ xs) ≡ whole_triplets xs
+whole_after sp os xs none = refl
+whole_after sp os xs (more a b sp' os' p q k) = whole_triplet a b (sp' ++ xs) p q ∙ whole_after sp' os' xs k
 
--- the unit at the start, and what is read behind it
-front : (n : ℕ) (a b : ℕ) (ys : List ℕ) → length (37 ∷ a ∷ b ∷ ys) ≤ suc n → is_ascii_hexdigit a ≡ true → is_ascii_hexdigit b ≡ true
+-- the unit at the start, and what is read after it
+prefix : (n : ℕ) (a b : ℕ) (ys : List ℕ) → length (37 ∷ a ∷ b ∷ ys) ≤ suc n → is_ascii_hexdigit a ≡ true → is_ascii_hexdigit b ≡ true
     → whole_triplets ys ≡ true
     → ((t : List ℕ) → length t ≤ n → whole_triplets t ≡ true → Reading t) → Reading (37 ∷ a ∷ b ∷ ys)
-front n a b ys l p q w read =
+prefix n a b ys l p q w read =
     elim (first_char (octets (37 ∷ a ∷ b ∷ ys))) as (λ o. first_char (octets (37 ∷ a ∷ b ∷ ys)) ≡ o → Reading (37 ∷ a ∷ b ∷ ys)) [
       | None ↦ λ e. lone a b ys p q e (read ys (omega arith) w)
-      | Some c ↦ λ e. let g = first_char_is (octets (37 ∷ a ∷ b ∷ ys)) c e in at c g.is_scalar (front_triplet c a b ys p q g)
+      | Some c ↦ λ e. let g = first_char_is (octets (37 ∷ a ∷ b ∷ ys)) c e in at c g.is_scalar (prefix_triplet c a b ys p q g)
     ] refl
   where
-    at : (c : ℕ) → scalar c ≡ true → FrontTriplet c a b ys → Reading (37 ∷ a ∷ b ∷ ys)
+    at : (c : ℕ) → scalar c ≡ true → PrefixTriplet c a b ys → Reading (37 ∷ a ∷ b ∷ ys)
     at c h r =
         let short : length r.rest ≤ n = omega (arith, l, ap length r.text, length-append r.sp r.rest) in
-        let behind : whole_triplets r.rest ≡ true = sym (whole_behind r.sp r.tail r.rest r.part) ∙ sym (ap whole_triplets r.text) ∙ w in
-        subst (λ t. Reading (37 ∷ a ∷ b ∷ t)) (sym r.text) (char c (37 ∷ a ∷ b ∷ r.sp) r.rest h r.whole (read r.rest short behind))
+        let after : whole_triplets r.rest ≡ true = sym (whole_after r.sp r.tail r.rest r.part) ∙ sym (ap whole_triplets r.text) ∙ w in
+        subst (λ t. Reading (37 ∷ a ∷ b ∷ t)) (sym r.text) (char c (37 ∷ a ∷ b ∷ r.sp) r.rest h r.whole (read r.rest short after))
 
 read_within : (n : ℕ) (t : List ℕ) → length t ≤ n → whole_triplets t ≡ true → Reading t
 read_within n [] l w = done
@@ -82,7 +82,7 @@ read_within (suc n) (x ∷ xs) l w =
         let w37 : whole_triplets (37 ∷ f.a ∷ f.b ∷ f.ys) ≡ true =
         ap (λ t. whole_triplets (37 ∷ t)) (sym f.text) ∙ ap (λ y. whole_triplets (y ∷ xs)) (sym same) ∙ w in
         subst (λ t. Reading (37 ∷ t)) (sym f.text)
-        (front n f.a f.b f.ys (omega (arith, size, l)) f.first f.second (sym (whole_triplet f.a f.b f.ys f.first f.second) ∙ w37) read)
+        (prefix n f.a f.b f.ys (omega (arith, size, l)) f.first f.second (sym (whole_triplet f.a f.b f.ys f.first f.second) ∙ w37) read)
 
 pub read : (t : List ℕ) → whole_triplets t ≡ true → Reading t
 read t w = read_within (length t) t (omega arith) w

@@ -11,7 +11,7 @@ use Rattle.iri_percent.specs.Units.{octet, octets, is_triplet, first_char, two_d
 use Rattle.iri_percent.specs.Triplets.{normal}
 use Rattle.iri_percent.proofs.UnitLaws.{octets_other, octets_triplet, first_char_is, char_first, is_continuation, encode_bytes}
 use Rattle.iri_percent.proofs.NormalLaws.{normal_nil, normal_plain, normal_lone, normal_char}
-use Rattle.iri_percent.proofs.Reading.{Reading, done, plain, char, lone, whole_plain, whole_triplet, whole_behind, read}
+use Rattle.iri_percent.proofs.Reading.{Reading, done, plain, char, lone, whole_plain, whole_triplet, whole_after, read}
 
 -- octets that don't go on with a character
 abbrev pub leads : List ℕ → Bool
@@ -43,29 +43,29 @@ octets-seam [] r w = inr refl
 octets-seam (x ∷ []) r w = seam_short x [] r refl w
 octets-seam (x ∷ a ∷ []) r w = seam_short x (a ∷ []) r refl w
 octets-seam (x ∷ a ∷ b ∷ xs) r w =
-    let behind = (both (cond (b == 37) (two_digits xs) true) (whole_triplets xs)
+    let after = (both (cond (b == 37) (two_digits xs) true) (whole_triplets xs)
     (both (cond (a == 37) (two_digits (b ∷ xs)) true) (whole_triplets (b ∷ xs))
     (both (cond (x == 37) (two_digits (a ∷ b ∷ xs)) true) (whole_triplets (a ∷ b ∷ xs)) w).1).1).1 in
     elim (is_triplet x a b) as (λ v. (cond v (octet a b ∷ octets (xs ++ r)) [] ≡ cond v (octet a b ∷ octets xs) [])
     ⊎ (cond v (octet a b ∷ octets (xs ++ r)) [] ≡ cond v (octet a b ∷ octets xs) [] ++ octets r)) [
-      | true ↦ elim (octets-seam xs r behind) [ inl e ↦ inl (ap (λ l. octet a b ∷ l) e) | inr e ↦ inr (ap (λ l. octet a b ∷ l) e) ]
+      | true ↦ elim (octets-seam xs r after) [ inl e ↦ inl (ap (λ l. octet a b ∷ l) e) | inr e ↦ inr (ap (λ l. octet a b ∷ l) e) ]
       | false ↦ inl refl
     ]
 
 -- ---- characters
-front_of : (os tl qs rest : List ℕ) → os ++ qs ≡ tl ++ rest → list_all is_continuation tl ≡ true → leads qs ≡ true
+prefix_of : (os tl qs rest : List ℕ) → os ++ qs ≡ tl ++ rest → list_all is_continuation tl ≡ true → leads qs ≡ true
     → (k : List ℕ) × (os ≡ tl ++ k)
-front_of os [] qs rest e h l = (os, refl)
-front_of [] (t ∷ tl) [] rest e h l = cc
-front_of [] (t ∷ tl) (q ∷ qs) rest e h l =
+prefix_of os [] qs rest e h l = (os, refl)
+prefix_of [] (t ∷ tl) [] rest e h l = cc
+prefix_of [] (t ∷ tl) (q ∷ qs) rest e h l =
     let same : q ≡ t = cc in
     let no : is_continuation q ≡ true = ap is_continuation same ∙ (both (is_continuation t) (list_all is_continuation tl) h).0 in
     let yes' : is_continuation q ≡ false = not-true (is_continuation q) l in
     cc
-front_of (o ∷ os) (t ∷ tl) qs rest e h l =
+prefix_of (o ∷ os) (t ∷ tl) qs rest e h l =
     let same : o ≡ t = cc in
     let tail : os ++ qs ≡ tl ++ rest = cc in
-    let r = front_of os tl qs rest tail (both (is_continuation t) (list_all is_continuation tl) h).1 l in
+    let r = prefix_of os tl qs rest tail (both (is_continuation t) (list_all is_continuation tl) h).1 l in
     (r.0, ap (λ n. n ∷ os) same ∙ ap (λ ys. t ∷ ys) r.1)
 
 none-seam : (o : ℕ) (os qs : List ℕ) → leads qs ≡ true → first_char (o ∷ os) ≡ None → first_char (o ∷ (os ++ qs)) ≡ None
@@ -78,7 +78,7 @@ none-seam o os qs l n =
           let w : o ∷ (os ++ qs) ≡ b.lead ∷ (b.tail ++ g.rest) = g.split ∙ ap (λ z. z ++ g.rest) b.split in
           let first : o ≡ b.lead = cc in
           let tail : os ++ qs ≡ b.tail ++ g.rest = cc in
-          let r = front_of os b.tail qs g.rest tail b.continue l in
+          let r = prefix_of os b.tail qs g.rest tail b.continue l in
           let whole : o ∷ os ≡ encode_utf8 c ++ r.0 =
           ap (λ z. z ∷ os) first ∙ ap (λ ys. b.lead ∷ ys) r.1 ∙ ap (λ z. z ++ r.0) (sym b.split) in
           let there : first_char (o ∷ os) ≡ Some c = ap first_char whole ∙ char_first c r.0 g.is_scalar in
@@ -105,13 +105,13 @@ seam_read s f t r (char c sp xs h sps k) w l =
     let u = cond (unreserved s c) (map f (encode_utf8 c)) (map to_ascii_uppercase sp) in
     ap (normal s f) (append_assoc sp xs r)
     ∙ normal_char s f c sp (xs ++ r) h sps
-    ∙ ap (λ z. u ++ z) (seam_read s f xs r k (sym (whole_behind sp (encode_utf8 c) xs sps) ∙ w) l)
+    ∙ ap (λ z. u ++ z) (seam_read s f xs r k (sym (whole_after sp (encode_utf8 c) xs sps) ∙ w) l)
     ∙ sym (append_assoc u (normal s f xs) (normal s f r))
     ∙ ap (λ z. z ++ normal s f r) (sym (normal_char s f c sp xs h sps))
 seam_read s f t r (lone a b xs p q n k) w l =
-    let behind : whole_triplets xs ≡ true = sym (whole_triplet a b xs p q) ∙ w in
-    normal_lone s f a b (xs ++ r) p q (lone-seam a b xs r p q behind l n)
-    ∙ ap (λ z. 37 ∷ to_ascii_uppercase a ∷ to_ascii_uppercase b ∷ z) (seam_read s f xs r k behind l)
+    let after : whole_triplets xs ≡ true = sym (whole_triplet a b xs p q) ∙ w in
+    normal_lone s f a b (xs ++ r) p q (lone-seam a b xs r p q after l n)
+    ∙ ap (λ z. 37 ∷ to_ascii_uppercase a ∷ to_ascii_uppercase b ∷ z) (seam_read s f xs r k after l)
     ∙ ap (λ z. z ++ normal s f r) (sym (normal_lone s f a b xs p q n))
 
 -- the triplet normal form of a text is that of its two sides, where no character in triplets goes on at the seam
@@ -141,7 +141,7 @@ whole-percent (x ∷ y ∷ z ∷ a) r w =
     let k = both (cond (x == 37) (two_digits (y ∷ z ∷ (a ++ 37 ∷ r))) true) (whole_triplets (y ∷ z ∷ (a ++ 37 ∷ r))) w in
     rw k.0 (whole-percent (y ∷ z ∷ a) r k.1)
 
-pub whole-behind : (a r : List ℕ) → whole_triplets (a ++ r) ≡ true → whole_triplets r ≡ true
+pub whole-after : (a r : List ℕ) → whole_triplets (a ++ r) ≡ true → whole_triplets r ≡ true
 unfolding whole_triplets
-whole-behind [] r w = w
-whole-behind (x ∷ a) r w = whole-behind a r (both (cond (x == 37) (two_digits (a ++ r)) true) (whole_triplets (a ++ r)) w).1
+whole-after [] r w = w
+whole-after (x ∷ a) r w = whole-after a r (both (cond (x == 37) (two_digits (a ++ r)) true) (whole_triplets (a ++ r)) w).1

@@ -49,7 +49,7 @@ triplets-ascii (x ∷ os) h (suc (suc (suc i))) = triplets-ascii os (λ k. h (su
 pub triplets-utf8 : (os : List ℕ) → ((i : ℕ) → get_or os i 0 < 256) → IsUtf8 (triplets os)
 triplets-utf8 os h = IsUtf8-from_ascii (triplets os) (triplets-ascii os h)
 
--- what was spelled, some octets, and those behind them
+-- what was spelled, some octets, and those after them
 pub triplets_split : (done os few more : List ℕ) (n : ℕ) → few ≡ take n os → more ≡ drop n os
     → done ++ triplets os ≡ (done ++ triplets few) ++ triplets more
 triplets_split done os few more n f m =

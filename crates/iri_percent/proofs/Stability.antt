@@ -15,10 +15,10 @@ use Rattle.iri_percent.specs.CharUnits.{plains}
 use Rattle.iri_percent.specs.Triplets.{normal, as_it_is, pct}
 use Rattle.iri_percent.specs.ByteForm.{written, all_written, normal_unit, normal_units}
 use Rattle.iri_percent.proofs.CharLaws.{all_written-append, written_plains, normal-by_bytes}
-use Rattle.iri_percent.proofs.UnitLaws.{Spells, none, more, octets_other, octets_triplet, octets_spelled, encode_bytes, none_in_front}
+use Rattle.iri_percent.proofs.UnitLaws.{Spells, none, more, octets_other, octets_triplet, octets_spelled, encode_bytes, none_before}
 use Rattle.iri_percent.proofs.UnitLaws.{units_plain, units_lone, units_char}
 use Rattle.iri_percent.proofs.NormalLaws.{normal_nil, normal_plain, normal_lone, normal_char}
-use Rattle.iri_percent.proofs.Reading.{Reading, done, plain, char, lone, whole_plain, whole_triplet, whole_behind, read}
+use Rattle.iri_percent.proofs.Reading.{Reading, done, plain, char, lone, whole_plain, whole_triplet, whole_after, read}
 
 -- what may be done to characters outside triplets: it makes no `%`, and once is enough
 pub record IsCase (f : ℕ → ℕ) : Type 0 where
@@ -104,24 +104,24 @@ decoded_octets s f c xs k i h =
     octets_lacks (map f (encode_utf8 c)) xs (written_percent s f c k i h) (f b.lead) (map f b.tail) (ap (map f) b.split)
 
 -- the octets at the start of a normal form are some at the start of the text
-abbrev pub IsFront : List ℕ → List ℕ → Type 0
-IsFront xs ys = (zs : List ℕ) × (ys ≡ xs ++ zs)
+abbrev pub IsPrefix : List ℕ → List ℕ → Type 0
+IsPrefix xs ys = (zs : List ℕ) × (ys ≡ xs ++ zs)
 
-front_octets : (s : Tests) (f : ℕ → ℕ) (t : List ℕ) → IsSpec s → IsCase f → Reading t → IsFront (octets (normal s f t)) (octets t)
-front_octets s f t k i done = ([], ap (λ l. octets l ++ []) (sym (normal_nil s f)))
-front_octets s f t k i (plain x xs h r) =
+prefix_octets : (s : Tests) (f : ℕ → ℕ) (t : List ℕ) → IsSpec s → IsCase f → Reading t → IsPrefix (octets (normal s f t)) (octets t)
+prefix_octets s f t k i done = ([], ap (λ l. octets l ++ []) (sym (normal_nil s f)))
+prefix_octets s f t k i (plain x xs h r) =
     let none : octets (normal s f (x ∷ xs)) ≡ [] =
     ap octets (normal_plain s f x xs h) ∙ octets_other (f x) (normal s f xs) (i.percent x h) in
     (octets (x ∷ xs), ap (λ l. l ++ octets (x ∷ xs)) (sym none))
-front_octets s f t k i (lone a b xs p q n r) =
-    let rest = front_octets s f xs k i r in
+prefix_octets s f t k i (lone a b xs p q n r) =
+    let rest = prefix_octets s f xs k i r in
     let now : octets (normal s f (37 ∷ a ∷ b ∷ xs)) ≡ octet a b ∷ octets (normal s f xs) =
     ap octets (normal_lone s f a b xs p q n) ∙ octets_triplet (to_ascii_uppercase a) (to_ascii_uppercase b) (normal s f xs) (upper_hex a p)
     (upper_hex b q) ∙ ap (λ o. o ∷ octets (normal s f xs)) (upper_octet a b p q) in
     (rest.0, octets_triplet a b xs p q ∙ ap (λ l. octet a b ∷ l) rest.1 ∙ ap (λ l. l ++ rest.0) (sym now))
-front_octets s f t k i (char c sp xs h sps r) =
-    let rest = front_octets s f xs k i r in
-    elim (unreserved s c) as (λ b. unreserved s c ≡ b → IsFront (octets (normal s f (sp ++ xs))) (octets (sp ++ xs))) [
+prefix_octets s f t k i (char c sp xs h sps r) =
+    let rest = prefix_octets s f xs k i r in
+    elim (unreserved s c) as (λ b. unreserved s c ≡ b → IsPrefix (octets (normal s f (sp ++ xs))) (octets (sp ++ xs))) [
       | true ↦ λ u.
           let none : octets (normal s f (sp ++ xs)) ≡ [] =
           ap octets (normal_char s f c sp xs h sps
@@ -144,11 +144,11 @@ lone_stays : (s : Tests) (f : ℕ → ℕ) (a b : ℕ) (xs : List ℕ) → IsSpe
     → first_char (octets (37 ∷ a ∷ b ∷ xs)) ≡ None → Reading xs
     → first_char (octets (37 ∷ to_ascii_uppercase a ∷ to_ascii_uppercase b ∷ normal s f xs)) ≡ None
 lone_stays s f a b xs k i p q n r =
-    let rest = front_octets s f xs k i r in
+    let rest = prefix_octets s f xs k i r in
     let now : octets (37 ∷ to_ascii_uppercase a ∷ to_ascii_uppercase b ∷ normal s f xs) ≡ octet a b ∷ octets (normal s f xs) =
     octets_triplet (to_ascii_uppercase a) (to_ascii_uppercase b) (normal s f xs) (upper_hex a p) (upper_hex b q)
     ∙ ap (λ o. o ∷ octets (normal s f xs)) (upper_octet a b p q) in
-    none_in_front _ (octets (37 ∷ a ∷ b ∷ xs)) rest.0
+    none_before _ (octets (37 ∷ a ∷ b ∷ xs)) rest.0
     (octets_triplet a b xs p q ∙ ap (λ l. octet a b ∷ l) rest.1 ∙ ap (λ l. l ++ rest.0) (sym now)) n
 
 -- ---- the units of the normal form
@@ -254,7 +254,7 @@ whole_read s f t k i (char c sp xs h sps r) = let rest = whole_read s f xs k i r
         elim (unreserved s c) as (λ b. unreserved s c ≡ b
         → whole_triplets (cond b (map f (encode_utf8 c)) (map to_ascii_uppercase sp) ++ normal s f xs) ≡ true) [
           | true ↦ λ u. whole_plains (map f (encode_utf8 c)) (normal s f xs) (written_percent s f c k i u) ∙ rest
-          | false ↦ λ _. whole_behind (map to_ascii_uppercase sp) (encode_utf8 c) (normal s f xs)
+          | false ↦ λ _. whole_after (map to_ascii_uppercase sp) (encode_utf8 c) (normal s f xs)
               (upper_spells sp (encode_utf8 c) sps) ∙ rest
         ] refl
 

@@ -13,8 +13,8 @@ use Rattle.iri_percent.specs.CharUnits.{char_units, plains, byte_units}
 use Rattle.iri_percent.proofs.CharLaws.{units-by_chars}
 use Rattle.iri_percent.proofs.CharUnits.{units_stray}
 use Rattle.iri_percent.proofs.UnitLaws.{units_plain, units_lone, units_char, first_char_is}
-use Rattle.iri_percent.proofs.NormalLaws.{FrontTriplet, front_triplet}
-use Rattle.iri_percent.proofs.Reading.{Reading, done, plain, char, lone, Follows, whole_plain, whole_triplet, whole_behind, digits_follow}
+use Rattle.iri_percent.proofs.NormalLaws.{PrefixTriplet, prefix_triplet}
+use Rattle.iri_percent.proofs.Reading.{Reading, done, plain, char, lone, Follows, whole_plain, whole_triplet, whole_after, digits_follow}
 use Rattle.iri_percent.proofs.Reading.{read}
 
 abbrev is_stray : TextUnit → Bool
@@ -51,18 +51,18 @@ whole_at n a b ys l p q h rest =
     elim (first_char (octets (37 ∷ a ∷ b ∷ ys))) as (λ o. first_char (octets (37 ∷ a ∷ b ∷ ys)) ≡ o
     → whole_triplets (37 ∷ a ∷ b ∷ ys) ≡ true) [
       | None ↦ λ e. whole_triplet a b ys p q ∙ rest ys l (others (Lone a b) (units ys) (subst NoStray (units_lone a b ys p q e) h))
-      | Some c ↦ λ e. let g = first_char_is (octets (37 ∷ a ∷ b ∷ ys)) c e in at c g.is_scalar (front_triplet c a b ys p q g)
+      | Some c ↦ λ e. let g = first_char_is (octets (37 ∷ a ∷ b ∷ ys)) c e in at c g.is_scalar (prefix_triplet c a b ys p q g)
     ] refl
   where
-    at : (c : ℕ) → scalar c ≡ true → FrontTriplet c a b ys → whole_triplets (37 ∷ a ∷ b ∷ ys) ≡ true
+    at : (c : ℕ) → scalar c ≡ true → PrefixTriplet c a b ys → whole_triplets (37 ∷ a ∷ b ∷ ys) ≡ true
     at c s r =
         let short : length r.rest ≤ n = omega (arith, l, ap length r.text, length-append r.sp r.rest) in
         let read : units (37 ∷ a ∷ b ∷ ys) ≡ Char c (37 ∷ a ∷ b ∷ r.sp) ∷ units r.rest =
         ap (λ t. units (37 ∷ a ∷ b ∷ t)) r.text ∙ units_char c (37 ∷ a ∷ b ∷ r.sp) r.rest s r.whole in
-        ap (λ t. whole_triplets (37 ∷ a ∷ b ∷ t)) r.text ∙ whole_behind (37 ∷ a ∷ b ∷ r.sp) _ r.rest r.whole
+        ap (λ t. whole_triplets (37 ∷ a ∷ b ∷ t)) r.text ∙ whole_after (37 ∷ a ∷ b ∷ r.sp) _ r.rest r.whole
         ∙ rest r.rest short (others (Char c (37 ∷ a ∷ b ∷ r.sp)) (units r.rest) (subst NoStray read h))
 
--- behind a `%`
+-- after a `%`
 whole_percent : (n : ℕ) (xs : List ℕ) → length xs ≤ n → NoStray (units (37 ∷ xs))
     → ((t : List ℕ) → length t ≤ n → NoStray (units t) → whole_triplets t ≡ true) → whole_triplets (37 ∷ xs) ≡ true
 whole_percent n xs l h rest =

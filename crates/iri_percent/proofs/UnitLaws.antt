@@ -49,10 +49,10 @@ pub record Spelled (t os rest : List ℕ) : Type 0 where
   pub xs : List ℕ
   pub text : t ≡ sp ++ xs
   pub spells : Spells sp os
-  pub behind : octets xs ≡ rest
+  pub after : octets xs ≡ rest
 
 pub spelled : (os rest t : List ℕ) → octets t ≡ os ++ rest → Spelled t os rest
-spelled [] rest t h = record { sp = []; xs = t; text = refl; spells = none; behind = h }
+spelled [] rest t h = record { sp = []; xs = t; text = refl; spells = none; after = h }
 spelled (o ∷ os) rest [] h = cc
 spelled (o ∷ os) rest (x ∷ []) h = cc
 spelled (o ∷ os) rest (x ∷ a ∷ []) h = cc
@@ -70,7 +70,7 @@ spelled (o ∷ os) rest (x ∷ a ∷ b ∷ xs) h =
             xs = r.xs;
             text = ap (λ n. n ∷ a ∷ b ∷ xs) (eqb-true x 37 one.0) ∙ ap (λ ys. 37 ∷ a ∷ b ∷ ys) r.text;
             spells = subst (λ n. Spells (37 ∷ a ∷ b ∷ r.sp) (n ∷ os)) same (more a b r.sp os two.0 two.1 r.spells);
-            behind = r.behind;
+            after = r.after;
           }
       | false ↦ λ _ k. cc
     ] refl h
@@ -89,10 +89,10 @@ starts (x ∷ xs) (y ∷ ys) h =
     let r = starts xs ys k.1 in
     (r.0, ap (λ n. n ∷ xs) (eqb-true x y k.0) ∙ ap (λ zs. y ∷ zs) r.1)
 
-starts_front : (ys rest : List ℕ) → starts_with (ys ++ rest) ys ≡ true
-starts_front [] [] = refl
-starts_front [] (x ∷ rest) = refl
-starts_front (y ∷ ys) rest = rw (eq-eqb y y refl) (starts_front ys rest)
+starts_prefix : (ys rest : List ℕ) → starts_with (ys ++ rest) ys ≡ true
+starts_prefix [] [] = refl
+starts_prefix [] (x ∷ rest) = refl
+starts_prefix (y ∷ ys) rest = rw (eq-eqb y y refl) (starts_prefix ys rest)
 
 well : (os cs : List ℕ) (c : ℕ) → well_formed os cs ≡ Some c → BeginsChar os c
 well os [] c h = cc
@@ -111,19 +111,19 @@ pub first_char_is : (os : List ℕ) (c : ℕ) → first_char os ≡ Some c → B
 unfolding first_char
 first_char_is os c h = well os (chars os) c h
 
-chars_front : (c : ℕ) (rest : List ℕ) → scalar c ≡ true → chars (encode c ++ rest) ≡ c ∷ chars rest
-chars_front c rest h =
+chars_prefix : (c : ℕ) (rest : List ℕ) → scalar c ≡ true → chars (encode c ++ rest) ≡ c ∷ chars rest
+chars_prefix c rest h =
     let one : scalars (c ∷ []) ≡ true = rw h refl in
     let alone : chars (encode c) ≡ c ∷ [] = ap chars (sym (append-nil (encode c))) ∙ chars-encodes (c ∷ []) one in
     chars-append (encode c) rest (IsUtf8-encode c h) ∙ ap (λ cs. cs ++ chars rest) alone
 
 pub char_first : (c : ℕ) (rest : List ℕ) → scalar c ≡ true → first_char (encode c ++ rest) ≡ Some c
 unfolding first_char
-char_first c rest h = ap (well_formed (encode c ++ rest)) (chars_front c rest h) ∙ rw (h, starts_front (encode c) rest) refl
+char_first c rest h = ap (well_formed (encode c ++ rest)) (chars_prefix c rest h) ∙ rw (h, starts_prefix (encode c) rest) refl
 
 -- fewer octets begin with no other character
-pub none_in_front : (xs ys zs : List ℕ) → ys ≡ xs ++ zs → first_char ys ≡ None → first_char xs ≡ None
-none_in_front xs ys zs e n =
+pub none_before : (xs ys zs : List ℕ) → ys ≡ xs ++ zs → first_char ys ≡ None → first_char xs ≡ None
+none_before xs ys zs e n =
     elim (first_char xs) as (λ o. first_char xs ≡ o → o ≡ None) [
       | None ↦ λ _. refl
       | Some c ↦ λ h.

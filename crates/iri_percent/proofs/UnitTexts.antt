@@ -8,18 +8,18 @@ use Rattle.std.proofs.lemmas.List.{drop_at}
 use Rattle.iri_grammar.proofs.CutLaws.{both}
 use Rattle.iri_percent.specs.Units.{TextUnit, Plain, Stray, is_triplet, octets, first_char, triplet_unit, byte_unit, first_unit, unit_text}
 use Rattle.iri_percent.specs.Units.{units_from, units}
-use Rattle.iri_percent.proofs.MarkLaws.{unit_within}
+use Rattle.iri_percent.proofs.DelimiterLaws.{unit_within}
 use Rattle.iri_percent.specs.UnitTexts.{units_text}
 
 -- a unit that is a prefix of the text, and isn't empty
-record Front (u : TextUnit) (t : List ℕ) : Type 0 where
+record Prefix (u : TextUnit) (t : List ℕ) : Type 0 where
   rest : List ℕ
   split : t ≡ unit_text u ++ rest
   some : 0 < length (unit_text u)
 
-front_byte : (x : ℕ) (xs : List ℕ) → Front (byte_unit x) (x ∷ xs)
-front_byte x xs =
-    elim (x == 37) as (λ b. (x == 37) ≡ b → Front (cond b Stray (Plain x)) (x ∷ xs)) [
+prefix_byte : (x : ℕ) (xs : List ℕ) → Prefix (byte_unit x) (x ∷ xs)
+prefix_byte x xs =
+    elim (x == 37) as (λ b. (x == 37) ≡ b → Prefix (cond b Stray (Plain x)) (x ∷ xs)) [
       | true ↦ λ e. record { rest = xs; split = ap (λ y. y ∷ xs) (eqb-true x 37 e); some = omega arith }
       | false ↦ λ _. record { rest = xs; split = refl; some = omega arith }
     ] refl
@@ -28,25 +28,25 @@ some_taken : (n x : ℕ) (xs : List ℕ) → 0 < n → 0 < length (take n (x ∷
 some_taken zero x xs h = absurd (omega arith)
 some_taken (suc n) x xs h = omega arith
 
-front_triplet : (a b : ℕ) (xs : List ℕ) (o : Option ℕ) → Front (triplet_unit a b (37 ∷ a ∷ b ∷ xs) o) (37 ∷ a ∷ b ∷ xs)
-front_triplet a b xs None = record { rest = xs; split = refl; some = omega arith }
-front_triplet a b xs (Some c) = record {
+prefix_triplet : (a b : ℕ) (xs : List ℕ) (o : Option ℕ) → Prefix (triplet_unit a b (37 ∷ a ∷ b ∷ xs) o) (37 ∷ a ∷ b ∷ xs)
+prefix_triplet a b xs None = record { rest = xs; split = refl; some = omega arith }
+prefix_triplet a b xs (Some c) = record {
   rest = drop (3 * len_utf8 c) (37 ∷ a ∷ b ∷ xs);
   split = sym (take-append-drop (3 * len_utf8 c) (37 ∷ a ∷ b ∷ xs));
   some = some_taken (3 * len_utf8 c) 37 (a ∷ b ∷ xs) (omega (arith, len_utf8_bounds c));
 }
 
-front : (x : ℕ) (xs : List ℕ) → Front (first_unit x xs) (x ∷ xs)
-front x [] = front_byte x []
-front x (a ∷ []) = front_byte x (a ∷ [])
-front x (a ∷ b ∷ xs) =
+prefix : (x : ℕ) (xs : List ℕ) → Prefix (first_unit x xs) (x ∷ xs)
+prefix x [] = prefix_byte x []
+prefix x (a ∷ []) = prefix_byte x (a ∷ [])
+prefix x (a ∷ b ∷ xs) =
     elim (is_triplet x a b) as (λ v. is_triplet x a b ≡ v
-    → Front (cond v (triplet_unit a b (x ∷ a ∷ b ∷ xs) (first_char (octets (x ∷ a ∷ b ∷ xs)))) (byte_unit x)) (x ∷ a ∷ b ∷ xs)) [
+    → Prefix (cond v (triplet_unit a b (x ∷ a ∷ b ∷ xs) (first_char (octets (x ∷ a ∷ b ∷ xs)))) (byte_unit x)) (x ∷ a ∷ b ∷ xs)) [
       | true ↦ λ e.
           let same : 37 ≡ x = sym (eqb-true x 37 (both (x == 37) (is_ascii_hexdigit a && is_ascii_hexdigit b) e).0) in
-          subst (λ y. Front (triplet_unit a b (y ∷ a ∷ b ∷ xs) (first_char (octets (x ∷ a ∷ b ∷ xs)))) (y ∷ a ∷ b ∷ xs)) same
-          (front_triplet a b xs (first_char (octets (x ∷ a ∷ b ∷ xs))))
-      | false ↦ λ _. front_byte x (a ∷ b ∷ xs)
+          subst (λ y. Prefix (triplet_unit a b (y ∷ a ∷ b ∷ xs) (first_char (octets (x ∷ a ∷ b ∷ xs)))) (y ∷ a ∷ b ∷ xs)) same
+          (prefix_triplet a b xs (first_char (octets (x ∷ a ∷ b ∷ xs))))
+      | false ↦ λ _. prefix_byte x (a ∷ b ∷ xs)
     ] refl
 
 drop_first : (n x : ℕ) (xs : List ℕ) → 0 < n → drop n (x ∷ xs) ≡ drop (n - 1) xs
@@ -59,7 +59,7 @@ units_from_text zero [] h = refl
 units_from_text (suc n) [] h = refl
 units_from_text (suc n) (x ∷ xs) h = units_from_text n xs (omega arith)
 units_from_text zero (x ∷ xs) h =
-    let f = front x xs in
+    let f = prefix x xs in
     let w = unit_within x xs in
     ap (λ l. unit_text (first_unit x xs) ++ l) (units_from_text (length (unit_text (first_unit x xs)) - 1) xs (omega arith)
     ∙ sym (drop_first (length (unit_text (first_unit x xs))) x xs f.some) ∙ ap (drop (length (unit_text (first_unit x xs)))) f.split

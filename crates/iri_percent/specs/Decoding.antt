@@ -19,14 +19,14 @@ pub data Fragment : Type 0 where
   Octet : (octet : ℕ) → Fragment
   Percent : Fragment
 
--- a byte without `%` in front of fragments: a run goes on as long as it can
+-- a byte without `%` before fragments: a run goes on as long as it can
 abbrev pub before_fragments : ℕ → List Fragment → List Fragment
 before_fragments x [] = Run (x ∷ []) ∷ []
 before_fragments x (Run r ∷ fs) = Run (x ∷ r) ∷ fs
 before_fragments x (Octet o ∷ fs) = Run (x ∷ []) ∷ Octet o ∷ fs
 before_fragments x (Percent ∷ fs) = Run (x ∷ []) ∷ Percent ∷ fs
 
--- a byte that begins no triplet, in front of fragments
+-- a byte that begins no triplet, before fragments
 abbrev pub byte_before : ℕ → List Fragment → List Fragment
 byte_before x fs = cond (x == percent_sign) (Percent ∷ fs) (before_fragments x fs)
 

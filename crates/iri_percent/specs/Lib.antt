@@ -5,7 +5,7 @@ pub mod ByteForm
 pub mod NormalHost
 pub mod SchemeRules
 pub mod Examples
-pub mod MarkLaws
+pub mod DelimiterLaws
 pub mod NormalLaws
 pub mod UnitTexts
 pub mod Mapping

@@ -3,7 +3,7 @@ ghost use Rattle.std.specs.Prelude.{◌≡◌, ◌++◌, true, Some};
 ghost use Rattle.iri_grammar.specs.Authority.{FitsAuthority, is_authority, recompose_authority, userinfo_text};
 ghost use Rattle.iri_grammar.specs.Characters.{colon};
 ghost use Rattle.iri_grammar.specs.Components.{if_there};
-ghost use Rattle.iri_grammar.specs.Cut.{marked};
+ghost use Rattle.iri_grammar.specs.Cut.{delimited};
 ghost use Rattle.iri_grammar.specs.Host.{is_host};
 ghost use Rattle.iri_grammar.specs.OptionalSlices.{now_of};
 ghost use Rattle.iri_grammar.specs.Spans.{span_parts};
@@ -106,7 +106,7 @@ fn kept_port<'a>(port: Option<&'a str>, dropped: Option<&str>) -> Option<&'a str
 
 // The port and its colon, where there is one.
 fn show_port<W: TextSink>(sink: &mut W, port: Option<&str>) -> Result<(), Stop>
-    ensures { Shows W.puts W.halts W.stops sink.old (marked colon (now_of port.entry)) sink.new result }
+    ensures { Shows W.puts W.halts W.stops sink.old (delimited colon (now_of port.entry)) sink.new result }
 {
     let Some(port) = port else {
         return Ok(());
@@ -123,7 +123,7 @@ fn show_host_and_port<S: Spec, W: TextSink>(
 ) -> Result<(), Stop>
     requires { is_host S.tests host.now ≡ true }
     ensures { Shows W.puts W.halts W.stops sink.old
-        (normal_host S.tests host.now ++ marked colon (now_of port.entry)) sink.new result }
+        (normal_host S.tests host.now ++ delimited colon (now_of port.entry)) sink.new result }
 {
     NormalizedHost::<S>::new(host).show(sink)?;
     show_port(sink, port)

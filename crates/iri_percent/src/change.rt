@@ -123,7 +123,7 @@ fn write_octet(octet: u8, high: u8, low: u8, lower: bool, buf: &mut [u8; 64], at
     at + len_of(decodes)
 }
 
-fn behind_triplet(text: &[u8]) -> &[u8]
+fn after_triplet(text: &[u8]) -> &[u8]
     requires { 3 ≤ length text.now }
     ensures { result.now ≡ drop 3 text.now }
 {
@@ -140,7 +140,7 @@ fn write_triplet<S: Spec>(text: &[u8], lower: bool, buf: &mut [u8; 64], at: usiz
     let low = text[2];
     let octet = octet_of_digits(high, low);
     if octet >= 0xC0 {
-        if let Some(c) = char_past_ascii::<S>(octet, behind_triplet(text)) {
+        if let Some(c) = char_past_ascii::<S>(octet, after_triplet(text)) {
             return Run {
                 read: 3 * c.len_utf8(),
                 written: write_char(c, buf, at),
@@ -154,10 +154,10 @@ fn write_triplet<S: Spec>(text: &[u8], lower: bool, buf: &mut [u8; 64], at: usiz
 }
 
 // Whether the byte of a change is a letter and no `%`.
-fn is_letter(mark: u8, lower: bool) -> bool
-    ensures { result ≡ (lower && not (mark == percent_sign)) }
+fn is_letter(candidate: u8, lower: bool) -> bool
+    ensures { result ≡ (lower && not (candidate == percent_sign)) }
 {
-    lower && mark != b'%'
+    lower && candidate != b'%'
 }
 
 fn write_letter(letter: u8, buf: &mut [u8; 64], at: usize) -> Run

@@ -32,8 +32,8 @@ fn char_of_three(lead: u8, rest: &[u8]) -> Option<char>
     requires { (224 ≤ lead) × (lead < 240) }
     ensures { result ≡ first_char (lead ∷ octets rest.now) }
 {
-    let (a, behind) = split_bits(rest)?;
-    let (b, _) = split_bits(behind)?;
+    let (a, after) = split_bits(rest)?;
+    let (b, _) = split_bits(after)?;
     char_from((u32::from(lead - 0xE0) * 64 + a) * 64 + b, 0x800)
 }
 
@@ -54,7 +54,7 @@ fn char_of_four(lead: u8, rest: &[u8]) -> Option<char>
 // The character with whose UTF-8 this octet and the percent-encoded ones after it begin (RFC 3629 section 3). It has no
 // loop, so that the compiler leaves it out where a grammar takes no character past ASCII.
 #[inline(always)]
-fn front_char(lead: u8, rest: &[u8]) -> Option<char>
+fn prefix_char(lead: u8, rest: &[u8]) -> Option<char>
     ensures { result ≡ first_char (lead ∷ octets rest.now) }
 {
     match lead {
@@ -71,7 +71,7 @@ pub fn triplets_char(text: &[u8]) -> Option<char>
     ensures { result ≡ first_char (octets text.now) }
 {
     let (lead, rest) = split_octet(text)?;
-    front_char(lead, rest)
+    prefix_char(lead, rest)
 }
 
 #[inline(always)]
@@ -79,7 +79,7 @@ pub(crate) fn char_past_ascii<S: Spec>(lead: u8, rest: &[u8]) -> Option<char>
     requires { 192 ≤ lead }
     ensures { result ≡ decoded S.tests (lead ∷ octets rest.now) }
 {
-    let c = front_char(lead, rest)?;
+    let c = prefix_char(lead, rest)?;
     if S::is_nonascii_char_unreserved(c) {
         Some(c)
     } else {

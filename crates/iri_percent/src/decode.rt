@@ -60,10 +60,10 @@ fn has_triplet(text: &[u8]) -> bool
 {
     let mut rest = text;
     while let Some(i) = memchr(b'%', rest) {
-        let front = &rest[i..];
-        match first_octet(front) {
+        let prefix = &rest[i..];
+        match first_octet(prefix) {
             Some(_) => return true,
-            None => rest = &front[1..],
+            None => rest = &prefix[1..],
         }
     }
     false

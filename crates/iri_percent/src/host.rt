@@ -65,7 +65,7 @@ fn is_low(digits: &[u8]) -> bool
 }
 
 // Whether the first byte is ASCII, and so is the octet where it begins a percent-encoded one.
-fn is_ascii_front(first: u8, tail: &[u8]) -> bool
+fn is_ascii_prefix(first: u8, tail: &[u8]) -> bool
     requires { whole_triplets (first ∷ tail.now) ≡ true }
     ensures { result ≡ (nat_lt first 128 && cond (first == percent_sign) (octet_below_128 tail.now) true) }
 {
@@ -80,7 +80,7 @@ pub fn is_ascii_host(host: &[u8]) -> bool
 {
     let mut rest = host;
     while let [first, tail @ ..] = rest {
-        if !is_ascii_front(*first, tail) {
+        if !is_ascii_prefix(*first, tail) {
             return false;
         }
         rest = tail;

@@ -10,7 +10,7 @@ ghost use Rattle.iri_percent.specs.UnitTexts.{units_text};
 ghost use Rattle.iri_percent.specs.CharUnits.{char_units, char_unit_text, byte_units};
 ghost use Rattle.iri_percent.specs.Triplets.{pct, as_it_is, unit_in_form};
 ghost use Rattle.iri_percent.specs.ByteForm.{all_written, normal_units};
-ghost use Rattle.iri_percent.specs.MarkLaws.{IsMark};
+ghost use Rattle.iri_percent.specs.DelimiterLaws.{IsOutsideTriplets};
 ghost use Rattle.iri_grammar.specs.Parts.{IsReference, IsIri, IsAbsolute, IsRelative};
 ghost use Rattle.iri_grammar.specs.Split.{split_of};
 ghost use Rattle.iri_percent.specs.Mapping.{mapped, mapped_chars, mapped_parts};
@@ -62,8 +62,8 @@ pub fn decoding_makes_no_new_character<S: Spec>()
 {}
 
 /// A byte that is no `%` and no hex digit parts the triplet normal forms on both sides of it.
-pub fn marks_part_triplet_forms<S: Spec>()
-    ensures { (m : ℕ) (a b : List ℕ) → IsMark m → pct S.tests (a ++ m ∷ b) ≡ pct S.tests a ++ m ∷ pct S.tests b }
+pub fn delimiters_part_triplet_forms<S: Spec>()
+    ensures { (m : ℕ) (a b : List ℕ) → IsOutsideTriplets m → pct S.tests (a ++ m ∷ b) ≡ pct S.tests a ++ m ∷ pct S.tests b }
 {}
 
 /// No part of a reference has a stray `%`.

@@ -5,7 +5,7 @@ ghost use Rattle.std.specs.Str.{IsUtf8};
 ghost use Rattle.iri_text.specs.Shown.{Shows};
 ghost use Rattle.iri_percent.specs.Units.{whole_triplets};
 ghost use Rattle.iri_percent.specs.Triplets.{normal};
-ghost use Rattle.iri_percent.specs.inside.Pieces.{case_of, stays, NoMark, MarkAt, FirstMark, Becomes};
+ghost use Rattle.iri_percent.specs.inside.Pieces.{case_of, stays, NoCandidate, CandidateAt, FirstCandidate, Becomes};
 
 use crate::change::{Run, write_change};
 use iri_grammar::spec::Spec;
@@ -13,7 +13,7 @@ use iri_text::{Stop, TextSink};
 use memchr::memchr;
 
 // Whether a change may begin with this byte.
-fn is_mark(b: u8, lower: bool) -> bool
+fn is_candidate(b: u8, lower: bool) -> bool
     ensures { stays lower b ≡ not result }
 {
     b == b'%' || (lower && b.is_ascii_uppercase())
@@ -23,13 +23,16 @@ fn is_mark(b: u8, lower: bool) -> bool
 fn stay(w: u8, x: u8, y: u8, z: u8) -> bool
     ensures { OnTrue result ((stays false w ≡ true) × (stays false x ≡ true) × (stays false y ≡ true) × (stays false z ≡ true)) }
 {
-    !is_mark(w, false) && !is_mark(x, false) && !is_mark(y, false) && !is_mark(z, false)
+    !is_candidate(w, false)
+        && !is_candidate(x, false)
+        && !is_candidate(y, false)
+        && !is_candidate(z, false)
 }
 
 // How many bytes at the start have no `%`, four at a time.
 fn past_fours(text: &[u8]) -> usize
     ensures within { result ≤ length text.now }
-    ensures run { NoMark false text.now result }
+    ensures run { NoCandidate false text.now result }
 {
     let mut i = 0;
     'fours: while i + 4 <= text.len() {
@@ -42,11 +45,11 @@ fn past_fours(text: &[u8]) -> usize
 }
 
 fn find_near_percent(text: &[u8]) -> Option<usize>
-    ensures { MatchOption result (NoMark false text.now (length text.now)) (λ i. MarkAt false text.now i) }
+    ensures { MatchOption result (NoCandidate false text.now (length text.now)) (λ i. CandidateAt false text.now i) }
 {
     let mut i = past_fours(text);
     'bytes: while i < text.len() {
-        if is_mark(text[i], false) {
+        if is_candidate(text[i], false) {
             return Some(i);
         }
         i += 1;
@@ -56,7 +59,7 @@ fn find_near_percent(text: &[u8]) -> Option<usize>
 
 // The parts of a reference are mostly short, and then a search by blocks isn't worth its call.
 fn find_percent(text: &[u8]) -> Option<usize>
-    ensures { MatchOption result (NoMark false text.now (length text.now)) (λ i. MarkAt false text.now i) }
+    ensures { MatchOption result (NoCandidate false text.now (length text.now)) (λ i. CandidateAt false text.now i) }
 {
     if text.len() < 32 {
         find_near_percent(text)
@@ -66,18 +69,18 @@ fn find_percent(text: &[u8]) -> Option<usize>
 }
 
 fn find_percent_or_capital(text: &[u8]) -> Option<usize>
-    ensures { MatchOption result (NoMark true text.now (length text.now)) (λ i. MarkAt true text.now i) }
+    ensures { MatchOption result (NoCandidate true text.now (length text.now)) (λ i. CandidateAt true text.now i) }
 {
     for (i, b) in text.iter().enumerate() {
-        if is_mark(*b, true) {
+        if is_candidate(*b, true) {
             return Some(i);
         }
     }
     None
 }
 
-fn find_mark(text: &[u8], lower: bool) -> Option<usize>
-    ensures { MatchOption result (NoMark lower text.now (length text.now)) (λ i. MarkAt lower text.now i) }
+fn find_candidate(text: &[u8], lower: bool) -> Option<usize>
+    ensures { MatchOption result (NoCandidate lower text.now (length text.now)) (λ i. CandidateAt lower text.now i) }
 {
     if lower {
         find_percent_or_capital(text)
@@ -87,11 +90,11 @@ fn find_mark(text: &[u8], lower: bool) -> Option<usize>
 }
 
 // Where a change may begin, where one may. What comes before it stays.
-fn next_mark<S: Spec>(text: &[u8], lower: bool) -> Option<usize>
+fn next_candidate<S: Spec>(text: &[u8], lower: bool) -> Option<usize>
     requires { whole_triplets text.now ≡ true }
-    ensures { MatchOption result (normal S.tests (case_of lower) text.now ≡ text.now) (λ i. FirstMark S.tests lower text.now i) }
+    ensures { MatchOption result (normal S.tests (case_of lower) text.now ≡ text.now) (λ i. FirstCandidate S.tests lower text.now i) }
 {
-    find_mark(text, lower)
+    find_candidate(text, lower)
 }
 
 // Whether one more change is written: the buffer has room for it, and a change may begin there.
@@ -99,14 +102,14 @@ fn next_mark<S: Spec>(text: &[u8], lower: bool) -> Option<usize>
 fn has_next(text: &[u8], at: usize, lower: bool, written: usize) -> bool
     ensures { OnTrue result ((written ≤ 60) × (at < length text.now) × (stays lower (slice_index text.now at) ≡ false)) }
 {
-    written <= 60 && at < text.len() && is_mark(text[at], lower)
+    written <= 60 && at < text.len() && is_candidate(text[at], lower)
 }
 
 // Gathers what is written from the first change on, up to a byte that stays or a full buffer: percent-encoded octets that
 // are in normal form too.
 #[inline(always)]
 fn gather_in<S: Spec>(text: &[u8], at: usize, lower: bool, buf: &mut [u8; 64]) -> Run
-    requires { (whole_triplets text.now ≡ true) × FirstMark S.tests lower text.now at }
+    requires { (whole_triplets text.now ≡ true) × FirstCandidate S.tests lower text.now at }
     ensures becomes { Becomes S.tests lower text.now at result.read (take result.written buf.new) }
     ensures utf8 { IsUtf8 (take result.written buf.new) }
     ensures room { result.written ≤ 64 }
@@ -130,7 +133,7 @@ fn gather_in<S: Spec>(text: &[u8], at: usize, lower: bool, buf: &mut [u8; 64]) -
 // The loop is compiled for each case of its own.
 #[inline(always)]
 fn gather<S: Spec>(text: &[u8], at: usize, lower: bool, buf: &mut [u8; 64]) -> Run
-    requires { (whole_triplets text.now ≡ true) × FirstMark S.tests lower text.now at }
+    requires { (whole_triplets text.now ≡ true) × FirstCandidate S.tests lower text.now at }
     ensures becomes { Becomes S.tests lower text.now at result.read (take result.written buf.new) }
     ensures utf8 { IsUtf8 (take result.written buf.new) }
     ensures room { result.written ≤ 64 }
@@ -163,7 +166,7 @@ pub(crate) fn show_normal<S: Spec, W: TextSink>(
     ensures { Shows W.puts W.halts W.stops sink.old (normal S.tests (case_of lower) text.now) sink.new result }
 {
     let mut rest = text;
-    while let Some(at) = next_mark::<S>(rest.as_bytes(), lower) {
+    while let Some(at) = next_candidate::<S>(rest.as_bytes(), lower) {
         put_run(sink, &rest[..at])?;
         let mut buf = [0u8; 64];
         let run = gather::<S>(rest.as_bytes(), at, lower, &mut buf);

@@ -289,7 +289,7 @@ fn laws_of<S: Spec>() {
     laws::decoding_undoes_encoding::<S>();
     laws::triplet_form_is_stable::<S>();
     laws::decoding_makes_no_new_character::<S>();
-    laws::marks_part_triplet_forms::<S>();
+    laws::delimiters_part_triplet_forms::<S>();
     laws::parts_have_whole_triplets::<S>();
     laws::triplet_forms_keep_their_class::<S>();
 }

@@ -64,9 +64,9 @@ one_target (e ∷ es) t u k h i =
 abbrev IsPlaced : List Entry → List ℕ → Type 0
 IsPlaced es t = (k : ℕ) × (place es t ≡ Some k)
 
--- behind an entry
-placed_behind : (e : Entry) (es : List Entry) (t : List ℕ) → IsPlaced es t → IsPlaced (e ∷ es) t
-placed_behind e es t h =
+-- after an entry
+placed_after : (e : Entry) (es : List Entry) (t : List ℕ) → IsPlaced es t → IsPlaced (e ∷ es) t
+placed_after e es t h =
     elim (bytes_eq t e.target) as (λ b. (k : ℕ) × (cond b (Some 1) (option_map (λ j. j + 1) (place es t)) ≡ Some k)) [
       | true ↦ (1, refl)
       | false ↦ (h.0 + 1, ap (option_map (λ j. j + 1)) h.1)
@@ -86,7 +86,7 @@ placed_without t u h (e ∷ es) k p =
           let rest = placed_without t u h es l.0 l.1 in
           elim (bytes_eq t e.target) as (λ b. IsPlaced (cond (not b) (e ∷ without t es) (without t es)) u) [
             | true ↦ rest
-            | false ↦ placed_behind e (without t es) u rest
+            | false ↦ placed_after e (without t es) u rest
           ]
     ] refl p
 
@@ -98,7 +98,7 @@ placed_line (m ∷ ls) (suc i) l h =
     let rest = placed_line ls i l h in
     elim (bytes_eq m.target l.target) as (λ b. bytes_eq m.target l.target ≡ b → IsPlaced (grouped (m ∷ ls)) l.target) [
       | true ↦ λ a. subst (λ t. IsPlaced (grouped (m ∷ ls)) t) (is_same m.target l.target a) (1, rw (same m.target) refl)
-      | false ↦ λ a. placed_behind (record { target = m.target; lines = m.number ∷ numbers m.target ls })
+      | false ↦ λ a. placed_after (record { target = m.target; lines = m.number ∷ numbers m.target ls })
           (without m.target (grouped ls)) l.target (placed_without m.target l.target a (grouped ls) rest.0 rest.1)
     ] refl
 

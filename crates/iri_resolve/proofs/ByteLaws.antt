@@ -7,10 +7,10 @@ use Rattle.std.specs.Str.{chars}
 use lib.Utf8.{encode, scalar, scalars}
 use Rattle.std.proofs.lemmas.Str.{IsUtf8-append, chars-append, chars-encodes, encode_ascii}
 use Rattle.std.proofs.lemmas.Bool.Decides.{nat_tests}
-use Rattle.iri_grammar.proofs.AuthorityTexts.{text_over-utf8, marked-utf8, one_byte-utf8}
+use Rattle.iri_grammar.proofs.AuthorityTexts.{text_over-utf8, delimited-utf8, one_byte-utf8}
 use Rattle.iri_grammar.proofs.CutLaws.{both}
 use Rattle.iri_grammar.specs.Over.{over_from, over, text_over}
-use Rattle.iri_normal.proofs.TextLaws.{utf8-front, utf8-from, utf8-behind, is_utf8-of, over-of}
+use Rattle.iri_normal.proofs.TextLaws.{utf8-prefix, utf8-from, utf8-after, is_utf8-of, over-of}
 use Rattle.iri_resolve.specs.Changes.{is_in_triplet, is_small_digit, with_small_letter, with_small_host_letter, with_capital_digit}
 
 -- ---- one byte
@@ -118,12 +118,12 @@ pub text_over-changed : (p : ℕ → Bool) (x y : ℕ) (a b : List ℕ) → IsAs
     → text_over p (a ++ y ∷ b) ≡ true
 text_over-changed p x y a b g h =
     let u = text_over-utf8 p (a ++ x ∷ b) h in
-    let front = utf8-front x a b g.low u in
-    let back = utf8-behind x a b g.low u in
-    let old : chars (a ++ x ∷ b) ≡ chars a ++ x ∷ chars b = chars-append a (x ∷ b) front ∙ ap (λ z. chars a ++ z) (chars-ascii x b g.low) in
+    let prefix = utf8-prefix x a b g.low u in
+    let back = utf8-after x a b g.low u in
+    let old : chars (a ++ x ∷ b) ≡ chars a ++ x ∷ chars b = chars-append a (x ∷ b) prefix ∙ ap (λ z. chars a ++ z) (chars-ascii x b g.low) in
     let new : chars (a ++ y ∷ b) ≡ chars a ++ y ∷ chars b =
-    chars-append a (y ∷ b) front ∙ ap (λ z. chars a ++ z) (chars-ascii y b g.still_low) in
-    is_utf8-of p (a ++ y ∷ b) (IsUtf8-append a (y ∷ b) front (marked-utf8 y b g.still_low back))
+    chars-append a (y ∷ b) prefix ∙ ap (λ z. chars a ++ z) (chars-ascii y b g.still_low) in
+    is_utf8-of p (a ++ y ∷ b) (IsUtf8-append a (y ∷ b) prefix (delimited-utf8 y b g.still_low back))
     (ap (over p) new ∙ over-changed p x y g 0 (chars a) (chars b) (ap (over p) (sym old) ∙ over-of p (a ++ x ∷ b) h))
 
 pub byte_change-over : (p test : ℕ → Bool) (f : ℕ → ℕ) (i : ℕ) (t u : List ℕ) → ((x : ℕ) → test x ≡ true → IsAsGood p x (f x))
@@ -151,20 +151,20 @@ pub text_over-percent : (p : ℕ → Bool) (a r : List ℕ) → text_over p (a +
     → (text_over p a ≡ true) × (text_over p (37 ∷ r) ≡ true)
 text_over-percent p a r h =
     let u = text_over-utf8 p (a ++ 37 ∷ r) h in
-    let front = utf8-front 37 a r (omega arith) u in
+    let prefix = utf8-prefix 37 a r (omega arith) u in
     let e : chars (a ++ 37 ∷ r) ≡ chars a ++ 37 ∷ chars r =
-    chars-append a (37 ∷ r) front ∙ ap (λ z. chars a ++ z) (chars-ascii 37 r (omega arith)) in
+    chars-append a (37 ∷ r) prefix ∙ ap (λ z. chars a ++ z) (chars-ascii 37 r (omega arith)) in
     let k = over-percent p 0 (chars a) (chars r) (ap (over p) (sym e) ∙ over-of p (a ++ 37 ∷ r) h) in (
-      is_utf8-of p a front k.0,
+      is_utf8-of p a prefix k.0,
       is_utf8-of p (37 ∷ r) (utf8-from 37 a r (omega arith) u)
           (ap (over p) (chars-ascii 37 r (omega arith)) ∙ k.1),
     )
 
--- behind a triplet
-pub text_over-behind : (p : ℕ → Bool) (a b : ℕ) (r : List ℕ) → is_ascii_hexdigit a ≡ true → is_ascii_hexdigit b ≡ true
+-- after a triplet
+pub text_over-after : (p : ℕ → Bool) (a b : ℕ) (r : List ℕ) → is_ascii_hexdigit a ≡ true → is_ascii_hexdigit b ≡ true
     → text_over p (37 ∷ a ∷ b ∷ r) ≡ true → text_over p r ≡ true
 unfolding over_from
-text_over-behind p a b r ha hb h =
+text_over-after p a b r ha hb h =
     let la = digit_below a ha in
     let lb = digit_below b hb in
     let u = text_over-utf8 p (37 ∷ a ∷ b ∷ r) h in
@@ -172,7 +172,7 @@ text_over-behind p a b r ha hb h =
     chars-ascii 37 (a ∷ b ∷ r) (omega arith) ∙ ap (λ z. 37 ∷ z) (chars-ascii a (b ∷ r) la ∙ ap (λ z. a ∷ z) (chars-ascii b r lb)) in
     let k : (is_ascii_hexdigit a && (is_ascii_hexdigit b && over_from p 0 (chars r))) ≡ true =
     ap (over p) (sym e) ∙ over-of p (37 ∷ a ∷ b ∷ r) h in
-    is_utf8-of p r (utf8-behind b (37 ∷ a ∷ []) r lb u)
+    is_utf8-of p r (utf8-after b (37 ∷ a ∷ []) r lb u)
     (both (is_ascii_hexdigit b) (over_from p 0 (chars r))
     (both (is_ascii_hexdigit a) (is_ascii_hexdigit b && over_from p 0 (chars r)) k).1).1
   where

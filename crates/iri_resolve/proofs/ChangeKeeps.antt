@@ -21,13 +21,13 @@ use Rattle.iri_resolve.proofs.ChangeLaws.{digit-normal, digit-over, decoding, de
 
 -- texts that differ from a place on, where both go on with another byte than `/`
 pub record Differ (t u : List ℕ) : Type 0 where
-  pub front : List ℕ
+  pub prefix : List ℕ
   pub x : ℕ
   pub y : ℕ
   pub xs : List ℕ
   pub ys : List ℕ
-  pub old : t ≡ front ++ x ∷ xs
-  pub new : u ≡ front ++ y ∷ ys
+  pub old : t ≡ prefix ++ x ∷ xs
+  pub new : u ≡ prefix ++ y ∷ ys
   pub no_slash : (x == 47) ≡ false
   pub no_new_slash : (y == 47) ≡ false
 
@@ -51,10 +51,10 @@ percent-inside t i h =
     elim (lacks 37 (take i t)) as (λ b. lacks 37 (take i t) ≡ b
     → b ≡ false) [ true ↦ λ e. let no : not true ≡ true = ap not (sym (lacks-whole (take i t) e)) ∙ h in cc | false ↦ λ _. refl ] refl
 
-front-lacks : (a r : List ℕ) → lacks 37 a ≡ false → lacks 37 (a ++ r) ≡ false
-front-lacks [] r h = cc
-front-lacks (x ∷ a) r h = elim (x == 37) as (λ b. (not b && lacks 37 a) ≡ false
-    → (not b && lacks 37 (a ++ r)) ≡ false) [ true ↦ λ _. refl | false ↦ λ k. front-lacks a r k ] h
+prefix-lacks : (a r : List ℕ) → lacks 37 a ≡ false → lacks 37 (a ++ r) ≡ false
+prefix-lacks [] r h = cc
+prefix-lacks (x ∷ a) r h = elim (x == 37) as (λ b. (not b && lacks 37 a) ≡ false
+    → (not b && lacks 37 (a ++ r)) ≡ false) [ true ↦ λ _. refl | false ↦ λ k. prefix-lacks a r k ] h
 
 -- ---- the place lies in the text
 lies-inside : (i : ℕ) (t : List ℕ) (y : ℕ) (r : List ℕ) → t ≡ take i t ++ y ∷ r → i < length t
@@ -81,11 +81,11 @@ unfolding unreserved
 capital-keeps s = record {
   over = λ p i t u n q h o. digit-over p i t u (λ c k. q c (ap (λ b. b || s.ucs c) k)) h o;
   form = λ f i t u h w v. digit-normal s f i t u h w v;
-  percent = λ i t u h. let c = capital_digit i t u h in ap (lacks 37) c.change.old ∙ front-lacks (take i t) _ (percent-inside t i c.place);
+  percent = λ i t u h. let c = capital_digit i t u h in ap (lacks 37) c.change.old ∙ prefix-lacks (take i t) _ (percent-inside t i c.place);
   slashes = λ i t u h.
       let c = capital_digit i t u h in
       record {
-        front = take i t;
+        prefix = take i t;
         x = c.change.byte;
         y = Rattle.std.specs.Char.to_ascii_uppercase c.change.byte;
         xs = c.change.back;
@@ -122,7 +122,7 @@ decoding-keeps s k = record {
       let g = some_triplets d.c d.sp (encode_utf8 d.c) d.spells refl in
       let b = encode_bytes d.c in
       record {
-        front = take i t;
+        prefix = take i t;
         x = 37;
         y = b.lead;
         xs = g.rest ++ d.back;
@@ -152,5 +152,5 @@ empty-same (z ∷ a) xs ys x y = refl
 
 pub rules-same : (sch : List ℕ) (o : Option (List ℕ)) (t u : List ℕ) → Differ t u → path_rules (Some sch) o u ≡ path_rules (Some sch) o t
 rules-same sch (Some a) t u d = rw (d.old, d.new) (rw
-    (empty-same d.front d.xs d.ys d.x d.y, slash-same d.front d.xs d.ys d.x d.y d.no_slash d.no_new_slash) refl)
-rules-same sch None t u d = rw (d.old, d.new) (ap not (slashes-same d.front d.xs d.ys d.x d.y d.no_slash d.no_new_slash))
+    (empty-same d.prefix d.xs d.ys d.x d.y, slash-same d.prefix d.xs d.ys d.x d.y d.no_slash d.no_new_slash) refl)
+rules-same sch None t u d = rw (d.old, d.new) (ap not (slashes-same d.prefix d.xs d.ys d.x d.y d.no_slash d.no_new_slash))

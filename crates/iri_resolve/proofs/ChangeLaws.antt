@@ -23,7 +23,7 @@ use Rattle.iri_percent.proofs.Stability.{decoded_octets}
 use Rattle.iri_grammar.proofs.UnitRuns.{text_over-append}
 use Rattle.iri_resolve.specs.Changes.{is_small_digit, with_capital_digit, with_character, with_decoded}
 use Rattle.iri_percent.proofs.SeamLaws.{leads, normal-seam, whole-percent}
-use Rattle.iri_resolve.proofs.ByteLaws.{capital_digit, IsAsGood, byte_change-over, text_over-percent, text_over-behind}
+use Rattle.iri_resolve.proofs.ByteLaws.{capital_digit, IsAsGood, byte_change-over, text_over-percent, text_over-after}
 
 -- ---- capital digits
 -- a text with capital digits in its triplets, where so many digits of a triplet are still to come
@@ -113,11 +113,11 @@ capitals-changed (y ∷ h ∷ j ∷ a) b x w n =
     → y ∷ capitals (cond v 2 0) (h ∷ j ∷ (a ++ x ∷ b)) ≡ y ∷ capitals (cond v 2 0) (h ∷ j ∷ (a ++ to_ascii_uppercase x ∷ b))) [
       | true ↦ λ _ d m.
           let two = both (is_ascii_hexdigit h) (is_ascii_hexdigit j) d in
-          let behind : whole_triplets (a ++ x ∷ b) ≡ true =
+          let after : whole_triplets (a ++ x ∷ b) ≡ true =
           sym (whole_plain h (j ∷ (a ++ x ∷ b)) (hex_apart h two.0) ∙ whole_plain j (a ++ x ∷ b) (hex_apart j two.1)) ∙ k.1 in
-          let front : whole_triplets a ≡ false = sym (whole_plain h (j ∷ a) (hex_apart h two.0) ∙ whole_plain j a (hex_apart j two.1))
+          let prefix : whole_triplets a ≡ false = sym (whole_plain h (j ∷ a) (hex_apart h two.0) ∙ whole_plain j a (hex_apart j two.1))
           ∙ (ap (λ v. v && whole_triplets (h ∷ j ∷ a)) (sym d) ∙ m) in
-          ap (λ z. y ∷ to_ascii_uppercase h ∷ to_ascii_uppercase j ∷ z) (capitals-changed a b x behind front)
+          ap (λ z. y ∷ to_ascii_uppercase h ∷ to_ascii_uppercase j ∷ z) (capitals-changed a b x after prefix)
       | false ↦ λ e _ m. ap (λ z. y ∷ z) (capitals-changed (h ∷ j ∷ a) b x k.1 m)
     ] refl k.0 n
 
@@ -191,7 +191,7 @@ decoding s i t u h = at (decoded s (octets (drop i t))) refl h
         let d = is_decoded s (octets (drop i t)) c e in
         let r = spelled (encode_utf8 c) d.0.rest (drop i t) d.0.split in
         let long : length r.sp ≡ 3 * len_utf8 c = length-spelled r.sp (encode_utf8 c) r.spells ∙ ap (λ n. 3 * n) (length-encode c) in
-        let behind : drop (i + 3 * len_utf8 c) t ≡ r.xs =
+        let after : drop (i + 3 * len_utf8 c) t ≡ r.xs =
         sym (drop-drop (3 * len_utf8 c) i t) ∙ ap (drop (3 * len_utf8 c)) r.text ∙ drop_at r.sp r.xs (3 * len_utf8 c) long in
         let same : take i t ++ (encode_utf8 c ++ drop (i + 3 * len_utf8 c) t) ≡ u = cc in
         record {
@@ -202,7 +202,7 @@ decoding s i t u h = at (decoded s (octets (drop i t))) refl h
           free = d.1;
           spells = r.spells;
           old = sym (take-append-drop i t) ∙ ap (λ z. take i t ++ z) r.text;
-          new = sym same ∙ ap (λ z. take i t ++ (encode_utf8 c ++ z)) behind;
+          new = sym same ∙ ap (λ z. take i t ++ (encode_utf8 c ++ z)) after;
         }
 
 -- triplets begin with a `%`
@@ -228,22 +228,22 @@ decoded-normal s f i t u k h w =
     let d = decoding s i t u h in
     let a = take i t in
     let p = some_triplets d.c d.sp (encode_utf8 d.c) d.spells refl in
-    let front : whole_triplets a ≡ true = whole-percent a (p.rest ++ d.back)
+    let prefix : whole_triplets a ≡ true = whole-percent a (p.rest ++ d.back)
     (ap whole_triplets (sym (d.old ∙ ap (λ z. a ++ (z ++ d.back)) p.text)) ∙ w) in
     let none : octets (encode_utf8 d.c ++ d.back) ≡ [] =
     ap (λ z. octets (z ++ d.back)) (sym (map_same (encode_utf8 d.c))) ∙ decoded_octets s as_it_is d.c d.back k as_it_is-case d.free in
     let new : normal s f u ≡ normal s f a ++ (map f (encode_utf8 d.c) ++ normal s f d.back) =
-    ap (normal s f) d.new ∙ normal-seam s f a (encode_utf8 d.c ++ d.back) front (ap leads none)
+    ap (normal s f) d.new ∙ normal-seam s f a (encode_utf8 d.c ++ d.back) prefix (ap leads none)
     ∙ ap (λ z. normal s f a ++ z) (normal_plains s f (encode_utf8 d.c) d.back
     (encode_percent d.c (unreserved_percent s d.c k d.free))) in
     let old : normal s f t ≡ normal s f a ++ (map f (encode_utf8 d.c) ++ normal s f d.back) =
-    ap (normal s f) d.old ∙ normal-seam s f a (d.sp ++ d.back) front (spelled-leads d.c d.sp d.back d.spells)
+    ap (normal s f) d.old ∙ normal-seam s f a (d.sp ++ d.back) prefix (spelled-leads d.c d.sp d.back d.spells)
     ∙ ap (λ z. normal s f a ++ z) (normal_decoded s f d.c d.sp d.back d.is_scalar d.free d.spells) in
     new ∙ sym old
 
 spelled-over : (p : ℕ → Bool) (sp os xs : List ℕ) → Spells sp os → text_over p (sp ++ xs) ≡ true → text_over p xs ≡ true
 spelled-over p sp os xs none h = h
-spelled-over p sp os xs (more a b sp' os' ha hb k) h = spelled-over p sp' os' xs k (text_over-behind p a b (sp' ++ xs) ha hb h)
+spelled-over p sp os xs (more a b sp' os' ha hb k) h = spelled-over p sp' os' xs k (text_over-after p a b (sp' ++ xs) ha hb h)
 
 pub decoded-over : (s : Tests) (p : ℕ → Bool) (i : ℕ) (t u : List ℕ) → IsSpec s → p 37 ≡ false
     → ((c : ℕ) → unreserved s c ≡ true → p c ≡ true) → with_decoded s i t ≡ Some u → text_over p t ≡ true → text_over p u ≡ true

@@ -10,9 +10,9 @@ use Rattle.std.proofs.lemmas.Slice.Eq.{bytes_eq-Decides}
 use Rattle.iri_grammar.specs.Authority.{AuthorityParts, authority_parts, recompose_authority, userinfo_text}
 use Rattle.iri_grammar.proofs.AuthorityLaws.{authority_recomposed}
 use Rattle.iri_grammar.specs.Classes.{Tests}
-use Rattle.iri_grammar.specs.Cut.{marked}
+use Rattle.iri_grammar.specs.Cut.{delimited}
 use Rattle.iri_grammar.specs.Parts.{Parts, is_empty}
-use Rattle.iri_percent.proofs.Reading.{Reading, done, plain, char, lone, whole_plain, whole_triplet, whole_behind, read}
+use Rattle.iri_percent.proofs.Reading.{Reading, done, plain, char, lone, whole_plain, whole_triplet, whole_after, read}
 use Rattle.iri_percent.proofs.SeamLaws.{leads, lone-seam, whole-percent}
 use Rattle.iri_percent.proofs.UnitLaws.{length-spelled, units_plain, units_lone, units_char}
 use Rattle.iri_percent.proofs.UnitTexts.{units-text}
@@ -78,14 +78,14 @@ decode-changing s i t u h e =
 -- ---- an authority
 other-host : (p : AuthorityParts) (g : List ℕ) → recompose_authority (record p { host = g }) ≡ recompose_authority p → g ≡ p.host
 unfolding recompose_authority
-other-host p g h = append_cancel_right g p.host (marked 58 p.port)
-    (append_cancel_left (userinfo_text p.userinfo) (g ++ marked 58 p.port) (p.host ++ marked 58 p.port) h)
+other-host p g h = append_cancel_right g p.host (delimited 58 p.port)
+    (append_cancel_left (userinfo_text p.userinfo) (g ++ delimited 58 p.port) (p.host ++ delimited 58 p.port) h)
 
 other-userinfo : (p : AuthorityParts) (v w : List ℕ) → p.userinfo ≡ Some w
     → recompose_authority (record p { userinfo = Some v }) ≡ recompose_authority p → v ≡ w
 unfolding recompose_authority
 other-userinfo p v w e h =
-    let r = p.host ++ marked 58 p.port in
+    let r = p.host ++ delimited 58 p.port in
     let same : (v ++ 64 ∷ []) ++ r ≡ (w ++ 64 ∷ []) ++ r = h ∙ ap (λ o. userinfo_text o ++ r) e in
     append_cancel_right v w (64 ∷ []) (append_cancel_right (v ++ 64 ∷ []) (w ++ 64 ∷ []) r same)
 
@@ -127,7 +127,7 @@ port-differs : (p : AuthorityParts) (x : List ℕ) → p.port ≡ Some x → rec
 unfolding recompose_authority
 port-differs p x q h =
     let u = userinfo_text p.userinfo in
-    let same : u ++ (p.host ++ []) ≡ u ++ (p.host ++ 58 ∷ x) = h ∙ ap (λ o. u ++ (p.host ++ marked 58 o)) q in
+    let same : u ++ (p.host ++ []) ≡ u ++ (p.host ++ 58 ∷ x) = h ∙ ap (λ o. u ++ (p.host ++ delimited 58 o)) q in
     absurd (omega (
       arith,
       ap length same,
@@ -235,11 +235,11 @@ units-seam t r (plain x xs h k) w l = units_plain x (xs ++ r) h ∙ ap (λ z. Pl
     ∙ ap (λ z. z ++ units r) (sym (units_plain x xs h))
 units-seam t r (char c sp xs h sps k) w l =
     ap units (append_assoc sp xs r) ∙ units_char c sp (xs ++ r) h sps
-    ∙ ap (λ z. Char c sp ∷ z) (units-seam xs r k (sym (whole_behind sp (encode_utf8 c) xs sps) ∙ w) l)
+    ∙ ap (λ z. Char c sp ∷ z) (units-seam xs r k (sym (whole_after sp (encode_utf8 c) xs sps) ∙ w) l)
     ∙ ap (λ z. z ++ units r) (sym (units_char c sp xs h sps))
 units-seam t r (lone a b xs p q n k) w l =
-    let behind : whole_triplets xs ≡ true = sym (whole_triplet a b xs p q) ∙ w in
-    units_lone a b (xs ++ r) p q (lone-seam a b xs r p q behind l n) ∙ ap (λ z. Lone a b ∷ z) (units-seam xs r k behind l)
+    let after : whole_triplets xs ≡ true = sym (whole_triplet a b xs p q) ∙ w in
+    units_lone a b (xs ++ r) p q (lone-seam a b xs r p q after l n) ∙ ap (λ z. Lone a b ∷ z) (units-seam xs r k after l)
     ∙ ap (λ z. z ++ units r) (sym (units_lone a b xs p q n))
 
 pub decoded-place : (s : Tests) (t u : List ℕ) (i : ℕ) → whole_triplets t ≡ true → with_decoded s i t ≡ Some u → IsCharacterAt s i t
@@ -247,16 +247,16 @@ decoded-place s t u i w h =
     let d = decoding s i t u h in
     let a = take i t in
     let p = some_triplets d.c d.sp (encode_utf8 d.c) d.spells refl in
-    let front : whole_triplets a ≡ true = whole-percent a (p.rest ++ d.back)
+    let prefix : whole_triplets a ≡ true = whole-percent a (p.rest ++ d.back)
     (ap whole_triplets (sym (d.old ∙ ap (λ z. a ++ (z ++ d.back)) p.text)) ∙ w) in
     let l = decode-inside s i t u h in
-    let split = ap units d.old ∙ units-seam a (d.sp ++ d.back) (read a front) front (spelled-leads d.c d.sp d.back d.spells)
+    let split = ap units d.old ∙ units-seam a (d.sp ++ d.back) (read a prefix) prefix (spelled-leads d.c d.sp d.back d.spells)
     ∙ ap (λ z. units a ++ z) (units_char d.c d.sp d.back d.is_scalar d.spells) in
     let r = char_placed d.c d.sp t (units a) (units d.back) split in
     record {
       c = d.c;
       spelling = d.sp;
-      before = r.front;
+      before = r.prefix;
       after = r.back;
       split = r.split;
       place = r.at ∙ ap length (units-text a) ∙ length-take-le i t (omega (arith, l));

@@ -17,8 +17,8 @@ use Rattle.iri_resolve.proofs.ChangeLaws.{some_triplets}
 use Rattle.iri_resolve.specs.Changes.{is_in_triplet, is_small_digit, with_small_letter, with_small_host_letter, with_capital_digit}
 use Rattle.iri_resolve.specs.Changes.{with_character, with_decoded}
 use Rattle.iri_grammar.proofs.Units.{hex_is_ascii as digit_below}
-use Rattle.iri_normal.proofs.TextLaws.{utf8-behind, utf8-front}
-use Rattle.iri_grammar.proofs.AuthorityTexts.{marked-utf8}
+use Rattle.iri_normal.proofs.TextLaws.{utf8-after, utf8-prefix}
+use Rattle.iri_grammar.proofs.AuthorityTexts.{delimited-utf8}
 
 pub in_text : (i : ℕ) (t : List ℕ) → nat_lt 0 (slice_index t i) ≡ true → i < length t
 in_text zero [] h = cc
@@ -37,8 +37,8 @@ pub put-utf8 : (i : ℕ) (t : List ℕ) (y : ℕ) → i < length t → slice_ind
 put-utf8 i t y h l m u =
     let c = cut_at i t y h in
     let v = subst (λ z. IsUtf8 z) c.0 u in
-    subst (λ z. IsUtf8 z) (sym c.1) (IsUtf8-append (take i t) (y ∷ drop (suc i) t) (utf8-front (slice_index t i) (take i t) (drop (suc i) t) l v)
-    (marked-utf8 y (drop (suc i) t) m (utf8-behind (slice_index t i) (take i t) (drop (suc i) t) l v)))
+    subst (λ z. IsUtf8 z) (sym c.1) (IsUtf8-append (take i t) (y ∷ drop (suc i) t) (utf8-prefix (slice_index t i) (take i t) (drop (suc i) t) l v)
+    (delimited-utf8 y (drop (suc i) t) m (utf8-after (slice_index t i) (take i t) (drop (suc i) t) l v)))
 
 pub capital_low : (x : ℕ) → is_ascii_uppercase x ≡ true → (x < 128) × (to_ascii_lowercase x < 128)
 capital_low x h = (low x h, still x h)
@@ -99,15 +99,15 @@ no_octets : (s : Tests) → decoded s (octets []) ≡ None
 unfolding first_char chars
 no_octets s = refl
 
-pub behind_end : (s : Tests) (i : ℕ) (t : List ℕ) → length t < i → decoded s (octets (drop i t)) ≡ None
-behind_end s i t h = ap (λ z. decoded s (octets z)) (drop_of_length-le t (omega arith)) ∙ no_octets s
+pub after_end : (s : Tests) (i : ℕ) (t : List ℕ) → length t < i → decoded s (octets (drop i t)) ≡ None
+after_end s i t h = ap (λ z. decoded s (octets z)) (drop_of_length-le t (omega arith)) ∙ no_octets s
 
 -- where the triplets begin and end
-at_front : (i : ℕ) (t : List ℕ) (y : ℕ) (r : List ℕ) → drop i t ≡ y ∷ r → (i < length t) × (slice_index t i ≡ y)
-at_front zero [] y r e = cc
-at_front zero (x ∷ xs) y r e = (omega arith, cc)
-at_front (suc i) [] y r e = cc
-at_front (suc i) (x ∷ xs) y r e = let k = at_front i xs y r e in let l = k.0 in (omega arith, k.1)
+at_start : (i : ℕ) (t : List ℕ) (y : ℕ) (r : List ℕ) → drop i t ≡ y ∷ r → (i < length t) × (slice_index t i ≡ y)
+at_start zero [] y r e = cc
+at_start zero (x ∷ xs) y r e = (omega arith, cc)
+at_start (suc i) [] y r e = cc
+at_start (suc i) (x ∷ xs) y r e = let k = at_start i xs y r e in let l = k.0 in (omega arith, k.1)
 
 deeper : (n : ℕ) (x y z : ℕ) (xs : List ℕ) → 0 < n → slice_index xs (n - 1) < 128
     → slice_index (x ∷ y ∷ z ∷ xs) (suc (suc (suc n)) - 1) < 128
@@ -138,12 +138,12 @@ place s i t c e =
     let r = spelled (encode_utf8 c) d.0.rest (drop i t) d.0.split in
     let g = some_triplets c r.sp (encode_utf8 c) r.spells refl in
     let long : length r.sp ≡ 3 * len_utf8 c = length-spelled r.sp (encode_utf8 c) r.spells ∙ ap (λ n. 3 * n) (length-encode c) in
-    let f = at_front i t 37 (g.rest ++ r.xs) (r.text ∙ ap (λ z. z ++ r.xs) g.text) in
+    let f = at_start i t 37 (g.rest ++ r.xs) (r.text ∙ ap (λ z. z ++ r.xs) g.text) in
     let whole : t ≡ take i t ++ (r.sp ++ r.xs) = sym (take-append-drop i t) ∙ ap (λ z. take i t ++ z) r.text in
-    let front : length (take i t) ≡ i = length-take-le i t (omega (arith, f.0)) in
+    let prefix : length (take i t) ≡ i = length-take-le i t (omega (arith, f.0)) in
     let some : 0 < length r.sp = omega (arith, ap length g.text) in
     let bytes : 0 < length (encode_utf8 c) = omega (arith, some, length-spelled r.sp (encode_utf8 c) r.spells) in
-    let at : i + 3 * len_utf8 c - 1 ≡ length (take i t) + (length r.sp - 1) = omega (arith, front, long, some) in
+    let at : i + 3 * len_utf8 c - 1 ≡ length (take i t) + (length r.sp - 1) = omega (arith, prefix, long, some) in
     let digit = last_digit r.sp (encode_utf8 c) r.xs r.spells bytes in
     let read : slice_index t (i + 3 * len_utf8 c - 1) ≡ slice_index (r.sp ++ r.xs) (length r.sp - 1) =
     ap (slice_index t) at ∙ ap (λ z. slice_index z (length (take i t) + (length r.sp - 1))) whole
@@ -151,14 +151,14 @@ place s i t c e =
     record {
       inside = f.0;
       first = subst (λ x. x < 128) (sym f.1) (omega arith);
-      within = omega (arith, ap length whole, length-append (take i t) (r.sp ++ r.xs), length-append r.sp r.xs, front, long);
+      within = omega (arith, ap length whole, length-append (take i t) (r.sp ++ r.xs), length-append r.sp r.xs, prefix, long);
       some = omega (arith, long, some);
       last = subst (λ x. x < 128) (sym read) digit;
     }
 
-pub behind_place : (i n : ℕ) (t : List ℕ) → IsUtf8 t → Place i n t → i + n < length t → 128 ≤ slice_index t (i + n)
+pub after_place : (i n : ℕ) (t : List ℕ) → IsUtf8 t → Place i n t → i + n < length t → 128 ≤ slice_index t (i + n)
     → 192 ≤ slice_index t (i + n)
-behind_place i n t u p l h =
+after_place i n t u p l h =
     let some = p.some in
     let next : i + n - 1 + 1 ≡ i + n = omega arith in
     subst (λ k. 192 ≤ slice_index t k) next (lead_after_ascii t (i + n - 1) u p.last (omega arith)

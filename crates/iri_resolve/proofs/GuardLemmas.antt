@@ -5,13 +5,13 @@ use Rattle.std.specs.Prelude.{◌==◌}
 use Rattle.std.specs.Str.{bytes_eq}
 use Rattle.std.proofs.lemmas.Slice.Eq.{bytes_eq-Decides}
 use Rattle.iri_grammar.specs.Classes.{Tests, IsSpec}
-use Rattle.iri_grammar.specs.Cut.{before, behind}
+use Rattle.iri_grammar.specs.Cut.{before, after}
 use Rattle.iri_grammar.proofs.CutLaws.{by_test, both}
 use Rattle.iri_grammar.specs.Parts.{is_empty, starts_with_slash, starts_with_slashes}
 use Rattle.iri_grammar.specs.Pieces.{pieces, onto}
 use Rattle.iri_grammar.specs.inside.PiecesLaws.{more_pieces}
 use Rattle.iri_grammar.proofs.PiecesLaws.{pieces_cut}
-use Rattle.iri_percent.proofs.MarkLaws.{pct_mark, slash}
+use Rattle.iri_percent.proofs.DelimiterLaws.{pct_delimiter, slash}
 use Rattle.iri_percent.proofs.NormalLaws.{normal_decoded, normal_nil, normal_plain}
 use Rattle.iri_percent.specs.Triplets.{as_it_is, pct}
 use Rattle.iri_percent.proofs.UnitLaws.{Spells, none, more}
@@ -21,7 +21,7 @@ use Rattle.iri_normal.specs.Dots.{any_dot_segment, has_dot_segment, is_dot_segme
 use Rattle.iri_normal.specs.Guard.{guard}
 use Rattle.iri_resolve.specs.inside.GuardAlone.{is_after_slash, is_guard_alone, loses_dots}
 use Rattle.iri_normal.proofs.PieceLaws.{pieces-some, pieces-slash, dot-is_one, dot_segment-lacks, nothing-is_no_dot}
-use Rattle.iri_normal.proofs.StableLaws.{dot_in_front, no_dots_left, no_dots-same, slashed, unsplit, unsplit-pieces}
+use Rattle.iri_normal.proofs.StableLaws.{dot_before, no_dots_left, no_dots-same, slashed, unsplit, unsplit-pieces}
 use Rattle.iri_normal.proofs.TripletDots.{dot_segment-pct, empty-pct, encode_point, point_scalar, point_unreserved, two_dots-pct}
 use Rattle.iri_normal.proofs.TripletHeads.{pct-heads}
 use Rattle.iri_normal.proofs.TripletPaths.{all_whole, pieces-pct, whole-pieces}
@@ -47,15 +47,15 @@ decoded-point s z h =
 plain-point : (s : Tests) → pct s (46 ∷ []) ≡ 46 ∷ []
 plain-point s = normal_plain s as_it_is 46 [] refl ∙ ap (λ t. 46 ∷ t) (normal_nil s as_it_is)
 
-all-behind : (b : Bool) (xs : List ℕ) → is_all (cond b (Some xs) None) ≡ true → (b ≡ true) × (xs ≡ [])
-all-behind true [] h = (refl, refl)
-all-behind true (x ∷ xs) h = cc
-all-behind false xs h = cc
+all-after : (b : Bool) (xs : List ℕ) → is_all (cond b (Some xs) None) ≡ true → (b ≡ true) × (xs ≡ [])
+all-after true [] h = (refl, refl)
+all-after true (x ∷ xs) h = cc
+all-after false xs h = cc
 
 triplet-point : (s : Tests) (x y z : ℕ) (xs : List ℕ) → is_all (cond (x == 37 && y == 50 && (z == 69 || z == 101)) (Some xs) None) ≡ true
     → pct s (x ∷ y ∷ z ∷ xs) ≡ 46 ∷ []
 triplet-point s x y z xs h =
-    let a = all-behind (x == 37 && y == 50 && (z == 69 || z == 101)) xs h in
+    let a = all-after (x == 37 && y == 50 && (z == 69 || z == 101)) xs h in
     let b = both (x == 37 && y == 50) (z == 69 || z == 101) a.0 in
     let c = both (x == 37) (y == 50) b.0 in
     let text : x ∷ y ∷ z ∷ xs ≡ 37 ∷ 50 ∷ z ∷ [] =
@@ -132,7 +132,7 @@ given-again q h e =
 
 -- ---- and the guard gives such a path again
 guard-again : (v : List ℕ) → has_dot_segment (47 ∷ 47 ∷ v) ≡ false → guard (dots (47 ∷ 46 ∷ 47 ∷ 47 ∷ v)) false ≡ 47 ∷ 46 ∷ 47 ∷ 47 ∷ v
-guard-again v h = ap (λ t. guard t false) (dot_in_front (47 ∷ v) ∙ no_dots-same (47 ∷ 47 ∷ v) h)
+guard-again v h = ap (λ t. guard t false) (dot_before (47 ∷ v) ∙ no_dots-same (47 ∷ 47 ∷ v) h)
 
 module _ (s : Tests) (k : IsSpec s) (p : List ℕ) (w : whole_triplets p ≡ true) where
   normal-pieces : pieces 47 (pct s p) ≡ map (pct s) (pieces 47 p)
@@ -162,7 +162,7 @@ module _ (s : Tests) (k : IsSpec s) (p : List ℕ) (w : whole_triplets p ≡ tru
       let dot : pct s d ≡ 46 ∷ [] = one_dot-normal s d (dot-is_one d b.0 (of-not (is_two_dots d) b.1)) in
       let normal : pct s p ≡ 47 ∷ 46 ∷ 47 ∷ 47 ∷ pct s v =
       ap (pct s) text ∙ (normal_plain s as_it_is 47 (d ++ 47 ∷ 47 ∷ v) refl
-      ∙ ap (λ t. 47 ∷ t) (pct_mark s 47 d (47 ∷ v) slash
+      ∙ ap (λ t. 47 ∷ t) (pct_delimiter s 47 d (47 ∷ v) slash
       ∙ (ap (λ t. t ++ 47 ∷ pct s (47 ∷ v)) dot ∙ ap (λ t. 46 ∷ 47 ∷ t) (normal_plain s as_it_is 47 v refl)))) in
       let cut : pieces 47 p ≡ [] ∷ d ∷ [] ∷ pieces 47 v =
       ap (pieces 47) text ∙ ap (λ ps. [] ∷ ps) (pieces-slash d (47 ∷ v) (dot_segment-lacks d b.0)) in
@@ -225,13 +225,13 @@ module _ (s : Tests) (k : IsSpec s) (p : List ℕ) (w : whole_triplets p ≡ tru
       ] refl
 
 -- ---- the first two segments, cut off
-pub one-segment : (t : List ℕ) → behind 47 t ≡ None → is_guard_alone (pieces 47 t) ≡ false
+pub one-segment : (t : List ℕ) → after 47 t ≡ None → is_guard_alone (pieces 47 t) ≡ false
 one-segment t e = ap is_guard_alone (pieces_cut 47 t ∙ ap (λ o. before 47 t ∷ more_pieces 47 o) e)
 
-cut-off : (t r : List ℕ) → behind 47 t ≡ Some r → pieces 47 t ≡ before 47 t ∷ pieces 47 r
+cut-off : (t r : List ℕ) → after 47 t ≡ Some r → pieces 47 t ≡ before 47 t ∷ pieces 47 r
 cut-off t r e = pieces_cut 47 t ∙ ap (λ o. before 47 t ∷ more_pieces 47 o) e
 
-pub two-segments : (t r : List ℕ) → behind 47 t ≡ Some r → behind 47 r ≡ None → is_guard_alone (pieces 47 t) ≡ false
+pub two-segments : (t r : List ℕ) → after 47 t ≡ Some r → after 47 r ≡ None → is_guard_alone (pieces 47 t) ≡ false
 two-segments t r e f =
     ap is_guard_alone (cut-off t r e ∙ ap (λ ps. before 47 t ∷ ps) (pieces_cut 47 r ∙ ap (λ o. before 47 r ∷ more_pieces 47 o) f))
     ∙ never (is_empty (before 47 t)) (is_dot_segment (before 47 r) && not (is_two_dots (before 47 r)))
@@ -248,7 +248,7 @@ slash-first (x ∷ xs) =
     elim (x == 47) as (λ b. is_after_slash (cond b ([] ∷ pieces 47 xs) (onto x (pieces 47 xs)))
     ≡ b) [ true ↦ ap (λ ps. is_after_slash ([] ∷ ps)) p.whole | false ↦ ap (λ ps. is_after_slash (onto x ps)) p.whole ]
 
-pub more-segments : (t r u : List ℕ) → behind 47 t ≡ Some r → behind 47 r ≡ Some u
+pub more-segments : (t r u : List ℕ) → after 47 t ≡ Some r → after 47 r ≡ Some u
     → is_guard_alone (pieces 47 t) ≡ (is_empty (before 47 t) && (is_dot_segment (before 47 r) && not (is_two_dots (before 47 r)))
     && (starts_with_slash u && not (has_dot_segment u)))
 more-segments t r u e f =

@@ -10,7 +10,7 @@ use Rattle.iri_grammar.proofs.CutLaws.{both}
 use Rattle.iri_grammar.specs.Parts.{Parts}
 use Rattle.iri_percent.specs.Units.{octets, two_digits, whole_triplets}
 use Rattle.iri_percent.specs.NormalLaws.{decoded}
-use Rattle.iri_percent.proofs.SeamLaws.{whole-behind}
+use Rattle.iri_percent.proofs.SeamLaws.{whole-after}
 use Rattle.iri_percent.specs.declared.canon_mode.CanonMode.{CanonMode}
 use Rattle.iri_resolve.specs.Changes.{is_small_digit, with_capital_digit, with_character, with_decoded}
 use Rattle.iri_resolve.specs.Steps.{step_in, onward, replayed_in}
@@ -59,7 +59,7 @@ whole_percent = refl
 pub not-whole : (a r : List ℕ) → whole_triplets r ≡ false → whole_triplets (a ++ r) ≡ false
 not-whole a r h =
     elim (whole_triplets (a ++ r)) as (λ b. whole_triplets (a ++ r) ≡ b
-    → b ≡ false) [ true ↦ λ e. let no : true ≡ false = sym (whole-behind a r e) ∙ h in cc | false ↦ λ _. refl ] refl
+    → b ≡ false) [ true ↦ λ e. let no : true ≡ false = sym (whole-after a r e) ∙ h in cc | false ↦ λ _. refl ] refl
 
 pub whole-append : (a r : List ℕ) → whole_triplets a ≡ true → whole_triplets r ≡ true → whole_triplets (a ++ r) ≡ true
 unfolding whole_triplets

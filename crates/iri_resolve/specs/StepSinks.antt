@@ -11,10 +11,10 @@ ListPuts old steps new = new ≡ old ++ steps
 
 -- the list with the first ones of the steps at its end
 pub record ListHalts (old steps new : List Step) : Type 0 where
-  pub front : List Step
+  pub prefix : List Step
   pub rest : List Step
-  pub split : front ++ rest ≡ steps
-  pub taken : new ≡ old ++ front
+  pub split : prefix ++ rest ≡ steps
+  pub taken : new ≡ old ++ prefix
 
 -- the count of stops of a sink that doesn't count them: it is where it stays
 abbrev pub uncounted : ℕ

@@ -2,7 +2,7 @@
 ghost use Rattle.std.specs.Prelude.{◌≡◌, ◌∷◌, [], ◌<◌, ◌≤◌, ◌++◌, IfOk, None, OnOk, length, string_bytes, true};
 ghost use Rattle.iri_grammar.specs.Authority.{is_authority, authority_parts, recompose_authority, userinfo_text};
 ghost use Rattle.iri_grammar.specs.Components.{if_there};
-ghost use Rattle.iri_grammar.specs.Cut.{marked};
+ghost use Rattle.iri_grammar.specs.Cut.{delimited};
 ghost use Rattle.iri_grammar.specs.OptionalSlices.{now_of};
 ghost use Rattle.iri_normal.specs.Resolver.{bytes_of};
 ghost use Rattle.iri_resolve.specs.inside.ChangeOf.{change_of};
@@ -86,7 +86,7 @@ fn push_userinfo(text: &mut String, userinfo: Option<&str>) -> Result<(), AllocE
 
 // The port and the colon before it, where it stands.
 fn push_port(text: &mut String, port: Option<&str>) -> Result<(), AllocError>
-    ensures { OnOk result (string_bytes text.new ≡ string_bytes text.old ++ marked colon (now_of port.entry)) }
+    ensures { OnOk result (string_bytes text.new ≡ string_bytes text.old ++ delimited colon (now_of port.entry)) }
 {
     let Some(port) = port else {
         return Ok(());

@@ -114,12 +114,12 @@ fn a_slice(rt: HostRuntime) -> Result<(), Fail> {
 // Whether a reference against a base is resolved to this text, and put into this normal form.
 fn is_resolved<S: Spec>(
     rt: &HostRuntime,
-    front: &str,
+    prefix: &str,
     text: &str,
     plain: &str,
     normal: &str,
 ) -> Result<bool, Fail> {
-    let resolved = reference::<S>(text)?.resolve_against(base::<S>(front)?);
+    let resolved = reference::<S>(text)?.resolve_against(base::<S>(prefix)?);
     let written = resolved.try_to_string(rt.alloc())?;
     let normalized = resolved.and_normalize().try_to_string(rt.alloc())?;
     Ok(written.as_str() == plain && normalized.as_str() == normal)
@@ -127,7 +127,7 @@ fn is_resolved<S: Spec>(
 
 #[test]
 fn resolved_texts(rt: HostRuntime) -> Result<(), Fail> {
-    for (front, text, plain, normal) in [
+    for (prefix, text, plain, normal) in [
         (
             "http://a/b/c/d;p?q",
             "",
@@ -178,7 +178,7 @@ fn resolved_texts(rt: HostRuntime) -> Result<(), Fail> {
         ),
     ] {
         assert!(rt;
-            is_resolved::<UriSpec>(&rt, front, text, plain, normal)?,
+            is_resolved::<UriSpec>(&rt, prefix, text, plain, normal)?,
             "at {text}"
         );
     }

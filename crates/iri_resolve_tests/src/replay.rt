@@ -21,11 +21,15 @@ fn target<S: Spec>(alloc: Global, reference: &str) -> Result<Target<S>, Fail> {
     Ok(FixedBaseResolver::new(base).target(alloc, reference)?)
 }
 
-fn push_marked(text: &mut String, mark: &str, part: Option<&str>) -> Result<(), AllocError> {
+fn push_delimited(
+    text: &mut String,
+    delimiter: &str,
+    part: Option<&str>,
+) -> Result<(), AllocError> {
     let Some(part) = part else {
         return Ok(());
     };
-    text.push_str(mark)?;
+    text.push_str(delimiter)?;
     text.push_str(part)
 }
 
@@ -33,10 +37,10 @@ fn push_marked(text: &mut String, mark: &str, part: Option<&str>) -> Result<(), 
 fn text_of<S: Spec>(alloc: Global, target: &Target<S>) -> Result<String, AllocError> {
     let mut text = String::from_str(alloc, target.scheme())?;
     text.push_str(":")?;
-    push_marked(&mut text, "//", target.authority())?;
+    push_delimited(&mut text, "//", target.authority())?;
     text.push_str(target.path())?;
-    push_marked(&mut text, "?", target.query())?;
-    push_marked(&mut text, "#", target.fragment())?;
+    push_delimited(&mut text, "?", target.query())?;
+    push_delimited(&mut text, "#", target.fragment())?;
     Ok(text)
 }
 
@@ -256,7 +260,7 @@ fn places_count_what_is_in_normal_form(rt: HostRuntime) -> Result<(), Fail> {
 }
 
 #[test]
-fn dot_segments_go_behind_the_triplets(rt: HostRuntime) -> Result<(), Fail> {
+fn dot_segments_go_after_the_triplets(rt: HostRuntime) -> Result<(), Fail> {
     let wanted = [
         Step::Decode(Part::Path, 1),
         Step::Decode(Part::Path, 3),
@@ -320,7 +324,7 @@ fn after_all(alloc: Global, reference: &str, steps: &[Step]) -> Result<String, F
     Ok(text_of(alloc, &after)?)
 }
 
-// A step of one part behind a step of another, which may have changed its length.
+// A step of one part after a step of another, which may have changed its length.
 #[test]
 fn steps_of_all_parts_by_turns(rt: HostRuntime) -> Result<(), Fail> {
     let steps = [
@@ -342,9 +346,9 @@ fn steps_of_all_parts_by_turns(rt: HostRuntime) -> Result<(), Fail> {
     Ok(())
 }
 
-// The front, and the unit so many times.
-fn repeated(alloc: Global, front: &str, unit: &str, n: usize) -> Result<String, AllocError> {
-    let mut text = String::from_str(alloc, front)?;
+// The prefix, and the unit so many times.
+fn repeated(alloc: Global, prefix: &str, unit: &str, n: usize) -> Result<String, AllocError> {
+    let mut text = String::from_str(alloc, prefix)?;
     for _ in 0..n {
         text.push_str(unit)?;
     }

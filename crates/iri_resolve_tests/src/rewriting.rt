@@ -69,7 +69,7 @@ pub(crate) struct Wanted<'a> {
     pub(crate) preserving: &'a [u8],
 }
 
-// What is written in front of a path.
+// What is written before a path.
 pub(crate) fn head(authority_stands: bool) -> &'static str {
     if authority_stands { "s://h" } else { "s:" }
 }
@@ -124,12 +124,12 @@ fn base_text(alloc: Global, path: &str, authority_stands: bool) -> Result<String
 // How many forms were compared, or none where one isn't the wanted one. What is no base or no reference is passed over.
 fn compared(
     alloc: Global,
-    front: &str,
+    prefix: &str,
     reference: &str,
     authority_stands: bool,
     wanted: Wanted<'_>,
 ) -> Result<Option<usize>, AllocError> {
-    let base = base_text(alloc, front, authority_stands)?;
+    let base = base_text(alloc, prefix, authority_stands)?;
     let Ok(base) = UriAbsoluteStr::new(base.as_str()) else {
         return Ok(Some(0));
     };
@@ -152,7 +152,7 @@ pub(crate) fn is_path(path: &[u8], authority_stands: bool) -> bool {
     }
 }
 
-// A path cut behind each of its slashes, where what follows is a reference of its own, and not cut at all.
+// A path cut after each of its slashes, where what follows is a reference of its own, and not cut at all.
 pub(crate) fn compared_cuts(
     alloc: Global,
     path: &str,
@@ -168,11 +168,11 @@ pub(crate) fn compared_cuts(
         if bytes[i - 1] != b'/' || bytes[i] == b'/' {
             continue;
         }
-        let (Ok(front), Ok(rest)) = (str::from_utf8(&bytes[..i]), str::from_utf8(&bytes[i..]))
+        let (Ok(prefix), Ok(rest)) = (str::from_utf8(&bytes[..i]), str::from_utf8(&bytes[i..]))
         else {
             return Ok(None);
         };
-        match compared(alloc, front, rest, authority_stands, wanted)? {
+        match compared(alloc, prefix, rest, authority_stands, wanted)? {
             Some(more) => count = count.saturating_add(more),
             None => return Ok(None),
         }
@@ -242,18 +242,18 @@ fn joins_without_authority(rt: HostRuntime) -> Result<(), Fail> {
 
 // Every join of five pieces that may follow an authority.
 #[test]
-fn joins_behind_an_authority(rt: HostRuntime) -> Result<(), Fail> {
+fn joins_after_an_authority(rt: HostRuntime) -> Result<(), Fail> {
     let count = compared_joins(rt.alloc(), true)?.unwrap_or(0);
     assert!(rt; count > 50_000, "{count} forms were compared");
     Ok(())
 }
 
 // Whether a path in two pieces, of a base and of a reference, is put into normal form as it is rewritten.
-fn is_rewritten(alloc: Global, front: &str, rest: &str) -> Result<bool, AllocError> {
-    let mut path = String::from_str(alloc, front)?;
+fn is_rewritten(alloc: Global, prefix: &str, rest: &str) -> Result<bool, AllocError> {
+    let mut path = String::from_str(alloc, prefix)?;
     path.push_str(rest)?;
     let want = guarded(alloc, path.as_bytes(), true)?;
-    let text = base_text(alloc, front, true)?;
+    let text = base_text(alloc, prefix, true)?;
     let (Ok(base), Ok(reference)) = (
         UriAbsoluteStr::new(text.as_str()),
         UriReferenceStr::new(rest),
@@ -284,12 +284,12 @@ fn long_paths(rt: HostRuntime) -> Result<(), Fail> {
     Ok(())
 }
 
-// The same of a path taken whole, and cut behind a slash before half of it.
+// The same of a path taken whole, and cut after a slash before half of it.
 fn are_both_rewritten(alloc: Global, path: &str, cut: usize) -> Result<bool, AllocError> {
-    let (Some(front), Some(rest)) = (path.get(..cut), path.get(cut..)) else {
+    let (Some(prefix), Some(rest)) = (path.get(..cut), path.get(cut..)) else {
         return Ok(false);
     };
-    if !rest.as_bytes().starts_with(b"/") && !is_rewritten(alloc, front, rest)? {
+    if !rest.as_bytes().starts_with(b"/") && !is_rewritten(alloc, prefix, rest)? {
         return Ok(false);
     }
     is_rewritten(alloc, path, "")

@@ -14,7 +14,7 @@ fn dots_in(segment: &str) -> usize {
     0
 }
 
-// A segment more. Tells whether a slash stays behind it where it is the last one.
+// A segment more. Tells whether a slash stays after it where it is the last one.
 fn put<'a>(stack: &mut Vec<&'a str>, segment: &'a str) -> Result<bool, AllocError> {
     let dots = dots_in(segment);
     if dots == 0 {
@@ -46,7 +46,7 @@ fn stack_of<'a>(alloc: Global, path: &'a str) -> Result<Vec<&'a str>, AllocError
     Ok(stack)
 }
 
-// The text of segments behind a head, guarded where no authority stands.
+// The text of segments after a head, guarded where no authority stands.
 fn text_of(alloc: Global, stack: &[&str], authority_stands: bool) -> Result<Vec<u8>, AllocError> {
     let mut path = Vec::new(alloc);
     for (i, segment) in stack.iter().enumerate() {
@@ -165,7 +165,7 @@ fn short_texts_without_authority(rt: HostRuntime) -> Result<(), Fail> {
 }
 
 #[test]
-fn short_texts_behind_an_authority(rt: HostRuntime) -> Result<(), Fail> {
+fn short_texts_after_an_authority(rt: HostRuntime) -> Result<(), Fail> {
     let forms = compared_all(rt.alloc(), true)?;
     assert!(rt; forms > 30_000, "{forms} forms were compared");
     Ok(())

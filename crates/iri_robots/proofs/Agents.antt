@@ -6,9 +6,9 @@ use Rattle.std.specs.List.{prefix_len}
 use Rattle.std.specs.Str.{IsAscii, is_utf8, bytes_eq, str_eq_ignore_ascii_case}
 use Rattle.std.proofs.lemmas.Bool.Decides.{nat_tests}
 use Rattle.std.proofs.lemmas.Slice.Eq.{bytes_eq-Decides}
-use Rattle.iri_grammar.specs.Cut.{before, behind}
+use Rattle.iri_grammar.specs.Cut.{before, after}
 use Rattle.iri_robots.specs.FileLines.{FileLine, AgentLine, RuleLine, OtherLine, agent_of, is_token_char, keyed, parted, line_of}
-use Rattle.iri_robots.specs.FileLines.{line_of_text, trimmed, without_mark}
+use Rattle.iri_robots.specs.FileLines.{line_of_text, trimmed, without_byte_order_mark}
 
 nothing_ascii : IsAscii []
 nothing_ascii zero = omega arith
@@ -64,8 +64,8 @@ parted_ascii key (Some value) = keyed_ascii (trimmed key) (trimmed value)
 
 line_ascii : (line : List ℕ) → HasAsciiAgent (line_of line)
 line_ascii line =
-    let t = before 35 (without_mark line) in
-    either_ascii (is_utf8 line) (line_of_text t) OtherLine (parted_ascii (before 58 t) (behind 58 t)) tt
+    let t = before 35 (without_byte_order_mark line) in
+    either_ascii (is_utf8 line) (line_of_text t) OtherLine (parted_ascii (before 58 t) (after 58 t)) tt
 
 pub agent_of_line : (line a : List ℕ) → AgentLine a ≡ line_of line → IsAscii a
 agent_of_line line a h = subst HasAsciiAgent (sym h) (line_ascii line)

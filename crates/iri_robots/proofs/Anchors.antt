@@ -41,16 +41,16 @@ fits_prefix q s (star t q' s' f) = longer q' (42 ∷ q') s' t (fits_prefix q' s'
 fits_prefix q s (escaped l m q' s' e f) = longer q' (37 ∷ 50 ∷ l ∷ q') s' (m ∷ []) (fits_prefix q' s' f) (λ u g. filled_escape l m q' u e g)
 fits_prefix q s (same c q' s' h f) = longer q' (c ∷ q') s' (c ∷ []) (fits_prefix q' s' f) (λ u g. fill_same c q' u h g)
 
-front_fits : (q t r : List ℕ) → IsFilling q t → Fits false q (t ++ r)
-front_fits q t r nothing = ended r (λ e. cc)
-front_fits q t r (fill_star u q' s' f) = let P : List ℕ → Type 0 = λ x. Fits false (42 ∷ q') x in subst P (sym (append_assoc u s' r)) (star
-    u q' (s' ++ r) (front_fits q' s' r f))
-front_fits q t r (escaped_star q' s' f) = escaped 65 42 q' (s' ++ r) star_escape (front_fits q' s' r f)
-front_fits q t r (escaped_dollar q' s' f) = escaped 52 36 q' (s' ++ r) dollar_escape (front_fits q' s' r f)
-front_fits q t r (fill_same c q' s' h f) = same c q' (s' ++ r) h (front_fits q' s' r f)
+filled_fits : (q t r : List ℕ) → IsFilling q t → Fits false q (t ++ r)
+filled_fits q t r nothing = ended r (λ e. cc)
+filled_fits q t r (fill_star u q' s' f) = let P : List ℕ → Type 0 = λ x. Fits false (42 ∷ q') x in subst P (sym (append_assoc u s' r)) (star
+    u q' (s' ++ r) (filled_fits q' s' r f))
+filled_fits q t r (escaped_star q' s' f) = escaped 65 42 q' (s' ++ r) star_escape (filled_fits q' s' r f)
+filled_fits q t r (escaped_dollar q' s' f) = escaped 52 36 q' (s' ++ r) dollar_escape (filled_fits q' s' r f)
+filled_fits q t r (fill_same c q' s' h f) = same c q' (s' ++ r) h (filled_fits q' s' r f)
 
 pub prefix_fits : (q s : List ℕ) → HasFilledPrefix q s → Fits false q s
-prefix_fits q s k = let P : List ℕ → Type 0 = λ x. Fits false q x in subst P (sym k.split) (front_fits q k.prefix k.rest k.filled)
+prefix_fits q s k = let P : List ℕ → Type 0 = λ x. Fits false q x in subst P (sym k.split) (filled_fits q k.prefix k.rest k.filled)
 
 -- ---- the `$` at the end
 
@@ -90,9 +90,9 @@ matches_anchored b p q s e r =
     let k = filled_as (q ++ 36 ∷ []) q s true (anchored_end q) (without_end q) (some_end q 36) in
     (λ h. subst P (sym e) (k.0 (fits_filling q s (r.0 h))), λ m. r.1 (filling_fits q s (k.1 (subst P e m))))
 
-pub matches_front : (b : Bool) (p q s : List ℕ) (x : ℕ) → p ≡ q ++ x ∷ [] → (x == 36) ≡ false → (b ≡ true) ↔ Fits false p s
+pub matches_prefix : (b : Bool) (p q s : List ℕ) (x : ℕ) → p ≡ q ++ x ∷ [] → (x == 36) ≡ false → (b ≡ true) ↔ Fits false p s
     → (b ≡ true) ↔ Matches p s
-matches_front b p q s x e n r =
+matches_prefix b p q s x e n r =
     let P : List ℕ → Type 0 = λ y. Matches y s in
     let F : List ℕ → Type 0 = λ y. HasFilledPrefix y s in
     let k = filled_as (q ++ x ∷ []) (q ++ x ∷ []) s false (open_end q x n) (whole_end q x n) (some_end q x) in

@@ -10,10 +10,10 @@ use Rattle.std.proofs.lemmas.Slice.Eq.{bytes_eq-Decides}
 use Rattle.iri_robots.specs.Records.{FileRule}
 use Rattle.iri_robots.specs.Patterns.{is_anchored, without_anchor, IsFilledBy, Matches}
 use Rattle.iri_robots.specs.Allowed.{IsAmong, first, later as among_later, IsLongest, IsAllowed, robots_file, no_rule, by_rule}
-use Rattle.iri_robots.specs.Decided.{Piece, AnyText, Escape, Character, mark_of, piece_of, pieces, some_suffix, begins, fills, is_match}
+use Rattle.iri_robots.specs.Decided.{Piece, AnyText, Escape, Character, special_of, piece_of, pieces, some_suffix, begins, fills, is_match}
 use Rattle.iri_robots.specs.Decided.{matching, most_bytes, longest_allow, allow, is_allowed}
 use Rattle.iri_robots.specs.inside.Fits.{IsEscape, star_escape, dollar_escape, Fits, ended, escaped, same, IsSuffix, whole, later, NoEscape}
-use Rattle.iri_robots.proofs.Moves.{fits_end, fits_star, star_fits, FitsEscape, by_mark, by_triplet, fits_escape, triplet_fits, same_front}
+use Rattle.iri_robots.proofs.Moves.{fits_end, fits_star, star_fits, FitsEscape, by_special, by_triplet, fits_escape, triplet_fits, same_prefix}
 use Rattle.iri_robots.proofs.Anchors.{fits_filling, filling_fits, fits_prefix, prefix_fits}
 
 -- ---- tests of a text
@@ -104,7 +104,7 @@ unfolding fills
 tells_same a c ps q n e t s = (
   λ h. let k = begins_with c (fills a ps) s h in subst (λ x. Fits a (c ∷ q) x) (sym k.1) (same c q k.0 n ((t k.0).0 k.2)),
   λ f.
-      let k = same_front a c q s n e f in
+      let k = same_prefix a c q s n e f in
       subst (λ x. begins c (fills a ps) x ≡ true) (sym k.1) (begins_so c (fills a ps) k.0 ((t k.0).1 k.2)),
 )
 
@@ -122,7 +122,7 @@ escape_cases a l m ps q s e t (inr h) =
 
 escape_so : (a : Bool) (l m : ℕ) (ps : List Piece) (q s : List ℕ) → Tells a ps q → FitsEscape a l m q s
     → (begins m (fills a ps) s || begins 37 (begins 50 (begins l (fills a ps))) s) ≡ true
-escape_so a l m ps q s t (by_mark u e f) =
+escape_so a l m ps q s t (by_special u e f) =
     or_left _ _ (subst (λ x. begins m (fills a ps) x ≡ true) (sym e) (begins_so m (fills a ps) u ((t u).1 f)))
 escape_so a l m ps q s t (by_triplet u e f) =
     or_right _ _ (subst (λ x. begins 37 (begins 50 (begins l (fills a ps))) x ≡ true) (sym e)
@@ -163,48 +163,48 @@ short_escape c = record { none = λ l m rest i p. cc }
 shorter_escape : (c d : ℕ) → NoEscape (c ∷ d ∷ [])
 shorter_escape c d = record { none = λ l m rest i p. cc }
 
-pub data MarkCase (c d e : ℕ) : Option ℕ → Type 0 where
-  marks : (m : ℕ) → IsEscape e m → c ≡ 37 → d ≡ 50 → MarkCase c d e (Some m)
-  none_marks : ((q : List ℕ) → NoEscape (c ∷ d ∷ e ∷ q)) → MarkCase c d e None
+pub data SpecialCase (c d e : ℕ) : Option ℕ → Type 0 where
+  specials : (m : ℕ) → IsEscape e m → c ≡ 37 → d ≡ 50 → SpecialCase c d e (Some m)
+  none_specials : ((q : List ℕ) → NoEscape (c ∷ d ∷ e ∷ q)) → SpecialCase c d e None
 
-other_front : (c d e : ℕ) → (c ≢ 37) ⊎ (d ≢ 50) → (q : List ℕ) → NoEscape (c ∷ d ∷ e ∷ q)
-other_front c d e (inl n) q = record { none = λ l m rest i p. n cc }
-other_front c d e (inr n) q = record { none = λ l m rest i p. n cc }
+other_prefix : (c d e : ℕ) → (c ≢ 37) ⊎ (d ≢ 50) → (q : List ℕ) → NoEscape (c ∷ d ∷ e ∷ q)
+other_prefix c d e (inl n) q = record { none = λ l m rest i p. n cc }
+other_prefix c d e (inr n) q = record { none = λ l m rest i p. n cc }
 
-letter_case : (c d e : ℕ) → c ≡ 37 → d ≡ 50 → MarkCase c d e (cond (e == 65) (Some 42) (cond (e == 52) (Some 36) None))
+letter_case : (c d e : ℕ) → c ≡ 37 → d ≡ 50 → SpecialCase c d e (cond (e == 65) (Some 42) (cond (e == 52) (Some 36) None))
 letter_case c d e h k =
-    let P : Bool → Type 0 = λ b. MarkCase c d e (cond b (Some 42) (cond (e == 52) (Some 36) None)) in
-    let Q : Bool → Type 0 = λ b. MarkCase c d e (cond b (Some 36) None) in
+    let P : Bool → Type 0 = λ b. SpecialCase c d e (cond b (Some 42) (cond (e == 52) (Some 36) None)) in
+    let Q : Bool → Type 0 = λ b. SpecialCase c d e (cond b (Some 36) None) in
     elim (eqb_tells e 65) [
-      | inl x ↦ subst P (sym x.0) (marks 42 (subst (λ l. IsEscape l 42) (sym x.1) star_escape) h k)
+      | inl x ↦ subst P (sym x.0) (specials 42 (subst (λ l. IsEscape l 42) (sym x.1) star_escape) h k)
       | inr x ↦ subst P (sym x.0) (elim (eqb_tells e 52) [
-        | inl y ↦ subst Q (sym y.0) (marks 36 (subst (λ l. IsEscape l 36) (sym y.1) dollar_escape) h k)
-        | inr y ↦ subst Q (sym y.0) (none_marks (λ q. record { none = λ l m rest i p. other_letter e l m x.1 y.1 i cc }))
+        | inl y ↦ subst Q (sym y.0) (specials 36 (subst (λ l. IsEscape l 36) (sym y.1) dollar_escape) h k)
+        | inr y ↦ subst Q (sym y.0) (none_specials (λ q. record { none = λ l m rest i p. other_letter e l m x.1 y.1 i cc }))
       ])
     ]
 
-mark_case : (c d e : ℕ) → MarkCase c d e (mark_of c d e)
-unfolding mark_of
-mark_case c d e =
+special_case : (c d e : ℕ) → SpecialCase c d e (special_of c d e)
+unfolding special_of
+special_case c d e =
     let letter = cond (e == 65) (Some 42) (cond (e == 52) (Some 36) None) in
-    let P : Bool → Type 0 = λ b. MarkCase c d e (cond (b && d == 50) letter None) in
-    let Q : Bool → Type 0 = λ b. MarkCase c d e (cond b letter None) in
+    let P : Bool → Type 0 = λ b. SpecialCase c d e (cond (b && d == 50) letter None) in
+    let Q : Bool → Type 0 = λ b. SpecialCase c d e (cond b letter None) in
     elim (eqb_tells c 37) [
       | inl x ↦ subst P (sym x.0) (elim (eqb_tells d 50) [
         | inl y ↦ subst Q (sym y.0) (letter_case c d e x.1 y.1)
-        | inr y ↦ subst Q (sym y.0) (none_marks (other_front c d e (inr y.1)))
+        | inr y ↦ subst Q (sym y.0) (none_specials (other_prefix c d e (inr y.1)))
       ])
-      | inr x ↦ subst P (sym x.0) (none_marks (other_front c d e (inl x.1)))
+      | inr x ↦ subst P (sym x.0) (none_specials (other_prefix c d e (inl x.1)))
     ]
 
-three_by : (a : Bool) (c d e : ℕ) (q : List ℕ) (mark : Option ℕ) → MarkCase c d e mark → Tells a (pieces q) q
+three_by : (a : Bool) (c d e : ℕ) (q : List ℕ) (special : Option ℕ) → SpecialCase c d e special → Tells a (pieces q) q
     → Tells a (pieces (d ∷ e ∷ q)) (d ∷ e ∷ q)
-    → Tells a (elim mark [ Some m ↦ Escape e m ∷ pieces q | None ↦ piece_of c ∷ pieces (d ∷ e ∷ q) ]) (c ∷ d ∷ e ∷ q)
-three_by a c d e q mark (marks m i h k) t u =
+    → Tells a (elim special [ Some m ↦ Escape e m ∷ pieces q | None ↦ piece_of c ∷ pieces (d ∷ e ∷ q) ]) (c ∷ d ∷ e ∷ q)
+three_by a c d e q special (specials m i h k) t u =
     let P : ℕ → Type 0 = λ x. Tells a (Escape e m ∷ pieces q) (x ∷ d ∷ e ∷ q) in
     let Q : ℕ → Type 0 = λ x. Tells a (Escape e m ∷ pieces q) (37 ∷ x ∷ e ∷ q) in
     subst P (sym h) (subst Q (sym k) (tells_escape a e m (pieces q) q i t))
-three_by a c d e q mark (none_marks n) t u = tells_piece a c (pieces (d ∷ e ∷ q)) (d ∷ e ∷ q) (n q) u
+three_by a c d e q special (none_specials n) t u = tells_piece a c (pieces (d ∷ e ∷ q)) (d ∷ e ∷ q) (n q) u
 
 tells_pieces : (a : Bool) (q : List ℕ) → Tells a (pieces q) q
 unfolding pieces
@@ -213,7 +213,7 @@ tells_pieces a (c ∷ []) = tells_piece a c [] [] (short_escape c) (tells_end a)
 tells_pieces a (c ∷ d ∷ []) =
     tells_piece a c (piece_of d ∷ []) (d ∷ []) (shorter_escape c d) (tells_piece a d [] [] (short_escape d) (tells_end a))
 tells_pieces a (c ∷ d ∷ e ∷ q) =
-    three_by a c d e q (mark_of c d e) (mark_case c d e) (tells_pieces a q) (tells_pieces a (d ∷ e ∷ q))
+    three_by a c d e q (special_of c d e) (special_case c d e) (tells_pieces a q) (tells_pieces a (d ∷ e ∷ q))
 
 filled : (a : Bool) (q s : List ℕ) → Fits a q s ↔ IsFilledBy a q s
 filled true q s = (fits_filling q s, filling_fits q s)
@@ -232,13 +232,13 @@ match_is (c ∷ p) s =
 among_more : (test : FileRule → Bool) (r x : FileRule) (rules : List FileRule) (b : Bool) → test x ≡ b
     → IsAmong r (cond b (x ∷ filter test rules) (filter test rules)) → (IsAmong r (filter test rules) → IsAmong r rules × (test r ≡ true))
     → IsAmong r (x ∷ rules) × (test r ≡ true)
-among_more test r x rules true e k h = front (x ∷ filter test rules) refl k
+among_more test r x rules true e k h = prefix (x ∷ filter test rules) refl k
   where
-    front : (l : List FileRule) → l ≡ x ∷ filter test rules → IsAmong r l → IsAmong r (x ∷ rules) × (test r ≡ true)
-    front l i (first rs) =
+    prefix : (l : List FileRule) → l ≡ x ∷ filter test rules → IsAmong r l → IsAmong r (x ∷ rules) × (test r ≡ true)
+    prefix l i (first rs) =
         let n : r ≡ x = cc in
         (subst (λ y. IsAmong r (y ∷ rules)) n (first rules), ap test n ∙ e)
-    front l i (among_later o rs a) =
+    prefix l i (among_later o rs a) =
         let n : rs ≡ filter test rules = cc in
         let m = h (subst (λ y. IsAmong r y) n a) in
         (among_later x rules m.0, m.1)

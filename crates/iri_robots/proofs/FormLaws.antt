@@ -4,11 +4,11 @@ use Rattle.iri_grammar.specs.Classes.{uri_tests}
 use Rattle.iri_percent.specs.Mapping.{mapped}
 use Rattle.iri_percent.specs.Triplets.{normal, as_it_is}
 use Rattle.iri_percent.proofs.MapTexts.{mapped-append, mapped-low}
-use Rattle.iri_percent.proofs.MarkLaws.{normal_mark}
+use Rattle.iri_percent.proofs.DelimiterLaws.{normal_delimiter}
 use Rattle.iri_robots.specs.Compared.{compared}
 
-pub compared_mark : (p q : List ℕ) → compared (p ++ 63 ∷ q) ≡ compared p ++ 63 ∷ compared q
+pub compared_delimiter : (p q : List ℕ) → compared (p ++ 63 ∷ q) ≡ compared p ++ 63 ∷ compared q
 unfolding compared
-compared_mark p q =
+compared_delimiter p q =
     ap (normal uri_tests as_it_is) (mapped-append p (63 ∷ q) ∙ ap (λ z. mapped p ++ z) (mapped-low 63 q refl))
-    ∙ normal_mark uri_tests as_it_is 63 (mapped p) (mapped q) (record { percent = refl; digit = refl })
+    ∙ normal_delimiter uri_tests as_it_is 63 (mapped p) (mapped q) (record { percent = refl; digit = refl })

@@ -21,7 +21,7 @@ use Rattle.iri_percent.proofs.MapTexts.{octet_of}
 use Rattle.iri_percent.proofs.NormalLaws.{normal_nil, normal_plain, normal_decoded, normal_kept}
 use Rattle.iri_percent.proofs.UnitLaws.{Spells, none, more, octets_triplet}
 use Rattle.iri_robots.specs.Compared.{compared}
-use Rattle.iri_robots.specs.inside.Fronts.{IsFront}
+use Rattle.iri_robots.specs.inside.Prefixes.{IsPrefix}
 use Rattle.iri_robots.specs.declared.compared.Written.TheVariants.{Char, Triplet}
 
 -- ---- what is decoded: the first octet alone tells it
@@ -143,20 +143,20 @@ compared_stray xs h =
     ∙ ap (all_written uri_tests as_it_is) (units_stray t (no_digits xs h))
     ∙ ap (λ z. 37 ∷ z) (sym (normal-by_bytes uri_tests as_it_is t))
 
--- ---- fronts
-pub front_low : (t : List ℕ) → 0 < length t → get_or t 0 0 < 128 → (get_or t 0 0 == 37) ≡ false → IsFront t (Char (get_or t 0 0)) 1
-front_low [] s l n = absurd (omega arith)
-front_low (x ∷ xs) s l n = record {
+-- ---- prefixes
+pub prefix_low : (t : List ℕ) → 0 < length t → get_or t 0 0 < 128 → (get_or t 0 0 == 37) ≡ false → IsPrefix t (Char (get_or t 0 0)) 1
+prefix_low [] s l n = absurd (omega arith)
+prefix_low (x ∷ xs) s l n = record {
   text = compared_low x xs l n ∙ ap (λ z. z ++ compared xs) (sym (encode_ascii x l));
   within = omega arith;
   some = omega arith;
   digits = tt;
 }
 
-pub front_past : (t : List ℕ) (a b : ℕ) → 0 < length t → 128 ≤ get_or t 0 0 → get_or t 0 0 < 256 → a ≡ capital_hex (get_or t 0 0 / 16)
-    → b ≡ capital_hex (get_or t 0 0 % 16) → IsFront t (Triplet a b) 1
-front_past [] a b s h l e d = absurd (omega arith)
-front_past (x ∷ xs) a b s h l e d = record {
+pub prefix_past : (t : List ℕ) (a b : ℕ) → 0 < length t → 128 ≤ get_or t 0 0 → get_or t 0 0 < 256 → a ≡ capital_hex (get_or t 0 0 / 16)
+    → b ≡ capital_hex (get_or t 0 0 % 16) → IsPrefix t (Triplet a b) 1
+prefix_past [] a b s h l e d = absurd (omega arith)
+prefix_past (x ∷ xs) a b s h l e d = record {
   text = compared_past x xs h l ∙ ap (λ z. 37 ∷ z ∷ capital_hex (x % 16) ∷ compared xs) (sym e)
       ∙ ap (λ z. 37 ∷ a ∷ z ∷ compared xs) (sym d);
   within = omega arith;
@@ -171,25 +171,25 @@ front_past (x ∷ xs) a b s h l e d = record {
         below n h = grind (arith, nat_tests)
 
 -- no triplet begins
-pub front_stray : (t : List ℕ) → 0 < length t → get_or t 0 0 ≡ 37 → two_digits (drop 1 t) ≡ false → IsFront t (Char 37) 1
-front_stray [] s e h = absurd (omega arith)
-front_stray (x ∷ xs) s e h = subst (λ y. IsFront (y ∷ xs) (Char 37) 1) (sym e) (record {
+pub prefix_stray : (t : List ℕ) → 0 < length t → get_or t 0 0 ≡ 37 → two_digits (drop 1 t) ≡ false → IsPrefix t (Char 37) 1
+prefix_stray [] s e h = absurd (omega arith)
+prefix_stray (x ∷ xs) s e h = subst (λ y. IsPrefix (y ∷ xs) (Char 37) 1) (sym e) (record {
   text = compared_stray xs h ∙ ap (λ z. z ++ compared xs) (sym (encode_ascii 37 (omega arith)));
   within = omega arith;
   some = omega arith;
   digits = tt;
 })
 
-pub front_decoded : (t : List ℕ) (c : ℕ) → 3 ≤ length t → get_or t 0 0 ≡ 37 → is_ascii_hexdigit (get_or t 1 0) ≡ true
-    → is_ascii_hexdigit (get_or t 2 0) ≡ true → decoded uri_tests (octets t) ≡ Some c → IsFront t (Char c) 3
-front_decoded [] c s e p q h = absurd (omega arith)
-front_decoded (x ∷ []) c s e p q h = absurd (omega arith)
-front_decoded (x ∷ a ∷ []) c s e p q h = absurd (omega arith)
-front_decoded (x ∷ a ∷ b ∷ xs) c s e p q h = subst (λ y. IsFront (y ∷ a ∷ b ∷ xs) (Char c) 3) (sym e) (at
+pub prefix_decoded : (t : List ℕ) (c : ℕ) → 3 ≤ length t → get_or t 0 0 ≡ 37 → is_ascii_hexdigit (get_or t 1 0) ≡ true
+    → is_ascii_hexdigit (get_or t 2 0) ≡ true → decoded uri_tests (octets t) ≡ Some c → IsPrefix t (Char c) 3
+prefix_decoded [] c s e p q h = absurd (omega arith)
+prefix_decoded (x ∷ []) c s e p q h = absurd (omega arith)
+prefix_decoded (x ∷ a ∷ []) c s e p q h = absurd (omega arith)
+prefix_decoded (x ∷ a ∷ b ∷ xs) c s e p q h = subst (λ y. IsPrefix (y ∷ a ∷ b ∷ xs) (Char c) 3) (sym e) (at
     (decodes (octet a b) (octets xs) c (ap (decoded uri_tests) (sym (octets_triplet a b xs p q))
     ∙ ap (λ y. decoded uri_tests (octets (y ∷ a ∷ b ∷ xs))) (sym e) ∙ h)))
   where
-    at : Decodes (octet a b) c → IsFront (37 ∷ a ∷ b ∷ xs) (Char c) 3
+    at : Decodes (octet a b) c → IsPrefix (37 ∷ a ∷ b ∷ xs) (Char c) 3
     at d = record {
       text = compared_decoded a b xs p q d.free ∙ ap (λ z. encode_utf8 z ++ compared xs) d.same;
       within = omega arith;
@@ -197,13 +197,13 @@ front_decoded (x ∷ a ∷ b ∷ xs) c s e p q h = subst (λ y. IsFront (y ∷ a
       digits = tt;
     }
 
-pub front_kept : (t : List ℕ) → 3 ≤ length t → get_or t 0 0 ≡ 37 → is_ascii_hexdigit (get_or t 1 0) ≡ true
+pub prefix_kept : (t : List ℕ) → 3 ≤ length t → get_or t 0 0 ≡ 37 → is_ascii_hexdigit (get_or t 1 0) ≡ true
     → is_ascii_hexdigit (get_or t 2 0) ≡ true → decoded uri_tests (octets t) ≡ None
-    → IsFront t (Triplet (to_ascii_uppercase (get_or t 1 0)) (to_ascii_uppercase (get_or t 2 0))) 3
-front_kept [] s e p q h = absurd (omega arith)
-front_kept (x ∷ []) s e p q h = absurd (omega arith)
-front_kept (x ∷ a ∷ []) s e p q h = absurd (omega arith)
-front_kept (x ∷ a ∷ b ∷ xs) s e p q h = subst (λ y. IsFront (y ∷ a ∷ b ∷ xs) (Triplet (to_ascii_uppercase a) (to_ascii_uppercase b)) 3) (sym
+    → IsPrefix t (Triplet (to_ascii_uppercase (get_or t 1 0)) (to_ascii_uppercase (get_or t 2 0))) 3
+prefix_kept [] s e p q h = absurd (omega arith)
+prefix_kept (x ∷ []) s e p q h = absurd (omega arith)
+prefix_kept (x ∷ a ∷ []) s e p q h = absurd (omega arith)
+prefix_kept (x ∷ a ∷ b ∷ xs) s e p q h = subst (λ y. IsPrefix (y ∷ a ∷ b ∷ xs) (Triplet (to_ascii_uppercase a) (to_ascii_uppercase b)) 3) (sym
     e) (record {
       text = compared_kept a b xs p q (keeps (octet a b) (octets xs) (ap (decoded uri_tests) (sym (octets_triplet a b xs p q))
           ∙ ap (λ y. decoded uri_tests (octets (y ∷ a ∷ b ∷ xs))) (sym e) ∙ h));

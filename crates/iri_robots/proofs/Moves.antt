@@ -1,7 +1,7 @@
 -- How the search for a filling moves on.
 use Rattle.std.proofs.Common.{◌≡◌, ◌≢◌, ℕ, ◌<◌, ◌≤◌, Bool, true, List, [], ◌∷◌, ◌++◌, length, refl, sym, ◌∙◌, ap, subst, arith}
 use Rattle.iri_robots.specs.inside.Fits.{IsEscape, star_escape, dollar_escape, Fits, ended, star, escaped, same, IsSuffix, whole, later}
-use Rattle.iri_robots.specs.inside.Fits.{IsBehind, behind, FitsBehind, MovesOn, StopsAtStar, NoEscape, FitsNot}
+use Rattle.iri_robots.specs.inside.Fits.{IsAfter, after, FitsAfter, MovesOn, StopsAtStar, NoEscape, FitsNot}
 
 -- ---- suffixes
 
@@ -17,24 +17,24 @@ pub suffix_split : (r s : List ℕ) → IsSuffix r s → (t : List ℕ) × (s �
 suffix_split r s (whole s') = ([], refl)
 suffix_split r s (later x r' s' k) = let h = suffix_split r' s' k in (x ∷ h.0, ap (λ l. x ∷ l) h.1)
 
-pub behind_is_suffix : (r s : List ℕ) → IsBehind r s → IsSuffix r s
-behind_is_suffix r s (behind x r' s' k) = later x r' s' k
+pub after_is_suffix : (r s : List ℕ) → IsAfter r s → IsSuffix r s
+after_is_suffix r s (after x r' s' k) = later x r' s' k
 
-pub behind_more : (x : ℕ) (r s : List ℕ) → IsBehind r s → IsBehind r (x ∷ s)
-behind_more x r s h = behind x r s (behind_is_suffix r s h)
+pub after_more : (x : ℕ) (r s : List ℕ) → IsAfter r s → IsAfter r (x ∷ s)
+after_more x r s h = after x r s (after_is_suffix r s h)
 
-pub behind_suffix : (r s t : List ℕ) → IsBehind r s → IsSuffix s t → IsBehind r t
-behind_suffix r s t h (whole t') = h
-behind_suffix r s t h (later x s' t' k) = behind_more x r t' (behind_suffix r s' t' h k)
+pub after_suffix : (r s t : List ℕ) → IsAfter r s → IsSuffix s t → IsAfter r t
+after_suffix r s t h (whole t') = h
+after_suffix r s t h (later x s' t' k) = after_more x r t' (after_suffix r s' t' h k)
 
-pub tail_behind : (y : ℕ) (r s : List ℕ) → IsSuffix (y ∷ r) s → IsBehind r s
-tail_behind y r s h = behind_suffix r (y ∷ r) s (behind y r r (whole r)) h
+pub tail_after : (y : ℕ) (r s : List ℕ) → IsSuffix (y ∷ r) s → IsAfter r s
+tail_after y r s h = after_suffix r (y ∷ r) s (after y r r (whole r)) h
 
-pub behind_rest : (x : ℕ) (r s : List ℕ) → IsBehind r (x ∷ s) → IsSuffix r s
-behind_rest x r s (behind x' r' s' k) = k
+pub after_rest : (x : ℕ) (r s : List ℕ) → IsAfter r (x ∷ s) → IsSuffix r s
+after_rest x r s (after x' r' s' k) = k
 
-pub behind_tail : (x y : ℕ) (r s : List ℕ) → IsBehind (y ∷ r) (x ∷ s) → IsBehind r s
-behind_tail x y r s h = tail_behind y r s (behind_rest x (y ∷ r) s h)
+pub after_tail : (x y : ℕ) (r s : List ℕ) → IsAfter (y ∷ r) (x ∷ s) → IsAfter r s
+after_tail x y r s h = tail_after y r s (after_rest x (y ∷ r) s h)
 
 suffix_cases : (m x : ℕ) (t r s : List ℕ) → m ≢ x → r ≡ m ∷ t → IsSuffix r (x ∷ s) → IsSuffix r s
 suffix_cases m x t r s n e (whole s') = absurd (n (cc))
@@ -42,15 +42,15 @@ suffix_cases m x t r s n e (later x' r' s' k) = k
 
 -- ---- what a fit is made of
 
-pub data FitsFront (anchored : Bool) (c : ℕ) (q s : List ℕ) : Type 0 where
-  by_same : (t : List ℕ) → s ≡ c ∷ t → Fits anchored q t → FitsFront anchored c q s
+pub data FitsPrefix (anchored : Bool) (c : ℕ) (q s : List ℕ) : Type 0 where
+  by_same : (t : List ℕ) → s ≡ c ∷ t → Fits anchored q t → FitsPrefix anchored c q s
   by_escape : (l m : ℕ) (q' t : List ℕ) → IsEscape l m → c ≡ 37 → q ≡ 50 ∷ l ∷ q' → s ≡ m ∷ t → Fits anchored q' t
-      → FitsFront anchored c q s
+      → FitsPrefix anchored c q s
 
-pub fits_front : (a : Bool) (c : ℕ) (q s : List ℕ) → c ≢ 42 → Fits a (c ∷ q) s → FitsFront a c q s
-fits_front a c q s n (star t q' s' f) = absurd (n refl)
-fits_front a c q s n (escaped l m q' s' e f) = by_escape l m q' s' e refl refl refl f
-fits_front a c q s n (same c' q' s' h f) = by_same s' refl f
+pub fits_prefix : (a : Bool) (c : ℕ) (q s : List ℕ) → c ≢ 42 → Fits a (c ∷ q) s → FitsPrefix a c q s
+fits_prefix a c q s n (star t q' s' f) = absurd (n refl)
+fits_prefix a c q s n (escaped l m q' s' e f) = by_escape l m q' s' e refl refl refl f
+fits_prefix a c q s n (same c' q' s' h f) = by_same s' refl f
 
 pub fits_end : (a : Bool) (s : List ℕ) → Fits a [] s → a ≡ true → s ≡ []
 fits_end a s (ended s' h) e = h e
@@ -61,27 +61,27 @@ pub record FitsLater (a : Bool) (q s : List ℕ) : Type 0 where
   pub is_suffix : IsSuffix rest s
   pub fits : Fits a q rest
 
-star_front : (a : Bool) (c : ℕ) (q s : List ℕ) → c ≡ 42 → Fits a (c ∷ q) s → FitsLater a q s
-star_front a c q s n (star t q' s' f) = record { rest = s'; is_suffix = suffix_append t s'; fits = f }
-star_front a c q s n (escaped l m q' s' e f) = absurd (omega arith)
-star_front a c q s n (same c' q' s' h f) = absurd (h n)
+star_prefix : (a : Bool) (c : ℕ) (q s : List ℕ) → c ≡ 42 → Fits a (c ∷ q) s → FitsLater a q s
+star_prefix a c q s n (star t q' s' f) = record { rest = s'; is_suffix = suffix_append t s'; fits = f }
+star_prefix a c q s n (escaped l m q' s' e f) = absurd (omega arith)
+star_prefix a c q s n (same c' q' s' h f) = absurd (h n)
 
 pub fits_star : (a : Bool) (q s : List ℕ) → Fits a (42 ∷ q) s → FitsLater a q s
-fits_star a q s f = star_front a 42 q s refl f
+fits_star a q s f = star_prefix a 42 q s refl f
 
 pub star_fits : (a : Bool) (q r s : List ℕ) → IsSuffix r s → Fits a q r → Fits a (42 ∷ q) s
 star_fits a q r s h f = let k = suffix_split r s h in subst (λ x. Fits a (42 ∷ q) x) (sym k.1) (star k.0 q r f)
 
 pub data FitsEscape (a : Bool) (l m : ℕ) (q s : List ℕ) : Type 0 where
-  by_mark : (t : List ℕ) → s ≡ m ∷ t → Fits a q t → FitsEscape a l m q s
+  by_special : (t : List ℕ) → s ≡ m ∷ t → Fits a q t → FitsEscape a l m q s
   by_triplet : (t : List ℕ) → s ≡ 37 ∷ 50 ∷ l ∷ t → Fits a q t → FitsEscape a l m q s
 
-one_mark : (l m n : ℕ) → IsEscape l m → IsEscape l n → m ≡ n
-one_mark l m n star_escape star_escape = refl
-one_mark l m n dollar_escape dollar_escape = refl
+one_special : (l m n : ℕ) → IsEscape l m → IsEscape l n → m ≡ n
+one_special l m n star_escape star_escape = refl
+one_special l m n dollar_escape dollar_escape = refl
 
-plain_front : (a : Bool) (c : ℕ) (q s : List ℕ) → c ≢ 42 → c ≢ 37 → Fits a (c ∷ q) s → (t : List ℕ) × (s ≡ c ∷ t) × Fits a q t
-plain_front a c q s n k f = elim (fits_front a c q s n f) [
+plain_prefix : (a : Bool) (c : ℕ) (q s : List ℕ) → c ≢ 42 → c ≢ 37 → Fits a (c ∷ q) s → (t : List ℕ) × (s ≡ c ∷ t) × Fits a q t
+plain_prefix a c q s n k f = elim (fits_prefix a c q s n f) [
   | by_same t e g ↦ (t, e, g)
   | by_escape l m q' t e p _ _ _ ↦ absurd (k p)
 ]
@@ -90,69 +90,69 @@ letter_apart : (l m : ℕ) → IsEscape l m → (l ≢ 42) × (l ≢ 37) × (m �
 letter_apart l m star_escape = (λ e. omega arith, λ e. omega arith, λ e. omega arith, λ e. omega arith, λ e. omega arith)
 letter_apart l m dollar_escape = (λ e. omega arith, λ e. omega arith, λ e. omega arith, λ e. omega arith, λ e. omega arith)
 
-triplet_front : (a : Bool) (l m : ℕ) (q s : List ℕ) → IsEscape l m → (t : List ℕ) → s ≡ 37 ∷ t → Fits a (50 ∷ l ∷ q) t
+triplet_prefix : (a : Bool) (l m : ℕ) (q s : List ℕ) → IsEscape l m → (t : List ℕ) → s ≡ 37 ∷ t → Fits a (50 ∷ l ∷ q) t
     → FitsEscape a l m q s
-triplet_front a l m q s e t p f =
+triplet_prefix a l m q s e t p f =
     let n = letter_apart l m e in
-    let u = plain_front a 50 (l ∷ q) t (λ h. omega arith) (λ h. omega arith) f in
-    let v = plain_front a l q u.0 n.0 n.1 u.2 in
+    let u = plain_prefix a 50 (l ∷ q) t (λ h. omega arith) (λ h. omega arith) f in
+    let v = plain_prefix a l q u.0 n.0 n.1 u.2 in
     by_triplet v.0 (p ∙ ap (λ x. 37 ∷ x) (u.1 ∙ ap (λ x. 50 ∷ x) v.1)) v.2
 
-mark_front : (a : Bool) (l m l' m' : ℕ) (q q' s t : List ℕ) → IsEscape l m → IsEscape l' m' → 50 ∷ l ∷ q ≡ 50 ∷ l' ∷ q' → s ≡ m' ∷ t
+special_prefix : (a : Bool) (l m l' m' : ℕ) (q q' s t : List ℕ) → IsEscape l m → IsEscape l' m' → 50 ∷ l ∷ q ≡ 50 ∷ l' ∷ q' → s ≡ m' ∷ t
     → Fits a q' t → FitsEscape a l m q s
-mark_front a l m l' m' q q' s t e e' p h f =
+special_prefix a l m l' m' q q' s t e e' p h f =
     let same_letter : l ≡ l' = cc in
     let same_rest : q' ≡ q = cc in
-    let same_mark : m' ≡ m = one_mark l m' m (subst (λ x. IsEscape x m') (sym same_letter) e') e in
-    by_mark t (h ∙ ap (λ x. x ∷ t) same_mark) (subst (λ x. Fits a x t) same_rest f)
+    let same_special : m' ≡ m = one_special l m' m (subst (λ x. IsEscape x m') (sym same_letter) e') e in
+    by_special t (h ∙ ap (λ x. x ∷ t) same_special) (subst (λ x. Fits a x t) same_rest f)
 
 pub fits_escape : (a : Bool) (l m : ℕ) (q s : List ℕ) → IsEscape l m → Fits a (37 ∷ 50 ∷ l ∷ q) s → FitsEscape a l m q s
-fits_escape a l m q s e f = elim (fits_front a 37 (50 ∷ l ∷ q) s (λ h. omega arith) f) [
-  | by_same t p g ↦ triplet_front a l m q s e t p g
-  | by_escape l' m' q' t e' _ p h g ↦ mark_front a l m l' m' q q' s t e e' p h g
+fits_escape a l m q s e f = elim (fits_prefix a 37 (50 ∷ l ∷ q) s (λ h. omega arith) f) [
+  | by_same t p g ↦ triplet_prefix a l m q s e t p g
+  | by_escape l' m' q' t e' _ p h g ↦ special_prefix a l m l' m' q q' s t e e' p h g
 ]
 
 -- ---- moving on over one part of the pattern
 
-suffix_of_escape : (l m : ℕ) (t s : List ℕ) → m ≢ 50 → m ≢ l → IsSuffix (m ∷ t) (50 ∷ l ∷ s) → IsBehind t s
-suffix_of_escape l m t s n k h = tail_behind m t s (suffix_cases m l t (m ∷ t) s k refl (suffix_cases m 50 t (m ∷ t) (l ∷ s) n refl h))
+suffix_of_escape : (l m : ℕ) (t s : List ℕ) → m ≢ 50 → m ≢ l → IsSuffix (m ∷ t) (50 ∷ l ∷ s) → IsAfter t s
+suffix_of_escape l m t s n k h = tail_after m t s (suffix_cases m l t (m ∷ t) s k refl (suffix_cases m 50 t (m ∷ t) (l ∷ s) n refl h))
 
 -- `*` for `%2A`, `$` for `%24`
-behind_mark : (a : Bool) (l m : ℕ) (q r s : List ℕ) → IsSuffix r s → FitsEscape a l m q r → FitsBehind a q s
-behind_mark a l m q r s h (by_mark t e f) = record { rest = t; is_behind = tail_behind m t s (subst (λ x. IsSuffix x s) e h); fits = f }
-behind_mark a l m q r s h (by_triplet t e f) =
-    let one = behind_is_suffix (50 ∷ l ∷ t) s (tail_behind 37 (50 ∷ l ∷ t) s (subst (λ x. IsSuffix x s) e h)) in
-    let two = behind_is_suffix (l ∷ t) s (tail_behind 50 (l ∷ t) s one) in
-    record { rest = t; is_behind = tail_behind l t s two; fits = f }
+after_special : (a : Bool) (l m : ℕ) (q r s : List ℕ) → IsSuffix r s → FitsEscape a l m q r → FitsAfter a q s
+after_special a l m q r s h (by_special t e f) = record { rest = t; is_after = tail_after m t s (subst (λ x. IsSuffix x s) e h); fits = f }
+after_special a l m q r s h (by_triplet t e f) =
+    let one = after_is_suffix (50 ∷ l ∷ t) s (tail_after 37 (50 ∷ l ∷ t) s (subst (λ x. IsSuffix x s) e h)) in
+    let two = after_is_suffix (l ∷ t) s (tail_after 50 (l ∷ t) s one) in
+    record { rest = t; is_after = tail_after l t s two; fits = f }
 
-onward_mark : (a : Bool) (l m : ℕ) (q s : List ℕ) → IsEscape l m → FitsEscape a l m q (m ∷ s) → Fits a q s
-onward_mark a l m q s e (by_mark t p f) = let k : t ≡ s = cc in subst (λ x. Fits a q x) k f
-onward_mark a l m q s e (by_triplet t p f) = let k : m ≡ 37 = cc in absurd ((letter_apart l m e).4 k)
+onward_special : (a : Bool) (l m : ℕ) (q s : List ℕ) → IsEscape l m → FitsEscape a l m q (m ∷ s) → Fits a q s
+onward_special a l m q s e (by_special t p f) = let k : t ≡ s = cc in subst (λ x. Fits a q x) k f
+onward_special a l m q s e (by_triplet t p f) = let k : m ≡ 37 = cc in absurd ((letter_apart l m e).4 k)
 
-pub moves_mark : (a : Bool) (l m : ℕ) (q s : List ℕ) → IsEscape l m → MovesOn a (37 ∷ 50 ∷ l ∷ q) (m ∷ s) q s
-moves_mark a l m q s e = record {
-  onward = λ f. onward_mark a l m q s e (fits_escape a l m q (m ∷ s) e f);
+pub moves_special : (a : Bool) (l m : ℕ) (q s : List ℕ) → IsEscape l m → MovesOn a (37 ∷ 50 ∷ l ∷ q) (m ∷ s) q s
+moves_special a l m q s e = record {
+  onward = λ f. onward_special a l m q s e (fits_escape a l m q (m ∷ s) e f);
   back = λ f. escaped l m q s e f;
-  later = λ b. behind_mark a l m q b.rest s (behind_rest m b.rest s b.is_behind) (fits_escape a l m q b.rest e b.fits);
+  later = λ b. after_special a l m q b.rest s (after_rest m b.rest s b.is_after) (fits_escape a l m q b.rest e b.fits);
 }
 
 -- `%2A` for `%2A`, `%24` for `%24`
-behind_triplet : (a : Bool) (l m : ℕ) (q r s : List ℕ) → IsEscape l m → IsBehind r (37 ∷ 50 ∷ l ∷ s) → FitsEscape a l m q r
-    → FitsBehind a q s
-behind_triplet a l m q r s e h (by_mark t p f) =
+after_triplet : (a : Bool) (l m : ℕ) (q r s : List ℕ) → IsEscape l m → IsAfter r (37 ∷ 50 ∷ l ∷ s) → FitsEscape a l m q r
+    → FitsAfter a q s
+after_triplet a l m q r s e h (by_special t p f) =
     let n = letter_apart l m e in
     record {
       rest = t;
-      is_behind = suffix_of_escape l m t s n.2 n.3 (behind_rest 37 (m ∷ t) (50 ∷ l ∷ s) (subst (λ x. IsBehind x (37 ∷ 50 ∷
+      is_after = suffix_of_escape l m t s n.2 n.3 (after_rest 37 (m ∷ t) (50 ∷ l ∷ s) (subst (λ x. IsAfter x (37 ∷ 50 ∷
           l ∷ s)) p h));
       fits = f;
     }
-behind_triplet a l m q r s e h (by_triplet t p f) =
-    let one = behind_tail 37 37 (50 ∷ l ∷ t) (50 ∷ l ∷ s) (subst (λ x. IsBehind x (37 ∷ 50 ∷ l ∷ s)) p h) in
-    record { rest = t; is_behind = behind_tail l l t s (behind_tail 50 50 (l ∷ t) (l ∷ s) one); fits = f }
+after_triplet a l m q r s e h (by_triplet t p f) =
+    let one = after_tail 37 37 (50 ∷ l ∷ t) (50 ∷ l ∷ s) (subst (λ x. IsAfter x (37 ∷ 50 ∷ l ∷ s)) p h) in
+    record { rest = t; is_after = after_tail l l t s (after_tail 50 50 (l ∷ t) (l ∷ s) one); fits = f }
 
 onward_triplet : (a : Bool) (l m : ℕ) (q s : List ℕ) → IsEscape l m → FitsEscape a l m q (37 ∷ 50 ∷ l ∷ s) → Fits a q s
-onward_triplet a l m q s e (by_mark t p f) = let k : m ≡ 37 = cc in absurd ((letter_apart l m e).4 k)
+onward_triplet a l m q s e (by_special t p f) = let k : m ≡ 37 = cc in absurd ((letter_apart l m e).4 k)
 onward_triplet a l m q s e (by_triplet t p f) = let k : t ≡ s = cc in subst (λ x. Fits a q x) k f
 
 pub triplet_fits : (a : Bool) (l m : ℕ) (q s : List ℕ) → IsEscape l m → Fits a q s → Fits a (37 ∷ 50 ∷ l ∷ q) (37 ∷ 50 ∷ l ∷ s)
@@ -164,40 +164,40 @@ pub moves_triplet : (a : Bool) (l m : ℕ) (q s : List ℕ) → IsEscape l m →
 moves_triplet a l m q s e = record {
   onward = λ f. onward_triplet a l m q s e (fits_escape a l m q (37 ∷ 50 ∷ l ∷ s) e f);
   back = λ f. triplet_fits a l m q s e f;
-  later = λ b. behind_triplet a l m q b.rest s e b.is_behind (fits_escape a l m q b.rest e b.fits);
+  later = λ b. after_triplet a l m q b.rest s e b.is_after (fits_escape a l m q b.rest e b.fits);
 }
 
 -- every other character as it is
-only_same : (a : Bool) (c : ℕ) (q s : List ℕ) → NoEscape (c ∷ q) → FitsFront a c q s → (t : List ℕ) × (s ≡ c ∷ t) × Fits a q t
+only_same : (a : Bool) (c : ℕ) (q s : List ℕ) → NoEscape (c ∷ q) → FitsPrefix a c q s → (t : List ℕ) × (s ≡ c ∷ t) × Fits a q t
 only_same a c q s n (by_same t e f) = (t, e, f)
 only_same a c q s n (by_escape l m q' t e p h g f) = absurd (n.none l m q' e (cc))
 
-pub same_front : (a : Bool) (c : ℕ) (q s : List ℕ) → c ≢ 42 → NoEscape (c ∷ q) → Fits a (c ∷ q) s → (t : List ℕ) × (s ≡ c ∷ t) × Fits a q t
-same_front a c q s h n f = only_same a c q s n (fits_front a c q s h f)
+pub same_prefix : (a : Bool) (c : ℕ) (q s : List ℕ) → c ≢ 42 → NoEscape (c ∷ q) → Fits a (c ∷ q) s → (t : List ℕ) × (s ≡ c ∷ t) × Fits a q t
+same_prefix a c q s h n f = only_same a c q s n (fits_prefix a c q s h f)
 
 onward_same : (a : Bool) (c : ℕ) (q s t : List ℕ) → c ∷ s ≡ c ∷ t → Fits a q t → Fits a q s
 onward_same a c q s t e f = let k : t ≡ s = cc in subst (λ x. Fits a q x) k f
 
-behind_same : (a : Bool) (c : ℕ) (q r s t : List ℕ) → r ≡ c ∷ t → IsBehind r (c ∷ s) → Fits a q t → FitsBehind a q s
-behind_same a c q r s t e h f = record { rest = t; is_behind = behind_tail c c t s (subst (λ x. IsBehind x (c ∷ s)) e h); fits = f }
+after_same : (a : Bool) (c : ℕ) (q r s t : List ℕ) → r ≡ c ∷ t → IsAfter r (c ∷ s) → Fits a q t → FitsAfter a q s
+after_same a c q r s t e h f = record { rest = t; is_after = after_tail c c t s (subst (λ x. IsAfter x (c ∷ s)) e h); fits = f }
 
 pub moves_same : (a : Bool) (c : ℕ) (q s : List ℕ) → c ≢ 42 → NoEscape (c ∷ q) → MovesOn a (c ∷ q) (c ∷ s) q s
 moves_same a c q s h n = record {
-  onward = λ f. let k = same_front a c q (c ∷ s) h n f in onward_same a c q s k.0 k.1 k.2;
+  onward = λ f. let k = same_prefix a c q (c ∷ s) h n f in onward_same a c q s k.0 k.1 k.2;
   back = λ f. same c q s h f;
-  later = λ b. let k = same_front a c q b.rest h n b.fits in behind_same a c q b.rest s k.0 k.1 b.is_behind k.2;
+  later = λ b. let k = same_prefix a c q b.rest h n b.fits in after_same a c q b.rest s k.0 k.1 b.is_after k.2;
 }
 
 -- ---- where it doesn't fit
 
-no_front : (a : Bool) (l m : ℕ) (q s : List ℕ) → ((t : List ℕ) → s ≡ m ∷ t → ⊥) → ((t : List ℕ) → s ≡ 37 ∷ 50 ∷ l ∷ t → ⊥)
+no_prefix : (a : Bool) (l m : ℕ) (q s : List ℕ) → ((t : List ℕ) → s ≡ m ∷ t → ⊥) → ((t : List ℕ) → s ≡ 37 ∷ 50 ∷ l ∷ t → ⊥)
     → FitsEscape a l m q s → ⊥
-no_front a l m q s h k (by_mark t e f) = h t e
-no_front a l m q s h k (by_triplet t e f) = k t e
+no_prefix a l m q s h k (by_special t e f) = h t e
+no_prefix a l m q s h k (by_triplet t e f) = k t e
 
 pub stuck_escape : (a : Bool) (l m : ℕ) (q s : List ℕ) → IsEscape l m → ((t : List ℕ) → s ≡ m ∷ t → ⊥) → ((t : List ℕ)
     → s ≡ 37 ∷ 50 ∷ l ∷ t → ⊥) → FitsNot a (37 ∷ 50 ∷ l ∷ q) s
-stuck_escape a l m q s e h k = record { none = λ f. no_front a l m q s h k (fits_escape a l m q s e f) }
+stuck_escape a l m q s e h k = record { none = λ f. no_prefix a l m q s h k (fits_escape a l m q s e f) }
 
 -- ---- whole moves
 
@@ -209,20 +209,20 @@ moves_both a q s q' s' q'' s'' h k = record {
       (h.later b);
 }
 
-behind_star : (a : Bool) (q s : List ℕ) → FitsBehind a (42 ∷ q) s → Fits a (42 ∷ q) s
-behind_star a q s b =
+after_star : (a : Bool) (q s : List ℕ) → FitsAfter a (42 ∷ q) s → Fits a (42 ∷ q) s
+after_star a q s b =
     let k = fits_star a q b.rest b.fits in
-    star_fits a q k.rest s (suffix_trans k.rest b.rest s k.is_suffix (behind_is_suffix b.rest s b.is_behind)) k.fits
+    star_fits a q k.rest s (suffix_trans k.rest b.rest s k.is_suffix (after_is_suffix b.rest s b.is_after)) k.fits
 
 from_suffix : (a : Bool) (q s q' s' r : List ℕ) → MovesOn a q s (42 ∷ q') s' → IsSuffix r s → Fits a q r → Fits a (42 ∷ q') s'
 from_suffix a q s q' s' r h (whole s0) f = h.onward f
-from_suffix a q s q' s' r h (later x r0 s0 k) f = behind_star a q' s' (h.later (record { rest = r; is_behind = behind x r s0 k; fits = f }))
+from_suffix a q s q' s' r h (later x r0 s0 k) f = after_star a q' s' (h.later (record { rest = r; is_after = after x r s0 k; fits = f }))
 
 pub stops : (a : Bool) (q s q' s' : List ℕ) → MovesOn a q s (42 ∷ q') s' → length q' < length q → length s' ≤ length s
     → StopsAtStar a q s q' s'
 stops a q s q' s' h m n = record { onward = λ r k f. from_suffix a q s q' s' r h k f; back = h.back; shorter = m; within = n }
 
--- ---- behind a `*`
+-- ---- after a `*`
 
 skipped : (a : Bool) (q s r t : List ℕ) (x : ℕ) → s ≡ x ∷ t → FitsNot a q s → IsSuffix r s → Fits a q r → Fits a (42 ∷ q) t
 skipped a q s r t x e n (whole s0) f = absurd (n.none f)

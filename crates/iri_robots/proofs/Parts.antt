@@ -3,7 +3,7 @@ use Rattle.std.proofs.Common.{◌≡◌, ◌≢◌, ◌↔◌, ℕ, zero, suc, �
 use Rattle.std.proofs.Common.{◌∙◌, ap, subst, arith, length-drop, eqb-true}
 use Rattle.std.specs.Prelude.{◌==◌}
 use Rattle.iri_robots.specs.inside.Fits.{IsEscape, Fits, ended, MovesOn, EscapeOf, NoEscape, FitsNot, Sticks, Takes, StopsAtStar}
-use Rattle.iri_robots.proofs.Moves.{moves_mark, moves_triplet, moves_same, stuck_escape, stops, moves_both}
+use Rattle.iri_robots.proofs.Moves.{moves_special, moves_triplet, moves_same, stuck_escape, stops, moves_both}
 use Rattle.iri_robots.proofs.Moves.{star_takes, star_more}
 
 three : (q : List ℕ) (a b l : ℕ) → 3 ≤ length q → slice_index q 0 ≡ a → slice_index q 1 ≡ b → slice_index q 2 ≡ l → q ≡ a ∷ b ∷ l ∷ drop 3 q
@@ -20,13 +20,13 @@ pub escape_here : (q : List ℕ) (l m : ℕ) → IsEscape l m → 3 ≤ length q
     → slice_index q 2 ≡ l → EscapeOf q m
 escape_here q l m e n h k p = record { letter = l; rest = drop 3 q; is_escape = e; text = three q 37 50 l n h k p }
 
-pub takes_mark : (q s : List ℕ) (m : ℕ) → EscapeOf q m → 0 < length s → slice_index s 0 ≡ m → Takes q s 3 1
-takes_mark q s m e n h =
+pub takes_special : (q s : List ℕ) (m : ℕ) → EscapeOf q m → 0 < length s → slice_index s 0 ≡ m → Takes q s 3 1
+takes_special q s m e n h =
     let t = one s m n h in
     let P : List ℕ → Type 0 = λ x. Takes x s 3 1 in
     let Q : List ℕ → Type 0 = λ x. Takes (37 ∷ 50 ∷ e.letter ∷ e.rest) x 3 1 in
     subst P (sym e.text) (subst Q (sym t) (record {
-      moves = λ a. moves_mark a e.letter m e.rest (drop 1 s) e.is_escape;
+      moves = λ a. moves_special a e.letter m e.rest (drop 1 s) e.is_escape;
       some = omega arith;
       in_pattern = omega arith;
       in_text = omega arith;
@@ -107,7 +107,7 @@ reached_end a q s p t h e k =
 pub stuck_here : (a : Bool) (q s p t : List ℕ) → MovesOn a q s p t → Sticks p t → FitsNot a q s
 stuck_here a q s p t h k = record { none = λ f. (k a).none (h.onward f) }
 
--- ---- behind a `*`
+-- ---- after a `*`
 
 pub star_moves : (a : Bool) (q s t : List ℕ) → FitsNot a q s → 0 < length s → t ≡ drop 1 s → Fits a (42 ∷ q) s ↔ Fits a (42 ∷ q) t
 star_moves a q [] t n k e = absurd (omega arith)

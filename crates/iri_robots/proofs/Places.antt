@@ -8,7 +8,7 @@ use Rattle.std.proofs.Math.Seq.{drop-append_seam}
 use Rattle.memchr.specs.Find.{OccursAt, FindsNeedle, IsFirstByte, is_byte}
 use Rattle.iri_robots.specs.inside.Fits.{Fits, ended, star, escaped, same, IsSuffix, whole, later, FitsNot, NoEscape, EscapeOf, Sticks}
 use Rattle.iri_robots.specs.inside.Plain.{IsPlainAt, HasPlainPrefix, KeepsFits, Keeps, StandsNot, SticksBefore}
-use Rattle.iri_robots.proofs.Moves.{suffix_split, suffix_trans, fits_star, star_fits, same_front, fits_front, FitsFront, by_same, by_escape}
+use Rattle.iri_robots.proofs.Moves.{suffix_split, suffix_trans, fits_star, star_fits, same_prefix, fits_prefix, FitsPrefix, by_same, by_escape}
 
 -- ---- what is left of a text
 
@@ -50,7 +50,7 @@ plain_reads a q s zero h l f = (omega arith, λ j k. absurd (omega arith))
 plain_reads a [] s (suc n) h l f = absurd (omega arith)
 plain_reads a (c ∷ q) s (suc n) h l f =
     let p = h 0 (omega arith) in
-    let k = same_front a c q s p.no_star p.no_escape f in
+    let k = same_prefix a c q s p.no_star p.no_escape f in
     let i = plain_reads a q k.0 n (λ j m. let r = h (suc j) (omega arith) in record { no_star = r.no_star; no_escape = r.no_escape }) (omega arith) k.2 in
     subst (λ x. ReadsPrefix (c ∷ q) x (suc n)) (sym k.1) (read_more c q k.0 n i)
 
@@ -203,18 +203,18 @@ fits_past a q s zero h l f = f
 fits_past a [] s (suc n) h l f = absurd (omega arith)
 fits_past a (c ∷ q) s (suc n) h l f =
     let p = h 0 (omega arith) in
-    let k = same_front a c q s p.no_star p.no_escape f in
+    let k = same_prefix a c q s p.no_star p.no_escape f in
     let i = fits_past a q k.0 n (λ j m. let r = h (suc j) (omega arith) in record { no_star = r.no_star; no_escape = r.no_escape }) (omega arith) k.2 in
     subst (λ x. Fits a (drop n q) (drop (suc n) x)) (sym k.1) i
 
-no_text : (a : Bool) (c : ℕ) (q : List ℕ) → FitsFront a c q [] → ⊥
+no_text : (a : Bool) (c : ℕ) (q : List ℕ) → FitsPrefix a c q [] → ⊥
 no_text a c q (by_same t e f) = cc
 no_text a c q (by_escape l m q' t e p h g f) = cc
 
 escape_wants : (a : Bool) (q : List ℕ) (m : ℕ) → EscapeOf q m → Fits a q [] → ⊥
 escape_wants a q m e f =
     let g = subst (λ x. Fits a x []) e.text f in
-    no_text a 37 (50 ∷ e.letter ∷ e.rest) (fits_front a 37 (50 ∷ e.letter ∷ e.rest) [] (λ h. omega arith) g)
+    no_text a 37 (50 ∷ e.letter ∷ e.rest) (fits_prefix a 37 (50 ∷ e.letter ∷ e.rest) [] (λ h. omega arith) g)
 
 drop_empty : (n : ℕ) (s : List ℕ) → s ≡ [] → drop n s ≡ s
 drop_empty zero s e = refl

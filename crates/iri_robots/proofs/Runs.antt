@@ -1,4 +1,4 @@
--- The groups of a file, read from the front.
+-- The groups of a file, read from the start.
 use Rattle.std.proofs.Common.{◌≡◌, ℕ, Bool, true, false, cond, ◌||◌, ◌&&◌, List, [], ◌∷◌, ◌++◌, Option, None, refl, sym, ◌∙◌, ap, subst}
 use Rattle.std.proofs.Common.{append_assoc}
 use Rattle.std.specs.Str.{str_eq_ignore_ascii_case}
@@ -52,33 +52,33 @@ with_more name a b (g ∷ gs) = ap (λ x. cond x g.rules [] ++ rules_of name gs)
     a name) b)
 
 record Reads (name : List ℕ) (rs : List FileRecord) : Type 0 where
-  behind : (b : Bool) → rules_from name b false rs ≡ cond b (leading_rules rs) [] ++ rules_of name (groups rs)
+  after : (b : Bool) → rules_from name b false rs ≡ cond b (leading_rules rs) [] ++ rules_of name (groups rs)
   run : (b : Bool) (a : List ℕ) → rules_from name b true (UserAgent a ∷ rs) ≡ rules_with b name (groups (UserAgent a ∷ rs))
 
-rule_behind : (name : List ℕ) (r : FileRule) (rs : List FileRecord) → Reads name rs → (b : Bool)
+rule_after : (name : List ℕ) (r : FileRule) (rs : List FileRecord) → Reads name rs → (b : Bool)
     → rules_from name b false (Judged r ∷ rs) ≡ cond b (r ∷ leading_rules rs) [] ++ rules_of name (groups rs)
-rule_behind name r rs h true = ap (λ l. r ∷ l) (h.behind true)
-rule_behind name r rs h false = h.behind false
+rule_after name r rs h true = ap (λ l. r ∷ l) (h.after true)
+rule_after name r rs h false = h.after false
 
 reads : (name : List ℕ) (rs : List FileRecord) → Reads name rs
-reads name [] = record { behind = λ b. empty_either b; run = λ b a. empty_either ((str_eq_ignore_ascii_case a name || false) || b) }
+reads name [] = record { after = λ b. empty_either b; run = λ b a. empty_either ((str_eq_ignore_ascii_case a name || false) || b) }
 reads name (Judged r ∷ rs) =
     let h = reads name rs in
     record {
-      behind = λ b. rule_behind name r rs h b;
-      run = λ b a. let s = str_eq_ignore_ascii_case a name in rule_behind name r rs h (s || b)
+      after = λ b. rule_after name r rs h b;
+      run = λ b a. let s = str_eq_ignore_ascii_case a name in rule_after name r rs h (s || b)
           ∙ ap (λ x. cond x (r ∷ leading_rules rs) [] ++ rules_of name (groups rs)) (or_false s b);
     }
 reads name (UserAgent u ∷ rs) =
     let h = reads name rs in
     let gs = groups (UserAgent u ∷ rs) in
     record {
-      behind = λ b. h.run false u ∙ with_none name gs ∙ ap (λ l. l ++ rules_of name gs) (sym (both_empty b));
+      after = λ b. h.run false u ∙ with_none name gs ∙ ap (λ l. l ++ rules_of name gs) (sym (both_empty b));
       run = λ b a. h.run (str_eq_ignore_ascii_case a name || b) u ∙ with_more name a b gs;
     }
 
-pub from_the_front : (name : List ℕ) (rs : List FileRecord) → rules_from name false false rs ≡ rules_of name (groups rs)
-from_the_front name rs = (reads name rs).behind false
+pub at_start : (name : List ℕ) (rs : List FileRecord) → rules_from name false false rs ≡ rules_of name (groups rs)
+at_start name rs = (reads name rs).after false
 
 -- what the records read so far decide: of the rules for the name, these were read, and those of the rest are left
 pub record IsJudged (name s : List ℕ) (rs : List FileRecord) (best : Option Best) (belongs in_run : Bool) (rest : List FileRecord) : Type 0
@@ -95,7 +95,7 @@ pub judged_none : (name s : List ℕ) (rs : List FileRecord) → IsJudged name s
 judged_none name s rs = record {
   done = [];
   decided = record { none = λ r k m. nothing_read s [] refl r k };
-  split = sym (from_the_front
+  split = sym (at_start
       name rs);
 }
 

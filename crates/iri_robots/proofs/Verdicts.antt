@@ -10,9 +10,9 @@ use Rattle.iri_robots.specs.inside.BestRule.{IsBest, IsBestOf}
 
 -- ---- one more
 
-pub among_front : (o r : FileRule) (rules : List FileRule) → IsAmong o rules → IsAmong o (rules ++ r ∷ [])
-among_front o r rules (first rs) = first (rs ++ r ∷ [])
-among_front o r rules (later x rs k) = later x (rs ++ r ∷ []) (among_front o r rs k)
+pub among_prefix : (o r : FileRule) (rules : List FileRule) → IsAmong o rules → IsAmong o (rules ++ r ∷ [])
+among_prefix o r rules (first rs) = first (rs ++ r ∷ [])
+among_prefix o r rules (later x rs k) = later x (rs ++ r ∷ []) (among_prefix o r rs k)
 
 pub among_last : (r : FileRule) (rules : List FileRule) → IsAmong r (rules ++ r ∷ [])
 among_last r [] = first []
@@ -50,7 +50,7 @@ none_more rules s r n h = record { none = λ o k. each (λ x. Matches x.pattern 
 pub longest_more : (rules : List FileRule) (s : List ℕ) (r best : FileRule) → IsLongest rules s best → (Matches r.pattern s
     → length r.pattern ≤ length best.pattern) → IsLongest (rules ++ r ∷ []) s best
 longest_more rules s r best h n = record {
-  among = among_front best r rules h.among;
+  among = among_prefix best r rules h.among;
   matching = h.matching;
   longest = λ o k. each (λ x. Matches x.pattern s → length x.pattern ≤ length best.pattern) o r rules (h.longest o) n k;
 }

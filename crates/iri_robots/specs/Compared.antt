@@ -15,7 +15,7 @@ abbrev pub path_text : List ℕ → List ℕ
 path_text [] = slash ∷ []
 path_text (c ∷ p) = c ∷ p
 
--- the query behind its question mark
+-- the query after its question mark
 abbrev pub query_text : Option (List ℕ) → List ℕ
 query_text None = []
 query_text (Some q) = question_mark ∷ q

@@ -6,15 +6,15 @@ use Rattle.iri_grammar.specs.Characters.{asterisk, percent_sign}
 use Rattle.iri_robots.specs.Patterns.{dollar_sign, digit_two, digit_four, capital_a, is_anchored, without_anchor}
 use Rattle.iri_robots.specs.Records.{FileRule}
 
--- what a pattern is made of: a `*`, an escape with this letter of this mark, any other character
+-- what a pattern is made of: a `*`, an escape with this letter of this special, any other character
 pub data Piece : Type 0 where
   AnyText : Piece
-  Escape : (letter mark : ℕ) → Piece
+  Escape : (letter special : ℕ) → Piece
   Character : (c : ℕ) → Piece
 
--- the mark that an escape of these characters stands for
-unfoldable pub mark_of : ℕ → ℕ → ℕ → Option ℕ
-mark_of c d e =
+-- the special that an escape of these characters stands for
+unfoldable pub special_of : ℕ → ℕ → ℕ → Option ℕ
+special_of c d e =
     cond (c == percent_sign && d == digit_two) (cond (e == capital_a) (Some asterisk) (cond (e == digit_four) (Some dollar_sign) None)) None
 
 unfoldable pub piece_of : ℕ → Piece
@@ -24,14 +24,14 @@ unfoldable pub pieces : List ℕ → List Piece
 pieces [] = []
 pieces (c ∷ []) = piece_of c ∷ []
 pieces (c ∷ d ∷ []) = piece_of c ∷ piece_of d ∷ []
-pieces (c ∷ d ∷ e ∷ q) = elim (mark_of c d e) [ Some mark ↦ Escape e mark ∷ pieces q | None ↦ piece_of c ∷ pieces (d ∷ e ∷ q) ]
+pieces (c ∷ d ∷ e ∷ q) = elim (special_of c d e) [ Some special ↦ Escape e special ∷ pieces q | None ↦ piece_of c ∷ pieces (d ∷ e ∷ q) ]
 
 -- some suffix of the text passes
 unfoldable pub some_suffix : (List ℕ → Bool) → List ℕ → Bool
 some_suffix test [] = test []
 some_suffix test (c ∷ s) = elim (test (c ∷ s)) [ true ↦ true | false ↦ some_suffix test s ]
 
--- the text begins with this character, and what is behind it passes
+-- the text begins with this character, and what is after it passes
 unfoldable pub begins : ℕ → (List ℕ → Bool) → List ℕ → Bool
 begins c test [] = false
 begins c test (d ∷ s) = elim (c == d) [ true ↦ test s | false ↦ false ]
@@ -45,8 +45,8 @@ ends (c ∷ s) = false
 unfoldable pub fills : Bool → List Piece → List ℕ → Bool
 fills anchored [] s = cond anchored (ends s) true
 fills anchored (AnyText ∷ ps) s = some_suffix (fills anchored ps) s
-fills anchored (Escape letter mark ∷ ps) s =
-    begins mark (fills anchored ps) s || begins percent_sign (begins digit_two (begins letter (fills anchored ps))) s
+fills anchored (Escape letter special ∷ ps) s =
+    begins special (fills anchored ps) s || begins percent_sign (begins digit_two (begins letter (fills anchored ps))) s
 fills anchored (Character c ∷ ps) s = begins c (fills anchored ps) s
 
 -- the pattern matches the text

@@ -60,9 +60,9 @@ rule_line : line_of (codes " ALLOW : /p:q # x: y") ≡ RuleLine true (codes "/p:
 unfolding is_utf8 chars encode
 rule_line = refl
 
-marked_line : line_of (byte_order_mark ++ codes "Disallow:") ≡ RuleLine false []
+byte_order_mark_line : line_of (byte_order_mark ++ codes "Disallow:") ≡ RuleLine false []
 unfolding is_utf8 chars encode
-marked_line = refl
+byte_order_mark_line = refl
 
 other_line : line_of (codes "Sitemap: /s") ≡ OtherLine
 unfolding is_utf8 chars encode

@@ -5,7 +5,7 @@ use Rattle.std.specs.List.{prefix_len}
 use Rattle.std.specs.Char.{is_ascii_alphabetic}
 use Rattle.std.specs.Str.{is_utf8, bytes_eq, str_eq_ignore_ascii_case}
 use Rattle.iri_grammar.specs.Characters.{colon, number_sign, underscore}
-use Rattle.iri_grammar.specs.Cut.{before, behind}
+use Rattle.iri_grammar.specs.Cut.{before, after}
 
 -- a user-agent line, an allow or disallow line, or any other one
 pub data FileLine : Type 0 where
@@ -47,8 +47,8 @@ abbrev pub byte_order_mark : List ℕ
 byte_order_mark = 0xEF ∷ 0xBB ∷ 0xBF ∷ []
 
 -- U+FEFF that begins a line goes
-abbrev pub without_mark : List ℕ → List ℕ
-without_mark t = cond (bytes_eq (take 3 t) byte_order_mark) (drop 3 t) t
+abbrev pub without_byte_order_mark : List ℕ → List ℕ
+without_byte_order_mark t = cond (bytes_eq (take 3 t) byte_order_mark) (drop 3 t) t
 
 -- the characters of a product token
 abbrev pub is_token_char : ℕ → Bool
@@ -65,17 +65,17 @@ keyed key value =
     (cond (str_eq_ignore_ascii_case key (codes "allow")) (RuleLine true value)
     (cond (str_eq_ignore_ascii_case key (codes "disallow")) (RuleLine false value) OtherLine))
 
--- the key before the first `:`, and its value behind it
+-- the key before the first `:`, and its value after it
 abbrev pub parted : List ℕ → Option (List ℕ) → FileLine
 parted key None = OtherLine
 parted key (Some value) = keyed (trimmed key) (trimmed value)
 
 abbrev pub line_of_text : List ℕ → FileLine
-line_of_text t = parted (before colon t) (behind colon t)
+line_of_text t = parted (before colon t) (after colon t)
 
 -- what follows the first `#` goes, with the `#`; a line that isn't UTF-8 says nothing
 abbrev pub line_of : List ℕ → FileLine
-line_of line = cond (is_utf8 line) (line_of_text (before number_sign (without_mark line))) OtherLine
+line_of line = cond (is_utf8 line) (line_of_text (before number_sign (without_byte_order_mark line))) OtherLine
 
 -- a product token: one or more characters, each of a product token
 abbrev pub is_token : List ℕ → Bool

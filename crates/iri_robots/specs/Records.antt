@@ -27,7 +27,7 @@ records_escapes [] = 0
 records_escapes (UserAgent agent ∷ rs) = records_escapes rs
 records_escapes (Judged rule ∷ rs) = escapes rule.pattern + records_escapes rs
 
--- a group: an agent run, that is a longest row of user-agent records with no rule between them, and the rules behind it
+-- a group: an agent run, that is a longest row of user-agent records with no rule between them, and the rules after it
 pub record Group : Type 0 where
   pub agents : List (List ℕ)
   pub rules : List FileRule

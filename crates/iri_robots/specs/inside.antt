@@ -4,4 +4,4 @@ pub mod Reaching
 pub mod Plain
 pub mod ReadLines
 pub mod BestRule
-pub mod Fronts
+pub mod Prefixes

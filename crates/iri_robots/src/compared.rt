@@ -3,7 +3,7 @@ ghost use Rattle.std.specs.Prelude.{◌≡◌, ◌<◌, ◌≤◌, ◌++◌, tru
 ghost use Rattle.std.specs.Char.{is_ascii_hexdigit};
 ghost use Rattle.iri_grammar.specs.Characters.{percent_sign};
 ghost use Rattle.iri_robots.specs.Compared.{compared};
-ghost use Rattle.iri_robots.specs.inside.Fronts.{IsFront, HasAsciiDigits, written_text};
+ghost use Rattle.iri_robots.specs.inside.Prefixes.{IsPrefix, HasAsciiDigits, written_text};
 
 use iri_grammar::spec::UriSpec;
 use iri_percent::capital_digit;
@@ -19,23 +19,23 @@ enum Written {
 
 // What so many bytes at the start of a text are written as.
 #[derive(Clone, Copy)]
-struct Front {
+struct Prefix {
     written: Written,
     taken: usize,
 }
 
 // The start of a text that begins with a percent-encoded octet.
-fn triplet_front(text: &[u8]) -> Front
+fn triplet_prefix(text: &[u8]) -> Prefix
     requires { (3 ≤ length text.now) × (slice_index text.now 0 ≡ percent_sign)
         × (is_ascii_hexdigit (slice_index text.now 1) ≡ true) × (is_ascii_hexdigit (slice_index text.now 2) ≡ true) }
-    ensures { IsFront text.now result.written result.taken }
+    ensures { IsPrefix text.now result.written result.taken }
 {
     match decoded_char::<UriSpec>(text) {
-        Some(c) => Front {
+        Some(c) => Prefix {
             written: Written::Char(c),
             taken: 3,
         },
-        None => Front {
+        None => Prefix {
             written: Written::Triplet(text[1].to_ascii_uppercase(), text[2].to_ascii_uppercase()),
             taken: 3,
         },
@@ -43,34 +43,34 @@ fn triplet_front(text: &[u8]) -> Front
 }
 
 // The start of a text that begins with a `%`.
-fn percent_front(text: &[u8]) -> Front
+fn percent_prefix(text: &[u8]) -> Prefix
     requires { (0 < length text.now) × (slice_index text.now 0 ≡ percent_sign) }
-    ensures { IsFront text.now result.written result.taken }
+    ensures { IsPrefix text.now result.written result.taken }
 {
     if text.len() < 3 || !text[1].is_ascii_hexdigit() || !text[2].is_ascii_hexdigit() {
-        return Front {
+        return Prefix {
             written: Written::Char('%'),
             taken: 1,
         };
     }
-    triplet_front(text)
+    triplet_prefix(text)
 }
 
-fn front_of(text: &[u8]) -> Front
+fn prefix_of(text: &[u8]) -> Prefix
     requires { 0 < length text.now }
-    ensures { IsFront text.now result.written result.taken }
+    ensures { IsPrefix text.now result.written result.taken }
 {
     let first = text[0];
     if first >= 128 {
-        return Front {
+        return Prefix {
             written: Written::Triplet(capital_digit(first / 16), capital_digit(first % 16)),
             taken: 1,
         };
     }
     if first == b'%' {
-        return percent_front(text);
+        return percent_prefix(text);
     }
-    Front {
+    Prefix {
         written: Written::Char(char::from(first)),
         taken: 1,
     }
@@ -97,9 +97,9 @@ pub(crate) fn compared_form(alloc: Global, text: &[u8]) -> Result<String, AllocE
     let mut form = String::with_capacity(alloc, text.len())?;
     let mut rest = text;
     while !rest.is_empty() {
-        let front = front_of(rest);
-        append(&mut form, front.written)?;
-        rest = &rest[front.taken..];
+        let prefix = prefix_of(rest);
+        append(&mut form, prefix.written)?;
+        rest = &rest[prefix.taken..];
     }
     Ok(form)
 }

@@ -5,16 +5,16 @@ ghost use Rattle.std.specs.Str.{is_utf8, str_eq_ignore_ascii_case};
 ghost use Rattle.iri_grammar.specs.Characters.{number_sign};
 ghost use Rattle.iri_grammar.specs.Cut.{before, CutAt, NoCut};
 ghost use Rattle.iri_robots.specs.FileLines.{line_of, line_of_text, keyed, is_blank, trimmed, without_start};
-ghost use Rattle.iri_robots.specs.FileLines.{without_end, without_mark, agent_of, is_token_char};
+ghost use Rattle.iri_robots.specs.FileLines.{without_end, without_byte_order_mark, agent_of, is_token_char};
 ghost use Rattle.iri_robots.specs.inside.ReadLines.{said};
 
 use memchr::memchr;
 
 // Where the delimiter first is.
-fn find(text: &[u8], mark: u8) -> Option<usize>
-    ensures { MatchOption result (NoCut mark text.now) (λ k. CutAt mark text.now k) }
+fn find(text: &[u8], special: u8) -> Option<usize>
+    ensures { MatchOption result (NoCut special text.now) (λ k. CutAt special text.now k) }
 {
-    memchr(mark, text)
+    memchr(special, text)
 }
 
 // What a line says.
@@ -38,7 +38,7 @@ fn is_of_token(c: u8) -> bool
     c.is_ascii_alphabetic() || c == b'_' || c == b'-'
 }
 
-fn trim_front(text: &[u8]) -> &[u8]
+fn trim_prefix(text: &[u8]) -> &[u8]
     ensures { result.now ≡ without_start text.now }
 {
     let mut text = text;
@@ -55,11 +55,11 @@ fn trim_end(text: &[u8]) -> &[u8]
     ensures { result.now ≡ without_end text.now }
 {
     let mut text = text;
-    while let Some((last, front)) = text.split_last() {
+    while let Some((last, prefix)) = text.split_last() {
         if !is_space_or_tab(*last) {
             return text;
         }
-        text = front;
+        text = prefix;
     }
     text
 }
@@ -68,7 +68,7 @@ fn trim_end(text: &[u8]) -> &[u8]
 fn trim(text: &[u8]) -> &[u8]
     ensures { result.now ≡ trimmed text.now }
 {
-    trim_end(trim_front(text))
+    trim_end(trim_prefix(text))
 }
 
 // How many bytes at the start are characters of a product token.
@@ -94,8 +94,8 @@ fn agent(value: &[u8]) -> &[u8]
     &value[..token_len(value)]
 }
 
-fn strip_mark(line: &[u8]) -> &[u8]
-    ensures { result.now ≡ without_mark line.now }
+fn strip_byte_order_mark(line: &[u8]) -> &[u8]
+    ensures { result.now ≡ without_byte_order_mark line.now }
 {
     match line.strip_prefix("\u{FEFF}".as_bytes()) {
         Some(rest) => rest,
@@ -147,7 +147,7 @@ pub(crate) fn read_line(line: &[u8]) -> Said<'_>
     ensures { said result ≡ line_of line.now }
 {
     match str::from_utf8(line) {
-        Ok(_) => say_parts(strip_comment(strip_mark(line))),
+        Ok(_) => say_parts(strip_comment(strip_byte_order_mark(line))),
         Err(_) => Said::Nothing,
     }
 }

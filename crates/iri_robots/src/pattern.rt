@@ -27,7 +27,7 @@ enum Reached<'a> {
 }
 
 // The character that an escape at the start of the pattern stands for.
-fn escaped_mark(pattern: &[u8]) -> Option<u8>
+fn escaped_special(pattern: &[u8]) -> Option<u8>
     ensures { MatchOption result (NoEscape pattern.now) (λ m. EscapeOf pattern.now m) }
 {
     if pattern.len() < 3 || pattern[0] != b'%' || pattern[1] != b'2' {
@@ -41,14 +41,14 @@ fn escaped_mark(pattern: &[u8]) -> Option<u8>
 }
 
 // `%2A` or `*` fills `%2A`, `%24` or `$` fills `%24`.
-fn take_escape(pattern: &[u8], text: &[u8], mark: u8) -> Option<Part>
-    requires { EscapeOf pattern.now mark }
+fn take_escape(pattern: &[u8], text: &[u8], special: u8) -> Option<Part>
+    requires { EscapeOf pattern.now special }
     ensures { MatchOption result (Sticks pattern.now text.now) (λ p. Takes pattern.now text.now p.pattern p.text) }
 {
     if text.is_empty() {
         return None;
     }
-    if text[0] == mark {
+    if text[0] == special {
         return Some(Part {
             pattern: 3,
             text: 1,
@@ -68,8 +68,8 @@ fn take_part(pattern: &[u8], text: &[u8]) -> Option<Part>
     requires { (0 < length pattern.now) × (slice_index pattern.now 0 ≢ asterisk) }
     ensures { MatchOption result (Sticks pattern.now text.now) (λ p. Takes pattern.now text.now p.pattern p.text) }
 {
-    if let Some(mark) = escaped_mark(pattern) {
-        return take_escape(pattern, text, mark);
+    if let Some(special) = escaped_special(pattern) {
+        return take_escape(pattern, text, special);
     }
     if text.is_empty() || text[0] != pattern[0] {
         return None;
@@ -111,7 +111,7 @@ fn plain_len(pattern: &[u8], most: usize) -> usize
 {
     let mut len = 0;
     while len < most && len < pattern.len() {
-        if pattern[len] == b'*' || escaped_mark(&pattern[len..]).is_some() {
+        if pattern[len] == b'*' || escaped_special(&pattern[len..]).is_some() {
             return len;
         }
         len += 1;
@@ -142,14 +142,14 @@ fn from_plain<'a>(pattern: &[u8], plain: usize, text: &'a [u8]) -> Option<&'a [u
 }
 
 // The leftmost place in the text where the escape is filled that the pattern begins with.
-fn escape_place(pattern: &[u8], text: &[u8], mark: u8) -> Option<usize>
-    requires { EscapeOf pattern.now mark }
+fn escape_place(pattern: &[u8], text: &[u8], special: u8) -> Option<usize>
+    requires { EscapeOf pattern.now special }
     ensures { MatchOption result (SticksBefore pattern.now text.now (length text.now))
         (λ i. SticksBefore pattern.now text.now i) }
 {
     let mut place = 0;
     while place < text.len() {
-        if take_escape(pattern, &text[place..], mark).is_some() {
+        if take_escape(pattern, &text[place..], special).is_some() {
             return Some(place);
         }
         place += 1;
@@ -158,13 +158,13 @@ fn escape_place(pattern: &[u8], text: &[u8], mark: u8) -> Option<usize>
 }
 
 // The text from the leftmost place on where so many plain bytes and the escape after them stand.
-fn from_escape<'a>(pattern: &[u8], plain: usize, mark: u8, text: &'a [u8]) -> Option<&'a [u8]>
-    requires { HasPlainPrefix pattern.now plain × EscapeOf (drop plain pattern.now) mark }
+fn from_escape<'a>(pattern: &[u8], plain: usize, special: u8, text: &'a [u8]) -> Option<&'a [u8]>
+    requires { HasPlainPrefix pattern.now plain × EscapeOf (drop plain pattern.now) special }
     ensures { MatchOption result (StandsNot pattern.now text.now) (λ rest. Keeps pattern.now text.now rest.now) }
 {
     let mut text = text;
     while let Some(found) = from_plain(pattern, plain, text) {
-        let Some(place) = escape_place(&pattern[plain..], &found[plain..], mark) else {
+        let Some(place) = escape_place(&pattern[plain..], &found[plain..], special) else {
             return None;
         };
         if place == 0 {
@@ -182,8 +182,8 @@ fn from_prefix<'a>(pattern: &[u8], text: &'a [u8]) -> Option<&'a [u8]>
 {
     // More than the text has can't stand in it: a short link doesn't pay for a long pattern.
     let plain = plain_len(pattern, text.len());
-    match escaped_mark(&pattern[plain..]) {
-        Some(mark) => from_escape(pattern, plain, mark, text),
+    match escaped_special(&pattern[plain..]) {
+        Some(special) => from_escape(pattern, plain, special, text),
         None => from_plain(pattern, plain, text),
     }
 }
@@ -238,9 +238,9 @@ pub fn matches(pattern: &[u8], text: &[u8]) -> bool
 {
     match pattern.split_last() {
         None => false,
-        Some((last, front)) => {
+        Some((last, prefix)) => {
             if *last == b'$' {
-                fits(front, text, true)
+                fits(prefix, text, true)
             } else {
                 fits(pattern, text, false)
             }

@@ -14,10 +14,10 @@ use Rattle.iri_text.specs.declared.shown.show.Stop.{Stop}
 use Rattle.iri_grammar.specs.Classes.{Tests, any_char}
 use Rattle.iri_percent.specs.Units.{TextUnit, Plain, first_unit, units}
 use Rattle.iri_template.specs.Expansion.{kept_unit}
-use Rattle.iri_template.specs.inside.UnitSteps.{is_part, behind_unit, told_units, left_over, fewer, step_units, step_pending, written_units}
+use Rattle.iri_template.specs.inside.UnitSteps.{is_part, after_unit, told_units, left_over, fewer, step_units, step_pending, written_units}
 use Rattle.iri_template.specs.inside.UnitSteps.{is_used_up, unit_step_text}
 use Rattle.iri_template.specs.inside.UnitViews.{unit_at, unit_as, TellsNone, IsUnit}
-use Rattle.iri_template.proofs.UnitLaws.{behind_shorter, all_told, left_short, written-append}
+use Rattle.iri_template.proofs.UnitLaws.{after_shorter, all_told, left_short, written-append}
 
 take_nil : {U : Type 0} (n : ℕ) → take {A = U} n [] ≡ []
 take_nil zero = refl
@@ -38,9 +38,9 @@ pub record Tells (end : Bool) (k : ℕ) (h : List ℕ) (len : ℕ) : Type 0 wher
 pub tells_one : (s : Tests) (end : Bool) (k : ℕ) (h : List ℕ) (len : ℕ) (stands : Bool) → IsUnit s end h len stands → Tells end k h len
 tells_one s end k [] len stands i = absurd (omega (arith, i.some, i.within))
 tells_one s end k (x ∷ xs) len stands i = record {
-  units = ap (λ b. cond b (first_unit x xs ∷ told_units end k (behind_unit x xs)) []) i.told
+  units = ap (λ b. cond b (first_unit x xs ∷ told_units end k (after_unit x xs)) []) i.told
       ∙ ap (λ n. first_unit x xs ∷ told_units end k (drop n (x ∷ xs))) i.all;
-  over = ap (λ b. cond b (left_over end k (behind_unit x xs)) (x ∷ xs)) i.told ∙ ap (λ n. left_over end k (drop n (x ∷ xs))) i.all;
+  over = ap (λ b. cond b (left_over end k (after_unit x xs)) (x ∷ xs)) i.told ∙ ap (λ n. left_over end k (drop n (x ∷ xs))) i.all;
 }
 
 -- so many more units may be told of what is pending now, after some were written
@@ -149,7 +149,7 @@ pub all_left : (k : ℕ) (t : List ℕ) → length t ≤ k → left_over true k 
 all_left zero [] h = refl
 all_left zero (x ∷ xs) h = absurd (omega arith)
 all_left (suc k) [] h = refl
-all_left (suc k) (x ∷ xs) h = all_left k (behind_unit x xs) (omega (arith, behind_shorter x xs))
+all_left (suc k) (x ∷ xs) h = all_left k (after_unit x xs) (omega (arith, after_shorter x xs))
 
 -- a character that is no part of a triplet: what is pending ends, and the character follows
 pub record EndsHeld (s : Tests) (h : List ℕ) (left : Option ℕ) (c : ℕ) : Type 0 where

@@ -22,10 +22,10 @@ utf8_chars t u h = elim (chars t) as (λ cs. encode_utf8_all cs ≡ t → 0 < le
 ] (encodes-chars t u)
 
 -- those of a text that goes on after some of them
-pub some_chars : (front rest t : List ℕ) → front ++ rest ≡ t → IsUtf8 front → 0 < length front → 0 < length (chars t)
-some_chars front rest t e u h =
-    let all : length (chars t) ≡ length (chars front ++ chars rest) = ap length (ap chars (sym e) ∙ chars-append front rest u) in
-    omega (arith, all, length-append (chars front) (chars rest), utf8_chars front u h)
+pub some_chars : (prefix rest t : List ℕ) → prefix ++ rest ≡ t → IsUtf8 prefix → 0 < length prefix → 0 < length (chars t)
+some_chars prefix rest t e u h =
+    let all : length (chars t) ≡ length (chars prefix ++ chars rest) = ap length (ap chars (sym e) ∙ chars-append prefix rest u) in
+    omega (arith, all, length-append (chars prefix) (chars rest), utf8_chars prefix u h)
 
 -- ---- encoded
 some_triplets : (bs : List ℕ) → 0 < length bs → 0 < length (triplets bs)

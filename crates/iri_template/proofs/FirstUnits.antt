@@ -14,9 +14,9 @@ use Rattle.iri_percent.specs.Encoding.{keeps, encoded_char, encoded}
 use Rattle.iri_percent.specs.Mapping.{triplets}
 use Rattle.iri_percent.specs.declared.context.Context.TheVariants.{Any}
 use Rattle.iri_percent.specs.Units.{Plain, Char, Lone, Stray, octet, octets, first_char, triplet_unit, byte_unit, first_unit, unit_text}
-use Rattle.iri_percent.proofs.MarkLaws.{char_within}
+use Rattle.iri_percent.proofs.DelimiterLaws.{char_within}
 use Rattle.iri_template.specs.Expansion.{kept_unit}
-use Rattle.iri_template.specs.inside.UnitSteps.{begins_triplet, is_closed, is_settled, behind_unit, told_units, left_over}
+use Rattle.iri_template.specs.inside.UnitSteps.{begins_triplet, is_closed, is_settled, after_unit, told_units, left_over}
 use Rattle.iri_template.specs.inside.UnitViews.{unit_at, TellsNone, IsUnit}
 use Rattle.iri_template.proofs.UnitLaws.{no_char}
 
@@ -47,8 +47,8 @@ tells_none end [] h zero = (refl, refl)
 tells_none end [] h (suc k) = (refl, refl)
 tells_none end (x ∷ xs) h zero = (refl, refl)
 tells_none end (x ∷ xs) h (suc k) = (
-  ap (λ b. cond b (first_unit x xs ∷ told_units end k (behind_unit x xs)) []) h,
-  ap (λ b. cond b (left_over end k (behind_unit x xs)) (x ∷ xs)) h,
+  ap (λ b. cond b (first_unit x xs ∷ told_units end k (after_unit x xs)) []) h,
+  ap (λ b. cond b (left_over end k (after_unit x xs)) (x ∷ xs)) h,
 )
 
 pub empty_tells_none : (end : Bool) (t : List ℕ) → length t ≡ 0 → TellsNone end t

@@ -26,7 +26,7 @@ use Rattle.iri_template.specs.declared.operator.Operator.{Operator}
 use Rattle.iri_template.specs.declared.visitor.VisitPurpose.TheVariants.{Typecheck, Expand}
 use Rattle.iri_template.proofs.FaultLemmas.{neither}
 use Rattle.iri_template.proofs.PartPortions.{outside_fault, outside_text}
-use Rattle.iri_template.proofs.PortionWalk.{fault_behind, text_behind}
+use Rattle.iri_template.proofs.PortionWalk.{fault_after, text_after}
 use Rattle.iri_template.proofs.Telling.{led-append, led_expression}
 
 -- ---- which calls decide
@@ -59,17 +59,17 @@ module _ (s : Tests) where
       (same_specs operator (later 2 f) (later 2 g) there
       (written || has_texts (value_texts s (row_of operator) v.name v.modifier (g 1 v.name Expand))) vs (same_later 1 f g h))
 
-  same_from : (f g : Telling) (at here : ℕ) (front : List ℕ) (ps : List Piece) → AreSame f g
-      → portions_from s f at here front ps ≡ portions_from s g at here front ps
-  same_from f g at here front [] h = refl
-  same_from f g at here front (literal c ∷ ps) h =
-      same_from f g at (here + length (encode_utf8 c)) (front ++ encoded_char (any_char s) c) ps h
-  same_from f g at here front (triplet a b ∷ ps) h = same_from f g at (here + 3) (front ++ percent_sign ∷ a ∷ b ∷ []) ps h
-  same_from f g at here front (expression operator vs ∷ ps) h =
+  same_from : (f g : Telling) (at here : ℕ) (start : List ℕ) (ps : List Piece) → AreSame f g
+      → portions_from s f at here start ps ≡ portions_from s g at here start ps
+  same_from f g at here start [] h = refl
+  same_from f g at here start (literal c ∷ ps) h =
+      same_from f g at (here + length (encode_utf8 c)) (start ++ encoded_char (any_char s) c) ps h
+  same_from f g at here start (triplet a b ∷ ps) h = same_from f g at (here + 3) (start ++ percent_sign ∷ a ∷ b ∷ []) ps h
+  same_from f g at here start (expression operator vs ∷ ps) h =
       let place = here + 1 + length (operator_text operator) in
       let there = here + length (piece_text (expression operator vs)) in
-      ap (λ l. outside at front ++ (l ++ portions_from s (later (2 * length vs) f) there there [] ps)) (same_specs operator f g place false vs h)
-      ∙ ap (λ l. outside at front ++ (varspec_portions s operator g place false vs ++ l))
+      ap (λ l. outside at start ++ (l ++ portions_from s (later (2 * length vs) f) there there [] ps)) (same_specs operator f g place false vs h)
+      ∙ ap (λ l. outside at start ++ (varspec_portions s operator g place false vs ++ l))
       (same_from (later (2 * length vs) f) (later (2 * length vs) g) there there [] ps (same_later (length vs) f g h))
 
 pub same_portions : (s : Tests) (f g : Telling) (ps : List Piece) → ((i : ℕ) (name : List ℕ) → f (2 * i) name Typecheck ≡ g (2 * i) name Typecheck)
@@ -100,12 +100,12 @@ halts_within : {W : Type 0} {puts halts : W → List ℕ → W → Type 0} (laws
     → portions_fault ps ≡ None → StopsAt puts halts ps at a b → halts a (portions_text ps) b
 halts_within {halts = halts} laws ps at a b none q =
     let r = q.reached in
-    let both = neither (portions_fault r.front) (portions_fault (r.here ∷ r.rest))
-    (sym (faults_append r.front (r.here ∷ r.rest)) ∙ ap portions_fault (sym r.split) ∙ none) in
+    let both = neither (portions_fault r.prefix) (portions_fault (r.here ∷ r.rest))
+    (sym (faults_append r.prefix (r.here ∷ r.rest)) ∙ ap portions_fault (sym r.split) ∙ none) in
     subst (λ l. halts a l b)
-    (ap (λ l. portions_text r.front ++ l) (sym (here_fine r.here r.rest both.1)) ∙ sym (text_behind r.front (r.here ∷ r.rest) both.0)
+    (ap (λ l. portions_text r.prefix ++ l) (sym (here_fine r.here r.rest both.1)) ∙ sym (text_after r.prefix (r.here ∷ r.rest) both.0)
     ∙ ap portions_text (sym r.split))
-    (laws.until a q.mid b (portions_text r.front) (r.here.text ++ portions_text r.rest) q.put
+    (laws.until a q.mid b (portions_text r.prefix) (r.here.text ++ portions_text r.rest) q.put
     (laws.within q.mid b r.here.text (portions_text r.rest) q.halt))
 
 -- ---- where types are looked at in values of their own
@@ -132,16 +132,16 @@ module _ (s : Tests) (looked value : List ℕ → ShownValue) (adds : AddsNone l
       ap (λ m. cond m (fault UnexpectedValueType at) (portions_fault (varspec_portions s operator telling there now vs))) (adds v.modifier v.name)
       ∙ ap (λ f. cond b (fault UnexpectedValueType at) f) (specs_fault operator there now vs)
 
-  fault_from : (at here : ℕ) (front : List ℕ) (ps : List Piece)
-      → portions_fault (portions_from s telling at here front ps) ≡ type_fault_from value here ps
-  fault_from at here front [] = outside_fault at front
-  fault_from at here front (literal c ∷ ps) = fault_from at (here + length (encode_utf8 c)) (front ++ encoded_char (any_char s) c) ps
-  fault_from at here front (triplet a b ∷ ps) = fault_from at (here + 3) (front ++ percent_sign ∷ a ∷ b ∷ []) ps
-  fault_from at here front (expression operator vs ∷ ps) =
+  fault_from : (at here : ℕ) (start : List ℕ) (ps : List Piece)
+      → portions_fault (portions_from s telling at here start ps) ≡ type_fault_from value here ps
+  fault_from at here start [] = outside_fault at start
+  fault_from at here start (literal c ∷ ps) = fault_from at (here + length (encode_utf8 c)) (start ++ encoded_char (any_char s) c) ps
+  fault_from at here start (triplet a b ∷ ps) = fault_from at (here + 3) (start ++ percent_sign ∷ a ∷ b ∷ []) ps
+  fault_from at here start (expression operator vs ∷ ps) =
       let inner = varspec_portions s operator telling (here + 1 + length (operator_text operator)) false vs in
       let there = here + length (piece_text (expression operator vs)) in
       let others = portions_from s telling there there [] ps in
-      fault_behind (outside at front) (inner ++ others) (outside_fault at front) ∙ faults_append inner others
+      fault_after (outside at start) (inner ++ others) (outside_fault at start) ∙ faults_append inner others
       ∙ ap (λ f. first f (portions_fault others)) (specs_fault operator (here + 1 + length (operator_text operator)) false vs)
       ∙ ap (first (varspecs_type_fault value (here + 1 + length (operator_text operator)) vs)) (fault_from there there [] ps)
 
@@ -167,24 +167,24 @@ module _ (s : Tests) (looked value : List ℕ → ShownValue) (adds : AddsNone l
             ∙ sym (led-append (row_of operator) written ts (flat_map (varspec_texts s operator value) vs))
       ] h
 
-  text_from : (at here : ℕ) (front : List ℕ) (ps : List Piece) → type_fault_from value here ps ≡ None
-      → portions_text (portions_from s telling at here front ps) ≡ front ++ expansion s value ps
-  text_from at here front [] h = outside_text at front ∙ sym (append-nil front)
-  text_from at here front (literal c ∷ ps) h =
-      text_from at (here + length (encode_utf8 c)) (front ++ encoded_char (any_char s) c) ps h
-      ∙ append_assoc front (encoded_char (any_char s) c) (expansion s value ps)
-  text_from at here front (triplet a b ∷ ps) h =
+  text_from : (at here : ℕ) (start : List ℕ) (ps : List Piece) → type_fault_from value here ps ≡ None
+      → portions_text (portions_from s telling at here start ps) ≡ start ++ expansion s value ps
+  text_from at here start [] h = outside_text at start ∙ sym (append-nil start)
+  text_from at here start (literal c ∷ ps) h =
+      text_from at (here + length (encode_utf8 c)) (start ++ encoded_char (any_char s) c) ps h
+      ∙ append_assoc start (encoded_char (any_char s) c) (expansion s value ps)
+  text_from at here start (triplet a b ∷ ps) h =
       let t : List ℕ = percent_sign ∷ a ∷ b ∷ [] in
-      text_from at (here + 3) (front ++ t) ps h ∙ append_assoc front t (expansion s value ps)
-  text_from at here front (expression operator vs ∷ ps) h =
+      text_from at (here + 3) (start ++ t) ps h ∙ append_assoc start t (expansion s value ps)
+  text_from at here start (expression operator vs ∷ ps) h =
       let place = here + 1 + length (operator_text operator) in
       let inner = varspec_portions s operator telling place false vs in
       let there = here + length (piece_text (expression operator vs)) in
       let others = portions_from s telling there there [] ps in
       let both = neither (varspecs_type_fault value place vs) (type_fault_from value there ps) h in
-      text_behind (outside at front) (inner ++ others) (outside_fault at front)
-      ∙ ap (λ l. l ++ portions_text (inner ++ others)) (outside_text at front)
-      ∙ ap (λ l. front ++ l) (text_behind inner others (specs_fault operator place false vs ∙ both.0)
+      text_after (outside at start) (inner ++ others) (outside_fault at start)
+      ∙ ap (λ l. l ++ portions_text (inner ++ others)) (outside_text at start)
+      ∙ ap (λ l. start ++ l) (text_after inner others (specs_fault operator place false vs ∙ both.0)
       ∙ ap (λ l. l ++ portions_text others) (specs_text operator place false vs both.0
       ∙ led_expression (row_of operator) (flat_map (varspec_texts s operator value) vs))
       ∙ ap (λ l. expression_text (row_of operator) (flat_map (varspec_texts s operator value) vs) ++ l) (text_from there there [] ps both.1))

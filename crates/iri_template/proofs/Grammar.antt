@@ -14,20 +14,20 @@ use lib.Utf8.{scalar, scalars, encodes}
 use Rattle.iri_grammar.specs.Classes.{any_char, is_ascii_any, is_ucschar, is_ucschar_plane, is_iprivate}
 use Rattle.iri_grammar.specs.declared.class.Class.TheVariants.{Any}
 use Rattle.iri_grammar.proofs.ClassLaws.{ascii_test_below}
-use Rattle.iri_grammar.specs.Cut.{before, behind, lacks, marked}
-use Rattle.iri_grammar.proofs.CutLaws.{before-marked, behind-marked, all-lacks, by_test, joined, lacks-append}
+use Rattle.iri_grammar.specs.Cut.{before, after, lacks, delimited}
+use Rattle.iri_grammar.proofs.CutLaws.{before-delimited, after-delimited, all-lacks, by_test, joined, lacks-append}
 use Rattle.iri_grammar.proofs.Ipv6Laws.{one_piece, joined_pieces}
 use Rattle.iri_grammar.specs.Over.{over, over_from}
 use Rattle.iri_grammar.specs.Pieces.{pieces}
 use Rattle.iri_grammar.specs.Pieces as split
 use Rattle.iri_grammar.proofs.PiecesLaws.{pieces_cut}
-use Rattle.iri_grammar.proofs.Marks.{text_behind}
+use Rattle.iri_grammar.proofs.Delimiters.{text_after}
 use Rattle.iri_grammar.proofs.Units.{text_after_ascii}
 use Rattle.iri_template.specs.Names.{is_name_char, is_varname}
 use Rattle.iri_template.specs.Template.{Piece, literal, triplet, expression, VarSpec, literal_char, is_varspec, has_varspecs, is_piece}
 use Rattle.iri_template.specs.Template.{operator_text, varspec_text, modifier_text, body_text, piece_text, template_text, Spells}
 use Rattle.iri_template.specs.Template.{IsTemplate}
-use Rattle.iri_template.specs.Reading.{operator_at, operator_of, behind_operator, varspec_of, expression_of, body_of, first_of, pieces_of}
+use Rattle.iri_template.specs.Reading.{operator_at, operator_of, after_operator, varspec_of, expression_of, body_of, first_of, pieces_of}
 use Rattle.iri_template.specs.Reading.{pieces_from}
 use Rattle.iri_template.specs.Fault.{fault, moved, first, is_reserved_operator, operator_fault, body_fault, expression_fault}
 use Rattle.iri_template.specs.Fault.{triplet_fault, literal_fault, piece_fault, fault_at, varspecs_fault, fault_from, text_fault}
@@ -41,7 +41,7 @@ use Rattle.iri_template.proofs.FaultLemmas.{neither, unmoved, still_none}
 use Rattle.iri_template.proofs.VarSpecLemmas.{inner, varspec_bytes, varspecs_fine, varspecs_are}
 use Rattle.iri_template.proofs.Steps.{Begins, Fine, begins_fault, begins_pieces, literal_begins, triplet_begins, expression_begins}
 use Rattle.iri_template.proofs.Walks.{nothing_left, fine_there, none_anywhere}
-use Rattle.iri_template.proofs.Bodies.{has_mark}
+use Rattle.iri_template.proofs.Bodies.{has_delimiter}
 use Rattle.iri_grammar.proofs.Ipv6Laws.{pieces_before}
 
 -- ---- operators
@@ -59,7 +59,7 @@ good c =
     (pick c 46 Label _ refl (pick c 47 PathSegment _ refl
     (pick c 59 PathParameter _ refl (pick c 63 FormQuery _ refl (pick c 38 FormContinuation Simple refl (inl refl)))))))
 
-operator_joined : (t : List ℕ) → operator_text (operator_of t) ++ behind_operator t ≡ t
+operator_joined : (t : List ℕ) → operator_text (operator_of t) ++ after_operator t ≡ t
 unfolding Good
 operator_joined [] = refl
 operator_joined (c ∷ cs) = elim (good c) [ inl e ↦ rw e refl | inr e ↦ rw e refl ]
@@ -140,7 +140,7 @@ name_first (c ∷ cs) m h =
 
 pub record IsBodyOf (o : Operator) (vs : List VarSpec) (b : List ℕ) : Type 0 where
   pub operator : operator_of b ≡ o
-  pub rest : map varspec_of (pieces 44 (behind_operator b)) ≡ vs
+  pub rest : map varspec_of (pieces 44 (after_operator b)) ≡ vs
   pub fault : body_fault b ≡ None
   pub closed : lacks 125 b ≡ true
   pub ascii : IsUtf8 b
@@ -166,14 +166,14 @@ written_body : (o : Operator) (c : ℕ) (vs : List VarSpec) (j : List ℕ) → o
     → varspecs_fault 1 (pieces 44 j) ≡ None → lacks 125 j ≡ true → IsUtf8 j → IsBodyOf o vs (c ∷ j)
 written_body o c vs j e a r low b m f l u =
     let text : operator_text (operator_at c) ≡ c ∷ [] = ap operator_text a ∙ e in
-    let behind_is : behind_operator (c ∷ j) ≡ j = ap (λ k. drop (length k) (c ∷ j)) text in
+    let after_is : after_operator (c ∷ j) ≡ j = ap (λ k. drop (length k) (c ∷ j)) text in
     record {
       operator = a;
-      rest = ap (λ k. map varspec_of (pieces 44 k)) behind_is ∙ m;
+      rest = ap (λ k. map varspec_of (pieces 44 k)) after_is ∙ m;
       fault = ap (λ q. first (cond q (fault UnsupportedOperator 0) None)
-          (varspecs_fault (length (operator_text (operator_at c))) (pieces 44 (behind_operator (c ∷ j))))) r
-          ∙ (ap (λ k. varspecs_fault (length k) (pieces 44 (behind_operator (c ∷ j)))) text
-          ∙ (ap (λ k. varspecs_fault 1 (pieces 44 k)) behind_is ∙ f));
+          (varspecs_fault (length (operator_text (operator_at c))) (pieces 44 (after_operator (c ∷ j))))) r
+          ∙ (ap (λ k. varspecs_fault (length k) (pieces 44 (after_operator (c ∷ j)))) text
+          ∙ (ap (λ k. varspecs_fault 1 (pieces 44 k)) after_is ∙ f));
       closed = ap (λ q. not q && lacks 125 j) b ∙ l;
       ascii = low_first c j low u;
     }
@@ -184,14 +184,14 @@ simple_body : (vs : List VarSpec) (j : List ℕ) → IsPlain (first_of j) → 0 
 simple_body vs [] p n m f l u = absurd (omega arith)
 simple_body vs (c ∷ cs) p n m f l u =
     let text : operator_text (operator_at c) ≡ [] = ap operator_text p.operator in
-    let behind_is : behind_operator (c ∷ cs) ≡ c ∷ cs = ap (λ k. drop (length k) (c ∷ cs)) text in
+    let after_is : after_operator (c ∷ cs) ≡ c ∷ cs = ap (λ k. drop (length k) (c ∷ cs)) text in
     record {
       operator = p.operator;
-      rest = ap (λ k. map varspec_of (pieces 44 k)) behind_is ∙ m;
+      rest = ap (λ k. map varspec_of (pieces 44 k)) after_is ∙ m;
       fault = ap (λ q. first (cond q (fault UnsupportedOperator 0) None)
-          (varspecs_fault (length (operator_text (operator_at c))) (pieces 44 (behind_operator (c ∷ cs))))) p.reserved
-          ∙ (ap (λ k. varspecs_fault (length k) (pieces 44 (behind_operator (c ∷ cs)))) text
-          ∙ (ap (λ k. varspecs_fault 0 (pieces 44 k)) behind_is ∙ f));
+          (varspecs_fault (length (operator_text (operator_at c))) (pieces 44 (after_operator (c ∷ cs))))) p.reserved
+          ∙ (ap (λ k. varspecs_fault (length k) (pieces 44 (after_operator (c ∷ cs)))) text
+          ∙ (ap (λ k. varspecs_fault 0 (pieces 44 k)) after_is ∙ f));
       closed = l;
       ascii = u;
     }
@@ -246,14 +246,14 @@ body_fine o (v ∷ vs) h k = go o
 pub body_is : (b : List ℕ) → body_fault b ≡ None → (is_piece (expression_of b) ≡ true)
     × (piece_text (expression_of b) ≡ 123 ∷ (b ++ 125 ∷ []))
 body_is b h =
-    let k = neither (operator_fault b) (varspecs_fault (length (operator_text (operator_of b))) (pieces 44 (behind_operator b))) h in
-    let vs = varspecs_are (length (operator_text (operator_of b))) (pieces 44 (behind_operator b)) k.1 in
-    let some : has_varspecs (map varspec_of (pieces 44 (behind_operator b))) ≡ true =
-    ap (λ l. has_varspecs (map varspec_of l)) (pieces_cut 44 (behind_operator b)) in (
+    let k = neither (operator_fault b) (varspecs_fault (length (operator_text (operator_of b))) (pieces 44 (after_operator b))) h in
+    let vs = varspecs_are (length (operator_text (operator_of b))) (pieces 44 (after_operator b)) k.1 in
+    let some : has_varspecs (map varspec_of (pieces 44 (after_operator b))) ≡ true =
+    ap (λ l. has_varspecs (map varspec_of l)) (pieces_cut 44 (after_operator b)) in (
       rw (some, vs.0) refl,
       ap (λ l. 123 ∷ (l ++ 125 ∷ []))
           (ap (λ l. operator_text (operator_of b) ++ split.joined 44 l) vs.1
-          ∙ (ap (λ l. operator_text (operator_of b) ++ l) (joined_pieces 44 (behind_operator b)) ∙ operator_joined b)),
+          ∙ (ap (λ l. operator_text (operator_of b) ++ l) (joined_pieces 44 (after_operator b)) ∙ operator_joined b)),
     )
 
 -- ---- a template that pieces spell
@@ -303,15 +303,15 @@ one_more p ps t r u f k = record {
 body_begins : (o : Operator) (vs : List VarSpec) (b r : List ℕ) → IsBodyOf o vs b → Fine (expression o vs) (123 ∷ (b ++ 125 ∷ r)) r
 body_begins o vs b r k =
     let t = 123 ∷ (b ++ 125 ∷ r) in
-    let body : body_of t ≡ b = before-marked 125 b (Some r) k.closed in
-    let there : behind 125 (b ++ 125 ∷ r) ≡ Some r = behind-marked 125 b (Some r) k.closed in
+    let body : body_of t ≡ b = before-delimited 125 b (Some r) k.closed in
+    let there : after 125 (b ++ 125 ∷ r) ≡ Some r = after-delimited 125 b (Some r) k.closed in
     let begins = expression_begins t r (ap (λ l. 123 ∷ (l ++ 125 ∷ r)) body) in
     let same : expression_of (body_of t) ≡ expression o vs =
-    ap expression_of body ∙ (ap (λ q. expression q (map varspec_of (pieces 44 (behind_operator b)))) k.operator
+    ap expression_of body ∙ (ap (λ q. expression q (map varspec_of (pieces 44 (after_operator b)))) k.operator
     ∙ ap (expression o) k.rest) in
     record {
       begins = subst (λ p. Begins p t r) same begins;
-      fault = ap (λ l. cond l (fault ExpressionNotClosed 0) (moved 1 (body_fault (body_of t)))) (has_mark 125 (b ++ 125 ∷ r) r there)
+      fault = ap (λ l. cond l (fault ExpressionNotClosed 0) (moved 1 (body_fault (body_of t)))) (has_delimiter 125 (b ++ 125 ∷ r) r there)
           ∙ (ap (λ l. moved 1 (body_fault l)) body ∙ still_none 1 (body_fault b) k.fault);
     }
 
@@ -388,19 +388,19 @@ triplet_splits (x ∷ a ∷ b ∷ cs) u e h =
     digits true false d f k = cc
     digits false j d f k = cc
 
-mark_there : (c : ℕ) (t : List ℕ) → lacks c t ≡ false → (r : List ℕ) × (behind c t ≡ Some r)
-mark_there c [] h = cc
-mark_there c (x ∷ xs) h =
-    by_test x c (λ b. (not b && lacks c xs) ≡ false → (r : List ℕ) × (cond b (Some xs) (behind c xs) ≡ Some r)) (λ _ _. (xs, refl))
-    (λ _ k. mark_there c xs k) h
+delimiter_there : (c : ℕ) (t : List ℕ) → lacks c t ≡ false → (r : List ℕ) × (after c t ≡ Some r)
+delimiter_there c [] h = cc
+delimiter_there c (x ∷ xs) h =
+    by_test x c (λ b. (not b && lacks c xs) ≡ false → (r : List ℕ) × (cond b (Some xs) (after c xs) ≡ Some r)) (λ _ _. (xs, refl))
+    (λ _ k. delimiter_there c xs k) h
 
 expression_splits : (t : List ℕ) → IsUtf8 t → first_of t ≡ 123 → expression_fault t ≡ None → Splits t
 expression_splits [] u e h = absurd (omega (arith, e))
 expression_splits (x ∷ xs) u e h =
     let k = closed (lacks 125 xs) _ (moved 1 (body_fault (before 125 xs))) h in
-    let at = mark_there 125 xs k.0 in
+    let at = delimiter_there 125 xs k.0 in
     let is = body_is (before 125 xs) (unmoved 1 (body_fault (before 125 xs)) k.1) in
-    let whole : before 125 xs ++ 125 ∷ at.0 ≡ xs = ap (λ o. before 125 xs ++ marked 125 o) (sym at.1) ∙ joined 125 xs in
+    let whole : before 125 xs ++ 125 ∷ at.0 ≡ xs = ap (λ o. before 125 xs ++ delimited 125 o) (sym at.1) ∙ joined 125 xs in
     let text : 123 ∷ (before 125 xs ++ 125 ∷ at.0) ≡ x ∷ xs = ap (λ n. n ∷ (before 125 xs ++ 125 ∷ at.0)) (sym e) ∙ ap (λ l. x ∷ l) whole in
     record {
       piece = expression_of (before 125 xs);
@@ -408,7 +408,7 @@ expression_splits (x ∷ xs) u e h =
       fine = is.0;
       begins = expression_begins (x ∷ xs) at.0 text;
       joined = ap (λ l. l ++ at.0) is.1 ∙ (ap (λ l. 123 ∷ l) (append_assoc (before 125 xs) (125 ∷ []) at.0) ∙ text);
-      text = text_behind 125 xs at.0 (omega arith) (text_after_ascii x xs u (omega (arith, e))) at.1;
+      text = text_after 125 xs at.0 (omega arith) (text_after_ascii x xs u (omega (arith, e))) at.1;
     }
   where
     closed : (l : Bool) (d : Error) (o : Option Error) → cond l (Some d) o ≡ None → (l ≡ false) × (o ≡ None)

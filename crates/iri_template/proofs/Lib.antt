@@ -4,7 +4,7 @@ pub mod Utf8Faults
 pub mod Steps
 pub mod Bodies
 pub mod Runs
-pub mod Fronts
+pub mod Prefixes
 pub mod VarSpecFaults
 pub mod Walks
 pub mod VarSpecLemmas

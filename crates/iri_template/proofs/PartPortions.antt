@@ -25,7 +25,7 @@ use Rattle.iri_template.specs.declared.operator.Operator.{Operator}
 use Rattle.iri_template.specs.declared.part.Part.{Part}
 use Rattle.iri_template.specs.declared.part.Part.TheVariants as part
 use Rattle.iri_template.proofs.PartWalk.{PartCut}
-use Rattle.iri_template.proofs.PortionWalk.{fault_behind, text_behind, calls_append, HasEnded, ended_more, ended_exit, ended_calls, ended_end}
+use Rattle.iri_template.proofs.PortionWalk.{fault_after, text_after, calls_append, HasEnded, ended_more, ended_exit, ended_calls, ended_end}
 use Rattle.iri_template.proofs.TellWalk.{BothTold, later_none, moved_on, moves_none}
 use Rattle.iri_template.proofs.VarSpecPortions.{calls_of_all}
 use Rattle.iri_template.proofs.Walks.{names_append, literals_have_none}
@@ -47,20 +47,20 @@ outside_calls at (x ∷ xs) = refl
 abbrev written : Tests → List ℕ → List ℕ
 written s cs = flat_map (encoded_char (any_char s)) cs
 
-literals_in : (s : Tests) (f : Telling) (at here : ℕ) (front cs : List ℕ) (ps : List Piece)
-    → portions_from s f at here front (map literal cs ++ ps)
-    ≡ portions_from s f at (here + length (template_text (map literal cs))) (front ++ written s cs) ps
-literals_in s f at here front [] ps =
+literals_in : (s : Tests) (f : Telling) (at here : ℕ) (prefix cs : List ℕ) (ps : List Piece)
+    → portions_from s f at here prefix (map literal cs ++ ps)
+    ≡ portions_from s f at (here + length (template_text (map literal cs))) (prefix ++ written s cs) ps
+literals_in s f at here prefix [] ps =
     let z : here ≡ here + 0 = omega arith in
-    ap (λ l. portions_from s f at here l ps) (sym (append-nil front)) ∙ ap (λ n. portions_from s f at n (front ++ []) ps) z
-literals_in s f at here front (c ∷ cs) ps =
+    ap (λ l. portions_from s f at here l ps) (sym (append-nil prefix)) ∙ ap (λ n. portions_from s f at n (prefix ++ []) ps) z
+literals_in s f at here prefix (c ∷ cs) ps =
     let one = encoded_char (any_char s) c in
     let there = here + length (encode_utf8 c) + length (template_text (map literal cs)) in
     let z : there ≡ here + length (template_text (map literal (c ∷ cs))) =
     omega (arith, length-append (encode_utf8 c) (template_text (map literal cs))) in
-    literals_in s f at (here + length (encode_utf8 c)) (front ++ one) cs ps
-    ∙ ap (λ l. portions_from s f at there l ps) (append_assoc front one (written s cs))
-    ∙ ap (λ n. portions_from s f at n (front ++ written s (c ∷ cs)) ps) z
+    literals_in s f at (here + length (encode_utf8 c)) (prefix ++ one) cs ps
+    ∙ ap (λ l. portions_from s f at there l ps) (append_assoc prefix one (written s cs))
+    ∙ ap (λ n. portions_from s f at n (prefix ++ written s (c ∷ cs)) ps) z
 
 -- literals write at least one byte
 one_written : (s : Tests) (c : ℕ) → 0 < length (encoded_char (any_char s) c)
@@ -85,10 +85,10 @@ unfolding encoded
 literals_are s t = refl
 
 -- they are one portion, whatever follows
-record Begins (s : Tests) (f : Telling) (at here : ℕ) (front : List ℕ) (ps : List Piece) : Type 0 where
+record Begins (s : Tests) (f : Telling) (at here : ℕ) (prefix : List ℕ) (ps : List Piece) : Type 0 where
   more : List ℕ
   others : List Portion
-  split : portions_from s f at here front ps ≡ (record { location = at; text = front ++ more; mistyped = false; calls = 0 }) ∷ others
+  split : portions_from s f at here prefix ps ≡ (record { location = at; text = prefix ++ more; mistyped = false; calls = 0 }) ∷ others
 
 begins : (s : Tests) (f : Telling) (at here x : ℕ) (xs : List ℕ) (ps : List Piece) → Begins s f at here (x ∷ xs) ps
 begins s f at here x xs [] = record {
@@ -114,12 +114,12 @@ begins s f at here x xs (triplet a b ∷ ps) =
     }
 begins s f at here x xs (expression operator vs ∷ ps) =
     let there = here + length (piece_text (expression operator vs)) in
-    let behind = varspec_portions s operator f (here + 1 + length (operator_text operator)) false vs
+    let after = varspec_portions s operator f (here + 1 + length (operator_text operator)) false vs
     ++ portions_from s (later (2 * length vs) f) there there [] ps in
     record {
       more = [];
-      others = behind;
-      split = ap (λ l. (record { location = at; text = l; mistyped = false; calls = 0 }) ∷ behind) (sym (append-nil (x ∷ xs)));
+      others = after;
+      split = ap (λ l. (record { location = at; text = l; mistyped = false; calls = 0 }) ∷ after) (sym (append-nil (x ∷ xs)));
     }
 
 -- a text within the portion after those that are done
@@ -133,51 +133,51 @@ record StandsAt (all done : List Portion) (at : ℕ) (t : List ℕ) : Type 0 whe
   location : here.location ≡ at
   none : here.calls ≡ 0
 
--- ---- what the loop keeps true: the portions in front went in, and the literals and triplets `front` of the one that is being written
+-- ---- what the loop keeps true: the portions before went in, and the literals and triplets `prefix` of the one that is being written
 pub record HasReached {W : Type 0} (s : Tests) (puts : W → List ℕ → W → Type 0) (all : List Portion) (old : W) (f h : Telling) (begin here : ℕ)
     (rest : List ℕ) (new : W) : Type 0 where
   pub done : List Portion
-  pub front : List ℕ
+  pub prefix : List ℕ
   pub mid : W
-  pub split : all ≡ done ++ portions_from s h begin here front (pieces_of rest)
+  pub split : all ≡ done ++ portions_from s h begin here prefix (pieces_of rest)
   pub fine : portions_fault done ≡ None
   pub put : puts old (portions_text done) mid
-  pub into : puts mid front new
+  pub into : puts mid prefix new
   pub moved : MovesBy (calls_in done) (Some f) (Some h)
 
 module _ {W : Type 0} (s : Tests) (puts halts : W → List ℕ → W → Type 0) (laws : AreSinkLaws puts halts) (all : List Portion) (a : W) (f : Telling) where
   -- the portion that was being written has ended
   reached_ended : (h : Telling) (begin here : ℕ) (rest : List ℕ) (left : List Portion) (b : W) (p : HasReached s puts all a f h begin here rest b)
-      → portions_from s h begin here p.front (pieces_of rest) ≡ outside begin p.front ++ left → HasEnded puts all a left b f h
+      → portions_from s h begin here p.prefix (pieces_of rest) ≡ outside begin p.prefix ++ left → HasEnded puts all a left b f h
   reached_ended h begin here rest left b p e = record {
-    done = p.done ++ outside begin p.front;
-    split = p.split ∙ ap (λ l. p.done ++ l) e ∙ sym (append_assoc p.done (outside begin p.front) left);
-    fine = fault_behind p.done (outside begin p.front) p.fine ∙ outside_fault begin p.front;
-    put = subst (λ l. puts a l b) (sym (text_behind p.done (outside begin p.front) p.fine
-        ∙ ap (λ l. portions_text p.done ++ l) (outside_text begin p.front))) (laws.both a p.mid b _ _ p.put p.into);
-    moved = let n : calls_in p.done ≡ calls_in (p.done ++ outside begin p.front) =
-        omega (arith, calls_append p.done (outside begin p.front), outside_calls begin p.front) in
+    done = p.done ++ outside begin p.prefix;
+    split = p.split ∙ ap (λ l. p.done ++ l) e ∙ sym (append_assoc p.done (outside begin p.prefix) left);
+    fine = fault_after p.done (outside begin p.prefix) p.fine ∙ outside_fault begin p.prefix;
+    put = subst (λ l. puts a l b) (sym (text_after p.done (outside begin p.prefix) p.fine
+        ∙ ap (λ l. portions_text p.done ++ l) (outside_text begin p.prefix))) (laws.both a p.mid b _ _ p.put p.into);
+    moved = let n : calls_in p.done ≡ calls_in (p.done ++ outside begin p.prefix) =
+        omega (arith, calls_append p.done (outside begin p.prefix), outside_calls begin p.prefix) in
         subst (λ k. MovesBy k (Some f) (Some h)) n p.moved;
   }
 
   reached_all : (h : Telling) (begin here : ℕ) (rest : List ℕ) (b : W) (x : Unit {0}) → length rest ≡ 0 → HasReached s puts all a f h begin here rest b
       → EndsAs puts halts all a b (Ok x)
   unfolding pieces_from
-  reached_all h begin here [] b x z p = ended_end puts halts laws all a b x f h (reached_ended h begin here [] [] b p (sym (append-nil (outside begin p.front))))
+  reached_all h begin here [] b x z p = ended_end puts halts laws all a b x f h (reached_ended h begin here [] [] b p (sym (append-nil (outside begin p.prefix))))
   reached_all h begin here (y ∷ ys) b x z p = absurd (omega arith)
 
   -- ---- literals and triplets
   module _ (h : Telling) (begin here there : ℕ) (t r x : List ℕ) (pieces_are : List Piece) (cut : pieces_of t ≡ pieces_are ++ pieces_of r)
-      (stands : (front : List ℕ)
-      → portions_from s h begin here front (pieces_are ++ pieces_of r) ≡ portions_from s h begin there (front ++ x) (pieces_of r))
+      (stands : (prefix : List ℕ)
+      → portions_from s h begin here prefix (pieces_are ++ pieces_of r) ≡ portions_from s h begin there (prefix ++ x) (pieces_of r))
       (b c : W) where
-    longer : (p : HasReached s puts all a f h begin here t b) → all ≡ p.done ++ portions_from s h begin there (p.front ++ x) (pieces_of r)
-    longer p = p.split ∙ ap (λ l. p.done ++ l) (ap (portions_from s h begin here p.front) cut ∙ stands p.front)
+    longer : (p : HasReached s puts all a f h begin here t b) → all ≡ p.done ++ portions_from s h begin there (p.prefix ++ x) (pieces_of r)
+    longer p = p.split ∙ ap (λ l. p.done ++ l) (ap (portions_from s h begin here p.prefix) cut ∙ stands p.prefix)
 
     literals_more : puts b x c → HasReached s puts all a f h begin here t b → HasReached s puts all a f h begin there r c
     literals_more q p = record {
       done = p.done;
-      front = p.front ++ x;
+      prefix = p.prefix ++ x;
       mid = p.mid;
       split = longer p;
       fine = p.fine;
@@ -187,11 +187,11 @@ module _ {W : Type 0} (s : Tests) (puts halts : W → List ℕ → W → Type 0)
     }
 
     -- they are among the portion after those that went in
-    literals_stand_at : 0 < length x → (p : HasReached s puts all a f h begin here t b) → StandsAt all p.done begin (p.front ++ x)
-    literals_stand_at some p = found (p.front ++ x) refl
+    literals_stand_at : 0 < length x → (p : HasReached s puts all a f h begin here t b) → StandsAt all p.done begin (p.prefix ++ x)
+    literals_stand_at some p = found (p.prefix ++ x) refl
       where
-        found : (front : List ℕ) → front ≡ p.front ++ x → StandsAt all p.done begin (p.front ++ x)
-        found [] e = let z = ap length e in absurd (omega (arith, length-append p.front x))
+        found : (prefix : List ℕ) → prefix ≡ p.prefix ++ x → StandsAt all p.done begin (p.prefix ++ x)
+        found [] e = let z = ap length e in absurd (omega (arith, length-append p.prefix x))
         found (z ∷ zs) e =
             let k = begins s h begin there z zs (pieces_of r) in
             record {
@@ -211,16 +211,16 @@ module _ {W : Type 0} (s : Tests) (puts halts : W → List ℕ → W → Type 0)
         let d = literals_stand_at some p in
         subst (λ (e : Error). EndsAs puts halts all a c (Err e)) (sym is) (record {
           reached = record {
-            front = p.done;
+            prefix = p.done;
             here = d.here;
             rest = d.rest;
             split = d.split;
-            fine = fault_behind p.done (d.here ∷ []) p.fine ∙ ap (λ b. cond b (fault UnexpectedValueType d.here.location) None) d.right;
+            fine = fault_after p.done (d.here ∷ []) p.fine ∙ ap (λ b. cond b (fault UnexpectedValueType d.here.location) None) d.right;
             location = d.location;
           };
           mid = p.mid;
           put = p.put;
-          halt = subst (λ l. halts p.mid l c) (sym d.text) (laws.within p.mid c (p.front ++ x) d.more (laws.until p.mid b c p.front x p.into q));
+          halt = subst (λ l. halts p.mid l c) (sym d.text) (laws.within p.mid c (p.prefix ++ x) d.more (laws.until p.mid b c p.prefix x p.into q));
         })
 
     literals_calls : 0 < length x → (at : ℕ) (now : Option Telling) → at ≡ begin → now ≡ Some h → HasReached s puts all a f h begin here t b
@@ -229,7 +229,7 @@ module _ {W : Type 0} (s : Tests) (puts halts : W → List ℕ → W → Type 0)
         let d = literals_stand_at some p in
         let n : calls_in p.done ≡ calls_in p.done + d.here.calls + 0 = omega (arith, d.none) in
         record {
-          front = p.done;
+          prefix = p.done;
           here = d.here;
           rest = d.rest;
           split = d.split;
@@ -244,26 +244,26 @@ module _ {W : Type 0} (s : Tests) (puts halts : W → List ℕ → W → Type 0)
     abbrev inner : List Portion
     inner = varspec_portions s operator h at false vs
 
-    abbrev behind_it : ℕ → List Portion
-    behind_it there = portions_from s (later (2 * length vs) h) there there [] (pieces_of r)
+    abbrev after_it : ℕ → List Portion
+    after_it there = portions_from s (later (2 * length vs) h) there there [] (pieces_of r)
 
     opened : (there : ℕ) → there ≡ here + length (piece_text (expression operator vs)) → HasReached s puts all a f h begin here t b
-        → HasEnded puts all a (inner ++ behind_it there) b f h
+        → HasEnded puts all a (inner ++ after_it there) b f h
     opened there e p =
-        reached_ended h begin here t (inner ++ behind_it there) b p (ap (portions_from s h begin here p.front) cut
-        ∙ ap (λ n. outside begin p.front ++ (varspec_portions s operator h n false vs
-        ++ behind_it (here + length (piece_text (expression operator vs))))) (sym placed)
-        ∙ ap (λ n. outside begin p.front ++ (inner ++ behind_it n)) (sym e))
+        reached_ended h begin here t (inner ++ after_it there) b p (ap (portions_from s h begin here p.prefix) cut
+        ∙ ap (λ n. outside begin p.prefix ++ (varspec_portions s operator h n false vs
+        ++ after_it (here + length (piece_text (expression operator vs))))) (sym placed)
+        ∙ ap (λ n. outside begin p.prefix ++ (inner ++ after_it n)) (sym e))
 
     expression_more : (there : ℕ) (x : Unit {0}) → there ≡ here + length (piece_text (expression operator vs)) → EndsAs puts halts inner b c (Ok x)
         → HasReached s puts all a f h begin here t b → HasReached s puts all a f (later (2 * length vs) h) there there r c
     expression_more there x e q p =
         let two : calls_in inner ≡ 2 * length vs = calls_of_all s operator h at false vs q.0 in
-        let k = ended_more puts halts laws all inner (behind_it there) a b c x f h (later (2 * length vs) h)
+        let k = ended_more puts halts laws all inner (after_it there) a b c x f h (later (2 * length vs) h)
         (subst (λ n. MovesBy n (Some h) (Some (later (2 * length vs) h))) (sym two) (λ k name purpose. refl)) (opened there e p) q in
         record {
           done = k.done;
-          front = [];
+          prefix = [];
           mid = c;
           split = k.split;
           fine = k.fine;
@@ -276,32 +276,32 @@ module _ {W : Type 0} (s : Tests) (puts halts : W → List ℕ → W → Type 0)
         → EndsAs puts halts all a c (Err error)
     expression_exit error q p =
         let there = here + length (piece_text (expression operator vs)) in
-        ended_exit puts halts laws all inner (behind_it there) a b c f h error (opened there refl p) q
+        ended_exit puts halts laws all inner (after_it there) a b c f h error (opened there refl p) q
 
     expression_calls : (at_now : ℕ) (now : Option Telling) → CallsUpTo inner at_now 0 (Some h) now → HasReached s puts all a f h begin here t b
         → CallsUpTo all at_now 0 (Some f) now
     expression_calls at_now now q p =
         let there = here + length (piece_text (expression operator vs)) in
-        ended_calls puts halts laws all inner (behind_it there) a b f h at_now now (opened there refl p) q
+        ended_calls puts halts laws all inner (after_it there) a b f h at_now now (opened there refl p) q
 
   -- ---- a part
   moved_none : (h k : Telling) → MovesBy 0 (Some h) (Some k) → h ≡ k
   moved_none h k m = sym (moved_on 0 h k m ∙ later_none h)
 
   literals_stand : (h : Telling) (begin here there : ℕ) (l r : List ℕ) → there ≡ here + length (template_text (map literal (chars l)))
-      → (front : List ℕ) → portions_from s h begin here front (map literal (chars l) ++ pieces_of r)
-      ≡ portions_from s h begin there (front ++ encoded (any_char s) l) (pieces_of r)
-  literals_stand h begin here there l r e front = literals_in s h begin here front (chars l) (pieces_of r)
-      ∙ ap (λ n. portions_from s h begin n (front ++ written s (chars l)) (pieces_of r)) (sym e)
-      ∙ ap (λ w. portions_from s h begin there (front ++ w) (pieces_of r)) (literals_are s l)
+      → (prefix : List ℕ) → portions_from s h begin here prefix (map literal (chars l) ++ pieces_of r)
+      ≡ portions_from s h begin there (prefix ++ encoded (any_char s) l) (pieces_of r)
+  literals_stand h begin here there l r e prefix = literals_in s h begin here prefix (chars l) (pieces_of r)
+      ∙ ap (λ n. portions_from s h begin n (prefix ++ written s (chars l)) (pieces_of r)) (sym e)
+      ∙ ap (λ w. portions_from s h begin there (prefix ++ w) (pieces_of r)) (literals_are s l)
 
-  triplet_stands : (h : Telling) (begin here there : ℕ) (l : Bor (List ℕ)) (front x r : List ℕ) → there ≡ here + length x
+  triplet_stands : (h : Telling) (begin here there : ℕ) (l : Bor (List ℕ)) (prefix x r : List ℕ) → there ≡ here + length x
       → x ≡ template_text (part_pieces (part.Triplet l))
-      → portions_from s h begin here front (part_pieces (part.Triplet l) ++ pieces_of r) ≡ portions_from s h begin there (front ++ x) (pieces_of r)
-  triplet_stands h begin here there l front x r e text =
-      ap (λ n. portions_from s h begin (here + n) (front ++ template_text (part_pieces (part.Triplet l))) (pieces_of r)) (sym (ap length text))
-      ∙ ap (λ n. portions_from s h begin n (front ++ template_text (part_pieces (part.Triplet l))) (pieces_of r)) (sym e)
-      ∙ ap (λ u. portions_from s h begin there (front ++ u) (pieces_of r)) (sym text)
+      → portions_from s h begin here prefix (part_pieces (part.Triplet l) ++ pieces_of r) ≡ portions_from s h begin there (prefix ++ x) (pieces_of r)
+  triplet_stands h begin here there l prefix x r e text =
+      ap (λ n. portions_from s h begin (here + n) (prefix ++ template_text (part_pieces (part.Triplet l))) (pieces_of r)) (sym (ap length text))
+      ∙ ap (λ n. portions_from s h begin n (prefix ++ template_text (part_pieces (part.Triplet l))) (pieces_of r)) (sym e)
+      ∙ ap (λ u. portions_from s h begin there (prefix ++ u) (pieces_of r)) (sym text)
 
   part_more : (p : Part) (t r x : List ℕ) (begin here there : ℕ) (b c : W) (y : Unit {0}) → PartCut p t r → IsPlaced p here
       → x ≡ template_text (part_pieces p) → there ≡ here + (length t - length r) → (h k : Telling) → MovesBy (calls_of p) (Some h) (Some k)
@@ -315,7 +315,7 @@ module _ {W : Type 0} (s : Tests) (puts halts : W → List ℕ → W → Type 0)
       let z = ap length text in
       subst (λ (n : Telling). HasReached s puts all a f n begin there r c) (moved_none h k m)
       (literals_more h begin here there t r x (part_pieces (part.Triplet l)) cut.pieces
-      (λ front. triplet_stands h begin here there l front x r (omega (arith, z, cut.len, e)) text) b c q p)
+      (λ prefix. triplet_stands h begin here there l prefix x r (omega (arith, z, cut.len, e)) text) b c q p)
   part_more (part.Expression x) t r u begin here there b c y cut placed text e h k m q p =
       let vs = map varspec_of (pieces 44 x.varspecs.now) in
       let z : length (template_text (part_pieces (part.Expression x))) ≡ length (piece_text (expression x.operator vs)) =
@@ -335,7 +335,7 @@ module _ {W : Type 0} (s : Tests) (puts halts : W → List ℕ → W → Type 0)
   part_exit (part.Triplet l) t r x begin here b c error cut placed text shorter h q p =
       let z = ap length text in
       literals_exit h begin here (here + length x) t r x (part_pieces (part.Triplet l)) cut.pieces
-      (λ front. triplet_stands h begin here (here + length x) l front x r refl text) b c (omega (arith, z, cut.len)) error q.0 q.1 p
+      (λ prefix. triplet_stands h begin here (here + length x) l prefix x r refl text) b c (omega (arith, z, cut.len)) error q.0 q.1 p
   part_exit (part.Expression x) t r u begin here b c error cut placed text shorter h q p =
       expression_exit h begin here t r x.operator (map varspec_of (pieces 44 x.varspecs.now)) x.location cut.pieces placed b c error q p
 
@@ -351,7 +351,7 @@ module _ {W : Type 0} (s : Tests) (puts halts : W → List ℕ → W → Type 0)
   part_calls (part.Triplet l) t r x begin here b c at now cut placed text shorter h q p =
       let z = ap length text in
       literals_calls h begin here (here + length x) t r x (part_pieces (part.Triplet l)) cut.pieces
-      (λ front. triplet_stands h begin here (here + length x) l front x r refl text) b c (omega (arith, z, cut.len)) at now q.0 q.1 p
+      (λ prefix. triplet_stands h begin here (here + length x) l prefix x r refl text) b c (omega (arith, z, cut.len)) at now q.0 q.1 p
   part_calls (part.Expression x) t r u begin here b c at now cut placed text shorter h q p =
       expression_calls h begin here t r x.operator (map varspec_of (pieces 44 x.varspecs.now)) x.location cut.pieces placed b c at now q p
 
@@ -369,7 +369,7 @@ module _ {W : Type 0} (s : Tests) (puts halts : W → List ℕ → W → Type 0)
       let z : 0 ≡ length whole - length whole = omega arith in
       record {
         done = [];
-        front = [];
+        prefix = [];
         mid = a;
         split = ap (λ n. portions_from s f 0 n [] (pieces_of whole)) z;
         fine = refl;

@@ -7,7 +7,7 @@ use Rattle.std.proofs.lemmas.Grind.{flat_map-append}
 use Rattle.std.proofs.lemmas.Str.{is_utf8-from_IsUtf8}
 use Rattle.iri_template.specs.Template.{Piece, literal, piece_text, template_text}
 use Rattle.iri_template.specs.Fault.{fault, fault_from, text_fault, first}
-use Rattle.iri_template.specs.inside.Parts.{part_pieces, part_fault, IsFront}
+use Rattle.iri_template.specs.inside.Parts.{part_pieces, part_fault, IsPrefix}
 use Rattle.iri_template.specs.Reading.{pieces_from, pieces_of}
 use Rattle.iri_template.specs.ShownValues.{ShownValue}
 use Rattle.iri_template.specs.TypeFaults.{piece_type_fault, type_fault_from}
@@ -30,7 +30,7 @@ pub record PartCut (p : Part) (t r : List ℕ) : Type 0 where
   pub text : t ≡ template_text (part_pieces p) ++ r
   pub len : length t ≡ length (template_text (part_pieces p)) + length r
 
-pub part_cut : (p : Part) (at : ℕ) (t r : List ℕ) → IsFront p t at r → IsUtf8 t → IsUtf8 r → text_fault t ≡ None → PartCut p t r
+pub part_cut : (p : Part) (at : ℕ) (t r : List ℕ) → IsPrefix p t at r → IsUtf8 t → IsUtf8 r → text_fault t ≡ None → PartCut p t r
 part_cut p at t r k u v h =
     let both = neither (part_fault p) (fault_from 0 (at + (length t - length r)) r) (sym k.fault ∙ fine_there at t h) in
     let fine = none_anywhere (at + (length t - length r)) r both.1 in

@@ -13,41 +13,41 @@ use Rattle.iri_template.specs.declared.error.ErrorKind.TheVariants.{InvalidPerce
 use Rattle.iri_template.proofs.TellWalk.{moves_none, moves_more, moved_on}
 
 -- ---- after portions that aren't mistyped
-pub fault_behind : (ps qs : List Portion) → portions_fault ps ≡ None → portions_fault (ps ++ qs) ≡ portions_fault qs
-fault_behind [] qs h = refl
-fault_behind (p ∷ ps) qs h =
+pub fault_after : (ps qs : List Portion) → portions_fault ps ≡ None → portions_fault (ps ++ qs) ≡ portions_fault qs
+fault_after [] qs h = refl
+fault_after (p ∷ ps) qs h =
     elim p.mistyped as (λ b. cond b (fault UnexpectedValueType p.location) (portions_fault ps) ≡ None
     → cond b (fault UnexpectedValueType p.location) (portions_fault (ps ++ qs)) ≡ portions_fault qs) [
       | true ↦ λ k. cc
-      | false ↦ λ k. fault_behind ps qs k
+      | false ↦ λ k. fault_after ps qs k
     ] h
 
-pub text_behind : (ps qs : List Portion) → portions_fault ps ≡ None → portions_text (ps ++ qs) ≡ portions_text ps ++ portions_text qs
-text_behind [] qs h = refl
-text_behind (p ∷ ps) qs h =
+pub text_after : (ps qs : List Portion) → portions_fault ps ≡ None → portions_text (ps ++ qs) ≡ portions_text ps ++ portions_text qs
+text_after [] qs h = refl
+text_after (p ∷ ps) qs h =
     elim p.mistyped as (λ b. cond b (fault UnexpectedValueType p.location) (portions_fault ps) ≡ None
     → cond b [] (p.text ++ portions_text (ps ++ qs)) ≡ cond b [] (p.text ++ portions_text ps) ++ portions_text qs) [
       | true ↦ λ k. cc
-      | false ↦ λ k. ap (λ l. p.text ++ l) (text_behind ps qs k) ∙ sym (append_assoc p.text (portions_text ps) (portions_text qs))
+      | false ↦ λ k. ap (λ l. p.text ++ l) (text_after ps qs k) ∙ sym (append_assoc p.text (portions_text ps) (portions_text qs))
     ] h
 
--- ---- in front of others
-pub fault_in_front : (ps qs : List Portion) (e : Error) → portions_fault ps ≡ Some e → portions_fault (ps ++ qs) ≡ Some e
-fault_in_front [] qs e h = cc
-fault_in_front (p ∷ ps) qs e h =
+-- ---- before others
+pub fault_before : (ps qs : List Portion) (e : Error) → portions_fault ps ≡ Some e → portions_fault (ps ++ qs) ≡ Some e
+fault_before [] qs e h = cc
+fault_before (p ∷ ps) qs e h =
     elim p.mistyped as (λ b. cond b (fault UnexpectedValueType p.location) (portions_fault ps) ≡ Some e
     → cond b (fault UnexpectedValueType p.location) (portions_fault (ps ++ qs)) ≡ Some e) [
       | true ↦ λ k. k
-      | false ↦ λ k. fault_in_front ps qs e k
+      | false ↦ λ k. fault_before ps qs e k
     ] h
 
-pub text_in_front : (ps qs : List Portion) (e : Error) → portions_fault ps ≡ Some e → portions_text (ps ++ qs) ≡ portions_text ps
-text_in_front [] qs e h = cc
-text_in_front (p ∷ ps) qs e h =
+pub text_before : (ps qs : List Portion) (e : Error) → portions_fault ps ≡ Some e → portions_text (ps ++ qs) ≡ portions_text ps
+text_before [] qs e h = cc
+text_before (p ∷ ps) qs e h =
     elim p.mistyped as (λ b. cond b (fault UnexpectedValueType p.location) (portions_fault ps) ≡ Some e
     → cond b [] (p.text ++ portions_text (ps ++ qs)) ≡ cond b [] (p.text ++ portions_text ps)) [
       | true ↦ λ k. refl
-      | false ↦ λ k. ap (λ l. p.text ++ l) (text_in_front ps qs e k)
+      | false ↦ λ k. ap (λ l. p.text ++ l) (text_before ps qs e k)
     ] h
 
 -- ---- the calls that they take
@@ -55,7 +55,7 @@ pub calls_append : (ps qs : List Portion) → calls_in (ps ++ qs) ≡ calls_in p
 calls_append [] qs = omega arith
 calls_append (p ∷ ps) qs = let e = calls_append ps qs in omega (arith, e)
 
--- ---- what a loop keeps true: the portions in front of those that are left went in, with the calls that they take
+-- ---- what a loop keeps true: the portions before those that are left went in, with the calls that they take
 pub record HasEnded {W : Type 0} (puts : W → List ℕ → W → Type 0) (all : List Portion) (old : W) (left : List Portion) (new : W) (f h : Telling)
     : Type 0 where
   pub done : List Portion
@@ -73,8 +73,8 @@ module _ {W : Type 0} (puts halts : W → List ℕ → W → Type 0) (laws : Are
   ended_more all qs left a b c x f g k m h q = record {
     done = h.done ++ qs;
     split = h.split ∙ sym (append_assoc h.done qs left);
-    fine = fault_behind h.done qs h.fine ∙ q.0;
-    put = subst (λ l. puts a l c) (sym (text_behind h.done qs h.fine)) (laws.both a b c _ _ h.put q.1);
+    fine = fault_after h.done qs h.fine ∙ q.0;
+    put = subst (λ l. puts a l c) (sym (text_after h.done qs h.fine)) (laws.both a b c _ _ h.put q.1);
     moved = subst (λ n. MovesBy n (Some f) (Some k)) (sym (calls_append h.done qs))
         (moves_more (calls_in h.done) (calls_in qs) (Some f) (Some g) (Some k) h.moved m);
   }
@@ -85,10 +85,10 @@ module _ {W : Type 0} (puts halts : W → List ℕ → W → Type 0) (laws : Are
       (ap portions_fault (sym same) ∙ h.fine, subst (λ ps. puts a (portions_text ps) b) same h.put)
 
   -- a portion among the next ones
-  behind : (all qs left done front rest : List Portion) (here : Portion) → all ≡ done ++ (qs ++ left) → qs ≡ front ++ here ∷ rest
-      → all ≡ (done ++ front) ++ here ∷ (rest ++ left)
-  behind all qs left done front rest here e r = e ∙ ap (λ l. done ++ (l ++ left)) r
-      ∙ ap (λ l. done ++ l) (append_assoc front (here ∷ rest) left) ∙ sym (append_assoc done front (here ∷ (rest ++ left)))
+  after : (all qs left done prefix rest : List Portion) (here : Portion) → all ≡ done ++ (qs ++ left) → qs ≡ prefix ++ here ∷ rest
+      → all ≡ (done ++ prefix) ++ here ∷ (rest ++ left)
+  after all qs left done prefix rest here e r = e ∙ ap (λ l. done ++ (l ++ left)) r
+      ∙ ap (λ l. done ++ l) (append_assoc prefix (here ∷ rest) left) ∙ sym (append_assoc done prefix (here ∷ (rest ++ left)))
 
   -- a stop within one of the next portions
   stopped : (all qs left : List Portion) (a b c : W) (f g : Telling) (at : ℕ) → HasEnded puts all a (qs ++ left) b f g
@@ -97,24 +97,24 @@ module _ {W : Type 0} (puts halts : W → List ℕ → W → Type 0) (laws : Are
       let r = q.reached in
       record {
         reached = record {
-          front = h.done ++ r.front;
+          prefix = h.done ++ r.prefix;
           here = r.here;
           rest = r.rest ++ left;
-          split = behind all qs left h.done r.front r.rest r.here h.split r.split;
-          fine = ap portions_fault (append_assoc h.done r.front (r.here ∷ [])) ∙ fault_behind h.done (r.front ++ r.here ∷ []) h.fine ∙ r.fine;
+          split = after all qs left h.done r.prefix r.rest r.here h.split r.split;
+          fine = ap portions_fault (append_assoc h.done r.prefix (r.here ∷ [])) ∙ fault_after h.done (r.prefix ++ r.here ∷ []) h.fine ∙ r.fine;
           location = r.location;
         };
         mid = q.mid;
-        put = subst (λ l. puts a l q.mid) (sym (text_behind h.done r.front h.fine)) (laws.both a b q.mid _ _ h.put q.put);
+        put = subst (λ l. puts a l q.mid) (sym (text_after h.done r.prefix h.fine)) (laws.both a b q.mid _ _ h.put q.put);
         halt = q.halt;
       }
 
   refused : (all qs left : List Portion) (a b c : W) (f g : Telling) (e : Error) (kind : ErrorKind) → HasEnded puts all a (qs ++ left) b f g
       → IsRefused puts halts qs b c e kind → IsRefused puts halts all a c e kind
   refused all qs left a b c f g e UnexpectedValueType h q = (
-    ap portions_fault h.split ∙ fault_behind h.done (qs ++ left) h.fine ∙ fault_in_front qs left e q.0,
-    subst (λ l. puts a l c) (sym (ap portions_text h.split ∙ text_behind h.done (qs ++ left) h.fine
-        ∙ ap (λ l. portions_text h.done ++ l) (text_in_front qs left e q.0))) (laws.both a b c _ _ h.put q.1),
+    ap portions_fault h.split ∙ fault_after h.done (qs ++ left) h.fine ∙ fault_before qs left e q.0,
+    subst (λ l. puts a l c) (sym (ap portions_text h.split ∙ text_after h.done (qs ++ left) h.fine
+        ∙ ap (λ l. portions_text h.done ++ l) (text_before qs left e q.0))) (laws.both a b c _ _ h.put q.1),
   )
   refused all qs left a b c f g e WriteFailed h q = stopped all qs left a b c f g e.location h q
   refused all qs left a b c f g e ExpressionNotClosed h q = absurd q
@@ -133,17 +133,17 @@ module _ {W : Type 0} (puts halts : W → List ℕ → W → Type 0) (laws : Are
   pub ended_calls : (all qs left : List Portion) (a b : W) (f g : Telling) (at : ℕ) (now : Option Telling) → HasEnded puts all a (qs ++ left) b f g
       → CallsUpTo qs at 0 (Some g) now → CallsUpTo all at 0 (Some f) now
   ended_calls all qs left a b f g at now h q =
-      let e : calls_in h.done + (calls_in q.front + q.here.calls + 0) ≡ calls_in (h.done ++ q.front) + q.here.calls + 0 =
-      omega (arith, calls_append h.done q.front) in
+      let e : calls_in h.done + (calls_in q.prefix + q.here.calls + 0) ≡ calls_in (h.done ++ q.prefix) + q.here.calls + 0 =
+      omega (arith, calls_append h.done q.prefix) in
       record {
-        front = h.done ++ q.front;
+        prefix = h.done ++ q.prefix;
         here = q.here;
         rest = q.rest ++ left;
-        split = behind all qs left h.done q.front q.rest q.here h.split q.split;
-        fine = fault_behind h.done q.front h.fine ∙ q.fine;
+        split = after all qs left h.done q.prefix q.rest q.here h.split q.split;
+        fine = fault_after h.done q.prefix h.fine ∙ q.fine;
         location = q.location;
         moves = subst (λ n. MovesBy n (Some f) now) e
-            (moves_more (calls_in h.done) (calls_in q.front + q.here.calls + 0) (Some f) (Some g) now h.moved q.moves);
+            (moves_more (calls_in h.done) (calls_in q.prefix + q.here.calls + 0) (Some f) (Some g) now h.moved q.moves);
       }
 
 -- ---- between the callbacks at the start and at the end of an expansion
@@ -154,10 +154,10 @@ calls_between t u w z ps (Ok x) m n q = tt
 calls_between None u w z ps (Err e) m n q = tt
 calls_between (Some f) None w z ps (Err e) m n q = absurd m
 calls_between (Some f) (Some g) w z ps (Err e) m n q =
-    let k = calls_in q.front + q.here.calls in
+    let k = calls_in q.prefix + q.here.calls in
     let sum : 1 + (k + 0) + 1 ≡ k + 2 = omega arith in
     record {
-      front = q.front;
+      prefix = q.prefix;
       here = q.here;
       rest = q.rest;
       split = ap ps (sym (moved_on 1 f g m)) ∙ q.split;

@@ -47,15 +47,15 @@ some_left s {puts} {halts} {stops} {a} {b} {r} c n h put =
     let more : (n == 0) ≡ false = grind (arith, nat_tests) in
     subst (λ t. Shows puts halts stops a t b r) (sym (ap (λ v. cond v [] (encoded_char (unreserved s) c)) more)) put
 
-front_all : (s : Tests) (n : ℕ) (cs : List ℕ) → texts prefix_step (char_text s) n cs ≡ flat_map (encoded_char (unreserved s)) (take n cs)
-front_all s zero cs = none_left s cs 0 refl
-front_all s (suc n) [] = refl
-front_all s (suc n) (c ∷ cs) =
+prefix_all : (s : Tests) (n : ℕ) (cs : List ℕ) → texts prefix_step (char_text s) n cs ≡ flat_map (encoded_char (unreserved s)) (take n cs)
+prefix_all s zero cs = none_left s cs 0 refl
+prefix_all s (suc n) [] = refl
+prefix_all s (suc n) (c ∷ cs) =
     let some : (suc n == 0) ≡ false = grind (arith, nat_tests) in
     let less : suc n - 1 ≡ n = omega arith in
     ap (λ b. cond b [] (encoded_char (unreserved s) c) ++ texts prefix_step (char_text s) (suc n - 1) cs) some
     ∙ ap (λ m. encoded_char (unreserved s) c ++ texts prefix_step (char_text s) m cs) less
-    ∙ ap (λ l. encoded_char (unreserved s) c ++ l) (front_all s n cs)
+    ∙ ap (λ l. encoded_char (unreserved s) c ++ l) (prefix_all s n cs)
 
 module _ {S W : Type 0} (s : Tests) {puts halts : W → List ℕ → W → Type 0} {stops : W → ℕ} (laws : AreSinkLaws puts halts) where
   -- what was written to the sink after it
@@ -64,7 +64,7 @@ module _ {S W : Type 0} (s : Tests) {puts halts : W → List ℕ → W → Type 
       → Shows puts halts stops a.to.now (prefix_text s a.left t) b.to.now r × (b.to.ghost_name ≡ a.to.ghost_name)
   prefix_shown a b t (Ok x) q = (
     record {
-      appends = subst (λ l. puts a.to.now l b.to.now) (front_all s a.left (chars t)) q.appends.put.put;
+      appends = subst (λ l. puts a.to.now l b.to.now) (prefix_all s a.left (chars t)) q.appends.put.put;
       stops_within = tt;
       rose = tt;
       later = q.later;
@@ -76,7 +76,7 @@ module _ {S W : Type 0} (s : Tests) {puts halts : W → List ℕ → W → Type 
       (λ (e : PrefixSink S W). e.to.ghost_name) laws) t q.stops_within in (
         record {
           appends = tt;
-          stops_within = subst (λ l. halts a.to.now l b.to.now) (front_all s a.left (chars t)) h.halt;
+          stops_within = subst (λ l. halts a.to.now l b.to.now) (prefix_all s a.left (chars t)) h.halt;
           rose = q.rose;
           later = q.later;
         },

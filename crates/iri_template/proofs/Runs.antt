@@ -17,11 +17,11 @@ use Rattle.iri_template.specs.Template.{literal_char}
 use Rattle.iri_template.specs.Reading.{first_of}
 use Rattle.iri_template.specs.inside.Parts.{IsPastLiterals}
 
-run_front : (q : ℕ → Bool) (t : List ℕ) → list_all q (take (run_of q t) t) ≡ true
-run_front q [] = refl
-run_front q (x ∷ xs) =
+run_prefix : (q : ℕ → Bool) (t : List ℕ) → list_all q (take (run_of q t) t) ≡ true
+run_prefix q [] = refl
+run_prefix q (x ∷ xs) =
     elim (q x) as (λ b. q x ≡ b → list_all q (take (cond b (suc (run_of q xs)) 0) (x ∷ xs)) ≡ true) [
-      | true ↦ λ e. rw e (run_front q xs)
+      | true ↦ λ e. rw e (run_prefix q xs)
       | false ↦ λ _. refl
     ] refl
 
@@ -37,7 +37,7 @@ literals (x ∷ xs) h =
 pub run_passed : (t r : List ℕ) → r ≡ drop (run_of is_ascii_any t) t → length r < length t → IsPastLiterals t r
 run_passed t r e h =
     let n = run_of is_ascii_any t in
-    let k = literals (take n t) (run_front is_ascii_any t) in
+    let k = literals (take n t) (run_prefix is_ascii_any t) in
     record {
       literals = take n t;
       all = k.0;

@@ -79,9 +79,9 @@ pub first_get : (t : List ℕ) → first_of t ≡ get_or t 0 0
 first_get [] = refl
 first_get (x ∷ xs) = refl
 
-front_apart : (c d : ℕ) (r : List ℕ) → literal_char c ≡ true → literal_char d ≡ false → d < 128
+prefix_apart : (c d : ℕ) (r : List ℕ) → literal_char c ≡ true → literal_char d ≡ false → d < 128
     → (first_of (encode_utf8 c ++ r) == d) ≡ false
-front_apart c d r h k l =
+prefix_apart c d r h k l =
     by_test (first_of (encode_utf8 c ++ r)) d (λ b. b ≡ false) (λ e.
     let is = first_get (encode_utf8 c ++ r) in
     let some : 0 < length (encode_utf8 c ++ r) = omega (arith, length-append (encode_utf8 c) r, length-encode c, (len_utf8_bounds c).0) in
@@ -102,8 +102,8 @@ pub record Fine (p : Piece) (t r : List ℕ) : Type 0 where
 
 pub literal_begins : (c : ℕ) (t r : List ℕ) → literal_char c ≡ true → IsUtf8 t → t ≡ encode_utf8 c ++ r → Fine (literal c) t r
 literal_begins c t r h u e =
-    let brace : (first_of t == 123) ≡ false = ap (λ x. first_of x == 123) e ∙ front_apart c 123 r h brace_is_none (omega arith) in
-    let percent : (first_of t == 37) ≡ false = ap (λ x. first_of x == 37) e ∙ front_apart c 37 r h percent_is_none (omega arith) in
+    let brace : (first_of t == 123) ≡ false = ap (λ x. first_of x == 123) e ∙ prefix_apart c 123 r h brace_is_none (omega arith) in
+    let percent : (first_of t == 37) ≡ false = ap (λ x. first_of x == 37) e ∙ prefix_apart c 37 r h percent_is_none (omega arith) in
     let char : first_of (chars t) ≡ c = ap first_of (chars_past_char t r c u e) in
     let len : piece_len t ≡ len_utf8 c = plain_len (first_of t) t brace percent ∙ ap len_utf8 char in
     let past : drop (len_utf8 c) t ≡ r = ap (drop (len_utf8 c)) e
@@ -191,6 +191,6 @@ expression_begins t r e =
     }
 
 -- ---- a fault at the start
-pub fault_at_front : (at : ℕ) (t : List ℕ) (e : Error) → 0 < length t → 0 < piece_len t → moved at (piece_fault t) ≡ Some e
+pub fault_at_start : (at : ℕ) (t : List ℕ) (e : Error) → 0 < length t → 0 < piece_len t → moved at (piece_fault t) ≡ Some e
     → fault_from 0 at t ≡ Some e
-fault_at_front at t e some len h = fault_step at t some len ∙ ap (λ f. first f (fault_from 0 (at + piece_len t) (drop (piece_len t) t))) h
+fault_at_start at t e some len h = fault_step at t some len ∙ ap (λ f. first f (fault_from 0 (at + piece_len t) (drop (piece_len t) t))) h

@@ -7,7 +7,7 @@ use Rattle.iri_text.specs.declared.shown.show.Stop.{Stop}
 use Rattle.iri_text.specs.inside.Through.{after, texts}
 use Rattle.iri_text.proofs.ThroughLaws.{texts-one, after-append, texts-append}
 
--- the texts of what is in front of the rest went in, and this is the state after them
+-- the texts of what is before the rest went in, and this is the state after them
 pub record HasPutUpTo {X S W : Type 0} (step : S → X → S) (text : S → X → List ℕ) (puts : W → List ℕ → W → Type 0) (stops : W → ℕ)
     (first : S) (all : List X) (old : W) (now : S) (rest : List X) (new : W) : Type 0 where
   pub before : List ℕ

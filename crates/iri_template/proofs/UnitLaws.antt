@@ -12,12 +12,12 @@ use Rattle.iri_grammar.specs.Classes.{Tests}
 use Rattle.iri_percent.specs.Units.{TextUnit, Plain, Char, Stray, is_triplet, octet, octets, well_formed, first_char, triplet_unit}
 use Rattle.iri_percent.specs.Units.{byte_unit, first_unit, unit_text, units_from, units}
 use Rattle.iri_percent.proofs.UnitLaws.{first_char_is, char_first, octets_other, byte_other, units_from_drop}
-use Rattle.iri_percent.specs.MarkLaws.{IsMark}
-use Rattle.iri_percent.proofs.MarkLaws.{char_within, unit_within, units_mark}
+use Rattle.iri_percent.specs.DelimiterLaws.{IsOutsideTriplets}
+use Rattle.iri_percent.proofs.DelimiterLaws.{char_within, unit_within, units_delimiter}
 use Rattle.iri_percent.proofs.Characters.{first_of_four}
 use Rattle.iri_text.specs.inside.Through.{after, texts}
 use Rattle.iri_template.specs.Expansion.{limited, kept_unit}
-use Rattle.iri_template.specs.inside.UnitSteps.{is_part, is_closed, is_settled, behind_unit, told_units, left_over, UnitState, fewer}
+use Rattle.iri_template.specs.inside.UnitSteps.{is_part, is_closed, is_settled, after_unit, told_units, left_over, UnitState, fewer}
 use Rattle.iri_template.specs.inside.UnitSteps.{step_units, step_pending, is_used_up, next_state, unit_step, written_units, unit_step_text}
 
 -- ---- octets, whatever follows
@@ -138,18 +138,18 @@ unit_some x (a ∷ b ∷ xs) =
       | false ↦ some_byte x
     ]
 
-drop_front : (n : ℕ) (xs r : List ℕ) → n ≤ length xs → drop n (xs ++ r) ≡ drop n xs ++ r
-drop_front zero xs r h = refl
-drop_front (suc n) [] r h = absurd (omega arith)
-drop_front (suc n) (x ∷ xs) r h = drop_front n xs r (omega arith)
+drop_prefix : (n : ℕ) (xs r : List ℕ) → n ≤ length xs → drop n (xs ++ r) ≡ drop n xs ++ r
+drop_prefix zero xs r h = refl
+drop_prefix (suc n) [] r h = absurd (omega arith)
+drop_prefix (suc n) (x ∷ xs) r h = drop_prefix n xs r (omega arith)
 
 drop_within : (n x : ℕ) (xs r : List ℕ) → 0 < n → n ≤ length (x ∷ xs) → drop (n - 1) (xs ++ r) ≡ drop n (x ∷ xs) ++ r
 drop_within zero x xs r h k = absurd (omega arith)
-drop_within (suc n) x xs r h k = let e : suc n - 1 ≡ n = omega arith in ap (λ m. drop m (xs ++ r)) e ∙ drop_front n xs r (omega arith)
+drop_within (suc n) x xs r h k = let e : suc n - 1 ≡ n = omega arith in ap (λ m. drop m (xs ++ r)) e ∙ drop_prefix n xs r (omega arith)
 
 -- the unit at the start, and the units after it
 units_first : (x : ℕ) (xs r : List ℕ) → first_unit x (xs ++ r) ≡ first_unit x xs
-    → units (x ∷ (xs ++ r)) ≡ first_unit x xs ∷ units (behind_unit x xs ++ r)
+    → units (x ∷ (xs ++ r)) ≡ first_unit x xs ∷ units (after_unit x xs ++ r)
 unfolding units_from
 units_first x xs r h =
     let n = length (unit_text (first_unit x xs)) in
@@ -157,12 +157,12 @@ units_first x xs r h =
     ∙ ap (λ us. first_unit x xs ∷ us) (units_from_drop (n - 1) (xs ++ r)
     ∙ ap units (drop_within n x xs r (unit_some x xs) (unit_within x xs)))
 
-pub units_one : (x : ℕ) (xs : List ℕ) → units (x ∷ xs) ≡ first_unit x xs ∷ units (behind_unit x xs)
+pub units_one : (x : ℕ) (xs : List ℕ) → units (x ∷ xs) ≡ first_unit x xs ∷ units (after_unit x xs)
 units_one x xs = ap (λ l. units (x ∷ l)) (sym (append-nil xs)) ∙ units_first x xs [] (ap (first_unit x) (append-nil xs))
-    ∙ ap (λ l. first_unit x xs ∷ units l) (append-nil (behind_unit x xs))
+    ∙ ap (λ l. first_unit x xs ∷ units l) (append-nil (after_unit x xs))
 
-pub behind_shorter : (x : ℕ) (xs : List ℕ) → length (behind_unit x xs) < length (x ∷ xs)
-behind_shorter x xs = omega (arith, length-drop (length (unit_text (first_unit x xs))) (x ∷ xs), unit_some x xs, unit_within x xs)
+pub after_shorter : (x : ℕ) (xs : List ℕ) → length (after_unit x xs) < length (x ∷ xs)
+after_shorter x xs = omega (arith, length-drop (length (unit_text (first_unit x xs))) (x ∷ xs), unit_some x xs, unit_within x xs)
 
 -- ---- units that are told as long as they are settled, and all of them
 drained : (k : ℕ) (t r : List ℕ) → units (t ++ r) ≡ told_units false k t ++ units (left_over false k t ++ r)
@@ -170,9 +170,9 @@ drained zero t r = refl
 drained (suc k) [] r = refl
 drained (suc k) (x ∷ xs) r =
     elim (is_settled (x ∷ xs)) as (λ b. is_settled (x ∷ xs) ≡ b
-    → units (x ∷ (xs ++ r)) ≡ cond b (first_unit x xs ∷ told_units false k (behind_unit x xs)) []
-    ++ units (cond b (left_over false k (behind_unit x xs)) (x ∷ xs) ++ r)) [
-      | true ↦ λ e. units_first x xs r (first_settled x xs r e) ∙ ap (λ us. first_unit x xs ∷ us) (drained k (behind_unit x xs) r)
+    → units (x ∷ (xs ++ r)) ≡ cond b (first_unit x xs ∷ told_units false k (after_unit x xs)) []
+    ++ units (cond b (left_over false k (after_unit x xs)) (x ∷ xs) ++ r)) [
+      | true ↦ λ e. units_first x xs r (first_settled x xs r e) ∙ ap (λ us. first_unit x xs ∷ us) (drained k (after_unit x xs) r)
       | false ↦ λ _. refl
     ] refl
 
@@ -181,7 +181,7 @@ unfolding units_from
 all_told zero [] h = refl
 all_told zero (x ∷ xs) h = absurd (omega arith)
 all_told (suc k) [] h = refl
-all_told (suc k) (x ∷ xs) h = ap (λ us. first_unit x xs ∷ us) (all_told k (behind_unit x xs) (omega (arith, behind_shorter x xs)))
+all_told (suc k) (x ∷ xs) h = ap (λ us. first_unit x xs ∷ us) (all_told k (after_unit x xs) (omega (arith, after_shorter x xs)))
     ∙ sym (units_one x xs)
 
 unsettled_short : (t : List ℕ) → is_settled t ≡ false → length t ≤ 11
@@ -199,15 +199,15 @@ left_short zero [] h = omega arith
 left_short zero (x ∷ xs) h = absurd (omega arith)
 left_short (suc k) [] h = omega arith
 left_short (suc k) (x ∷ xs) h =
-    elim (is_settled (x ∷ xs)) as (λ b. is_settled (x ∷ xs) ≡ b → length (cond b (left_over false k (behind_unit x xs)) (x ∷ xs)) ≤ 11) [
-      | true ↦ λ _. left_short k (behind_unit x xs) (omega (arith, behind_shorter x xs))
+    elim (is_settled (x ∷ xs)) as (λ b. is_settled (x ∷ xs) ≡ b → length (cond b (left_over false k (after_unit x xs)) (x ∷ xs)) ≤ 11) [
+      | true ↦ λ _. left_short k (after_unit x xs) (omega (arith, after_shorter x xs))
       | false ↦ λ e. unsettled_short (x ∷ xs) e
     ] refl
 
 -- ---- the step
-no_part : (c : ℕ) → is_part c ≡ false → IsMark c
+no_part : (c : ℕ) → is_part c ≡ false → IsOutsideTriplets c
 no_part c h = elim (c == 37) as (λ b. (c == 37) ≡ b → b || is_ascii_hexdigit c ≡ false
-    → IsMark c) [ true ↦ λ _ k. cc | false ↦ λ e k. record { percent = e; digit = k } ] refl h
+    → IsOutsideTriplets c) [ true ↦ λ _ k. cc | false ↦ λ e k. record { percent = e; digit = k } ] refl h
 
 step_law : (h : List ℕ) (c : ℕ) (r : List ℕ) → units (h ++ c ∷ r) ≡ step_units h c ++ units (step_pending h c ++ r)
 step_law h c r =
@@ -215,23 +215,23 @@ step_law h c r =
     ≡ cond b (told_units false 12 (h ++ c ∷ [])) (units h ++ Plain c ∷ [])
     ++ units (cond b (left_over false 12 (h ++ c ∷ [])) [] ++ r)) [
       | true ↦ λ _. ap units (sym (append_assoc h (c ∷ []) r)) ∙ drained 12 (h ++ c ∷ []) r
-      | false ↦ λ e. units_mark c h r (no_part c e) ∙ sym (append_assoc (units h) (Plain c ∷ []) (units r))
+      | false ↦ λ e. units_delimiter c h r (no_part c e) ∙ sym (append_assoc (units h) (Plain c ∷ []) (units r))
     ] refl
 
 -- the first of two lists in a row
-take_front : {U : Type 0} (n : ℕ) (us vs : List U) → take n (us ++ vs) ≡ take n us ++ take (n - length us) vs
-take_front zero us vs = let e : 0 ≡ 0 - length us = omega arith in ap (λ k. take k vs) e
-take_front (suc n) [] vs = let e : suc n ≡ suc n - 0 = omega arith in ap (λ k. take k vs) e
-take_front (suc n) (u ∷ us) vs = let e : n - length us ≡ suc n - suc (length us) = omega arith in
-    ap (λ l. u ∷ l) (take_front n us vs ∙ ap (λ k. take n us ++ take k vs) e)
+take_prefix : {U : Type 0} (n : ℕ) (us vs : List U) → take n (us ++ vs) ≡ take n us ++ take (n - length us) vs
+take_prefix zero us vs = let e : 0 ≡ 0 - length us = omega arith in ap (λ k. take k vs) e
+take_prefix (suc n) [] vs = let e : suc n ≡ suc n - 0 = omega arith in ap (λ k. take k vs) e
+take_prefix (suc n) (u ∷ us) vs = let e : n - length us ≡ suc n - suc (length us) = omega arith in
+    ap (λ l. u ∷ l) (take_prefix n us vs ∙ ap (λ k. take n us ++ take k vs) e)
 
-front_both : {U : Type 0} (left : Option ℕ) (us vs : List U) → limited left (us ++ vs) ≡ limited left us ++ limited (fewer left (length us)) vs
-front_both None us vs = refl
-front_both (Some n) us vs = take_front n us vs
+prefix_both : {U : Type 0} (left : Option ℕ) (us vs : List U) → limited left (us ++ vs) ≡ limited left us ++ limited (fewer left (length us)) vs
+prefix_both None us vs = refl
+prefix_both (Some n) us vs = take_prefix n us vs
 
 pub written-append : (s : Tests) (left : Option ℕ) (us vs : List TextUnit)
     → written_units s left (us ++ vs) ≡ written_units s left us ++ written_units s (fewer left (length us)) vs
-written-append s left us vs = ap (flat_map (kept_unit s)) (front_both left us vs)
+written-append s left us vs = ap (flat_map (kept_unit s)) (prefix_both left us vs)
     ∙ flat_map-append (kept_unit s) (limited left us) (limited (fewer left (length us)) vs)
 
 -- ---- where none is written any more
@@ -263,15 +263,15 @@ one_more s u c t all =
     ∙ sym (written-append s u.left (step_units u.pending c) (units (step_pending u.pending c ++ t)))
     ∙ ap (written_units s u.left) (sym (step_law u.pending c t))
 
-all_behind : (s : Tests) (h : List ℕ) (l : Option ℕ) (t : List ℕ) → AreAll s (record { pending = h; left = l }) t
-all_behind s h l [] = ap (λ r. written_units s l (units r)) (sym (append-nil h))
-all_behind s h None (c ∷ t) = one_more s (record { pending = h; left = None }) c t (all_behind s (step_pending h c) None t)
-all_behind s h (Some zero) (c ∷ t) =
+all_after : (s : Tests) (h : List ℕ) (l : Option ℕ) (t : List ℕ) → AreAll s (record { pending = h; left = l }) t
+all_after s h l [] = ap (λ r. written_units s l (units r)) (sym (append-nil h))
+all_after s h None (c ∷ t) = one_more s (record { pending = h; left = None }) c t (all_after s (step_pending h c) None t)
+all_after s h (Some zero) (c ∷ t) =
     let none = none_more s h t in
     let u : UnitState = record { pending = h; left = Some 0 } in
     ap (λ l. l ++ end_text s u t) none.0 ∙ ap (λ (v : UnitState). written_units s v.left (units v.pending)) none.1
-all_behind s h (Some (suc n)) (c ∷ t) = one_more s (record { pending = h; left = Some (suc n) }) c t
-    (all_behind s (step_pending h c) (fewer (Some (suc n)) (length (step_units h c))) t)
+all_after s h (Some (suc n)) (c ∷ t) = one_more s (record { pending = h; left = Some (suc n) }) c t
+    (all_after s (step_pending h c) (fewer (Some (suc n)) (length (step_units h c))) t)
 
 pub units_all : (s : Tests) (u : UnitState) (t : List ℕ) → AreAll s u t
-units_all s u t = all_behind s u.pending u.left t
+units_all s u t = all_after s u.pending u.left t

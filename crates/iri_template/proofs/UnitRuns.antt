@@ -14,7 +14,7 @@ use Rattle.iri_percent.specs.declared.context.Context.TheVariants.{Any}
 use Rattle.iri_percent.specs.Units.{Plain, Stray, first_char, first_unit, unit_text, units_from, units}
 use Rattle.iri_text.specs.inside.Through.{after, texts}
 use Rattle.iri_template.specs.Expansion.{kept_unit}
-use Rattle.iri_template.specs.inside.UnitSteps.{is_part, is_settled, behind_unit, told_units, left_over, UnitState, step_units, step_pending}
+use Rattle.iri_template.specs.inside.UnitSteps.{is_part, is_settled, after_unit, told_units, left_over, UnitState, step_units, step_pending}
 use Rattle.iri_template.specs.inside.UnitSteps.{unit_step, unit_step_text}
 
 abbrev plain : UnitState
@@ -38,9 +38,9 @@ one_told c n =
     elim (is_part c) as (λ b. (cond b (told_units false 12 (c ∷ [])) (units [] ++ Plain c ∷ []) ≡ Plain c ∷ [])
     × (cond b (left_over false 12 (c ∷ [])) [] ≡ [])) [
       | true ↦ (
-        ap (λ b. cond b (first_unit c [] ∷ told_units false 11 (behind_unit c [])) []) settled
+        ap (λ b. cond b (first_unit c [] ∷ told_units false 11 (after_unit c [])) []) settled
             ∙ ap (λ u. u ∷ told_units false 11 (drop (length (unit_text u)) (c ∷ []))) unit,
-        ap (λ b. cond b (left_over false 11 (behind_unit c [])) (c ∷ [])) settled
+        ap (λ b. cond b (left_over false 11 (after_unit c [])) (c ∷ [])) settled
             ∙ ap (λ u. left_over false 11 (drop (length (unit_text u)) (c ∷ []))) unit,
       )
       | false ↦ (refl, refl)

@@ -7,7 +7,7 @@ use Rattle.std.specs.List.{list_all}
 use Rattle.std.proofs.lemmas.Bool.{and_parts as both, not-true, leb-true}
 use Rattle.std.proofs.lemmas.Bool.Decides.{nat_tests}
 use Rattle.iri_grammar.proofs.CutLaws.{by_test}
-use Rattle.iri_grammar.specs.Marks.{before_any, from_any}
+use Rattle.iri_grammar.specs.Delimiters.{before_any, from_any}
 use Rattle.iri_grammar.specs.Over.{over, over_from}
 use Rattle.iri_grammar.specs.Runs.{run_of}
 use Rattle.iri_template.specs.Names.{is_name_char, is_varname, begins_name}

@@ -3,7 +3,7 @@ use Rattle.std.proofs.Common.{◌≡◌, ℕ, ◌+◌, ◌-◌, ◌*◌, Bool, t
 use Rattle.std.proofs.Common.{ap, subst, arith, Ok, Err}
 use denote.Ref.{Bor}
 use Rattle.iri_grammar.specs.Classes.{Tests}
-use Rattle.iri_grammar.specs.Cut.{before, behind}
+use Rattle.iri_grammar.specs.Cut.{before, after}
 use Rattle.iri_grammar.specs.Pieces.{pieces}
 use Rattle.iri_grammar.specs.OptionalSlices.{now_of}
 use Rattle.iri_text.specs.Shown.{AreSinkLaws}
@@ -33,7 +33,7 @@ use Rattle.iri_template.proofs.VarSpecWalk.{cut_spec, held_spec, mistyped_spec, 
 abbrev pub specs_in : List ℕ → ℕ
 specs_in t = length (map varspec_of (pieces 44 t))
 
-pub specs_cut : (t : List ℕ) (o : Option (Bor (List ℕ))) → now_of o ≡ behind 44 t → specs_in t ≡ length (map varspec_of (varspecs_left o)) + 1
+pub specs_cut : (t : List ℕ) (o : Option (Bor (List ℕ))) → now_of o ≡ after 44 t → specs_in t ≡ length (map varspec_of (varspecs_left o)) + 1
 specs_cut t o e = let z = ap (λ ps. length (map varspec_of ps)) (cut_spec t o e) in omega (arith, z)
 
 -- ---- the calls that varspecs take
@@ -68,7 +68,7 @@ module _ (s : Tests) (operator : Operator) where
       held_portion s operator at written v (is_mistyped_as v.modifier (f 0 v.name.text.now Typecheck)) (f 1 v.name.text.now Expand)
 
   -- the first portion, and those of the others
-  next_portion : (f : Telling) (at : ℕ) (written : Bool) (t : List ℕ) (v : VarSpec) (o : Option (Bor (List ℕ))) → now_of o ≡ behind 44 t
+  next_portion : (f : Telling) (at : ℕ) (written : Bool) (t : List ℕ) (v : VarSpec) (o : Option (Bor (List ℕ))) → now_of o ≡ after 44 t
       → moved 0 (varspec_fault (before 44 t)) ≡ None → IsHeld v (varspec_of (before 44 t))
       → varspec_portions s operator f at written (map varspec_of (pieces 44 t))
       ≡ portion_of at written v f
@@ -105,7 +105,7 @@ module _ (s : Tests) (operator : Operator) where
         (ended_none puts halts laws (whole f) a f)
 
     -- the next varspec, after which `rest` begins
-    module _ (written : Bool) (t : List ℕ) (v : VarSpec) (o : Option (Bor (List ℕ))) (e : now_of o ≡ behind 44 t)
+    module _ (written : Bool) (t : List ℕ) (v : VarSpec) (o : Option (Bor (List ℕ))) (e : now_of o ≡ after 44 t)
         (fine : moved 0 (varspec_fault (before 44 t)) ≡ None) (i : IsHeld v (varspec_of (before 44 t))) (b c : W) where
       abbrev place : ℕ
       place = at + (length all - length t)
@@ -171,7 +171,7 @@ module _ (s : Tests) (operator : Operator) where
           let one = (portion_of place written v h).calls in
           let n : one ≡ 0 + one + 0 = omega arith in
           ended_calls puts halts laws (whole f) (portion_of place written v h ∷ []) (rest_of h) a b f h here z (parted f h p) (record {
-            front = [];
+            prefix = [];
             here = portion_of place written v h;
             rest = [];
             split = refl;

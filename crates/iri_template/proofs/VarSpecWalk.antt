@@ -3,7 +3,7 @@ use Rattle.std.proofs.Common.{◌≡◌, ℕ, ◌+◌, Bool, true, false, cond, 
 use Rattle.std.proofs.Common.{◌∙◌, ap}
 use denote.Ref.{Bor}
 use Rattle.iri_grammar.specs.Classes.{Tests}
-use Rattle.iri_grammar.specs.Cut.{before, behind}
+use Rattle.iri_grammar.specs.Cut.{before, after}
 use Rattle.iri_grammar.specs.Pieces.{pieces}
 use Rattle.iri_grammar.specs.inside.PiecesLaws.{more_pieces}
 use Rattle.iri_grammar.proofs.PiecesLaws.{pieces_cut}
@@ -29,11 +29,11 @@ use Rattle.iri_template.proofs.VarSpecLemmas.{varspec_is}
 use Rattle.iri_template.proofs.Walks.{taken}
 
 -- ---- the first varspec
-pub cut_spec : (t : List ℕ) (o : Option (Bor (List ℕ))) → now_of o ≡ behind 44 t → pieces 44 t ≡ before 44 t ∷ varspecs_left o
+pub cut_spec : (t : List ℕ) (o : Option (Bor (List ℕ))) → now_of o ≡ after 44 t → pieces 44 t ≡ before 44 t ∷ varspecs_left o
 cut_spec t None e = pieces_cut 44 t ∙ ap (λ o. before 44 t ∷ more_pieces 44 o) (sym e)
 cut_spec t (Some r) e = pieces_cut 44 t ∙ ap (λ o. before 44 t ∷ more_pieces 44 o) (sym e)
 
-pub fine_left : (t : List ℕ) (o : Option (Bor (List ℕ))) → now_of o ≡ behind 44 t → moved 0 (varspec_fault (before 44 t)) ≡ None
+pub fine_left : (t : List ℕ) (o : Option (Bor (List ℕ))) → now_of o ≡ after 44 t → moved 0 (varspec_fault (before 44 t)) ≡ None
     → varspecs_fault 0 (pieces 44 t) ≡ None → varspecs_fault 0 (varspecs_left o) ≡ None
 fine_left t o e h k = (taken t (name_of (before 44 t)) o e refl h k).fine
 
@@ -66,7 +66,7 @@ as_first false at f = refl
 
 -- the fault of the first varspec's value, or else that of the others
 pub types_spec : (value : List ℕ → ShownValue) (found : Option Error) (at : ℕ) (t : List ℕ) (v : VarSpec) (o : Option (Bor (List ℕ)))
-    → now_of o ≡ behind 44 t → moved at (varspec_fault (before 44 t)) ≡ None → IsHeld v (varspec_of (before 44 t))
+    → now_of o ≡ after 44 t → moved at (varspec_fault (before 44 t)) ≡ None → IsHeld v (varspec_of (before 44 t))
     → first found (varspecs_type_fault value at (map varspec_of (pieces 44 t)))
     ≡ first (first found (cond (is_mistyped_as v.modifier (value v.name.text.now)) (fault UnexpectedValueType at) None))
     (varspecs_type_fault value (at + length (before 44 t) + 1) (map varspec_of (varspecs_left o)))

@@ -9,7 +9,7 @@ use Rattle.iri_template.proofs.VisitsCompose.{HasHeard, heard_more, heard_then, 
 use Rattle.iri_template.specs.declared.visitor.VisitPurpose.{VisitPurpose}
 use Rattle.iri_template.specs.declared.visitor.Phase.{Phase}
 
--- of these members those in front of the rest were told
+-- of these members those before the rest were told
 pub record HasHeardUpTo {V X Y : Type 0} (name : V → List ℕ) (aim : V → VisitPurpose) (phase : V → Phase)
     (hears : V → List Event → V → Type 0) (stops : V → ℕ) (begun : Event) (h : Y → Event) (f : X → Y) (inside : Phase) (old : V)
     (members rest : List X) (new : V) : Type 0 where

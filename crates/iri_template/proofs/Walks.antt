@@ -4,7 +4,7 @@ use Rattle.std.proofs.Common.{◌∙◌, ap, subst, arith, append_assoc}
 use Rattle.std.specs.Prelude.{is_some}
 use Rattle.std.specs.Str.{chars}
 use denote.Ref.{Bor}
-use Rattle.iri_grammar.specs.Cut.{before, behind}
+use Rattle.iri_grammar.specs.Cut.{before, after}
 use Rattle.iri_grammar.specs.Pieces.{pieces}
 use Rattle.iri_grammar.specs.inside.PiecesLaws.{more_pieces}
 use Rattle.iri_grammar.proofs.PiecesLaws.{pieces_cut}
@@ -12,7 +12,7 @@ use Rattle.iri_grammar.specs.OptionalSlices.{now_of}
 use Rattle.iri_template.specs.Template.{Piece, literal, names_of, piece_names}
 use Rattle.iri_template.specs.Reading.{name_of, varspec_of, pieces_from, pieces_of, piece_len}
 use Rattle.iri_template.specs.Fault.{moved, first, piece_fault, varspec_fault, varspecs_fault, fault_from, text_fault}
-use Rattle.iri_template.specs.inside.Parts.{part_pieces, part_fault, IsFront}
+use Rattle.iri_template.specs.inside.Parts.{part_pieces, part_fault, IsPrefix}
 use Rattle.iri_template.specs.Left.{varspecs_left, names_among, AreFine, IsTaken, Has}
 use Rattle.iri_template.specs.declared.error.Error.{Error}
 use Rattle.iri_template.specs.declared.part.Part.{Part}
@@ -50,7 +50,7 @@ varspecs_anywhere at vs h = let z : at + 0 ≡ at = omega arith in
     unmoved at (varspecs_fault 0 vs) (sym (varspecs_moved at 0 vs) ∙ (ap (λ n. varspecs_fault n vs) z ∙ h))
 
 -- ---- the first of the varspecs
-pub taken : (t name : List ℕ) (o : Option (Bor (List ℕ))) → now_of o ≡ behind 44 t → name ≡ name_of (before 44 t)
+pub taken : (t name : List ℕ) (o : Option (Bor (List ℕ))) → now_of o ≡ after 44 t → name ≡ name_of (before 44 t)
     → moved 0 (varspec_fault (before 44 t)) ≡ None → varspecs_fault 0 (pieces 44 t) ≡ None → IsTaken name (pieces 44 t) (varspecs_left o)
 taken t name None e n h k = record {
   names = names_cut t ∙ (ap (λ r. name_of (before 44 t) ∷ map name_of (more_pieces 44 r)) (sym e) ∙ ap (λ x. x ∷ []) (sym n));
@@ -81,7 +81,7 @@ pub record Over (t r : List ℕ) : Type 0 where
   pub fine : text_fault r ≡ None
   pub names : names_of (pieces_of r) ≡ names_of (pieces_of t)
 
-over_part : (p : Part) (at : ℕ) (t r : List ℕ) → IsFront p t at r → text_fault t ≡ None → names_of (part_pieces p) ≡ [] → Over t r
+over_part : (p : Part) (at : ℕ) (t r : List ℕ) → IsPrefix p t at r → text_fault t ≡ None → names_of (part_pieces p) ≡ [] → Over t r
 over_part p at t r k h n =
     let both = neither (part_fault p) (fault_from 0 (at + (length t - length r)) r) (sym k.fault ∙ fine_there at t h) in
     record {
@@ -90,7 +90,7 @@ over_part p at t r k h n =
           ∙ (sym (names_append (part_pieces p) (pieces_of r)) ∙ ap names_of (sym k.pieces));
     }
 
-passed_over : (p : Part) (at : ℕ) (t r : List ℕ) → IsFront p t at r → text_fault t ≡ None → Has p None → Over t r
+passed_over : (p : Part) (at : ℕ) (t r : List ℕ) → IsPrefix p t at r → text_fault t ≡ None → Has p None → Over t r
 passed_over (part.Literals l) at t r k h n = over_part (part.Literals l) at t r k h (literals_have_none (chars l.now))
 passed_over (part.Triplet l) at t r k h n = over_part (part.Triplet l) at t r k h refl
 passed_over (part.Expression e) at t r k h n = cc
@@ -100,7 +100,7 @@ pub record Found (o : Option (Bor (List ℕ))) (t r : List ℕ) : Type 0 where
   pub fine : AreFine o r
   pub names : names_among o r ≡ names_of (pieces_of t)
 
-found : (p : Part) (s : Bor (List ℕ)) (at : ℕ) (t r : List ℕ) → IsFront p t at r → text_fault t ≡ None → Has p (Some s) → Found (Some s) t r
+found : (p : Part) (s : Bor (List ℕ)) (at : ℕ) (t r : List ℕ) → IsPrefix p t at r → text_fault t ≡ None → Has p (Some s) → Found (Some s) t r
 found (part.Literals l) s at t r k h n = cc
 found (part.Triplet l) s at t r k h n = cc
 found (part.Expression e) s at t r k h n =
@@ -112,12 +112,12 @@ found (part.Expression e) s at t r k h n =
       names = ap (λ l. l ++ names_of (pieces_of r)) (sym (names_of_varspecs ws)) ∙ ap names_of (sym k.pieces);
     })
 
-pub found_some : (p : Part) (o : Option (Bor (List ℕ))) (at : ℕ) (t r : List ℕ) → IsFront p t at r → text_fault t ≡ None → Has p o
+pub found_some : (p : Part) (o : Option (Bor (List ℕ))) (at : ℕ) (t r : List ℕ) → IsPrefix p t at r → text_fault t ≡ None → Has p o
     → is_some o ≡ true → Found o t r
 found_some p None at t r k h n s = cc
 found_some p (Some v) at t r k h n s = found p v at t r k h n
 
-pub over_none : (p : Part) (o : Option (Bor (List ℕ))) (at : ℕ) (t r : List ℕ) → IsFront p t at r → text_fault t ≡ None → Has p o
+pub over_none : (p : Part) (o : Option (Bor (List ℕ))) (at : ℕ) (t r : List ℕ) → IsPrefix p t at r → text_fault t ≡ None → Has p o
     → is_some o ≡ false → Over t r
 over_none p None at t r k h n s = passed_over p at t r k h n
 over_none p (Some v) at t r k h n s = cc

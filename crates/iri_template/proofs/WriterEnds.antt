@@ -47,7 +47,7 @@ module _ {W : Type 0} (puts halts : W → List ℕ → W → Type 0) (p : Portio
       → p.mistyped ≡ false → halts a p.text b → EndsAs puts halts (p ∷ []) a b (Err e)
   one_stopped laws a b e is m h = subst (λ (k : Error). EndsAs puts halts (p ∷ []) a b (Err k)) (sym is) (record {
     reached = record {
-      front = [];
+      prefix = [];
       here = p;
       rest = [];
       split = refl;

@@ -58,10 +58,10 @@ unfolding fault_from varspec_fault is_reserved_operator is_varname is_name_char 
     is_ascii_unreserved is_sub_delim is_gen_delim
 open_expression = refl
 
-text_behind_star : text_fault (codes "{a*b}") ≡ fault InvalidExpression 3
+text_after_star : text_fault (codes "{a*b}") ≡ fault InvalidExpression 3
 unfolding fault_from varspec_fault is_reserved_operator is_varname is_name_char over_from chars any_char is_ascii_any is_ascii_reg_name
     is_ascii_unreserved is_sub_delim is_gen_delim
-text_behind_star = refl
+text_after_star = refl
 
 second_varspec : text_fault (codes "x{?a,b..,.c}") ≡ fault InvalidExpression 9
 unfolding fault_from varspec_fault is_reserved_operator is_varname is_name_char over_from chars any_char is_ascii_any is_ascii_reg_name

@@ -58,12 +58,12 @@ shown_text s false n t = flat_map (encoded_char (unreserved s)) (limited n (char
 
 -- ---- variables (sections 3.2.2 to 3.2.9)
 -- `=` and the text after the name of a string; where it is empty, what the operator has
-abbrev pub behind_name : List ℕ → List ℕ → List ℕ
-behind_name ifemp [] = ifemp
-behind_name ifemp (x ∷ xs) = equals_sign ∷ x ∷ xs
+abbrev pub after_name : List ℕ → List ℕ → List ℕ
+after_name ifemp [] = ifemp
+after_name ifemp (x ∷ xs) = equals_sign ∷ x ∷ xs
 
 abbrev pub string_text : Row → List ℕ → List ℕ → List ℕ
-string_text row name t = cond row.named (name ++ behind_name row.ifemp t) t
+string_text row name t = cond row.named (name ++ after_name row.ifemp t) t
 
 -- The name and `=` before a text, where names are written. A member that is empty has the `=` too: that is a choice of this project, for appendix A has what the operator has there, which differs for `;`.
 abbrev pub named_text : Row → List ℕ → List ℕ → List ℕ
@@ -71,7 +71,7 @@ named_text row name t = cond row.named (name ++ equals_sign ∷ t) t
 
 -- a key and a value: parted by `=` where they are exploded, which stands before an empty value too, by the same choice
 abbrev pub pair_with : ℕ → List ℕ × List ℕ → List ℕ
-pair_with mark p = p.0 ++ mark ∷ p.1
+pair_with delimiter p = p.0 ++ delimiter ∷ p.1
 
 -- one text for all members, parted by commas; none where there is no member
 abbrev pub in_one : Row → List ℕ → List (List ℕ) → List (List ℕ)

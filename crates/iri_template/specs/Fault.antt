@@ -5,13 +5,13 @@ use Rattle.std.specs.Char.{is_ascii_digit, is_ascii_hexdigit}
 use Rattle.std.specs.Str.{is_utf8}
 use Rattle.std.specs.Str.Lossy.{utf8_valid_len}
 use Rattle.iri_grammar.specs.Cut.{tail, lacks}
-use Rattle.iri_grammar.specs.Marks.{from_any}
+use Rattle.iri_grammar.specs.Delimiters.{from_any}
 use Rattle.iri_grammar.specs.Pieces.{pieces}
 use Rattle.iri_grammar.specs.Runs.{run_of}
 use Rattle.std.specs.Str.{chars}
 use Rattle.iri_template.specs.Names.{is_varname}
 use Rattle.iri_template.specs.Template.{literal_char, operator_text}
-use Rattle.iri_template.specs.Reading.{ends_name, name_of, operator_of, behind_operator, body_of, first_of, piece_len}
+use Rattle.iri_template.specs.Reading.{ends_name, name_of, operator_of, after_operator, body_of, first_of, piece_len}
 use Rattle.iri_template.specs.declared.error.Error.{Error}
 use Rattle.iri_template.specs.declared.error.ErrorKind.{ErrorKind}
 use Rattle.iri_template.specs.declared.error.ErrorKind.TheVariants.{ExpressionNotClosed, InvalidCharacter, InvalidExpression}
@@ -76,7 +76,7 @@ operator_fault (c ∷ cs) = cond (is_reserved_operator c) (fault UnsupportedOper
 
 -- that, or the fault of a varspec
 abbrev pub body_fault : List ℕ → Option Error
-body_fault t = first (operator_fault t) (varspecs_fault (length (operator_text (operator_of t))) (pieces comma (behind_operator t)))
+body_fault t = first (operator_fault t) (varspecs_fault (length (operator_text (operator_of t))) (pieces comma (after_operator t)))
 
 -- no `}` follows; or the body has a fault
 abbrev pub expression_fault : List ℕ → Option Error

@@ -48,15 +48,15 @@ abbrev pub outside : ℕ → List ℕ → List Portion
 outside at [] = []
 outside at (x ∷ xs) = record { location = at; text = x ∷ xs; mistyped = false; calls = 0 } ∷ []
 
--- Of pieces that begin at `here`. Before them stand literals and triplets that begin at `at` and write `front`.
+-- Of pieces that begin at `here`. Before them stand literals and triplets that begin at `at` and write `prefix`.
 abbrev pub portions_from : Tests → Telling → ℕ → ℕ → List ℕ → List Piece → List Portion
-portions_from s tells at here front [] = outside at front
-portions_from s tells at here front (literal c ∷ ps) =
-    portions_from s tells at (here + length (piece_text (literal c))) (front ++ encoded_char (any_char s) c) ps
-portions_from s tells at here front (triplet a b ∷ ps) =
-    portions_from s tells at (here + length (piece_text (triplet a b))) (front ++ percent_sign ∷ a ∷ b ∷ []) ps
-portions_from s tells at here front (expression operator vs ∷ ps) =
-    outside at front ++ (varspec_portions s operator tells (here + 1 + length (operator_text operator)) false vs
+portions_from s tells at here prefix [] = outside at prefix
+portions_from s tells at here prefix (literal c ∷ ps) =
+    portions_from s tells at (here + length (piece_text (literal c))) (prefix ++ encoded_char (any_char s) c) ps
+portions_from s tells at here prefix (triplet a b ∷ ps) =
+    portions_from s tells at (here + length (piece_text (triplet a b))) (prefix ++ percent_sign ∷ a ∷ b ∷ []) ps
+portions_from s tells at here prefix (expression operator vs ∷ ps) =
+    outside at prefix ++ (varspec_portions s operator tells (here + 1 + length (operator_text operator)) false vs
     ++ portions_from s (later (2 * length vs) tells) (here + length (piece_text (expression operator vs)))
     (here + length (piece_text (expression operator vs))) [] ps)
 

@@ -3,7 +3,7 @@ use Rattle.std.specs.Prelude.{ℕ, zero, suc, ◌+◌, ◌-◌, Bool, cond, ◌|
 use Rattle.std.specs.Char.{len_utf8}
 use Rattle.std.specs.Str.{chars}
 use Rattle.iri_grammar.specs.Cut.{before, tail}
-use Rattle.iri_grammar.specs.Marks.{before_any, from_any}
+use Rattle.iri_grammar.specs.Delimiters.{before_any, from_any}
 use Rattle.iri_grammar.specs.Pieces.{pieces}
 use Rattle.iri_template.specs.Template.{Modifier, whole, explode, prefix, VarSpec, Piece, literal, triplet, expression, operator_text}
 use Rattle.iri_template.specs.declared.operator.Operator.{Operator}
@@ -39,11 +39,11 @@ operator_of [] = Simple
 operator_of (c ∷ cs) = operator_at c
 
 -- what stands after the operator
-abbrev pub behind_operator : List ℕ → List ℕ
-behind_operator t = drop (length (operator_text (operator_of t))) t
+abbrev pub after_operator : List ℕ → List ℕ
+after_operator t = drop (length (operator_text (operator_of t))) t
 
 abbrev pub expression_of : List ℕ → Piece
-expression_of t = expression (operator_of t) (map varspec_of (pieces comma (behind_operator t)))
+expression_of t = expression (operator_of t) (map varspec_of (pieces comma (after_operator t)))
 
 -- ---- the piece at the start
 -- the body of an expression reaches to the first `}`

@@ -12,18 +12,18 @@ use Rattle.iri_template.specs.declared.error.ErrorKind.TheVariants.{WriteFailed,
 
 -- the portion at this place; none up to it is mistyped
 pub record IsReached (ps : List Portion) (at : ℕ) : Type 0 where
-  pub front : List Portion
+  pub prefix : List Portion
   pub here : Portion
   pub rest : List Portion
-  pub split : ps ≡ front ++ here ∷ rest
-  pub fine : portions_fault (front ++ here ∷ []) ≡ None
+  pub split : ps ≡ prefix ++ here ∷ rest
+  pub fine : portions_fault (prefix ++ here ∷ []) ≡ None
   pub location : here.location ≡ at
 
 -- the texts before this place went in, and the sink stopped within the text that begins there
 pub record StopsAt {W : Type 0} (puts halts : W → List ℕ → W → Type 0) (ps : List Portion) (at : ℕ) (old new : W) : Type 0 where
   pub reached : IsReached ps at
   pub mid : W
-  pub put : puts old (portions_text reached.front) mid
+  pub put : puts old (portions_text reached.prefix) mid
   pub halt : halts mid reached.here.text new
 
 -- a refusal by its kind: at the first portion that is mistyped, with exactly the texts before it; or where the sink stopped
@@ -40,13 +40,13 @@ EndsAs puts halts ps old new (Err e) = IsRefused puts halts ps old new e e.kind
 -- Where it was refused at this place, none of the portions before it being mistyped, the context was called as often as these and the
 -- portion there take, and `more` times.
 pub record CallsUpTo (ps : List Portion) (at more : ℕ) (tells_old tells_new : Option Telling) : Type 0 where
-  pub front : List Portion
+  pub prefix : List Portion
   pub here : Portion
   pub rest : List Portion
-  pub split : ps ≡ front ++ here ∷ rest
-  pub fine : portions_fault front ≡ None
+  pub split : ps ≡ prefix ++ here ∷ rest
+  pub fine : portions_fault prefix ≡ None
   pub location : here.location ≡ at
-  pub moves : MovesBy (calls_in front + here.calls + more) tells_old tells_new
+  pub moves : MovesBy (calls_in prefix + here.calls + more) tells_old tells_new
 
 -- the cause of a refusal: the count of stops rose, or a value is mistyped
 abbrev pub IsCaused : ℕ → ℕ → ErrorKind → Type 0

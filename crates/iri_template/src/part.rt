@@ -1,9 +1,9 @@
 //! The walk over a template: its parts, from left to right (RFC 6570 section 2).
 ghost use Rattle.std.specs.Prelude.{◌≡◌, ◌<◌, ◌+◌, ◌^◌, ◌++◌, true, length, MatchResult, IfOk, Some, None};
-ghost use Rattle.iri_template.specs.Reading.{first_of, operator_of, behind_operator};
+ghost use Rattle.iri_template.specs.Reading.{first_of, operator_of, after_operator};
 ghost use Rattle.iri_template.specs.Fault.{Answers, moved, operator_fault, is_reserved_operator, triplet_fault};
 ghost use Rattle.iri_template.specs.Fault.{fault_from};
-ghost use Rattle.iri_template.specs.inside.Parts.{front_fault, IsExpression, IsTriplet, IsPastLiterals, IsFront};
+ghost use Rattle.iri_template.specs.inside.Parts.{prefix_fault, IsExpression, IsTriplet, IsPastLiterals, IsPrefix};
 ghost use Rattle.iri_grammar.specs.Characters.{percent_sign};
 
 use crate::error::{Error, ErrorKind};
@@ -39,7 +39,7 @@ fn read_body(body: &str, at: usize) -> Result<Expression<'_>, Error>
     requires { at + length body.now + 1 < 2 ^ 64 }
     ensures fault { Answers result (moved at (operator_fault body.now)) }
     ensures operator { IfOk result (λ e. e.operator ≡ operator_of body.now) }
-    ensures varspecs { IfOk result (λ e. e.varspecs.now ≡ behind_operator body.now) }
+    ensures varspecs { IfOk result (λ e. e.varspecs.now ≡ after_operator body.now) }
     ensures location { IfOk result (λ e. e.location + length e.varspecs.now ≡ at + length body.now) }
 {
     let bytes = body.as_bytes();
@@ -75,7 +75,7 @@ fn is_reserved_operator(b: u8) -> bool
 fn read_expression(s: &str, at: usize) -> Result<(Expression<'_>, &str), Error>
     requires brace { first_of s.now ≡ 123 }
     requires fits { at + length s.now < 2 ^ 64 }
-    ensures { MatchResult result (λ p. IsExpression p.0 s.now at p.1.now) (λ e. moved at (front_fault s.now) ≡ Some e) }
+    ensures { MatchResult result (λ p. IsExpression p.0 s.now at p.1.now) (λ e. moved at (prefix_fault s.now) ≡ Some e) }
 {
     let (body, more) = cut(&s[1..], b'}');
     match more {
@@ -142,7 +142,7 @@ fn past_literals(s: &str) -> &str
 pub(crate) fn read_part(s: &str, at: usize) -> Result<(Part<'_>, &str), Error>
     requires some { 0 < length s.now }
     requires fits { at + length s.now < 2 ^ 64 }
-    ensures { MatchResult result (λ p. IsFront p.0 s.now at p.1.now) (λ e. fault_from 0 at s.now ≡ Some e) }
+    ensures { MatchResult result (λ p. IsPrefix p.0 s.now at p.1.now) (λ e. fault_from 0 at s.now ≡ Some e) }
 {
     let rest = past_literals(s);
     if rest.len() < s.len() {

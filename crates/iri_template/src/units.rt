@@ -231,7 +231,7 @@ fn put_piece<S: Spec, W: TextSink>(
     }
 }
 
-// Writes what a text settles: runs without `%` as one, as long as nothing is pending and all units are written. Behind the last unit
+// Writes what a text settles: runs without `%` as one, as long as nothing is pending and all units are written. After the last unit
 // that may be written, the text isn't looked at.
 fn put_text<S: Spec, W: TextSink>(
     sink: &mut W,
@@ -251,9 +251,9 @@ fn put_text<S: Spec, W: TextSink>(
         return put_chars::<S, W>(sink, pending, left, text);
     }
     let mut rest = text;
-    'pieces: while let Some((piece, behind)) = next_piece(rest, is_plain(pending, *left)) {
+    'pieces: while let Some((piece, following)) = next_piece(rest, is_plain(pending, *left)) {
         put_piece::<S, W>(sink, pending, left, piece)?;
-        rest = behind;
+        rest = following;
     }
     Ok(())
 }

@@ -4,7 +4,7 @@ ghost use Rattle.iri_text.specs.Shown.{Shows};
 ghost use Rattle.iri_template.specs.Events.{StringTold, Item, Entry};
 ghost use Rattle.iri_template.specs.Expansion.{row_of};
 ghost use Rattle.iri_template.specs.Led.{lead};
-ghost use Rattle.iri_template.specs.inside.Written.{write_state, name_mark, item_lead, entry_lead, entry_mark};
+ghost use Rattle.iri_template.specs.inside.Written.{write_state, name_part, item_lead, entry_lead, entry_delimiter};
 ghost use Rattle.iri_template.specs.inside.Written.{event_text};
 ghost use Rattle.iri_template.specs.declared.visitor.Phase.TheVariants.{Halted};
 
@@ -30,7 +30,7 @@ fn phase_after(shown: &Result<(), Stop>, phase: Phase) -> Phase
 fn show_lead<W: TextSink>(sink: &mut W, state: ExpressionState<'_>) -> Result<(), Stop>
     ensures { Shows W.puts W.halts W.stops sink.old
         (lead (row_of state.entry.operator) state.entry.written
-        ++ name_mark (row_of state.entry.operator) state.entry.name.text.now) sink.new result }
+        ++ name_part (row_of state.entry.operator) state.entry.name.text.now) sink.new result }
 {
     let first = state.operator.lead(state.written);
     if state.operator.is_named() {
@@ -100,8 +100,8 @@ fn show_item<T: Show, S: Spec, W: TextSink>(
     }
 }
 
-fn entry_mark(state: ExpressionState<'_>) -> &'static str
-    ensures { result.now ≡ entry_mark state.entry.modifier ∷ [] }
+fn entry_delimiter(state: ExpressionState<'_>) -> &'static str
+    ensures { result.now ≡ entry_delimiter state.entry.modifier ∷ [] }
 {
     if state.modifier.explodes() { "=" } else { "," }
 }
@@ -120,7 +120,7 @@ fn show_entry<K: Show, T: Show, S: Spec, W: TextSink>(
         Ok(()) => show_three(
             sink,
             &EncodedValue::<K, S>::new(key, allow, None),
-            &entry_mark(state),
+            &entry_delimiter(state),
             &EncodedValue::<T, S>::new(value, allow, None),
         ),
         Err(stop) => Err(stop),

@@ -1,6 +1,6 @@
 //! The varspecs of an expression, parted by commas (RFC 6570 section 2.3).
 ghost use Rattle.std.specs.Prelude.{◌≡◌, ◌<◌, ◌+◌, ◌^◌, length, IfOk};
-ghost use Rattle.iri_grammar.specs.Cut.{before, behind};
+ghost use Rattle.iri_grammar.specs.Cut.{before, after};
 ghost use Rattle.iri_grammar.specs.OptionalSlices.{now_of};
 ghost use Rattle.iri_template.specs.Reading.{varspec_of};
 ghost use Rattle.iri_template.specs.Fault.{Answers, moved, varspec_fault};
@@ -16,7 +16,7 @@ pub(crate) fn read_first(varspecs: &str, at: usize) -> Result<(VarSpec<'_>, Opti
     requires { at + length varspecs.now + 1 < 2 ^ 64 }
     ensures fault { Answers result (moved at (varspec_fault (before 44 varspecs.now))) }
     ensures value { IfOk result (λ p. IsHeld p.0 (varspec_of (before 44 varspecs.now))) }
-    ensures others { IfOk result (λ p. now_of p.1 ≡ behind 44 varspecs.now) }
+    ensures others { IfOk result (λ p. now_of p.1 ≡ after 44 varspecs.now) }
 {
     let (first, others) = cut(varspecs, b',');
     match read_varspec(first, at) {

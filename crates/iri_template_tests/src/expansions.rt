@@ -623,8 +623,8 @@ fn types(rt: HostRuntime) -> Result<(), Fail> {
         fault_at("{x,x}{empty_keys:2}{list}{undef:4}", &context),
         None,
     );
-    let behind_a_list = UriTemplateStr::new("foo{/list*,list:4}")?;
-    match behind_a_list.expand::<UriSpec, SimpleContext>(&context) {
+    let after_a_list = UriTemplateStr::new("foo{/list*,list:4}")?;
+    match after_a_list.expand::<UriSpec, SimpleContext>(&context) {
         Ok(_) => assert!(rt; false),
         Err(error) => {
             same(&rt, error.kind(), ErrorKind::UnexpectedValueType);

@@ -5,7 +5,7 @@ use iri_template::template::UriTemplateStr;
 use iri_template::var_name::VarName;
 use std::test::Fail;
 
-// Each fault with a well-formed piece before it and a second fault behind it, and faults at the edges.
+// Each fault with a well-formed piece before it and a second fault after it, and faults at the edges.
 static FAULTS: [(&str, ErrorKind, usize); 45] = [
     ("{var:99999}", ErrorKind::InvalidExpression, 6),
     ("{var:0}", ErrorKind::InvalidExpression, 6),

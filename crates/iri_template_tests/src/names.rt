@@ -142,7 +142,7 @@ static OPERATORS: [(&str, &str); 53] = [
     ("{&x,y,undef}", "x y undef "),
 ];
 
-// The names, each with a space behind it.
+// The names, each with a space after it.
 fn names(alloc: Global, text: &str) -> Result<String, Fail> {
     let mut names = String::new(alloc);
     match UriTemplateStr::new(text) {

@@ -70,10 +70,10 @@ module _ (old new : LineState) (moved : List ℕ) (counted : new.taken ≡ old.t
   limits_of b left (Err LineTooLong) says =
       let t = says.1 in
       ap (limit_fault new.line_limit new.input_limit place 0) (sym t.split)
-      ∙ long new.line_limit new.input_limit place 0 t.front t.rest t.whole (omega arith) (omega (arith, t.long))
+      ∙ long new.line_limit new.input_limit place 0 t.prefix t.rest t.whole (omega arith) (omega (arith, t.long))
       (omega (arith, t.within, counted, held, size))
   limits_of b left (Err InputTooLong) says =
       let t = says.1 in
       ap (limit_fault new.line_limit new.input_limit place 0) (sym t.split)
-      ∙ over new.line_limit new.input_limit place t.last t.front [] t.whole t.short
-      (omega (arith, t.over, counted, held, size, ap length t.split, length-append t.front (t.last ∷ [])))
+      ∙ over new.line_limit new.input_limit place t.last t.prefix [] t.whole t.short
+      (omega (arith, t.over, counted, held, size, ap length t.split, length-append t.prefix (t.last ∷ [])))

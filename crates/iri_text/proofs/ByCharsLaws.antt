@@ -15,16 +15,16 @@ module _ {V : Type 0} {puts halts : V → List ℕ → V → Type 0} (laws : Are
       put = subst (λ l. puts a l c) (sym (chars-append t u p.utf8)) (laws.both a b c _ _ p.put q.put);
     };
     until = λ a b c t u p h. record {
-      front = t ++ h.front;
+      prefix = t ++ h.prefix;
       rest = h.rest;
-      split = append_assoc t h.front h.rest ∙ ap (λ l. t ++ l) h.split;
-      utf8 = IsUtf8-append t h.front p.utf8 h.utf8;
-      halt = subst (λ l. halts a l c) (sym (chars-append t h.front p.utf8)) (laws.until a b c _ _ p.put h.halt);
+      split = append_assoc t h.prefix h.rest ∙ ap (λ l. t ++ l) h.split;
+      utf8 = IsUtf8-append t h.prefix p.utf8 h.utf8;
+      halt = subst (λ l. halts a l c) (sym (chars-append t h.prefix p.utf8)) (laws.until a b c _ _ p.put h.halt);
     };
     within = λ a b t u h. record {
-      front = h.front;
+      prefix = h.prefix;
       rest = h.rest ++ u;
-      split = sym (append_assoc h.front h.rest u) ∙ ap (λ l. l ++ u) h.split;
+      split = sym (append_assoc h.prefix h.rest u) ∙ ap (λ l. l ++ u) h.split;
       utf8 = h.utf8;
       halt = h.halt;
     };
@@ -32,5 +32,5 @@ module _ {V : Type 0} {puts halts : V → List ℕ → V → Type 0} (laws : Are
 
   -- it stopped within the characters of the whole
   pub chars_halt : {a b : V} (t : List ℕ) → CharsHalt halts a t b → halts a (chars t) b
-  chars_halt {a = a} {b = b} t h = subst (λ l. halts a l b) (sym (chars-append h.front h.rest h.utf8) ∙ ap chars h.split)
-      (laws.within a b (chars h.front) (chars h.rest) h.halt)
+  chars_halt {a = a} {b = b} t h = subst (λ l. halts a l b) (sym (chars-append h.prefix h.rest h.utf8) ∙ ap chars h.split)
+      (laws.within a b (chars h.prefix) (chars h.rest) h.halt)

@@ -17,10 +17,10 @@ pub record FirstChar (bs rest : List ℕ) (c : ℕ) : Type 0 where
 pub first_char : (bs rest : List ℕ) (c : ℕ) → IsUtf8 bs → bs ≡ encode_utf8 c ++ rest → FirstChar bs rest c
 first_char bs rest c (cs, (ok, e)) is =
     let split = cons_from_encodes cs rest c (e ∙ is) in
-    let behind : IsUtf8 rest = (split.0, (and_right (scalar c) (scalars split.0) (ap scalars (sym split.1) ∙ ok), split.2)) in
+    let after : IsUtf8 rest = (split.0, (and_right (scalar c) (scalars split.0) (ap scalars (sym split.1) ∙ ok), split.2)) in
     record {
-      first = sym (chars_from_encodes cs bs (cs, (ok, e)) e) ∙ split.1 ∙ ap (λ l. c ∷ l) (chars_from_encodes split.0 rest behind split.2);
-      utf8 = behind;
+      first = sym (chars_from_encodes cs bs (cs, (ok, e)) e) ∙ split.1 ∙ ap (λ l. c ∷ l) (chars_from_encodes split.0 rest after split.2);
+      utf8 = after;
     }
 
 pub no_chars : (bs : List ℕ) → length bs ≡ 0 → chars bs ≡ []

@@ -20,11 +20,11 @@ block v long =
     ap (λ n. cond (eqb n 0) 16 (count_trailing_zeros 64 n)) (bitmask_splat w8 eqb v 16 10 long (omega arith))
     ∙ first_set_mask_l (λ x. eqb x 10) v 16 long (omega arith)
 
-pub no_mark : (v : List ℕ) → length v ≡ 16 → mask_of v ≡ 0 → 16 ≡ prefix_len (λ b. not (eqb b 10)) v
-no_mark v long none = ap (λ n. cond (eqb n 0) 16 (count_trailing_zeros 64 n)) (sym none) ∙ block v long
+pub no_delimiter : (v : List ℕ) → length v ≡ 16 → mask_of v ≡ 0 → 16 ≡ prefix_len (λ b. not (eqb b 10)) v
+no_delimiter v long none = ap (λ n. cond (eqb n 0) 16 (count_trailing_zeros 64 n)) (sym none) ∙ block v long
 
-pub first_mark : (v : List ℕ) → length v ≡ 16 → mask_of v ≢ 0 → count_trailing_zeros 64 (mask_of v) ≡ prefix_len (λ b. not (eqb b 10)) v
-first_mark v long some =
+pub first_delimiter : (v : List ℕ) → length v ≡ 16 → mask_of v ≢ 0 → count_trailing_zeros 64 (mask_of v) ≡ prefix_len (λ b. not (eqb b 10)) v
+first_delimiter v long some =
     let test : eqb (mask_of v) 0 ≡ false = eq-false (mask_of v) some in
     ap (λ c. cond c 16 (count_trailing_zeros 64 (mask_of v))) (sym test) ∙ block v long
   where

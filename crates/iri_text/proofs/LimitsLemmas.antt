@@ -39,18 +39,18 @@ module _ (line input : ℕ) where
   none place raw n l i = ap (limit_fault line input place 0) (sym (append-nil raw)) ∙ along place 0 raw [] n (omega arith) i
 
   -- a line that is too long
-  pub long : (place len : ℕ) (front rest : List ℕ) → NoLf front → len ≤ line → len + length front ≡ line + 1 → place + length front ≤ input
-      → limit_fault line input place len (front ++ rest) ≡ Some LineTooLong
+  pub long : (place len : ℕ) (prefix rest : List ℕ) → NoLf prefix → len ≤ line → len + length prefix ≡ line + 1 → place + length prefix ≤ input
+      → limit_fault line input place len (prefix ++ rest) ≡ Some LineTooLong
   long place len [] rest n k l i = absurd (omega (arith, k, l))
   long place len (b ∷ []) rest n k l i = let h = n.0 in grind (arith, nat_tests)
-  long place len (b ∷ c ∷ front) rest n k l i =
-      step place len b (c ∷ front ++ rest) n.0 (omega arith) (omega arith)
-      ∙ long (place + 1) (len + 1) (c ∷ front) rest n.1 (omega arith) (omega arith) (omega arith)
+  long place len (b ∷ c ∷ prefix) rest n k l i =
+      step place len b (c ∷ prefix ++ rest) n.0 (omega arith) (omega arith)
+      ∙ long (place + 1) (len + 1) (c ∷ prefix) rest n.1 (omega arith) (omega arith) (omega arith)
 
   -- an input that is too long
-  pub over : (place last : ℕ) (front rest : List ℕ) → NoLf front → length front ≤ line → place + length front ≡ input
-      → limit_fault line input place 0 (front ++ last ∷ rest) ≡ Some InputTooLong
-  over place last front rest n l i = along place 0 front (last ∷ rest) n (omega arith) (omega arith) ∙ stop
+  pub over : (place last : ℕ) (prefix rest : List ℕ) → NoLf prefix → length prefix ≤ line → place + length prefix ≡ input
+      → limit_fault line input place 0 (prefix ++ last ∷ rest) ≡ Some InputTooLong
+  over place last prefix rest n l i = along place 0 prefix (last ∷ rest) n (omega arith) (omega arith) ∙ stop
     where
-      stop : limit_fault line input (place + length front) (0 + length front) (last ∷ rest) ≡ Some InputTooLong
+      stop : limit_fault line input (place + length prefix) (0 + length prefix) (last ∷ rest) ≡ Some InputTooLong
       stop = grind (arith, nat_tests)

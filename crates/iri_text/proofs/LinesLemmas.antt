@@ -5,15 +5,15 @@ use Rattle.std.proofs.lemmas.Bool.Decides.{nat_tests}
 use Rattle.iri_text.specs.Lines.{NoLf, no_cr, last_line, lines, lines_from}
 
 -- one byte of a line
-step : (front : List ℕ) (b : ℕ) (bs : List ℕ) → b ≢ 10 → lines_from front (b ∷ bs) ≡ lines_from (front ++ b ∷ []) bs
-step front b bs h = grind (arith, nat_tests)
+step : (prefix : List ℕ) (b : ℕ) (bs : List ℕ) → b ≢ 10 → lines_from prefix (b ∷ bs) ≡ lines_from (prefix ++ b ∷ []) bs
+step prefix b bs h = grind (arith, nat_tests)
 
 -- the bytes of a line
-pub lines_from-append : (front raw rest : List ℕ) → NoLf raw → lines_from front (raw ++ rest) ≡ lines_from (front ++ raw) rest
-lines_from-append front [] rest n = ap (λ f. lines_from f rest) (sym (append-nil front))
-lines_from-append front (b ∷ raw) rest n =
-    step front b (raw ++ rest) n.0 ∙ lines_from-append (front ++ b ∷ []) raw rest n.1
-    ∙ ap (λ f. lines_from f rest) (append_assoc front (b ∷ []) raw)
+pub lines_from-append : (prefix raw rest : List ℕ) → NoLf raw → lines_from prefix (raw ++ rest) ≡ lines_from (prefix ++ raw) rest
+lines_from-append prefix [] rest n = ap (λ f. lines_from f rest) (sym (append-nil prefix))
+lines_from-append prefix (b ∷ raw) rest n =
+    step prefix b (raw ++ rest) n.0 ∙ lines_from-append (prefix ++ b ∷ []) raw rest n.1
+    ∙ ap (λ f. lines_from f rest) (append_assoc prefix (b ∷ []) raw)
 
 -- a line that an LF ends
 pub lines-lf : (raw rest : List ℕ) → NoLf raw → lines (raw ++ 10 ∷ rest) ≡ no_cr raw ∷ lines rest

@@ -29,9 +29,9 @@ still_at_end (Some l) None xs e p = absurd p
 still_at_end (Some l) (Some []) xs e p = refl
 still_at_end (Some l) (Some (y ∷ ys)) xs e p = absurd (omega (arith, ap length (sym e ∙ p), length-append xs (y ∷ ys)))
 
-NoLf-front : (xs ys : List ℕ) → NoLf (xs ++ ys) → NoLf xs
-NoLf-front [] ys p = tt
-NoLf-front (x ∷ xs) ys p = (p.0, NoLf-front xs ys p.1)
+NoLf-prefix : (xs ys : List ℕ) → NoLf (xs ++ ys) → NoLf xs
+NoLf-prefix [] ys p = tt
+NoLf-prefix (x ∷ xs) ys p = (p.0, NoLf-prefix xs ys p.1)
 
 -- more bytes came after what is held, where that has no LF
 pub more : (old now next : LineState) (a b c : Option (List ℕ)) (bytes : List ℕ) → Moved old now a b → NoLf now.held → Consumes b c bytes
@@ -41,7 +41,7 @@ more old now next a b c bytes m no_lf came held taken line_limit input_limit = r
   moved = m.moved ++ bytes;
   moves = Consumes-append a b c m.moved bytes m.moves came;
   counted = omega (arith, taken, m.counted, length-append m.moved bytes);
-  needed = inl (NoLf-front old.held m.moved (subst NoLf m.held no_lf));
+  needed = inl (NoLf-prefix old.held m.moved (subst NoLf m.held no_lf));
   line_limit = line_limit ∙ m.line_limit;
   input_limit = input_limit ∙ m.input_limit;
   held = held ∙ ap (λ l. l ++ bytes) m.held ∙ append_assoc old.held m.moved bytes;

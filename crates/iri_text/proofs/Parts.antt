@@ -94,10 +94,10 @@ last-is xs h =
     let e : suc (length xs - 1) ≡ length xs = omega arith in
     sym (take-suc xs (length xs - 1) 0 (omega arith)) ∙ ap (λ (n : ℕ). take n xs) e ∙ take-length xs
 
-pub cr-len : (xs front : List ℕ) → xs ≡ front ++ 13 ∷ [] → take (length front) xs ≡ no_cr xs
-cr-len xs front e = ap (take (length front)) e ∙ take_at front (13 ∷ []) (length front) refl ∙ sym (ap no_cr e ∙ no_cr-cr front)
+pub cr-len : (xs prefix : List ℕ) → xs ≡ prefix ++ 13 ∷ [] → take (length prefix) xs ≡ no_cr xs
+cr-len xs prefix e = ap (take (length prefix)) e ∙ take_at prefix (13 ∷ []) (length prefix) refl ∙ sym (ap no_cr e ∙ no_cr-cr prefix)
 
-pub other-len : (xs : List ℕ) → ((front : List ℕ) → xs ≢ front ++ 13 ∷ []) → take (length xs) xs ≡ no_cr xs
+pub other-len : (xs : List ℕ) → ((prefix : List ℕ) → xs ≢ prefix ++ 13 ∷ []) → take (length xs) xs ≡ no_cr xs
 other-len [] n = refl
 other-len (x ∷ xs) n =
     let t = x ∷ xs in

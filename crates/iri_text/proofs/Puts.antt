@@ -17,20 +17,20 @@ pub Appends-none : (a : Option (List ℕ)) → Appends a a []
 Appends-none None = tt
 Appends-none (Some l) = sym (append-nil l)
 
-pub front-after : {a b c : Option (List ℕ)} {ys : List ℕ} (xs : List ℕ) → Appends a b xs → AppendsPrefix b c ys
+pub prefix-after : {a b c : Option (List ℕ)} {ys : List ℕ} (xs : List ℕ) → Appends a b xs → AppendsPrefix b c ys
     → AppendsPrefix a c (xs ++ ys)
-front-after xs p q = record {
-  front = xs ++ q.front;
+prefix-after xs p q = record {
+  prefix = xs ++ q.prefix;
   rest = q.rest;
-  split = append_assoc xs q.front q.rest ∙ ap (λ l. xs ++ l) q.split;
-  appended = Appends-append _ _ _ xs q.front p q.appended;
+  split = append_assoc xs q.prefix q.rest ∙ ap (λ l. xs ++ l) q.split;
+  appended = Appends-append _ _ _ xs q.prefix p q.appended;
 }
 
-pub front-longer : {a b : Option (List ℕ)} {xs : List ℕ} (ys : List ℕ) → AppendsPrefix a b xs → AppendsPrefix a b (xs ++ ys)
-front-longer {xs = xs} ys q = record {
-  front = q.front;
+pub prefix-longer : {a b : Option (List ℕ)} {xs : List ℕ} (ys : List ℕ) → AppendsPrefix a b xs → AppendsPrefix a b (xs ++ ys)
+prefix-longer {xs = xs} ys q = record {
+  prefix = q.prefix;
   rest = q.rest ++ ys;
-  split = sym (append_assoc q.front q.rest ys) ∙ ap (λ l. l ++ ys) q.split;
+  split = sym (append_assoc q.prefix q.rest ys) ∙ ap (λ l. l ++ ys) q.split;
   appended = q.appended;
 }
 
@@ -73,7 +73,7 @@ puts-then {r = Ok y} p q = record {
   same = q.same ∙ p.same;
   later = omega (arith, p.later, q.later);
   cause = tt;
-  front = tt;
+  prefix = tt;
   room = room-then p.room q.room;
 }
 puts-then {r = Err e} p q = record {
@@ -81,7 +81,7 @@ puts-then {r = Err e} p q = record {
   same = tt;
   later = omega (arith, p.later, q.later);
   cause = omega (arith, p.later, q.cause);
-  front = front-after _ p.whole q.front;
+  prefix = prefix-after _ p.whole q.prefix;
   room = room-then p.room q.room;
 }
 
@@ -95,6 +95,6 @@ puts-exit {r = Err d} u is q = record {
   same = tt;
   later = q.later;
   cause = q.cause;
-  front = front-longer u q.front;
+  prefix = prefix-longer u q.prefix;
   room = room-so (λ h. absurd (cc h)) (room-longer u q.room);
 }

@@ -11,8 +11,8 @@ use Rattle.iri_text.proofs.Answered.{next_of, limits_of}
 use Rattle.iri_text.proofs.Parts.{length-part, part-split}
 
 -- the prefix and the rest of a part
-pub part-front : (xs : List ℕ) (a b n : ℕ) → n ≤ b - a → slice_range xs a (a + n) ≡ take n (slice_range xs a b)
-part-front xs a b n h =
+pub part-prefix : (xs : List ℕ) (a b n : ℕ) → n ≤ b - a → slice_range xs a (a + n) ≡ take n (slice_range xs a b)
+part-prefix xs a b n h =
     let e : (a + n) - a ≡ n = omega arith in
     ap (λ (k : ℕ). take k (drop a xs)) e ∙ sym (take-take n (b - a) (drop a xs) h)
 
@@ -87,7 +87,7 @@ module _ (buf : List ℕ) (start end taken limit input usable : ℕ) (end_in : e
         raw = take i held;
         whole = no_lf;
         short = omega (arith, long);
-        line = part-front buf start end len (omega (arith, len_in, long, size, counts))
+        line = part-prefix buf start end len (omega (arith, len_in, long, size, counts))
             ∙ sym (take-take len i held (omega (arith, len_in, long))) ∙ cr;
         within = omega (arith, length-part buf (start + (i + 1)) end end_in, size, counts, count);
         rest = inl (
@@ -102,7 +102,7 @@ module _ (buf : List ℕ) (start end taken limit input usable : ℕ) (end_in : e
   long_says new t l i below no_lf =
       let long : length (take (limit + 1) held) ≡ limit + 1 = length-take-le (limit + 1) held (omega (arith, counts)) in
       record {
-        front = take (limit + 1) held;
+        prefix = take (limit + 1) held;
         rest = drop (limit + 1) held;
         split = take-append-drop (limit + 1) held;
         whole = no_lf;
@@ -116,7 +116,7 @@ module _ (buf : List ℕ) (start end taken limit input usable : ℕ) (end_in : e
       let one : length held ≤ usable + 1 = omega (arith, counts, count) in
       let long : length (take usable held) ≡ usable = length-take-le usable held (omega arith) in
       record {
-        front = take usable held;
+        prefix = take usable held;
         last = get_or held usable 0;
         split = sym (around held usable (get_or held usable 0) below refl
             ∙ ap (λ (m : List ℕ). take usable held ++ get_or held usable 0 ∷ m) (drop_all (usable + 1) held one));
@@ -156,7 +156,7 @@ module _ (buf old : List ℕ) {cap_new cap : ℕ} (b : Bool) (fresh : b ≡ fals
 
   -- those that were held have no LF
   pub next_no_lf : NoLf (take k (slice_range buf at (at + k + n)))
-  next_no_lf = subst NoLf (sym kept ∙ part-front buf at (at + k + n) k (omega arith)) no_lf
+  next_no_lf = subst NoLf (sym kept ∙ part-prefix buf at (at + k + n) k (omega arith)) no_lf
 
   pub next_held : slice_range buf at (at + k + n) ≡ slice_range old start end ++ slice_range buf (at + k) (at + k + n)
   next_held = part-split buf at (at + k) (at + k + n) (omega arith) (omega arith)

@@ -6,9 +6,9 @@ use Rattle.std.specs.Io.KnownBytes.{Appends}
 
 -- a prefix of the piece was written, and this is the rest
 pub record WritesUpTo (old now : Option (List ℕ)) (rest piece : List ℕ) : Type 0 where
-  pub front : List ℕ
-  pub split : front ++ rest ≡ piece
-  pub appended : Appends old now front
+  pub prefix : List ℕ
+  pub split : prefix ++ rest ≡ piece
+  pub appended : Appends old now prefix
 
 Appends-append : (a b c : Option (List ℕ)) (xs ys : List ℕ) → Appends a b xs → Appends b c ys → Appends a c (xs ++ ys)
 Appends-append None b c xs ys p q = tt
@@ -24,8 +24,8 @@ rest-is n xs = grind (arith, common_steps)
 pub more : (a b c : Option (List ℕ)) (rest piece : List ℕ) (n : ℕ) → WritesUpTo a b rest piece → Appends b c (take n rest)
     → WritesUpTo a c (take (length rest - n) (drop n rest)) piece
 more a b c rest piece n w came = record {
-  front = w.front ++ take n rest;
-  split = append_assoc w.front (take n rest) _ ∙ ap (λ l. w.front ++ l)
+  prefix = w.prefix ++ take n rest;
+  split = append_assoc w.prefix (take n rest) _ ∙ ap (λ l. w.prefix ++ l)
       (ap (λ l. take n rest ++ l) (rest-is n rest) ∙ take-append-drop n rest) ∙ w.split;
-  appended = Appends-append a b c w.front (take n rest) w.appended came;
+  appended = Appends-append a b c w.prefix (take n rest) w.appended came;
 }

@@ -15,6 +15,6 @@ pub mod Shown
 pub mod SliceText
 pub mod SliceView
 pub mod StringText
-pub mod Front
+pub mod Prefix
 pub mod FormatText
 pub mod inside

@@ -18,10 +18,10 @@ abbrev pub last_line : List ℕ → List (List ℕ)
 last_line [] = []
 last_line (b ∷ bs) = no_cr (b ∷ bs) ∷ []
 
--- the lines of these bytes, where the first of them begins with the bytes of `front`
+-- the lines of these bytes, where the first of them begins with the bytes of `prefix`
 abbrev pub lines_from : List ℕ → List ℕ → List (List ℕ)
-lines_from front [] = last_line front
-lines_from front (b ∷ bs) = if b == line_feed then no_cr front ∷ lines_from [] bs else lines_from (front ++ b ∷ []) bs
+lines_from prefix [] = last_line prefix
+lines_from prefix (b ∷ bs) = if b == line_feed then no_cr prefix ∷ lines_from [] bs else lines_from (prefix ++ b ∷ []) bs
 
 -- The lines of a text: an LF ends a line, and what follows the last LF is a line where it has at least one byte.
 -- One CR directly before the LF, or before the end of the last line, isn't part of the line.

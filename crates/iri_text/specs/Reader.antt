@@ -23,20 +23,20 @@ pub record GivesLine (all : List ℕ) (left : Option (List ℕ)) (new : LineStat
 
 -- The line has a byte past its limit and no LF up to there, and that byte is within the limit of the input.
 pub record IsTooLong (all : List ℕ) (new : LineState) : Type 0 where
-  pub front : List ℕ
+  pub prefix : List ℕ
   pub rest : List ℕ
-  pub split : front ++ rest ≡ all
-  pub whole : NoLf front
-  pub long : length front ≡ new.line_limit + 1
-  pub within : new.taken + length front ≤ new.input_limit + length all
+  pub split : prefix ++ rest ≡ all
+  pub whole : NoLf prefix
+  pub long : length prefix ≡ new.line_limit + 1
+  pub within : new.taken + length prefix ≤ new.input_limit + length all
 
 -- The last byte that was taken is the first one past the limit of the input, and no line ends before it.
 pub record IsExhausted (all : List ℕ) (new : LineState) : Type 0 where
-  pub front : List ℕ
+  pub prefix : List ℕ
   pub last : ℕ
-  pub split : front ++ last ∷ [] ≡ all
-  pub whole : NoLf front
-  pub short : length front ≤ new.line_limit
+  pub split : prefix ++ last ∷ [] ≡ all
+  pub whole : NoLf prefix
+  pub short : length prefix ≤ new.line_limit
   pub over : new.taken ≡ new.input_limit + 1
 
 -- What the answer says, where these bytes were held or came. After a fault the reader holds them all.

@@ -12,10 +12,10 @@ Appends (Some xs) (Some ys) bs = ys ≡ xs ++ bs
 
 -- what is written grew by a prefix of these bytes
 pub record AppendsPrefix (old new : Option (List ℕ)) (bytes : List ℕ) : Type 0 where
-  pub front : List ℕ
+  pub prefix : List ℕ
   pub rest : List ℕ
-  pub split : front ++ rest ≡ bytes
-  pub appended : Appends old new front
+  pub split : prefix ++ rest ≡ bytes
+  pub appended : Appends old new prefix
 
 -- room for so many bytes is known
 abbrev pub HasRoom : Option ℕ → ℕ → Type 0
@@ -35,7 +35,7 @@ pub record PutsAll (written_old written_new : Option (List ℕ)) (faults_old fau
   pub same : OnOk result (faults_new ≡ faults_old)
   pub later : faults_old ≤ faults_new
   pub cause : OnErr result (Rose faults_old faults_new)
-  pub front : OnErr result (AppendsPrefix written_old written_new piece)
+  pub prefix : OnErr result (AppendsPrefix written_old written_new piece)
   pub room : KeepsRoom room_old room_new piece (IsOk result)
 
 -- What is written stays as it was. It failed only where the count of faults rose. Where any room is known, it didn't fail.

@@ -14,9 +14,9 @@ pub record SlicePuts (a : SliceText) (t : List ℕ) (b : SliceText) : Type 0 whe
 
 -- the same buffer, and a prefix of a text that is longer than the rest of it
 pub record SliceHalts (a : SliceText) (t : List ℕ) (b : SliceText) : Type 0 where
-  pub front : List ℕ
+  pub prefix : List ℕ
   pub rest : List ℕ
-  pub split : front ++ rest ≡ t
-  pub taken : b.taken ≡ a.taken ++ front
+  pub split : prefix ++ rest ≡ t
+  pub taken : b.taken ≡ a.taken ++ prefix
   pub room : b.room ≡ a.room
   pub long : a.room < length a.taken + length t

@@ -16,7 +16,7 @@ pub record Writing (W : Type 0) : Type 0 where
 
 -- a writer that tells its bytes has a prefix of these after them
 pub record WritesPrefix (old new : Option (List ℕ)) (bytes : List ℕ) : Type 0 where
-  pub front : List ℕ
+  pub prefix : List ℕ
   pub rest : List ℕ
-  pub split : front ++ rest ≡ bytes
-  pub appended : Appends old new front
+  pub split : prefix ++ rest ≡ bytes
+  pub appended : Appends old new prefix

@@ -16,8 +16,8 @@ pub record StringPuts (a : StringSink) (t : List ℕ) (b : StringSink) : Type 0 
 -- the same string, and a prefix of a text for which it had no room
 pub record StringHalts (a : StringSink) (t : List ℕ) (b : StringSink) : Type 0 where
   pub same : b.dest.ghost_name ≡ a.dest.ghost_name
-  pub front : List ℕ
+  pub prefix : List ℕ
   pub rest : List ℕ
-  pub split : front ++ rest ≡ t
-  pub taken : string_taken b ≡ string_taken a ++ front
+  pub split : prefix ++ rest ≡ t
+  pub taken : string_taken b ≡ string_taken a ++ prefix
   pub long : string_capacity a.dest.now < string_len a.dest.now + length t

@@ -26,17 +26,17 @@ pub fn line_without_cr()
 /// After `place` bytes a line passes its limit where there is no LF among as many bytes as it and one more, and they are
 /// within the limit of the input.
 pub fn line_past_its_limit()
-    ensures { (line input place : ℕ) (front rest : List ℕ) → NoLf front → length front ≡ line + 1
-        → place + length front ≤ input →
-        limit_fault line input place 0 (front ++ rest) ≡ Some LineTooLong }
+    ensures { (line input place : ℕ) (prefix rest : List ℕ) → NoLf prefix → length prefix ≡ line + 1
+        → place + length prefix ≤ input →
+        limit_fault line input place 0 (prefix ++ rest) ≡ Some LineTooLong }
 {}
 
 /// After `place` bytes a byte passes the limit of the input where it comes after as many bytes as that, and the line before
 /// it hasn't ended and is within its own limit.
 pub fn input_past_its_limit()
-    ensures { (line input place last : ℕ) (front rest : List ℕ) → NoLf front → length front ≤ line
-        → place + length front ≡ input →
-        limit_fault line input place 0 (front ++ last ∷ rest) ≡ Some InputTooLong }
+    ensures { (line input place last : ℕ) (prefix rest : List ℕ) → NoLf prefix → length prefix ≤ line
+        → place + length prefix ≡ input →
+        limit_fault line input place 0 (prefix ++ last ∷ rest) ≡ Some InputTooLong }
 {}
 
 /// After `place` bytes a line that an LF ends passes no limit where it is within its own and its LF within that of the

@@ -3,12 +3,12 @@ use Rattle.std.proofs.Common.{◌≡◌, ℕ, true, List, ◌++◌, Some, None, 
 use Rattle.std.specs.Prelude.{IsSome, IsNone}
 use Rattle.std.proofs.lemmas.List.{append-nil}
 use Rattle.iri_grammar.specs.Classes.{Tests, IsSpec}
-use Rattle.iri_grammar.specs.Cut.{before, behind, lacks, marked}
-use Rattle.iri_grammar.proofs.CutLaws.{before-marked, behind-marked, lacks-append, joined}
+use Rattle.iri_grammar.specs.Cut.{before, after, lacks, delimited}
+use Rattle.iri_grammar.proofs.CutLaws.{before-delimited, after-delimited, lacks-append, joined}
 use Rattle.iri_grammar.specs.Parts.{Parts, Splits, recompose, scheme_text, authority_text}
 use Rattle.iri_grammar.specs.Split.{split_of}
-use Rattle.iri_grammar.proofs.SplitLaws.{Marks, recompose_split, authority_text-lacks, marked-lacks}
-use Rattle.iri_grammar.proofs.SplitUnique.{fits-marks}
+use Rattle.iri_grammar.proofs.SplitLaws.{Delimiters, recompose_split, authority_text-lacks, delimited-lacks}
+use Rattle.iri_grammar.proofs.SplitUnique.{fits-delimiters}
 use Rattle.iri_grammar.specs.WholeFault.{reference_fault, iri_fault, absolute_fault, relative_fault}
 use Rattle.iri_grammar.proofs.FaultLaws.{splits_where_no_fault, iri-law, absolute-law, relative-law}
 use Rattle.iri_types.specs.inside.KindLaws.{iri-whole}
@@ -34,56 +34,56 @@ absolute-iri s k t h = let r = (absolute-law s k t).0 h in (iri-law s k t).1 (r.
 
 -- ---- what stands before the fragment
 -- the parts but the fragment, as they stand in the text
-abbrev front_of : Parts → List ℕ
-front_of p = scheme_text p.scheme ++ (authority_text p.authority ++ (p.path ++ marked 63 p.query))
+abbrev prefix_of : Parts → List ℕ
+prefix_of p = scheme_text p.scheme ++ (authority_text p.authority ++ (p.path ++ delimited 63 p.query))
 
 abbrev bare : Parts → Parts
 bare p = record { scheme = p.scheme; authority = p.authority; path = p.path; query = p.query; fragment = None }
 
-recompose-bare : (p : Parts) → recompose (bare p) ≡ front_of p
+recompose-bare : (p : Parts) → recompose (bare p) ≡ prefix_of p
 unfolding recompose
-recompose-bare p = ap (λ z. scheme_text p.scheme ++ (authority_text p.authority ++ (p.path ++ z))) (append-nil (marked 63 p.query))
+recompose-bare p = ap (λ z. scheme_text p.scheme ++ (authority_text p.authority ++ (p.path ++ z))) (append-nil (delimited 63 p.query))
 
-recompose-front : (p : Parts) → recompose p ≡ front_of p ++ marked 35 p.fragment
+recompose-prefix : (p : Parts) → recompose p ≡ prefix_of p ++ delimited 35 p.fragment
 unfolding recompose
-recompose-front p = regroup (scheme_text p.scheme) (authority_text p.authority) p.path (marked 63 p.query) (marked 35 p.fragment)
+recompose-prefix p = regroup (scheme_text p.scheme) (authority_text p.authority) p.path (delimited 63 p.query) (delimited 35 p.fragment)
   where
     regroup : (a b c d e : List ℕ) → a ++ (b ++ (c ++ (d ++ e))) ≡ (a ++ (b ++ (c ++ d))) ++ e
     regroup a b c d e = simp append_assoc
 
-lacks-front : (p : Parts) → Marks p → lacks 35 (front_of p) ≡ true
-lacks-front p m =
+lacks-prefix : (p : Parts) → Delimiters p → lacks 35 (prefix_of p) ≡ true
+lacks-prefix p m =
     lacks-append 35 (scheme_text p.scheme) _ (scheme_text-lacks p.scheme m.scheme)
     (lacks-append 35 (authority_text p.authority) _ (authority_text-lacks 35 p.authority refl m.authority_hash)
-    (lacks-append 35 p.path (marked 63 p.query) m.path_hash (marked-lacks 35 63 p.query refl m.query_hash)))
+    (lacks-append 35 p.path (delimited 63 p.query) m.path_hash (delimited-lacks 35 63 p.query refl m.query_hash)))
 
-lacks-split : (s : Tests) → IsSpec s → (t : List ℕ) → reference_fault s t ≡ None → lacks 35 (front_of (split_of t)) ≡ true
-lacks-split s k t h = lacks-front (split_of t) (fits-marks s (split_of t) k (splits_where_no_fault s t h).fits)
+lacks-split : (s : Tests) → IsSpec s → (t : List ℕ) → reference_fault s t ≡ None → lacks 35 (prefix_of (split_of t)) ≡ true
+lacks-split s k t h = lacks-prefix (split_of t) (fits-delimiters s (split_of t) k (splits_where_no_fault s t h).fits)
 
-text-front : (t : List ℕ) → t ≡ front_of (split_of t) ++ marked 35 (split_of t).fragment
-text-front t = sym (recompose_split t) ∙ recompose-front (split_of t)
+text-prefix : (t : List ℕ) → t ≡ prefix_of (split_of t) ++ delimited 35 (split_of t).fragment
+text-prefix t = sym (recompose_split t) ∙ recompose-prefix (split_of t)
 
-before-front : (s : Tests) → IsSpec s → (t : List ℕ) → reference_fault s t ≡ None → before 35 t ≡ front_of (split_of t)
-before-front s k t h = ap (before 35) (text-front t) ∙ before-marked 35 (front_of (split_of t)) (split_of t).fragment (lacks-split s k t h)
+before-prefix : (s : Tests) → IsSpec s → (t : List ℕ) → reference_fault s t ≡ None → before 35 t ≡ prefix_of (split_of t)
+before-prefix s k t h = ap (before 35) (text-prefix t) ∙ before-delimited 35 (prefix_of (split_of t)) (split_of t).fragment (lacks-split s k t h)
 
 -- what comes after the `#` is the fragment
-pub fragment-behind : (s : Tests) → IsSpec s → (t : List ℕ) → reference_fault s t ≡ None → behind 35 t ≡ (split_of t).fragment
-fragment-behind s k t h = ap (behind 35) (text-front t)
-    ∙ behind-marked 35 (front_of (split_of t)) (split_of t).fragment (lacks-split s k t h)
+pub fragment-after : (s : Tests) → IsSpec s → (t : List ℕ) → reference_fault s t ≡ None → after 35 t ≡ (split_of t).fragment
+fragment-after s k t h = ap (after 35) (text-prefix t)
+    ∙ after-delimited 35 (prefix_of (split_of t)) (split_of t).fragment (lacks-split s k t h)
 
-front-splits : (s : Tests) → IsSpec s → (t : List ℕ) → reference_fault s t ≡ None → Splits s (before 35 t) (bare (split_of t))
-front-splits s k t h =
+prefix-splits : (s : Tests) → IsSpec s → (t : List ℕ) → reference_fault s t ≡ None → Splits s (before 35 t) (bare (split_of t))
+prefix-splits s k t h =
     let f = (splits_where_no_fault s t h).fits in
     record {
       fits = record { scheme = f.scheme; authority = f.authority; path = f.path; query = f.query; fragment = refl; rules = f.rules };
-      text = recompose-bare (split_of t) ∙ sym (before-front s k t h);
+      text = recompose-bare (split_of t) ∙ sym (before-prefix s k t h);
     }
 
 -- what stands before the `#` of an IRI is an absolute IRI
-pub front-absolute : (s : Tests) → IsSpec s → (t : List ℕ) → iri_fault s t ≡ None → absolute_fault s (before 35 t) ≡ None
-front-absolute s k t h = (absolute-law s k (before 35 t)).1
-    (bare (split_of t), front-splits s k t (iri-whole s k t h), iri-scheme s k t h, refl)
+pub prefix-absolute : (s : Tests) → IsSpec s → (t : List ℕ) → iri_fault s t ≡ None → absolute_fault s (before 35 t) ≡ None
+prefix-absolute s k t h = (absolute-law s k (before 35 t)).1
+    (bare (split_of t), prefix-splits s k t (iri-whole s k t h), iri-scheme s k t h, refl)
 
 -- both joined are the text
-pub front-joined : (s : Tests) → IsSpec s → (t : List ℕ) → iri_fault s t ≡ None → before 35 t ++ marked 35 (split_of t).fragment ≡ t
-front-joined s k t h = ap (λ o. before 35 t ++ marked 35 o) (sym (fragment-behind s k t (iri-whole s k t h))) ∙ joined 35 t
+pub prefix-joined : (s : Tests) → IsSpec s → (t : List ℕ) → iri_fault s t ≡ None → before 35 t ++ delimited 35 (split_of t).fragment ≡ t
+prefix-joined s k t h = ap (λ o. before 35 t ++ delimited 35 o) (sym (fragment-after s k t (iri-whole s k t h))) ∙ joined 35 t

@@ -2,7 +2,7 @@
 use Rattle.std.specs.Prelude.{◌≡◌, ◌++◌, Some, None, codes, refl}
 use Rattle.iri_grammar.specs.Authority.{authority_parts}
 use Rattle.iri_grammar.specs.Components.{is_letter, is_scheme_char}
-use Rattle.iri_grammar.specs.Cut.{before, marked}
+use Rattle.iri_grammar.specs.Cut.{before, delimited}
 use Rattle.iri_grammar.specs.Ipv4.{is_hundreds}
 use Rattle.iri_grammar.specs.Ipv6.{is_group}
 use Rattle.iri_grammar.specs.Split.{split_of}
@@ -28,7 +28,7 @@ names_of_digits = (refl, refl, refl)
 cut_at_the_fragment :
     (before 35 (codes "foo://example.com:8042/over/there?name=ferret#nose") ≡ codes "foo://example.com:8042/over/there?name=ferret")
     × ((split_of (codes "foo://example.com:8042/over/there?name=ferret#nose")).fragment ≡ Some (codes "nose"))
-    × (before 35 (codes "foo://example.com:8042/over/there?name=ferret#nose") ++ marked 35 (Some (codes "nose"))
+    × (before 35 (codes "foo://example.com:8042/over/there?name=ferret#nose") ++ delimited 35 (Some (codes "nose"))
     ≡ codes "foo://example.com:8042/over/there?name=ferret#nose")
 unfolding split_of is_letter is_scheme_char
 cut_at_the_fragment = (refl, refl, refl)

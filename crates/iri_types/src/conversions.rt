@@ -1,9 +1,9 @@
 //! Conversions between kinds: they keep the text, or cut it at the fragment.
 ghost use Rattle.std.specs.Prelude.{◌≡◌, ◌++◌, IfErr, IsNone, IsSome, MatchOption, MatchResult, codes};
-ghost use Rattle.iri_grammar.specs.Cut.{before, marked};
+ghost use Rattle.iri_grammar.specs.Cut.{before, delimited};
 ghost use Rattle.iri_grammar.specs.Fault.{query_fault, fragment_fault};
 ghost use Rattle.iri_grammar.specs.Split.{split_of};
-ghost use Rattle.iri_types.specs.Prefixed.{IsUnmarked};
+ghost use Rattle.iri_types.specs.Prefixed.{IsUndelimited};
 ghost use Rattle.iri_types.specs.Texts.{text, text_of};
 ghost use Rattle.iri_grammar.specs.Characters.{number_sign};
 
@@ -82,7 +82,7 @@ impl<'a, S: Spec> View<'a, S, Iri> {
     pub fn to_absolute_and_fragment(self) -> (RiAbsoluteStr<'a, S>, Option<RiFragmentStr<'a, S>>)
         ensures absolute { text result.0 ≡ before number_sign (text self.entry) }
         ensures fragment { text_of result.1 ≡ (split_of (text self.entry)).fragment }
-        ensures joined { text result.0 ++ marked number_sign (text_of result.1) ≡ text self.entry }
+        ensures joined { text result.0 ++ delimited number_sign (text_of result.1) ≡ text self.entry }
     {
         (self.to_absolute(), self.fragment())
     }
@@ -113,10 +113,10 @@ impl<'a, K: Kind> View<'a, UriSpec, K> {
 }
 
 // The view of what comes after the delimiter.
-fn behind_mark<'a, S: Spec, K: Kind>(s: &'a str, mark: &str) -> Option<View<'a, S, K>>
-    ensures { MatchOption result (IsUnmarked mark.now (K.fault S.tests) s.now) (λ v. s.now ≡ mark.now ++ text v) }
+fn after_delimiter<'a, S: Spec, K: Kind>(s: &'a str, delimiter: &str) -> Option<View<'a, S, K>>
+    ensures { MatchOption result (IsUndelimited delimiter.now (K.fault S.tests) s.now) (λ v. s.now ≡ delimiter.now ++ text v) }
 {
-    match s.strip_prefix(mark) {
+    match s.strip_prefix(delimiter) {
         Some(rest) => match View::new(rest) {
             Ok(view) => Some(view),
             Err(_) => None,
@@ -139,10 +139,10 @@ impl<'a, S: Spec> View<'a, S, Query> {
     /// ```
     pub fn from_prefixed(s: &'a str) -> Result<Self, Error>
         ensures query { MatchResult result (λ v. s.now ≡ codes "?" ++ text v)
-            (λ _. IsUnmarked (codes "?") (query_fault S.tests) s.now) }
+            (λ _. IsUndelimited (codes "?") (query_fault S.tests) s.now) }
         ensures error { IfErr result (λ e. e.kind ≡ ErrorKind.InvalidQuery) }
     {
-        match behind_mark(s, "?") {
+        match after_delimiter(s, "?") {
             Some(query) => Ok(query),
             None => Err(Error::new(ErrorKind::InvalidQuery)),
         }
@@ -163,10 +163,10 @@ impl<'a, S: Spec> View<'a, S, Fragment> {
     /// ```
     pub fn from_prefixed(s: &'a str) -> Result<Self, Error>
         ensures fragment { MatchResult result (λ v. s.now ≡ codes "#" ++ text v)
-            (λ _. IsUnmarked (codes "#") (fragment_fault S.tests) s.now) }
+            (λ _. IsUndelimited (codes "#") (fragment_fault S.tests) s.now) }
         ensures error { IfErr result (λ e. e.kind ≡ ErrorKind.InvalidFragment) }
     {
-        match behind_mark(s, "#") {
+        match after_delimiter(s, "#") {
             Some(fragment) => Ok(fragment),
             None => Err(Error::new(ErrorKind::InvalidFragment)),
         }

@@ -130,7 +130,7 @@ fn refusals(rt: HostRuntime) {
 }
 
 #[test]
-fn behind_marks(rt: HostRuntime) {
+fn after_delimiters(rt: HostRuntime) {
     match UriQueryStr::from_prefixed("??a") {
         Ok(query) => same(&rt, query.as_str(), "?a"),
         Err(_) => assert!(rt; false),

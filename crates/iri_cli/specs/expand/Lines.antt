@@ -1,7 +1,7 @@
 -- The command `expand`: what a line says, and the values of variables after lines (RFC 6570 section 2.3).
 use Rattle.std.specs.Prelude.{ℕ, ◌==◌, cond, List, [], ◌∷◌, ◌++◌, Option, None, Some, if◌then◌else◌}
 use Rattle.std.specs.Str.{bytes_eq, is_utf8}
-use Rattle.iri_grammar.specs.Cut.{before, behind}
+use Rattle.iri_grammar.specs.Cut.{before, after}
 use Rattle.iri_template.specs.Names.{is_varname}
 use Rattle.iri_template.specs.ShownValues.{ShownValue, undefined, string, list, pairs}
 
@@ -29,7 +29,7 @@ if_name name (Some rest) = if is_varname name then Some (name, rest) else None
 
 -- the name of a variable, and the fields after it
 abbrev pub named : List ℕ → Option (List ℕ × List ℕ)
-named fields = if_name (before space fields) (behind space fields)
+named fields = if_name (before space fields) (after space fields)
 
 -- `NAME VALUE`
 abbrev pub string_line : Option (List ℕ × List ℕ) → ExpandLine
@@ -48,7 +48,7 @@ with_key name key (Some value) = changes (adds_pair name key value)
 
 abbrev pub pair_line : Option (List ℕ × List ℕ) → ExpandLine
 pair_line None = bad
-pair_line (Some p) = with_key p.0 (before space p.1) (behind space p.1)
+pair_line (Some p) = with_key p.0 (before space p.1) (after space p.1)
 
 -- `NAME`
 abbrev pub unset_line : List ℕ → ExpandLine

@@ -25,7 +25,7 @@ use Rattle.iri_cli.specs.run.Ending.{answers}
 use Rattle.iri_cli.specs.links.Answers.{links_answer}
 use Rattle.iri_cli.specs.links.Rules.{links_rules}
 
--- links of an API with pages, a name in capitals, an escaped mark, no link; and a fault of each kind but that of UTF-8
+-- links of an API with pages, a name in capitals, an escaped delimiter, no link; and a fault of each kind but that of UTF-8
 pub answers_to_some_lines : answers (links_rules uri_tests) (codes "https://api.example.com/items?page=2")
     (codes "<https://api.example.com/items?page=3>; rel=\"next\", <?page=1>; rel=prev" ∷ codes "</%7Eu/../x>;REL=up;title=\"a\\\"b\";" ∷ []
     ∷ codes "a" ∷ codes "<a" ∷ codes "<%4>" ∷ codes "<a> b" ∷ codes "<a>;r=" ∷ codes "<a>;r=\"x" ∷ [])

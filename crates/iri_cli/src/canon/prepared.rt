@@ -3,7 +3,7 @@ ghost use Rattle.std.specs.Prelude.{◌≡◌, ◌≤◌, true, None, Some, leng
 ghost use Rattle.std.specs.Vec.{vec_capacity};
 ghost use Rattle.iri_grammar.specs.Characters.{question_mark};
 ghost use Rattle.iri_grammar.specs.Components.{is_path};
-ghost use Rattle.iri_grammar.specs.Cut.{marked};
+ghost use Rattle.iri_grammar.specs.Cut.{delimited};
 ghost use Rattle.iri_grammar.specs.OptionalSlices.{now_of};
 ghost use Rattle.iri_text.specs.Shown.{Shows};
 ghost use Rattle.iri_types.specs.Texts.{text};
@@ -37,7 +37,7 @@ fn show_path<S: Spec, W: TextSink>(
 
 // The query after its question mark, where it stands.
 fn show_query<W: TextSink>(sink: &mut W, query: Option<&str>) -> Result<(), Stop>
-    ensures { Shows W.puts W.halts W.stops sink.old (marked question_mark (now_of query.entry)) sink.new result }
+    ensures { Shows W.puts W.halts W.stops sink.old (delimited question_mark (now_of query.entry)) sink.new result }
 {
     match query {
         Some(query) => show_two(sink, &"?", &query),
@@ -54,7 +54,7 @@ struct Prepared<'a, S: Spec> {
 impl<S: Spec> Show for Prepared<'_, S> {
     ghost use Rattle.std.specs.Prelude.{true, ◌++◌, is_some};
     ghost use Rattle.iri_grammar.specs.Characters.{question_mark};
-    ghost use Rattle.iri_grammar.specs.Cut.{marked};
+    ghost use Rattle.iri_grammar.specs.Cut.{delimited};
     ghost use Rattle.iri_grammar.specs.Split.{split_of};
     ghost use Rattle.iri_normal.specs.Prefix.{prefix_in};
     ghost use Rattle.iri_types.specs.SplitText.{split_text};
@@ -62,7 +62,7 @@ impl<S: Spec> Show for Prepared<'_, S> {
 
     ghost text = { λ p. prefix_in S.tests true (split_of (split_text p.base))
         ++ (prepared_path (is_some (split_of (split_text p.base)).authority) (split_of (split_text p.base)).path
-        ++ marked question_mark (split_of (split_text p.base)).query) };
+        ++ delimited question_mark (split_of (split_text p.base)).query) };
 
     fn show<W: TextSink>(&self, sink: &mut W) -> Result<(), Stop> {
         let parts = self.base.parts();

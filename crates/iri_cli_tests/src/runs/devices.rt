@@ -71,7 +71,7 @@ fn long(
     Ok(text)
 }
 
-// Paths as long as a line may be: as many segments as leave one byte at least for what is behind them.
+// Paths as long as a line may be: as many segments as leave one byte at least for what is after them.
 #[test]
 fn deep_paths(rt: HostRuntime) -> Result<(), Fail> {
     for count in [10_900, (LINE - 1) / 5] {

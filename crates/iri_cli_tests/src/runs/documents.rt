@@ -104,11 +104,11 @@ fn long_expansions(rt: HostRuntime) -> Result<(), Fail> {
         (b"1:{v}{v}", 524288, 0, b"bad expansion too long"),
     ];
     for &(template, count, written, answer) in &ROWS {
-        let mut front = Vec::new(rt.alloc());
-        front.extend_from_slice(b"http://a/\n{\"template\":\"")?;
-        front.extend_from_slice(template)?;
-        front.extend_from_slice(b"\",\"vars\":{\"v\":\"")?;
-        let mut input = long_line(&rt, &front, count)?;
+        let mut prefix = Vec::new(rt.alloc());
+        prefix.extend_from_slice(b"http://a/\n{\"template\":\"")?;
+        prefix.extend_from_slice(template)?;
+        prefix.extend_from_slice(b"\",\"vars\":{\"v\":\"")?;
+        let mut input = long_line(&rt, &prefix, count)?;
         input.extend_from_slice(b"\"}}\n")?;
         let mut output = long_line(&rt, answer, written)?;
         output.push(b'\n')?;

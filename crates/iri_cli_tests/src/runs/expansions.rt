@@ -6,7 +6,7 @@ use std::test::Fail;
 // A line, and the answer line to it, or none.
 type Row<'a> = (&'a [u8], Option<&'a str>);
 
-// Whether these lines behind this base have these answers, in a grammar.
+// Whether these lines after this base have these answers, in a grammar.
 fn expands(rt: &HostRuntime, grammar: &str, base: &str, rows: &[Row<'_>]) -> Result<bool, Fail> {
     let mut input = Vec::new(rt.alloc());
     input.extend_from_slice(base.as_bytes())?;
@@ -162,7 +162,7 @@ fn expansions_of_each_grammar(rt: HostRuntime) -> Result<(), Fail> {
     Ok(())
 }
 
-// Lines of no form, each behind a line that gives `v` a value, which stays.
+// Lines of no form, each after a line that gives `v` a value, which stays.
 #[test]
 fn bad_lines(rt: HostRuntime) -> Result<(), Fail> {
     static LINES: [&[u8]; 38] = [

@@ -37,7 +37,7 @@ fn rows(rt: HostRuntime) -> Result<(), Fail> {
             1,
             b"bad invalid path\nnone\n",
         ),
-        // An entry goes from the front, from the middle and from the end, and is added again.
+        // An entry goes from the start, from the middle and from the end, and is added again.
         (
             "uri",
             b"http://a/\na 1\na 2\na 3\nd 1\na 1\nd 3\na 3\nd 3\na 3",

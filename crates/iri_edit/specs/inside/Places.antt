@@ -13,41 +13,41 @@ use Rattle.iri_edit.specs.Password.{password_of, with_password, without_password
 
 -- the authority a stands in t from `start` on; what an edit changes stands in its place
 pub record IsAuthorityAt (t a : List ℕ) (start : ℕ) : Type 0 where
-  pub front : List ℕ
+  pub prefix : List ℕ
   pub back : List ℕ
-  pub text : front ++ (a ++ back) ≡ t
+  pub text : prefix ++ (a ++ back) ≡ t
   pub lead : List ℕ
-  pub ends : lead ++ 47 ∷ [] ≡ front
-  pub at : length front ≡ start
+  pub ends : lead ++ 47 ∷ [] ≡ prefix
+  pub at : length prefix ≡ start
   pub stands : (split_of t).authority ≡ Some a
   pub utf8 : IsUtf8 t
   pub short : length t < 2 ^ 64
-  pub edits : (f : AuthorityParts → AuthorityParts) → edited f t ≡ front ++ (recompose_authority (f (authority_parts a)) ++ back)
+  pub edits : (f : AuthorityParts → AuthorityParts) → edited f t ≡ prefix ++ (recompose_authority (f (authority_parts a)) ++ back)
 
 -- the colon before the password of t stands at `colon`, and the password ends at `end`
 pub record IsPasswordAt (t : List ℕ) (colon end : ℕ) : Type 0 where
-  pub front : List ℕ
+  pub prefix : List ℕ
   pub password : List ℕ
   pub back : List ℕ
-  pub text : front ++ 58 ∷ (password ++ back) ≡ t
-  pub at_colon : length front ≡ colon
+  pub text : prefix ++ 58 ∷ (password ++ back) ≡ t
+  pub at_colon : length prefix ≡ colon
   pub at_end : colon + 1 + length password ≡ end
   pub stands : password_of t ≡ Some password
-  pub edits : (w : List ℕ) → with_password t w ≡ front ++ 58 ∷ (w ++ back)
-  pub removes : without_password t ≡ front ++ back
+  pub edits : (w : List ℕ) → with_password t w ≡ prefix ++ 58 ∷ (w ++ back)
+  pub removes : without_password t ≡ prefix ++ back
   pub before_colon : IsCharBoundary t colon
-  pub behind_colon : IsCharBoundary t (colon + 1)
-  pub behind_all : IsCharBoundary t end
+  pub after_colon : IsCharBoundary t (colon + 1)
+  pub after_all : IsCharBoundary t end
 
 -- the host h of t stands from `start` on
 pub record IsHostAt (s : Tests) (t h : List ℕ) (start : ℕ) : Type 0 where
-  pub front : List ℕ
+  pub prefix : List ℕ
   pub back : List ℕ
-  pub text : front ++ (h ++ back) ≡ t
-  pub at : length front ≡ start
+  pub text : prefix ++ (h ++ back) ≡ t
+  pub at : length prefix ≡ start
   pub valid : is_host s h ≡ true
   pub stands : host_of_text t ≡ Some h
-  pub edits : (new : List ℕ) → with_host t new ≡ front ++ (new ++ back)
+  pub edits : (new : List ℕ) → with_host t new ≡ prefix ++ (new ++ back)
   pub low : IsCharBoundary t start
   pub high : IsCharBoundary t (start + length h)
   pub utf8 : IsUtf8 back

@@ -3,7 +3,7 @@ use Rattle.std.specs.Prelude.{◌≡◌, ℕ, true, false, List, Option}
 use Rattle.iri_grammar.specs.Characters.{number_sign, percent_sign, question_mark}
 use Rattle.iri_grammar.specs.Classes.{Tests}
 use Rattle.iri_grammar.specs.Components.{if_there, is_path, is_query, is_fragment}
-use Rattle.iri_grammar.specs.Cut.{before, behind, lacks}
+use Rattle.iri_grammar.specs.Cut.{before, after, lacks}
 use Rattle.iri_grammar.specs.OptionalSlices.{now_of}
 use Rattle.iri_grammar.specs.Split.{hier_of}
 use Rattle.iri_grammar.specs.declared.tail.Tail.{Tail}
@@ -11,8 +11,8 @@ use Rattle.iri_grammar.specs.declared.tail.Tail.{Tail}
 -- they are those of the text
 pub record IsTail (t : List ℕ) (p : Tail) : Type 0 where
   pub path : p.path.now ≡ hier_of t
-  pub query : now_of p.query ≡ behind question_mark (before number_sign t)
-  pub fragment : now_of p.fragment ≡ behind number_sign t
+  pub query : now_of p.query ≡ after question_mark (before number_sign t)
+  pub fragment : now_of p.fragment ≡ after number_sign t
 
 -- what its notes promise
 abbrev pub KeepsNotes : Tail → Type 0

@@ -17,11 +17,11 @@ use crate::validate::component::{authority, fragment, path, query, scheme};
 
 // Whether no colon comes before the first slash.
 #[inline(always)]
-fn lacks_front_colon(path: &[u8]) -> bool
+fn lacks_first_colon(path: &[u8]) -> bool
     ensures { result ≡ lacks colon (before slash path.now) }
 {
     let mut rest = path;
-    'front: while let [b, next @ ..] = rest {
+    'prefix: while let [b, next @ ..] = rest {
         if *b == b'/' {
             return true;
         }
@@ -37,7 +37,7 @@ fn lacks_front_colon(path: &[u8]) -> bool
 fn colon_allowed(p: &Splitter<'_>) -> bool
     ensures { result ≡ colon_allowed (parts p.now) }
 {
-    p.scheme().is_some() || p.authority().is_some() || lacks_front_colon(p.path().as_bytes())
+    p.scheme().is_some() || p.authority().is_some() || lacks_first_colon(p.path().as_bytes())
 }
 
 // The first segment without a colon where it has to be.
@@ -73,7 +73,7 @@ fn authority_in_place<S: Spec>(p: &Splitter<'_>) -> Result<(), Error>
 
 // Authority, path and query.
 #[tactic(auto, unfolding(crate::specs::WholeFault::fault_before_fragment))]
-fn front<S: Spec>(p: &Splitter<'_>) -> Result<(), Error>
+fn before_fragment<S: Spec>(p: &Splitter<'_>) -> Result<(), Error>
     ensures { Answers result (fault_before_fragment S.tests (parts p.now)) }
 {
     authority_in_place::<S>(p)?;
@@ -89,7 +89,7 @@ fn front<S: Spec>(p: &Splitter<'_>) -> Result<(), Error>
 pub(crate) fn judge<S: Spec>(p: &Splitter<'_>) -> Result<(), Error>
     ensures { Answers result (parts_fault S.tests (fragment_fault S.tests) (parts p.now)) }
 {
-    front::<S>(p)?;
+    before_fragment::<S>(p)?;
     if let Some(f) = p.fragment() {
         fragment::<S>(f)?;
     }
@@ -107,7 +107,7 @@ fn authority_and_colon<S: Spec>(p: &Splitter<'_>) -> Result<(), Error>
 
 // Authority, path, query and fragment, of which the last three are each in its production.
 #[inline(always)]
-pub(crate) fn judge_front<S: Spec>(p: &Splitter<'_>) -> Result<(), Error>
+pub(crate) fn judge_scanned<S: Spec>(p: &Splitter<'_>) -> Result<(), Error>
     requires over { AreOver S.tests (parts p.now).path (parts p.now).query (parts p.now).fragment }
     ensures { Answers result (parts_fault S.tests (fragment_fault S.tests) (parts p.now)) }
 {
@@ -190,7 +190,7 @@ pub fn absolute_iri<S: Spec>(s: &str) -> Result<(), Error>
 {
     leading_scheme(s)?;
     let p = Splitter::cut(s);
-    front::<S>(&p)?;
+    before_fragment::<S>(&p)?;
     match p.fragment() {
         Some(_) => Err(Error::new(ErrorKind::UnexpectedFragment)),
         None => Ok(()),

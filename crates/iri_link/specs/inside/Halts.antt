@@ -9,7 +9,7 @@ use Rattle.iri_link.specs.declared.error.LinkError.TheVariants.{Fault as ToldFau
 use Rattle.iri_link.specs.declared.halt.Halt.{Halt}
 use Rattle.iri_link.specs.declared.halt.Halt.TheVariants.{Fault as Halted, Memory}
 
--- the cause of a halt behind a target, where this is the first fault
+-- the cause of a halt after a target, where this is the first fault
 abbrev pub HaltsAt : Halt → Option Fault → Type 0
 HaltsAt (Halted k r) f = f ≡ Some (record { kind = k; rest = r.now })
 HaltsAt Memory f = ⊤

@@ -3,7 +3,7 @@ use Rattle.std.specs.Prelude.{◌≡◌, ℕ, true, List, ◌∷◌, ◌++◌, O
 use Rattle.std.specs.List.{All}
 use Rattle.iri_grammar.specs.Characters.{comma}
 use Rattle.iri_grammar.specs.Classes.{Tests}
-use Rattle.iri_grammar.specs.Cut.{lacks, marked}
+use Rattle.iri_grammar.specs.Cut.{lacks, delimited}
 use Rattle.iri_grammar.specs.WholeFault.{reference_fault}
 use Rattle.iri_link.specs.Characters.{greater_than_sign, less_than_sign}
 use Rattle.iri_link.specs.Fault.{Fault, fault_from}
@@ -11,7 +11,7 @@ use Rattle.iri_link.specs.Field.{LinkValue, IsLink, IsElement, IsField}
 use Rattle.iri_link.specs.Links.{HasReference}
 use Rattle.iri_link.specs.Refusals.{KeepsTarget}
 use Rattle.iri_link.specs.Resolved.{resolved}
-use Rattle.iri_link.specs.Phases.{before_link, behind_param}
+use Rattle.iri_link.specs.Phases.{before_link, after_param}
 use Rattle.iri_link.specs.Token.{is_blanks}
 use Rattle.iri_link.specs.inside.ReadParams.{ends_link}
 
@@ -20,46 +20,46 @@ pub record CutsTarget (s : Tests) (t rest target : List ℕ) : Type 0 where
   pub whole : t ≡ target ++ greater_than_sign ∷ rest
   pub closed : lacks greater_than_sign target ≡ true
   pub valid : reference_fault s target ≡ None
-  pub goes : fault_from s before_link (less_than_sign ∷ t) ≡ fault_from s behind_param rest
+  pub goes : fault_from s before_link (less_than_sign ∷ t) ≡ fault_from s after_param rest
 
 -- t is a link-value, blanks, and a rest that is nothing or begins with a comma
 pub record ReadsLink (s : Tests) (base t rest : List ℕ) (l : LinkValue) : Type 0 where
-  pub front : List ℕ
+  pub prefix : List ℕ
   pub blanks : List ℕ
   pub source : LinkValue
-  pub whole : t ≡ front ++ (blanks ++ rest)
-  pub link : IsLink front source
+  pub whole : t ≡ prefix ++ (blanks ++ rest)
+  pub link : IsLink prefix source
   pub valid : HasReference s source
   pub kept : l ≡ resolved s base source
   pub all : is_blanks blanks ≡ true
   pub ends : ends_link rest ≡ true
-  pub goes : fault_from s before_link t ≡ fault_from s behind_param rest
+  pub goes : fault_from s before_link t ≡ fault_from s after_param rest
 
--- the first fault behind a comma, where one stands
-abbrev pub fault_behind : Tests → Option (List ℕ) → Option Fault
-fault_behind s None = None
-fault_behind s (Some r) = fault_from s before_link r
+-- the first fault after a comma, where one stands
+abbrev pub fault_after : Tests → Option (List ℕ) → Option Fault
+fault_after s None = None
+fault_after s (Some r) = fault_from s before_link r
 
--- whether a target is kept behind a comma
-abbrev pub KeepsBehind : Tests → Option (List ℕ) → Type 0
-KeepsBehind s None = ⊥
-KeepsBehind s (Some r) = KeepsTarget s r
+-- whether a target is kept after a comma
+abbrev pub KeepsAfter : Tests → Option (List ℕ) → Type 0
+KeepsAfter s None = ⊥
+KeepsAfter s (Some r) = KeepsTarget s r
 
 -- t is no more than a comma and a rest, or nothing
 pub record SkipsEmpty (t : List ℕ) (rest : Option (List ℕ)) : Type 0 where
-  pub whole : t ≡ marked comma rest
-  pub goes : (s : Tests) → fault_from s before_link t ≡ fault_behind s rest
+  pub whole : t ≡ delimited comma rest
+  pub goes : (s : Tests) → fault_from s before_link t ≡ fault_after s rest
 
--- t is an element, and what stands behind its comma, where one stands
+-- t is an element, and what stands after its comma, where one stands
 pub record AddsLink (s : Tests) (base t : List ℕ) (rest : Option (List ℕ)) (old new : List LinkValue) : Type 0 where
-  pub front : List ℕ
+  pub prefix : List ℕ
   pub sources : List LinkValue
-  pub whole : t ≡ front ++ marked comma rest
-  pub element : (a : List ℕ) → is_blanks a ≡ true → IsElement (a ++ front) sources
+  pub whole : t ≡ prefix ++ delimited comma rest
+  pub element : (a : List ℕ) → is_blanks a ≡ true → IsElement (a ++ prefix) sources
   pub valid : All (HasReference s) sources
   pub kept : new ≡ old ++ map (resolved s base) sources
-  pub goes : fault_from s before_link t ≡ fault_behind s rest
-  pub keeps : KeepsBehind s rest → KeepsTarget s t
+  pub goes : fault_from s before_link t ≡ fault_after s rest
+  pub keeps : KeepsAfter s rest → KeepsTarget s t
 
 -- x is a field value whose targets are references; what is kept are its link-values with canonical targets
 pub record ReadsField (s : Tests) (base x : List ℕ) (ls : List LinkValue) : Type 0 where

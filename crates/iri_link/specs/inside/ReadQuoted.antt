@@ -3,16 +3,16 @@ use Rattle.std.specs.Prelude.{◌≡◌, ℕ, suc, Bool, true, false, cond, ◌=
 use Rattle.iri_grammar.specs.Classes.{Tests}
 use Rattle.iri_link.specs.Characters.{backslash, quotation_mark}
 use Rattle.iri_link.specs.Fault.{closes_from, fault_from}
-use Rattle.iri_link.specs.Phases.{in_quoted, behind_param}
+use Rattle.iri_link.specs.Phases.{in_quoted, after_param}
 use Rattle.iri_link.specs.Token.{IsQuoted}
 
--- how many bytes stand before the mark that ends it
+-- how many bytes stand before the delimiter that ends it
 unfoldable pub quoted_len : Bool → List ℕ → ℕ
 quoted_len e [] = 0
 quoted_len true (c ∷ cs) = suc (quoted_len false cs)
 quoted_len false (c ∷ cs) = cond (c == quotation_mark) 0 (suc (quoted_len (c == backslash) cs))
 
--- the value, behind a `\` or not
+-- the value, after a `\` or not
 unfoldable pub unquoted_from : Bool → List ℕ → List ℕ
 unquoted_from e [] = []
 unquoted_from true (c ∷ cs) = c ∷ unquoted_from false cs
@@ -21,9 +21,9 @@ unquoted_from false (c ∷ cs) = cond (c == backslash) (unquoted_from true cs) (
 abbrev pub unquoted : List ℕ → List ℕ
 unquoted t = unquoted_from false t
 
--- t is what stands in a quoted string, its last mark and a rest
+-- t is what stands in a quoted string, its last delimiter and a rest
 pub record IsCutQuoted (t raw rest : List ℕ) : Type 0 where
   pub whole : t ≡ raw ++ quotation_mark ∷ rest
   pub text : IsQuoted raw (unquoted raw)
   pub closes : closes_from false t ≡ true
-  pub goes : (s : Tests) → fault_from s in_quoted t ≡ fault_from s behind_param rest
+  pub goes : (s : Tests) → fault_from s in_quoted t ≡ fault_from s after_param rest

@@ -1,4 +1,4 @@
--- A text cut behind a run of bytes that pass a test.
+-- A text cut after a run of bytes that pass a test.
 use Rattle.std.specs.Prelude.{◌≡◌, ℕ, Bool, true, false, List, [], ◌∷◌, ◌++◌}
 use Rattle.std.specs.List.{list_all}
 use Rattle.iri_link.specs.Token.{is_blank, is_token_char}

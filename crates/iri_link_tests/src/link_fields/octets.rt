@@ -12,11 +12,11 @@ fn is_tchar(octet: u8) -> bool {
 }
 
 // A field value with an octet between two texts.
-fn field_with(rt: &HostRuntime, front: &str, octet: u8, behind: &str) -> Result<Vec<u8>, Fail> {
+fn field_with(rt: &HostRuntime, prefix: &str, octet: u8, after: &str) -> Result<Vec<u8>, Fail> {
     let mut field = Vec::new(rt.alloc());
-    field.extend_from_slice(front.as_bytes())?;
+    field.extend_from_slice(prefix.as_bytes())?;
     field.push(octet)?;
-    field.extend_from_slice(behind.as_bytes())?;
+    field.extend_from_slice(after.as_bytes())?;
     Ok(field)
 }
 
@@ -116,7 +116,7 @@ fn paired_value_is(rt: &HostRuntime, octet: u8) -> Result<bool, Fail> {
 }
 
 #[test]
-fn octets_behind_a_backslash(rt: HostRuntime) -> Result<(), Fail> {
+fn octets_after_a_backslash(rt: HostRuntime) -> Result<(), Fail> {
     for octet in 0..=255u8 {
         assert!(rt; paired_value_is(&rt, octet)?, "{octet}");
     }
@@ -125,7 +125,7 @@ fn octets_behind_a_backslash(rt: HostRuntime) -> Result<(), Fail> {
 
 // An octet after a target is a blank, a semicolon or a comma.
 #[test]
-fn octets_behind_a_target(rt: HostRuntime) -> Result<(), Fail> {
+fn octets_after_a_target(rt: HostRuntime) -> Result<(), Fail> {
     for octet in 0..=255u8 {
         let field = field_with(&rt, "<a>", octet, "")?;
         let stands = match octet {

@@ -1,17 +1,17 @@
 -- The first dot segment of a path.
 use Rattle.std.specs.Prelude.{◌≡◌, ℕ, Bool, true, false, List, ◌++◌}
 use Rattle.iri_grammar.specs.Characters.{slash}
-use Rattle.iri_grammar.specs.Cut.{before, behind}
+use Rattle.iri_grammar.specs.Cut.{before, after}
 use Rattle.iri_normal.specs.DotRemoval.{is_two_dots}
 use Rattle.iri_normal.specs.Dots.{is_dot_segment, has_dot_segment}
 use Rattle.iri_normal.specs.Target.{ends_at_slash}
 use Rattle.iri_normal.specs.inside.Written.{or_nothing}
 
 -- the path begins with a dot segment, which is `..` or not, and this follows its slash
-pub record IsInFront (path : List ℕ) (two : Bool) (rest : List ℕ) : Type 0 where
+pub record IsBefore (path : List ℕ) (two : Bool) (rest : List ℕ) : Type 0 where
   pub dots : is_dot_segment (before slash path) ≡ true
   pub kind : two ≡ is_two_dots (before slash path)
-  pub rest_is : rest ≡ or_nothing (behind slash path)
+  pub rest_is : rest ≡ or_nothing (after slash path)
 
 -- the first dot segment stands after these segments
 pub record IsNext (path run : List ℕ) (two : Bool) (rest : List ℕ) : Type 0 where
@@ -19,4 +19,4 @@ pub record IsNext (path run : List ℕ) (two : Bool) (rest : List ℕ) : Type 0 
   pub whole : path ≡ run ++ more
   pub ends : ends_at_slash run ≡ true
   pub plain : has_dot_segment run ≡ false
-  pub front : IsInFront more two rest
+  pub prefix : IsBefore more two rest

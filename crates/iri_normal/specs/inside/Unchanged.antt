@@ -19,7 +19,7 @@ use Rattle.iri_normal.specs.Target.{ends_at_slash, target}
 abbrev pub lacks_triplets_and_dots : List ℕ → List ℕ → Bool
 lacks_triplets_and_dots text path = lacks percent_sign text && not (has_dot_segment path)
 
--- no triplet stands behind the authority
+-- no triplet stands after the authority
 abbrev pub LacksTriplets : Parts → Type 0
 LacksTriplets r = (lacks percent_sign r.path ≡ true) × (if_there (lacks percent_sign) r.query ≡ true)
     × (if_there (lacks percent_sign) r.fragment ≡ true)
@@ -29,24 +29,24 @@ abbrev pub KeepsPrefix : Tests → Parts → Type 0
 KeepsPrefix s r = (prefix_in s true r ≡ prefix_in s false r) × (lacks percent_sign (prefix_in s false r) ≡ true)
 
 -- beside its authority the base puts a path before relative ones that stays as it is
-abbrev pub is_plain_front : Parts → List ℕ → Bool
-is_plain_front base front = is_some base.authority && lacks_triplets_and_dots front front
+abbrev pub is_plain_prefix : Parts → List ℕ → Bool
+is_plain_prefix base directory = is_some base.authority && lacks_triplets_and_dots directory directory
 
--- of a reference without dot segments, the target's text in normal form is its own behind these two, but for triplets: the prefix and the
+-- of a reference without dot segments, the target's text in normal form is its own after these two, but for triplets: the prefix and the
 -- path of the base, or nothing; and its own prefix is `own` in that form
-pub record StandBefore (s : Tests) (base reference : Parts) (prefix front own : List ℕ) : Type 0 where
-  pub path : (target base reference).path ≡ front ++ reference.path
+pub record StandBefore (s : Tests) (base reference : Parts) (prefix directory own : List ℕ) : Type 0 where
+  pub path : (target base reference).path ≡ directory ++ reference.path
   pub query : (target base reference).query ≡ reference.query
   pub fragment : (target base reference).fragment ≡ reference.fragment
-  pub plain : lacks_triplets_and_dots front front ≡ true
-  pub ends : ends_at_slash front ≡ true
-  pub unguarded : (is_some (target base reference).authority || not (starts_with_slashes (front ++ reference.path))) ≡ true
-  pub text : prefix_in s true (target base reference) ++ front ≡ prefix ++ (front ++ own)
+  pub plain : lacks_triplets_and_dots directory directory ≡ true
+  pub ends : ends_at_slash directory ≡ true
+  pub unguarded : (is_some (target base reference).authority || not (starts_with_slashes (directory ++ reference.path))) ≡ true
+  pub text : prefix_in s true (target base reference) ++ directory ≡ prefix ++ (directory ++ own)
   pub percent : lacks percent_sign (prefix_in s false reference) ≡ true
 
--- the canonical text is that of the reference behind these two, with its triplets in normal form
-pub record EndsCanonical (s : Tests) (base reference prefix front : List ℕ) : Type 0 where
-  pub text : canonical s base reference ≡ prefix ++ (front ++ pct s reference)
+-- the canonical text is that of the reference after these two, with its triplets in normal form
+pub record EndsCanonical (s : Tests) (base reference prefix directory : List ℕ) : Type 0 where
+  pub text : canonical s base reference ≡ prefix ++ (directory ++ pct s reference)
   pub whole : whole_triplets reference ≡ true
   pub bare : LacksTriplets (split_of reference) → lacks percent_sign reference ≡ true
 

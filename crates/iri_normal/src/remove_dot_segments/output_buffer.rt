@@ -29,11 +29,11 @@ fn rfind_near(bytes: &[u8]) -> Option<usize>
     ensures { IsLastByte (is_byte 47) bytes.now result }
 {
     let mut rest = bytes;
-    'bytes: while let [front @ .., last] = rest {
+    'bytes: while let [directory @ .., last] = rest {
         if *last == b'/' {
-            return Some(front.len());
+            return Some(directory.len());
         }
-        rest = front;
+        rest = directory;
     }
     None
 }

@@ -45,7 +45,7 @@ module _ {S W : Type 0} (s : Tests) where
   encoder_rules laws = chars_laws (through_laws same_place (char_text s) (λ (e : Encoder S W). e.context) (λ (e : Encoder S W). e.to.now)
       (λ (e : Encoder S W). e.to.ghost_name) laws)
 
-  -- what a call has done to the sink behind it, as what it has done to this one
+  -- what a call has done to the sink after it, as what it has done to this one
   pub encoder_put : {puts halts : W → List ℕ → W → Type 0} {stops : W → ℕ} (a b : Encoder S W) (t : List ℕ) (r : Result (Unit {0}) Stop)
       → IsUtf8 t → b.to.ghost_name ≡ a.to.ghost_name → b.context ≡ a.context
       → Shows puts halts stops a.to.now (encoded (keeps s a.context) t) b.to.now r
@@ -66,7 +66,7 @@ module _ {S W : Type 0} (s : Tests) where
   encoder_put {halts = halts} a b t (Err e) u same place q = record {
     appends = tt;
     stops_within = record {
-      front = t;
+      prefix = t;
       rest = [];
       split = append-nil t;
       utf8 = u;

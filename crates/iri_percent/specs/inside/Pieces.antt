@@ -23,23 +23,23 @@ abbrev pub stays : Bool → ℕ → Bool
 stays lower x = not (x == 37) && not (lower && is_ascii_uppercase x)
 
 -- the first n bytes stay
-abbrev pub NoMark : Bool → List ℕ → ℕ → Type 0
-NoMark lower t n = (k : ℕ) → k < n → stays lower (slice_index t k) ≡ true
+abbrev pub NoCandidate : Bool → List ℕ → ℕ → Type 0
+NoCandidate lower t n = (k : ℕ) → k < n → stays lower (slice_index t k) ≡ true
 
 -- the first byte that may change
-pub record MarkAt (lower : Bool) (t : List ℕ) (i : ℕ) : Type 0 where
+pub record CandidateAt (lower : Bool) (t : List ℕ) (i : ℕ) : Type 0 where
   pub inside : i < length t
-  pub before : NoMark lower t i
-  pub mark : stays lower (slice_index t i) ≡ false
+  pub before : NoCandidate lower t i
+  pub candidate : stays lower (slice_index t i) ≡ false
 
--- what stands in front of it stays
-pub record FirstMark (s : Tests) (lower : Bool) (t : List ℕ) (i : ℕ) : Type 0 where
+-- what stands before it stays
+pub record FirstCandidate (s : Tests) (lower : Bool) (t : List ℕ) (i : ℕ) : Type 0 where
   pub inside : i < length t
-  pub mark : stays lower (slice_index t i) ≡ false
+  pub candidate : stays lower (slice_index t i) ≡ false
   pub same : normal s (case_of lower) t ≡ take i t ++ normal s (case_of lower) (drop i t)
   pub whole : whole_triplets (drop i t) ≡ true
 
--- the bytes from `at` on, `len` of them, become the text l in normal form, behind bytes that stay
+-- the bytes from `at` on, `len` of them, become the text l in normal form, after bytes that stay
 pub record Becomes (s : Tests) (lower : Bool) (t : List ℕ) (at len : ℕ) (l : List ℕ) : Type 0 where
   pub text : normal s (case_of lower) t ≡ take at t ++ (l ++ normal s (case_of lower) (drop (at + len) t))
   pub within : at + len ≤ length t
@@ -48,7 +48,7 @@ pub record Becomes (s : Tests) (lower : Bool) (t : List ℕ) (at len : ℕ) (l :
   pub last : slice_index t (at + len - 1) < 128
   pub whole : whole_triplets (drop (at + len) t) ≡ true
 
--- so much has been gathered behind bytes that stay, perhaps nothing yet
+-- so much has been gathered after bytes that stay, perhaps nothing yet
 pub record Gathered (s : Tests) (lower : Bool) (t : List ℕ) (at len : ℕ) (l : List ℕ) : Type 0 where
   pub text : normal s (case_of lower) t ≡ take at t ++ (l ++ normal s (case_of lower) (drop (at + len) t))
   pub within : at + len ≤ length t

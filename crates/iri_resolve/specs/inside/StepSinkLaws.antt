@@ -17,28 +17,28 @@ list_both a b c t u p q = q ∙ ap (λ l. l ++ u) p ∙ append_assoc a t u
 
 pub list_until : (a b c t u : List Step) → ListPuts a t b → ListHalts b u c → ListHalts a (t ++ u) c
 list_until a b c t u p h = record {
-  front = t ++ h.front;
+  prefix = t ++ h.prefix;
   rest = h.rest;
-  split = append_assoc t h.front h.rest ∙ ap (λ l. t ++ l) h.split;
-  taken = h.taken ∙ ap (λ l. l ++ h.front) p ∙ append_assoc a t h.front;
+  split = append_assoc t h.prefix h.rest ∙ ap (λ l. t ++ l) h.split;
+  taken = h.taken ∙ ap (λ l. l ++ h.prefix) p ∙ append_assoc a t h.prefix;
 }
 
 pub list_within : (a b t u : List Step) → ListHalts a t b → ListHalts a (t ++ u) b
 list_within a b t u h = record {
-  front = h.front;
+  prefix = h.prefix;
   rest = h.rest ++ u;
-  split = sym (append_assoc h.front h.rest u) ∙ ap (λ l. l ++ u) h.split;
+  split = sym (append_assoc h.prefix h.rest u) ∙ ap (λ l. l ++ u) h.split;
   taken = h.taken;
 }
 
 -- ---- lines
 module _ {W : Type 0} where
-  -- the same sink behind it, and the lines of the steps went into it
+  -- the same sink after it, and the lines of the steps went into it
   pub record LinesPut (puts : W → List ℕ → W → Type 0) (a : StepLines W) (steps : List Step) (b : StepLines W) : Type 0 where
     pub same : b.to.ghost_name ≡ a.to.ghost_name
     pub put : puts a.to.now (step_lines steps) b.to.now
 
-  -- the same sink behind it, which stopped within the lines of the steps
+  -- the same sink after it, which stopped within the lines of the steps
   pub record LinesHalt (halts : W → List ℕ → W → Type 0) (a : StepLines W) (steps : List Step) (b : StepLines W) : Type 0 where
     pub same : b.to.ghost_name ≡ a.to.ghost_name
     pub halt : halts a.to.now (step_lines steps) b.to.now
@@ -60,7 +60,7 @@ module _ {W : Type 0} where
     };
   }
 
-  -- what a line has done to the sink behind it, as what its step has done to this one
+  -- what a line has done to the sink after it, as what its step has done to this one
   pub line_put : {puts halts : W → List ℕ → W → Type 0} {stops : W → ℕ} (a b : StepLines W) (x : Step) (r : Result (Unit {0}) Stop)
       → b.to.ghost_name ≡ a.to.ghost_name → Shows puts halts stops a.to.now (step_line x) b.to.now r
       → Shows (LinesPut puts) (LinesHalt halts) (λ (l : StepLines W). stops l.to.now) a (x ∷ []) b r

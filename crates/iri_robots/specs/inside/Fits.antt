@@ -3,7 +3,7 @@ use Rattle.std.specs.Prelude.{◌≡◌, ◌≢◌, ℕ, ◌<◌, ◌≤◌, Boo
 use Rattle.iri_grammar.specs.Characters.{asterisk, percent_sign}
 use Rattle.iri_robots.specs.Patterns.{dollar_sign, digit_two, digit_four, capital_a}
 
--- the letter of an escape `%2A` or `%24`, and the mark that it stands for
+-- the letter of an escape `%2A` or `%24`, and the special that it stands for
 pub data IsEscape : ℕ → ℕ → Type 0 where
   star_escape : IsEscape capital_a asterisk
   dollar_escape : IsEscape digit_four dollar_sign
@@ -21,13 +21,13 @@ pub data IsSuffix : List ℕ → List ℕ → Type 0 where
   later : (x : ℕ) (r s : List ℕ) → IsSuffix r s → IsSuffix r (x ∷ s)
 
 -- r begins later than s
-pub data IsBehind : List ℕ → List ℕ → Type 0 where
-  behind : (x : ℕ) (r s : List ℕ) → IsSuffix r s → IsBehind r (x ∷ s)
+pub data IsAfter : List ℕ → List ℕ → Type 0 where
+  after : (x : ℕ) (r s : List ℕ) → IsSuffix r s → IsAfter r (x ∷ s)
 
 -- the pattern fits later than at s
-pub record FitsBehind (anchored : Bool) (q s : List ℕ) : Type 0 where
+pub record FitsAfter (anchored : Bool) (q s : List ℕ) : Type 0 where
   pub rest : List ℕ
-  pub is_behind : IsBehind rest s
+  pub is_after : IsAfter rest s
   pub fits : Fits anchored q rest
 
 -- A pattern q at s comes to the pattern q' at s': the one fits exactly where the other does, and where q fits later than
@@ -35,16 +35,16 @@ pub record FitsBehind (anchored : Bool) (q s : List ℕ) : Type 0 where
 pub record MovesOn (anchored : Bool) (q s q' s' : List ℕ) : Type 0 where
   pub onward : Fits anchored q s → Fits anchored q' s'
   pub back : Fits anchored q' s' → Fits anchored q s
-  pub later : FitsBehind anchored q s → FitsBehind anchored q' s'
+  pub later : FitsAfter anchored q s → FitsAfter anchored q' s'
 
--- A pattern q at s comes to a `*` with q' behind it, at s': wherever from s on q fits, what follows the `*` fits from s' on
+-- A pattern q at s comes to a `*` with q' after it, at s': wherever from s on q fits, what follows the `*` fits from s' on
 pub record StopsAtStar (anchored : Bool) (q s q' s' : List ℕ) : Type 0 where
   pub onward : (r : List ℕ) → IsSuffix r s → Fits anchored q r → Fits anchored (asterisk ∷ q') s'
   pub back : Fits anchored (asterisk ∷ q') s' → Fits anchored q s
   pub shorter : length q' < length q
   pub within : length s' ≤ length s
 
--- the pattern begins with the escape of this mark
+-- the pattern begins with the escape of this special
 pub record EscapeOf (q : List ℕ) (m : ℕ) : Type 0 where
   pub letter : ℕ
   pub rest : List ℕ

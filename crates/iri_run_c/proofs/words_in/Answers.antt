@@ -2,16 +2,16 @@ use Rattle.std.proofs.Common.{◌≡◌, ℕ, List, [], ◌∷◌, ◌++◌, map
 use Rattle.std.proofs.lemmas.List.{append-nil, map-append}
 use Rattle.std.specs.declared.alloc.Global.{Global}
 use Rattle.std.specs.declared.string.String.{String}
-use Rattle.iri_grammar.specs.Cut.{before, behind}
+use Rattle.iri_grammar.specs.Cut.{before, after}
 use Rattle.iri_grammar.specs.OptionalSlices.{now_of}
 use Rattle.iri_grammar.specs.Pieces.{pieces}
 use Rattle.iri_grammar.specs.inside.PiecesLaws.{more_pieces}
-use Rattle.iri_grammar.proofs.PiecesLaws.{pieces_cut, behind_shorter}
+use Rattle.iri_grammar.proofs.PiecesLaws.{pieces_cut, after_shorter}
 use Rattle.iri_run_c.specs.Told.{space}
 use Rattle.iri_run_c.proofs.words_in.Goals as goal
 
 pushed : (ws all : List (String Global)) (w : String Global) (rest whole : List ℕ) (o : Option (List ℕ)) → all ≡ ws ++ w ∷ []
-    → string_bytes w ≡ before space rest → behind space rest ≡ o → map string_bytes ws ++ pieces space rest ≡ pieces space whole
+    → string_bytes w ≡ before space rest → after space rest ≡ o → map string_bytes ws ++ pieces space rest ≡ pieces space whole
     → map string_bytes all ++ more_pieces space o ≡ pieces space whole
 pushed ws all w rest whole o e f b h =
     let first : string_bytes w ∷ more_pieces space o ≡ pieces space rest =
@@ -23,16 +23,16 @@ pushed ws all w rest whole o e f b h =
 
 pub words-smaller : goal.words-smaller
 words-smaller c =
-    omega (arith, behind_shorter space c.words.rest.now c.in-Some.after.now (sym c.cut.ensures.behind ∙ ap now_of c.in-Some.is))
+    omega (arith, after_shorter space c.words.rest.now c.in-Some.after.now (sym c.cut.ensures.after ∙ ap now_of c.in-Some.is))
 
 pub words-preserved : goal.words-preserved
 words-preserved c = record {
   utf8 = search rules;
   words = pushed c.words.words.items c.push.new.self.items c.in-Ok.word c.words.rest.now c.args.text.now (Some c.in-Some.after.now)
-      c.in-Ok-push.ensures.items (c.in-Ok.ensures.ok ∙ c.cut.ensures.before) (sym c.cut.ensures.behind ∙ ap now_of c.in-Some.is) c.words.invariant.words;
+      c.in-Ok-push.ensures.items (c.in-Ok.ensures.ok ∙ c.cut.ensures.before) (sym c.cut.ensures.after ∙ ap now_of c.in-Some.is) c.words.invariant.words;
 }
 
 pub returns-in-None : goal.returns-in-None
 returns-in-None c =
     sym (append-nil (map string_bytes c.push.new.self.items))
-    ∙ pushed c.words.words.items c.push.new.self.items c.in-Ok.word c.words.rest.now c.args.text.now None c.in-Ok-push.ensures.items (c.in-Ok.ensures.ok ∙ c.cut.ensures.before) (sym c.cut.ensures.behind ∙ ap now_of c.in-None.is) c.words.invariant.words
+    ∙ pushed c.words.words.items c.push.new.self.items c.in-Ok.word c.words.rest.now c.args.text.now None c.in-Ok-push.ensures.items (c.in-Ok.ensures.ok ∙ c.cut.ensures.before) (sym c.cut.ensures.after ∙ ap now_of c.in-None.is) c.words.invariant.words

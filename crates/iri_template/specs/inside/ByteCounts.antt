@@ -12,11 +12,11 @@ pub record CountPuts (a : ByteCount) (t : List ℕ) (b : ByteCount) : Type 0 whe
 
 -- it had no room for what was put up to some place of the text
 pub record CountHalts (a : ByteCount) (t : List ℕ) (b : ByteCount) : Type 0 where
-  pub front : List ℕ
+  pub prefix : List ℕ
   pub rest : List ℕ
-  pub split : front ++ rest ≡ t
-  pub utf8 : IsUtf8 front
-  pub longer : a.room < length front
+  pub split : prefix ++ rest ≡ t
+  pub utf8 : IsUtf8 prefix
+  pub longer : a.room < length prefix
 
 pub count_rules : AreSinkLaws CountPuts CountHalts
 count_rules = record {
@@ -26,16 +26,16 @@ count_rules = record {
     room = omega (arith, length-append t u, p.room, q.room);
   };
   until = λ a b c t u p h. record {
-    front = t ++ h.front;
+    prefix = t ++ h.prefix;
     rest = h.rest;
-    split = append_assoc t h.front h.rest ∙ ap (λ l. t ++ l) h.split;
-    utf8 = IsUtf8-append t h.front p.utf8 h.utf8;
-    longer = omega (arith, length-append t h.front, p.room, h.longer);
+    split = append_assoc t h.prefix h.rest ∙ ap (λ l. t ++ l) h.split;
+    utf8 = IsUtf8-append t h.prefix p.utf8 h.utf8;
+    longer = omega (arith, length-append t h.prefix, p.room, h.longer);
   };
   within = λ a b t u h. record {
-    front = h.front;
+    prefix = h.prefix;
     rest = h.rest ++ u;
-    split = sym (append_assoc h.front h.rest u) ∙ ap (λ l. l ++ u) h.split;
+    split = sym (append_assoc h.prefix h.rest u) ∙ ap (λ l. l ++ u) h.split;
     utf8 = h.utf8;
     longer = h.longer;
   };

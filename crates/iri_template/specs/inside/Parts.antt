@@ -5,7 +5,7 @@ use Rattle.iri_grammar.specs.Cut.{tail, lacks}
 use Rattle.std.specs.Str.{chars, encode_utf8_all}
 use Rattle.iri_grammar.specs.Pieces.{pieces}
 use Rattle.iri_template.specs.Template.{Piece, literal, literal_char, expression, operator_text}
-use Rattle.iri_template.specs.Reading.{varspec_of, triplet_of, pieces_of, first_of, body_of, operator_of, behind_operator}
+use Rattle.iri_template.specs.Reading.{varspec_of, triplet_of, pieces_of, first_of, body_of, operator_of, after_operator}
 use Rattle.iri_template.specs.Fault.{first, fault, moved, operator_fault, triplet_fault, varspecs_fault, fault_from}
 use Rattle.iri_template.specs.declared.error.ErrorKind.TheVariants.{ExpressionNotClosed}
 use Rattle.iri_template.specs.declared.error.Error.{Error}
@@ -37,14 +37,14 @@ IsPlaced (part.Triplet l) at = Unit {0}
 IsPlaced (part.Expression e) at = e.location ≡ at + 1 + length (operator_text e.operator)
 
 -- what an expression has before its varspecs are read
-abbrev pub front_fault : List ℕ → Option Error
-front_fault t = cond (lacks 125 (tail t)) (fault ExpressionNotClosed 0) (moved 1 (operator_fault (body_of t)))
+abbrev pub prefix_fault : List ℕ → Option Error
+prefix_fault t = cond (lacks 125 (tail t)) (fault ExpressionNotClosed 0) (moved 1 (operator_fault (body_of t)))
 
 -- the text t, before which so many bytes stand, begins with the expression e, and then r
 pub record IsExpression (e : Expression) (t : List ℕ) (at : ℕ) (r : List ℕ) : Type 0 where
-  pub front : front_fault t ≡ None
+  pub prefix : prefix_fault t ≡ None
   pub operator : e.operator ≡ operator_of (body_of t)
-  pub varspecs : e.varspecs.now ≡ behind_operator (body_of t)
+  pub varspecs : e.varspecs.now ≡ after_operator (body_of t)
   pub location : e.location + length e.varspecs.now ≡ at + length (body_of t) + 1
   pub text : 123 ∷ (body_of t ++ 125 ∷ r) ≡ t
 
@@ -63,7 +63,7 @@ pub record IsPastLiterals (t r : List ℕ) : Type 0 where
   pub stops : length r ≡ length t → literal_char (first_of (chars t)) ≡ false
 
 -- the text t, before which so many bytes stand, is p and then r
-pub record IsFront (p : Part) (t : List ℕ) (at : ℕ) (r : List ℕ) : Type 0 where
+pub record IsPrefix (p : Part) (t : List ℕ) (at : ℕ) (r : List ℕ) : Type 0 where
   pub pieces : pieces_of t ≡ part_pieces p ++ pieces_of r
   pub fault : fault_from 0 at t ≡ first (part_fault p) (fault_from 0 (at + (length t - length r)) r)
   pub shorter : length r < length t

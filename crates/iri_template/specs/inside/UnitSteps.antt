@@ -26,19 +26,19 @@ is_closed (x ∷ a ∷ b ∷ xs) = cond (is_triplet x a b) (is_closed xs) true
 abbrev pub is_settled : List ℕ → Bool
 is_settled t = is_some (first_char (octets t)) || (nat_le 12 (length t) || is_closed t)
 
-abbrev pub behind_unit : ℕ → List ℕ → List ℕ
-behind_unit x xs = drop (length (unit_text (first_unit x xs))) (x ∷ xs)
+abbrev pub after_unit : ℕ → List ℕ → List ℕ
+after_unit x xs = drop (length (unit_text (first_unit x xs))) (x ∷ xs)
 
 -- at most so many units, as long as they are settled, or to the end; and what is left
 abbrev pub told_units : Bool → ℕ → List ℕ → List TextUnit
 told_units end zero t = []
 told_units end (suc k) [] = []
-told_units end (suc k) (x ∷ xs) = cond (end || is_settled (x ∷ xs)) (first_unit x xs ∷ told_units end k (behind_unit x xs)) []
+told_units end (suc k) (x ∷ xs) = cond (end || is_settled (x ∷ xs)) (first_unit x xs ∷ told_units end k (after_unit x xs)) []
 
 abbrev pub left_over : Bool → ℕ → List ℕ → List ℕ
 left_over end zero t = t
 left_over end (suc k) [] = []
-left_over end (suc k) (x ∷ xs) = cond (end || is_settled (x ∷ xs)) (left_over end k (behind_unit x xs)) (x ∷ xs)
+left_over end (suc k) (x ∷ xs) = cond (end || is_settled (x ∷ xs)) (left_over end k (after_unit x xs)) (x ∷ xs)
 
 -- ---- the steps
 -- what is held back, and how many units may still be written

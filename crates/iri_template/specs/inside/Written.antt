@@ -31,19 +31,19 @@ prefix_of Whole = None
 prefix_of Explode = None
 prefix_of (Prefix n) = Some n
 
-abbrev pub name_mark : Row → List ℕ → List ℕ
-name_mark row name = cond row.named (name ++ 61 ∷ []) []
+abbrev pub name_part : Row → List ℕ → List ℕ
+name_part row name = cond row.named (name ++ 61 ∷ []) []
 
 -- what stands before a member: that, with the name where names are written; in one text, a comma after the first
 abbrev pub item_lead : WriteState → List ℕ
 item_lead w = cond (w.member && not (explodes w.modifier)) (44 ∷ [])
-    (lead (row_of w.operator) w.written ++ name_mark (row_of w.operator) w.name)
+    (lead (row_of w.operator) w.written ++ name_part (row_of w.operator) w.name)
 
 abbrev pub entry_lead : WriteState → List ℕ
 entry_lead w = cond (explodes w.modifier) (lead (row_of w.operator) w.written) (item_lead w)
 
-abbrev pub entry_mark : Modifier → ℕ
-entry_mark m = cond (explodes m) 61 44
+abbrev pub entry_delimiter : Modifier → ℕ
+entry_delimiter m = cond (explodes m) 61 44
 
 abbrev pub event_step : WriteState → Event → WriteState
 event_step w (StringTold t) = record { operator = w.operator; name = w.name; modifier = w.modifier; written = true; member = w.member }
@@ -55,7 +55,7 @@ abbrev pub event_text : Tests → WriteState → Event → List ℕ
 event_text s w (StringTold t) = lead (row_of w.operator) w.written
     ++ string_text (row_of w.operator) w.name (shown_text s (row_of w.operator).allow (prefix_of w.modifier) t)
 event_text s w (Item t) = item_lead w ++ shown_text s (row_of w.operator).allow None t
-event_text s w (Entry k t) = entry_lead w ++ pair_with (entry_mark w.modifier)
+event_text s w (Entry k t) = entry_lead w ++ pair_with (entry_delimiter w.modifier)
     (shown_text s (row_of w.operator).allow None k, shown_text s (row_of w.operator).allow None t)
 event_text s w e = []
 

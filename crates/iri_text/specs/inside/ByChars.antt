@@ -9,8 +9,8 @@ pub record CharsPut {V : Type 0} (puts : V → List ℕ → V → Type 0) (a : V
 
 -- the sink stopped within the characters of a prefix
 pub record CharsHalt {V : Type 0} (halts : V → List ℕ → V → Type 0) (a : V) (t : List ℕ) (b : V) : Type 0 where
-  pub front : List ℕ
+  pub prefix : List ℕ
   pub rest : List ℕ
-  pub split : front ++ rest ≡ t
-  pub utf8 : IsUtf8 front
-  pub halt : halts a (chars front) b
+  pub split : prefix ++ rest ≡ t
+  pub utf8 : IsUtf8 prefix
+  pub halt : halts a (chars prefix) b

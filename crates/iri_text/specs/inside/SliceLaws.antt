@@ -15,19 +15,19 @@ slice_both a b c t u p q = record {
 
 pub slice_until : (a b c : SliceText) (t u : List ℕ) → SlicePuts a t b → SliceHalts b u c → SliceHalts a (t ++ u) c
 slice_until a b c t u p h = record {
-  front = t ++ h.front;
+  prefix = t ++ h.prefix;
   rest = h.rest;
-  split = append_assoc t h.front h.rest ∙ ap (λ l. t ++ l) h.split;
-  taken = h.taken ∙ ap (λ l. l ++ h.front) p.taken ∙ append_assoc a.taken t h.front;
+  split = append_assoc t h.prefix h.rest ∙ ap (λ l. t ++ l) h.split;
+  taken = h.taken ∙ ap (λ l. l ++ h.prefix) p.taken ∙ append_assoc a.taken t h.prefix;
   room = h.room ∙ p.room;
   long = omega (arith, h.long, p.room, ap length p.taken, length-append a.taken t, length-append t u);
 }
 
 pub slice_within : (a b : SliceText) (t u : List ℕ) → SliceHalts a t b → SliceHalts a (t ++ u) b
 slice_within a b t u h = record {
-  front = h.front;
+  prefix = h.prefix;
   rest = h.rest ++ u;
-  split = sym (append_assoc h.front h.rest u) ∙ ap (λ l. l ++ u) h.split;
+  split = sym (append_assoc h.prefix h.rest u) ∙ ap (λ l. l ++ u) h.split;
   taken = h.taken;
   room = h.room;
   long = omega (arith, h.long, length-append t u);

@@ -19,19 +19,19 @@ string_both a b c t u p q = record {
 pub string_until : (a b c : StringSink) (t u : List ℕ) → StringPuts a t b → StringHalts b u c → StringHalts a (t ++ u) c
 string_until a b c t u p h = record {
   same = h.same ∙ p.same;
-  front = t ++ h.front;
+  prefix = t ++ h.prefix;
   rest = h.rest;
-  split = append_assoc t h.front h.rest ∙ ap (λ l. t ++ l) h.split;
-  taken = h.taken ∙ ap (λ l. l ++ h.front) p.taken ∙ append_assoc (string_taken a) t h.front;
+  split = append_assoc t h.prefix h.rest ∙ ap (λ l. t ++ l) h.split;
+  taken = h.taken ∙ ap (λ l. l ++ h.prefix) p.taken ∙ append_assoc (string_taken a) t h.prefix;
   long = omega (arith, h.long, p.len, p.room, length-append t u);
 }
 
 pub string_within : (a b : StringSink) (t u : List ℕ) → StringHalts a t b → StringHalts a (t ++ u) b
 string_within a b t u h = record {
   same = h.same;
-  front = h.front;
+  prefix = h.prefix;
   rest = h.rest ++ u;
-  split = sym (append_assoc h.front h.rest u) ∙ ap (λ l. l ++ u) h.split;
+  split = sym (append_assoc h.prefix h.rest u) ∙ ap (λ l. l ++ u) h.split;
   taken = h.taken;
   long = omega (arith, h.long, length-append t u);
 }

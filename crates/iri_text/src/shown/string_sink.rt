@@ -2,7 +2,7 @@
 ghost use Rattle.std.specs.Prelude.{◌≡◌, ◌<◌, ◌+◌, ◌++◌, length, OnOk, OnErr, string_bytes, string_len};
 ghost use Rattle.std.specs.Prelude.{string_capacity};
 ghost use Rattle.iri_text.specs.Shown.{Shows};
-ghost use Rattle.iri_text.specs.Front.{IsFrontAfter};
+ghost use Rattle.iri_text.specs.Prefix.{IsPrefixAfter};
 
 use crate::{Show, Stop, TextSink};
 use std::alloc::AllocError;
@@ -82,7 +82,7 @@ impl<'b> TextSink for StringSink<'b> {
 /// ```
 pub fn try_append_to_string<T: Show>(dest: &mut String, value: &T) -> Result<(), AllocError>
     ensures whole { OnOk result (string_bytes dest.new ≡ string_bytes dest.old ++ T.text value.now) }
-    ensures prefix { OnErr result (IsFrontAfter (string_bytes dest.old) (T.text value.now) (string_bytes dest.new)) }
+    ensures prefix { OnErr result (IsPrefixAfter (string_bytes dest.old) (T.text value.now) (string_bytes dest.new)) }
     ensures long { OnErr result (string_capacity dest.old < string_len dest.old + length (T.text value.now)) }
 {
     let mut sink = StringSink::new(dest);

@@ -95,13 +95,13 @@ fn block_run(held: &[u8], i: usize) -> usize
     ensures run { result ≡ prefix_len (λ b. not (b == line_feed)) (take 16 (drop i held.now)) }
     ensures within { result ≤ 16 }
 {
-    let marks = u8x16::from_slice(&held[i..])
+    let delimiters = u8x16::from_slice(&held[i..])
         .simd_eq(u8x16::splat(b'\n'))
         .to_bitmask();
-    if marks == 0 {
+    if delimiters == 0 {
         16
     } else {
-        marks.trailing_zeros() as usize
+        delimiters.trailing_zeros() as usize
     }
 }
 
@@ -201,7 +201,7 @@ fn grow(buf: &mut Vec<u8>)
     requires { length buf.old.items + 65536 ≤ vec_capacity buf.old }
     ensures capacity { vec_capacity buf.old ≤ vec_capacity buf.new }
     ensures len { length buf.new.items ≡ length buf.old.items + 65536 }
-    ensures front { take (length buf.old.items) buf.new.items ≡ buf.old.items }
+    ensures prefix { take (length buf.old.items) buf.new.items ≡ buf.old.items }
 {
     match buf.resize(buf.len() + BLOCK, 0) {
         Ok(()) => {}
@@ -239,7 +239,7 @@ fn fill<I: Source>(
     requires { (end < length buf.old.items) × (0 < most) }
     ensures capacity { vec_capacity buf.new ≡ vec_capacity buf.old }
     ensures len { length buf.new.items ≡ length buf.old.items }
-    ensures front { take end buf.new.items ≡ take end buf.old.items }
+    ensures prefix { take end buf.new.items ≡ take end buf.old.items }
     ensures within { IfOk result (λ n. (end + n ≤ length buf.old.items) × (n ≤ most)) }
     ensures bytes { IfOk result (λ n. Consumes (I.left source.old) (I.left source.new)
         (slice_range buf.new.items end (end + n))) }

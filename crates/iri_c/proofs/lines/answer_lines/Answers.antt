@@ -25,7 +25,7 @@ returns-in-Err-clause-batch g c =
     let f = line_answer g.S.Spec.tests c.args.mode (base_text c.args.resolver.now) in
     let h = subst (λ l. BufferHalts c.lines.sink (answer_in g.S.Spec.tests c.args.mode (base_text c.args.resolver.now) l) c.show.new.sink) c.without_cr-line.ensures
     c.in-Err.ensures.stops_within in
-    going_short f c.args.input.now c.args.sink.now c.lines.rest.now c.lines.written c.lines.sink c.lines.invariant c.in-Some.raw.now c.in-Some.behind.now c.in-Some.ensures.0
+    going_short f c.args.input.now c.args.sink.now c.lines.rest.now c.lines.written c.lines.sink c.lines.invariant c.in-Some.raw.now c.in-Some.after.now c.in-Some.ensures.0
     (omega (arith, h.room, h.long, c.lines.invariant.len, c.lines.invariant.width))
     ∙ ap (λ n. batch f n (ended c.args.input.now)) c.requires.room
 
@@ -33,7 +33,7 @@ pub returns-in-Err-clause-bytes : goal.returns-in-Err-clause-bytes
 returns-in-Err-clause-bytes g c =
     let h = subst (λ l. BufferHalts c.lines.sink (answer_in g.S.Spec.tests c.args.mode (base_text c.args.resolver.now) l) c.show.new.sink) c.without_cr-line.ensures
     c.in-Err.ensures.stops_within in
-    going_short-bytes (line_answer g.S.Spec.tests c.args.mode (base_text c.args.resolver.now)) c.args.input.now c.args.sink.now c.lines.rest.now c.lines.written c.lines.sink c.lines.invariant c.in-Some.raw.now c.in-Some.behind.now c.in-Some.ensures.0 c.show.new.sink
+    going_short-bytes (line_answer g.S.Spec.tests c.args.mode (base_text c.args.resolver.now)) c.args.input.now c.args.sink.now c.lines.rest.now c.lines.written c.lines.sink c.lines.invariant c.in-Some.raw.now c.in-Some.after.now c.in-Some.ensures.0 c.show.new.sink
     (omega (arith, h.room, h.long, c.lines.invariant.len, c.lines.invariant.width)) h.buf
 
 pub returns-then-count-room-clause-batch : goal.returns-then-count-room-clause-batch
@@ -41,7 +41,7 @@ returns-then-count-room-clause-batch g c =
     let f = line_answer g.S.Spec.tests c.args.mode (base_text c.args.resolver.now) in
     let p = subst (λ l. BufferPuts c.lines.sink (answer_in g.S.Spec.tests c.args.mode (base_text c.args.resolver.now) l) c.show.new.sink) c.without_cr-line.ensures
     c.in-Ok.ensures.appends in
-    going_short f c.args.input.now c.args.sink.now c.lines.rest.now c.lines.written c.lines.sink c.lines.invariant c.in-Some.raw.now c.in-Some.behind.now c.in-Some.ensures.0
+    going_short f c.args.input.now c.args.sink.now c.lines.rest.now c.lines.written c.lines.sink c.lines.invariant c.in-Some.raw.now c.in-Some.after.now c.in-Some.ensures.0
     (omega (arith, p.len, c.count-count.ensures, c.if-count-room.true, c.requires.room, c.lines.invariant.len))
     ∙ ap (λ n. batch f n (ended c.args.input.now)) c.requires.room
 
@@ -49,7 +49,7 @@ pub returns-then-count-room-clause-bytes : goal.returns-then-count-room-clause-b
 returns-then-count-room-clause-bytes g c =
     let p = subst (λ l. BufferPuts c.lines.sink (answer_in g.S.Spec.tests c.args.mode (base_text c.args.resolver.now) l) c.show.new.sink) c.without_cr-line.ensures
     c.in-Ok.ensures.appends in
-    going_short-bytes (line_answer g.S.Spec.tests c.args.mode (base_text c.args.resolver.now)) c.args.input.now c.args.sink.now c.lines.rest.now c.lines.written c.lines.sink c.lines.invariant c.in-Some.raw.now c.in-Some.behind.now c.in-Some.ensures.0 c.show.new.sink
+    going_short-bytes (line_answer g.S.Spec.tests c.args.mode (base_text c.args.resolver.now)) c.args.input.now c.args.sink.now c.lines.rest.now c.lines.written c.lines.sink c.lines.invariant c.in-Some.raw.now c.in-Some.after.now c.in-Some.ensures.0 c.show.new.sink
     (omega (arith, p.len, c.count-count.ensures, c.if-count-room.true, c.requires.room, c.lines.invariant.len)) p.buf
 
 pub lines-preserved : goal.lines-preserved
@@ -57,6 +57,6 @@ lines-preserved g c =
     let f = line_answer g.S.Spec.tests c.args.mode (base_text c.args.resolver.now) in
     let p = subst (λ l. BufferPuts c.lines.sink (answer_in g.S.Spec.tests c.args.mode (base_text c.args.resolver.now) l) c.show.new.sink) c.without_cr-line.ensures
     c.in-Ok.ensures.appends in
-    subst (λ n. Going f c.args.input.now c.args.sink.now c.in-Some.behind.now n c.show.new.sink) (sym c.count-count.ensures)
-    (going_next f c.args.input.now c.args.sink.now c.lines.rest.now c.lines.written c.lines.sink c.lines.invariant c.in-Some.raw.now c.in-Some.behind.now c.in-Some.ensures.0 c.show.new.sink c.in-Some.ensures.1 p
+    subst (λ n. Going f c.args.input.now c.args.sink.now c.in-Some.after.now n c.show.new.sink) (sym c.count-count.ensures)
+    (going_next f c.args.input.now c.args.sink.now c.lines.rest.now c.lines.written c.lines.sink c.lines.invariant c.in-Some.raw.now c.in-Some.after.now c.in-Some.ensures.0 c.show.new.sink c.in-Some.ensures.1 p
     (omega (arith, c.count-count.ensures, c.if-count-room.false, c.requires.room)))

@@ -9,10 +9,10 @@ returns-in-Some c =
     let t = c.args.text.now in let i = c.in-Some.i in
     let f = first-lf t (Some i) c.in-Some.ensures in
     let whole : take (length t - (i + 1)) (drop (i + 1) t) ≡ drop (i + 1) t = grind (arith, common_steps) in
-    let behind : length (drop (i + 1) t) ≡ length t - (i + 1) = grind (arith, common_steps) in
-    let front : length (take i t) ≡ i = grind (arith, f.0, common_steps) in (
+    let after : length (drop (i + 1) t) ≡ length t - (i + 1) = grind (arith, common_steps) in
+    let prefix : length (take i t) ≡ i = grind (arith, f.0, common_steps) in (
       ended-at t i f.0 f.1 f.2 ∙ ap (λ l. take i t ∷ ended l) (sym whole),
-      omega (arith, f.0, ap length whole, behind, front),
+      omega (arith, f.0, ap length whole, after, prefix),
     )
 
 pub returns-in-None : goal.returns-in-None

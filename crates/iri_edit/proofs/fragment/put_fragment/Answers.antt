@@ -9,7 +9,7 @@ use Rattle.iri_grammar.specs.declared.error.ErrorKind.TheVariants.{InvalidFragme
 use Rattle.iri_owned.specs.Spliced.{spliced}
 use Rattle.iri_edit.specs.Fragment.{with_fragment}
 use Rattle.iri_edit.specs.inside.Places.{IsFragmentAt}
-use Rattle.iri_edit.proofs.FragmentLemmas.{fragment-put, put-behind, empty_fragment}
+use Rattle.iri_edit.proofs.FragmentLemmas.{fragment-put, put-after, empty_fragment}
 use Rattle.iri_edit.proofs.KindLemmas.{IsWhole, fragment-valid}
 use Rattle.iri_edit.proofs.fragment.put_fragment.Given as given
 use Rattle.iri_edit.proofs.fragment.put_fragment.Goals as goal
@@ -72,7 +72,7 @@ pub put_in_room-requires-2-clause-valid : goal.put_in_room-requires-2-clause-val
 put_in_room-requires-2-clause-valid g c =
     let r = (goal.at.put_in_room-requires-2-clause-valid g c).After-try_reserve in
     let f = c.as_str.result.now in
-    let e = put-behind g.S.Spec.tests g.met.S.Spec.lawful r.try_reserve.new.self.text (whole g r) c.put_in_room.new.owned.text f
+    let e = put-after g.S.Spec.tests g.met.S.Spec.lawful r.try_reserve.new.self.text (whole g r) c.put_in_room.new.owned.text f
     (length c.as_str-end.result.now) (c.put_in_room.ensures.text ∙ signed g r) (ap length c.as_str-end.ensures.text) in
     subst (λ z. g.K.Kind.fault g.S.Spec.tests z ≡ None) (sym e)
     (with-valid g r f (passed (is_fragment g.S.Spec.tests f) InvalidFragment c.as_str.ensures.valid))
@@ -81,7 +81,7 @@ pub returns-clause-ok : goal.returns-clause-ok
 returns-clause-ok g c =
     let r = (goal.at.returns-clause-ok g c).After-try_reserve in
     let f = c.as_str.result.now in
-    let e = put-behind g.S.Spec.tests g.met.S.Spec.lawful r.try_reserve.new.self.text (whole g r) c.put_in_room.new.owned.text f
+    let e = put-after g.S.Spec.tests g.met.S.Spec.lawful r.try_reserve.new.self.text (whole g r) c.put_in_room.new.owned.text f
     (length c.as_str-end.result.now) (c.put_in_room.ensures.text ∙ signed g r) (ap length c.as_str-end.ensures.text) in
     c.put_in_room-2.ensures.text ∙ (e ∙ (ap (λ z. with_fragment z (Some f)) c.try_reserve.ensures.text
     ∙ ap (λ z. with_fragment c.args.owned.now.text (Some z)) c.as_str.ensures.text))

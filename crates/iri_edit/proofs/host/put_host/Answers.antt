@@ -37,14 +37,14 @@ returns g c =
     let same = text ∙ at.edits new in
     let new_utf8 = c.utf8.new_host in
     let low = subst (IsCharBoundary c.splice.new.self.text) at.at
-    (IsCharBoundary-at_seam c.splice.new.self.text at.front (new ++ at.back) same (IsUtf8-append new at.back new_utf8 at.utf8)) in
-    let length_both : length (at.front ++ new) ≡ start + length new = length-append at.front new ∙ ap (λ n. n + length new) at.at in
+    (IsCharBoundary-at_seam c.splice.new.self.text at.prefix (new ++ at.back) same (IsUtf8-append new at.back new_utf8 at.utf8)) in
+    let length_both : length (at.prefix ++ new) ≡ start + length new = length-append at.prefix new ∙ ap (λ n. n + length new) at.at in
     let high = subst (IsCharBoundary c.splice.new.self.text) length_both
-    (IsCharBoundary-at_seam c.splice.new.self.text (at.front ++ new) at.back
-    (same ∙ sym (append_assoc at.front new at.back)) at.utf8) in (
+    (IsCharBoundary-at_seam c.splice.new.self.text (at.prefix ++ new) at.back
+    (same ∙ sym (append_assoc at.prefix new at.back)) at.utf8) in (
       subst (λ o. is_replaced s c.args.names_only new o ≡ true) (sym at.stands) yes,
       text,
-      ap (λ z. slice_range z start (start + length new)) same ∙ slice-there at.front new at.back start at.at,
+      ap (λ z. slice_range z start (start + length new)) same ∙ slice-there at.prefix new at.back start at.at,
       low,
       high,
     )

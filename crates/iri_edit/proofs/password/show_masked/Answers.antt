@@ -16,9 +16,9 @@ pub returns : goal.returns
 returns g c =
     let t = text c.args.reference in
     let same = c.as_str-text.ensures.text in
-    let front : c.around.result.0.now ≡ take (c.in-Some.colon + 1) t = c.around.ensures.front ∙ ap (take (c.in-Some.colon + 1)) same in
+    let prefix : c.around.result.0.now ≡ take (c.in-Some.colon + 1) t = c.around.ensures.prefix ∙ ap (take (c.in-Some.colon + 1)) same in
     let back : c.around.result.1.now ≡ drop c.in-Some.end t = c.around.ensures.back ∙ ap (drop c.in-Some.end) same in
     let e : c.around.result.0.now ++ (c.around.result.1.now) ≡ masked t =
-    ap (λ z. z ++ (c.around.result.1.now)) front
+    ap (λ z. z ++ (c.around.result.1.now)) prefix
     ∙ (ap (λ z. take (c.in-Some.colon + 1) t ++ (z)) back ∙ password-spliced t c.in-Some.colon c.in-Some.end c.in-Some.ensures []) in
     subst (λ z. Shows g.W.TextSink.puts g.W.TextSink.halts g.W.TextSink.stops c.args.sink.now z c.show_two.new.sink c.show_two.result) e c.show_two.ensures

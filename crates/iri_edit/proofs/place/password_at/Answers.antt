@@ -2,25 +2,25 @@ use Rattle.std.proofs.Common.{◌≡◌, ◌+◌, ◌∙◌, ap, arith, length, 
 use Rattle.iri_edit.specs.inside.Places.{IsPasswordAt}
 use Rattle.iri_edit.proofs.PlaceLemmas.{password-place, password-inside, no_authority, no_userinfo, no_colon}
 use Rattle.iri_grammar.specs.Authority.{authority_parts}
-use Rattle.iri_grammar.specs.Cut.{behind}
+use Rattle.iri_grammar.specs.Cut.{after}
 use Rattle.iri_grammar.specs.OptionalSlices.{now_of}
 use Rattle.iri_types.specs.Texts.{text}
 use Rattle.iri_edit.proofs.place.password_at.Given as given
 use Rattle.iri_edit.proofs.place.password_at.Goals as goal
-use Rattle.iri_edit.proofs.place.password_at.Goals.{In-Some-behind}
+use Rattle.iri_edit.proofs.place.password_at.Goals.{In-Some-after}
 
-here : (g : given.Over) (c : In-Some-behind g) → IsPasswordAt (text c.args.reference) (c.in-Some.start + length c.cut.result.0.now)
-    (c.in-Some.start + length c.cut.result.0.now + 1 + length c.in-Some-behind.password.now)
+here : (g : given.Over) (c : In-Some-after g) → IsPasswordAt (text c.args.reference) (c.in-Some.start + length c.cut.result.0.now)
+    (c.in-Some.start + length c.cut.result.0.now + 1 + length c.in-Some-after.password.now)
 here g c =
     let u = c.in-Some-userinfo.userinfo.now in
     let a = c.in-Some.authority.now in
-    let p = c.in-Some-behind.password.now in
+    let p = c.in-Some-after.password.now in
     let t = text c.args.reference in
     let start = c.in-Some.start in
     let user : (authority_parts a).userinfo ≡ Some u = sym (c.in-Some-userinfo.ensures ∙ ap (λ z. z.userinfo) c.of.ensures) in
-    let behind_it : behind 58 u ≡ Some p = sym c.cut.ensures.behind ∙ ap now_of c.in-Some-behind.is in
+    let after_it : after 58 u ≡ Some p = sym c.cut.ensures.after ∙ ap now_of c.in-Some-after.is in
     subst (λ b. IsPasswordAt t (start + length b) (start + length b + 1 + length p)) (sym c.cut.ensures.before)
-    (password-place t a u p start user behind_it c.in-Some.ensures.0)
+    (password-place t a u p start user after_it c.in-Some.ensures.0)
 
 pub returns-in_default : goal.returns-in_default
 returns-in_default g c = no_authority (text c.args.reference) c.in_default.ensures
@@ -29,10 +29,10 @@ pub returns-in_default-userinfo : goal.returns-in_default-userinfo
 returns-in_default-userinfo g c = no_userinfo (text c.args.reference) c.in-Some.authority.now c.in-Some.ensures.0.stands
     (c.in_default-userinfo.ensures ∙ ap (λ a. a.userinfo) c.of.ensures)
 
-pub returns-in_default-behind : goal.returns-in_default-behind
-returns-in_default-behind g c =
+pub returns-in_default-after : goal.returns-in_default-after
+returns-in_default-after g c =
     no_colon (text c.args.reference) c.in-Some.authority.now c.in-Some-userinfo.userinfo.now c.in-Some.ensures.0.stands
-    (c.in-Some-userinfo.ensures ∙ ap (λ a. a.userinfo) c.of.ensures) (sym (ap now_of c.in_default-behind.is) ∙ c.cut.ensures.behind)
+    (c.in-Some-userinfo.ensures ∙ ap (λ a. a.userinfo) c.of.ensures) (sym (ap now_of c.in_default-after.is) ∙ c.cut.ensures.after)
 
 pub overflow_add-result-2 : goal.overflow_add-result-2
 overflow_add-result-2 g c =
@@ -41,4 +41,4 @@ overflow_add-result-2 g c =
     omega arith
 
 pub returns : goal.returns
-returns g c = here g (goal.at.returns g c).In-Some-behind
+returns g c = here g (goal.at.returns g c).In-Some-after

@@ -13,6 +13,6 @@ pub returns : goal.returns
 returns g c =
     let t = text c.args.reference in
     let same = c.as_str-text.ensures.text in
-    ap (λ z. z ++ (c.around.result.1.now)) (c.around.ensures.front ∙ ap (take c.in-Some.colon) same)
+    ap (λ z. z ++ (c.around.result.1.now)) (c.around.ensures.prefix ∙ ap (take c.in-Some.colon) same)
     ∙ (ap (λ z. take c.in-Some.colon t ++ z) (c.around.ensures.back ∙ ap (drop c.in-Some.end) same)
     ∙ password-removed t c.in-Some.colon c.in-Some.end c.in-Some.ensures)

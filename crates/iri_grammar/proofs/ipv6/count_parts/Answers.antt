@@ -2,47 +2,47 @@ use Rattle.std.proofs.Common.{◌≡◌, false, ◌&&◌, ◌∙◌, sym, ap, ar
 use Rattle.std.proofs.lemmas.Bool.{and_from, and_left, and_right}
 use Rattle.iri_grammar.specs.OptionalSlices.{now_of}
 use Rattle.iri_grammar.specs.Pieces.{pieces}
-use Rattle.iri_grammar.proofs.PiecesLaws.{behind_shorter}
+use Rattle.iri_grammar.proofs.PiecesLaws.{after_shorter}
 use Rattle.iri_grammar.specs.Cut.{before}
 use Rattle.iri_grammar.specs.Ipv4.{is_ipv4}
 use Rattle.iri_grammar.specs.Ipv6.{is_group}
 use Rattle.iri_grammar.specs.inside.Ipv6Counts.{count}
-use Rattle.iri_grammar.proofs.Marks.{text_behind}
+use Rattle.iri_grammar.proofs.Delimiters.{text_after}
 use Rattle.iri_grammar.proofs.Groups.{step_more, step_bad, last_one, last_two, last_none}
 use Rattle.iri_grammar.proofs.ipv6.count_parts.Goals as goal
 use Rattle.iri_grammar.proofs.ipv6.count_parts.Goals.{else-ipv4-via-then-ipv4+else-is_ipv4, else-ipv4-via-else-ipv4}
 
 pub returns-then-not-is_group : goal.returns-then-not-is_group
 returns-then-not-is_group c =
-    let e = sym c.cut.ensures.behind ∙ ap now_of c.in-Some.is in
+    let e = sym c.cut.ensures.after ∙ ap now_of c.in-Some.is in
     let g = sym (ap is_group c.cut.ensures.before) ∙ (sym c.is_group.ensures ∙ c.if-not-is_group.true) in
     step_bad c.args.ipv4 c.groups.n c.groups.rest.now c.in-Some.next.now
     (count c.args.ipv4 (pieces 58 c.args.s.now)) e g c.groups.invariant.same
 
 pub groups-smaller : goal.groups-smaller
-groups-smaller c = let e = sym c.cut.ensures.behind ∙ ap now_of c.in-Some.is in
-    omega (arith, behind_shorter 58 c.groups.rest.now c.in-Some.next.now e)
+groups-smaller c = let e = sym c.cut.ensures.after ∙ ap now_of c.in-Some.is in
+    omega (arith, after_shorter 58 c.groups.rest.now c.in-Some.next.now e)
 
 pub groups-preserved : goal.groups-preserved
 groups-preserved c =
-    let e = sym c.cut.ensures.behind ∙ ap now_of c.in-Some.is in
+    let e = sym c.cut.ensures.after ∙ ap now_of c.in-Some.is in
     let g = sym (ap is_group c.cut.ensures.before) ∙ (sym c.is_group.ensures ∙ c.if-not-is_group.false) in
     record {
-      utf8 = text_behind 58 c.groups.rest.now c.in-Some.next.now (omega arith) c.groups.invariant.utf8 e;
+      utf8 = text_after 58 c.groups.rest.now c.in-Some.next.now (omega arith) c.groups.invariant.utf8 e;
       same = step_more c.args.ipv4 c.groups.n c.groups.rest.now c.in-Some.next.now
           (count c.args.ipv4 (pieces 58 c.args.s.now)) e g c.groups.invariant.same;
-      small = omega (arith, behind_shorter 58 c.groups.rest.now c.in-Some.next.now e, c.groups.invariant.small);
+      small = omega (arith, after_shorter 58 c.groups.rest.now c.in-Some.next.now e, c.groups.invariant.small);
     }
 
 pub returns-then-is_group : goal.returns-then-is_group
 returns-then-is_group c =
-    let e = sym c.cut.ensures.behind ∙ ap now_of c.in-None.is in
+    let e = sym c.cut.ensures.after ∙ ap now_of c.in-None.is in
     let g = sym (ap is_group c.cut.ensures.before) ∙ (sym c.is_group-in-None.ensures ∙ c.if-is_group.true) in
     last_one c.args.ipv4 c.groups.n c.groups.rest.now (count c.args.ipv4 (pieces 58 c.args.s.now)) e g c.groups.invariant.same
 
 pub returns-then-is_ipv4 : goal.returns-then-is_ipv4
 returns-then-is_ipv4 c =
-    let e = sym c.cut.ensures.behind ∙ ap now_of c.in-None.is in
+    let e = sym c.cut.ensures.after ∙ ap now_of c.in-None.is in
     let g = sym (ap is_group c.cut.ensures.before) ∙ (sym c.is_group-in-None.ensures ∙ c.if-is_group.false) in
     let v = sym (ap is_ipv4 c.cut.ensures.before) ∙ (sym c.is_ipv4.ensures ∙ c.if-is_ipv4.true) in
     last_two c.args.ipv4 c.groups.n c.groups.rest.now (count c.args.ipv4 (pieces 58 c.args.s.now)) e g
@@ -50,7 +50,7 @@ returns-then-is_ipv4 c =
 
 pub returns-else-ipv4 : goal.returns-else-ipv4
 returns-else-ipv4 c =
-    let e = sym c.cut.ensures.behind ∙ ap now_of c.in-None.is in
+    let e = sym c.cut.ensures.after ∙ ap now_of c.in-None.is in
     let g = sym (ap is_group c.cut.ensures.before) ∙ (sym c.is_group-in-None.ensures ∙ c.if-is_group.false) in
     let neither : (c.args.ipv4 && is_ipv4 (before 58 c.groups.rest.now)) ≡ false =
     elim c.else-ipv4.branch [

@@ -8,8 +8,8 @@ returns-in-Some-clause-before c =
     let at = h.2 in
     h.3 ∙ (first_double c.args.s.now (drop h.1 c.args.s.now) h.0 at.0 at.1.split).0
 
-pub returns-in-Some-clause-behind : goal.returns-in-Some-clause-behind
-returns-in-Some-clause-behind c =
+pub returns-in-Some-clause-after : goal.returns-in-Some-clause-after
+returns-in-Some-clause-after c =
     let h = c.in-Some.ensures.cases in
     let at = h.2 in
     ap Some h.4 ∙ (first_double c.args.s.now (drop h.1 c.args.s.now) h.0 at.0 at.1.split).1
@@ -17,5 +17,5 @@ returns-in-Some-clause-behind c =
 pub returns-in-None-clause-before : goal.returns-in-None-clause-before
 returns-in-None-clause-before c = (no_double c.args.s.now c.in-None.ensures.cases).0
 
-pub returns-in-None-clause-behind : goal.returns-in-None-clause-behind
-returns-in-None-clause-behind c = (no_double c.args.s.now c.in-None.ensures.cases).1
+pub returns-in-None-clause-after : goal.returns-in-None-clause-after
+returns-in-None-clause-after c = (no_double c.args.s.now c.in-None.ensures.cases).1

@@ -1,14 +1,14 @@
 use Rattle.std.proofs.Common.{◌∷◌, ◌∙◌, Some, ap, sym, subst}
 use Rattle.iri_grammar.specs.Split.{authority_of, hier_of}
-use Rattle.iri_grammar.specs.inside.Marks.{IsPastAuthority}
-use Rattle.iri_grammar.proofs.MarkLemmas.{past_authority, no_authority, no_slashes}
+use Rattle.iri_grammar.specs.inside.Delimiters.{IsPastAuthority}
+use Rattle.iri_grammar.proofs.DelimiterLemmas.{past_authority, no_authority, no_slashes}
 use Rattle.iri_grammar.proofs.splitter.cut_authority.Goals as goal
 
 pub returns-in-Some-clause-authority : goal.returns-in-Some-clause-authority
 returns-in-Some-clause-authority c =
     let h = c.in-Some.ensures.cases in
     let s = h.1.1 ∙ ap (λ r. 47 ∷ 47 ∷ r) (sym h.2) in
-    ap Some c.cut_before_end.ensures.front ∙ ((past_authority c.in-Some.rest.now).0 ∙ ap (λ t. authority_of (hier_of t)) (sym s))
+    ap Some c.cut_before_end.ensures.prefix ∙ ((past_authority c.in-Some.rest.now).0 ∙ ap (λ t. authority_of (hier_of t)) (sym s))
 
 pub returns-in-Some-clause-past : goal.returns-in-Some-clause-past
 returns-in-Some-clause-past c =

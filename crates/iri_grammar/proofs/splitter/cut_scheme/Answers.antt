@@ -1,6 +1,6 @@
 use Rattle.std.proofs.Common.{arith, subst}
 use Rattle.std.proofs.lemmas.Str.{lead_after_ascii}
-use Rattle.iri_grammar.specs.inside.Marks.{SchemeAt}
+use Rattle.iri_grammar.specs.inside.Delimiters.{SchemeAt}
 use Rattle.iri_grammar.proofs.splitter.cut_scheme.Goals as goal
 
 pub range_from-requires : goal.range_from-requires

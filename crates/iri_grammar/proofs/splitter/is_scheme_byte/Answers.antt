@@ -5,13 +5,13 @@ use Rattle.iri_grammar.specs.declared.splitter.TheConstants.{SCHEME_BYTES}
 use Rattle.iri_grammar.proofs.Tables.{agree_below, agree_at}
 use Rattle.iri_grammar.proofs.splitter.is_scheme_byte.Goals as goal
 
-abbrev marked : ℕ → Bool
-marked b = get_or SCHEME_BYTES b 0 == 115
+abbrev delimited : ℕ → Bool
+delimited b = get_or SCHEME_BYTES b 0 == 115
 
 -- the table has an `s` at each byte of a scheme, by computing
-computed : agree_below marked is_scheme_char 256 ≡ true
+computed : agree_below delimited is_scheme_char 256 ≡ true
 unfolding is_scheme_char
 computed = refl
 
 pub returns : goal.returns
-returns c = rw c.from.ensures (agree_at marked is_scheme_char 256 computed c.args.b (omega arith))
+returns c = rw c.from.ensures (agree_at delimited is_scheme_char 256 computed c.args.b (omega arith))

@@ -1,10 +1,10 @@
 use Rattle.std.proofs.Common.{refl}
-use Rattle.iri_grammar.proofs.AuthorityCuts.{behind_authority}
-use Rattle.iri_grammar.proofs.MarkLemmas.{no_authority}
+use Rattle.iri_grammar.proofs.AuthorityCuts.{after_authority}
+use Rattle.iri_grammar.proofs.DelimiterLemmas.{no_authority}
 use Rattle.iri_grammar.proofs.splitter.look_at_authority.Goals as goal
 
 pub returns-in-Some : goal.returns-in-Some
-returns-in-Some c = behind_authority c.args.s.now c.in-Some.rest.now c.look_before_end.result c.in-Some.ensures c.look_before_end.ensures
+returns-in-Some c = after_authority c.args.s.now c.in-Some.rest.now c.look_before_end.result c.in-Some.ensures c.look_before_end.ensures
 
 pub returns-in-None : goal.returns-in-None
 returns-in-None c =

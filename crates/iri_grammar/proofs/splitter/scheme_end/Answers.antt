@@ -1,6 +1,6 @@
 use Rattle.std.proofs.Common.{◌≡◌, false, sym, subst}
-use Rattle.iri_grammar.specs.inside.Marks.{ends_scheme}
-use Rattle.iri_grammar.proofs.MarkLemmas.{no_scheme}
+use Rattle.iri_grammar.specs.inside.Delimiters.{ends_scheme}
+use Rattle.iri_grammar.proofs.DelimiterLemmas.{no_scheme}
 use Rattle.iri_grammar.proofs.splitter.scheme_end.Goals as goal
 
 pub returns-else-ends_scheme : goal.returns-else-ends_scheme

@@ -10,7 +10,7 @@ returns-in-Ok c =
     let n = c.authority_len-end.result in
     let at = c.authority_len-end.ensures in
     let h = c.in-Ok.ensures.cases in (
-      h.0 ∙ at.front,
+      h.0 ∙ at.prefix,
       take_rest t n ∙ at.rest,
       λ u. text-by_parts t n h.1 (subst IsUtf8 (take_rest t n) u),
     )

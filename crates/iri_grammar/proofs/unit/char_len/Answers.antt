@@ -3,7 +3,7 @@ use Rattle.iri_grammar.specs.ClassTests.{class_test}
 use Rattle.iri_grammar.specs.inside.Runs.{AreUnits}
 use Rattle.iri_grammar.proofs.ClassLaws.{class_has_no_percent}
 use Rattle.iri_grammar.specs.Cut.{lacks}
-use Rattle.iri_grammar.proofs.UnitRuns.{char_units, char_lacks, front_of, front_text}
+use Rattle.iri_grammar.proofs.UnitRuns.{char_units, char_lacks, prefix_of, prefix_text}
 use Rattle.iri_grammar.proofs.Units.{char_stops, char_shorter, nothing_left}
 use Rattle.iri_grammar.proofs.unit.char_len.Goals as goal
 
@@ -15,7 +15,7 @@ returns-then-has-clause-units g c =
     let r = c.next.new.self.rest.now in
     let e = sym c.chars-chars.ensures.rest ∙ c.in-Some.ensures.steps.0 in
     subst (λ l. AreUnits p t (length t - length l)) (sym c.as_str.ensures)
-    (char_units p c.in-Some.c (length t - length r) t (front_text t r c.in-Some.c c.utf8.s e) (omega arith) (front_of c.in-Some.c t r e)
+    (char_units p c.in-Some.c (length t - length r) t (prefix_text t r c.in-Some.c c.utf8.s e) (omega arith) (prefix_of c.in-Some.c t r e)
     (class_has_no_percent s g.met.S.Spec.lawful c.args.class) (sym c.has.ensures ∙ c.if-has.true))
 
 pub returns-then-has-clause-bare : goal.returns-then-has-clause-bare
@@ -26,7 +26,7 @@ returns-then-has-clause-bare g c =
     let r = c.next.new.self.rest.now in
     let e = sym c.chars-chars.ensures.rest ∙ c.in-Some.ensures.steps.0 in
     subst (λ l. lacks 37 (take (length t - length l) t) ≡ true) (sym c.as_str.ensures)
-    (char_lacks p c.in-Some.c (length t - length r) t (front_of c.in-Some.c t r e) (class_has_no_percent s g.met.S.Spec.lawful c.args.class)
+    (char_lacks p c.in-Some.c (length t - length r) t (prefix_of c.in-Some.c t r e) (class_has_no_percent s g.met.S.Spec.lawful c.args.class)
     (sym c.has.ensures ∙ c.if-has.true))
 
 pub returns-else-has-clause-stops : goal.returns-else-has-clause-stops

@@ -14,7 +14,7 @@ links-init g c = record {
 pub links-preserved : goal.links-preserved
 links-preserved g c = record {
   utf8 = search rules;
-  read = up_more g.S.Spec.tests (base_text c.args.resolver.now) c.args.text.now c.links.rest.now c.cut_run.result.0.now c.cut_run.result.1.now _ (map link_of c.links.links.items) _ c.links.invariant.read c.cut_run.ensures c.in-Ok-Some.ensures c.in-Ok-Some.behind.now (ap now_of c.in-Ok-Some.field-0-is);
+  read = up_more g.S.Spec.tests (base_text c.args.resolver.now) c.args.text.now c.links.rest.now c.cut_run.result.0.now c.cut_run.result.1.now _ (map link_of c.links.links.items) _ c.links.invariant.read c.cut_run.ensures c.in-Ok-Some.ensures c.in-Ok-Some.after.now (ap now_of c.in-Ok-Some.field-0-is);
 }
 
 pub returns-in-Ok-None : goal.returns-in-Ok-None

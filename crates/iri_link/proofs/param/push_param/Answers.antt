@@ -1,7 +1,7 @@
 use Rattle.std.proofs.Common.{refl, sym, ap, ◌∙◌, map, [], ◌∷◌}
 use Rattle.std.proofs.lemmas.List.{map-append}
 use Rattle.iri_link.specs.Stored.{param_of}
-use Rattle.iri_link.specs.Phases.{in_name, behind_semicolon}
+use Rattle.iri_link.specs.Phases.{in_name, after_semicolon}
 use Rattle.iri_link.proofs.PhaseLemmas.{semicolon-name}
 use Rattle.iri_link.proofs.ParamLemmas.{none_added, one_added, halts_on}
 use Rattle.iri_link.proofs.param.push_param.Goals as goal
@@ -20,4 +20,4 @@ returns-after-push c =
 
 pub returns-in-Err : goal.returns-in-Err
 returns-in-Err c = λ t.
-    halts_on c.in-Err.halt t behind_semicolon in_name c.args.s.now c.args.s.now (semicolon-name t c.args.s.now (sym c.begins_token.ensures ∙ c.if-not-begins_token.false)) (c.in-Err.ensures t)
+    halts_on c.in-Err.halt t after_semicolon in_name c.args.s.now c.args.s.now (semicolon-name t c.args.s.now (sym c.begins_token.ensures ∙ c.if-not-begins_token.false)) (c.in-Err.ensures t)

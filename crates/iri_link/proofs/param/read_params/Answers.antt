@@ -1,6 +1,6 @@
 use Rattle.std.proofs.Common.{sym, ap, ◌∙◌, map, rules}
 use Rattle.iri_link.specs.Stored.{param_of}
-use Rattle.iri_link.specs.Phases.{behind_param, behind_semicolon}
+use Rattle.iri_link.specs.Phases.{after_param, after_semicolon}
 use Rattle.iri_link.proofs.ParamLemmas.{none_read, more_read, all_read, param_wanted, piece_goes, halts_on}
 use Rattle.iri_link.proofs.param.read_params.Goals as goal
 
@@ -18,11 +18,11 @@ returns-in_default c = λ t.
 pub params-preserved : goal.params-preserved
 params-preserved c = record {
   utf8 = search rules;
-  read = more_read c.args.s.now c.params.rest.now c.cut_run.result.0.now c.cut_run.result.1.now c.in-Some.behind.now c.cut_run-in-params.result.0.now c.cut_run-in-params.result.1.now c.in-Ok.after.now _ _ c.params.invariant.read c.cut_run.ensures c.in-Some.ensures c.cut_run-in-params.ensures c.in-Ok.ensures;
+  read = more_read c.args.s.now c.params.rest.now c.cut_run.result.0.now c.cut_run.result.1.now c.in-Some.following.now c.cut_run-in-params.result.0.now c.cut_run-in-params.result.1.now c.in-Ok.after.now _ _ c.params.invariant.read c.cut_run.ensures c.in-Some.ensures c.cut_run-in-params.ensures c.in-Ok.ensures;
 }
 
 pub returns-in-Err : goal.returns-in-Err
 returns-in-Err c = λ t.
-    halts_on c.in-Err.halt t behind_param behind_semicolon c.args.s.now c.cut_run-in-params.result.1.now
-    (c.params.invariant.read.goes t ∙ piece_goes t c.params.rest.now c.cut_run.result.0.now c.cut_run.result.1.now c.in-Some.behind.now c.cut_run-in-params.result.0.now c.cut_run-in-params.result.1.now c.cut_run.ensures c.in-Some.ensures c.cut_run-in-params.ensures)
+    halts_on c.in-Err.halt t after_param after_semicolon c.args.s.now c.cut_run-in-params.result.1.now
+    (c.params.invariant.read.goes t ∙ piece_goes t c.params.rest.now c.cut_run.result.0.now c.cut_run.result.1.now c.in-Some.following.now c.cut_run-in-params.result.0.now c.cut_run-in-params.result.1.now c.cut_run.ensures c.in-Some.ensures c.cut_run-in-params.ensures)
     (c.in-Err.ensures t)

@@ -12,5 +12,5 @@ boundary m (c ∷ cs) l u h = IsCharBoundary-after_ascii (c ∷ cs) 0 u (omega a
 
 pub range_from-requires : goal.range_from-requires
 range_from-requires c _ =
-    let m = c.args.mark in
+    let m = c.args.delimiter in
     boundary m c.args.s.now c.requires c.utf8.s (ap (begins (λ d. d == m)) (sym c.as_bytes.ensures.value) ∙ (sym c.begins_with.ensures ∙ c.if-begins_with.true))

@@ -1,14 +1,14 @@
 use Rattle.std.proofs.Common.{◌≡◌, ℕ, List, [], ◌∷◌, ◌++◌, false, Some, refl, sym, ap, ◌∙◌, append_assoc}
 use Rattle.iri_grammar.specs.Classes.{Tests}
 use Rattle.iri_link.specs.Field.{quoted}
-use Rattle.iri_link.specs.Phases.{behind_equals}
+use Rattle.iri_link.specs.Phases.{after_equals}
 use Rattle.iri_link.specs.Fault.{fault_from, closes_from}
 use Rattle.iri_link.specs.inside.ReadQuoted.{IsCutQuoted, unquoted}
 use Rattle.iri_link.specs.inside.ReadParams.{ReadsValue}
 use Rattle.iri_link.specs.declared.error.LinkKind.TheVariants.{OpenString}
 use Rattle.iri_link.proofs.value.read_quoted.Goals as goal
 
-open_string : (s : Tests) (t inner : List ℕ) → t ≡ 34 ∷ inner → closes_from false inner ≡ false → fault_from s behind_equals t ≡ Some (record { kind = OpenString; rest = t })
+open_string : (s : Tests) (t inner : List ℕ) → t ≡ 34 ∷ inner → closes_from false inner ≡ false → fault_from s after_equals t ≡ Some (record { kind = OpenString; rest = t })
 unfolding fault_from
 open_string s t inner e h = rw (e, h) refl
 
@@ -16,13 +16,13 @@ value_read : (t inner raw rest v : List ℕ) → t ≡ 34 ∷ inner → IsCutQuo
 unfolding fault_from
 value_read t inner raw rest v e h k =
     record {
-      front = 34 ∷ (raw ++ 34 ∷ []);
+      prefix = 34 ∷ (raw ++ 34 ∷ []);
       whole = e ∙ ap (λ l. 34 ∷ l) (h.whole ∙ sym (append_assoc raw (34 ∷ []) rest));
       value = rw k (quoted raw (unquoted raw) h.text);
-      goes = λ s. ap (fault_from s behind_equals) e ∙ (first s ∙ h.goes s);
+      goes = λ s. ap (fault_from s after_equals) e ∙ (first s ∙ h.goes s);
     }
   where
-    first : (s : Tests) → fault_from s behind_equals (34 ∷ inner) ≡ fault_from s Rattle.iri_link.specs.Phases.in_quoted inner
+    first : (s : Tests) → fault_from s after_equals (34 ∷ inner) ≡ fault_from s Rattle.iri_link.specs.Phases.in_quoted inner
     first s = rw h.closes refl
 
 pub returns-in-None : goal.returns-in-None

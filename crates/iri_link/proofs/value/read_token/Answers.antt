@@ -6,7 +6,7 @@ use Rattle.iri_grammar.specs.Classes.{Tests}
 use Rattle.iri_grammar.proofs.CutLaws.{both}
 use Rattle.iri_link.specs.Token.{is_blank, is_token_char}
 use Rattle.iri_link.specs.Field.{token}
-use Rattle.iri_link.specs.Phases.{behind_equals}
+use Rattle.iri_link.specs.Phases.{after_equals}
 use Rattle.iri_link.specs.Fault.{fault_from}
 use Rattle.iri_link.specs.inside.Runs.{begins, IsRun}
 use Rattle.iri_link.specs.inside.ReadParams.{ReadsValue}
@@ -14,7 +14,7 @@ use Rattle.iri_link.specs.declared.error.LinkKind.TheVariants.{NoValue}
 use Rattle.iri_link.proofs.PhaseLemmas.{equals-token, token-run, token-ends}
 use Rattle.iri_link.proofs.value.read_token.Goals as goal
 
-no_value : (s : Tests) (t : List ℕ) → begins (λ c. c == 34) t ≡ false → begins is_blank t ≡ false → begins is_token_char t ≡ false → fault_from s behind_equals t ≡ Some (record { kind = NoValue; rest = t })
+no_value : (s : Tests) (t : List ℕ) → begins (λ c. c == 34) t ≡ false → begins is_blank t ≡ false → begins is_token_char t ≡ false → fault_from s after_equals t ≡ Some (record { kind = NoValue; rest = t })
 unfolding fault_from
 no_value s [] a b d = refl
 no_value s (c ∷ cs) a b d = rw (a, d, b) refl
@@ -29,14 +29,14 @@ value_read t (c ∷ run) rest v h n e =
     let one = both (is_token_char c) (list_all is_token_char run) h.all in
     let begun : begins is_token_char t ≡ true = rw h.whole one.0 in
     record {
-      front = c ∷ run;
+      prefix = c ∷ run;
       whole = h.whole;
       value = rw e (token (c ∷ run) h.all);
       goes = λ s. equals-token s t begun ∙ (ap (fault_from s Rattle.iri_link.specs.Phases.in_token) h.whole ∙ (token-run s (c ∷ run) rest h.all ∙ token-ends s rest h.ends));
     }
 
 pub returns-then-is_empty : goal.returns-then-is_empty
-returns-then-is_empty c = λ t. no_value t c.args.s.now c.requires.mark c.requires.blank (nothing c.args.s.now c.cut_run.result.0.now c.cut_run.result.1.now c.cut_run.ensures (eqb-true (length c.cut_run.result.0.now) 0 (sym c.is_empty.ensures ∙ c.if-is_empty.true)))
+returns-then-is_empty c = λ t. no_value t c.args.s.now c.requires.delimiter c.requires.blank (nothing c.args.s.now c.cut_run.result.0.now c.cut_run.result.1.now c.cut_run.ensures (eqb-true (length c.cut_run.result.0.now) 0 (sym c.is_empty.ensures ∙ c.if-is_empty.true)))
 
 pub returns-in-Ok : goal.returns-in-Ok
 returns-in-Ok c = value_read c.args.s.now c.cut_run.result.0.now c.cut_run.result.1.now _ c.cut_run.ensures (λ e. let f : (length c.cut_run.result.0.now == 0) ≡ true = ap (λ n. n == 0) e in let g : (length c.cut_run.result.0.now == 0) ≡ false = sym c.is_empty.ensures ∙ c.if-is_empty.false in cc) c.in-Ok.ensures.ok

@@ -3,13 +3,13 @@ use Rattle.iri_text.proofs.Compose.{shown_more}
 use Rattle.iri_link.specs.Written.{escaped}
 use Rattle.iri_link.proofs.written.show_escaped.Goals as goal
 
-pub marks-preserved : goal.marks-preserved
-marks-preserved g c =
-    let i = c.marks.invariant in
-    let piece = c.in-Some.front.now ++ (92 ∷ c.in-Some.mark.now) in
+pub delimiters-preserved : goal.delimiters-preserved
+delimiters-preserved g c =
+    let i = c.delimiters.invariant in
+    let piece = c.in-Some.prefix.now ++ (92 ∷ c.in-Some.delimiter.now) in
     record {
       utf8 = search rules;
       done = i.done ++ piece;
       shown = shown_more g.met.W.TextSink.rules i.shown c.in_ok-show_three-in-Some.ensures;
-      same = i.same ∙ (ap (λ l. i.done ++ l) c.in-Some.ensures.written ∙ sym (append_assoc i.done piece (escaped c.in-Some.behind.now)));
+      same = i.same ∙ (ap (λ l. i.done ++ l) c.in-Some.ensures.written ∙ sym (append_assoc i.done piece (escaped c.in-Some.after.now)));
     }

@@ -8,7 +8,7 @@ use Rattle.iri_normal.proofs.dots.next_dots.Given as goal
 abbrev pub invariant-places : goal.invariant-places
 invariant-places l = record {
   low : 1 ≤ l.i;
-  front : is_dot_segment (before 47 l.path) ≡ false;
+  prefix : is_dot_segment (before 47 l.path) ≡ false;
   none : (k : ℕ) → k + 1 < l.i → slash_and_dots (drop k l.path) ≡ false;
 }
 

@@ -7,7 +7,7 @@ use Rattle.iri_grammar.specs.Splitters.{parts}
 use Rattle.iri_grammar.specs.OptionalSlices.{now_of}
 use Rattle.iri_types.specs.SplitText.{split_text}
 use Rattle.iri_normal.specs.Prefix.{prefix_in}
-use Rattle.iri_normal.proofs.PrefixLemmas.{cut-inside, cut-front, cut-boundary, prefix-parts}
+use Rattle.iri_normal.proofs.PrefixLemmas.{cut-inside, cut-directory, cut-boundary, prefix-parts}
 use Rattle.iri_normal.proofs.prefix.cut_prefix.Goals as goal
 
 pub prefix_len-len-requires : goal.prefix_len-len-requires
@@ -53,4 +53,4 @@ returns-clause-prefix g c =
     let n : c.prefix_len-len.result ≡ length (prefix_in s false (split_of t)) = c.prefix_len-len.ensures ∙ ap length whole in
     let value = c.range.ensures.value in
     let cut : c.range.result.now ≡ take c.prefix_len-len.result c.as_str-whole.result.now = grind (arith, common_steps) in
-    cut ∙ (ap (take c.prefix_len-len.result) same ∙ (ap (λ k. take k t) n ∙ cut-front s t))
+    cut ∙ (ap (take c.prefix_len-len.result) same ∙ (ap (λ k. take k t) n ∙ cut-directory s t))

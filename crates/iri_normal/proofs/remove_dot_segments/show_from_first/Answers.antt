@@ -17,13 +17,13 @@ show_part-requires g c = path-whole g.S.Spec.tests c.args.text.now g.met.S.Spec.
 
 pub returns-in_default : goal.returns-in_default
 returns-in_default g c =
-    let e = sym c.cut.ensures.behind ∙ ap now_of c.in_default.is in
+    let e = sym c.cut.ensures.after ∙ ap now_of c.in_default.is in
     subst (λ x. Shows g.W.TextSink.puts g.W.TextSink.halts g.W.TextSink.stops c.args.sink.now x c.show_part.new.sink c.show_part.result)
     (ap (in_form g.S.Spec.tests c.args.normal) (one-alone c.args.text.now c.args.more.now e c.requires.plain c.requires.cut)) c.show_part.ensures
 
 pub show_first-requires-clause-path : goal.show_first-requires-clause-path
 show_first-requires-clause-path g c =
-    let e = sym c.cut.ensures.behind ∙ ap now_of c.in-Some.is in
+    let e = sym c.cut.ensures.after ∙ ap now_of c.in-Some.is in
     ap (is_path g.S.Spec.tests) c.cut.ensures.before
     ∙ (first-path g.S.Spec.tests c.args.text.now c.in-Some.rest.now e c.requires.paths.0).0
 
@@ -35,7 +35,7 @@ returns-in_err-show_first g c =
     let s = g.S.Spec.tests in
     let n = c.args.normal in
     let k = c.taken-count.result in
-    let e = sym c.cut.ensures.behind ∙ ap now_of c.in-Some.is in
+    let e = sym c.cut.ensures.after ∙ ap now_of c.in-Some.is in
     let tail = in_form s n (kept (pieces 47 c.in-Some.rest.now) k) ++ in_form s n (kept (pieces 47 c.args.more.now) 0) in
     subst (λ x. Shows g.W.TextSink.puts g.W.TextSink.halts g.W.TextSink.stops c.args.sink.now x c.show_first.new.sink c.from_residual.result)
     (ap (λ b. in_form s n (popped_times c.taken.result (b ++ 47 ∷ [])) ++ tail) c.cut.ensures.before
@@ -48,12 +48,12 @@ show_kept-requires-clause-ends g c =
     let t = c.args.text.now in
     let r = c.in-Some.rest.now in
     let m = c.args.more.now in
-    let e = sym c.cut.ensures.behind ∙ ap now_of c.in-Some.is in
+    let e = sym c.cut.ensures.after ∙ ap now_of c.in-Some.is in
     count-ends m r c.taken-count.result c.taken-count.ensures.count (more-ends t m r e c.requires.cut)
 
 pub show_kept-requires-clause-path : goal.show_kept-requires-clause-path
 show_kept-requires-clause-path g c =
-    let e = sym c.cut.ensures.behind ∙ ap now_of c.in-Some.is in
+    let e = sym c.cut.ensures.after ∙ ap now_of c.in-Some.is in
     (first-path g.S.Spec.tests c.args.text.now c.in-Some.rest.now e c.requires.paths.0).1
 
 pub returns-in_err-show_kept : goal.returns-in_err-show_kept
@@ -61,7 +61,7 @@ returns-in_err-show_kept g c =
     let s = g.S.Spec.tests in
     let n = c.args.normal in
     let k = c.taken-count.result in
-    let e = sym c.cut.ensures.behind ∙ ap now_of c.in-Some.is in
+    let e = sym c.cut.ensures.after ∙ ap now_of c.in-Some.is in
     let last = in_form s n (kept (pieces 47 c.args.more.now) 0) in
     let tail = in_form s n (kept (pieces 47 c.in-Some.rest.now) k) ++ last in
     subst (λ x. Shows g.W.TextSink.puts g.W.TextSink.halts g.W.TextSink.stops c.args.sink.now x c.show_kept.new.sink
@@ -77,7 +77,7 @@ returns g c =
     let s = g.S.Spec.tests in
     let n = c.args.normal in
     let k = c.taken-count.result in
-    let e = sym c.cut.ensures.behind ∙ ap now_of c.in-Some.is in
+    let e = sym c.cut.ensures.after ∙ ap now_of c.in-Some.is in
     let tail = in_form s n (kept (pieces 47 c.in-Some.rest.now) k) ++ in_form s n (kept (pieces 47 c.args.more.now) 0) in
     subst (λ x. Shows g.W.TextSink.puts g.W.TextSink.halts g.W.TextSink.stops c.args.sink.now x c.show_kept-2.new.sink c.show_kept-2.result)
     (ap (λ b. in_form s n (popped_times c.taken.result (b ++ 47 ∷ [])) ++ tail) c.cut.ensures.before

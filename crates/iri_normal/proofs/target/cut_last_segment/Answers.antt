@@ -2,7 +2,7 @@ use Rattle.std.proofs.Common.{◌≡◌, ◌+◌, ◌∙◌, true, drop, sym, su
 use Rattle.std.proofs.lemmas.Grind.{common_steps}
 use Rattle.std.proofs.lemmas.Str.{lead_after_ascii}
 use Rattle.iri_normal.specs.Target.{to_last_slash, ends_at_slash}
-use Rattle.iri_normal.proofs.SlashLemmas.{behind_slash, ends, last_slash, no_slash, none_behind, slash_is}
+use Rattle.iri_normal.proofs.SlashLemmas.{after_slash, ends, last_slash, no_slash, none_after, slash_is}
 use Rattle.iri_normal.proofs.target.cut_last_segment.Goals as goal
 
 pub range-requires-clause-end_boundary : goal.range-requires-clause-end_boundary
@@ -17,14 +17,14 @@ range_from-requires c _ =
 
 pub returns-in-Some-clause-ends : goal.returns-in-Some-clause-ends
 returns-in-Some-clause-ends c =
-    let front = last_slash c.args.path.now c.in-Some.i c.in-Some.ensures in
+    let directory = last_slash c.args.path.now c.in-Some.i c.in-Some.ensures in
     let value = c.range.ensures.value in
     let same : c.range.result.now ≡ to_last_slash c.args.path.now = grind (arith, common_steps) in
     subst (λ t. ends_at_slash t ≡ true) (sym same) (ends c.args.path.now)
 
-pub returns-in-Some-clause-front : goal.returns-in-Some-clause-front
-returns-in-Some-clause-front c =
-    let front = last_slash c.args.path.now c.in-Some.i c.in-Some.ensures in
+pub returns-in-Some-clause-directory : goal.returns-in-Some-clause-directory
+returns-in-Some-clause-directory c =
+    let directory = last_slash c.args.path.now c.in-Some.i c.in-Some.ensures in
     let value = c.range.ensures.value in
     grind (arith, common_steps)
 
@@ -34,10 +34,10 @@ returns-in-Some-clause-last c =
     let i = c.in-Some.i in
     let value = c.range_from.ensures.value in
     let same : c.range_from.result.now ≡ drop (i + 1) t = grind (arith, common_steps) in
-    same ∙ behind_slash t i c.in-Some.ensures
+    same ∙ after_slash t i c.in-Some.ensures
 
-pub returns-in-None-clause-front : goal.returns-in-None-clause-front
-returns-in-None-clause-front c = (no_slash c.args.path.now c.in-None.ensures).1
+pub returns-in-None-clause-directory : goal.returns-in-None-clause-directory
+returns-in-None-clause-directory c = (no_slash c.args.path.now c.in-None.ensures).1
 
 pub returns-in-None-clause-last : goal.returns-in-None-clause-last
-returns-in-None-clause-last c = sym (none_behind c.args.path.now (no_slash c.args.path.now c.in-None.ensures).0)
+returns-in-None-clause-last c = sym (none_after c.args.path.now (no_slash c.args.path.now c.in-None.ensures).0)

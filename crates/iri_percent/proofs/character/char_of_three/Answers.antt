@@ -9,7 +9,7 @@ returns-in_err-a c = c.from_residual.ensures ∙ ends_at_one c.args.lead (octets
 
 pub returns-in_err-b : goal.returns-in_err-b
 returns-in_err-b c = c.from_residual-in_err-b.ensures
-    ∙ ends_at_two c.args.lead (128 + c.in_ok-a.a) (octets c.in_ok-a.behind.now) c.requires.0 c.in_err-b.ensures
+    ∙ ends_at_two c.args.lead (128 + c.in_ok-a.a) (octets c.in_ok-a.after.now) c.requires.0 c.in_err-b.ensures
     ∙ ap (λ os. first_char (c.args.lead ∷ os)) (sym c.in_ok-a.ensures.0)
 
 pub returns : goal.returns

@@ -1,8 +1,8 @@
 use Rattle.std.proofs.Common.{◌-◌, sym, ap, ◌∙◌, length, refl, arith}
 use Rattle.iri_grammar.specs.ClassTests.{class_test}
-use Rattle.iri_grammar.proofs.Ranges.{range_front}
+use Rattle.iri_grammar.proofs.Ranges.{range_prefix}
 use Rattle.iri_grammar.proofs.Units.{char_shorter}
-use Rattle.iri_percent.proofs.EncodedRuns.{run_from_char, run_boundary, run_front, run_within}
+use Rattle.iri_percent.proofs.EncodedRuns.{run_from_char, run_boundary, run_prefix, run_within}
 use Rattle.iri_percent.proofs.encode.next_run.Goals as goal
 
 pub range-requires-clause-end_boundary : goal.range-requires-clause-end_boundary
@@ -20,8 +20,8 @@ returns-in-Some g c =
     let rest = c.past_run-rest.result.now in
     let past = run_from_char p c.has-stands.result c.in-Some.c t c.chars-chars.result.rest.now c.next.new.self.rest.now c.as_str.result.now rest c.utf8.text c.chars-chars.ensures.rest c.in-Some.ensures.steps.0 (sym c.has-stands.ensures) c.as_str.ensures c.past_run-rest.ensures in
     record {
-      is_run = run_front p c.has-stands.result t rest c.range.result.now past
-          (c.range.ensures.value ∙ range_front t (length t - length rest));
+      is_run = run_prefix p c.has-stands.result t rest c.range.result.now past
+          (c.range.ensures.value ∙ range_prefix t (length t - length rest));
       shorter = omega (
         arith,
         run_within p c.has-stands.result c.as_str.result.now rest c.past_run-rest.ensures,

@@ -3,9 +3,9 @@ use Rattle.iri_percent.specs.NormalHost.{is_ascii_host}
 use Rattle.iri_percent.proofs.Hosts.{step, ascii_nil}
 use Rattle.iri_percent.proofs.host.is_ascii_host.Goals as goal
 
-pub returns-then-not-is_ascii_front : goal.returns-then-not-is_ascii_front
-returns-then-not-is_ascii_front c =
-    ap (λ b. b && is_ascii_host (take (length c.loop-rest.rest.now - 1) (drop 1 c.loop-rest.rest.now))) c.if-not-is_ascii_front.ensures
+pub returns-then-not-is_ascii_prefix : goal.returns-then-not-is_ascii_prefix
+returns-then-not-is_ascii_prefix c =
+    ap (λ b. b && is_ascii_host (take (length c.loop-rest.rest.now - 1) (drop 1 c.loop-rest.rest.now))) c.if-not-is_ascii_prefix.ensures
     ∙ sym (step c.loop-rest.rest.now (omega arith) c.loop-rest.invariant.whole).same
     ∙ c.loop-rest.invariant.same
 
@@ -13,7 +13,7 @@ pub loop-rest-preserved : goal.loop-rest-preserved
 loop-rest-preserved c = record {
   whole = (step c.loop-rest.rest.now (omega arith) c.loop-rest.invariant.whole).whole;
   same =
-      ap (λ b. b && is_ascii_host (take (length c.loop-rest.rest.now - 1) (drop 1 c.loop-rest.rest.now))) c.if-not-is_ascii_front.ensures
+      ap (λ b. b && is_ascii_host (take (length c.loop-rest.rest.now - 1) (drop 1 c.loop-rest.rest.now))) c.if-not-is_ascii_prefix.ensures
       ∙ sym (step c.loop-rest.rest.now (omega arith) c.loop-rest.invariant.whole).same
       ∙ c.loop-rest.invariant.same;
 }

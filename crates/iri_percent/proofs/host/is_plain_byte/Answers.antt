@@ -5,12 +5,12 @@ use Rattle.iri_percent.specs.NormalHost.{is_plain_byte}
 use Rattle.iri_percent.specs.declared.host.TheConstants.{PLAIN_BYTES}
 use Rattle.iri_percent.proofs.host.is_plain_byte.Goals as goal
 
-abbrev marked : ℕ → Bool
-marked b = get_or PLAIN_BYTES b 0 % 2 == 0
+abbrev delimited : ℕ → Bool
+delimited b = get_or PLAIN_BYTES b 0 % 2 == 0
 
 -- the table has an even digit at each plain byte, by computing
-computed : agree_below marked is_plain_byte 256 ≡ true
+computed : agree_below delimited is_plain_byte 256 ≡ true
 computed = refl
 
 pub returns : goal.returns
-returns c = rw c.from.ensures (agree_at marked is_plain_byte 256 computed c.args.b (omega arith))
+returns c = rw c.from.ensures (agree_at delimited is_plain_byte 256 computed c.args.b (omega arith))

@@ -1,11 +1,11 @@
 use Rattle.std.proofs.Common.{◌≤◌, ◌-◌, length, false}
-use Rattle.iri_percent.specs.inside.Pieces.{NoMark}
+use Rattle.iri_percent.specs.inside.Pieces.{NoCandidate}
 use Rattle.iri_percent.proofs.normal.find_near_percent.Given as goal
 
 abbrev pub invariant-bytes : goal.invariant-bytes
 invariant-bytes l = record {
   within : l.i ≤ length l.text;
-  run : NoMark false l.text l.i;
+  run : NoCandidate false l.text l.i;
 }
 
 abbrev pub decreases-bytes : goal.decreases-bytes

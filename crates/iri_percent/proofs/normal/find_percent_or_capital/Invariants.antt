@@ -1,6 +1,6 @@
 use Rattle.std.proofs.Common.{true}
-use Rattle.iri_percent.specs.inside.Pieces.{NoMark}
+use Rattle.iri_percent.specs.inside.Pieces.{NoCandidate}
 use Rattle.iri_percent.proofs.normal.find_percent_or_capital.Given as goal
 
 abbrev pub invariant-loop-i : goal.invariant-loop-i
-invariant-loop-i l = NoMark true l.text l.i
+invariant-loop-i l = NoCandidate true l.text l.i

@@ -15,7 +15,7 @@ changes-init g c =
       utf8 = IsUtf8-nil;
       room = omega arith;
       inside = omega (arith, m.inside);
-      mark = ap (λ n. stays c.args.lower (get_or c.args.text.now n 0)) (sym same) ∙ m.mark;
+      candidate = ap (λ n. stays c.args.lower (get_or c.args.text.now n 0)) (sym same) ∙ m.candidate;
     }
 
 pub changes-preserved : goal.changes-preserved
@@ -35,7 +35,7 @@ changes-preserved g c =
       utf8 = subst IsUtf8 is (IsUtf8-append (take r.written c.changes.buf) k.text i.utf8 k.utf8);
       room = next.0;
       inside = next.1;
-      mark = next.2;
+      candidate = next.2;
     }
 
 pub returns-then-not-has_next-clause-utf8 : goal.returns-then-not-has_next-clause-utf8

@@ -3,14 +3,14 @@ use Rattle.std.specs.Str.{IsUtf8}
 use Rattle.iri_percent.specs.inside.Pieces.{stays, Gathered}
 use Rattle.iri_percent.proofs.normal.gather_in.Given as goal
 
--- what was written for the bytes so far, with a mark behind them
+-- what was written for the bytes so far, with a candidate after them
 abbrev pub invariant-changes : goal.invariant-changes
 invariant-changes g l = record {
   gathered : Gathered g.S.Spec.tests l.lower l.text l.at l.run.read (take l.run.written l.buf);
   utf8 : IsUtf8 (take l.run.written l.buf);
   room : l.run.written ≤ 60;
   inside : l.at + l.run.read < length l.text;
-  mark : stays l.lower (get_or l.text (l.at + l.run.read) 0) ≡ false;
+  candidate : stays l.lower (get_or l.text (l.at + l.run.read) 0) ≡ false;
 }
 
 abbrev pub decreases-changes : goal.decreases-changes

@@ -4,7 +4,7 @@ use Rattle.std.specs.Char.{encode_utf8, len_utf8}
 use Rattle.std.proofs.lemmas.Str.{IsUtf8-string_bytes}
 use Rattle.iri_percent.specs.Units.{octets}
 use Rattle.iri_percent.specs.NormalLaws.{decoded}
-use Rattle.iri_resolve.proofs.Edits.{not_decoded, is_decoded_to, place, behind_place}
+use Rattle.iri_resolve.proofs.Edits.{not_decoded, is_decoded_to, place, after_place}
 use Rattle.iri_resolve.proofs.change.decoded.Goals as goal
 
 pub returns-in-None : goal.returns-in-None
@@ -42,7 +42,7 @@ replace_range-requires-clause-end_boundary g c =
     let w = p.within in (
       omega (arith, e, w),
       λ _ l h. subst (λ n. 192 ≤ slice_index t (c.args.i + 3 * n)) (sym e)
-          (behind_place c.args.i (3 * len_utf8 c.in-Some.c) t (IsUtf8-string_bytes c.args.text.now) p (omega (arith, e, l))
+          (after_place c.args.i (3 * len_utf8 c.in-Some.c) t (IsUtf8-string_bytes c.args.text.now) p (omega (arith, e, l))
           (subst (λ n. 128 ≤ slice_index t (c.args.i + 3 * n)) e h)),
     )
 

@@ -1,11 +1,11 @@
 use Rattle.std.proofs.Common.{sym, ap, ◌∙◌}
 use Rattle.iri_percent.specs.Units.{octets}
 use Rattle.iri_percent.specs.NormalLaws.{decoded}
-use Rattle.iri_resolve.proofs.Edits.{behind_end, rest_all}
+use Rattle.iri_resolve.proofs.Edits.{after_end, rest_all}
 use Rattle.iri_resolve.proofs.change.spelled_at.Goals as goal
 
 pub returns-then-text-i : goal.returns-then-text-i
-returns-then-text-i g c = sym (behind_end g.S.Spec.tests c.args.i c.args.text.now c.if-text-i.true)
+returns-then-text-i g c = sym (after_end g.S.Spec.tests c.args.i c.args.text.now c.if-text-i.true)
 
 pub returns : goal.returns
 returns g c = c.decoded_char.ensures ∙ ap (λ t. decoded g.S.Spec.tests (octets t))

@@ -9,16 +9,16 @@ use Rattle.iri_resolve.proofs.GuardLemmas.{one-segment, two-segments, more-segme
 use Rattle.iri_resolve.proofs.part_steps.is_guard_alone.Goals as goal
 
 pub returns-in_default : goal.returns-in_default
-returns-in_default c = sym (one-segment c.args.path.now (sym c.cut.ensures.behind ∙ ap now_of c.in_default.is))
+returns-in_default c = sym (one-segment c.args.path.now (sym c.cut.ensures.after ∙ ap now_of c.in_default.is))
 
 pub returns-in_default-after : goal.returns-in_default-after
-returns-in_default-after c = sym (two-segments c.args.path.now c.in-Some.rest.now (sym c.cut.ensures.behind ∙ ap now_of c.in-Some.is)
-    (sym c.cut-2.ensures.behind ∙ ap now_of c.in_default-after.is))
+returns-in_default-after c = sym (two-segments c.args.path.now c.in-Some.rest.now (sym c.cut.ensures.after ∙ ap now_of c.in-Some.is)
+    (sym c.cut-2.ensures.after ∙ ap now_of c.in_default-after.is))
 
 pub returns : goal.returns
 returns c =
     let more = more-segments c.args.path.now c.in-Some.rest.now c.in-Some-after.rest.now
-    (sym c.cut.ensures.behind ∙ ap now_of c.in-Some.is) (sym c.cut-2.ensures.behind ∙ ap now_of c.in-Some-after.is) in
+    (sym c.cut.ensures.after ∙ ap now_of c.in-Some.is) (sym c.cut-2.ensures.after ∙ ap now_of c.in-Some-after.is) in
     c.is_guard.ensures
     ∙ ap (λ f. is_empty f && (is_dot_segment c.cut-2.result.0.now && not (is_two_dots c.cut-2.result.0.now))
     && (starts_with_slash c.in-Some-after.rest.now && not (has_dot_segment c.in-Some-after.rest.now))) c.cut.ensures.before

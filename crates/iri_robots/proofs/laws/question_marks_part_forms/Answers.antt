@@ -1,5 +1,5 @@
-use Rattle.iri_robots.proofs.FormLaws.{compared_mark}
+use Rattle.iri_robots.proofs.FormLaws.{compared_delimiter}
 use Rattle.iri_robots.proofs.laws.question_marks_part_forms.Goals as goal
 
 pub returns : goal.returns
-returns c = compared_mark
+returns c = compared_delimiter

@@ -9,7 +9,7 @@ returns-in_default-escape_place c =
     let t = c.loop-found.text.now in
     let s = c.in-Some.found.now in
     let n = c.args.plain in
-    let m = missing_at q s _ _ n c.args.mark c.requires.0 c.requires.1 (take_rest q n) (take_rest s n) c.in_default-escape_place.ensures in
+    let m = missing_at q s _ _ n c.args.special c.requires.0 c.requires.1 (take_rest q n) (take_rest s n) c.in_default-escape_place.ensures in
     λ a. not_kept a q c.args.text.now t (c.loop-found.invariant a) (not_kept a q t s (c.in-Some.ensures.0 a) (m a))
 
 pub returns-then-place-eq0 : goal.returns-then-place-eq0

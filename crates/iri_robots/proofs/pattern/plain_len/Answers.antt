@@ -10,4 +10,4 @@ pub loop-len-preserved : goal.loop-len-preserved
 loop-len-preserved c =
     let q = c.args.pattern.now in
     plain_more q _ c.loop-len.len c.loop-len.invariant c.if-len-pattern.true c.if-pattern-len-eq42.false (take_rest q c.loop-len.len) (no_value
-    c.escaped_mark.result _ _ (sym c.is_some.ensures ∙ c.if-is_some.false) c.escaped_mark.ensures)
+    c.escaped_special.result _ _ (sym c.is_some.ensures ∙ c.if-is_some.false) c.escaped_special.ensures)

@@ -5,7 +5,7 @@ use Rattle.std.proofs.lemmas.Str.{IsCharBoundary-at_seam}
 use Rattle.iri_template.specs.inside.PartEnds.{calls_of}
 use Rattle.iri_template.specs.inside.Parts.{part_pieces}
 use Rattle.iri_template.specs.Template.{template_text}
-use Rattle.iri_template.proofs.Fronts.{front_range}
+use Rattle.iri_template.proofs.Prefixes.{prefix_range}
 use Rattle.iri_template.proofs.PartPortions.{ReachedUpTo, reached_none, reached_more, reached_exit, reached_calls, reached_end, names_in, names_left, none_in}
 use Rattle.iri_template.proofs.PartWalk.{part_cut}
 use Rattle.iri_template.proofs.TellWalk.{BothTold, HasMoved, moved_none, moved_more, moved_all}
@@ -33,9 +33,9 @@ range-text-requires-clause-end_boundary g c =
     let r = c.in-Ok.next.now in
     let v : IsUtf8 r = search rules in
     let k = part_cut c.in-Ok.part (length c.args.template.now - length t) t r c.in-Ok.ensures c.parts.invariant.utf8 v c.parts.invariant.fine in
-    let front = template_text (part_pieces c.in-Ok.part) in
-    let z : length front ≡ length t - length r = omega (arith, k.len) in
-    subst (IsCharBoundary t) z (IsCharBoundary-at_seam t front r k.text v)
+    let prefix = template_text (part_pieces c.in-Ok.part) in
+    let z : length prefix ≡ length t - length r = omega (arith, k.len) in
+    subst (IsCharBoundary t) z (IsCharBoundary-at_seam t prefix r k.text v)
 
 pub write_part-requires-clause-fine : goal.write_part-requires-clause-fine
 write_part-requires-clause-fine g c =
@@ -56,7 +56,7 @@ parts-preserved g c =
     let v : IsUtf8 r = search rules in
     let k = part_cut c.in-Ok.part (length whole - length t) t r c.in-Ok.ensures i.utf8 v i.fine in
     let shorter = c.in-Ok.ensures.shorter in
-    let text = c.range-text.ensures.value ∙ front_range t (template_text (part_pieces c.in-Ok.part)) r (length t - length r) (sym k.text) refl in
+    let text = c.range-text.ensures.value ∙ prefix_range t (template_text (part_pieces c.in-Ok.part)) r (length t - length r) (sym k.text) refl in
     record {
       utf8 = v;
       len = omega (arith, shorter, i.len);
@@ -86,7 +86,7 @@ returns-in-Err-write_part-clause-written g c =
     let whole = c.args.template.now in
     let v : IsUtf8 r = search rules in
     let k = part_cut c.in-Ok.part (length whole - length t) t r c.in-Ok.ensures i.utf8 v i.fine in
-    let text = c.range-text.ensures.value ∙ front_range t (template_text (part_pieces c.in-Ok.part)) r (length t - length r) (sym k.text) refl in
+    let text = c.range-text.ensures.value ∙ prefix_range t (template_text (part_pieces c.in-Ok.part)) r (length t - length r) (sym k.text) refl in
     reached_exit g.S.Spec.tests w.puts w.halts g.met.W.TextSink.rules whole c.args.sink.now c.in-Ok.part t r c.range-text.result.now
     c.parts.begin c.parts.sink c.write_part.new.sink c.in-Err-write_part.error k c.in-Ok.ensures.placed text c.in-Ok.ensures.shorter
     (d.tells c.args.context.now) (d.tells c.parts.context) i.far c.in-Err-write_part.ensures.written
@@ -101,7 +101,7 @@ returns-in-Err-write_part-clause-refused g c =
     let whole = c.args.template.now in
     let v : IsUtf8 r = search rules in
     let k = part_cut c.in-Ok.part (length whole - length t) t r c.in-Ok.ensures i.utf8 v i.fine in
-    let text = c.range-text.ensures.value ∙ front_range t (template_text (part_pieces c.in-Ok.part)) r (length t - length r) (sym k.text) refl in
+    let text = c.range-text.ensures.value ∙ prefix_range t (template_text (part_pieces c.in-Ok.part)) r (length t - length r) (sym k.text) refl in
     reached_calls g.S.Spec.tests w.puts w.halts g.met.W.TextSink.rules whole c.args.sink.now c.in-Ok.part t r c.range-text.result.now
     c.parts.begin c.parts.sink c.write_part.new.sink c.in-Err-write_part.error.location k c.in-Ok.ensures.placed text c.in-Ok.ensures.shorter
     (d.tells c.args.context.now) (d.tells c.parts.context) (d.tells c.write_part.new.context) i.far c.in-Err-write_part.ensures.refused

@@ -6,7 +6,7 @@ use Rattle.iri_template.proofs.PartPortions.{names_in, ReachedUpTo}
 use Rattle.iri_template.proofs.TellWalk.{BothTold, HasMoved}
 use Rattle.iri_template.proofs.expansion_writer.write_expansion.Given as goal
 
--- the parts in front of those that are left were written, with two calls for each varspec
+-- the parts before those that are left were written, with two calls for each varspec
 abbrev pub invariant-parts : goal.invariant-parts
 invariant-parts g l =
     let w = g.W.TextSink in

@@ -1,8 +1,8 @@
 use Rattle.std.proofs.Common.{◌≡◌, ◌+◌, ◌-◌, Some, length, map, ap, refl, sym, ◌∙◌, arith}
-use Rattle.iri_grammar.specs.Cut.{before, behind}
+use Rattle.iri_grammar.specs.Cut.{before, after}
 use Rattle.iri_grammar.specs.Pieces.{pieces}
 use Rattle.iri_grammar.specs.OptionalSlices.{now_of}
-use Rattle.iri_grammar.proofs.Marks.{text_behind}
+use Rattle.iri_grammar.proofs.Delimiters.{text_after}
 use Rattle.iri_template.specs.Fault.{varspecs_fault}
 use Rattle.iri_template.specs.Left.{varspecs_left}
 use Rattle.iri_template.specs.Reading.{varspec_of}
@@ -32,7 +32,7 @@ pub varspecs-smaller : goal.varspecs-smaller
 varspecs-smaller g c =
     let t = c.varspecs.rest.now in
     let r = c.in-Some.more.now in
-    let e : Some r ≡ behind 44 t = ap now_of (sym c.in-Some.is) ∙ c.in-Ok.ensures.others in
+    let e : Some r ≡ after 44 t = ap now_of (sym c.in-Some.is) ∙ c.in-Ok.ensures.others in
     omega (arith, cut_len t r e)
 
 pub varspecs-preserved : goal.varspecs-preserved
@@ -44,13 +44,13 @@ varspecs-preserved g c =
     let t = c.varspecs.rest.now in
     let r = c.in-Some.more.now in
     let n = length c.args.varspecs.now in
-    let e : Some r ≡ behind 44 t = ap now_of (sym c.in-Some.is) ∙ c.in-Ok.ensures.others in
+    let e : Some r ≡ after 44 t = ap now_of (sym c.in-Some.is) ∙ c.in-Ok.ensures.others in
     let left : varspecs_left c.in-Ok.others ≡ pieces 44 r = ap varspecs_left c.in-Some.is in
     let z : c.args.at + (n - length r) ≡ c.args.at + (n - length t) + length (before 44 t) + 1 = omega (arith, cut_len t r e, i.len) in
     let cut = specs_cut t c.in-Ok.others c.in-Ok.ensures.others in
     let fewer : length (map varspec_of (varspecs_left c.in-Ok.others)) ≡ specs_in r = ap (λ ps. length (map varspec_of ps)) left in
     record {
-      utf8 = text_behind 44 t r (omega arith) i.utf8 (sym e);
+      utf8 = text_after 44 t r (omega arith) i.utf8 (sym e);
       len = omega (arith, cut_len t r e, i.len);
       fine = ap (varspecs_fault 0) (sym left) ∙ fine_left t c.in-Ok.others c.in-Ok.ensures.others c.in-Ok.ensures.fault i.fine;
       far =

@@ -7,7 +7,7 @@ use Rattle.iri_template.proofs.TellWalk.{BothTold, HasMoved}
 use Rattle.iri_template.proofs.VarSpecPortions.{specs_in, WrittenUpTo}
 use Rattle.iri_template.proofs.expression_writer.write_varspecs.Given as goal
 
--- the varspecs in front of those that are left were written, with two calls for each
+-- the varspecs before those that are left were written, with two calls for each
 abbrev pub invariant-varspecs : goal.invariant-varspecs
 invariant-varspecs g l =
     let w = g.W.TextSink in

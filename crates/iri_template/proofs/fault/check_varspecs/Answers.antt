@@ -1,8 +1,8 @@
 use Rattle.std.proofs.Common.{◌≡◌, ◌+◌, ◌-◌, [], Some, None, map, length, ap, sym, ◌∙◌, arith}
-use Rattle.iri_grammar.specs.Cut.{before, behind}
+use Rattle.iri_grammar.specs.Cut.{before, after}
 use Rattle.iri_grammar.specs.Pieces.{pieces}
 use Rattle.iri_grammar.specs.OptionalSlices.{now_of}
-use Rattle.iri_grammar.proofs.Marks.{text_behind}
+use Rattle.iri_grammar.proofs.Delimiters.{text_after}
 use Rattle.iri_template.specs.Fault.{first, varspecs_fault}
 use Rattle.iri_template.specs.Left.{varspecs_left}
 use Rattle.iri_template.specs.Reading.{varspec_of}
@@ -16,7 +16,7 @@ pub varspecs-smaller : goal.varspecs-smaller
 varspecs-smaller g c =
     let t = c.varspecs.rest.now in
     let r = c.in-Some.more.now in
-    let e : Some r ≡ behind 44 t = ap now_of (sym c.in-Some.is) ∙ c.in-Ok.ensures.others in
+    let e : Some r ≡ after 44 t = ap now_of (sym c.in-Some.is) ∙ c.in-Ok.ensures.others in
     omega (arith, cut_len t r e)
 
 pub varspecs-preserved : goal.varspecs-preserved
@@ -28,12 +28,12 @@ varspecs-preserved g c =
     let n = length c.args.varspecs.now in
     let place = c.args.at + (n - length t) in
     let now = c.or_mistyped-mistyped.result in
-    let e : Some r ≡ behind 44 t = ap now_of (sym c.in-Some.is) ∙ c.in-Ok.ensures.others in
+    let e : Some r ≡ after 44 t = ap now_of (sym c.in-Some.is) ∙ c.in-Ok.ensures.others in
     let left : varspecs_left c.in-Ok.others ≡ pieces 44 r = ap varspecs_left c.in-Some.is in
     let z : place + (length t - length r) ≡ c.args.at + (n - length r) = omega (arith, cut_len t r e, i.len) in
     let y : c.args.at + (n - length r) ≡ place + length (before 44 t) + 1 = omega (arith, cut_len t r e, i.len) in
     record {
-      utf8 = text_behind 44 t r (omega arith) i.utf8 (sym e);
+      utf8 = text_after 44 t r (omega arith) i.utf8 (sym e);
       len = omega (arith, cut_len t r e, i.len);
       fault = ap (λ k. varspecs_fault k (pieces 44 r)) (sym z) ∙ (sym (more_varspecs place t r e c.in-Ok.ensures.fault) ∙ i.fault);
       types =
@@ -48,7 +48,7 @@ varspecs-preserved g c =
 pub returns-in-None-clause-fault : goal.returns-in-None-clause-fault
 returns-in-None-clause-fault g c =
     let t = c.varspecs.rest.now in
-    let e : None ≡ behind 44 t = ap now_of (sym c.in-None.is) ∙ c.in-Ok.ensures.others in
+    let e : None ≡ after 44 t = ap now_of (sym c.in-None.is) ∙ c.in-Ok.ensures.others in
     sym c.varspecs.invariant.fault ∙ last_varspec (c.args.at + (length c.args.varspecs.now - length t)) t e c.in-Ok.ensures.fault
 
 pub returns-in-None-clause-types : goal.returns-in-None-clause-types

@@ -3,7 +3,7 @@ use Rattle.std.specs.Str.{IsCharBoundary, encode_utf8_all}
 use Rattle.std.proofs.lemmas.Str.{IsCharBoundary-at_seam}
 use Rattle.iri_template.specs.Reading.{first_of}
 use Rattle.iri_template.proofs.Steps.{first_get}
-use Rattle.iri_template.proofs.Fronts.{literals_front, expression_front, expression_error, triplet_front, triplet_error, character_error}
+use Rattle.iri_template.proofs.Prefixes.{literals_prefix, expression_prefix, expression_error, triplet_prefix, triplet_error, character_error}
 use Rattle.iri_template.proofs.part.read_part.Goals as goal
 
 pub range-requires-clause-end_boundary : goal.range-requires-clause-end_boundary
@@ -11,16 +11,16 @@ range-requires-clause-end_boundary c =
     let t = c.args.s.now in
     let r = c.past_literals-rest.result.now in
     let k = c.past_literals-rest.ensures in
-    let front = encode_utf8_all k.literals in
-    let z : length front ≡ length t - length r = omega (arith, ap length k.text, length-append front r) in
-    subst (IsCharBoundary t) z (IsCharBoundary-at_seam t front r (sym k.text) c.past_literals-rest.utf8)
+    let prefix = encode_utf8_all k.literals in
+    let z : length prefix ≡ length t - length r = omega (arith, ap length k.text, length-append prefix r) in
+    subst (IsCharBoundary t) z (IsCharBoundary-at_seam t prefix r (sym k.text) c.past_literals-rest.utf8)
 
 pub returns-then-rest-s : goal.returns-then-rest-s
 returns-then-rest-s c =
-    literals_front c.range.result c.args.at c.args.s.now c.past_literals-rest.result.now c.utf8.s c.range.utf8 c.past_literals-rest.ensures c.if-rest-s.true c.range.ensures.value
+    literals_prefix c.range.result c.args.at c.args.s.now c.past_literals-rest.result.now c.utf8.s c.range.utf8 c.past_literals-rest.ensures c.if-rest-s.true c.range.ensures.value
 
 pub returns-in-Ok : goal.returns-in-Ok
-returns-in-Ok c = expression_front c.in-Ok.expression c.args.at c.args.s.now c.in-Ok.rest.now c.in-Ok.ensures
+returns-in-Ok c = expression_prefix c.in-Ok.expression c.args.at c.args.s.now c.in-Ok.rest.now c.in-Ok.ensures
 
 pub returns-in-Err : goal.returns-in-Err
 returns-in-Err c =
@@ -32,7 +32,7 @@ pub returns-in-Ok-read_triplet : goal.returns-in-Ok-read_triplet
 returns-in-Ok-read_triplet c =
     let t = c.args.s.now in
     let percent : first_of t ≡ 37 = first_get t ∙ (ap (λ l. get_or l 0 0) (sym c.as_bytes.ensures.value) ∙ c.in-37.is) in
-    triplet_front c.in-Ok-read_triplet.triplet c.args.at t c.in-Ok-read_triplet.rest.now percent c.in-Ok-read_triplet.ensures
+    triplet_prefix c.in-Ok-read_triplet.triplet c.args.at t c.in-Ok-read_triplet.rest.now percent c.in-Ok-read_triplet.ensures
 
 pub returns-in-Err-read_triplet : goal.returns-in-Err-read_triplet
 returns-in-Err-read_triplet c =

@@ -4,7 +4,7 @@ use Rattle.iri_template.specs.inside.Prefix.{prefix_step, char_text}
 use Rattle.iri_template.proofs.ThroughEach.{HasPutUpTo}
 use Rattle.iri_template.proofs.prefix.put_prefix.Given as goal
 
--- the characters in front of those that are left were written, as far as that is wanted
+-- the characters before those that are left were written, as far as that is wanted
 abbrev pub invariant-loop-c : goal.invariant-loop-c
 invariant-loop-c g l = record {
   can : (goal.iterator-loop-c g).can_next l.c-iterator;

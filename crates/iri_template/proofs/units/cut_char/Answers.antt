@@ -3,7 +3,7 @@ use Rattle.std.specs.Char.{encode_utf8}
 use Rattle.std.specs.Str.{IsCharBoundary}
 use Rattle.std.proofs.lemmas.Str.{IsCharBoundary-at_seam}
 use Rattle.iri_grammar.proofs.Units.{char_shorter}
-use Rattle.iri_template.proofs.Fronts.{front_range}
+use Rattle.iri_template.proofs.Prefixes.{prefix_range}
 use Rattle.iri_template.proofs.units.cut_char.Goals as goal
 
 -- the text is the character and the rest
@@ -14,19 +14,19 @@ pub range-requires-clause-end_boundary : goal.range-requires-clause-end_boundary
 range-requires-clause-end_boundary c =
     let t = c.args.text.now in
     let r = c.as_str-rest.result.now in
-    let front = encode_utf8 c.in-Some.field-0 in
+    let prefix = encode_utf8 c.in-Some.field-0 in
     let e = joined c.chars-chars.result.rest.now t c.next.new.self.rest.now r c.in-Some.field-0 c.chars-chars.ensures.rest c.in-Some.ensures.steps.0 c.as_str-rest.ensures in
-    let z : length front ≡ length t - length r = omega (arith, ap length e, length-append front r) in
-    subst (IsCharBoundary t) z (IsCharBoundary-at_seam t front r e c.as_str-rest.utf8)
+    let z : length prefix ≡ length t - length r = omega (arith, ap length e, length-append prefix r) in
+    subst (IsCharBoundary t) z (IsCharBoundary-at_seam t prefix r e c.as_str-rest.utf8)
 
 pub returns-in-Some : goal.returns-in-Some
 returns-in-Some c =
     let t = c.args.text.now in
     let r = c.as_str-rest.result.now in
-    let front = encode_utf8 c.in-Some.field-0 in
+    let prefix = encode_utf8 c.in-Some.field-0 in
     let e = joined c.chars-chars.result.rest.now t c.next.new.self.rest.now r c.in-Some.field-0 c.chars-chars.ensures.rest c.in-Some.ensures.steps.0 c.as_str-rest.ensures in
     record {
-      whole = ap (λ l. l ++ r) (c.range.ensures.value ∙ front_range t front r (length t - length r) (sym e) refl) ∙ sym e;
+      whole = ap (λ l. l ++ r) (c.range.ensures.value ∙ prefix_range t prefix r (length t - length r) (sym e) refl) ∙ sym e;
       shorter = char_shorter c.in-Some.field-0 t r e;
     }
 

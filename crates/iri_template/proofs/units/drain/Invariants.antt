@@ -2,7 +2,7 @@ use Rattle.std.proofs.Common.{◌-◌, ◌≤◌}
 use Rattle.iri_template.proofs.Drains.{Drained}
 use Rattle.iri_template.proofs.units.drain.Given as goal
 
--- so many units were told, and those in front of the rest were written
+-- so many units were told, and those before the rest were written
 abbrev pub invariant-units : goal.invariant-units
 invariant-units g l = record {
   most : l.told ≤ 12;

@@ -5,7 +5,7 @@ use Rattle.iri_template.proofs.ThroughEach.{HasPutUpTo}
 use Rattle.iri_template.specs.inside.UnitSteps.{unit_step, unit_step_text}
 use Rattle.iri_template.proofs.units.put_chars.Given as goal
 
--- what the characters in front of those that are left settled was written
+-- what the characters before those that are left settled was written
 abbrev pub invariant-loop-c : goal.invariant-loop-c
 invariant-loop-c g l = record {
   can : (goal.iterator-loop-c g).can_next l.c-iterator;

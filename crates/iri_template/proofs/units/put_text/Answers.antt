@@ -20,11 +20,11 @@ pub pieces-preserved : goal.pieces-preserved
 pieces-preserved g c =
     let i = c.pieces.invariant in
     let piece = c.in-Some.piece.now in
-    let behind = c.in-Some.behind.now in
+    let following = c.in-Some.following.now in
     let u : IsUtf8 piece = search rules in
-    let v : IsUtf8 behind = search rules in
+    let v : IsUtf8 following = search rules in
     let first : UnitState = record { pending = c.args.pending.now; left = c.args.left.now } in
-    let cut : chars c.pieces.rest.now ≡ chars piece ++ chars behind = ap chars (sym c.in-Some.ensures.whole) ∙ chars-append piece behind u in
+    let cut : chars c.pieces.rest.now ≡ chars piece ++ chars following = ap chars (sym c.in-Some.ensures.whole) ∙ chars-append piece following u in
     record {
       utf8 = v;
       short = c.put_piece.ensures.short;
@@ -36,11 +36,11 @@ pub returns-in_err-put_piece-clause-shows : goal.returns-in_err-put_piece-clause
 returns-in_err-put_piece-clause-shows g c =
     let i = c.pieces.invariant in
     let piece = c.in-Some.piece.now in
-    let behind = c.in-Some.behind.now in
+    let following = c.in-Some.following.now in
     let u : IsUtf8 piece = search rules in
     let first : UnitState = record { pending = c.args.pending.now; left = c.args.left.now } in
-    let cut : chars c.pieces.rest.now ≡ chars piece ++ chars behind = ap chars (sym c.in-Some.ensures.whole) ∙ chars-append piece behind u in
-    up_to_stop unit_step (unit_step_text g.S.Spec.tests) g.met.W.TextSink.rules first (chars c.args.text.now) (chars piece) (chars behind) cut
+    let cut : chars c.pieces.rest.now ≡ chars piece ++ chars following = ap chars (sym c.in-Some.ensures.whole) ∙ chars-append piece following u in
+    up_to_stop unit_step (unit_step_text g.S.Spec.tests) g.met.W.TextSink.rules first (chars c.args.text.now) (chars piece) (chars following) cut
     c.from_residual.ensures.0 i.far c.in_err-put_piece.ensures.shows
 
 pub returns-clause-shows : goal.returns-clause-shows

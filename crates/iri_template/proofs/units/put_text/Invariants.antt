@@ -4,7 +4,7 @@ use Rattle.iri_template.proofs.ThroughEach.{HasPutUpTo}
 use Rattle.iri_template.specs.inside.UnitSteps.{unit_step, unit_step_text}
 use Rattle.iri_template.proofs.units.put_text.Given as goal
 
--- what the pieces in front of the rest settled was written
+-- what the pieces before the rest settled was written
 abbrev pub invariant-pieces : goal.invariant-pieces
 invariant-pieces g l = record {
   utf8 : IsUtf8 l.rest;

@@ -1,5 +1,5 @@
 use Rattle.std.proofs.Common.{length, ap, arith, length-append}
-use Rattle.iri_grammar.specs.Cut.{before, behind, marked}
+use Rattle.iri_grammar.specs.Cut.{before, after, delimited}
 use Rattle.iri_grammar.proofs.CutLaws.{joined}
 use Rattle.iri_template.proofs.variable_list.read_first.Goals as goal
 
@@ -11,5 +11,5 @@ read_varspec-requires c =
       c.requires,
       ap length c.cut.ensures.before,
       ap length (joined 44 t),
-      length-append (before 44 t) (marked 44 (behind 44 t)),
+      length-append (before 44 t) (delimited 44 (after 44 t)),
     )

@@ -1,5 +1,5 @@
 use Rattle.std.proofs.Common.{◌≡◌, ◌++◌, take, drop}
-use Rattle.iri_grammar.specs.Marks.{before_any, from_any}
+use Rattle.iri_grammar.specs.Delimiters.{before_any, from_any}
 use Rattle.iri_template.specs.Reading.{ends_name}
 use Rattle.iri_template.proofs.varspec.name_len.Given as goal
 

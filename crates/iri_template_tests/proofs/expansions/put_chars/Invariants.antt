@@ -4,7 +4,7 @@ use Rattle.iri_template.proofs.ThroughEach.{HasPutUpTo}
 use Rattle.iri_template_tests.proofs.PlainChars.{no_step, plain_text}
 use Rattle.iri_template_tests.proofs.expansions.put_chars.Given as goal
 
--- the characters in front of those that are left were put
+-- the characters before those that are left were put
 abbrev pub invariant-loop-c : goal.invariant-loop-c
 invariant-loop-c g l = record {
   can : (goal.iterator-loop-c g).can_next l.c-iterator;

@@ -1,5 +1,5 @@
 use Rattle.std.proofs.Common.{◌≡◌, ◌++◌, ◌∙◌, Bool, true, false, not, ap, append-nil, refl, sym}
-use Rattle.iri_grammar.specs.Cut.{marked}
+use Rattle.iri_grammar.specs.Cut.{delimited}
 use Rattle.iri_grammar.specs.OptionalSlices.{now_of}
 use Rattle.iri_grammar.specs.declared.tail.Tail.{Tail}
 use Rattle.iri_grammar.specs.inside.Tails.{IsOverTail}
@@ -20,10 +20,10 @@ returns g c =
       query_triplets = not y.result.2;
       fragment_triplets = not z.result.2;
     } in
-    let mark = marked 35 (now_of z.result.0) in
+    let delimiter = delimited 35 (now_of z.result.0) in
     let none = nothing z.result.1.now (sym c.is_empty.ensures ∙ c.if-not-is_empty.false) in
-    let last = z.ensures.whole ∙ ap (λ r. mark ++ r) none ∙ append-nil mark in
-    let rest = y.ensures.whole ∙ ap (λ r. marked 63 (now_of y.result.0) ++ r) last in
+    let last = z.ensures.whole ∙ ap (λ r. delimiter ++ r) none ∙ append-nil delimiter in
+    let rest = y.ensures.whole ∙ ap (λ r. delimited 63 (now_of y.result.0) ++ r) last in
     let over : IsOverTail g.S.Spec.tests p = (x.ensures.over, y.ensures.over, z.ensures.over) in (
       over-tail g.S.Spec.tests g.met.S.Spec.lawful c.args.s.now p (x.ensures.whole ∙ ap (λ r. x.result.0.now ++ r) rest) over,
       over,

@@ -1,6 +1,6 @@
 use Rattle.std.proofs.Common.{arith, subst}
 use Rattle.std.proofs.lemmas.Str.{lead_after_ascii}
-use Rattle.iri_grammar.specs.inside.Marks.{TailAt}
+use Rattle.iri_grammar.specs.inside.Delimiters.{TailAt}
 use Rattle.iri_grammar.proofs.tail.Tail.of.Goals as goal
 
 pub range_from-rest-requires : goal.range_from-rest-requires

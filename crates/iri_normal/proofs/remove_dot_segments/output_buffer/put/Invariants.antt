@@ -4,7 +4,7 @@ use Rattle.iri_normal.specs.Target.{ends_at_slash}
 use Rattle.iri_normal.specs.inside.Written.{written}
 use Rattle.iri_normal.proofs.remove_dot_segments.output_buffer.put.Given as goal
 
--- the rest behind the buffer gives what the path gives
+-- the rest after the buffer gives what the path gives
 abbrev pub invariant-dots : goal.invariant-dots
 invariant-dots l = record {
   long : length l.buf ≡ 512;

@@ -2,11 +2,11 @@ use Rattle.std.proofs.Common.{◌≡◌, ◌≤◌, length, take}
 use Rattle.memchr.specs.Find.{Nowhere, Passes, is_byte}
 use Rattle.iri_normal.proofs.remove_dot_segments.output_buffer.rfind_near.Given as goal
 
--- no slash stands behind what is left
+-- no slash stands after what is left
 abbrev pub invariant-bytes : goal.invariant-bytes
 invariant-bytes l = record {
   within : length l.rest ≤ length l.bytes;
-  front : l.rest ≡ take (length l.rest) l.bytes;
+  prefix : l.rest ≡ take (length l.rest) l.bytes;
   none : Nowhere (Passes (is_byte 47) l.bytes) (length l.rest) (length l.bytes);
 }
 

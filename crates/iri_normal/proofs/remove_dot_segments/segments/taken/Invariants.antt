@@ -3,7 +3,7 @@ use Rattle.iri_grammar.specs.Pieces.{pieces}
 use Rattle.iri_normal.specs.Kept.{taken}
 use Rattle.iri_normal.proofs.remove_dot_segments.segments.taken.Given as goal
 
--- so many are taken back in front of what was read, and so many of it stay, before the rest takes some of these back
+-- so many are taken back before what was read, and so many of it stay, before the rest takes some of these back
 abbrev pub invariant-dots : goal.invariant-dots
 invariant-dots l = record {
   room : l.gone + l.stay + length l.rest ≤ length l.fn.text;

@@ -2,8 +2,8 @@ use Rattle.std.proofs.Common.{◌≡◌, ◌++◌, [], ◌∷◌, ◌∙◌, tru
 use Rattle.iri_grammar.specs.Classes.{path_char}
 use Rattle.iri_grammar.specs.Cut.{before}
 use Rattle.iri_grammar.specs.OptionalSlices.{now_of}
-use Rattle.iri_grammar.proofs.PiecesLaws.{behind_shorter}
-use Rattle.iri_grammar.proofs.Marks.{text_behind}
+use Rattle.iri_grammar.proofs.PiecesLaws.{after_shorter}
+use Rattle.iri_grammar.proofs.Delimiters.{text_after}
 use Rattle.iri_normal.specs.Dots.{is_dot_segment}
 use Rattle.iri_normal.specs.Target.{ends_at_slash}
 use Rattle.iri_normal.proofs.EndedLemmas.{first_whole, rest-ends}
@@ -13,21 +13,21 @@ use Rattle.iri_normal.proofs.TextLaws.{nothing_over}
 use Rattle.iri_normal.proofs.remove_dot_segments.segments.without_first_dots.Goals as goal
 
 pub dots-smaller : goal.dots-smaller
-dots-smaller g c = let e = sym c.cut.ensures.behind ∙ ap now_of c.in-Some.is in
-    omega (arith, behind_shorter 47 c.dots.rest.now c.in-Some.next.now e)
+dots-smaller g c = let e = sym c.cut.ensures.after ∙ ap now_of c.in-Some.is in
+    omega (arith, after_shorter 47 c.dots.rest.now c.in-Some.next.now e)
 
 pub dots-preserved : goal.dots-preserved
 dots-preserved g c =
     let i = c.dots.invariant in
     let t = c.dots.rest.now in
     let r = c.in-Some.next.now in
-    let e = sym c.cut.ensures.behind ∙ ap now_of c.in-Some.is in
+    let e = sym c.cut.ensures.after ∙ ap now_of c.in-Some.is in
     let d = sym (ap is_dot_segment c.cut.ensures.before) ∙ (sym c.is_dot_segment.ensures ∙ c.if-not-is_dot_segment.false) in
     record {
-      utf8 = text_behind 47 t r (omega arith) i.utf8 e;
+      utf8 = text_after 47 t r (omega arith) i.utf8 e;
       ends = λ h. rest-ends (before 47 t ++ 47 ∷ []) r (subst (λ l. ends_at_slash l ≡ true) (first_whole t r e) (i.ends h));
       path = (first-path g.S.Spec.tests t r e i.path).1;
-      room = omega (arith, i.room, behind_shorter 47 t r e);
+      room = omega (arith, i.room, after_shorter 47 t r e);
       same = sym (gone-dots t r e d) ∙ i.same;
     }
 
@@ -43,6 +43,6 @@ returns-in-None-clause-plain g c = nothing-is_no_dot
 
 pub returns-in-None-clause-same : goal.returns-in-None-clause-same
 returns-in-None-clause-same g c =
-    let e = sym c.cut.ensures.behind ∙ ap now_of c.in-None.is in
+    let e = sym c.cut.ensures.after ∙ ap now_of c.in-None.is in
     let d = sym (ap is_dot_segment c.cut.ensures.before) ∙ (sym c.is_dot_segment.ensures ∙ c.if-not-is_dot_segment.false) in
     sym (gone-all c.dots.rest.now e d) ∙ c.dots.invariant.same

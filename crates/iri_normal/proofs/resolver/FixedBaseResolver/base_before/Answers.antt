@@ -21,7 +21,7 @@ returns-then-self g c r path scheme authority fits =
     let s = g.S.Spec.tests in
     let b = split_of (base_text c.args.self.now) in
     let base = c.args.self.now.prepared in
-    merged-before s b r c.in_ok-prefix.prefix.now c.args.self.now.front.now scheme authority
+    merged-before s b r c.in_ok-prefix.prefix.now c.args.self.now.directory.now scheme authority
     (ap is_empty path ∙ not-empty c.args.path.now (sym c.if-is_empty.ensures))
     (ap starts_with_slash path ∙ sym c.if-starts_with_slash.ensures)
     (subst (λ o. IsPrefix s b (now_of o)) c.in_ok-prefix.was base.2) base.0 base.1 (sym base.3 ∙ c.if-self.true)

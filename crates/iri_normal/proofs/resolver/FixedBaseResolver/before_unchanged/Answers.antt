@@ -22,8 +22,8 @@ returns-else-seen g c =
     let fits : Fits s (split_of t) = subst (Fits s) split c.parts-parts.ensures.fits in
     let none = no_dots (split_of t).path (ap (λ (p : Parts). may_have_dots p.path) (sym split) ∙ c.seen.ensures.promises.3 c.if-seen.false) in
     matched c.before-else-seen.result
-    (λ (b : Before). StandBefore s (split_of base) (split_of t) b.prefix.now b.front.now (prefix_in s false (split_of t)))
-    (λ (b : Before). EndsCanonical s base t b.prefix.now b.front.now)
-    (λ b h. unchanged s base t b.prefix.now b.front.now g.met.S.Spec.lawful fits h none)
+    (λ (b : Before). StandBefore s (split_of base) (split_of t) b.prefix.now b.directory.now (prefix_in s false (split_of t)))
+    (λ (b : Before). EndsCanonical s base t b.prefix.now b.directory.now)
+    (λ b h. unchanged s base t b.prefix.now b.directory.now g.met.S.Spec.lawful fits h none)
     (subst (λ p. MatchOption c.before-else-seen.result (Unit {0})
-    (λ (b : Before). StandBefore s (split_of base) p b.prefix.now b.front.now (prefix_in s false p))) split c.before-else-seen.ensures)
+    (λ (b : Before). StandBefore s (split_of base) p b.prefix.now b.directory.now (prefix_in s false p))) split c.before-else-seen.ensures)

@@ -16,17 +16,17 @@ use Rattle.iri_normal.proofs.CanonLaws.{canonical_in-iri}
 use Rattle.iri_normal.proofs.resolver.FixedBaseResolver.canonical_into_in.Goals as goal
 
 -- a string may be cut where its old text ended
-seam : (old new front : List ℕ) (n : ℕ) → new ≡ old ++ front → n ≡ length old → IsUtf8 old → IsUtf8 new → IsSplitPoint new n
-seam old new front n e k u v =
-    let cut : take n new ≡ old = ap (λ i. take i new) k ∙ (ap (take (length old)) e ∙ take-append_seam old front) in
-    let long : length new ≡ length old + length front = ap length e ∙ length-append old front in
+seam : (old new directory : List ℕ) (n : ℕ) → new ≡ old ++ directory → n ≡ length old → IsUtf8 old → IsUtf8 new → IsSplitPoint new n
+seam old new directory n e k u v =
+    let cut : take n new ≡ old = ap (λ i. take i new) k ∙ (ap (take (length old)) e ∙ take-append_seam old directory) in
+    let long : length new ≡ length old + length directory = ap length e ∙ length-append old directory in
     let within : n ≤ length new = omega (arith, k, long) in
     let b = IsCharBoundary-from_take new n v within (subst IsUtf8 (sym cut) u) in (b.0, λ _. b.1)
 
 pub truncate-requires : goal.truncate-requires
 truncate-requires g c =
     let p = c.in-Err.ensures.prefix in
-    λ _. seam (string_bytes c.args.dest.now) (string_bytes c.append.new.dest) p.front (length c.as_str-len.result.now) p.appended
+    λ _. seam (string_bytes c.args.dest.now) (string_bytes c.append.new.dest) p.directory (length c.as_str-len.result.now) p.appended
     (ap length c.as_str-len.ensures.value) (IsUtf8-string_bytes c.args.dest.now) (IsUtf8-string_bytes c.append.new.dest)
 
 canonical_valid : (s : Tests) → IsSpec s → (mode : CanonMode) (b r : List ℕ) → absolute_fault s b ≡ None → reference_fault s r ≡ None

@@ -1,6 +1,6 @@
 use Rattle.iri_normal.proofs.ModeLemmas.{target-sound}
 use Rattle.iri_normal.proofs.resolver.FixedBaseResolver.resolve_split.Goals as goal
 
-pub behind-requires-clause-sound : goal.behind-requires-clause-sound
-behind-requires-clause-sound g c =
+pub after-requires-clause-sound : goal.after-requires-clause-sound
+after-requires-clause-sound g c =
     target-sound g.S.Spec.tests c.slices.result g.met.S.Spec.lawful c.slices.ensures.fits c.slices.ensures.scheme

@@ -3,7 +3,7 @@ use Rattle.iri_template.proofs.VisitsEach.{HasHeardUpTo}
 use Rattle.iri_template.specs.declared.visitor.Phase.TheVariants.{InPairs}
 use Rattle.iri_template.proofs.naive.BTreeMapVisitValueNaive.visit_value.Given as goal
 
--- the pairs in front of those that are left were told
+-- the pairs before those that are left were told
 abbrev pub invariant-loop-key : goal.invariant-loop-key
 invariant-loop-key g l =
     let v = g.V.Visitor in

@@ -3,7 +3,7 @@ use Rattle.iri_template.proofs.VisitsEach.{HasHeardUpTo}
 use Rattle.iri_template.specs.declared.visitor.Phase.TheVariants.{InList}
 use Rattle.iri_template.proofs.naive.BTreeSetVisitValueNaive.visit_value.Given as goal
 
--- the items in front of those that are left were told
+-- the items before those that are left were told
 abbrev pub invariant-loop-item : goal.invariant-loop-item
 invariant-loop-item g l =
     let v = g.V.Visitor in

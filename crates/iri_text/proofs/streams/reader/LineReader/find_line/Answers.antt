@@ -11,7 +11,7 @@ use Rattle.iri_text.specs.Source.{Consumes}
 use Rattle.iri_text.specs.Line.{LineState}
 use Rattle.iri_text.proofs.Parts.{length-part, empty-part}
 use Rattle.iri_text.proofs.Steps.{answers, few, line_says, long_says, over_says, part-kept, next_sound, next_held, next_no_lf, kept_sound}
-use Rattle.iri_text.proofs.Steps.{part-front}
+use Rattle.iri_text.proofs.Steps.{part-prefix}
 use Rattle.iri_text.proofs.streams.reader.LineReader.find_line.Goals as goal
 
 pub returns-then-self-clause-needed : goal.returns-then-self-clause-needed
@@ -76,7 +76,7 @@ loop-i-preserved g c =
     let n = c.in-Ok.n in
     let buf = c.fill.new.buf.items in
     let in_limit : s.taken ≤ s.input_limit = omega (arith, p.0, u) in
-    let kept = part-kept buf c.make_room-self-inside.new.buf.items r (r + k) (omega arith) c.fill.ensures.front
+    let kept = part-kept buf c.make_room-self-inside.new.buf.items r (r + k) (omega arith) c.fill.ensures.prefix
     ∙ c.make_room-self-inside.ensures.part in
     let len : length s.buf.items ≤ length buf = omega (arith, c.fill.ensures.len, c.make_room-self-inside.ensures.len) in
     let wide : vec_capacity s.buf ≤ vec_capacity c.fill.new.buf = omega (arith, c.fill.ensures.capacity, c.make_room-self-inside.ensures.capacity) in
@@ -102,7 +102,7 @@ find_lf-self-inside-requires-in-Ok-clause-no_lf g c =
     let r = c.make_room-self-inside.result in
     let n = c.in-Ok.n in
     let buf = c.fill.new.buf.items in
-    let kept = part-kept buf c.make_room-self-inside.new.buf.items r (r + k) (omega arith) c.fill.ensures.front
+    let kept = part-kept buf c.make_room-self-inside.new.buf.items r (r + k) (omega arith) c.fill.ensures.prefix
     ∙ c.make_room-self-inside.ensures.part in
     let len : length s.buf.items ≤ length buf = omega (arith, c.fill.ensures.len, c.make_room-self-inside.ensures.len) in
     let wide : vec_capacity s.buf ≤ vec_capacity c.fill.new.buf = omega (arith, c.fill.ensures.capacity, c.make_room-self-inside.ensures.capacity) in
@@ -121,7 +121,7 @@ invariant_of-self-in-Err g c =
     let r = c.make_room-self-inside.result in
     let buf = c.fill.new.buf.items in
     let in_limit : s.taken ≤ s.input_limit = omega (arith, p.0, u) in
-    let kept = part-kept buf c.make_room-self-inside.new.buf.items r (r + k) (omega arith) c.fill.ensures.front
+    let kept = part-kept buf c.make_room-self-inside.new.buf.items r (r + k) (omega arith) c.fill.ensures.prefix
     ∙ c.make_room-self-inside.ensures.part in
     let len : length s.buf.items ≤ length buf = omega (arith, c.fill.ensures.len, c.make_room-self-inside.ensures.len) in
     let wide : vec_capacity s.buf ≤ vec_capacity c.fill.new.buf = omega (arith, c.fill.ensures.capacity, c.make_room-self-inside.ensures.capacity) in
@@ -138,7 +138,7 @@ returns-in-Err-clause-advances g c =
     let r = c.make_room-self-inside.result in
     let buf = c.fill.new.buf.items in
     let in_limit : s.taken ≤ s.input_limit = omega (arith, p.0, u) in
-    let kept = part-kept buf c.make_room-self-inside.new.buf.items r (r + k) (omega arith) c.fill.ensures.front
+    let kept = part-kept buf c.make_room-self-inside.new.buf.items r (r + k) (omega arith) c.fill.ensures.prefix
     ∙ c.make_room-self-inside.ensures.part in
     let now : LineState = record {
       held = slice_range buf r (r + k);
@@ -168,7 +168,7 @@ returns-in-Ok-eq0-2-clause-advances g c =
     let held = slice_range s.buf.items s.start s.end in
     let in_limit : s.taken ≤ s.input_limit = omega (arith, p.0, u) in
     let kept : slice_range buf r (r + k) ≡ held = part-kept buf c.make_room-self-inside.new.buf.items r (r + k)
-    (omega arith) c.fill.ensures.front ∙ c.make_room-self-inside.ensures.part in
+    (omega arith) c.fill.ensures.prefix ∙ c.make_room-self-inside.ensures.part in
     let d = c.deref-in-Ok-eq0-2.ensures.value in
     let q = rw d at c.line_len-in-Ok-eq0-2.ensures in
     let zero : c.in-Ok-eq0.field-0 ≡ 0 = c.in-Ok-eq0.field-0-test in
@@ -184,7 +184,7 @@ returns-in-Ok-eq0-2-clause-advances g c =
       raw = held;
       whole = p.2;
       short = omega (arith, p.0, p.1);
-      line = part-front buf r (r + k) c.line_len-in-Ok-eq0-2.result (omega (arith, q.within, len)) ∙ q.line ∙ ap no_cr kept;
+      line = part-prefix buf r (r + k) c.line_len-in-Ok-eq0-2.result (omega (arith, q.within, len)) ∙ q.line ∙ ap no_cr kept;
       within = omega (arith, in_limit);
       rest = inr (
         refl,

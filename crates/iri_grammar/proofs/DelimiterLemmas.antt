@@ -1,0 +1,321 @@
+-- Where the parts of a reference end.
+use Rattle.std.proofs.Common.{◌≡◌, ℕ, zero, suc, ◌+◌, ◌<◌, Bool, true, false, cond, ◌&&◌, ◌||◌, List, [], ◌∷◌, Some, None, Option}
+use Rattle.std.proofs.Common.{MatchOption, length, take, drop, refl, sym, ap, subst, arith, add-one, ◌∙◌}
+use Rattle.std.specs.Prelude.{◌==◌, nat_lt, slice_index, is_some}
+use Rattle.std.specs.Char.{is_ascii_alphabetic}
+use Rattle.std.specs.List.{list_all}
+use Rattle.std.specs.Str.{IsUtf8}
+use Rattle.std.proofs.lemmas.Str.{IsUtf8-from_ascii}
+use Rattle.std.proofs.lemmas.Bool.{eqb-true}
+use Rattle.std.proofs.lemmas.Bool.Decides.{nat_tests}
+use Rattle.memchr.specs.Find.{is_byte2, is_byte3, IsFirstByte}
+use Rattle.iri_grammar.specs.Components.{is_letter, is_scheme, is_scheme_char}
+use Rattle.iri_grammar.specs.Authority.{or_all}
+use Rattle.iri_grammar.specs.Runs.{run_of}
+use Rattle.iri_grammar.specs.Cut.{before, from, after}
+use Rattle.iri_grammar.proofs.CutLaws.{both, test_apart}
+use Rattle.iri_grammar.specs.Parts.{starts_with_slash, starts_with_slashes}
+use Rattle.iri_grammar.specs.Split.{authority_of, hier_of}
+use Rattle.iri_grammar.proofs.SplitLaws.{letter-is_scheme_char, colon_ends}
+use Rattle.iri_grammar.specs.Delimiters.{before_any, from_any}
+use Rattle.iri_grammar.specs.inside.Delimiters.{ends_scheme, SchemeAt, NoScheme, ends_authority, AuthorityEndAt, NoAuthorityEnd}
+use Rattle.iri_grammar.specs.inside.Delimiters.{IsPastAuthority, TailAt, NoTail}
+use Rattle.iri_grammar.proofs.AuthorityTexts.{all_below}
+use Rattle.iri_grammar.proofs.CutLemmas.{false-where}
+
+-- ---- the scheme
+-- the run reaches to the end where all pass
+pub run_of_all : (p : ℕ → Bool) (xs : List ℕ) → (run_of p xs == length xs) ≡ list_all p xs
+run_of_all p [] = refl
+run_of_all p (x ∷ xs) =
+    elim (p x) as (λ b. (cond b (suc (run_of p xs)) 0 == length (x ∷ xs)) ≡ (b && list_all p xs)) [
+      | true ↦ next (run_of p xs) (length xs) ∙ run_of_all p xs
+      | false ↦ never (length xs)
+    ]
+  where
+    next : (a b : ℕ) → (suc a == suc b) ≡ (a == b)
+    next a b = grind (arith, nat_tests)
+
+    never : (b : ℕ) → (0 == suc b) ≡ false
+    never b = grind (arith, nat_tests)
+
+-- a run of bytes that pass a test, and then a byte that fails it
+record Ran (p : ℕ → Bool) (c : ℕ) (bs : List ℕ) : Type 0 where
+  prefix : take (run_of p bs) bs ≡ before c bs
+  tail : Some (drop (run_of p bs + 1) bs) ≡ after c bs
+  all : list_all p (before c bs) ≡ true
+
+ran : (p : ℕ → Bool) (c : ℕ) (bs : List ℕ) → p c ≡ false → run_of p bs < length bs → slice_index bs (run_of p bs) ≡ c → Ran p c bs
+ran p c [] n l e = absurd (omega arith)
+ran p c (x ∷ xs) n l e =
+    elim (p x) as (λ b. p x ≡ b → Ran p c (x ∷ xs)) [
+      | true ↦ λ h.
+          let miss : (x == c) ≡ false = test_apart p c x n h in
+          let r = ran p c xs n (omega (arith, rw h at l)) (rw h at e) in
+          record {
+            prefix = rw (h, miss) (ap (λ ys. x ∷ ys) r.prefix);
+            tail = rw (h, miss, add-one) (rw add-one at r.tail);
+            all = rw (miss, h) r.all;
+          }
+      | false ↦ λ h.
+          let same : x ≡ c = rw h at e in
+          let hit : (x == c) ≡ true = grind (arith, nat_tests) in
+          record { prefix = rw (h, hit) refl; tail = rw (h, hit) refl; all = rw hit refl }
+    ] refl
+
+-- the other way round
+ends : (p : ℕ → Bool) (c : ℕ) (bs : List ℕ) → p c ≡ false → list_all p (before c bs) ≡ true → is_some (after c bs) ≡ true
+    → (run_of p bs < length bs) × (slice_index bs (run_of p bs) ≡ c)
+ends p c [] n a s = cc
+ends p c (x ∷ xs) n a s =
+    elim (x == c) as (λ b. (x == c) ≡ b → (run_of p (x ∷ xs) < length (x ∷ xs)) × (slice_index (x ∷ xs) (run_of p (x ∷ xs)) ≡ c)) [
+      | true ↦ λ h. let same : x ≡ c = eqb-true x c h in let f : p x ≡ false = ap p same ∙ n in rw f (omega arith, same)
+      | false ↦ λ h.
+          let k : (p x && list_all p (before c xs)) ≡ true = rw h at a in
+          let t = both (p x) (list_all p (before c xs)) k in
+          let r = ends p c xs n t.1 (rw h at s) in
+          rw t.0 (omega (arith, r.0), r.1)
+    ] refl
+
+letter-before : (x : ℕ) (xs : List ℕ) → is_ascii_alphabetic x ≡ true → list_all is_scheme_char (before 58 (x ∷ xs)) ≡ true
+    → is_scheme (before 58 (x ∷ xs)) ≡ true
+unfolding is_letter
+letter-before x xs l a =
+    let miss : (x == 58) ≡ false = test_apart is_scheme_char 58 x colon_ends (letter-is_scheme_char x l) in
+    let k : (is_scheme_char x && list_all is_scheme_char (before 58 xs)) ≡ true = rw miss at a in
+    rw (miss, l) (both (is_scheme_char x) (list_all is_scheme_char (before 58 xs)) k).1
+
+starts_scheme : (bs : List ℕ) → is_ascii_alphabetic (slice_index bs 0) ≡ true → list_all is_scheme_char (before 58 bs) ≡ true
+    → is_scheme (before 58 bs) ≡ true
+starts_scheme [] l a = cc
+starts_scheme (x ∷ xs) l a = letter-before x xs l a
+
+three : (a b c : Bool) → (a && b && c) ≡ true → (a ≡ true) × (b ≡ true) × (c ≡ true)
+three true true c h = (refl, refl, h)
+three true false c h = cc
+three false b c h = cc
+
+below : (a b : ℕ) → nat_lt a b ≡ true → a < b
+below a b h = grind (arith, nat_tests)
+
+scheme-below : (x : ℕ) → is_scheme_char x ≡ true → x < 128
+unfolding is_scheme_char
+scheme-below x h = grind (arith, nat_tests)
+
+pub scheme_at : (bs : List ℕ) → ends_scheme bs (run_of is_scheme_char bs) ≡ true → SchemeAt bs (run_of is_scheme_char bs)
+unfolding ends_scheme
+scheme_at bs h =
+    let k = run_of is_scheme_char bs in
+    let t = three (nat_lt k (length bs)) (slice_index bs k == 58) (is_ascii_alphabetic (slice_index bs 0)) h in
+    let inside = below k (length bs) t.0 in
+    let byte = eqb-true (slice_index bs k) 58 t.1 in
+    let r = ran is_scheme_char 58 bs colon_ends inside byte in
+    let sch = starts_scheme bs t.2 r.all in
+    record {
+      inside = inside;
+      byte = byte;
+      scheme = rw (sch, ← r.tail, r.prefix) refl;
+      rest = rw (sch, ← r.tail) refl;
+      text = subst IsUtf8 (sym r.prefix) (IsUtf8-from_ascii (before 58 bs) (all_below is_scheme_char scheme-below (before 58 bs) r.all));
+    }
+
+is_scheme-first : (bs : List ℕ) → is_scheme (before 58 bs) ≡ true
+    → (is_ascii_alphabetic (slice_index bs 0) ≡ true) × (list_all is_scheme_char (before 58 bs) ≡ true)
+unfolding is_letter
+is_scheme-first [] h = cc
+is_scheme-first (x ∷ xs) h =
+    elim (x == 58) as (λ b. is_scheme (cond b [] (x ∷ before 58 xs)) ≡ true
+    → (is_ascii_alphabetic x ≡ true) × (list_all is_scheme_char (cond b [] (x ∷ before 58 xs)) ≡ true)) [
+      | true ↦ λ k. cc
+      | false ↦ λ k. let t = both (is_letter x) (list_all is_scheme_char (before 58 xs)) k in (t.0, rw (letter-is_scheme_char x t.0) t.1)
+    ] h
+
+scheme-ends : (bs : List ℕ) → is_scheme (before 58 bs) ≡ true → is_some (after 58 bs) ≡ true
+    → ends_scheme bs (run_of is_scheme_char bs) ≡ true
+unfolding ends_scheme
+scheme-ends bs h s =
+    let f = is_scheme-first bs h in
+    let e = ends is_scheme_char 58 bs colon_ends f.1 s in
+    let l : nat_lt (run_of is_scheme_char bs) (length bs) ≡ true = lt (run_of is_scheme_char bs) (length bs) e.0 in
+    rw (l, e.1, f.0) refl
+  where
+    lt : (a b : ℕ) → a < b → nat_lt a b ≡ true
+    lt a b h = grind (arith, nat_tests)
+
+none_of : (b : Bool) (o : Option (List ℕ)) (x y : List ℕ) → (b ≡ true → is_some o ≡ true → ⊥)
+    → (None ≡ cond (b && is_some o) (Some y) None) × (x ≡ cond b (or_all x o) x)
+none_of true None x y n = (refl, refl)
+none_of true (Some z) x y n = absurd (n refl refl)
+none_of false o x y n = (refl, refl)
+
+pub no_scheme : (bs : List ℕ) → ends_scheme bs (run_of is_scheme_char bs) ≡ false → NoScheme bs
+no_scheme bs h =
+    let n = none_of (is_scheme (before 58 bs)) (after 58 bs) bs (before 58 bs)
+    (λ a s. let t : true ≡ false = sym (scheme-ends bs a s) ∙ h in cc) in
+    record { scheme = n.0; rest = n.1 }
+
+-- ---- the authority
+prefix-any : (p : ℕ → Bool) (bs : List ℕ) (k : ℕ) → k < length bs → ((j : ℕ) → j < k → p (slice_index bs j) ≡ true → ⊥)
+    → p (slice_index bs k) ≡ true → (take k bs ≡ before_any p bs) × (drop k bs ≡ from_any p bs)
+prefix-any p [] k l n h = absurd (omega arith)
+prefix-any p (x ∷ xs) zero l n h = rw h (refl, refl)
+prefix-any p (x ∷ xs) (suc k) l n h =
+    let miss : p x ≡ false = false-where (p x) (n 0 (omega arith)) in
+    let r = prefix-any p xs k (omega arith) (λ j b. n (suc j) (omega arith)) h in
+    rw miss (ap (λ ys. x ∷ ys) r.0, r.1)
+
+none-any : (p : ℕ → Bool) (bs : List ℕ) → ((j : ℕ) → j < length bs → p (slice_index bs j) ≡ true → ⊥)
+    → (bs ≡ before_any p bs) × ([] ≡ from_any p bs)
+none-any p [] n = (refl, refl)
+none-any p (x ∷ xs) n =
+    let miss : p x ≡ false = false-where (p x) (n 0 (omega arith)) in
+    let r = none-any p xs (λ j b. n (suc j) (omega arith)) in
+    rw miss (ap (λ ys. x ∷ ys) r.0, r.1)
+
+-- what `memchr3` says, in these words
+pub authority_end : (bs : List ℕ) (r : Option ℕ) → IsFirstByte (is_byte3 47 63 35) bs r
+    → MatchOption r (NoAuthorityEnd bs) (λ k. AuthorityEndAt bs k)
+authority_end bs None h = let n = none-any ends_authority bs (λ j b. h j (omega arith) b) in record { prefix = n.0; rest = n.1 }
+authority_end bs (Some k) h =
+    let f = prefix-any ends_authority bs k h.0.high (λ j b. h.0.before j (omega arith) b) h.1 in
+    record { inside = h.0.high; ascii = below_three (slice_index bs k) h.1; prefix = f.0; rest = f.1 }
+  where
+    below_three : (x : ℕ) → (x == 47 || x == 63 || x == 35) ≡ true → x < 128
+    below_three x e = grind (arith, nat_tests)
+
+-- the delimiters in a text that follows `//`
+record AtDelimiters (xs : List ℕ) : Type 0 where
+  prefix : before_any ends_authority xs ≡ before 47 (hier_of xs)
+  path : hier_of (from_any ends_authority xs) ≡ from 47 (hier_of xs)
+  query : after 63 (before 35 (from_any ends_authority xs)) ≡ after 63 (before 35 xs)
+  fragment : after 35 (from_any ends_authority xs) ≡ after 35 xs
+
+at_delimiters : (xs : List ℕ) → AtDelimiters xs
+at_delimiters [] = record { prefix = refl; path = refl; query = refl; fragment = refl }
+at_delimiters (x ∷ xs) =
+    elim (x == 47) as (λ b. (x == 47) ≡ b → AtDelimiters (x ∷ xs)) [
+      | true ↦ λ e. subst (λ n. AtDelimiters (n ∷ xs)) (sym (eqb-true x 47 e))
+          (record { prefix = refl; path = refl; query = refl; fragment = refl })
+      | false ↦ λ a. elim (x == 63) as (λ b. (x == 63) ≡ b → AtDelimiters (x ∷ xs)) [
+        | true ↦ λ e. subst (λ n. AtDelimiters (n ∷ xs)) (sym (eqb-true x 63 e))
+            (record { prefix = refl; path = refl; query = refl; fragment = refl })
+        | false ↦ λ b. elim (x == 35) as (λ b. (x == 35) ≡ b → AtDelimiters (x ∷ xs)) [
+          | true ↦ λ e. subst (λ n. AtDelimiters (n ∷ xs)) (sym (eqb-true x 35 e))
+              (record { prefix = refl; path = refl; query = refl; fragment = refl })
+          | false ↦ λ c.
+              let r = at_delimiters xs in
+              record {
+                prefix = rw (c, b, a) (ap (λ ys. x ∷ ys) r.prefix);
+                path = rw (c, b, a) r.path;
+                query = rw (c, b, a) r.query;
+                fragment = rw (c, b, a) r.fragment;
+              }
+        ] refl
+      ] refl
+    ] refl
+
+-- the authority of a text that begins with `//`
+pub past_authority : (xs : List ℕ) → (Some (before_any ends_authority xs) ≡ authority_of (hier_of (47 ∷ 47 ∷ xs)))
+    × IsPastAuthority (47 ∷ 47 ∷ xs) (from_any ends_authority xs)
+past_authority xs = let r = at_delimiters xs in (ap Some r.prefix, record { path = r.path; query = r.query; fragment = r.fragment })
+
+-- what a delimiter in one of the first two places leaves
+slash_or_delimiter : (x : ℕ) (xs : List ℕ) → starts_with_slash (hier_of (x ∷ xs)) ≡ (x == 47)
+slash_or_delimiter x xs =
+    elim (x == 35) as (λ b. (x == 35) ≡ b → starts_with_slash (hier_of (x ∷ xs)) ≡ (x == 47)) [
+      | true ↦ λ e. subst (λ n. starts_with_slash (hier_of (n ∷ xs)) ≡ (n == 47)) (sym (eqb-true x 35 e)) refl
+      | false ↦ λ c. elim (x == 63) as (λ b. (x == 63) ≡ b → starts_with_slash (hier_of (x ∷ xs)) ≡ (x == 47)) [
+        | true ↦ λ e. subst (λ n. starts_with_slash (hier_of (n ∷ xs)) ≡ (n == 47)) (sym (eqb-true x 63 e)) refl
+        | false ↦ λ b. rw (c, b) refl
+      ] refl
+    ] refl
+
+slashes_or_delimiter : (x : ℕ) (xs : List ℕ) → starts_with_slashes (hier_of (x ∷ xs)) ≡ (x == 47 && starts_with_slash (hier_of xs))
+slashes_or_delimiter x xs =
+    elim (x == 35) as (λ b. (x == 35) ≡ b → starts_with_slashes (hier_of (x ∷ xs)) ≡ (x == 47 && starts_with_slash (hier_of xs))) [
+      | true ↦ λ e. subst (λ n. starts_with_slashes (hier_of (n ∷ xs)) ≡ (n == 47 && starts_with_slash (hier_of xs)))
+          (sym (eqb-true x 35 e)) refl
+      | false ↦ λ c. elim (x == 63) as (λ b. (x == 63) ≡ b
+          → starts_with_slashes (hier_of (x ∷ xs)) ≡ (x == 47 && starts_with_slash (hier_of xs))) [
+            | true ↦ λ e. subst (λ n. starts_with_slashes (hier_of (n ∷ xs)) ≡ (n == 47 && starts_with_slash (hier_of xs)))
+                (sym (eqb-true x 63 e)) refl
+            | false ↦ λ b. rw (c, b) refl
+          ] refl
+    ] refl
+
+slashes-hier : (bs : List ℕ) → starts_with_slashes (hier_of bs) ≡ starts_with_slashes bs
+slashes-hier [] = refl
+slashes-hier (x ∷ []) = slashes_or_delimiter x []
+slashes-hier (x ∷ y ∷ xs) = slashes_or_delimiter x (y ∷ xs) ∙ ap (λ b. x == 47 && b) (slash_or_delimiter y xs)
+
+-- a text that doesn't begin with `//`
+pub no_authority : (bs : List ℕ) → starts_with_slashes bs ≡ false → (None ≡ authority_of (hier_of bs)) × IsPastAuthority bs bs
+no_authority bs h =
+    let e : starts_with_slashes (hier_of bs) ≡ false = slashes-hier bs ∙ h in
+    rw e (refl, record { path = rw e refl; query = refl; fragment = refl })
+
+pub no_slashes : (bs : List ℕ) → ((r : List ℕ) → bs ≡ 47 ∷ 47 ∷ r → ⊥) → starts_with_slashes bs ≡ false
+no_slashes [] n = refl
+no_slashes (x ∷ []) n = elim (x == 47) as (λ b. (b && false) ≡ false) [ true ↦ refl | false ↦ refl ]
+no_slashes (x ∷ y ∷ xs) n = false-where (x == 47 && y == 47)
+    (λ e. let t = both (x == 47) (y == 47) e in n xs (two (eqb-true x 47 t.0) (eqb-true y 47 t.1)))
+  where
+    two : x ≡ 47 → y ≡ 47 → (x ∷ y ∷ xs) ≡ 47 ∷ 47 ∷ xs
+    two a b = rw (a, b) refl
+
+-- ---- query and fragment
+tail_at : (bs : List ℕ) (k : ℕ) → k < length bs → ((j : ℕ) → j < k → is_byte2 63 35 (slice_index bs j) ≡ true → ⊥)
+    → is_byte2 63 35 (slice_index bs k) ≡ true → TailAt bs k
+tail_at [] k l n h = absurd (omega arith)
+tail_at (x ∷ xs) zero l n h =
+    elim (x == 63) as (λ b. (x == 63) ≡ b → TailAt (x ∷ xs) 0) [
+      | true ↦ λ e. subst (λ n. TailAt (n ∷ xs) 0) (sym (eqb-true x 63 e))
+          (record { inside = omega arith; ascii = omega arith; prefix = refl; at_query = λ _. (refl, refl); at_fragment = λ k. cc })
+      | false ↦ λ e.
+          let t : (x == 35) ≡ true = rw e at h in
+          subst (λ n. TailAt (n ∷ xs) 0) (sym (eqb-true x 35 t))
+          (record { inside = omega arith; ascii = omega arith; prefix = refl; at_query = λ k. cc; at_fragment = λ _. (refl, refl) })
+    ] refl
+tail_at (x ∷ xs) (suc k) l n h =
+    let m : (x == 63 || x == 35) ≡ false = false-where (x == 63 || x == 35) (n 0 (omega arith)) in
+    let a : (x == 63) ≡ false = neither-l (x == 63) (x == 35) m in
+    let b : (x == 35) ≡ false = neither-r (x == 63) (x == 35) m in
+    let r = tail_at xs k (omega arith) (λ j c. n (suc j) (omega arith)) h in
+    let e : drop (suc k + 1) (x ∷ xs) ≡ drop (k + 1) xs = simp add-one in
+    record {
+      inside = l;
+      ascii = r.ascii;
+      prefix = rw (b, a) (ap (λ ys. x ∷ ys) r.prefix);
+      at_query = λ q. let t = r.at_query q in rw (b, a, e) t;
+      at_fragment = λ q. let t = r.at_fragment q in rw (b, a, e) t;
+    }
+  where
+    neither-l : (p q : Bool) → (p || q) ≡ false → p ≡ false
+    neither-l true q h = cc
+    neither-l false q h = refl
+
+    neither-r : (p q : Bool) → (p || q) ≡ false → q ≡ false
+    neither-r true q h = cc
+    neither-r false q h = h
+
+no_tail : (bs : List ℕ) → ((j : ℕ) → j < length bs → is_byte2 63 35 (slice_index bs j) ≡ true → ⊥) → NoTail bs
+no_tail [] n = record { prefix = refl; query = refl; fragment = refl }
+no_tail (x ∷ xs) n =
+    let m : (x == 63 || x == 35) ≡ false = false-where (x == 63 || x == 35) (n 0 (omega arith)) in
+    let a : (x == 63) ≡ false = neither-l (x == 63) (x == 35) m in
+    let b : (x == 35) ≡ false = neither-r (x == 63) (x == 35) m in
+    let r = no_tail xs (λ j c. n (suc j) (omega arith)) in
+    record { prefix = rw (b, a) (ap (λ ys. x ∷ ys) r.prefix); query = rw (b, a) r.query; fragment = rw b r.fragment }
+  where
+    neither-l : (p q : Bool) → (p || q) ≡ false → p ≡ false
+    neither-l true q h = cc
+    neither-l false q h = refl
+
+    neither-r : (p q : Bool) → (p || q) ≡ false → q ≡ false
+    neither-r true q h = cc
+    neither-r false q h = h
+
+-- what `memchr2` says, in these words
+pub tail_found : (bs : List ℕ) (r : Option ℕ) → IsFirstByte (is_byte2 63 35) bs r → MatchOption r (NoTail bs) (λ k. TailAt bs k)
+tail_found bs None h = no_tail bs (λ j b. h j (omega arith) b)
+tail_found bs (Some k) h = tail_at bs k h.0.high (λ j b. h.0.before j (omega arith) b) h.1

@@ -1,0 +1,25 @@
+-- What stands beside an ASCII delimiter is a text.
+use Rattle.std.proofs.Common.{◌≡◌, ℕ, ◌+◌, ◌<◌, List, [], ◌∷◌, ◌++◌, Some, length, drop, get_or, sym, ◌∙◌, ap, subst, arith, length-append}
+use Rattle.std.proofs.Common.{append_assoc}
+use Rattle.std.specs.Str.{IsUtf8}
+use Rattle.std.proofs.lemmas.List.{drop_at}
+use Rattle.std.proofs.Math.Seq.{get_or-append_seam}
+use Rattle.std.proofs.lemmas.Str.{IsUtf8-drop, IsCharBoundary-after_ascii}
+use Rattle.iri_grammar.specs.Cut.{before, after, delimited}
+use Rattle.iri_grammar.proofs.CutLaws.{joined}
+
+pub text_after_delimiter : (c : ℕ) (b r : List ℕ) → c < 128 → IsUtf8 (b ++ c ∷ r) → IsUtf8 r
+text_after_delimiter c b r l u =
+    let t = b ++ c ∷ r in
+    let at : get_or t (length b) 0 ≡ c = get_or-append_seam b c r 0 in
+    let inside : length b < length t = omega (arith, length-append b (c ∷ r)) in
+    let whole : (b ++ c ∷ []) ++ r ≡ t = append_assoc b (c ∷ []) r in
+    let rest : drop (length b + 1) t ≡ r = ap (drop (length b + 1)) (sym whole)
+    ∙ drop_at (b ++ c ∷ []) r (length b + 1) (length-append b (c ∷ [])) in
+    subst IsUtf8 rest (IsUtf8-drop t (length b + 1) u (IsCharBoundary-after_ascii t (length b) u inside (omega (arith, at))))
+
+-- what follows the first delimiter
+pub text_after : (c : ℕ) (t r : List ℕ) → c < 128 → IsUtf8 t → after c t ≡ Some r → IsUtf8 r
+text_after c t r l u e =
+    let whole : before c t ++ c ∷ r ≡ t = ap (λ o. before c t ++ delimited c o) (sym e) ∙ joined c t in
+    text_after_delimiter c (before c t) r l (subst IsUtf8 (sym whole) u)

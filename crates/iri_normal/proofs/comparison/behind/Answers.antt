@@ -1,5 +1,0 @@
-use Rattle.iri_normal.proofs.ComparedLemmas.{stripped}
-use Rattle.iri_normal.proofs.comparison.behind.Goals as goal
-
-pub returns : goal.returns
-returns c = stripped c.strip_prefix.result c.args.text.now c.args.piece.now c.strip_prefix.ensures.cases

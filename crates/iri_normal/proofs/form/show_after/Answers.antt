@@ -1,0 +1,29 @@
+use Rattle.std.proofs.Common.{◌++◌, subst}
+use Rattle.iri_text.proofs.Compose.{shows_exit, shows_then}
+use Rattle.iri_text.specs.Shown.{Shows}
+use Rattle.iri_grammar.specs.Cut.{delimited}
+use Rattle.iri_percent.specs.Triplets.{pct}
+use Rattle.iri_normal.specs.Modes.{is_normalizing}
+use Rattle.iri_normal.specs.NormalForm.{part_in, path_in}
+use Rattle.iri_normal.specs.Slices.{slices}
+use Rattle.iri_normal.proofs.PrefixLemmas.{prefix-form}
+use Rattle.iri_normal.proofs.form.show_after.Goals as goal
+
+pub returns-in_err-put : goal.returns-in_err-put
+returns-in_err-put g c =
+    let s = g.S.Spec.tests in
+    let mode = c.args.mode in
+    let t = slices c.args.target.now in
+    let n = is_normalizing mode in
+    let tail = path_in s mode c.args.whole t.authority t.path
+    ++ (delimited 63 (part_in n (pct s) t.query) ++ delimited 35 (part_in n (pct s) t.fragment)) in
+    subst (λ x. Shows g.W.TextSink.puts g.W.TextSink.halts g.W.TextSink.stops c.args.sink.now x c.put.new.self c.from_residual.result)
+    (prefix-form s mode c.args.whole t c.args.prefix.now c.requires.mode c.requires.prefix)
+    (shows_exit g.met.W.TextSink.rules tail c.from_residual.ensures.0 c.in_err-put.ensures)
+
+pub returns : goal.returns
+returns g c =
+    let t = slices c.args.target.now in
+    subst (λ x. Shows g.W.TextSink.puts g.W.TextSink.halts g.W.TextSink.stops c.args.sink.now x c.show_from_path.new.sink c.show_from_path.result)
+    (prefix-form g.S.Spec.tests c.args.mode c.args.whole t c.args.prefix.now c.requires.mode c.requires.prefix)
+    (shows_then g.met.W.TextSink.rules c.in_ok-put.ensures c.show_from_path.ensures)

@@ -1,0 +1,5 @@
+use Rattle.iri_percent.proofs.DelimiterLaws.{pct_delimiter}
+use Rattle.iri_percent.proofs.laws.delimiters_part_triplet_forms.Goals as goal
+
+pub returns : goal.returns
+returns g c m a b k = pct_delimiter g.S.Spec.tests m a b k
