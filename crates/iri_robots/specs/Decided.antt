@@ -6,13 +6,13 @@ use Rattle.iri_grammar.specs.Characters.{asterisk, percent_sign}
 use Rattle.iri_robots.specs.Patterns.{dollar_sign, digit_two, digit_four, capital_a, is_anchored, without_anchor}
 use Rattle.iri_robots.specs.Records.{FileRule}
 
--- what a pattern is made of: a `*`, an escape with this letter of this special, any other character
+-- what a pattern is made of: a `*`, an escape with this letter of this special character, any other character
 pub data Piece : Type 0 where
   AnyText : Piece
   Escape : (letter special : ℕ) → Piece
   Character : (c : ℕ) → Piece
 
--- the special that an escape of these characters stands for
+-- the special character that an escape of these characters stands for
 unfoldable pub special_of : ℕ → ℕ → ℕ → Option ℕ
 special_of c d e =
     cond (c == percent_sign && d == digit_two) (cond (e == capital_a) (Some asterisk) (cond (e == digit_four) (Some dollar_sign) None)) None

@@ -3,7 +3,7 @@ use Rattle.std.specs.Prelude.{◌≡◌, ◌≢◌, ℕ, ◌<◌, ◌≤◌, Boo
 use Rattle.iri_grammar.specs.Characters.{asterisk, percent_sign}
 use Rattle.iri_robots.specs.Patterns.{dollar_sign, digit_two, digit_four, capital_a}
 
--- the letter of an escape `%2A` or `%24`, and the special that it stands for
+-- the letter of an escape `%2A` or `%24`, and the special character that it stands for
 pub data IsEscape : ℕ → ℕ → Type 0 where
   star_escape : IsEscape capital_a asterisk
   dollar_escape : IsEscape digit_four dollar_sign
@@ -44,7 +44,7 @@ pub record StopsAtStar (anchored : Bool) (q s q' s' : List ℕ) : Type 0 where
   pub shorter : length q' < length q
   pub within : length s' ≤ length s
 
--- the pattern begins with the escape of this special
+-- the pattern begins with the escape of this special character
 pub record EscapeOf (q : List ℕ) (m : ℕ) : Type 0 where
   pub letter : ℕ
   pub rest : List ℕ
