@@ -22,7 +22,7 @@ use Rattle.iri_percent.proofs.UnitTexts.{units-text}
 use Rattle.iri_percent.specs.CharUnits.{by_character, first_char_unit, char_unit_text, char_units_from, char_units, plains, byte_units}
 use Rattle.iri_grammar.proofs.Units.{past_hex as high_no_hex}
 
--- ---- digits suffix a `%`
+-- ---- digits after a `%`
 no_two : (x : ℕ) (xs : List ℕ) → is_ascii_hexdigit x ≡ false → two_digits (x ∷ xs) ≡ false
 no_two x [] h = refl
 no_two x (y ∷ xs) h = rw h refl

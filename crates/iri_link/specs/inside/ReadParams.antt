@@ -37,7 +37,7 @@ pub record ReadsParam (t rest : List ℕ) (q : LinkParam) : Type 0 where
   pub param : IsParam prefix q
   pub goes : (s : Tests) → fault_from s in_name t ≡ fault_from s after_param rest
 
--- t is what stands following a `;` and blanks, and a rest
+-- t is what stands after a `;` and blanks, and a rest
 pub record AddsParam (t rest : List ℕ) (old new : List LinkParam) : Type 0 where
   pub prefix : List ℕ
   pub whole : t ≡ prefix ++ rest
