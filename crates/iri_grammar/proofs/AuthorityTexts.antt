@@ -178,15 +178,15 @@ host-utf8 s xs h =
       | false ↦ λ _ k. text_over-utf8 (reg_name_char s) xs k
     ] refl h
 
-nothing : IsUtf8 []
-nothing = IsUtf8-from_ascii [] (λ i. omega arith)
+pub nothing-utf8 : IsUtf8 []
+nothing-utf8 = IsUtf8-from_ascii [] (λ i. omega arith)
 
 port_text-utf8 : (o : Option (List ℕ)) → if_there is_port o ≡ true → IsUtf8 (delimited 58 o)
-port_text-utf8 None h = nothing
+port_text-utf8 None h = nothing-utf8
 port_text-utf8 (Some xs) h = delimited-utf8 58 xs (omega arith) (port-utf8 xs h)
 
 userinfo_text-utf8 : (s : Tests) (o : Option (List ℕ)) → if_there (is_userinfo s) o ≡ true → IsUtf8 (userinfo_text o)
-userinfo_text-utf8 s None h = nothing
+userinfo_text-utf8 s None h = nothing-utf8
 userinfo_text-utf8 s (Some xs) h = IsUtf8-append xs (64 ∷ []) (text_over-utf8 (userinfo_char s) xs h) (one_byte-utf8 64 (omega arith))
 
 pub authority-utf8 : (s : Tests) (xs : List ℕ) → is_authority s xs ≡ true → IsUtf8 xs

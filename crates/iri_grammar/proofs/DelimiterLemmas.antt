@@ -8,7 +8,7 @@ use Rattle.std.specs.Str.{IsUtf8}
 use Rattle.std.proofs.lemmas.Str.{IsUtf8-from_ascii}
 use Rattle.std.proofs.lemmas.Bool.{eqb-true}
 use Rattle.std.proofs.lemmas.Bool.Decides.{nat_tests}
-use Rattle.memchr.specs.Find.{is_byte2, is_byte3, IsFirstByte}
+use Rattle.memchr.specs.Find.{is_byte3, IsFirstByte}
 use Rattle.iri_grammar.specs.Components.{is_letter, is_scheme, is_scheme_char}
 use Rattle.iri_grammar.specs.Authority.{or_all}
 use Rattle.iri_grammar.specs.Runs.{run_of}
@@ -19,7 +19,7 @@ use Rattle.iri_grammar.specs.Split.{authority_of, hier_of}
 use Rattle.iri_grammar.proofs.SplitLaws.{letter-is_scheme_char, colon_ends}
 use Rattle.iri_grammar.specs.Delimiters.{before_any, from_any}
 use Rattle.iri_grammar.specs.inside.Delimiters.{ends_scheme, SchemeAt, NoScheme, ends_authority, AuthorityEndAt, NoAuthorityEnd}
-use Rattle.iri_grammar.specs.inside.Delimiters.{IsPastAuthority, TailAt, NoTail}
+use Rattle.iri_grammar.specs.inside.Delimiters.{IsPastAuthority}
 use Rattle.iri_grammar.proofs.AuthorityTexts.{all_below}
 use Rattle.iri_grammar.proofs.CutLemmas.{false-where}
 
@@ -253,69 +253,3 @@ pub no_authority : (bs : List ℕ) → starts_with_slashes bs ≡ false → (Non
 no_authority bs h =
     let e : starts_with_slashes (hier_of bs) ≡ false = slashes-hier bs ∙ h in
     rw e (refl, record { path = rw e refl; query = refl; fragment = refl })
-
-pub no_slashes : (bs : List ℕ) → ((r : List ℕ) → bs ≡ 47 ∷ 47 ∷ r → ⊥) → starts_with_slashes bs ≡ false
-no_slashes [] n = refl
-no_slashes (x ∷ []) n = elim (x == 47) as (λ b. (b && false) ≡ false) [ true ↦ refl | false ↦ refl ]
-no_slashes (x ∷ y ∷ xs) n = false-where (x == 47 && y == 47)
-    (λ e. let t = both (x == 47) (y == 47) e in n xs (two (eqb-true x 47 t.0) (eqb-true y 47 t.1)))
-  where
-    two : x ≡ 47 → y ≡ 47 → (x ∷ y ∷ xs) ≡ 47 ∷ 47 ∷ xs
-    two a b = rw (a, b) refl
-
--- ---- query and fragment
-tail_at : (bs : List ℕ) (k : ℕ) → k < length bs → ((j : ℕ) → j < k → is_byte2 63 35 (slice_index bs j) ≡ true → ⊥)
-    → is_byte2 63 35 (slice_index bs k) ≡ true → TailAt bs k
-tail_at [] k l n h = absurd (omega arith)
-tail_at (x ∷ xs) zero l n h =
-    elim (x == 63) as (λ b. (x == 63) ≡ b → TailAt (x ∷ xs) 0) [
-      | true ↦ λ e. subst (λ n. TailAt (n ∷ xs) 0) (sym (eqb-true x 63 e))
-          (record { inside = omega arith; ascii = omega arith; prefix = refl; at_query = λ _. (refl, refl); at_fragment = λ k. cc })
-      | false ↦ λ e.
-          let t : (x == 35) ≡ true = rw e at h in
-          subst (λ n. TailAt (n ∷ xs) 0) (sym (eqb-true x 35 t))
-          (record { inside = omega arith; ascii = omega arith; prefix = refl; at_query = λ k. cc; at_fragment = λ _. (refl, refl) })
-    ] refl
-tail_at (x ∷ xs) (suc k) l n h =
-    let m : (x == 63 || x == 35) ≡ false = false-where (x == 63 || x == 35) (n 0 (omega arith)) in
-    let a : (x == 63) ≡ false = neither-l (x == 63) (x == 35) m in
-    let b : (x == 35) ≡ false = neither-r (x == 63) (x == 35) m in
-    let r = tail_at xs k (omega arith) (λ j c. n (suc j) (omega arith)) h in
-    let e : drop (suc k + 1) (x ∷ xs) ≡ drop (k + 1) xs = simp add-one in
-    record {
-      inside = l;
-      ascii = r.ascii;
-      prefix = rw (b, a) (ap (λ ys. x ∷ ys) r.prefix);
-      at_query = λ q. let t = r.at_query q in rw (b, a, e) t;
-      at_fragment = λ q. let t = r.at_fragment q in rw (b, a, e) t;
-    }
-  where
-    neither-l : (p q : Bool) → (p || q) ≡ false → p ≡ false
-    neither-l true q h = cc
-    neither-l false q h = refl
-
-    neither-r : (p q : Bool) → (p || q) ≡ false → q ≡ false
-    neither-r true q h = cc
-    neither-r false q h = h
-
-no_tail : (bs : List ℕ) → ((j : ℕ) → j < length bs → is_byte2 63 35 (slice_index bs j) ≡ true → ⊥) → NoTail bs
-no_tail [] n = record { prefix = refl; query = refl; fragment = refl }
-no_tail (x ∷ xs) n =
-    let m : (x == 63 || x == 35) ≡ false = false-where (x == 63 || x == 35) (n 0 (omega arith)) in
-    let a : (x == 63) ≡ false = neither-l (x == 63) (x == 35) m in
-    let b : (x == 35) ≡ false = neither-r (x == 63) (x == 35) m in
-    let r = no_tail xs (λ j c. n (suc j) (omega arith)) in
-    record { prefix = rw (b, a) (ap (λ ys. x ∷ ys) r.prefix); query = rw (b, a) r.query; fragment = rw b r.fragment }
-  where
-    neither-l : (p q : Bool) → (p || q) ≡ false → p ≡ false
-    neither-l true q h = cc
-    neither-l false q h = refl
-
-    neither-r : (p q : Bool) → (p || q) ≡ false → q ≡ false
-    neither-r true q h = cc
-    neither-r false q h = h
-
--- what `memchr2` says, in these words
-pub tail_found : (bs : List ℕ) (r : Option ℕ) → IsFirstByte (is_byte2 63 35) bs r → MatchOption r (NoTail bs) (λ k. TailAt bs k)
-tail_found bs None h = no_tail bs (λ j b. h j (omega arith) b)
-tail_found bs (Some k) h = tail_at bs k h.0.high (λ j b. h.0.before j (omega arith) b) h.1

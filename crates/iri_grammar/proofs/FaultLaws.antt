@@ -24,6 +24,7 @@ use Rattle.iri_grammar.specs.Fault.{first, unless, part_fault, scheme_fault, use
 use Rattle.iri_grammar.specs.Fault.{fragment_fault, bytes_fault}
 use Rattle.iri_grammar.specs.WholeFault.{colon_allowed, fault_before_fragment, parts_fault, missing_scheme_fault, reference_fault, iri_fault}
 use Rattle.iri_grammar.specs.WholeFault.{absolute_fault, relative_fault}
+use Rattle.iri_grammar.specs.inside.Scans.{absolute_kind}
 
 -- ---- faults that are none
 pub neither : (a b : Option ErrorKind) → first a b ≡ None → (a ≡ None) × (b ≡ None)
@@ -279,6 +280,64 @@ absolute-law s k t = (
   λ r. both_none (missing_scheme_fault t) (parts_fault s (λ _. Some UnexpectedFragment) (split_of t)) (no_missing_scheme s t r.0 r.1 r.2)
       (absolute-no_fault s k t r.0 r.1 r.3),
 )
+
+-- a fault of another part than the fragment
+abbrev Kept : Option ErrorKind → Type 0
+Kept o = (k : ErrorKind) → o ≡ Some k → absolute_kind k ≡ k
+
+kept-unless : (b : Bool) (e : ErrorKind) → absolute_kind e ≡ e → Kept (unless b e)
+kept-unless true e h k n = cc
+kept-unless false e h k n = subst Kept-at (some-is e k n) h
+  where
+    Kept-at : ErrorKind → Type 0
+    Kept-at k = absolute_kind k ≡ k
+
+    some-is : (a b : ErrorKind) → Some a ≡ Some b → a ≡ b
+    some-is a b h = cc
+
+kept-first : (a b : Option ErrorKind) → Kept a → Kept b → Kept (first a b)
+kept-first None b h k = k
+kept-first (Some e) b h k = h
+
+kept-part : (f : List ℕ → Option ErrorKind) (o : Option (List ℕ)) → ((x : List ℕ) → Kept (f x)) → Kept (part_fault f o)
+kept-part f None h k n = cc
+kept-part f (Some x) h k n = h x k n
+
+kept-before : (s : Tests) (p : Parts) → Kept (fault_before_fragment s p)
+unfolding fault_before_fragment
+kept-before s p =
+    kept-first (part_fault (authority_fault s) p.authority) _ (kept-part (authority_fault s) p.authority
+    (λ x. kept-first (part_fault (userinfo_fault s) (authority_parts x).userinfo) _
+    (kept-part (userinfo_fault s) (authority_parts x).userinfo (λ u. kept-unless (is_userinfo s u) InvalidUserInfo refl))
+    (kept-unless (is_host s (authority_parts x).host) InvalidHost refl)))
+    (kept-first (unless (is_path s p.path && colon_allowed p) InvalidPath) _ (kept-unless (is_path s p.path && colon_allowed p) InvalidPath refl)
+    (kept-part (query_fault s) p.query (λ q. kept-unless (is_query s q) InvalidQuery refl)))
+
+-- the fault of a reference tells that of an `absolute-URI`
+pub absolute-from : (s : Tests) (p : Parts) (k : ErrorKind) → parts_fault s (fragment_fault s) p ≡ Some k
+    → parts_fault s (λ _. Some UnexpectedFragment) p ≡ Some (absolute_kind k)
+unfolding parts_fault
+absolute-from s p k = at (fault_before_fragment s p) p.fragment (kept-before s p)
+  where
+    unexpected : (b : Bool) → unless b InvalidFragment ≡ Some k → Some UnexpectedFragment ≡ Some (absolute_kind k)
+    unexpected true n = cc
+    unexpected false n = ap (λ o. Some (kind-of o)) n
+      where
+        kind-of : Option ErrorKind → ErrorKind
+        kind-of None = UnexpectedFragment
+        kind-of (Some k) = absolute_kind k
+
+    at : (o : Option ErrorKind) (f : Option (List ℕ)) → Kept o → first o (part_fault (fragment_fault s) f) ≡ Some k
+        → first o (part_fault (λ _. Some UnexpectedFragment) f) ≡ Some (absolute_kind k)
+    at (Some e) f h n = n ∙ ap Some (sym (h k n))
+    at None None h n = cc
+    at None (Some x) h n = unexpected (is_fragment s x) n
+
+-- and where there is none, a fragment alone is left to be one
+pub absolute-beside : (s : Tests) (p : Parts) → parts_fault s (fragment_fault s) p ≡ None
+    → parts_fault s (λ _. Some UnexpectedFragment) p ≡ part_fault (λ _. Some UnexpectedFragment) p.fragment
+unfolding parts_fault
+absolute-beside s p h = rw (neither (fault_before_fragment s p) (part_fault (fragment_fault s) p.fragment) h).0 refl
 
 -- ---- `relative-ref`
 relative-fits : (s : Tests) (t : List ℕ) → NoFault s (fragment_fault s) (relative_split_of t) → Fits s (relative_split_of t)

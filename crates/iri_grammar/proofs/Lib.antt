@@ -28,6 +28,7 @@ pub mod OverLaws
 pub mod PiecesLaws
 pub mod Ranges
 pub mod RunBlocks
+pub mod Scans
 pub mod SplitLaws
 pub mod SplitUnique
 pub mod TextParts

@@ -1,39 +1,34 @@
 -- Parts that are made of ASCII characters of their classes alone.
 use Rattle.std.proofs.Common.{◌≡◌, ℕ, suc, Bool, true, false, cond, List, [], ◌∷◌, ◌++◌, Option, Some, None, length, take, drop, refl, sym}
-use Rattle.std.proofs.Common.{◌∙◌, ◌||◌, ap, append_assoc, append-nil, arith}
-use Rattle.std.specs.Prelude.{◌==◌}
+use Rattle.std.proofs.Common.{◌∙◌, ◌||◌, ap, append-nil}
 use Rattle.std.specs.List.{list_all}
 use Rattle.std.specs.Str.{chars}
 use Rattle.std.proofs.lemmas.Str.{IsUtf8-from_ascii}
 use Rattle.std.proofs.lemmas.Bool.{eqb-true}
 use Rattle.iri_grammar.specs.Authority.{recompose_authority}
-use Rattle.iri_grammar.specs.Classes.{Tests, IsSpec, path_char, is_ascii_reg_name, is_ascii_userinfo, is_ascii_unreserved, is_sub_delim}
+use Rattle.iri_grammar.specs.Classes.{Tests, IsSpec, is_ascii_reg_name, is_ascii_userinfo, is_ascii_unreserved, is_sub_delim}
 use Rattle.iri_grammar.specs.Delimiters.{before_any, from_any}
 use Rattle.iri_grammar.specs.inside.Delimiters.{ends_at_start, ends_authority}
 use Rattle.iri_grammar.specs.ClassTests.{ascii_test, class_test}
-use Rattle.iri_grammar.specs.Components.{if_there, is_fragment, is_query}
-use Rattle.iri_grammar.specs.Cut.{before, after, lacks, delimited}
+use Rattle.iri_grammar.specs.Components.{is_fragment, is_query}
 use Rattle.iri_grammar.specs.Fault.{authority_fault, first, fragment_fault, part_fault, unless}
 use Rattle.iri_grammar.specs.IpLiteral.{is_ip_literal}
-use Rattle.iri_grammar.specs.OptionalSlices.{now_of}
 use Rattle.iri_grammar.specs.Over.{over, text_over}
 use Rattle.iri_grammar.specs.Parts.{Parts}
 use Rattle.iri_grammar.specs.Runs.{run_of}
 use Rattle.iri_grammar.specs.WholeFault.{colon_allowed, fault_before_fragment, parts_fault}
 use Rattle.iri_grammar.specs.declared.error.ErrorKind.{ErrorKind}
 use Rattle.iri_grammar.specs.declared.error.ErrorKind.TheVariants.{InvalidFragment, InvalidPath, InvalidQuery}
-use Rattle.iri_grammar.specs.inside.Tails.{AreOver, IsOverTail, IsTail}
+use Rattle.iri_grammar.specs.inside.Tails.{AreOver}
 use Rattle.iri_grammar.specs.declared.class.Class.{Class}
 use Rattle.iri_grammar.specs.declared.class.Class.TheVariants.{RegName, Userinfo}
-use Rattle.iri_grammar.specs.declared.tail.Tail.{Tail}
-use Rattle.iri_grammar.proofs.AuthorityTexts.{all_below, over_text-lacks}
-use Rattle.iri_grammar.proofs.SplitUnique.{path_apart, queries-lack}
+use Rattle.iri_grammar.proofs.AuthorityTexts.{all_below}
 use Rattle.iri_grammar.proofs.ClassLaws.{ascii_test_below, class_has_ascii, class_has_no_percent}
 use Rattle.iri_grammar.proofs.AuthorityLaws.{passes}
 use Rattle.iri_grammar.proofs.FaultLaws.{authority-no_fault, part-no_fault}
-use Rattle.iri_grammar.proofs.CutLaws.{both, test_apart, before-delimited, after-delimited, lacks-append, lacks-other}
+use Rattle.iri_grammar.proofs.CutLaws.{both, test_apart}
 use Rattle.iri_grammar.proofs.DelimiterLemmas.{run_of_all}
-use Rattle.iri_grammar.proofs.Units.{nothing_left, of_text, run_past}
+use Rattle.iri_grammar.proofs.Units.{nothing_more, of_text, run_past}
 
 -- ---- runs
 pub run-all : (p : ℕ → Bool) (bs : List ℕ) → list_all p (take (run_of p bs) bs) ≡ true
@@ -43,33 +38,6 @@ run-all p (x ∷ xs) =
       | true ↦ λ e. rw e (run-all p xs)
       | false ↦ λ _. refl
     ] refl
-
--- ---- where the parts end
-pub nothing : (r : List ℕ) → (length r == 0) ≡ true → r ≡ []
-nothing [] h = refl
-nothing (x ∷ xs) h = let none = eqb-true (length (x ∷ xs)) 0 h in absurd (omega (arith, none))
-
-delimited-lacks : (o : Option (List ℕ)) → if_there (lacks 35) o ≡ true → lacks 35 (delimited 63 o) ≡ true
-delimited-lacks None h = refl
-delimited-lacks (Some q) h = lacks-other 35 63 q refl h
-
-pub over-tail : (s : Tests) → IsSpec s → (t : List ℕ) (p : Tail)
-    → t ≡ p.path.now ++ (delimited 63 (now_of p.query) ++ delimited 35 (now_of p.fragment)) → IsOverTail s p → IsTail t p
-over-tail s k t p e h =
-    let x = p.path.now in
-    let q = now_of p.query in
-    let f = now_of p.fragment in
-    let apart = path_apart s k in
-    let whole = e ∙ sym (append_assoc x (delimited 63 q) (delimited 35 f)) in
-    let hash = over_text-lacks (path_char s) 35 x (omega arith) apart.0 refl refl h.0 in
-    let delimiter = over_text-lacks (path_char s) 63 x (omega arith) apart.1 refl refl h.0 in
-    let prefix = lacks-append 35 x (delimited 63 q) hash (delimited-lacks q (queries-lack s q k h.1)) in
-    let first = ap (before 35) whole ∙ before-delimited 35 (x ++ delimited 63 q) f prefix in
-    record {
-      path = sym (ap (before 63) first ∙ before-delimited 63 x q delimiter);
-      query = sym (ap (after 63) first ∙ after-delimited 63 x q delimiter);
-      fragment = sym (ap (after 35) whole ∙ after-delimited 35 (x ++ delimited 63 q) f prefix);
-    }
 
 -- ---- such a part is in its production
 drop_all : (t : List ℕ) → drop (length t) t ≡ []
@@ -83,7 +51,7 @@ plain-over s l k t h =
     let whole : run_of q t ≡ length t = eqb-true (run_of q t) (length t) (run_of_all q t ∙ h) in
     let rest : drop (run_of q t) t ≡ [] = ap (λ n. drop n t) whole ∙ drop_all t in
     of_text (class_test s k) t u ∙ sym (run_past (class_test s k) q t (class_has_ascii s l k) (class_has_no_percent s l k) u)
-    ∙ ap (λ x. over (class_test s k) (chars x)) rest ∙ nothing_left (class_test s k) [] refl
+    ∙ ap (λ x. over (class_test s k) (chars x)) rest ∙ nothing_more (class_test s k)
 
 -- the fault of parts that are each in their production is that of the authority, or a colon out of its place
 pub over-fault : (s : Tests) (p : Parts) → AreOver s p.path p.query p.fragment

@@ -15,7 +15,7 @@ use Rattle.iri_grammar.specs.Parts.{Parts, Fits, Splits, IsReference, IsIri, IsR
 use Rattle.iri_grammar.specs.Split.{split_of}
 use Rattle.iri_grammar.proofs.SplitLaws.{Delimiters, split_parts, scheme-chars}
 use Rattle.iri_grammar.proofs.AuthorityTexts.{IsForeign, authority-lacks, hash-foreign, slash-foreign, delimiter-foreign, over_text-lacks}
-use Rattle.iri_grammar.proofs.AuthorityTexts.{text_over-utf8, authority-utf8, one_byte-utf8, delimited-utf8, all_below}
+use Rattle.iri_grammar.proofs.AuthorityTexts.{text_over-utf8, authority-utf8, nothing-utf8, one_byte-utf8, delimited-utf8, all_below}
 
 -- ---- the parts of a tuple that fits
 authorities-lack : (s : Tests) (c : ℕ) (o : Option (List ℕ)) → IsForeign s c → if_there (is_authority s) o ≡ true
@@ -79,19 +79,16 @@ scheme_char-below c h = grind (arith, nat_tests)
 pub scheme-utf8 : (xs : List ℕ) → is_scheme xs ≡ true → IsUtf8 xs
 scheme-utf8 xs h = IsUtf8-from_ascii xs (all_below is_scheme_char scheme_char-below xs (scheme-chars xs h))
 
-nothing : IsUtf8 []
-nothing = IsUtf8-from_ascii [] (λ i. omega arith)
-
 scheme_text-utf8 : (o : Option (List ℕ)) → if_there is_scheme o ≡ true → IsUtf8 (scheme_text o)
-scheme_text-utf8 None h = nothing
+scheme_text-utf8 None h = nothing-utf8
 scheme_text-utf8 (Some xs) h = IsUtf8-append xs (58 ∷ []) (scheme-utf8 xs h) (one_byte-utf8 58 (omega arith))
 
 authority_text-utf8 : (s : Tests) (o : Option (List ℕ)) → if_there (is_authority s) o ≡ true → IsUtf8 (authority_text o)
-authority_text-utf8 s None h = nothing
+authority_text-utf8 s None h = nothing-utf8
 authority_text-utf8 s (Some xs) h = delimited-utf8 47 (47 ∷ xs) (omega arith) (delimited-utf8 47 xs (omega arith) (authority-utf8 s xs h))
 
 pub part-utf8 : (p : ℕ → Bool) (c : ℕ) (o : Option (List ℕ)) → c < 128 → if_there (text_over p) o ≡ true → IsUtf8 (delimited c o)
-part-utf8 p c None l h = nothing
+part-utf8 p c None l h = nothing-utf8
 part-utf8 p c (Some xs) l h = delimited-utf8 c xs l (text_over-utf8 p xs h)
 
 recompose-utf8 : (s : Tests) (p : Parts) → Fits s p → IsUtf8 (recompose p)

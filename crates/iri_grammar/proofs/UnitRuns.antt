@@ -7,7 +7,7 @@ use Rattle.std.specs.Str.{chars, IsAscii, IsUtf8, is_utf8}
 use Rattle.std.proofs.lemmas.Bool.{and_parts as both, eqb-true}
 use Rattle.std.proofs.lemmas.Bool.Decides.{nat_tests}
 use Rattle.std.proofs.lemmas.List.{length-drop}
-use Rattle.std.proofs.lemmas.Str.{chars-append, IsUtf8-append, IsUtf8-drop, IsUtf8-from_ascii, IsUtf8-past_char, IsUtf8-take}
+use Rattle.std.proofs.lemmas.Str.{chars-append, IsUtf8-append, IsUtf8-drop, IsUtf8-from_ascii, IsUtf8-from_is_utf8, IsUtf8-past_char, IsUtf8-take}
 use Rattle.std.proofs.lemmas.Str.{IsCharBoundary-from_drop, IsCharBoundary-from_take}
 use Rattle.std.proofs.Math.Seq.{take-add, take-append_seam, drop-append_seam}
 use Rattle.iri_grammar.specs.Classes.{Tests, IsSpec}
@@ -22,7 +22,10 @@ use Rattle.iri_grammar.specs.Cut.{lacks}
 use Rattle.iri_grammar.proofs.ClassLaws.{no_percent}
 use Rattle.iri_grammar.proofs.CutBytes.{encode-lacks}
 use Rattle.iri_grammar.proofs.PlainTails.{plain-over, run-all}
-use Rattle.iri_grammar.proofs.Units.{ascii_prefix, char_past, char_stops, hex_is_ascii, nothing_left, of_text, run_of_le, triplet_past}
+use Rattle.iri_grammar.proofs.Units.{ascii_prefix, char_past, char_stops, hex_is_ascii, none-over, nothing_left, nothing_more, of_text, run_of_le}
+use Rattle.iri_grammar.proofs.Units.{triplet_past}
+use Rattle.iri_grammar.proofs.TextParts.{rest-text}
+use Rattle.iri_grammar.specs.Parts.{is_empty}
 
 -- ---- units decide nothing: what follows them decides as the whole does
 over-past : (p : ℕ → Bool) (n : ℕ) (xs ys : List ℕ) → over_from p n xs ≡ true → over_from p n (xs ++ ys) ≡ over p ys
@@ -37,13 +40,24 @@ over-past p zero (x ∷ xs) ys h =
     h
 over-past p (suc n) (x ∷ xs) ys h = let r = both (is_ascii_hexdigit x) (over_from p n xs) h in rw r.0 (over-past p n xs ys r.1)
 
--- the longest start of whole units tells whether the text is made of them
-pub cut_decides : (p : ℕ → Bool) (t a r : List ℕ) → IsUtf8 t → t ≡ a ++ r → text_over p a ≡ true → HasNoUnit p r
-    → text_over p t ≡ (length r == 0)
-cut_decides p t a r u e h stops =
+-- where no unit follows units, what goes on is not over the class
+pub stops-over : (p : ℕ → Bool) (a y z : List ℕ) → text_over p a ≡ true → is_empty y ≡ false → HasNoUnit p (y ++ z) → text_over p (a ++ y) ≡ false
+stops-over p a y z h some stops =
     let ua = text_over-utf8 p a h in
-    of_text p t u ∙ (ap (λ x. over p (chars x)) e ∙ (ap (over p) (chars-append a r ua)
-    ∙ (over-past p 0 (chars a) (chars r) (sym (of_text p a ua) ∙ h) ∙ stops)))
+    elim (is_utf8 (a ++ y)) as (λ b. is_utf8 (a ++ y) ≡ b → (b && over p (chars (a ++ y))) ≡ false) [
+      | true ↦ λ e. ap (over p) (chars-append a y ua) ∙ (over-past p 0 (chars a) (chars y) (sym (of_text p a ua) ∙ h)
+          ∙ none-over p y z (rest-text a y ua (IsUtf8-from_is_utf8 (a ++ y) e)) some stops)
+      | false ↦ λ _. refl
+    ] refl
+
+-- the longest start of whole units tells whether the text is made of them
+pub cut_decides : (p : ℕ → Bool) (a r : List ℕ) → text_over p a ≡ true → HasNoUnit p r → text_over p (a ++ r) ≡ (length r == 0)
+cut_decides p a [] h stops = ap (text_over p) (append-nil a) ∙ h
+cut_decides p a (x ∷ xs) h stops =
+    stops-over p a (x ∷ xs) [] h refl (subst (HasNoUnit p) (sym (append-nil (x ∷ xs))) stops) ∙ never (length xs)
+  where
+    never : (n : ℕ) → false ≡ (suc n == 0)
+    never n = grind (arith, nat_tests)
 
 -- ---- texts over a class, put together
 pub text_over-append : (p : ℕ → Bool) (xs ys : List ℕ) → text_over p xs ≡ true → text_over p ys ≡ true → text_over p (xs ++ ys) ≡ true
@@ -76,9 +90,6 @@ units_onward p t i j a b = record {
 }
 
 -- ---- one character, one triplet, and a run of ASCII characters
-nothing_more : (p : ℕ → Bool) → over p (chars []) ≡ true
-nothing_more p = nothing_left p [] refl
-
 -- the first n bytes are a character of the class
 pub char_units : (p : ℕ → Bool) (c n : ℕ) (t : List ℕ) → IsUtf8 (take n t) → n ≤ length t → take n t ≡ encode_utf8 c → p 37 ≡ false → p c ≡ true
     → AreUnits p t n
@@ -145,7 +156,7 @@ run_lacks k t = all-lacks (ascii_test k) 37 (take (run_of (ascii_test k) t) t) (
 -- of a text that begins in ASCII
 pub near_stops : (p : ℕ → Bool) (t : List ℕ) → IsUtf8 t → slice_index t 0 < 128 → LacksNearUnit p t → HasNoUnit p t
 near_stops p [] u l h = nothing_left p [] refl
-near_stops p (x ∷ xs) u l h = char_stops p x (x ∷ xs) xs u (ascii_prefix x xs l) (omega arith) h.triplet (h.ascii l (omega arith))
+near_stops p (x ∷ xs) u l h = char_stops p x (x ∷ xs) xs u (ascii_prefix x xs l) h.triplet (h.ascii l (omega arith))
 
 -- no triplet begins with another byte
 pub no_triplet_at : (t : List ℕ) → slice_index t 0 ≢ 37 → begins_with_triplet t ≡ false

@@ -1,18 +1,19 @@
 -- The first unit of a text over a class, and a run of ASCII characters at its start.
 use Rattle.std.proofs.Common.{◌≡◌, ℕ, suc, ◌<◌, ◌≤◌, ◌≢◌, Bool, true, false, cond, ◌&&◌, List, [], ◌∷◌, ◌++◌, length, drop, refl, sym, ◌∙◌}
-use Rattle.std.proofs.Common.{ap, subst, inl, inr, arith, length-append}
-use Rattle.std.specs.Prelude.{◌==◌, slice_index}
+use Rattle.std.proofs.Common.{ap, subst, inl, inr, arith}
+use Rattle.std.specs.Prelude.{◌==◌}
 use Rattle.std.specs.Char.{is_ascii_hexdigit, encode_utf8}
 use Rattle.std.specs.Str.{chars, IsUtf8}
 use lib.Utf8.{encodes}
 use Rattle.std.proofs.lemmas.Bool.{cases_lt, cases_eq, and_parts as both, eqb-true}
 use Rattle.std.proofs.lemmas.Bool.Decides.{nat_tests}
 use Rattle.std.proofs.lemmas.Str.{chars_past_char, chars-nil, chars_from_encodes, encode_ascii, IsUtf8-past_char, byte_from_char}
-use Rattle.std.proofs.lemmas.Str.{is_utf8-from_IsUtf8, length-encode, len_utf8_bounds}
+use Rattle.std.proofs.lemmas.Str.{is_utf8-from_IsUtf8, encodes-chars, chars-append}
 use Rattle.iri_grammar.specs.Cut.{tail}
 use Rattle.iri_grammar.specs.Over.{over, over_from, text_over}
 use Rattle.iri_grammar.specs.Runs.{run_of}
-use Rattle.iri_grammar.specs.inside.Runs.{begins_with_digit, begins_with_triplet, HasNoUnit}
+use Rattle.iri_grammar.specs.Parts.{is_empty}
+use Rattle.iri_grammar.specs.inside.Runs.{begins_with_digit, begins_with_triplet, first_passes, HasNoUnit}
 
 -- an ASCII byte is a character
 pub ascii_prefix : (b : ℕ) (bs : List ℕ) → b < 128 → b ∷ bs ≡ encode_utf8 b ++ bs
@@ -105,32 +106,52 @@ char_past p c t r u e n h =
     let other : c ≢ 37 = λ k. let no : true ≡ false = sym h ∙ (ap p k ∙ n) in cc in
     sym (ap (over p) (chars_past_char t r c u e) ∙ (plain_step p c (chars r) other ∙ rw h refl))
 
-empty_test : (t : List ℕ) → 0 < length t → (length t == 0) ≡ false
-empty_test t h = grind (arith, nat_tests)
-
-pub char_stops : (p : ℕ → Bool) (c : ℕ) (t r : List ℕ) → IsUtf8 t → t ≡ encode_utf8 c ++ r → 0 < length t → begins_with_triplet t ≡ false
-    → p c ≡ false → HasNoUnit p t
-char_stops p c t r u e some none h =
-    elim (cases_eq c 37) [
-      | inl same ↦ at_percent same ∙ sym (empty_test t some)
-      | inr other ↦ ap (over p) (chars_past_char t r c u e) ∙ (plain_step p c (chars r) other ∙ (rw h (sym (empty_test t some))))
-    ]
+-- no unit at the start of a text: then none at the start of what begins it
+triplet-prefix : (y z : List ℕ) → begins_with_triplet (y ++ z) ≡ false → begins_with_triplet y ≡ false
+triplet-prefix [] z h = refl
+triplet-prefix (x ∷ []) z h = never (x == 37)
   where
-    at_percent : c ≡ 37 → over p (chars t) ≡ false
-    at_percent same =
-        let prefix : t ≡ 37 ∷ r = e ∙ (ap (λ d. encode_utf8 d ++ r) same ∙ ap (λ l. l ++ r) (encode_ascii 37 (omega arith))) in
-        ap (λ l. over p (chars l)) prefix ∙ no_triplet p r (subst IsUtf8 prefix u) (sym (ap begins_with_triplet prefix) ∙ none)
+    never : (a : Bool) → (a && false) ≡ false
+    never true = refl
+    never false = refl
+triplet-prefix (x ∷ a ∷ []) z h = never (x == 37) (is_ascii_hexdigit a)
+  where
+    never : (a b : Bool) → (a && (b && false)) ≡ false
+    never true true = refl
+    never true false = refl
+    never false b = refl
+triplet-prefix (x ∷ a ∷ b ∷ y) z h = h
 
-pub percent_stops : (p : ℕ → Bool) (t : List ℕ) → IsUtf8 t → slice_index t 0 ≡ 37 → 0 < length t → begins_with_triplet t ≡ false → HasNoUnit p t
-percent_stops p [] u e some none = absurd (omega (arith, some))
-percent_stops p (x ∷ xs) u e some none =
-    let prefix : x ∷ xs ≡ 37 ∷ xs = ap (λ b. b ∷ xs) e in
-    ap (λ l. over p (chars l)) prefix ∙ (no_triplet p xs (subst IsUtf8 prefix u) (sym (ap begins_with_triplet prefix) ∙ none) ∙ sym (empty_test (x ∷ xs) some))
+-- so what begins it is no text over the class
+pub none-over : (p : ℕ → Bool) (y z : List ℕ) → IsUtf8 y → is_empty y ≡ false → HasNoUnit p (y ++ z) → over p (chars y) ≡ false
+none-over p y z u some h = by (chars y) refl
+  where
+    spelled : (cs : List ℕ) → chars y ≡ cs → y ≡ encodes cs
+    spelled cs e = sym (encodes-chars y u) ∙ ap encodes e
+
+    at_percent : (c : ℕ) (cs : List ℕ) → chars y ≡ c ∷ cs → c ≡ 37 → over p (chars y) ≡ false
+    at_percent c cs e same =
+        let prefix : y ≡ 37 ∷ encodes cs = spelled (c ∷ cs) e ∙ (ap (λ d. encode_utf8 d ++ encodes cs) same ∙ ap (λ l. l ++ encodes cs) (encode_ascii 37 (omega arith))) in
+        ap (λ l. over p (chars l)) prefix
+        ∙ no_triplet p (encodes cs) (subst IsUtf8 prefix u) (sym (ap begins_with_triplet prefix) ∙ triplet-prefix y z h.0)
+
+    by : (cs : List ℕ) → chars y ≡ cs → over p (chars y) ≡ false
+    by [] e = let no : true ≡ false = sym (ap is_empty (spelled [] e)) ∙ some in cc
+    by (c ∷ cs) e =
+        let fails : p c ≡ false = sym (ap (first_passes p) (chars-append y z u ∙ ap (λ l. l ++ chars z) e)) ∙ h.1 in
+        elim (cases_eq c 37) [ inl same ↦ at_percent c cs e same | inr other ↦ ap (over p) e ∙ (plain_step p c cs other ∙ rw fails refl) ]
+
+pub char_stops : (p : ℕ → Bool) (c : ℕ) (t r : List ℕ) → IsUtf8 t → t ≡ encode_utf8 c ++ r → begins_with_triplet t ≡ false → p c ≡ false
+    → HasNoUnit p t
+char_stops p c t r u e none h = (none, ap (first_passes p) (chars_past_char t r c u e) ∙ h)
 
 pub nothing_left : (p : ℕ → Bool) (t : List ℕ) → length t ≡ 0 → HasNoUnit p t
-unfolding over_from
-nothing_left p [] h = rw chars-nil refl
+nothing_left p [] h = (refl, rw chars-nil refl)
 nothing_left p (x ∷ xs) h = absurd (omega arith)
+
+pub nothing_more : (p : ℕ → Bool) → over p (chars []) ≡ true
+unfolding over_from
+nothing_more p = rw chars-nil refl
 
 -- a run of ASCII characters of the class
 pub run_text : (q : ℕ → Bool) (t : List ℕ) → ((c : ℕ) → q c ≡ true → c < 128) → IsUtf8 t → IsUtf8 (drop (run_of q t) t)
@@ -156,10 +177,6 @@ pub run_of_le : (q : ℕ → Bool) (t : List ℕ) → run_of q t ≤ length t
 run_of_le q [] = omega arith
 run_of_le q (x ∷ xs) =
     elim (q x) as (λ b. cond b (suc (run_of q xs)) 0 ≤ length (x ∷ xs)) [ true ↦ omega (arith, run_of_le q xs) | false ↦ omega arith ]
-
--- what follows a character is shorter
-pub char_shorter : (c : ℕ) (t r : List ℕ) → t ≡ encode_utf8 c ++ r → length r < length t
-char_shorter c t r e = omega (arith, ap length e, length-append (encode_utf8 c) r, length-encode c, (len_utf8_bounds c).0)
 
 -- of a text
 pub of_text : (p : ℕ → Bool) (t : List ℕ) → IsUtf8 t → text_over p t ≡ over p (chars t)

@@ -8,4 +8,5 @@ pub mod Delimiters
 pub mod PiecesLaws
 pub mod PlainAuthority
 pub mod Runs
+pub mod Scans
 pub mod Tails

@@ -1,7 +1,7 @@
 //! The parts of an authority (RFC 3986 section 3.2).
 ghost use Rattle.std.specs.Prelude.{◌≡◌, ◌≤◌, ◌++◌, not, false, length, true, MatchOption};
 ghost use Rattle.std.specs.List.{list_all};
-ghost use Rattle.std.specs.Str.{IsUtf8};
+ghost use Rattle.std.specs.Str.{is_utf8};
 ghost use Rattle.memchr.specs.Find.{IsLastByte, is_byte};
 ghost use Rattle.iri_grammar.specs.Components.{is_port};
 ghost use Rattle.iri_grammar.specs.Authority.{is_authority, authority_parts, userinfo_of, after_userinfo, host_of};
@@ -129,7 +129,7 @@ pub(crate) fn cut_plain(s: &[u8]) -> (&str, &[u8], bool)
     ensures chars { list_all (ascii_test Userinfo) result.0.now ≡ true }
     ensures plain { is_plain_authority result.0.now ≡ true }
     ensures capitals { result.2 ≡ false → list_all is_small result.0.now ≡ true }
-    ensures text { IsUtf8 result.1.now → IsUtf8 s.now }
+    ensures text { is_utf8 s.now ≡ is_utf8 result.1.now }
 {
     let (end, capitals) = plain_len(s);
     let name = unsafe { str::from_utf8_unchecked(&s[..end]) };

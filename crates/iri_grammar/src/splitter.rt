@@ -1,14 +1,14 @@
 //! The split of a reference into its five parts (RFC 3986 section 3).
 ghost use Rattle.std.specs.Prelude.{◌≡◌, ◌∷◌, None, Some, IfOk, MatchOption, false, true};
 ghost use Rattle.std.specs.List.{list_all};
-ghost use Rattle.std.specs.Str.{IsUtf8};
+ghost use Rattle.std.specs.Str.{is_utf8};
 ghost use Rattle.iri_grammar.specs.Characters.{slash};
 ghost use Rattle.iri_grammar.specs.Components.{if_there, is_scheme, is_scheme_char};
 ghost use Rattle.iri_grammar.specs.Fault.{Answers, bytes_fault};
 ghost use Rattle.iri_grammar.specs.Delimiters.{before_any, from_any};
 ghost use Rattle.iri_grammar.specs.inside.Delimiters.{ends_scheme, SchemeAt, NoScheme, ends_authority, AuthorityEndAt, EndsAuthority};
 ghost use Rattle.iri_grammar.specs.inside.Delimiters.{NoAuthorityEnd, IsPastAuthority, ends_at_start};
-ghost use Rattle.iri_grammar.specs.inside.Tails.{AreOver};
+ghost use Rattle.iri_grammar.specs.inside.Scans.{fault_after, Scans};
 ghost use Rattle.iri_grammar.specs.inside.AuthorityCuts.{KeepsAuthorityNotes};
 ghost use Rattle.iri_grammar.specs.Parts.{Splits, starts_with_slashes};
 ghost use Rattle.iri_grammar.specs.Runs.{run_of};
@@ -17,7 +17,7 @@ ghost use Rattle.iri_grammar.specs.Split.{hier_of};
 ghost use Rattle.iri_grammar.specs.Seen.{Promises, is_plain_authority, is_small};
 ghost use Rattle.std.proofs.Props.{props};
 ghost use Rattle.iri_grammar.specs.OptionalSlices.{now_of};
-ghost use Rattle.iri_grammar.specs.WholeFault.{reference_fault};
+ghost use Rattle.iri_grammar.specs.WholeFault.{reference_fault, relative_fault};
 
 use crate::authority::cut_plain;
 use crate::dots::may_have_dots;
@@ -25,7 +25,7 @@ use crate::error::{Error, ErrorKind};
 use crate::seen::Seen;
 use crate::spec::Spec;
 use crate::tail::Tail;
-use crate::validate::{judge, judge_scanned};
+use crate::validate::{fault_at, judge_scanned};
 use memchr::memchr3;
 use std::alloc::AllocError;
 use std::str;
@@ -137,21 +137,10 @@ fn scheme_end(bytes: &[u8]) -> Option<usize>
 }
 
 // The scheme, and what follows it and its colon, or all.
-fn cut_scheme(s: &str) -> (Option<&str>, &str)
+fn cut_scheme(s: &[u8]) -> (Option<&str>, &[u8])
     ensures scheme { now_of result.0 ≡ scheme_of s.now }
     ensures rest { result.1.now ≡ after_scheme s.now }
-{
-    match scheme_end(s.as_bytes()) {
-        Some(i) => (Some(&s[..i]), &s[i + 1..]),
-        None => (None, s),
-    }
-}
-
-// The same of bytes.
-fn look_at_scheme(s: &[u8]) -> (Option<&str>, &[u8])
-    ensures scheme { now_of result.0 ≡ scheme_of s.now }
-    ensures rest { result.1.now ≡ after_scheme s.now }
-    ensures text { IsUtf8 result.1.now → IsUtf8 s.now }
+    ensures text { is_utf8 s.now ≡ is_utf8 result.1.now }
 {
     match scheme_end(s) {
         Some(i) => {
@@ -168,31 +157,6 @@ fn authority_end(bytes: &[u8]) -> Option<usize>
     ensures { MatchOption result (NoAuthorityEnd bytes.now) (λ k. AuthorityEndAt bytes.now k) }
 {
     memchr3(b'/', b'?', b'#', bytes)
-}
-
-// What comes before the end of an authority, and the rest from it on.
-fn cut_before_end(s: &str) -> (&str, &str)
-    ensures prefix { result.0.now ≡ before_any ends_authority s.now }
-    ensures rest { result.1.now ≡ from_any ends_authority s.now }
-{
-    match authority_end(s.as_bytes()) {
-        Some(i) => (&s[..i], &s[i..]),
-        None => (s, ""),
-    }
-}
-
-// The authority, where there is one, and what follows it, or all.
-fn cut_authority(s: &str) -> (Option<&str>, &str)
-    ensures authority { now_of result.0 ≡ authority_of (hier_of s.now) }
-    ensures past { IsPastAuthority s.now result.1.now }
-{
-    match s.strip_prefix("//") {
-        Some(rest) => {
-            let (authority, rest) = cut_before_end(rest);
-            (Some(authority), rest)
-        }
-        None => (None, s),
-    }
 }
 
 // Whether an authority ends at the start.
@@ -225,11 +189,11 @@ fn authority_len(s: &[u8]) -> usize
     }
 }
 
-// The same of bytes: what comes before the end of an authority, where it is a text, and the rest from it on.
+// What comes before the end of an authority, and the rest from it on. `None` where the first is no text.
 #[inline(never)]
 fn text_before_end(s: &[u8]) -> Option<(&str, &[u8])>
-    ensures { MatchOption result (Unit {0}) (λ r. (r.0.now ≡ before_any ends_authority s.now)
-        × (r.1.now ≡ from_any ends_authority s.now) × (IsUtf8 r.1.now → IsUtf8 s.now)) }
+    ensures { MatchOption result (is_utf8 s.now ≡ false) (λ r. (r.0.now ≡ before_any ends_authority s.now)
+        × (r.1.now ≡ from_any ends_authority s.now) × (is_utf8 s.now ≡ is_utf8 r.1.now)) }
 {
     let end = authority_len(s);
     match str::from_utf8(&s[..end]) {
@@ -238,12 +202,12 @@ fn text_before_end(s: &[u8]) -> Option<(&str, &[u8])>
     }
 }
 
-// What comes before the end of an authority, the rest from it on, and what was noted of the first. `None` where it is no text.
+// The same, and what was noted of the first.
 #[inline(always)]
-fn look_before_end(s: &[u8]) -> Option<AuthorityCut<'_>>
-    ensures { MatchOption result (Unit {0}) (λ r. (now_of r.authority ≡ Some (before_any ends_authority s.now))
-        × (r.rest.now ≡ from_any ends_authority s.now) × KeepsAuthorityNotes r
-        × (IsUtf8 r.rest.now → IsUtf8 s.now)) }
+fn cut_before_end(s: &[u8]) -> Option<AuthorityCut<'_>>
+    ensures { MatchOption result (is_utf8 s.now ≡ false)
+        (λ r. (now_of r.authority ≡ Some (before_any ends_authority s.now))
+        × (r.rest.now ≡ from_any ends_authority s.now) × KeepsAuthorityNotes r × (is_utf8 s.now ≡ is_utf8 r.rest.now)) }
 {
     // Most are a name and perhaps a port: one look, and no search for the end.
     let (prefix, rest, capitals) = cut_plain(s);
@@ -275,14 +239,14 @@ fn after_slashes(s: &[u8]) -> Option<&[u8]>
     }
 }
 
-// The authority of bytes, and what follows it, or all.
+// The authority, where there is one, and what follows it, or all. `None` where it is no text.
 #[inline(always)]
-fn look_at_authority(s: &[u8]) -> Option<AuthorityCut<'_>>
-    ensures { MatchOption result (Unit {0}) (λ r. (now_of r.authority ≡ authority_of (hier_of s.now))
-        × IsPastAuthority s.now r.rest.now × KeepsAuthorityNotes r × (IsUtf8 r.rest.now → IsUtf8 s.now)) }
+fn cut_authority(s: &[u8]) -> Option<AuthorityCut<'_>>
+    ensures { MatchOption result (is_utf8 s.now ≡ false) (λ r. (now_of r.authority ≡ authority_of (hier_of s.now))
+        × IsPastAuthority s.now r.rest.now × KeepsAuthorityNotes r × (is_utf8 s.now ≡ is_utf8 r.rest.now)) }
 {
     match after_slashes(s) {
-        Some(rest) => look_before_end(rest),
+        Some(rest) => cut_before_end(rest),
         None => Some(AuthorityCut {
             authority: None,
             rest: s,
@@ -325,41 +289,23 @@ impl<'a> Splitter<'a> {
     ///
     /// - `InvalidUtf8` where the bytes aren't UTF-8, which is tested first.
     /// - Otherwise the first fault of the text, exactly where it is no reference.
+    #[tactic(auto, unfolding(crate::specs::Split::split_of))]
     #[inline(always)]
     pub fn from_bytes<S: Spec>(bytes: &'a [u8]) -> Result<Splitter<'a>, Error>
         ensures fault { Answers result (bytes_fault (reference_fault S.tests) bytes.now) }
         ensures value { IfOk result (λ p. parts p ≡ split_of bytes.now) }
     {
-        match Splitter::scan::<S>(bytes) {
-            Some(parts) => match judge_scanned::<S>(&parts) {
-                Ok(()) => Ok(parts),
-                Err(fault) => Err(fault),
-            },
-            None => Splitter::judged_bytes::<S>(bytes),
-        }
+        let (scheme, rest) = cut_scheme(bytes);
+        Splitter::after::<S>(scheme, rest)
     }
 
-    // The same of bytes that the scan did not take.
-    fn judged_bytes<S: Spec>(bytes: &'a [u8]) -> Result<Splitter<'a>, Error>
-        ensures fault { Answers result (bytes_fault (reference_fault S.tests) bytes.now) }
-        ensures value { IfOk result (λ p. parts p ≡ split_of bytes.now) }
+    // The split of a relative reference of `S`.
+    #[tactic(auto, unfolding(crate::specs::Split::relative_split_of))]
+    pub(crate) fn relative<S: Spec>(text: &'a str) -> Result<Splitter<'a>, Error>
+        ensures fault { Answers result (relative_fault S.tests text.now) }
+        ensures value { IfOk result (λ p. parts p ≡ relative_split_of text.now) }
     {
-        match str::from_utf8(bytes) {
-            Ok(text) => Splitter::judged::<S>(text),
-            Err(_) => Err(Error::new(ErrorKind::InvalidUtf8)),
-        }
-    }
-
-    // The same part by part: it tells the fault of a text in which the scan found one.
-    fn judged<S: Spec>(text: &'a str) -> Result<Splitter<'a>, Error>
-        ensures fault { Answers result (reference_fault S.tests text.now) }
-        ensures value { IfOk result (λ p. parts p ≡ split_of text.now) }
-    {
-        let parts = Splitter::cut(text);
-        match judge::<S>(&parts) {
-            Ok(()) => Ok(parts),
-            Err(error) => Err(error),
-        }
+        Splitter::after::<S>(None, text.as_bytes())
     }
 
     /// The split of a reference of `S`. It has a condition: the text is one, which `validate::iri_reference` tests.
@@ -368,72 +314,59 @@ impl<'a> Splitter<'a> {
         ensures split { Splits S.tests text.now (parts result) }
         ensures value { parts result ≡ split_of text.now }
     {
-        Splitter::cut(text)
-    }
-
-    // The parts of bytes read as a reference, where path, query and fragment are each in its production; then the bytes are a text.
-    #[tactic(auto, unfolding(crate::specs::Split::split_of))]
-    #[inline(always)]
-    fn scan<S: Spec>(bytes: &'a [u8]) -> Option<Splitter<'a>>
-        ensures { MatchOption result (Unit {0}) (λ p. (parts p ≡ split_of bytes.now)
-            × AreOver S.tests (parts p).path (parts p).query (parts p).fragment × IsUtf8 bytes.now) }
-    {
-        let (scheme, rest) = look_at_scheme(bytes);
-        let cut = look_at_authority(rest)?;
-        match Tail::look_at::<S>(cut.rest) {
-            Some(tail) => Some(Splitter {
-                scheme,
-                authority: cut.authority,
-                path: tail.path,
-                query: tail.query,
-                fragment: tail.fragment,
-                seen: Seen {
-                    path_triplets: tail.path_triplets,
-                    query_triplets: tail.query_triplets,
-                    fragment_triplets: tail.fragment_triplets,
-                    dots: may_have_dots(tail.path.as_bytes()),
-                    capitals: !lacks_capitals(scheme) || cut.capitals,
-                    other_authority: cut.other,
-                },
-            }),
-            None => None,
+        match Splitter::new::<S>(text) {
+            Ok(parts) => parts,
+            Err(_) => unreachable!(),
         }
-    }
-
-    // The parts of any text read as a reference.
-    #[tactic(auto, unfolding(crate::specs::Split::split_of))]
-    pub(crate) fn cut(text: &'a str) -> Splitter<'a>
-        ensures { parts result ≡ split_of text.now }
-    {
-        let (scheme, rest) = cut_scheme(text);
-        Splitter::after(scheme, rest)
-    }
-
-    // The parts of any text read as a relative reference.
-    #[tactic(auto, unfolding(crate::specs::Split::relative_split_of))]
-    pub(crate) fn cut_relative(text: &'a str) -> Splitter<'a>
-        ensures { parts result ≡ relative_split_of text.now }
-    {
-        Splitter::after(None, text)
     }
 
     // A scheme, and the parts of what follows it.
-    fn after(scheme: Option<&'a str>, rest: &'a str) -> Splitter<'a>
-        ensures { parts result ≡ parts_of (now_of scheme.entry) rest.now }
+    #[inline(always)]
+    fn after<S: Spec>(scheme: Option<&'a str>, bytes: &'a [u8]) -> Result<Splitter<'a>, Error>
+        ensures fault { Answers result (bytes_fault (fault_after S.tests (now_of scheme.entry)) bytes.now) }
+        ensures value { IfOk result (λ p. parts p ≡ parts_of (now_of scheme.entry) bytes.now) }
     {
-        let (authority, rest) = cut_authority(rest);
-        let tail = Tail::of(rest);
-        Splitter {
-            scheme,
-            authority,
-            path: tail.path,
-            query: tail.query,
-            fragment: tail.fragment,
-            seen: Seen::nothing_promised(),
+        match Splitter::scan::<S>(scheme, bytes) {
+            Some((parts, rest)) => {
+                if !rest.is_empty() {
+                    return Err(fault_at::<S>(&parts, rest));
+                }
+                match judge_scanned::<S>(&parts) {
+                    Ok(()) => Ok(parts),
+                    Err(error) => Err(error),
+                }
+            }
+            None => Err(Error::new(ErrorKind::InvalidUtf8)),
         }
     }
 
-    /// What the scan of `new` noted. `of` notes nothing, and then all notes are true.
+    // The parts up to where one leaves its production, and what is left over. `None` where the authority is no text.
+    #[inline(always)]
+    fn scan<S: Spec>(scheme: Option<&'a str>, bytes: &'a [u8]) -> Option<(Splitter<'a>, &'a [u8])>
+        ensures { MatchOption result (is_utf8 bytes.now ≡ false)
+            (λ r. Scans S.tests (now_of scheme.entry) bytes.now (parts r.0) r.1.now) }
+    {
+        let cut = cut_authority(bytes)?;
+        let tail = Tail::scan::<S>(cut.rest);
+        let parts = Splitter {
+            scheme,
+            authority: cut.authority,
+            path: tail.path,
+            query: tail.query,
+            fragment: tail.fragment,
+            seen: Seen {
+                path_triplets: tail.path_triplets,
+                query_triplets: tail.query_triplets,
+                fragment_triplets: tail.fragment_triplets,
+                dots: may_have_dots(tail.path.as_bytes()),
+                capitals: !lacks_capitals(scheme) || cut.capitals,
+                other_authority: cut.other,
+            },
+        };
+        Some((parts, tail.rest))
+    }
+
+    /// What the scan noted.
     pub fn seen(&self) -> Seen
         ensures promises { Promises result (parts self.now) }
     {

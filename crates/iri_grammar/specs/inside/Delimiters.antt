@@ -1,5 +1,5 @@
 -- Where the parts of a reference end, as the splitter finds them.
-use Rattle.std.specs.Prelude.{◌≡◌, ℕ, ◌+◌, ◌<◌, ◌≤◌, Bool, true, false, ◌&&◌, ◌||◌, ◌==◌, nat_lt, List, [], ◌∷◌, Some, None, length, take, drop}
+use Rattle.std.specs.Prelude.{◌≡◌, ℕ, ◌+◌, ◌<◌, ◌≤◌, Bool, true, ◌&&◌, ◌||◌, ◌==◌, nat_lt, List, [], ◌∷◌, Some, None, length, take, drop}
 use Rattle.std.specs.Prelude.{slice_index}
 use Rattle.std.specs.Char.{is_ascii_alphabetic}
 use Rattle.std.specs.Str.{IsUtf8}
@@ -50,6 +50,7 @@ pub record NoAuthorityEnd (bs : List ℕ) : Type 0 where
 -- its first k bytes are what stands before one, or all
 pub record EndsAuthority (bs : List ℕ) (k : ℕ) : Type 0 where
   pub within : k ≤ length bs
+  pub ascii : k < length bs → slice_index bs k < 128
   pub prefix : take k bs ≡ before_any ends_authority bs
   pub rest : drop k bs ≡ from_any ends_authority bs
 
@@ -58,19 +59,3 @@ pub record IsPastAuthority (t r : List ℕ) : Type 0 where
   pub path : hier_of r ≡ path_of (hier_of t)
   pub query : after 63 (before 35 r) ≡ after 63 (before 35 t)
   pub fragment : after 35 r ≡ after 35 t
-
--- ---- query and fragment
--- the first `?` or `#` stands at k
-pub record TailAt (bs : List ℕ) (k : ℕ) : Type 0 where
-  pub inside : k < length bs
-  pub ascii : slice_index bs k < 128
-  pub prefix : take k bs ≡ hier_of bs
-  pub at_query : (slice_index bs k == 63) ≡ true → (Some (before 35 (drop (k + 1) bs)) ≡ after 63 (before 35 bs))
-      × (after 35 (drop (k + 1) bs) ≡ after 35 bs)
-  pub at_fragment : (slice_index bs k == 63) ≡ false → (None ≡ after 63 (before 35 bs)) × (Some (drop (k + 1) bs) ≡ after 35 bs)
-
--- neither stands in the text
-pub record NoTail (bs : List ℕ) : Type 0 where
-  pub prefix : bs ≡ hier_of bs
-  pub query : None ≡ after 63 (before 35 bs)
-  pub fragment : None ≡ after 35 bs

@@ -4,7 +4,7 @@ use Rattle.std.specs.Char.{encode_utf8, is_ascii_hexdigit}
 use Rattle.std.specs.Int.{is_in_range}
 use Rattle.std.specs.Str.{chars}
 use Rattle.iri_grammar.specs.Cut.{tail}
-use Rattle.iri_grammar.specs.Over.{over, text_over}
+use Rattle.iri_grammar.specs.Over.{text_over}
 
 -- the first byte is a hex digit
 abbrev pub begins_with_digit : List ℕ → Bool
@@ -28,9 +28,14 @@ pub record BeginsWide (t : List ℕ) (n : ℕ) : Type 0 where
   pub within : n ≤ length t
   pub text : take n t ≡ encode_utf8 c
 
+-- the first character is of the class
+abbrev pub first_passes : (ℕ → Bool) → List ℕ → Bool
+first_passes p [] = false
+first_passes p (c ∷ cs) = p c
+
 -- no unit stands at the start of t
 abbrev pub HasNoUnit : (ℕ → Bool) → List ℕ → Type 0
-HasNoUnit p t = over p (chars t) ≡ (length t == 0)
+HasNoUnit p t = (begins_with_triplet t ≡ false) × (first_passes p (chars t) ≡ false)
 
 -- units of the class stand before i in t
 pub record AreUnits (p : ℕ → Bool) (t : List ℕ) (i : ℕ) : Type 0 where

@@ -1,19 +1,23 @@
 // The validators of whole texts (RFC 3986 section 4).
-ghost use Rattle.std.specs.Prelude.{◌≡◌, ◌&&◌};
+ghost use Rattle.std.specs.Prelude.{◌≡◌, IfOk, Some};
 ghost use Rattle.iri_grammar.specs.Characters.{colon, slash};
-ghost use Rattle.iri_grammar.specs.Components.{is_path};
+ghost use Rattle.iri_grammar.specs.Classes.{Tests};
 ghost use Rattle.iri_grammar.specs.Cut.{before, lacks};
-ghost use Rattle.iri_grammar.specs.Fault.{Answers, unless, authority_fault, first, fragment_fault, part_fault};
-ghost use Rattle.iri_grammar.specs.WholeFault.{colon_allowed, fault_before_fragment, parts_fault, missing_scheme_fault};
+ghost use Rattle.iri_grammar.specs.Fault.{Answers, unless, authority_fault, bytes_fault, first, fragment_fault, part_fault};
+ghost use Rattle.iri_grammar.specs.Parts.{Parts};
+ghost use Rattle.iri_grammar.specs.WholeFault.{colon_allowed, parts_fault, missing_scheme_fault};
 ghost use Rattle.iri_grammar.specs.WholeFault.{reference_fault, iri_fault, absolute_fault, relative_fault};
 ghost use Rattle.iri_grammar.specs.Splitters.{parts};
+ghost use Rattle.iri_grammar.specs.declared.error.ErrorKind.TheVariants.{UnexpectedFragment};
+ghost use Rattle.iri_grammar.specs.inside.Scans.{absolute_kind, part_left, stop_fault};
 ghost use Rattle.iri_grammar.specs.inside.Tails.{AreOver};
 
 use crate::cutting::{cut_before, lacks};
 use crate::error::{Error, ErrorKind};
 use crate::spec::Spec;
 use crate::splitter::Splitter;
-use crate::validate::component::{authority, fragment, path, query, scheme};
+use crate::validate::component::{authority, scheme};
+use std::str;
 
 // Whether no colon comes before the first slash.
 #[inline(always)]
@@ -52,15 +56,6 @@ fn colon_in_place(p: &Splitter<'_>) -> Result<(), Error>
     }
 }
 
-// The path over its characters, and its first segment without a colon where it has to be.
-fn path_in_place<S: Spec>(p: &Splitter<'_>) -> Result<(), Error>
-    ensures { Answers result (unless (is_path S.tests (parts p.now).path
-        && colon_allowed (parts p.now)) ErrorKind.InvalidPath) }
-{
-    path::<S>(p.path())?;
-    colon_in_place(p)
-}
-
 // The authority, where there is one.
 fn authority_in_place<S: Spec>(p: &Splitter<'_>) -> Result<(), Error>
     ensures { Answers result (part_fault (authority_fault S.tests) (parts p.now).authority) }
@@ -69,31 +64,6 @@ fn authority_in_place<S: Spec>(p: &Splitter<'_>) -> Result<(), Error>
         Some(a) => authority::<S>(a),
         None => Ok(()),
     }
-}
-
-// Authority, path and query.
-#[tactic(auto, unfolding(crate::specs::WholeFault::fault_before_fragment))]
-fn before_fragment<S: Spec>(p: &Splitter<'_>) -> Result<(), Error>
-    ensures { Answers result (fault_before_fragment S.tests (parts p.now)) }
-{
-    authority_in_place::<S>(p)?;
-    path_in_place::<S>(p)?;
-    if let Some(q) = p.query() {
-        query::<S>(q)?;
-    }
-    Ok(())
-}
-
-// Authority, path, query and fragment.
-#[tactic(auto, unfolding(crate::specs::WholeFault::parts_fault))]
-pub(crate) fn judge<S: Spec>(p: &Splitter<'_>) -> Result<(), Error>
-    ensures { Answers result (parts_fault S.tests (fragment_fault S.tests) (parts p.now)) }
-{
-    before_fragment::<S>(p)?;
-    if let Some(f) = p.fragment() {
-        fragment::<S>(f)?;
-    }
-    Ok(())
 }
 
 // The authority, and the first segment without a colon where it has to be.
@@ -117,6 +87,57 @@ pub(crate) fn judge_scanned<S: Spec>(p: &Splitter<'_>) -> Result<(), Error>
     // The call gets a copy: the parts themselves can stay in registers.
     let parts = *p;
     authority_and_colon::<S>(&parts)
+}
+
+// The part that a scan was in when it stopped.
+fn part_left(p: &Splitter<'_>) -> ErrorKind
+    ensures { result ≡ part_left (parts p.now).query (parts p.now).fragment }
+{
+    if p.fragment().is_some() {
+        ErrorKind::InvalidFragment
+    } else if p.query().is_some() {
+        ErrorKind::InvalidQuery
+    } else {
+        ErrorKind::InvalidPath
+    }
+}
+
+// The first fault of a text in which a scan left something over.
+#[inline(never)]
+pub(crate) fn fault_at<S: Spec>(p: &Splitter<'_>, rest: &[u8]) -> Error
+    ensures { Some result.kind ≡ bytes_fault (λ _. stop_fault S.tests (parts p.now)) rest.now }
+{
+    match str::from_utf8(rest) {
+        Ok(_) => match authority_and_colon::<S>(p) {
+            Ok(()) => Error::new(part_left(p)),
+            Err(error) => error,
+        },
+        Err(_) => Error::new(ErrorKind::InvalidUtf8),
+    }
+}
+
+// The fault where no fragment may stand.
+fn absolute_kind(kind: ErrorKind) -> ErrorKind
+    ensures { result ≡ absolute_kind kind }
+{
+    match kind {
+        ErrorKind::InvalidFragment => ErrorKind::UnexpectedFragment,
+        other => other,
+    }
+}
+
+// A fragment is one too many, whatever it holds.
+fn without_fragment(cut: Result<Splitter<'_>, Error>) -> Result<(), Error>
+    ensures { (s : Tests) (p : Parts) → Answers cut.entry (parts_fault s (fragment_fault s) p)
+        → IfOk cut.entry (λ c. parts c ≡ p) → Answers result (parts_fault s (λ _. Some UnexpectedFragment) p) }
+{
+    match cut {
+        Ok(p) => match p.fragment() {
+            Some(_) => Err(Error::new(ErrorKind::UnexpectedFragment)),
+            None => Ok(()),
+        },
+        Err(fault) => Err(Error::new(absolute_kind(fault.kind()))),
+    }
 }
 
 // The scheme and its colon.
@@ -189,12 +210,7 @@ pub fn absolute_iri<S: Spec>(s: &str) -> Result<(), Error>
     ensures { Answers result (absolute_fault S.tests s.now) }
 {
     leading_scheme(s)?;
-    let p = Splitter::cut(s);
-    before_fragment::<S>(&p)?;
-    match p.fragment() {
-        Some(_) => Err(Error::new(ErrorKind::UnexpectedFragment)),
-        None => Ok(()),
-    }
+    without_fragment(Splitter::new::<S>(s))
 }
 
 /// Whether the text is a `relative-ref`, without a scheme (RFC 3986 section 4.2).
@@ -214,7 +230,8 @@ pub fn absolute_iri<S: Spec>(s: &str) -> Result<(), Error>
 pub fn relative_ref<S: Spec>(s: &str) -> Result<(), Error>
     ensures { Answers result (relative_fault S.tests s.now) }
 {
-    judge::<S>(&Splitter::cut_relative(s))
+    Splitter::relative::<S>(s)?;
+    Ok(())
 }
 
 #[cfg(test)]

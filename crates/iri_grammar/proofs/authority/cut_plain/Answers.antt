@@ -1,12 +1,12 @@
 use Rattle.std.proofs.Common.{◌∙◌, ap, subst, sym, take}
 use Rattle.std.proofs.lemmas.List.{take_rest}
 use Rattle.std.specs.List.{list_all}
-use Rattle.std.specs.Str.{IsUtf8}
+use Rattle.std.specs.Str.{IsUtf8, is_utf8}
 use Rattle.iri_grammar.specs.ClassTests.{ascii_test}
 use Rattle.iri_grammar.specs.Seen.{is_plain_authority, is_small}
 use Rattle.iri_grammar.specs.declared.class.Class.TheVariants.{Userinfo}
 use Rattle.iri_grammar.specs.inside.PlainAuthority.{is_small_name}
-use Rattle.iri_grammar.proofs.TextParts.{text-by_parts}
+use Rattle.iri_grammar.proofs.TextParts.{text-past}
 use Rattle.iri_grammar.proofs.PlainAuthorities.{not-small, plain_cut}
 use Rattle.iri_grammar.proofs.authority.cut_plain.Goals as goal
 
@@ -31,7 +31,7 @@ returns-clause-capitals c h =
     ap (list_all is_small) (c.from_utf8_unchecked-name.ensures ∙ ap (λ n. take n t) c.plain_len-end.ensures.len) ∙ (plain_cut t).small small
 
 pub returns-clause-text : goal.returns-clause-text
-returns-clause-text c u =
+returns-clause-text c =
     let t = c.args.s.now in
     let n = c.plain_len-end.result.0 in
-    text-by_parts t n (subst (λ k. IsUtf8 (take k t)) (sym c.plain_len-end.ensures.len) (plain_cut t).text) (subst IsUtf8 (take_rest t n) u)
+    text-past t n (subst (λ k. IsUtf8 (take k t)) (sym c.plain_len-end.ensures.len) (plain_cut t).text) ∙ ap is_utf8 (sym (take_rest t n))

@@ -1,9 +1,12 @@
-use Rattle.std.proofs.Common.{arith, subst}
-use Rattle.std.proofs.lemmas.Str.{lead_after_ascii}
-use Rattle.iri_grammar.specs.inside.Delimiters.{SchemeAt}
+use Rattle.std.proofs.Common.{◌+◌, ◌∙◌, ap, sym}
+use Rattle.std.specs.Str.{is_utf8}
+use Rattle.std.proofs.lemmas.List.{take_rest}
+use Rattle.iri_grammar.proofs.TextParts.{scheme-text}
 use Rattle.iri_grammar.proofs.splitter.cut_scheme.Goals as goal
 
-pub range_from-requires : goal.range_from-requires
-range_from-requires c _ =
-    let at = subst (λ bs. SchemeAt bs c.in-Some.i) c.as_bytes.ensures.value c.in-Some.ensures in
-    (omega (arith, at.inside), λ l h. lead_after_ascii c.args.s.now c.in-Some.i c.utf8.s (omega (arith, at.byte)) l h)
+pub from_utf8_unchecked-scheme-requires : goal.from_utf8_unchecked-scheme-requires
+from_utf8_unchecked-scheme-requires c = c.in-Some.ensures.text
+
+pub returns-in-Some-clause-text : goal.returns-in-Some-clause-text
+returns-in-Some-clause-text c =
+    scheme-text c.args.s.now c.in-Some.i c.in-Some.ensures ∙ ap is_utf8 (sym (take_rest c.args.s.now (c.in-Some.i + 1)))

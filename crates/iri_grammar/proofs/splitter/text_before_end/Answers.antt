@@ -1,7 +1,9 @@
-use Rattle.std.proofs.Common.{◌∙◌, subst}
-use Rattle.std.specs.Str.{IsUtf8}
+use Rattle.std.proofs.Common.{◌∙◌, ap, sym, arith}
+use Rattle.std.specs.Str.{is_utf8}
 use Rattle.std.proofs.lemmas.List.{take_rest}
-use Rattle.iri_grammar.proofs.TextParts.{text-by_parts}
+use Rattle.std.proofs.lemmas.Str.{IsUtf8-from_is_utf8, IsUtf8-take}
+use Rattle.iri_grammar.proofs.CutLemmas.{false-where}
+use Rattle.iri_grammar.proofs.TextParts.{text-past}
 use Rattle.iri_grammar.proofs.splitter.text_before_end.Goals as goal
 
 pub returns-in-Ok : goal.returns-in-Ok
@@ -9,8 +11,11 @@ returns-in-Ok c =
     let t = c.args.s.now in
     let n = c.authority_len-end.result in
     let at = c.authority_len-end.ensures in
-    let h = c.in-Ok.ensures.cases in (
-      h.0 ∙ at.prefix,
-      take_rest t n ∙ at.rest,
-      λ u. text-by_parts t n h.1 (subst IsUtf8 (take_rest t n) u),
-    )
+    let h = c.in-Ok.ensures.cases in (h.0 ∙ at.prefix, take_rest t n ∙ at.rest, text-past t n h.1 ∙ ap is_utf8 (sym (take_rest t n)))
+
+pub returns-in-Err : goal.returns-in-Err
+returns-in-Err c =
+    let t = c.args.s.now in
+    let at = c.authority_len-end.ensures in
+    false-where (is_utf8 t) (λ e. c.in-Err.ensures.cases.0
+    (IsUtf8-take t c.authority_len-end.result (IsUtf8-from_is_utf8 t e) (at.within, λ l h. omega (arith, at.ascii l))))

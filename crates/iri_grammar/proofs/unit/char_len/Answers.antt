@@ -4,7 +4,7 @@ use Rattle.iri_grammar.specs.inside.Runs.{AreUnits}
 use Rattle.iri_grammar.proofs.ClassLaws.{class_has_no_percent}
 use Rattle.iri_grammar.specs.Cut.{lacks}
 use Rattle.iri_grammar.proofs.UnitRuns.{char_units, char_lacks, prefix_of, prefix_text}
-use Rattle.iri_grammar.proofs.Units.{char_stops, char_shorter, nothing_left}
+use Rattle.iri_grammar.proofs.Units.{char_stops, nothing_left}
 use Rattle.iri_grammar.proofs.unit.char_len.Goals as goal
 
 pub returns-then-has-clause-units : goal.returns-then-has-clause-units
@@ -33,8 +33,7 @@ pub returns-else-has-clause-stops : goal.returns-else-has-clause-stops
 returns-else-has-clause-stops g c _ =
     let p = class_test g.S.Spec.tests c.args.class in
     let e = sym c.chars-chars.ensures.rest ∙ c.in-Some.ensures.steps.0 in
-    let some = char_shorter c.in-Some.c c.args.s.now c.next.new.self.rest.now e in
-    char_stops p c.in-Some.c c.args.s.now c.next.new.self.rest.now c.utf8.s e (omega (arith, some)) c.requires
+    char_stops p c.in-Some.c c.args.s.now c.next.new.self.rest.now c.utf8.s e c.requires
     (sym c.has.ensures ∙ c.if-has.false)
 
 pub returns-in-None-clause-stops : goal.returns-in-None-clause-stops

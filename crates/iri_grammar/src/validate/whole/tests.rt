@@ -167,9 +167,13 @@ fn splits_what_was_validated(rt: HostRuntime) {
         }
         Err(e) => assert_eq!(rt; Some(e.kind()), None),
     }
-    let parts = Splitter::cut("a#b?c");
-    is_part(&rt, parts.query(), None);
-    is_part(&rt, parts.fragment(), Some("b?c"));
+    match Splitter::new::<IriSpec>("a#b?c") {
+        Ok(parts) => {
+            is_part(&rt, parts.query(), None);
+            is_part(&rt, parts.fragment(), Some("b?c"));
+        }
+        Err(e) => assert_eq!(rt; Some(e.kind()), None),
+    }
 }
 
 // The laws of one spec, where they speak of it.

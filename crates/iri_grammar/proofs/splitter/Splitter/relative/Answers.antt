@@ -1,0 +1,12 @@
+use Rattle.std.proofs.Common.{◌∙◌, None, ap, subst}
+use Rattle.iri_grammar.specs.Fault.{Answers, bytes_fault}
+use Rattle.iri_grammar.specs.Split.{relative_split_of}
+use Rattle.iri_grammar.specs.inside.Scans.{fault_after}
+use Rattle.iri_grammar.proofs.TextParts.{text_fault}
+use Rattle.iri_grammar.proofs.splitter.Splitter.relative.Goals as goal
+
+pub returns-clause-fault : goal.returns-clause-fault
+unfolding relative_split_of
+returns-clause-fault g c =
+    let f = fault_after g.S.Spec.tests None in
+    subst (Answers c.after.result) (ap (bytes_fault f) c.as_bytes.ensures.value ∙ text_fault f c.args.text.now c.utf8.text) c.after.ensures.fault
