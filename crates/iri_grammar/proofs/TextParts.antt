@@ -1,14 +1,15 @@
 -- Bytes whose parts are texts are one.
 use Rattle.std.proofs.Common.{◌≡◌, ℕ, ◌+◌, ◌<◌, true, false, cond, List, [], ◌∷◌, ◌++◌, Option, Some, None, length, take, drop, sym, ◌∙◌, ap}
 use Rattle.std.proofs.Common.{subst, arith, add-one, drop-cons, length-append, refl}
-use Rattle.std.specs.Prelude.{slice_index}
+use Rattle.std.specs.Prelude.{Result, slice_index}
 use Rattle.std.specs.Str.{is_utf8, IsUtf8}
 use Rattle.std.proofs.lemmas.List.{take-append-drop}
 use Rattle.std.proofs.lemmas.Str.{IsCharBoundary-from_take, IsUtf8-append, IsUtf8-drop, IsUtf8-from_is_utf8, is_utf8-from_IsUtf8}
 use Rattle.std.proofs.Math.Seq.{take-append_seam, drop-append_seam}
 use Rattle.iri_grammar.specs.Classes.{Tests, fragment_char, path_char, query_char}
 use Rattle.iri_grammar.specs.Cut.{delimited}
-use Rattle.iri_grammar.specs.Fault.{bytes_fault}
+use Rattle.iri_grammar.specs.Fault.{Answers, bytes_fault}
+use Rattle.iri_grammar.specs.declared.error.Error.{Error}
 use Rattle.iri_grammar.specs.declared.error.ErrorKind.{ErrorKind}
 use Rattle.iri_grammar.specs.declared.error.ErrorKind.TheVariants.{InvalidUtf8}
 use Rattle.iri_grammar.specs.inside.Delimiters.{SchemeAt}
@@ -56,6 +57,11 @@ text_fault f bs u = rw (is_utf8-from_IsUtf8 bs u) refl
 
 pub no_text_fault : (f : List ℕ → Option ErrorKind) (bs : List ℕ) → (IsUtf8 bs → ⊥) → bytes_fault f bs ≡ Some InvalidUtf8
 no_text_fault f bs n = rw (false-where (is_utf8 bs) (λ e. n (IsUtf8-from_is_utf8 bs e))) refl
+
+-- what is said of a text is said of its bytes
+pub answers-of : {A : Type 0} (r : Result A Error) (f : List ℕ → Option ErrorKind) (t bs : List ℕ) → t ≡ bs → IsUtf8 bs → Answers r (f t)
+    → Answers r (bytes_fault f bs)
+answers-of r f t bs e u a = subst (Answers r) (ap f e ∙ sym (text_fault f bs u)) a
 
 -- bytes without a fault are a text without one
 pub no_fault-of_bytes : (f : List ℕ → Option ErrorKind) (bs : List ℕ) → bytes_fault f bs ≡ None → IsUtf8 bs × (f bs ≡ None)

@@ -1,6 +1,6 @@
 -- The first unit of a text over a class, and a run of ASCII characters at its start.
 use Rattle.std.proofs.Common.{◌≡◌, ℕ, suc, ◌<◌, ◌≤◌, ◌≢◌, Bool, true, false, cond, ◌&&◌, List, [], ◌∷◌, ◌++◌, length, drop, refl, sym, ◌∙◌}
-use Rattle.std.proofs.Common.{ap, subst, inl, inr, arith}
+use Rattle.std.proofs.Common.{ap, subst, inl, inr, arith, length-append}
 use Rattle.std.specs.Prelude.{◌==◌}
 use Rattle.std.specs.Char.{is_ascii_hexdigit, encode_utf8}
 use Rattle.std.specs.Str.{chars, IsUtf8}
@@ -8,7 +8,7 @@ use lib.Utf8.{encodes}
 use Rattle.std.proofs.lemmas.Bool.{cases_lt, cases_eq, and_parts as both, eqb-true}
 use Rattle.std.proofs.lemmas.Bool.Decides.{nat_tests}
 use Rattle.std.proofs.lemmas.Str.{chars_past_char, chars-nil, chars_from_encodes, encode_ascii, IsUtf8-past_char, byte_from_char}
-use Rattle.std.proofs.lemmas.Str.{is_utf8-from_IsUtf8, encodes-chars, chars-append}
+use Rattle.std.proofs.lemmas.Str.{is_utf8-from_IsUtf8, encodes-chars, chars-append, length-encode, len_utf8_bounds}
 use Rattle.iri_grammar.specs.Cut.{tail}
 use Rattle.iri_grammar.specs.Over.{over, over_from, text_over}
 use Rattle.iri_grammar.specs.Runs.{run_of}
@@ -177,6 +177,10 @@ pub run_of_le : (q : ℕ → Bool) (t : List ℕ) → run_of q t ≤ length t
 run_of_le q [] = omega arith
 run_of_le q (x ∷ xs) =
     elim (q x) as (λ b. cond b (suc (run_of q xs)) 0 ≤ length (x ∷ xs)) [ true ↦ omega (arith, run_of_le q xs) | false ↦ omega arith ]
+
+-- what follows a character is shorter
+pub char_shorter : (c : ℕ) (t r : List ℕ) → t ≡ encode_utf8 c ++ r → length r < length t
+char_shorter c t r e = omega (arith, ap length e, length-append (encode_utf8 c) r, length-encode c, (len_utf8_bounds c).0)
 
 -- of a text
 pub of_text : (p : ℕ → Bool) (t : List ℕ) → IsUtf8 t → text_over p t ≡ over p (chars t)

@@ -329,7 +329,9 @@ impl<'a> Splitter<'a> {
         match Splitter::scan::<S>(scheme, bytes) {
             Some((parts, rest)) => {
                 if !rest.is_empty() {
-                    return Err(fault_at::<S>(&parts, rest));
+                    // The call gets a copy: the parts themselves can stay in registers.
+                    let left = parts;
+                    return Err(fault_at::<S>(&left, rest));
                 }
                 match judge_scanned::<S>(&parts) {
                     Ok(()) => Ok(parts),
