@@ -160,6 +160,10 @@ scanned s k sch t a r p authority rest same scan =
     }
 
 -- ---- the fault of bytes
+pub nothing : (r : List ℕ) → (length r == 0) ≡ true → r ≡ []
+nothing [] h = refl
+nothing (x ∷ r) h = absurd (omega (arith, eqb-true (length (x ∷ r)) 0 h))
+
 pub whole-fault : (s : Tests) (sch : Option (List ℕ)) (t : List ℕ) (p : Parts) (r : List ℕ) → Scans s sch t p r → (length r == 0) ≡ true
     → bytes_fault (fault_after s sch) t ≡ parts_fault s (fragment_fault s) p
 whole-fault s sch t p [] h none = rw (h.text, is_utf8-from_IsUtf8 [] nothing-utf8) (ap (parts_fault s (fragment_fault s)) (sym (h.whole refl)))

@@ -8,7 +8,7 @@ ghost use Rattle.iri_grammar.specs.Fault.{Answers, bytes_fault};
 ghost use Rattle.iri_grammar.specs.Delimiters.{before_any, from_any};
 ghost use Rattle.iri_grammar.specs.inside.Delimiters.{ends_scheme, SchemeAt, NoScheme, ends_authority, AuthorityEndAt, EndsAuthority};
 ghost use Rattle.iri_grammar.specs.inside.Delimiters.{NoAuthorityEnd, IsPastAuthority, ends_at_start};
-ghost use Rattle.iri_grammar.specs.inside.Scans.{fault_after, Scans};
+ghost use Rattle.iri_grammar.specs.inside.Scans.{fault_after, parts_with, stop_fault};
 ghost use Rattle.iri_grammar.specs.inside.AuthorityCuts.{KeepsAuthorityNotes};
 ghost use Rattle.iri_grammar.specs.Parts.{Splits, starts_with_slashes};
 ghost use Rattle.iri_grammar.specs.Runs.{run_of};
@@ -326,30 +326,14 @@ impl<'a> Splitter<'a> {
         ensures fault { Answers result (bytes_fault (fault_after S.tests (now_of scheme.entry)) bytes.now) }
         ensures value { IfOk result (λ p. parts p ≡ parts_of (now_of scheme.entry) bytes.now) }
     {
-        match Splitter::scan::<S>(scheme, bytes) {
-            Some((parts, rest)) => {
-                if !rest.is_empty() {
-                    // The call gets a copy: the parts themselves can stay in registers.
-                    let left = parts;
-                    return Err(fault_at::<S>(&left, rest));
-                }
-                match judge_scanned::<S>(&parts) {
-                    Ok(()) => Ok(parts),
-                    Err(error) => Err(error),
-                }
-            }
-            None => Err(Error::new(ErrorKind::InvalidUtf8)),
-        }
-    }
-
-    // The parts up to where one leaves its production, and what is left over. `None` where the authority is no text.
-    #[inline(always)]
-    fn scan<S: Spec>(scheme: Option<&'a str>, bytes: &'a [u8]) -> Option<(Splitter<'a>, &'a [u8])>
-        ensures { MatchOption result (is_utf8 bytes.now ≡ false)
-            (λ r. Scans S.tests (now_of scheme.entry) bytes.now (parts r.0) r.1.now) }
-    {
-        let cut = cut_authority(bytes)?;
+        let cut = match cut_authority(bytes) {
+            Some(cut) => cut,
+            None => return Err(Error::new(ErrorKind::InvalidUtf8)),
+        };
         let tail = Tail::scan::<S>(cut.rest);
+        if !tail.rest.is_empty() {
+            return Err(Splitter::stopped::<S>(scheme, cut.authority, tail));
+        }
         let parts = Splitter {
             scheme,
             authority: cut.authority,
@@ -365,7 +349,31 @@ impl<'a> Splitter<'a> {
                 other_authority: cut.other,
             },
         };
-        Some((parts, tail.rest))
+        match judge_scanned::<S>(&parts) {
+            Ok(()) => Ok(parts),
+            Err(error) => Err(error),
+        }
+    }
+
+    // The first fault where a scan left something over.
+    #[inline(never)]
+    fn stopped<S: Spec>(
+        scheme: Option<&'a str>,
+        authority: Option<&'a str>,
+        tail: Tail<'a>,
+    ) -> Error
+        ensures { Some result.kind ≡ bytes_fault (λ _. stop_fault S.tests (parts_with (now_of scheme.entry)
+            (now_of authority.entry) tail.entry)) tail.entry.rest.now }
+    {
+        let parts = Splitter {
+            scheme,
+            authority,
+            path: tail.path,
+            query: tail.query,
+            fragment: tail.fragment,
+            seen: Seen::nothing_promised(),
+        };
+        fault_at::<S>(&parts, tail.rest)
     }
 
     /// What the scan noted.

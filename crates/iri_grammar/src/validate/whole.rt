@@ -103,7 +103,6 @@ fn part_left(p: &Splitter<'_>) -> ErrorKind
 }
 
 // The first fault of a text in which a scan left something over.
-#[inline(never)]
 pub(crate) fn fault_at<S: Spec>(p: &Splitter<'_>, rest: &[u8]) -> Error
     ensures { Some result.kind ≡ bytes_fault (λ _. stop_fault S.tests (parts p.now)) rest.now }
 {
