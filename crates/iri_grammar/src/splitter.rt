@@ -8,7 +8,7 @@ ghost use Rattle.iri_grammar.specs.Fault.{Answers, bytes_fault};
 ghost use Rattle.iri_grammar.specs.Delimiters.{before_any, from_any};
 ghost use Rattle.iri_grammar.specs.inside.Delimiters.{ends_scheme, SchemeAt, NoScheme, ends_authority, AuthorityEndAt, EndsAuthority};
 ghost use Rattle.iri_grammar.specs.inside.Delimiters.{NoAuthorityEnd, IsPastAuthority, ends_at_start};
-ghost use Rattle.iri_grammar.specs.inside.Scans.{fault_after, parts_with, stop_fault};
+ghost use Rattle.iri_grammar.specs.inside.Scans.{fault_after, stop_fault};
 ghost use Rattle.iri_grammar.specs.inside.AuthorityCuts.{KeepsAuthorityNotes};
 ghost use Rattle.iri_grammar.specs.Parts.{Splits, starts_with_slashes};
 ghost use Rattle.iri_grammar.specs.Runs.{run_of};
@@ -332,7 +332,15 @@ impl<'a> Splitter<'a> {
         };
         let tail = Tail::scan::<S>(cut.rest);
         if !tail.rest.is_empty() {
-            return Err(Splitter::stopped::<S>(scheme, cut.authority, tail));
+            // The call gets the parts one by one: so they can stay in registers.
+            return Err(Splitter::stopped::<S>(
+                scheme,
+                cut.authority,
+                tail.path,
+                tail.query,
+                tail.fragment,
+                tail.rest,
+            ));
         }
         let parts = Splitter {
             scheme,
@@ -360,20 +368,28 @@ impl<'a> Splitter<'a> {
     fn stopped<S: Spec>(
         scheme: Option<&'a str>,
         authority: Option<&'a str>,
-        tail: Tail<'a>,
+        path: &'a str,
+        query: Option<&'a str>,
+        fragment: Option<&'a str>,
+        rest: &[u8],
     ) -> Error
-        ensures { Some result.kind ≡ bytes_fault (λ _. stop_fault S.tests (parts_with (now_of scheme.entry)
-            (now_of authority.entry) tail.entry)) tail.entry.rest.now }
+        ensures { Some result.kind ≡ bytes_fault (λ _. stop_fault S.tests (record {
+          scheme = now_of scheme.entry;
+          authority = now_of authority.entry;
+          path = path.now;
+          query = now_of query.entry;
+          fragment = now_of fragment.entry;
+        })) rest.now }
     {
         let parts = Splitter {
             scheme,
             authority,
-            path: tail.path,
-            query: tail.query,
-            fragment: tail.fragment,
+            path,
+            query,
+            fragment,
             seen: Seen::nothing_promised(),
         };
-        fault_at::<S>(&parts, tail.rest)
+        fault_at::<S>(&parts, rest)
     }
 
     /// What the scan noted.

@@ -3,13 +3,11 @@ use Rattle.std.specs.Prelude.{◌≡◌, true, false, cond, List, [], ℕ, Optio
 use Rattle.std.specs.Str.{is_utf8}
 use Rattle.iri_grammar.specs.Classes.{Tests}
 use Rattle.iri_grammar.specs.Fault.{authority_fault, first, fragment_fault, part_fault, unless}
-use Rattle.iri_grammar.specs.OptionalSlices.{now_of}
 use Rattle.iri_grammar.specs.Parts.{Parts, is_empty}
 use Rattle.iri_grammar.specs.Split.{parts_of}
 use Rattle.iri_grammar.specs.WholeFault.{colon_allowed, parts_fault}
 use Rattle.iri_grammar.specs.declared.error.ErrorKind.{ErrorKind}
 use Rattle.iri_grammar.specs.declared.error.ErrorKind.TheVariants.{InvalidFragment, InvalidPath, InvalidQuery, UnexpectedFragment}
-use Rattle.iri_grammar.specs.declared.tail.Tail.{Tail}
 use Rattle.iri_grammar.specs.inside.Tails.{AreOver}
 
 -- the fault of a text that follows a scheme and its colon, or nothing
@@ -24,10 +22,6 @@ part_left query fragment = cond (is_some fragment) InvalidFragment (cond (is_som
 abbrev pub stop_fault : Tests → Parts → Option ErrorKind
 stop_fault s p =
     first (first (part_fault (authority_fault s) p.authority) (unless (colon_allowed p) InvalidPath)) (Some (part_left p.query p.fragment))
-
--- the parts before and after an authority's end
-abbrev pub parts_with : Option (List ℕ) → Option (List ℕ) → Tail → Parts
-parts_with sch a p = record { scheme = sch; authority = a; path = p.path.now; query = now_of p.query; fragment = now_of p.fragment }
 
 -- the parts p are the start of a text t after a scheme, r is left over
 pub record Scans (s : Tests) (sch : Option (List ℕ)) (t : List ℕ) (p : Parts) (r : List ℕ) : Type 0 where
