@@ -87,7 +87,7 @@ pub first_candidate : (s : Tests) (lower : Bool) (t : List ℕ) (o : Option ℕ)
 first_candidate s lower t None w n = run_all s lower t n
 first_candidate s lower t (Some i) w m =
     let r = run s lower t i (omega (arith, m.inside)) m.before in
-    record { inside = m.inside; delimiter = m.delimiter; same = r.text; whole = r.whole ∙ w }
+    record { inside = m.inside; candidate = m.candidate; same = r.text; whole = r.whole ∙ w }
 
 pub gathers : (s : Tests) (lower : Bool) (t : List ℕ) (at : ℕ) → FirstCandidate s lower t at → Gathered s lower t at 0 []
 gathers s lower t at m =
@@ -95,7 +95,7 @@ gathers s lower t at m =
     record {
       text = m.same ∙ ap (λ n. take at t ++ normal s (case_of lower) (drop n t)) same;
       within = omega (arith, m.inside);
-      first = delimiter_below lower (get_or t at 0) m.delimiter;
+      first = delimiter_below lower (get_or t at 0) m.candidate;
       whole = ap (λ n. whole_triplets (drop n t)) (sym same) ∙ m.whole;
     }
 

@@ -15,6 +15,6 @@ returns c =
     let p = run_test c.args.run in
     let t = c.args.s.now in
     let is = c.run_len.ensures ∙ ap (run_of p) c.as_bytes.ensures.value in
-    let prefix = c.split_at.ensures.prefix ∙ ap (λ n. take n t) is in
+    let prefix = c.split_at.ensures.front ∙ ap (λ n. take n t) is in
     let back = c.split_at.ensures.back ∙ ap (λ n. drop n t) is in
     rw (prefix, back) (run-is p t)

@@ -9,7 +9,7 @@ pub returns-in_err-put_few : goal.returns-in_err-put_few
 returns-in_err-put_few g c =
     let i = c.loop-rest.invariant in
     let same = i.same
-    ∙ triplets_split i.done c.loop-rest.rest.now c.split_at.result.0.now c.split_at.result.1.now 8 c.split_at.ensures.prefix c.split_at.ensures.back in
+    ∙ triplets_split i.done c.loop-rest.rest.now c.split_at.result.0.now c.split_at.result.1.now 8 c.split_at.ensures.front c.split_at.ensures.back in
     subst (λ l. Shows g.W.TextSink.puts g.W.TextSink.halts g.W.TextSink.stops c.args.sink.now l c.put_few.new.sink c.from_residual.result) (sym same)
     (shown_exit g.met.W.TextSink.rules (triplets c.split_at.result.1.now) c.from_residual.ensures.0 i.shown c.in_err-put_few.ensures)
 
@@ -20,7 +20,7 @@ loop-rest-preserved g c =
       done = i.done ++ triplets c.split_at.result.0.now;
       shown = shown_more g.met.W.TextSink.rules i.shown c.in_ok-put_few.ensures;
       same = i.same
-          ∙ triplets_split i.done c.loop-rest.rest.now c.split_at.result.0.now c.split_at.result.1.now 8 c.split_at.ensures.prefix c.split_at.ensures.back;
+          ∙ triplets_split i.done c.loop-rest.rest.now c.split_at.result.0.now c.split_at.result.1.now 8 c.split_at.ensures.front c.split_at.ensures.back;
     }
 
 pub returns : goal.returns
