@@ -32,7 +32,7 @@ some_triplets : (bs : List ℕ) → 0 < length bs → 0 < length (triplets bs)
 some_triplets [] h = absurd (omega arith)
 some_triplets (b ∷ bs) h = omega arith
 
-some_encoded : (kept : ℕ → Bool) (c : ℕ) → 0 < length (encoded_char kept c)
+pub some_encoded : (kept : ℕ → Bool) (c : ℕ) → 0 < length (encoded_char kept c)
 some_encoded kept c =
     let some : 0 < length (encode_utf8 c) = omega (arith, length-encode c, len_utf8_bounds c) in
     elim (kept c) as (λ b. 0 < length (cond b (encode_utf8 c) (triplets (encode_utf8 c)))) [ true ↦ some | false ↦ some_triplets (encode_utf8 c) some ]

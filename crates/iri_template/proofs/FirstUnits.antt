@@ -5,7 +5,7 @@ use Rattle.std.specs.Prelude.{◌==◌, is_some, nat_le, slice_index}
 use Rattle.std.specs.List.{flat_map}
 use Rattle.std.specs.Char.{is_ascii_hexdigit, len_utf8, encode_utf8}
 use Rattle.std.specs.Str.{chars, IsAscii}
-use Rattle.std.proofs.lemmas.Bool.{and_parts}
+use Rattle.std.proofs.lemmas.Bool.{and_parts, or_right}
 use Rattle.std.proofs.lemmas.List.{length-take-le}
 use Rattle.std.proofs.lemmas.Str.{len_utf8_bounds, chars-IsAscii, encode_ascii}
 use Rattle.iri_grammar.specs.Classes.{Tests, IsSpec, any_char, is_ascii_any, is_ascii_reg_name, is_ascii_unreserved, is_sub_delim}
@@ -27,14 +27,10 @@ long_enough (x ∷ a ∷ []) h = cc
 long_enough (x ∷ a ∷ b ∷ t) h = omega arith
 
 -- ---- whether it is told
-or_true : (b : Bool) → b || true ≡ true
-or_true true = refl
-or_true false = refl
-
-or_right : (e a b : Bool) → e || b ≡ true → e || (a || b) ≡ true
-or_right true a b h = refl
-or_right false true b h = refl
-or_right false false b h = h
+or_last : (e a b : Bool) → e || b ≡ true → e || (a || b) ≡ true
+or_last true a b h = refl
+or_last false true b h = refl
+or_last false false b h = h
 
 some_true : {o : Option ℕ} (b : Bool) (c : ℕ) → o ≡ Some c → is_some o || b ≡ true
 some_true b c h = ap (λ p. is_some p || b) h
@@ -73,7 +69,7 @@ unit_of_char s end t c h k =
     record {
       some = omega (arith, len_utf8_bounds c);
       within = inside;
-      told = ap (λ b. end || b) (some_true (nat_le 12 (length t) || is_closed t) c k) ∙ or_true end;
+      told = ap (λ b. end || b) (some_true (nat_le 12 (length t) || is_closed t) c k) ∙ or_right end true refl;
       all = ap (λ u. length (unit_text u)) is ∙ length-take-le (3 * len_utf8 c) t inside;
       text = ap (kept_unit s) is;
     }
@@ -100,7 +96,7 @@ unit_of_lone s end t h k e =
     record {
       some = omega arith;
       within = long_enough t h;
-      told = or_right end (is_some (first_char (octets t))) (nat_le 12 (length t) || is_closed t) e;
+      told = or_last end (is_some (first_char (octets t))) (nat_le 12 (length t) || is_closed t) e;
       all = is.0;
       text = is.1;
     }
@@ -143,7 +139,7 @@ first_ascii x t h = h 0
 
 settled_byte : (x : ℕ) (t : List ℕ) (end : Bool) → (end || (nat_le 12 (length (x ∷ t)) || is_closed (x ∷ t))) ≡ true
     → end || is_settled (x ∷ t) ≡ true
-settled_byte x t end h = or_right end (is_some (first_char (octets (x ∷ t)))) (nat_le 12 (length (x ∷ t)) || is_closed (x ∷ t)) h
+settled_byte x t end h = or_last end (is_some (first_char (octets (x ∷ t)))) (nat_le 12 (length (x ∷ t)) || is_closed (x ∷ t)) h
 
 byte_length : (x : ℕ) → length (unit_text (byte_unit x)) ≡ 1
 byte_length x = elim (x == 37) as (λ b. length (unit_text (cond b Stray (Plain x))) ≡ 1) [ true ↦ refl | false ↦ refl ]

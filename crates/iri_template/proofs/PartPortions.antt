@@ -24,9 +24,10 @@ use Rattle.iri_template.specs.declared.error.ErrorKind.TheVariants.{WriteFailed,
 use Rattle.iri_template.specs.declared.operator.Operator.{Operator}
 use Rattle.iri_template.specs.declared.part.Part.{Part}
 use Rattle.iri_template.specs.declared.part.Part.TheVariants as part
+use Rattle.iri_template.proofs.FirstChars.{some_encoded}
 use Rattle.iri_template.proofs.PartWalk.{PartCut}
 use Rattle.iri_template.proofs.PortionWalk.{fault_after, text_after, calls_append, HasEnded, ended_more, ended_exit, ended_calls, ended_end}
-use Rattle.iri_template.proofs.TellWalk.{BothTold, later_none, moved_on, moves_none}
+use Rattle.iri_template.proofs.PortionWalk.{BothTold, later_none, moved_on, moves_none}
 use Rattle.iri_template.proofs.VarSpecPortions.{calls_of_all}
 use Rattle.iri_template.proofs.Walks.{names_append, literals_have_none}
 
@@ -63,22 +64,10 @@ literals_in s f at here prefix (c ∷ cs) ps =
     ∙ ap (λ n. portions_from s f at n (prefix ++ written s (c ∷ cs)) ps) z
 
 -- literals write at least one byte
-one_written : (s : Tests) (c : ℕ) → 0 < length (encoded_char (any_char s) c)
-one_written s c =
-    let some : 0 < length (encode_utf8 c) = omega (arith, length-encode c, (len_utf8_bounds c).0) in
-    elim (any_char s c) as (λ b. 0 < length (cond b (encode_utf8 c) (triplets (encode_utf8 c)))) [
-      | true ↦ some
-      | false ↦ some_triplets (encode_utf8 c) some
-    ]
-  where
-    some_triplets : (xs : List ℕ) → 0 < length xs → 0 < length (triplets xs)
-    some_triplets [] h = absurd (omega (arith, h))
-    some_triplets (x ∷ xs) h = omega arith
-
 literals_written : (s : Tests) (cs : List ℕ) → 0 < length (template_text (map literal cs)) → 0 < length (written s cs)
 literals_written s [] h = absurd (omega (arith, h))
 literals_written s (c ∷ cs) h =
-    omega (arith, length-append (encoded_char (any_char s) c) (written s cs), one_written s c)
+    omega (arith, length-append (encoded_char (any_char s) c) (written s cs), some_encoded (any_char s) c)
 
 literals_are : (s : Tests) (t : List ℕ) → written s (chars t) ≡ encoded (any_char s) t
 unfolding encoded
@@ -205,38 +194,35 @@ module _ {W : Type 0} (s : Tests) (puts halts : W → List ℕ → W → Type 0)
               none = refl;
             }
 
-    literals_exit : 0 < length x → (error : Error) → error ≡ record { kind = WriteFailed; location = begin } → halts b x c
-        → HasReached s puts all a f h begin here t b → EndsAs puts halts all a c (Err error)
-    literals_exit some error is q p =
+    literals_refused : 0 < length x → (error : Error) (now : Option Telling) → error ≡ record { kind = WriteFailed; location = begin } → halts b x c
+        → error.location ≡ begin → now ≡ Some h → HasReached s puts all a f h begin here t b
+        → EndsAs puts halts all a c (Err error) × CallsUpTo all error.location 0 (Some f) now
+    literals_refused some error now is q there same p =
         let d = literals_stand_at some p in
-        subst (λ (e : Error). EndsAs puts halts all a c (Err e)) (sym is) (record {
-          reached = record {
+        let n : calls_in p.done ≡ calls_in p.done + d.here.calls + 0 = omega (arith, d.none) in (
+          subst (λ (e : Error). EndsAs puts halts all a c (Err e)) (sym is) (record {
+            reached = record {
+              prefix = p.done;
+              here = d.here;
+              rest = d.rest;
+              split = d.split;
+              fine = fault_after p.done (d.here ∷ []) p.fine ∙ ap (λ b. cond b (fault UnexpectedValueType d.here.location) None) d.right;
+              location = d.location;
+            };
+            mid = p.mid;
+            put = p.put;
+            halt = subst (λ l. halts p.mid l c) (sym d.text) (laws.within p.mid c (p.prefix ++ x) d.more (laws.until p.mid b c p.prefix x p.into q));
+          }),
+          record {
             prefix = p.done;
             here = d.here;
             rest = d.rest;
             split = d.split;
-            fine = fault_after p.done (d.here ∷ []) p.fine ∙ ap (λ b. cond b (fault UnexpectedValueType d.here.location) None) d.right;
-            location = d.location;
-          };
-          mid = p.mid;
-          put = p.put;
-          halt = subst (λ l. halts p.mid l c) (sym d.text) (laws.within p.mid c (p.prefix ++ x) d.more (laws.until p.mid b c p.prefix x p.into q));
-        })
-
-    literals_calls : 0 < length x → (at : ℕ) (now : Option Telling) → at ≡ begin → now ≡ Some h → HasReached s puts all a f h begin here t b
-        → CallsUpTo all at 0 (Some f) now
-    literals_calls some at now is same p =
-        let d = literals_stand_at some p in
-        let n : calls_in p.done ≡ calls_in p.done + d.here.calls + 0 = omega (arith, d.none) in
-        record {
-          prefix = p.done;
-          here = d.here;
-          rest = d.rest;
-          split = d.split;
-          fine = p.fine;
-          location = d.location ∙ sym is;
-          moves = subst (λ k. MovesBy k (Some f) now) n (subst (λ u. MovesBy (calls_in p.done) (Some f) u) (sym same) p.moved);
-        }
+            fine = p.fine;
+            location = d.location ∙ sym there;
+            moves = subst (λ k. MovesBy k (Some f) now) n (subst (λ u. MovesBy (calls_in p.done) (Some f) u) (sym same) p.moved);
+          },
+        )
 
   -- ---- an expression
   module _ (h : Telling) (begin here : ℕ) (t r : List ℕ) (operator : Operator) (vs : List VarSpec) (at : ℕ)
@@ -272,17 +258,15 @@ module _ {W : Type 0} (s : Tests) (puts halts : W → List ℕ → W → Type 0)
           moved = k.moved;
         }
 
-    expression_exit : (error : Error) → EndsAs puts halts inner b c (Err error) → HasReached s puts all a f h begin here t b
-        → EndsAs puts halts all a c (Err error)
-    expression_exit error q p =
+    expression_refused : (error : Error) (now : Option Telling) → EndsAs puts halts inner b c (Err error)
+        → CallsUpTo inner error.location 0 (Some h) now → HasReached s puts all a f h begin here t b
+        → EndsAs puts halts all a c (Err error) × CallsUpTo all error.location 0 (Some f) now
+    expression_refused error now q r p =
         let there = here + length (piece_text (expression operator vs)) in
-        ended_exit puts halts laws all inner (after_it there) a b c f h error (opened there refl p) q
-
-    expression_calls : (at_now : ℕ) (now : Option Telling) → CallsUpTo inner at_now 0 (Some h) now → HasReached s puts all a f h begin here t b
-        → CallsUpTo all at_now 0 (Some f) now
-    expression_calls at_now now q p =
-        let there = here + length (piece_text (expression operator vs)) in
-        ended_calls puts halts laws all inner (after_it there) a b f h at_now now (opened there refl p) q
+        let o = opened there refl p in (
+          ended_exit puts halts laws all inner (after_it there) a b c f h error o q,
+          ended_calls puts halts laws all inner (after_it there) a b f h error.location now o r,
+        )
 
   -- ---- a part
   moved_none : (h k : Telling) → MovesBy 0 (Some h) (Some k) → h ≡ k
@@ -323,37 +307,22 @@ module _ {W : Type 0} (s : Tests) (puts halts : W → List ℕ → W → Type 0)
       subst (λ (n : Telling). HasReached s puts all a f n there there r c) (sym (moved_on (2 * length vs) h k m))
       (expression_more h begin here t r x.operator vs x.location cut.pieces placed b c there y (omega (arith, z, cut.len)) q p)
 
-  part_exit : (p : Part) (t r x : List ℕ) (begin here : ℕ) (b c : W) (error : Error) → PartCut p t r → IsPlaced p here
-      → x ≡ template_text (part_pieces p) → length r < length t → (h : Telling)
-      → PartEnds s puts halts begin x b c (Err error) p h → HasReached s puts all a f h begin here t b → EndsAs puts halts all a c (Err error)
-  part_exit (part.Literals l) t r x begin here b c error cut placed text shorter h q p =
+  part_refused : (p : Part) (t r x : List ℕ) (begin here : ℕ) (b c : W) (error : Error) (now : Option Telling) → PartCut p t r → IsPlaced p here
+      → x ≡ template_text (part_pieces p) → length r < length t → (h : Telling) → PartEnds s puts halts begin x b c (Err error) p h
+      → PartCalls s error.location begin (Some h) now p h → HasReached s puts all a f h begin here t b
+      → EndsAs puts halts all a c (Err error) × CallsUpTo all error.location 0 (Some f) now
+  part_refused (part.Literals l) t r x begin here b c error now cut placed text shorter h q k p =
       let there = here + length (template_text (map literal (chars l.now))) in
       let some : 0 < length (encoded (any_char s) l.now) = subst (λ w. 0 < length w) (literals_are s l.now)
       (literals_written s (chars l.now) (omega (arith, cut.len, shorter))) in
-      literals_exit h begin here there t r (encoded (any_char s) l.now) (map literal (chars l.now)) cut.pieces
-      (literals_stand h begin here there l.now r refl) b c some error q.0 q.1 p
-  part_exit (part.Triplet l) t r x begin here b c error cut placed text shorter h q p =
+      literals_refused h begin here there t r (encoded (any_char s) l.now) (map literal (chars l.now)) cut.pieces
+      (literals_stand h begin here there l.now r refl) b c some error now q.0 q.1 k.0 k.1 p
+  part_refused (part.Triplet l) t r x begin here b c error now cut placed text shorter h q k p =
       let z = ap length text in
-      literals_exit h begin here (here + length x) t r x (part_pieces (part.Triplet l)) cut.pieces
-      (λ prefix. triplet_stands h begin here (here + length x) l prefix x r refl text) b c (omega (arith, z, cut.len)) error q.0 q.1 p
-  part_exit (part.Expression x) t r u begin here b c error cut placed text shorter h q p =
-      expression_exit h begin here t r x.operator (map varspec_of (pieces 44 x.varspecs.now)) x.location cut.pieces placed b c error q p
-
-  part_calls : (p : Part) (t r x : List ℕ) (begin here : ℕ) (b c : W) (at : ℕ) (now : Option Telling) → PartCut p t r → IsPlaced p here
-      → x ≡ template_text (part_pieces p) → length r < length t → (h : Telling)
-      → PartCalls s at begin (Some h) now p h → HasReached s puts all a f h begin here t b → CallsUpTo all at 0 (Some f) now
-  part_calls (part.Literals l) t r x begin here b c at now cut placed text shorter h q p =
-      let there = here + length (template_text (map literal (chars l.now))) in
-      let some : 0 < length (encoded (any_char s) l.now) = subst (λ w. 0 < length w) (literals_are s l.now)
-      (literals_written s (chars l.now) (omega (arith, cut.len, shorter))) in
-      literals_calls h begin here there t r (encoded (any_char s) l.now) (map literal (chars l.now)) cut.pieces
-      (literals_stand h begin here there l.now r refl) b c some at now q.0 q.1 p
-  part_calls (part.Triplet l) t r x begin here b c at now cut placed text shorter h q p =
-      let z = ap length text in
-      literals_calls h begin here (here + length x) t r x (part_pieces (part.Triplet l)) cut.pieces
-      (λ prefix. triplet_stands h begin here (here + length x) l prefix x r refl text) b c (omega (arith, z, cut.len)) at now q.0 q.1 p
-  part_calls (part.Expression x) t r u begin here b c at now cut placed text shorter h q p =
-      expression_calls h begin here t r x.operator (map varspec_of (pieces 44 x.varspecs.now)) x.location cut.pieces placed b c at now q p
+      literals_refused h begin here (here + length x) t r x (part_pieces (part.Triplet l)) cut.pieces
+      (λ prefix. triplet_stands h begin here (here + length x) l prefix x r refl text) b c (omega (arith, z, cut.len)) error now q.0 q.1 k.0 k.1 p
+  part_refused (part.Expression x) t r u begin here b c error now cut placed text shorter h q k p =
+      expression_refused h begin here t r x.operator (map varspec_of (pieces 44 x.varspecs.now)) x.location cut.pieces placed b c error now q k p
 
 -- ---- the loop, where the context tells
 module _ {W : Type 0} (s : Tests) (puts halts : W → List ℕ → W → Type 0) (laws : AreSinkLaws puts halts) (whole : List ℕ) (a : W) where
@@ -388,22 +357,14 @@ module _ {W : Type 0} (s : Tests) (puts halts : W → List ℕ → W → Type 0)
   reached_more p t r x begin b c y cut placed text shorter within (Some f) (Some h) (Some k) i m q =
       part_more s puts halts laws (all_of f) a f p t r x begin (length whole - length t) (length whole - length r) b c y cut placed text (omega arith) h k m q i
 
-  pub reached_exit : (p : Part) (t r x : List ℕ) (begin : ℕ) (b c : W) (error : Error) → PartCut p t r → IsPlaced p (length whole - length t)
-      → x ≡ template_text (part_pieces p) → length r < length t → (u w : Option Telling)
-      → BothTold u w (ReachedUpTo begin t b) → WhereTold w (PartEnds s puts halts begin x b c (Err error) p)
-      → WhereTold u (λ f. EndsAs puts halts (all_of f) a c (Err error))
-  reached_exit p t r x begin b c error cut placed text shorter None w i q = tt
-  reached_exit p t r x begin b c error cut placed text shorter (Some f) None i q = absurd i
-  reached_exit p t r x begin b c error cut placed text shorter (Some f) (Some h) i q =
-      part_exit s puts halts laws (all_of f) a f p t r x begin (length whole - length t) b c error cut placed text shorter h q i
-
-  pub reached_calls : (p : Part) (t r x : List ℕ) (begin : ℕ) (b c : W) (at : ℕ) → PartCut p t r → IsPlaced p (length whole - length t)
-      → x ≡ template_text (part_pieces p) → length r < length t → (u w z : Option Telling)
-      → BothTold u w (ReachedUpTo begin t b) → WhereTold w (PartCalls s at begin w z p) → WhereTold u (λ f. CallsUpTo (all_of f) at 0 u z)
-  reached_calls p t r x begin b c at cut placed text shorter None w z i q = tt
-  reached_calls p t r x begin b c at cut placed text shorter (Some f) None z i q = absurd i
-  reached_calls p t r x begin b c at cut placed text shorter (Some f) (Some h) z i q =
-      part_calls s puts halts laws (all_of f) a f p t r x begin (length whole - length t) b c at z cut placed text shorter h q i
+  pub reached_refused : (p : Part) (t r x : List ℕ) (begin : ℕ) (b c : W) (error : Error) → PartCut p t r → IsPlaced p (length whole - length t)
+      → x ≡ template_text (part_pieces p) → length r < length t → (u w z : Option Telling) → BothTold u w (ReachedUpTo begin t b)
+      → WhereTold w (PartEnds s puts halts begin x b c (Err error) p) → WhereTold w (PartCalls s error.location begin w z p)
+      → WhereTold u (λ f. EndsAs puts halts (all_of f) a c (Err error)) × WhereTold u (λ f. CallsUpTo (all_of f) error.location 0 u z)
+  reached_refused p t r x begin b c error cut placed text shorter None w z i q k = (tt, tt)
+  reached_refused p t r x begin b c error cut placed text shorter (Some f) None z i q k = absurd i
+  reached_refused p t r x begin b c error cut placed text shorter (Some f) (Some h) z i q k =
+      part_refused s puts halts laws (all_of f) a f p t r x begin (length whole - length t) b c error z cut placed text shorter h q k i
 
   pub reached_end : (t : List ℕ) (begin : ℕ) (b : W) (y : Unit {0}) → length t ≡ 0 → (u w : Option Telling) → BothTold u w (ReachedUpTo begin t b)
       → WhereTold u (λ f. EndsAs puts halts (all_of f) a b (Ok y))

@@ -18,7 +18,7 @@ use Rattle.iri_percent.specs.Encoding.{keeps, encoded_char, encoded}
 use Rattle.iri_percent.specs.declared.context.Context.TheVariants.{Unreserved}
 use Rattle.iri_template.specs.inside.Prefix.{prefix_step, char_text, prefix_text}
 use Rattle.iri_template.specs.inside.PrefixText.{PrefixPuts, PrefixHalts}
-use Rattle.iri_template.specs.declared.prefix_sink.PrefixSink.{PrefixSink}
+use Rattle.iri_template.specs.declared.encoded_value.PrefixSink.{PrefixSink}
 
 pub encoded_one : (s : Tests) (c : ℕ) (t : List ℕ) → IsUtf8 t → t ≡ encode_utf8 c
     → encoded (keeps s Unreserved) t ≡ encoded_char (unreserved s) c

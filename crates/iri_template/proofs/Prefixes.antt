@@ -1,42 +1,133 @@
--- What a walk takes at a time is the prefix of a template.
-use Rattle.std.proofs.Common.{◌≡◌, ◌≢◌, ℕ, ◌+◌, ◌-◌, ◌<◌, ◌≤◌, true, false, cond, Bool, List, [], ◌∷◌, ◌++◌, length, take, map, Option}
-use Rattle.std.proofs.Common.{Some, None, refl, sym, ◌∙◌, ap, subst, arith, length-append}
-use Rattle.std.specs.Prelude.{◌==◌, slice_range}
-use Rattle.std.specs.Char.{len_utf8}
-use Rattle.std.specs.Str.{chars, IsUtf8, encode_utf8_all}
-use Rattle.std.proofs.lemmas.Bool.Decides.{nat_tests}
-use Rattle.std.proofs.lemmas.List.{length-drop}
-use Rattle.std.proofs.lemmas.Str.{chars_from_encodes, len_utf8_bounds}
-use denote.Ref.{Bor}
-use Rattle.iri_grammar.specs.Cut.{lacks, tail}
-use Rattle.iri_grammar.specs.Pieces.{pieces}
-use Rattle.iri_grammar.proofs.Ranges.{range_prefix}
-use Rattle.iri_template.specs.Template.{literal, literal_char, expression, operator_text}
+-- What a walk takes at a time is the prefix of a template: literals, what stands between braces, a triplet.
+use Rattle.std.proofs.Common.{◌≡◌, ℕ, suc, ◌<◌, true, false, cond, Bool, List, [], ◌∷◌, ◌++◌, length, take, drop, refl, sym, ◌∙◌, ap, arith}
+use Rattle.std.proofs.Common.{◌+◌, not, ◌&&◌, Some, None, length-append, ◌≢◌, ◌-◌, ◌≤◌, map, Option, subst}
+use Rattle.std.specs.List.{list_all}
+use Rattle.std.specs.Char.{encode_utf8, len_utf8}
+use Rattle.std.specs.Str.{chars, encode_utf8_all, IsUtf8}
+use Rattle.std.proofs.lemmas.Bool.{and_parts as both}
+use Rattle.std.proofs.lemmas.List.{take-append-drop, append-nil, length-drop, take_at}
+use Rattle.std.proofs.lemmas.Str.{encode_ascii, chars-nil, chars_from_encodes, len_utf8_bounds}
+use Rattle.iri_grammar.specs.Classes.{any_char, is_ascii_any, is_ascii_reg_name, is_ascii_unreserved, is_sub_delim, is_gen_delim, iri_tests}
+use Rattle.iri_grammar.specs.Classes.{is_ucschar, is_ucschar_plane, is_iprivate}
+use Rattle.iri_grammar.proofs.ClassLaws.{class_has_ascii}
+use Rattle.iri_grammar.specs.inside.Laws.{iri_is_spec}
+use Rattle.iri_grammar.specs.Runs.{run_of}
+use Rattle.iri_grammar.specs.declared.class.Class.TheVariants.{Any}
+use Rattle.iri_grammar.proofs.PlainTails.{run-all}
+use Rattle.iri_grammar.proofs.Units.{char_shorter}
+use Rattle.iri_template.specs.Template.{literal_char, literal, expression, operator_text}
 use Rattle.iri_template.specs.Reading.{first_of, body_of, varspec_of, expression_of, triplet_of, operator_of, after_operator, piece_len}
 use Rattle.iri_template.specs.Reading.{len_at, pieces_of}
-use Rattle.iri_template.specs.Fault.{fault, moved, first, unless, fault_at, piece_fault, fault_from, operator_fault, expression_fault}
+use Rattle.iri_template.specs.inside.Parts.{IsPastLiterals, prefix_fault, IsExpression, IsTriplet, IsPrefix}
+use Rattle.iri_grammar.specs.Cut.{before, after, lacks, delimited, tail}
+use Rattle.iri_grammar.proofs.CutLaws.{joined, by_test}
+use Rattle.iri_template.specs.Fault.{fault, moved, operator_fault, first, unless, fault_at, piece_fault, fault_from, expression_fault}
 use Rattle.iri_template.specs.Fault.{triplet_fault, literal_fault, varspecs_fault}
-use Rattle.iri_template.specs.inside.Parts.{prefix_fault, IsExpression, IsTriplet, IsPastLiterals, IsPrefix}
+use Rattle.iri_template.specs.declared.error.ErrorKind.TheVariants.{ExpressionNotClosed, InvalidCharacter}
+use Rattle.iri_template.proofs.FaultLemmas.{moved_moved, varspecs_moved}
+use Rattle.std.specs.Prelude.{◌==◌, slice_range}
+use Rattle.std.proofs.lemmas.Bool.Decides.{nat_tests}
+use denote.Ref.{Bor}
+use Rattle.iri_grammar.specs.Pieces.{pieces}
+use Rattle.iri_grammar.proofs.Ranges.{range_prefix}
 use Rattle.iri_template.specs.declared.error.Error.{Error}
-use Rattle.iri_template.specs.declared.error.ErrorKind.TheVariants.{InvalidCharacter}
 use Rattle.iri_template.specs.declared.operator.Operator.{Operator}
 use Rattle.iri_template.specs.declared.operator.Operator.TheVariants.{Simple, Reserved, Fragment, Label, PathSegment, PathParameter}
 use Rattle.iri_template.specs.declared.operator.Operator.TheVariants.{FormQuery, FormContinuation}
 use Rattle.iri_template.specs.declared.part.Expression.{Expression}
+use Rattle.iri_template.proofs.Steps.{other_piece, Begins, begins_fault, begins_pieces, literals_passed, triplet_begins, expression_begins}
+use Rattle.iri_template.proofs.Steps.{other_piece, fault_at_start}
 use Rattle.iri_template.specs.declared.part.Part.TheVariants as part
-use Rattle.iri_template.proofs.FaultLemmas.{moved_moved, varspecs_moved}
-use Rattle.iri_template.proofs.Steps.{Begins, begins_fault, begins_pieces, literals_passed, triplet_begins, expression_begins}
-use Rattle.iri_template.proofs.Steps.{fault_at_start}
+
+-- ASCII characters of the class are literals, and stand for themselves
+literals : (xs : List ℕ) → list_all is_ascii_any xs ≡ true → (list_all literal_char xs ≡ true) × (encode_utf8_all xs ≡ xs)
+literals [] h = (refl, refl)
+literals (x ∷ xs) h =
+    let k = both (is_ascii_any x) (list_all is_ascii_any xs) h in
+    let one = class_has_ascii iri_tests iri_is_spec Any x k.0 in
+    let more = literals xs k.1 in
+    (rw (one.1, more.0) refl, ap (λ l. l ++ encode_utf8_all xs) (encode_ascii x one.0) ∙ ap (λ l. x ∷ l) more.1)
+
+pub run_passed : (t r : List ℕ) → r ≡ drop (run_of is_ascii_any t) t → length r < length t → IsPastLiterals t r
+run_passed t r e h =
+    let n = run_of is_ascii_any t in
+    let k = literals (take n t) (run-all is_ascii_any t) in
+    record {
+      literals = take n t;
+      all = k.0;
+      text = ap (λ l. l ++ r) k.1 ∙ (ap (λ l. take n t ++ l) e ∙ take-append-drop n t);
+      stops = λ same. absurd (omega arith);
+    }
+
+pub one_passed : (c : ℕ) (t r : List ℕ) → literal_char c ≡ true → t ≡ encode_utf8 c ++ r → IsPastLiterals t r
+one_passed c t r h e = record {
+  literals = c ∷ [];
+  all = rw h refl;
+  text = ap (λ l. l ++ r) (append-nil (encode_utf8 c)) ∙ sym e;
+  stops = λ same. absurd (omega (arith, char_shorter c t r e));
+}
+
+zero_is_none : literal_char 0 ≡ false
+unfolding any_char is_ascii_any is_ascii_reg_name is_ascii_unreserved is_sub_delim is_gen_delim is_ucschar is_ucschar_plane is_iprivate
+zero_is_none = refl
+
+pub none_passed : (t : List ℕ) → literal_char (first_of (chars t)) ≡ false → IsPastLiterals t t
+none_passed t h = record { literals = []; all = refl; text = refl; stops = λ _. h }
+
+pub nothing_passed : (t : List ℕ) → length t ≡ 0 → IsPastLiterals t t
+nothing_passed [] h = none_passed [] (ap (λ l. literal_char (first_of l)) chars-nil ∙ zero_is_none)
+nothing_passed (x ∷ xs) h = absurd (omega arith)
+
+pub has_delimiter : (c : ℕ) (t r : List ℕ) → after c t ≡ Some r → lacks c t ≡ false
+has_delimiter c [] r h = cc
+has_delimiter c (x ∷ xs) r h = by_test x c (λ b. cond b (Some xs) (after c xs) ≡ Some r → (not b && lacks c xs) ≡ false) (λ _ _. refl)
+    (λ _ k. has_delimiter c xs r k) h
+
+pub no_delimiter : (c : ℕ) (t : List ℕ) → after c t ≡ None → lacks c t ≡ true
+no_delimiter c [] h = refl
+no_delimiter c (x ∷ xs) h = by_test x c (λ b. cond b (Some xs) (after c xs) ≡ None → (not b && lacks c xs) ≡ true) (λ _ k. cc)
+    (λ _ k. no_delimiter c xs k) h
+
+pub tail_drop : (t : List ℕ) → tail t ≡ drop 1 t
+tail_drop [] = refl
+tail_drop (x ∷ xs) = refl
+
+-- the body b, a brace and r follow the first brace of t
+pub record IsBody (t b r : List ℕ) : Type 0 where
+  pub body : body_of t ≡ b
+  pub closed : lacks 125 (tail t) ≡ false
+  pub text : 123 ∷ (body_of t ++ 125 ∷ r) ≡ t
+  pub len : length b + length r + 2 ≡ length t
+
+pub body_cut : (t s b r : List ℕ) → first_of t ≡ 123 → s ≡ drop 1 t → b ≡ before 125 s → after 125 s ≡ Some r → IsBody t b r
+body_cut [] s b r e f g h = absurd (omega arith)
+body_cut (x ∷ xs) s b r e f g h =
+    let body : before 125 xs ≡ b = ap (before 125) (sym f) ∙ sym g in
+    let rest : after 125 xs ≡ Some r = ap (after 125) (sym f) ∙ h in
+    let text : before 125 xs ++ 125 ∷ r ≡ xs = ap (λ o. before 125 xs ++ delimited 125 o) (sym rest) ∙ joined 125 xs in
+    record {
+      body = body;
+      closed = has_delimiter 125 xs r rest;
+      text = ap (λ n. n ∷ (before 125 xs ++ 125 ∷ r)) (sym e) ∙ ap (λ l. x ∷ l) text;
+      len = omega (arith, ap length text, length-append (before 125 xs) (125 ∷ r), ap length body);
+    }
+
+-- its fault, but for the varspecs
+pub prefix_of_body : (at : ℕ) (t b r : List ℕ) → IsBody t b r → moved at (prefix_fault t) ≡ moved (at + 1) (operator_fault b)
+prefix_of_body at t b r k =
+    ap (λ l. moved at (cond l (fault ExpressionNotClosed 0) (moved 1 (operator_fault (body_of t))))) k.closed
+    ∙ (ap (λ l. moved at (moved 1 (operator_fault l))) k.body ∙ moved_moved at 1 (operator_fault b))
+
+pub prefix_not_closed : (at : ℕ) (t : List ℕ) → lacks 125 (tail t) ≡ true → moved at (prefix_fault t) ≡ fault ExpressionNotClosed at
+prefix_not_closed at t h =
+    let z : at + 0 ≡ at = omega arith in
+    ap (λ l. moved at (cond l (fault ExpressionNotClosed 0) (moved 1 (operator_fault (body_of t))))) h ∙ ap (fault ExpressionNotClosed) z
 
 -- ---- literals
-take_prefix : (xs ys : List ℕ) → take (length xs) (xs ++ ys) ≡ xs
-take_prefix [] ys = refl
-take_prefix (x ∷ xs) ys = ap (λ l. x ∷ l) (take_prefix xs ys)
-
 pub prefix_range : (t xs ys : List ℕ) (n : ℕ) → xs ++ ys ≡ t → n ≡ length t - length ys → slice_range t 0 n ≡ xs
 prefix_range t xs ys n e h =
-    let z : n ≡ length xs = omega (arith, ap length e, length-append xs ys) in
-    range_prefix t n ∙ (ap (λ k. take k t) z ∙ (ap (take (length xs)) (sym e) ∙ take_prefix xs ys))
+    let z : length xs ≡ n = omega (arith, ap length e, length-append xs ys) in
+    range_prefix t n ∙ (ap (take n) (sym e) ∙ take_at xs ys n z)
 
 pub literals_prefix : (b : Bor (List ℕ)) (at : ℕ) (t r : List ℕ) → IsUtf8 t → IsUtf8 b.now → IsPastLiterals t r → length r < length t
     → b.now ≡ slice_range t 0 (length t - length r) → IsPrefix (part.Literals b) t at r
@@ -148,15 +239,10 @@ character_error at t some a b h =
     let brace : (first_of t == 123) ≡ false = grind (arith, nat_tests) in
     let percent : (first_of t == 37) ≡ false = grind (arith, nat_tests) in
     let z : at + 0 ≡ at = omega arith in
-    let len : piece_len t ≡ len_utf8 (first_of (chars t)) = plain_len (first_of t) brace percent in
+    let other = other_piece (first_of t) t brace percent in
+    let len : piece_len t ≡ len_utf8 (first_of (chars t)) = other.1 in
     let told : moved at (piece_fault t) ≡ fault InvalidCharacter at =
-    ap (moved at) (plain_fault (first_of t) brace percent ∙ ap (λ v. unless v (fault InvalidCharacter 0)) h)
+    ap (moved at) (other.2 ∙ ap (λ v. unless v (fault InvalidCharacter 0)) h)
     ∙ ap (fault InvalidCharacter) z in
     fault_at_start at t (record { kind = InvalidCharacter; location = at }) some
     (omega (arith, len, (len_utf8_bounds (first_of (chars t))).0)) told
-  where
-    plain_len : (x : ℕ) → (x == 123) ≡ false → (x == 37) ≡ false → len_at x t ≡ len_utf8 (first_of (chars t))
-    plain_len x i j = rw (i, j) refl
-
-    plain_fault : (x : ℕ) → (x == 123) ≡ false → (x == 37) ≡ false → fault_at x t ≡ literal_fault t
-    plain_fault x i j = rw (i, j) refl

@@ -6,6 +6,7 @@ use Rattle.std.specs.Char.{encode_utf8, len_utf8}
 use Rattle.std.specs.List.{list_all}
 use Rattle.std.specs.Str.{chars, IsUtf8, encode_utf8_all}
 use Rattle.std.proofs.lemmas.Bool.{and_parts as both}
+use Rattle.std.proofs.lemmas.List.{drop_at}
 use Rattle.std.proofs.lemmas.Str.{chars_past_char, char_from_byte, length-encode, len_utf8_bounds, IsUtf8-past_char}
 use Rattle.iri_grammar.proofs.CutLaws.{by_test}
 use Rattle.iri_grammar.specs.Classes.{any_char, is_ascii_any, is_ascii_reg_name, is_ascii_unreserved, is_sub_delim, is_gen_delim}
@@ -96,6 +97,11 @@ pub percent_is_none : literal_char 37 ≡ false
 unfolding any_char is_ascii_any is_ascii_reg_name is_ascii_unreserved is_sub_delim is_gen_delim is_ucschar is_ucschar_plane is_iprivate
 percent_is_none = refl
 
+-- a piece that neither `{` nor `%` begins
+pub other_piece : (x : ℕ) (s : List ℕ) → (x == 123) ≡ false → (x == 37) ≡ false
+    → (piece_at x s ≡ literal (first_of (chars s))) × (len_at x s ≡ len_utf8 (first_of (chars s))) × (fault_at x s ≡ literal_fault s)
+other_piece x s a b = (rw (a, b) refl, rw (a, b) refl, rw (a, b) refl)
+
 pub record Fine (p : Piece) (t r : List ℕ) : Type 0 where
   pub begins : Begins p t r
   pub fault : piece_fault t ≡ None
@@ -105,32 +111,20 @@ literal_begins c t r h u e =
     let brace : (first_of t == 123) ≡ false = ap (λ x. first_of x == 123) e ∙ prefix_apart c 123 r h brace_is_none (omega arith) in
     let percent : (first_of t == 37) ≡ false = ap (λ x. first_of x == 37) e ∙ prefix_apart c 37 r h percent_is_none (omega arith) in
     let char : first_of (chars t) ≡ c = ap first_of (chars_past_char t r c u e) in
-    let len : piece_len t ≡ len_utf8 c = plain_len (first_of t) t brace percent ∙ ap len_utf8 char in
+    let other = other_piece (first_of t) t brace percent in
+    let len : piece_len t ≡ len_utf8 c = other.1 ∙ ap len_utf8 char in
     let past : drop (len_utf8 c) t ≡ r = ap (drop (len_utf8 c)) e
-    ∙ (ap (λ n. drop n (encode_utf8 c ++ r)) (sym (length-encode c)) ∙ drop_length (encode_utf8 c) r) in
+    ∙ drop_at (encode_utf8 c) r (len_utf8 c) (length-encode c) in
     record {
       begins = record {
-        piece = plain_piece (first_of t) t brace percent ∙ ap literal char;
+        piece = other.0 ∙ ap literal char;
         some = omega (arith, len, (len_utf8_bounds c).0);
         rest = ap (λ n. drop n t) len ∙ past;
         len = omega (arith, ap length e, length-append (encode_utf8 c) r, length-encode c, len);
       };
-      fault = plain_fault (first_of t) t brace percent
+      fault = other.2
           ∙ (ap (λ x. unless (literal_char x) (fault InvalidCharacter 0)) char ∙ ap (λ b. unless b (fault InvalidCharacter 0)) h);
     }
-  where
-    plain_piece : (x : ℕ) (s : List ℕ) → (x == 123) ≡ false → (x == 37) ≡ false → piece_at x s ≡ literal (first_of (chars s))
-    plain_piece x s a b = rw (a, b) refl
-
-    plain_len : (x : ℕ) (s : List ℕ) → (x == 123) ≡ false → (x == 37) ≡ false → len_at x s ≡ len_utf8 (first_of (chars s))
-    plain_len x s a b = rw (a, b) refl
-
-    plain_fault : (x : ℕ) (s : List ℕ) → (x == 123) ≡ false → (x == 37) ≡ false → fault_at x s ≡ literal_fault s
-    plain_fault x s a b = rw (a, b) refl
-
-    drop_length : (xs ys : List ℕ) → drop (length xs) (xs ++ ys) ≡ ys
-    drop_length [] ys = refl
-    drop_length (x ∷ xs) ys = drop_length xs ys
 
 -- ---- a run of literals
 pub record Passed (ps : List Piece) (at : ℕ) (t r : List ℕ) : Type 0 where

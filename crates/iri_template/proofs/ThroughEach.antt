@@ -15,8 +15,8 @@ pub record HasPutUpTo {X S W : Type 0} (step : S → X → S) (text : S → X �
   pub split : texts step text first all ≡ before ++ texts step text now rest
   pub goes_on : after step text first all ≡ after step text now rest
 
-module _ {X S W : Type 0} (step : S → X → S) (text : S → X → List ℕ) {puts halts : W → List ℕ → W → Type 0} {stops : W → ℕ}
-    (laws : AreSinkLaws puts halts) (first : S) (all : List X) where
+module _ {X S W : Type 0} {step : S → X → S} {text : S → X → List ℕ} {puts halts : W → List ℕ → W → Type 0} {stops : W → ℕ}
+    (laws : AreSinkLaws puts halts) {first : S} {all : List X} where
   pub up_to_none : (a : W) → HasPutUpTo step text puts stops first all a first all a
   up_to_none a = record { before = []; put = shown_none laws a; split = refl; goes_on = refl }
 

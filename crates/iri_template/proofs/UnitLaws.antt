@@ -1,14 +1,15 @@
 -- What is written for a text that comes character by character is what its units are written as.
 use Rattle.std.proofs.Common.{◌≡◌, ℕ, zero, suc, ◌*◌, ◌-◌, ◌<◌, ◌≤◌, Bool, true, false, cond, not, ◌&&◌, ◌||◌, List, [], ◌∷◌, ◌++◌, Option}
-use Rattle.std.proofs.Common.{Some, None, length, take, drop, refl, sym, ◌∙◌, ap, arith, append_assoc, append-nil, length-drop}
+use Rattle.std.proofs.Common.{Some, None, length, take, drop, refl, sym, ◌∙◌, ap, arith, append_assoc, append-nil, length-drop, subst}
 use Rattle.std.specs.Prelude.{◌==◌, is_some, nat_le}
 use Rattle.std.specs.List.{flat_map}
 use Rattle.std.specs.Char.{is_ascii_hexdigit, len_utf8, encode_utf8}
+use Rattle.std.proofs.lemmas.Bool.{not-true, or_right}
 use Rattle.std.proofs.lemmas.Bool.Decides.{nat_tests}
 use Rattle.std.proofs.lemmas.Grind.{flat_map-append}
-use Rattle.std.proofs.lemmas.List.{take-append-le}
-use Rattle.std.proofs.lemmas.Str.{len_utf8_bounds, chars-nil}
-use Rattle.iri_grammar.specs.Classes.{Tests}
+use Rattle.std.proofs.lemmas.List.{take-append-le, drop-append-le}
+use Rattle.std.proofs.lemmas.Str.{len_utf8_bounds, chars-nil, encodes-chars, encode_ascii}
+use Rattle.iri_grammar.specs.Classes.{Tests, any_char}
 use Rattle.iri_percent.specs.Units.{TextUnit, Plain, Char, Stray, is_triplet, octet, octets, well_formed, first_char, triplet_unit}
 use Rattle.iri_percent.specs.Units.{byte_unit, first_unit, unit_text, units_from, units}
 use Rattle.iri_percent.proofs.UnitLaws.{first_char_is, char_first, octets_other, byte_other, units_from_drop}
@@ -19,6 +20,12 @@ use Rattle.iri_text.specs.inside.Through.{after, texts}
 use Rattle.iri_template.specs.Expansion.{limited, kept_unit}
 use Rattle.iri_template.specs.inside.UnitSteps.{is_part, is_closed, is_settled, after_unit, told_units, left_over, UnitState, fewer}
 use Rattle.iri_template.specs.inside.UnitSteps.{step_units, step_pending, is_used_up, next_state, unit_step, written_units, unit_step_text}
+use Rattle.std.specs.Str.{IsUtf8, chars}
+use lib.Utf8.{encode, encodes}
+use Rattle.iri_grammar.specs.Cut.{lacks}
+use Rattle.iri_grammar.proofs.CutLaws.{by_test, both}
+use Rattle.iri_percent.specs.Encoding.{keeps, encoded_char, encoded}
+use Rattle.iri_percent.specs.declared.context.Context.TheVariants.{Any}
 
 -- ---- octets, whatever follows
 more_octets : (t r : List ℕ) → (zs : List ℕ) × (octets (t ++ r) ≡ octets t ++ zs)
@@ -43,10 +50,6 @@ octets_taken (suc n) (x ∷ a ∷ b ∷ t) r h =
       | false ↦ refl
     ]
 
-not_true : (b : Bool) → not b ≡ true → b ≡ false
-not_true true h = cc
-not_true false h = refl
-
 and_more : (p q : Bool) (z : Bool) → (p && q) ≡ false → (p && (q && z)) ≡ false
 and_more true true z h = cc
 and_more true false z h = refl
@@ -54,10 +57,10 @@ and_more false q z h = refl
 
 octets_closed : (t r : List ℕ) → is_closed t ≡ true → octets (t ++ r) ≡ octets t
 octets_closed [] r h = cc
-octets_closed (x ∷ []) r h = octets_other x r (not_true (x == 37) h)
+octets_closed (x ∷ []) r h = octets_other x r (not-true (x == 37) h)
 octets_closed (x ∷ a ∷ []) [] h = refl
 octets_closed (x ∷ a ∷ []) (b ∷ r) h = ap (λ v. cond v (octet a b ∷ octets r) [])
-    (and_more (x == 37) (is_ascii_hexdigit a) (is_ascii_hexdigit b) (not_true (x == 37 && is_ascii_hexdigit a) h))
+    (and_more (x == 37) (is_ascii_hexdigit a) (is_ascii_hexdigit b) (not-true (x == 37 && is_ascii_hexdigit a) h))
 octets_closed (x ∷ a ∷ b ∷ t) r h =
     elim (is_triplet x a b) as (λ v. cond v (is_closed t) true ≡ true
     → cond v (octet a b ∷ octets (t ++ r)) [] ≡ cond v (octet a b ∷ octets t) []) [
@@ -104,11 +107,11 @@ settled_short : (t : List ℕ) (b : Bool) → octets t ≡ [] → is_some (first
 settled_short t b e h = or_cases (is_some (first_char (octets t))) b h (ap is_some (ap first_char e ∙ no_char))
 
 first_settled : (x : ℕ) (xs r : List ℕ) → is_settled (x ∷ xs) ≡ true → first_unit x (xs ++ r) ≡ first_unit x xs
-first_settled x [] r h = let other = not_true (x == 37) (settled_short (x ∷ []) (not (x == 37)) refl h) in
+first_settled x [] r h = let other = not-true (x == 37) (settled_short (x ∷ []) (not (x == 37)) refl h) in
     byte_other x r other ∙ sym (byte_other x [] other)
 first_settled x (a ∷ []) [] h = refl
 first_settled x (a ∷ []) (b ∷ r) h =
-    let none = not_true (x == 37 && is_ascii_hexdigit a) (settled_short (x ∷ a ∷ []) (not (x == 37 && is_ascii_hexdigit a)) refl h) in
+    let none = not-true (x == 37 && is_ascii_hexdigit a) (settled_short (x ∷ a ∷ []) (not (x == 37 && is_ascii_hexdigit a)) refl h) in
     ap (λ v. cond v (triplet_unit a b (x ∷ a ∷ b ∷ r) (first_char (octets (x ∷ a ∷ b ∷ r)))) (byte_unit x))
     (and_more (x == 37) (is_ascii_hexdigit a) (is_ascii_hexdigit b) none)
 first_settled x (a ∷ b ∷ xs) r h =
@@ -138,14 +141,9 @@ unit_some x (a ∷ b ∷ xs) =
       | false ↦ some_byte x
     ]
 
-drop_prefix : (n : ℕ) (xs r : List ℕ) → n ≤ length xs → drop n (xs ++ r) ≡ drop n xs ++ r
-drop_prefix zero xs r h = refl
-drop_prefix (suc n) [] r h = absurd (omega arith)
-drop_prefix (suc n) (x ∷ xs) r h = drop_prefix n xs r (omega arith)
-
 drop_within : (n x : ℕ) (xs r : List ℕ) → 0 < n → n ≤ length (x ∷ xs) → drop (n - 1) (xs ++ r) ≡ drop n (x ∷ xs) ++ r
 drop_within zero x xs r h k = absurd (omega arith)
-drop_within (suc n) x xs r h k = let e : suc n - 1 ≡ n = omega arith in ap (λ m. drop m (xs ++ r)) e ∙ drop_prefix n xs r (omega arith)
+drop_within (suc n) x xs r h k = let e : suc n - 1 ≡ n = omega arith in ap (λ m. drop m (xs ++ r)) e ∙ drop-append-le n xs r (omega arith)
 
 -- the unit at the start, and the units after it
 units_first : (x : ℕ) (xs r : List ℕ) → first_unit x (xs ++ r) ≡ first_unit x xs
@@ -275,3 +273,66 @@ all_after s h (Some (suc n)) (c ∷ t) = one_more s (record { pending = h; left 
 
 pub units_all : (s : Tests) (u : UnitState) (t : List ℕ) → AreAll s u t
 units_all s u t = all_after s u.pending u.left t
+
+abbrev plain : UnitState
+plain = record { pending = []; left = None }
+
+-- a character but `%` is told at once
+one_told : (c : ℕ) → (c == 37) ≡ false → (step_units [] c ≡ Plain c ∷ []) × (step_pending [] c ≡ [])
+unfolding units_from
+one_told c n =
+    let settled : is_settled (c ∷ []) ≡ true =
+    ap (λ b. is_some (first_char []) || not b) n ∙ or_right (is_some (first_char [])) true refl in
+    let unit : first_unit c [] ≡ Plain c = ap (λ b. cond b Stray (Plain c)) n in
+    elim (is_part c) as (λ b. (cond b (told_units false 12 (c ∷ [])) (units [] ++ Plain c ∷ []) ≡ Plain c ∷ [])
+    × (cond b (left_over false 12 (c ∷ [])) [] ≡ [])) [
+      | true ↦ (
+        ap (λ b. cond b (first_unit c [] ∷ told_units false 11 (after_unit c [])) []) settled
+            ∙ ap (λ u. u ∷ told_units false 11 (drop (length (unit_text u)) (c ∷ []))) unit,
+        ap (λ b. cond b (left_over false 11 (after_unit c [])) (c ∷ [])) settled
+            ∙ ap (λ u. left_over false 11 (drop (length (unit_text u)) (c ∷ []))) unit,
+      )
+      | false ↦ (refl, refl)
+    ]
+
+plain_texts : (s : Tests) (cs : List ℕ) → lacks 37 cs ≡ true
+    → (texts unit_step (unit_step_text s) plain cs ≡ flat_map (encoded_char (any_char s)) cs)
+    × (after unit_step (unit_step_text s) plain cs ≡ plain)
+plain_texts s [] h = (refl, refl)
+plain_texts s (c ∷ cs) h =
+    let k = both (not (c == 37)) (lacks 37 cs) h in
+    let one = one_told c (not-true (c == 37) k.0) in
+    let more = plain_texts s cs k.1 in
+    let step : unit_step plain c ≡ plain = ap (λ (l : List ℕ). record plain { pending = l }) one.1 in
+    let kept = encoded_char (any_char s) c in (
+      ap (λ us. flat_map (kept_unit s) us ++ texts unit_step (unit_step_text s) (unit_step plain c) cs) one.0
+          ∙ ap (λ u. (kept ++ []) ++ texts unit_step (unit_step_text s) u cs) step
+          ∙ ap (λ l. l ++ texts unit_step (unit_step_text s) plain cs) (append-nil kept) ∙ ap (λ l. kept ++ l) more.0,
+      ap (λ u. after unit_step (unit_step_text s) u cs) step ∙ more.1,
+    )
+
+-- ---- the characters of a text without `%`
+lacks_right : (xs ys : List ℕ) → lacks 37 (xs ++ ys) ≡ true → lacks 37 ys ≡ true
+lacks_right [] ys h = h
+lacks_right (x ∷ xs) ys h = lacks_right xs ys (both (not (x == 37)) (lacks 37 (xs ++ ys)) h).1
+
+encodes_lack : (cs : List ℕ) → lacks 37 (encodes cs) ≡ true → lacks 37 cs ≡ true
+encodes_lack [] h = refl
+encodes_lack (x ∷ cs) h =
+    by_test x 37 (λ b. (not b && lacks 37 cs) ≡ true)
+    (λ e. subst (λ l. lacks 37 (l ++ encodes cs) ≡ true) (encode_ascii 37 (omega arith))
+    (subst (λ y. lacks 37 (encode y ++ encodes cs) ≡ true) e h))
+    (λ _. encodes_lack cs (lacks_right (encode x) (encodes cs) h))
+
+-- it is encoded, and nothing is pending after it
+pub record IsPlainRun (s : Tests) (u : UnitState) (t : List ℕ) : Type 0 where
+  pub text : texts unit_step (unit_step_text s) u (chars t) ≡ encoded (keeps s Any) t
+  pub same : after unit_step (unit_step_text s) u (chars t) ≡ u
+
+pub plain_run : (s : Tests) (h : List ℕ) (l : Option ℕ) (t : List ℕ) → IsUtf8 t → h ≡ [] → l ≡ None → lacks 37 t ≡ true
+    → IsPlainRun s (record { pending = h; left = l }) t
+unfolding encoded
+plain_run s h l t u none all n =
+    let k = plain_texts s (chars t) (encodes_lack (chars t) (subst (λ (x : List ℕ). lacks 37 x ≡ true) (sym (encodes-chars t u)) n)) in
+    subst (λ (x : List ℕ). IsPlainRun s (record { pending = x; left = l }) t) (sym none)
+    (subst (λ (y : Option ℕ). IsPlainRun s (record { pending = []; left = y }) t) (sym all) (record { text = k.0; same = k.1 }))

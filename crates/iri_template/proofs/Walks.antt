@@ -18,7 +18,7 @@ use Rattle.iri_template.specs.declared.error.Error.{Error}
 use Rattle.iri_template.specs.declared.part.Part.{Part}
 use Rattle.iri_template.specs.declared.part.Part.TheVariants as part
 use Rattle.iri_template.proofs.FaultLemmas.{moved_moved, moved_first, neither, unmoved, varspecs_moved}
-use Rattle.iri_template.proofs.VarSpecFaults.{more_varspecs, names_cut}
+use Rattle.iri_template.proofs.VarSpecWalk.{varspecs_anywhere}
 
 pub nothing_left : (at : ℕ) (t : List ℕ) → length t ≡ 0 → fault_from 0 at t ≡ None
 unfolding fault_from
@@ -44,23 +44,6 @@ none_anywhere at t h = let z : at + 0 ≡ at = omega arith in
 
 pub fine_there : (at : ℕ) (t : List ℕ) → text_fault t ≡ None → fault_from 0 at t ≡ None
 fine_there at t h = let z : at + 0 ≡ at = omega arith in sym (ap (λ n. fault_from 0 n t) z) ∙ (fault_moved at 0 0 t ∙ ap (moved at) h)
-
-pub varspecs_anywhere : (at : ℕ) (vs : List (List ℕ)) → varspecs_fault at vs ≡ None → varspecs_fault 0 vs ≡ None
-varspecs_anywhere at vs h = let z : at + 0 ≡ at = omega arith in
-    unmoved at (varspecs_fault 0 vs) (sym (varspecs_moved at 0 vs) ∙ (ap (λ n. varspecs_fault n vs) z ∙ h))
-
--- ---- the first of the varspecs
-pub taken : (t name : List ℕ) (o : Option (Bor (List ℕ))) → now_of o ≡ after 44 t → name ≡ name_of (before 44 t)
-    → moved 0 (varspec_fault (before 44 t)) ≡ None → varspecs_fault 0 (pieces 44 t) ≡ None → IsTaken name (pieces 44 t) (varspecs_left o)
-taken t name None e n h k = record {
-  names = names_cut t ∙ (ap (λ r. name_of (before 44 t) ∷ map name_of (more_pieces 44 r)) (sym e) ∙ ap (λ x. x ∷ []) (sym n));
-  fine = refl;
-}
-taken t name (Some r) e n h k = record {
-  names = names_cut t ∙ (ap (λ q. name_of (before 44 t) ∷ map name_of (more_pieces 44 q)) (sym e)
-      ∙ ap (λ x. x ∷ map name_of (pieces 44 r.now)) (sym n));
-  fine = varspecs_anywhere (0 + (length t - length r.now)) (pieces 44 r.now) (sym (more_varspecs 0 t r.now e h) ∙ k);
-}
 
 -- ---- the parts
 pub names_append : (ps qs : List Piece) → names_of (ps ++ qs) ≡ names_of ps ++ names_of qs

@@ -8,11 +8,11 @@ ghost use Rattle.iri_template.specs.TypeFaults.{type_fault, expansion_fault};
 
 use crate::byte_count::is_within;
 use crate::context::Context;
+use crate::dynamic_context::Typechecked;
 use crate::error::{Error, ErrorKind};
 use crate::expansion_writer::write_expansion;
 use crate::fault::find_fault;
 use crate::template::UriTemplateStr;
-use crate::typechecked::Typechecked;
 use iri_grammar::spec::Spec;
 use iri_owned::error::CreationError;
 use iri_owned::owned::{Owned, RiAbsoluteString, RiReferenceString, RiRelativeString, RiString};
@@ -232,9 +232,6 @@ impl<'a, S: Spec, C: Context> Expanded<'a, S, C> {
         if !is_within(self, limit) {
             return Ok(None);
         }
-        match self.try_to_string(alloc) {
-            Ok(text) => Ok(Some(text)),
-            Err(error) => Err(error),
-        }
+        Ok(Some(self.try_to_string(alloc)?))
     }
 }

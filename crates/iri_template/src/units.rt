@@ -13,13 +13,41 @@ ghost use Rattle.iri_template.specs.inside.UnitSteps.{is_part, told_units, left_
 ghost use Rattle.iri_template.specs.inside.UnitSteps.{is_used_up, unit_step, unit_step_text, written_units};
 ghost use Rattle.iri_template.specs.inside.UnitViews.{unit_as};
 
-use crate::first_unit::first_unit;
-use crate::pending::Pending;
-use crate::unit_sink::UnitSink;
+use crate::pending::{Pending, first_unit};
 use iri_grammar::cutting::{cut_before, lacks};
 use iri_grammar::spec::Spec;
 use iri_percent::PercentEncoded;
 use iri_text::{Show, Stop, TextSink};
+use std::marker::PhantomData;
+
+// Encodes what is put, but for reserved characters and percent-encoded octets, and writes it, or its first units, to another
+// sink.
+#[derive(Drop)]
+pub(crate) struct UnitSink<'s, S, W> {
+    pub(crate) to: &'s mut W,
+    pub(crate) pending: Pending,
+    // How many units may still be written.
+    pub(crate) left: Option<u16>,
+    spec: PhantomData<S>,
+    pub ghost short: { length pending ≤ 11 },
+}
+
+impl<'s, S, W> UnitSink<'s, S, W> {
+    // So many units, or all, go to this sink.
+    pub(crate) fn new(to: &'s mut W, prefix: Option<u16>) -> UnitSink<'s, S, W>
+        ensures same { result.to.ghost_name ≡ to.entry.ghost_name }
+        ensures now { result.to.now ≡ to.old }
+        ensures pending { result.pending ≡ [] }
+        ensures left { result.left ≡ prefix }
+    {
+        UnitSink {
+            to,
+            pending: Pending::new(),
+            left: prefix,
+            spec: PhantomData,
+        }
+    }
+}
 
 #[tactic(auto, using(std::proofs::lemmas::Bool::Decides::nat_tests))]
 fn is_part(c: char) -> bool
@@ -32,10 +60,7 @@ fn is_part(c: char) -> bool
 pub(crate) fn is_used_up(left: Option<u16>) -> bool
     ensures { result ≡ is_used_up left }
 {
-    match left {
-        Some(n) => n == 0,
-        None => false,
-    }
+    matches!(left, Some(0))
 }
 
 fn one_fewer(left: Option<u16>) -> Option<u16>

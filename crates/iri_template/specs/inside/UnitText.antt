@@ -7,7 +7,7 @@ use Rattle.iri_text.specs.inside.ByChars.{CharsPut, CharsHalt}
 use Rattle.iri_text.proofs.ThroughLaws.{through_laws}
 use Rattle.iri_text.proofs.ByCharsLaws.{chars_laws}
 use Rattle.iri_template.specs.inside.UnitSteps.{UnitState, unit_step, unit_step_text}
-use Rattle.iri_template.specs.declared.unit_sink.UnitSink.{UnitSink}
+use Rattle.iri_template.specs.declared.units.UnitSink.{UnitSink}
 
 module _ {S W : Type 0} (s : Tests) where
   abbrev pub state_of : UnitSink S W → UnitState

@@ -1,6 +1,6 @@
 use Rattle.std.proofs.Common.{sym, ◌∙◌, ap, arith, ◌++◌}
 use Rattle.std.specs.Char.{encode_utf8}
-use Rattle.iri_template.proofs.Runs.{one_passed, nothing_passed}
+use Rattle.iri_template.proofs.Prefixes.{one_passed, nothing_passed}
 use Rattle.iri_template.proofs.part.past_literal.Goals as goal
 
 pub returns-then-is_any_char : goal.returns-then-is_any_char

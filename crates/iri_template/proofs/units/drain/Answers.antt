@@ -39,35 +39,15 @@ returns-in-Err-clause-shows g c =
     drained_exit g.met.W.TextSink.rules s c.args.end c.args.pending.now c.args.left.now (12 - c.units.told)
     (12 - (c.units.told + 1)) c.units.pending c.units.left u.len u.stands (omega arith) unit c.units.invariant.far put
 
-pub returns-in-None-clause-shows : goal.returns-in-None-clause-shows
-returns-in-None-clause-shows g c =
+pub returns-in-None : goal.returns-in-None
+returns-in-None g c =
     let none = subst (λ h. TellsNone c.args.end h) c.as_bytes.ensures.bytes c.in-None.ensures in
-    (drained_end g.met.W.TextSink.rules g.S.Spec.tests c.args.end c.args.pending.now c.args.left.now
-    (12 - c.units.told) c.units.pending c.units.left none c.units.invariant.far).shows
+    let k = drained_end g.met.W.TextSink.rules g.S.Spec.tests c.args.end c.args.pending.now c.args.left.now
+    (12 - c.units.told) c.units.pending c.units.left none c.units.invariant.far in
+    record { shows = k.shows; pending = k.holds; left = k.lefts; cleared = tt }
 
-pub returns-in-None-clause-pending : goal.returns-in-None-clause-pending
-returns-in-None-clause-pending g c =
-    let none = subst (λ h. TellsNone c.args.end h) c.as_bytes.ensures.bytes c.in-None.ensures in
-    (drained_end g.met.W.TextSink.rules g.S.Spec.tests c.args.end c.args.pending.now c.args.left.now
-    (12 - c.units.told) c.units.pending c.units.left none c.units.invariant.far).holds
-
-pub returns-in-None-clause-left : goal.returns-in-None-clause-left
-returns-in-None-clause-left g c =
-    let none = subst (λ h. TellsNone c.args.end h) c.as_bytes.ensures.bytes c.in-None.ensures in
-    (drained_end g.met.W.TextSink.rules g.S.Spec.tests c.args.end c.args.pending.now c.args.left.now
-    (12 - c.units.told) c.units.pending c.units.left none c.units.invariant.far).lefts
-
-pub returns-clause-shows : goal.returns-clause-shows
-returns-clause-shows g c =
-    (drained_out g.met.W.TextSink.rules g.S.Spec.tests c.args.end c.args.pending.now c.args.left.now
-    (12 - c.units.told) c.units.pending c.units.left (omega arith) c.units.invariant.far).shows
-
-pub returns-clause-pending : goal.returns-clause-pending
-returns-clause-pending g c =
-    (drained_out g.met.W.TextSink.rules g.S.Spec.tests c.args.end c.args.pending.now c.args.left.now
-    (12 - c.units.told) c.units.pending c.units.left (omega arith) c.units.invariant.far).holds
-
-pub returns-clause-left : goal.returns-clause-left
-returns-clause-left g c =
-    (drained_out g.met.W.TextSink.rules g.S.Spec.tests c.args.end c.args.pending.now c.args.left.now
-    (12 - c.units.told) c.units.pending c.units.left (omega arith) c.units.invariant.far).lefts
+pub returns : goal.returns
+returns g c =
+    let k = drained_out g.met.W.TextSink.rules g.S.Spec.tests c.args.end c.args.pending.now c.args.left.now
+    (12 - c.units.told) c.units.pending c.units.left (omega arith) c.units.invariant.far in
+    record { shows = k.shows; pending = k.holds; left = k.lefts; cleared = tt }

@@ -5,12 +5,8 @@ use Rattle.iri_text.specs.declared.shown.show.Stop.{Stop}
 use Rattle.iri_text.proofs.Compose.{shows_then, shows_exit}
 use Rattle.iri_percent.specs.Units.{Plain}
 use Rattle.iri_template.specs.inside.UnitSteps.{is_part, fewer, step_units, told_units, written_units}
-use Rattle.iri_template.proofs.Drains.{ends_pending, part_short}
+use Rattle.iri_template.proofs.Drains.{ends_pending, part_short, on_ok}
 use Rattle.iri_template.proofs.units.put_char.Goals as goal
-
-on_ok : {P : Type 0} (r : Result (Unit {0}) Stop) → P → OnOk r P
-on_ok (Ok x) p = p
-on_ok (Err x) p = tt
 
 on_ok_then : (a b d : Option ℕ) (r : Result (Unit {0}) Stop) → OnOk r (a ≡ b) → b ≡ d → OnOk r (a ≡ d)
 on_ok_then a b d (Ok x) p q = p ∙ q

@@ -17,23 +17,21 @@ same_state h k l m p q = ap (λ x. state x l) p ∙ ap (λ y. state k y) q
 pub loop-c-init : goal.loop-c-init
 loop-c-init g c =
     let e = ap chars_rest c.into_iter-c-iterator.ensures.into_iter_gives ∙ c.chars-c-items.ensures.rest in
-    let first : UnitState = record { pending = c.args.pending.now; left = c.args.left.now } in
     record {
       can = tt;
       ends = tt;
       utf8 = subst IsUtf8 (sym e) c.utf8.text;
       short = c.requires;
       far =
-          subst (λ l. HasPutUpTo unit_step (unit_step_text g.S.Spec.tests) g.W.TextSink.puts g.W.TextSink.stops first
-          (chars c.args.text.now) c.args.sink.now first (chars l) c.args.sink.now) (sym e)
-          (up_to_none unit_step (unit_step_text g.S.Spec.tests) g.met.W.TextSink.rules first (chars c.args.text.now) c.args.sink.now);
+          subst (λ l. HasPutUpTo unit_step (unit_step_text g.S.Spec.tests) g.W.TextSink.puts g.W.TextSink.stops (state c.args.pending.now c.args.left.now)
+          (chars c.args.text.now) c.args.sink.now (state c.args.pending.now c.args.left.now) (chars l) c.args.sink.now) (sym e)
+          (up_to_none g.met.W.TextSink.rules c.args.sink.now);
     }
 
 pub loop-c-preserved : goal.loop-c-preserved
 loop-c-preserved g c =
     let i = c.loop-c.invariant in
     let f = first_char _ _ c.in-Some.c i.utf8 c.in-Some.ensures.steps.0 in
-    let first : UnitState = record { pending = c.args.pending.now; left = c.args.left.now } in
     let now : UnitState = record { pending = c.loop-c.pending; left = c.loop-c.left } in
     let next : UnitState = record { pending = c.put_char.new.pending; left = c.put_char.new.left } in
     let still : is_used_up c.loop-c.left ≡ false = sym c.is_used_up.ensures ∙ c.if-is_used_up.false in
@@ -45,16 +43,14 @@ loop-c-preserved g c =
       ends = tt;
       utf8 = f.utf8;
       short = c.put_char.ensures.short;
-      far = up_to_more unit_step (unit_step_text g.S.Spec.tests) g.met.W.TextSink.rules first
-          (chars c.args.text.now) c.in-Some.c f.first goes i.far c.in_ok-put_char.ensures.shows;
+      far = up_to_more g.met.W.TextSink.rules c.in-Some.c f.first goes i.far c.in_ok-put_char.ensures.shows;
     }
 
 pub returns-then-is_used_up-clause-shows : goal.returns-then-is_used_up-clause-shows
 returns-then-is_used_up-clause-shows g c =
-    let first : UnitState = record { pending = c.args.pending.now; left = c.args.left.now } in
     let none = used_up g.S.Spec.tests c.loop-c.pending c.loop-c.left (chars (chars_rest c.loop-c.c-iterator))
     (sym c.is_used_up.ensures ∙ c.if-is_used_up.true) in
-    up_to_last unit_step (unit_step_text g.S.Spec.tests) g.met.W.TextSink.rules first (chars c.args.text.now) none.0 c.loop-c.invariant.far
+    up_to_last g.met.W.TextSink.rules none.0 c.loop-c.invariant.far
 
 pub returns-then-is_used_up-clause-state : goal.returns-then-is_used_up-clause-state
 returns-then-is_used_up-clause-state g c =
@@ -66,14 +62,11 @@ pub returns-in_err-put_char-clause-shows : goal.returns-in_err-put_char-clause-s
 returns-in_err-put_char-clause-shows g c =
     let i = c.loop-c.invariant in
     let f = first_char _ _ c.in-Some.c i.utf8 c.in-Some.ensures.steps.0 in
-    let first : UnitState = record { pending = c.args.pending.now; left = c.args.left.now } in
-    up_to_exit unit_step (unit_step_text g.S.Spec.tests) g.met.W.TextSink.rules first
-    (chars c.args.text.now) c.in-Some.c f.first c.from_residual.ensures.0 i.far c.in_err-put_char.ensures.shows
+    up_to_exit g.met.W.TextSink.rules c.in-Some.c f.first c.from_residual.ensures.0 i.far c.in_err-put_char.ensures.shows
 
 pub returns-clause-shows : goal.returns-clause-shows
 returns-clause-shows g c =
-    let first : UnitState = record { pending = c.args.pending.now; left = c.args.left.now } in
-    up_to_end unit_step (unit_step_text g.S.Spec.tests) g.met.W.TextSink.rules first (chars c.args.text.now)
+    up_to_end g.met.W.TextSink.rules
     (no_chars _ c.in-None.ensures.steps.0.0) c.loop-c.invariant.far
 
 pub returns-clause-state : goal.returns-clause-state

@@ -2,12 +2,9 @@ use Rattle.std.proofs.Common.{Result, Ok, Err, ◌∙◌, sym, subst}
 use Rattle.std.specs.Prelude.{OnOk}
 use Rattle.iri_text.specs.Shown.{Shows}
 use Rattle.iri_text.specs.declared.shown.show.Stop.{Stop}
-use Rattle.iri_template.proofs.UnitRuns.{plain_run}
+use Rattle.iri_template.proofs.Drains.{on_ok}
+use Rattle.iri_template.proofs.UnitLaws.{plain_run}
 use Rattle.iri_template.proofs.units.put_piece.Goals as goal
-
-on_ok : {P : Type 0} (r : Result (Unit {0}) Stop) → P → OnOk r P
-on_ok (Ok x) p = p
-on_ok (Err x) p = tt
 
 pub returns-then-lacks-clause-shows : goal.returns-then-lacks-clause-shows
 returns-then-lacks-clause-shows g c =

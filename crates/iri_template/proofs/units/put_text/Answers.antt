@@ -9,11 +9,10 @@ use Rattle.iri_template.proofs.units.put_text.Goals as goal
 
 pub pieces-init : goal.pieces-init
 pieces-init g c =
-    let first : UnitState = record { pending = c.args.pending.now; left = c.args.left.now } in
     record {
       utf8 = c.utf8.text;
       short = c.requires;
-      far = up_to_none unit_step (unit_step_text g.S.Spec.tests) g.met.W.TextSink.rules first (chars c.args.text.now) c.args.sink.now;
+      far = up_to_none g.met.W.TextSink.rules c.args.sink.now;
     }
 
 pub pieces-preserved : goal.pieces-preserved
@@ -23,12 +22,11 @@ pieces-preserved g c =
     let following = c.in-Some.following.now in
     let u : IsUtf8 piece = search rules in
     let v : IsUtf8 following = search rules in
-    let first : UnitState = record { pending = c.args.pending.now; left = c.args.left.now } in
     let cut : chars c.pieces.rest.now ≡ chars piece ++ chars following = ap chars (sym c.in-Some.ensures.whole) ∙ chars-append piece following u in
     record {
       utf8 = v;
       short = c.put_piece.ensures.short;
-      far = up_to_some unit_step (unit_step_text g.S.Spec.tests) g.met.W.TextSink.rules first (chars c.args.text.now) (chars piece) cut
+      far = up_to_some g.met.W.TextSink.rules (chars piece) cut
           c.in_ok-put_piece.ensures.state i.far c.in_ok-put_piece.ensures.shows;
     }
 
@@ -38,15 +36,13 @@ returns-in_err-put_piece-clause-shows g c =
     let piece = c.in-Some.piece.now in
     let following = c.in-Some.following.now in
     let u : IsUtf8 piece = search rules in
-    let first : UnitState = record { pending = c.args.pending.now; left = c.args.left.now } in
     let cut : chars c.pieces.rest.now ≡ chars piece ++ chars following = ap chars (sym c.in-Some.ensures.whole) ∙ chars-append piece following u in
-    up_to_stop unit_step (unit_step_text g.S.Spec.tests) g.met.W.TextSink.rules first (chars c.args.text.now) (chars piece) (chars following) cut
+    up_to_stop g.met.W.TextSink.rules (chars piece) (chars following) cut
     c.from_residual.ensures.0 i.far c.in_err-put_piece.ensures.shows
 
 pub returns-clause-shows : goal.returns-clause-shows
 returns-clause-shows g c =
-    let first : UnitState = record { pending = c.args.pending.now; left = c.args.left.now } in
-    up_to_end unit_step (unit_step_text g.S.Spec.tests) g.met.W.TextSink.rules first (chars c.args.text.now)
+    up_to_end g.met.W.TextSink.rules
     (no_chars c.pieces.rest.now c.in_default.ensures) c.pieces.invariant.far
 
 pub returns-clause-state : goal.returns-clause-state

@@ -1,5 +1,5 @@
 use Rattle.std.proofs.Common.{arith}
-use Rattle.iri_template.proofs.UnitShows.{units_then, units_exit, end_short}
+use Rattle.iri_template.proofs.Drains.{units_then, units_exit, end_short}
 use Rattle.iri_template.proofs.units.show_units.Goals as goal
 
 pub returns-in-Ok-clause-shows : goal.returns-in-Ok-clause-shows

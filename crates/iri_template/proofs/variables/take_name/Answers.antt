@@ -2,8 +2,7 @@ use Rattle.std.proofs.Common.{◌≡◌, None, sym, ◌∙◌, ap, subst}
 use Rattle.iri_grammar.specs.Pieces.{pieces}
 use Rattle.iri_template.specs.Fault.{varspecs_fault}
 use Rattle.iri_template.specs.Left.{varspecs_left, IsTaken}
-use Rattle.iri_template.proofs.VarSpecFaults.{bad_varspec}
-use Rattle.iri_template.proofs.Walks.{taken}
+use Rattle.iri_template.proofs.VarSpecWalk.{bad_varspec, taken}
 use Rattle.iri_template.proofs.variables.take_name.Goals as goal
 
 pub returns-in-Ok : goal.returns-in-Ok

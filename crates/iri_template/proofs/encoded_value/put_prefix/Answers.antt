@@ -6,7 +6,7 @@ use Rattle.iri_template.specs.inside.Prefix.{prefix_step, char_text}
 use Rattle.iri_text.specs.inside.Through.{after}
 use Rattle.iri_template.proofs.ThroughEach.{HasPutUpTo, up_to_none, up_to_more, up_to_exit, up_to_last, up_to_end}
 use Rattle.iri_template.proofs.PrefixChars.{none_left, none_after, some_left}
-use Rattle.iri_template.proofs.prefix.put_prefix.Goals as goal
+use Rattle.iri_template.proofs.encoded_value.put_prefix.Goals as goal
 
 pub loop-c-init : goal.loop-c-init
 loop-c-init g c =
@@ -18,7 +18,7 @@ loop-c-init g c =
       far =
           subst (λ l. HasPutUpTo prefix_step (char_text g.S.Spec.tests) g.W.TextSink.puts g.W.TextSink.stops c.args.left.now
           (chars c.args.text.now) c.args.sink.now c.args.left.now (chars l) c.args.sink.now) (sym e)
-          (up_to_none prefix_step (char_text g.S.Spec.tests) g.met.W.TextSink.rules c.args.left.now (chars c.args.text.now) c.args.sink.now);
+          (up_to_none g.met.W.TextSink.rules c.args.sink.now);
     }
 
 pub loop-c-preserved : goal.loop-c-preserved
@@ -30,13 +30,11 @@ loop-c-preserved g c =
       can = tt;
       ends = tt;
       utf8 = f.utf8;
-      far = up_to_more prefix_step (char_text g.S.Spec.tests) g.met.W.TextSink.rules c.args.left.now
-          (chars c.args.text.now) c.in-Some.c f.first refl i.far put;
+      far = up_to_more g.met.W.TextSink.rules c.in-Some.c f.first refl i.far put;
     }
 
 pub returns-then-left-eq0-clause-shows : goal.returns-then-left-eq0-clause-shows
-returns-then-left-eq0-clause-shows g c = up_to_last prefix_step (char_text g.S.Spec.tests) g.met.W.TextSink.rules c.args.left.now
-    (chars c.args.text.now) (none_left g.S.Spec.tests _ c.loop-c.left c.if-left-eq0.true) c.loop-c.invariant.far
+returns-then-left-eq0-clause-shows g c = up_to_last g.met.W.TextSink.rules (none_left g.S.Spec.tests _ c.loop-c.left c.if-left-eq0.true) c.loop-c.invariant.far
 
 pub returns-then-left-eq0-clause-left : goal.returns-then-left-eq0-clause-left
 returns-then-left-eq0-clause-left g c =
@@ -47,11 +45,10 @@ returns-in_err-put_char-clause-shows g c =
     let i = c.loop-c.invariant in
     let f = first_char _ _ c.in-Some.c i.utf8 c.in-Some.ensures.steps.0 in
     let put = some_left g.S.Spec.tests c.in-Some.c c.loop-c.left c.if-left-eq0.false c.in_err-put_char.ensures in
-    up_to_exit prefix_step (char_text g.S.Spec.tests) g.met.W.TextSink.rules c.args.left.now
-    (chars c.args.text.now) c.in-Some.c f.first c.from_residual.ensures.0 i.far put
+    up_to_exit g.met.W.TextSink.rules c.in-Some.c f.first c.from_residual.ensures.0 i.far put
 
 pub returns-clause-shows : goal.returns-clause-shows
-returns-clause-shows g c = up_to_end prefix_step (char_text g.S.Spec.tests) g.met.W.TextSink.rules c.args.left.now (chars c.args.text.now)
+returns-clause-shows g c = up_to_end g.met.W.TextSink.rules
     (no_chars _ c.in-None.ensures.steps.0.0) c.loop-c.invariant.far
 
 pub returns-clause-left : goal.returns-clause-left

@@ -5,7 +5,7 @@ use Rattle.iri_percent.specs.Units.{octets, first_char}
 use Rattle.iri_template.specs.inside.UnitSteps.{is_closed}
 use Rattle.iri_template.specs.inside.UnitViews.{IsUnit}
 use Rattle.iri_template.proofs.FirstUnits.{unit_of_char, unit_of_lone, open_triplet}
-use Rattle.iri_template.proofs.first_unit.first_triplets.Goals as goal
+use Rattle.iri_template.proofs.pending.first_triplets.Goals as goal
 
 pub returns-in-Some : goal.returns-in-Some
 returns-in-Some g c =

@@ -2,7 +2,7 @@ use Rattle.std.specs.Str.{IsUtf8, chars}
 use Rattle.std.specs.Str.Iter.{chars_rest}
 use Rattle.iri_template.specs.inside.Prefix.{prefix_step, char_text}
 use Rattle.iri_template.proofs.ThroughEach.{HasPutUpTo}
-use Rattle.iri_template.proofs.prefix.put_prefix.Given as goal
+use Rattle.iri_template.proofs.encoded_value.put_prefix.Given as goal
 
 -- the characters before those that are left were written, as far as that is wanted
 abbrev pub invariant-loop-c : goal.invariant-loop-c

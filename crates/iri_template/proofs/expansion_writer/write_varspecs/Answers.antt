@@ -6,11 +6,10 @@ use Rattle.iri_grammar.proofs.Delimiters.{text_after}
 use Rattle.iri_template.specs.Fault.{varspecs_fault}
 use Rattle.iri_template.specs.Left.{varspecs_left}
 use Rattle.iri_template.specs.Reading.{varspec_of}
-use Rattle.iri_template.proofs.TellWalk.{moved_none, moved_more, moved_all}
-use Rattle.iri_template.proofs.VarSpecFaults.{cut_len, bad_varspec}
-use Rattle.iri_template.proofs.VarSpecWalk.{fine_left}
-use Rattle.iri_template.proofs.VarSpecPortions.{specs_in, specs_cut, up_to_none, up_to_more, up_to_end, up_to_exit, up_to_calls}
-use Rattle.iri_template.proofs.expression_writer.write_varspecs.Goals as goal
+use Rattle.iri_template.proofs.PortionWalk.{moved_none, moved_more, moved_all}
+use Rattle.iri_template.proofs.VarSpecWalk.{cut_len, bad_varspec, fine_left}
+use Rattle.iri_template.proofs.VarSpecPortions.{specs_in, specs_cut, up_to_none, up_to_more, up_to_end, up_to_refused}
+use Rattle.iri_template.proofs.expansion_writer.write_varspecs.Goals as goal
 
 pub varspecs-init : goal.varspecs-init
 varspecs-init g c =
@@ -90,20 +89,21 @@ pub returns-in-Err-write_varspec-clause-written : goal.returns-in-Err-write_vars
 returns-in-Err-write_varspec-clause-written g c =
     let w = g.W.TextSink in
     let d = g.C.DynamicContext in
-    up_to_exit g.S.Spec.tests c.args.operator w.puts w.halts g.met.W.TextSink.rules c.args.at c.args.varspecs.now c.args.sink.now
+    let q = c.in-Err-write_varspec.ensures in
+    (up_to_refused g.S.Spec.tests c.args.operator w.puts w.halts g.met.W.TextSink.rules c.args.at c.args.varspecs.now c.args.sink.now
     c.varspecs.written c.varspecs.rest.now c.in-Ok.varspec c.in-Ok.others c.in-Ok.ensures.others c.in-Ok.ensures.fault c.in-Ok.ensures.value
-    c.varspecs.sink c.write_varspec.new.sink c.in-Err-write_varspec.error
-    (d.tells c.args.context.now) (d.tells c.varspecs.context) c.varspecs.invariant.far c.in-Err-write_varspec.ensures.written
+    c.varspecs.sink c.write_varspec.new.sink c.in-Err-write_varspec.error q.place (d.tells c.args.context.now) (d.tells c.varspecs.context)
+    (d.tells c.write_varspec.new.context) c.varspecs.invariant.far q.written q.calls).0
 
 pub returns-in-Err-write_varspec-clause-refused : goal.returns-in-Err-write_varspec-clause-refused
 returns-in-Err-write_varspec-clause-refused g c =
     let w = g.W.TextSink in
     let d = g.C.DynamicContext in
-    up_to_calls g.S.Spec.tests c.args.operator w.puts w.halts g.met.W.TextSink.rules c.args.at c.args.varspecs.now c.args.sink.now
+    let q = c.in-Err-write_varspec.ensures in
+    (up_to_refused g.S.Spec.tests c.args.operator w.puts w.halts g.met.W.TextSink.rules c.args.at c.args.varspecs.now c.args.sink.now
     c.varspecs.written c.varspecs.rest.now c.in-Ok.varspec c.in-Ok.others c.in-Ok.ensures.others c.in-Ok.ensures.fault c.in-Ok.ensures.value
-    c.varspecs.sink c.write_varspec.new.sink c.in-Err-write_varspec.error.location c.in-Err-write_varspec.ensures.place
-    (d.tells c.args.context.now) (d.tells c.varspecs.context) (d.tells c.write_varspec.new.context) c.varspecs.invariant.far
-    c.in-Err-write_varspec.ensures.calls
+    c.varspecs.sink c.write_varspec.new.sink c.in-Err-write_varspec.error q.place (d.tells c.args.context.now) (d.tells c.varspecs.context)
+    (d.tells c.write_varspec.new.context) c.varspecs.invariant.far q.written q.calls).1
 
 pub unreachable-requires : goal.unreachable-requires
 unreachable-requires g c =

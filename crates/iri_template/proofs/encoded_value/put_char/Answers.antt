@@ -1,7 +1,7 @@
 use Rattle.std.proofs.Common.{subst}
 use Rattle.iri_text.specs.Shown.{Shows}
 use Rattle.iri_template.proofs.PrefixChars.{encoded_one}
-use Rattle.iri_template.proofs.prefix.put_char.Goals as goal
+use Rattle.iri_template.proofs.encoded_value.put_char.Goals as goal
 
 pub returns : goal.returns
 returns g c =

@@ -1,6 +1,6 @@
 use Rattle.std.proofs.Common.{◌≡◌, length}
 use Rattle.iri_template.specs.inside.UnitSteps.{is_closed}
-use Rattle.iri_template.proofs.first_unit.is_closed.Given as goal
+use Rattle.iri_template.proofs.pending.is_closed.Given as goal
 
 -- triplets were passed
 abbrev pub invariant-triplets : goal.invariant-triplets

@@ -3,9 +3,9 @@ use denote.Text.{Utf8}
 use denote.Shadow.{shadow}
 use Rattle.iri_grammar.specs.Pieces.{pieces}
 use Rattle.iri_template.specs.Fault.{varspecs_fault}
-use Rattle.iri_template.proofs.TellWalk.{BothTold, HasMoved}
+use Rattle.iri_template.proofs.PortionWalk.{BothTold, HasMoved}
 use Rattle.iri_template.proofs.VarSpecPortions.{specs_in, WrittenUpTo}
-use Rattle.iri_template.proofs.expression_writer.write_varspecs.Given as goal
+use Rattle.iri_template.proofs.expansion_writer.write_varspecs.Given as goal
 
 -- the varspecs before those that are left were written, with two calls for each
 abbrev pub invariant-varspecs : goal.invariant-varspecs

@@ -3,7 +3,7 @@ use Rattle.std.specs.Prelude.{nat_le}
 use Rattle.std.proofs.lemmas.Bool.Decides.{nat_tests}
 use Rattle.iri_template.specs.inside.UnitSteps.{begins_triplet, is_closed}
 use Rattle.iri_template.proofs.FirstUnits.{empty_tells_none, unit_of_byte, open_byte}
-use Rattle.iri_template.proofs.first_unit.first_unit.Goals as goal
+use Rattle.iri_template.proofs.pending.first_unit.Goals as goal
 
 pub returns-then-is_empty : goal.returns-then-is_empty
 returns-then-is_empty g c =

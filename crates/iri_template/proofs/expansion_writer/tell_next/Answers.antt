@@ -3,7 +3,7 @@ use Rattle.iri_template.specs.Led.{has_texts}
 use Rattle.iri_template.specs.Writings.{EndsAs}
 use Rattle.iri_template.specs.inside.Checked.{state_texts, state_portion}
 use Rattle.iri_template.proofs.WriterEnds.{where_next, ends_mistyped, ends_written, goes_on_written, ends_stopped}
-use Rattle.iri_template.proofs.expression_writer.tell_next.Goals as goal
+use Rattle.iri_template.proofs.expansion_writer.tell_next.Goals as goal
 
 pub returns-then-visitor-clause-written : goal.returns-then-visitor-clause-written
 returns-then-visitor-clause-written g c =
