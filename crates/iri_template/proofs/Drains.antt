@@ -15,7 +15,8 @@ use Rattle.iri_grammar.specs.Classes.{Tests, any_char}
 use Rattle.iri_percent.specs.Units.{TextUnit, Plain, first_unit, units}
 use Rattle.iri_template.specs.Expansion.{kept_unit}
 use Rattle.iri_template.specs.inside.UnitSteps.{is_part, after_unit, told_units, left_over, fewer, step_units, step_pending, written_units}
-use Rattle.iri_template.specs.inside.UnitSteps.{is_used_up, unit_step_text, UnitState, unit_step}
+use Rattle.iri_template.specs.inside.UnitSteps.{is_used_up, unit_step_text, unit_step}
+use Rattle.iri_template.specs.declared.units.Units.{Units}
 use Rattle.iri_template.specs.inside.UnitViews.{unit_at, unit_as, TellsNone, IsUnit}
 use Rattle.iri_template.proofs.UnitLaws.{after_shorter, all_told, left_short, written-append, units_all}
 use Rattle.iri_text.specs.inside.Through.{after, texts}
@@ -194,37 +195,37 @@ plain_unit s c t u e =
     sym (ap (flat_map (encoded_char (any_char s))) (f.first ∙ ap (λ l. c ∷ l) chars-nil) ∙ append-nil (encoded_char (any_char s) c))
 
 -- what was written, and the end
-whole_text : {S W : Type 0} (s : Tests) (a : UnitSink S W) (t : List ℕ) → a.pending ≡ []
+whole_text : {S W : Type 0} (s : Tests) (a : UnitSink S W) (t : List ℕ) → a.state.pending ≡ []
     → texts unit_step (unit_step_text s) (state_of s a) (chars t)
     ++ written_units s (after unit_step (unit_step_text s) (state_of s a) (chars t)).left
-    (units (after unit_step (unit_step_text s) (state_of s a) (chars t)).pending) ≡ written_units s a.left (units (chars t))
-whole_text s a t none = units_all s (state_of s a) (chars t) ∙ ap (λ h. written_units s a.left (units (h ++ chars t))) none
+    (units (after unit_step (unit_step_text s) (state_of s a) (chars t)).pending) ≡ written_units s a.state.left (units (chars t))
+whole_text s a t none = units_all s (state_of s a) (chars t) ∙ ap (λ h. written_units s a.state.left (units (h ++ chars t))) none
 
 module _ {S W : Type 0} (s : Tests) {puts halts : W → List ℕ → W → Type 0} {stops : W → ℕ} (laws : AreSinkLaws puts halts) where
-  pub units_then : (a b : UnitSink S W) (c : W) (t : List ℕ) (x : Unit {0}) (r : Result (Unit {0}) Stop) → a.pending ≡ [] → length b.pending ≤ 12
+  pub units_then : (a b : UnitSink S W) (c : W) (t : List ℕ) (x : Unit {0}) (r : Result (Unit {0}) Stop) → a.state.pending ≡ [] → length b.state.pending ≤ 12
       → Shows (UnitPuts s puts) (UnitHalts s halts) (λ (u : UnitSink S W). stops u.to.now) a t b (Ok x)
-      → Shows puts halts stops b.to.now (written_units s b.left (told_units true 12 b.pending)) c r
-      → Shows puts halts stops a.to.now (written_units s a.left (units (chars t))) c r
+      → Shows puts halts stops b.to.now (written_units s b.state.left (told_units true 12 b.state.pending)) c r
+      → Shows puts halts stops a.to.now (written_units s a.state.left (units (chars t))) c r
   units_then a b c t x r none short p q =
       let first : Shows puts halts stops a.to.now (texts unit_step (unit_step_text s) (state_of s a) (chars t)) b.to.now (Ok x) =
       record { appends = p.appends.put.put; stops_within = tt; rose = tt; later = p.later } in
-      let now : UnitState = after unit_step (unit_step_text s) (state_of s a) (chars t) in
-      let ends : written_units s b.left (told_units true 12 b.pending) ≡ written_units s now.left (units now.pending) =
-      ap (written_units s b.left) (all_told 12 b.pending short)
-      ∙ ap (λ (u : UnitState). written_units s u.left (units u.pending)) p.appends.put.goes_on in
+      let now : Units = after unit_step (unit_step_text s) (state_of s a) (chars t) in
+      let ends : written_units s b.state.left (told_units true 12 b.state.pending) ≡ written_units s now.left (units now.pending) =
+      ap (written_units s b.state.left) (all_told 12 b.state.pending short)
+      ∙ ap (λ (u : Units). written_units s u.left (units u.pending)) p.appends.put.goes_on in
       subst (λ l. Shows puts halts stops a.to.now l c r)
       (ap (λ l. texts unit_step (unit_step_text s) (state_of s a) (chars t) ++ l) ends ∙ whole_text s a t none)
       (shows_then laws first q)
 
-  pub units_exit : (a b : UnitSink S W) (t : List ℕ) (e : Stop) → a.pending ≡ []
+  pub units_exit : (a b : UnitSink S W) (t : List ℕ) (e : Stop) → a.state.pending ≡ []
       → Shows (UnitPuts s puts) (UnitHalts s halts) (λ (u : UnitSink S W). stops u.to.now) a t b (Err e)
-      → Shows puts halts stops a.to.now (written_units s a.left (units (chars t))) b.to.now (Err e)
+      → Shows puts halts stops a.to.now (written_units s a.state.left (units (chars t))) b.to.now (Err e)
   units_exit a b t e none p =
       let h = chars_halt (through_laws unit_step (unit_step_text s) (state_of {S = S} {W = W} s) (λ (u : UnitSink S W). u.to.now)
       (λ (u : UnitSink S W). u.to.ghost_name) laws) t p.stops_within in
       let first : Shows puts halts stops a.to.now (texts unit_step (unit_step_text s) (state_of s a) (chars t)) b.to.now (Err e) =
       record { appends = tt; stops_within = h.halt; rose = p.rose; later = p.later } in
-      let now : UnitState = after unit_step (unit_step_text s) (state_of s a) (chars t) in
+      let now : Units = after unit_step (unit_step_text s) (state_of s a) (chars t) in
       subst (λ l. Shows puts halts stops a.to.now l b.to.now (Err e)) (whole_text s a t none)
       (shows_exit laws {r = Err e} (written_units s now.left (units now.pending)) refl first)
 

@@ -9,7 +9,6 @@ use Rattle.std.specs.Str.{chars, IsUtf8, is_utf8}
 use Rattle.std.proofs.lemmas.Bool.{and_parts as both, cases_eq, or_cases, or_left, ne_eqb}
 use Rattle.std.proofs.lemmas.Bool.Decides.{nat_tests}
 use Rattle.std.proofs.lemmas.Str.{IsUtf8-nil, IsUtf8-append, IsUtf8-encode, chars_from_encodes, is_utf8-from_IsUtf8, IsUtf8-from_is_utf8}
-use Rattle.std.proofs.lemmas.Str.{encode_ascii}
 use lib.Utf8.{scalar, scalars, encodes}
 use Rattle.iri_grammar.specs.Classes.{any_char, is_ascii_any, is_ucschar, is_ucschar_plane, is_iprivate}
 use Rattle.iri_grammar.specs.declared.class.Class.TheVariants.{Any}
@@ -41,9 +40,9 @@ use Rattle.iri_template.specs.declared.operator.Operator.TheVariants.{Simple, Re
 use Rattle.iri_template.specs.declared.operator.Operator.TheVariants.{FormQuery, FormContinuation}
 use Rattle.iri_template.proofs.FaultLemmas.{neither, unmoved, still_none, passed, of_text}
 use Rattle.iri_template.proofs.VarSpecLemmas.{inner, varspec_bytes, varspecs_fine, varspecs_are}
-use Rattle.iri_template.proofs.Steps.{Begins, Fine, other_piece, begins_fault, begins_pieces, literal_begins, triplet_begins, expression_begins}
+use Rattle.iri_template.proofs.Prefixes.{Begins, Fine, other_piece, begins_fault, begins_pieces, literal_begins, triplet_begins}
+use Rattle.iri_template.proofs.Prefixes.{expression_begins, has_delimiter}
 use Rattle.iri_template.proofs.Walks.{nothing_left, fine_there, none_anywhere}
-use Rattle.iri_template.proofs.Prefixes.{has_delimiter}
 use Rattle.iri_grammar.proofs.Ipv6Laws.{pieces_before}
 
 -- ---- operators

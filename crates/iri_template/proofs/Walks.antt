@@ -4,20 +4,17 @@ use Rattle.std.proofs.Common.{◌∙◌, ap, subst, arith, append_assoc}
 use Rattle.std.specs.Prelude.{is_some}
 use Rattle.std.specs.Str.{chars}
 use denote.Ref.{Bor}
-use Rattle.iri_grammar.specs.Cut.{before, after}
 use Rattle.iri_grammar.specs.Pieces.{pieces}
-use Rattle.iri_grammar.specs.inside.PiecesLaws.{more_pieces}
 use Rattle.iri_grammar.proofs.PiecesLaws.{pieces_cut}
-use Rattle.iri_grammar.specs.OptionalSlices.{now_of}
 use Rattle.iri_template.specs.Template.{Piece, literal, names_of, piece_names}
 use Rattle.iri_template.specs.Reading.{name_of, varspec_of, pieces_from, pieces_of, piece_len}
-use Rattle.iri_template.specs.Fault.{moved, first, piece_fault, varspec_fault, varspecs_fault, fault_from, text_fault}
+use Rattle.iri_template.specs.Fault.{moved, first, piece_fault, fault_from, text_fault}
 use Rattle.iri_template.specs.inside.Parts.{part_pieces, part_fault, IsPrefix}
-use Rattle.iri_template.specs.Left.{varspecs_left, names_among, AreFine, IsTaken, Has}
+use Rattle.iri_template.specs.Left.{varspecs_left, names_among, AreFine, Has}
 use Rattle.iri_template.specs.declared.error.Error.{Error}
 use Rattle.iri_template.specs.declared.part.Part.{Part}
 use Rattle.iri_template.specs.declared.part.Part.TheVariants as part
-use Rattle.iri_template.proofs.FaultLemmas.{moved_moved, moved_first, neither, unmoved, varspecs_moved}
+use Rattle.iri_template.proofs.FaultLemmas.{moved_moved, moved_first, neither, unmoved}
 use Rattle.iri_template.proofs.VarSpecWalk.{varspecs_anywhere}
 
 pub nothing_left : (at : ℕ) (t : List ℕ) → length t ≡ 0 → fault_from 0 at t ≡ None

@@ -142,10 +142,7 @@ impl<'a, S: Spec, C: Context> Expanded<'a, S, C> {
             (K.fault S.tests (expanded_text S.tests C.value_of self.now))) }
     {
         match self.try_to_string(alloc) {
-            Ok(text) => match Owned::try_from_string(text) {
-                Ok(owned) => Ok(owned),
-                Err(error) => Err(ExpandedError::Invalid(error)),
-            },
+            Ok(text) => Owned::try_from_string(text).map_err(ExpandedError::Invalid),
             Err(error) => Err(ExpandedError::Memory(error)),
         }
     }

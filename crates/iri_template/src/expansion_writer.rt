@@ -14,9 +14,6 @@ ghost use Rattle.iri_template.specs.inside.Checked.{state_texts, state_portion, 
 ghost use Rattle.iri_template.specs.inside.Written.{told_texts};
 ghost use Rattle.iri_template.specs.declared.visitor.Phase.TheVariants.{Fresh};
 ghost use Rattle.iri_template.specs.declared.visitor.VisitPurpose.TheVariants.{Typecheck, Expand};
-ghost use Rattle.iri_text.specs.Shown.{Shows};
-ghost use Rattle.iri_percent.specs.Encoding.{encoded, keeps};
-ghost use Rattle.iri_percent.specs.declared.context.Context.TheVariants.{Any};
 ghost use Rattle.iri_template.specs.Template.{names_of, template_text};
 ghost use Rattle.iri_template.specs.inside.PartEnds.{PartEnds, PartCalls, calls_of, begin_after, told_of};
 ghost use Rattle.iri_template.specs.inside.Parts.{part_pieces, part_fault, EndsBefore};
@@ -26,11 +23,11 @@ use crate::error::{Error, ErrorKind};
 use crate::operator::Operator;
 use crate::part::{Part, read_part};
 use crate::type_check::TypeCheck;
+use crate::units::put_as;
 use crate::value_writer::{ExpressionState, ValueWriter};
 use crate::varspec::{VarSpec, read_first};
 use iri_grammar::spec::Spec;
-use iri_percent::PercentEncoded;
-use iri_text::{Show, Stop, TextSink};
+use iri_text::{Stop, TextSink};
 
 // Looks at the value that the context tells next: whether the varspec has no use for it.
 fn looks_mistyped<C: DynamicContext>(context: &mut C, varspec: VarSpec<'_>) -> bool
@@ -173,13 +170,6 @@ pub(crate) fn write_varspecs<C: DynamicContext, S: Spec, W: TextSink>(
     }
 }
 
-// Writes literals: what a reference of `S` can't hold becomes percent-encoded octets.
-fn write_literals<S: Spec, W: TextSink>(sink: &mut W, literals: &str) -> Result<(), Stop>
-    ensures { Shows W.puts W.halts W.stops sink.old (encoded (keeps S.tests Any) literals.now) sink.new result }
-{
-    PercentEncoded::<&str, S>::characters(literals).show(sink)
-}
-
 // What is told of literals and percent-encoded octets that begin at this place, where they were put or the sink stopped
 // within them.
 fn told(put: Result<(), Stop>, begin: usize) -> Result<(), Error>
@@ -220,7 +210,7 @@ fn write_part<C: DynamicContext, S: Spec, W: TextSink>(
             expression.varspecs,
             expression.location,
         ),
-        Part::Literals(literals) => told(write_literals::<S, W>(sink, literals), begin),
+        Part::Literals(literals) => told(put_as::<S, W>(sink, literals, false), begin),
         Part::Triplet(_) => told(sink.put(text), begin),
     }
 }

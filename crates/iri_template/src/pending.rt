@@ -83,7 +83,7 @@ pub(crate) struct FirstUnit {
     pub(crate) stands: bool,
 }
 
-fn begins_triplet(t: &[u8]) -> bool
+pub(crate) fn begins_triplet(t: &[u8]) -> bool
     ensures { result ≡ begins_triplet t.now }
 {
     match t {

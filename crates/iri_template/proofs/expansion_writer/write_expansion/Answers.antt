@@ -6,8 +6,8 @@ use Rattle.iri_template.specs.inside.PartEnds.{calls_of}
 use Rattle.iri_template.specs.inside.Parts.{part_pieces}
 use Rattle.iri_template.specs.Template.{template_text}
 use Rattle.iri_template.proofs.Prefixes.{prefix_range}
-use Rattle.iri_template.proofs.PartPortions.{ReachedUpTo, reached_none, reached_more, reached_refused, reached_end, names_in, names_left, none_in}
-use Rattle.iri_template.proofs.PartWalk.{part_cut}
+use Rattle.iri_template.proofs.PartWalk.{ReachedUpTo, reached_none, reached_more, reached_refused, reached_end, names_in, names_left}
+use Rattle.iri_template.proofs.PartWalk.{none_in, part_cut}
 use Rattle.iri_template.proofs.PortionWalk.{BothTold, HasMoved, moved_none, moved_more, moved_all}
 use Rattle.iri_template.proofs.Walks.{never}
 use Rattle.iri_template.proofs.expansion_writer.write_expansion.Goals as goal

@@ -2,7 +2,7 @@ use Rattle.std.proofs.Common.{◌≡◌, ◌≤◌, length, None}
 use denote.Text.{Utf8}
 use denote.Shadow.{shadow}
 use Rattle.iri_template.specs.Fault.{text_fault}
-use Rattle.iri_template.proofs.PartPortions.{names_in, ReachedUpTo}
+use Rattle.iri_template.proofs.PartWalk.{names_in, ReachedUpTo}
 use Rattle.iri_template.proofs.PortionWalk.{BothTold, HasMoved}
 use Rattle.iri_template.proofs.expansion_writer.write_expansion.Given as goal
 

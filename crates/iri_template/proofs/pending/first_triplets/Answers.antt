@@ -4,7 +4,7 @@ use Rattle.std.specs.Char.{len_utf8}
 use Rattle.iri_percent.specs.Units.{octets, first_char}
 use Rattle.iri_template.specs.inside.UnitSteps.{is_closed}
 use Rattle.iri_template.specs.inside.UnitViews.{IsUnit}
-use Rattle.iri_template.proofs.FirstUnits.{unit_of_char, unit_of_lone, open_triplet}
+use Rattle.iri_template.proofs.UnitLaws.{unit_of_char, unit_of_lone, open_triplet}
 use Rattle.iri_template.proofs.pending.first_triplets.Goals as goal
 
 pub returns-in-Some : goal.returns-in-Some

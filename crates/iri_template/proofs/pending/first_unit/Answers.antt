@@ -2,7 +2,7 @@ use Rattle.std.proofs.Common.{◌≡◌, ◌<◌, ◌||◌, true, false, length,
 use Rattle.std.specs.Prelude.{nat_le}
 use Rattle.std.proofs.lemmas.Bool.Decides.{nat_tests}
 use Rattle.iri_template.specs.inside.UnitSteps.{begins_triplet, is_closed}
-use Rattle.iri_template.proofs.FirstUnits.{empty_tells_none, unit_of_byte, open_byte}
+use Rattle.iri_template.proofs.UnitLaws.{empty_tells_none, unit_of_byte, open_byte}
 use Rattle.iri_template.proofs.pending.first_unit.Goals as goal
 
 pub returns-then-is_empty : goal.returns-then-is_empty

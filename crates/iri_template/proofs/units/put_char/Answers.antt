@@ -14,14 +14,14 @@ on_ok_then a b d (Err x) p q = tt
 
 pub returns-then-is_part-clause-short : goal.returns-then-is_part-clause-short
 returns-then-is_part-clause-short g c =
-    part_short c.args.pending.now c.push.new.self c.args.c c.drain.result c.drain.new.pending c.requires c.push.ensures c.drain.ensures.pending c.drain.ensures.cleared
+    part_short c.args.state.now.pending c.push.new.self c.args.c c.drain.result c.drain.new.state.pending c.requires c.push.ensures c.drain.ensures.pending c.drain.ensures.cleared
 
 pub returns-in-Ok-clause-shows : goal.returns-in-Ok-clause-shows
 returns-in-Ok-clause-shows g c =
     let w = g.W.TextSink in
     let s = g.S.Spec.tests in
     let n : is_part c.args.c ≡ false = cc in
-    let e = ends_pending s c.args.pending.now c.args.left.now c.args.c c.requires n in
+    let e = ends_pending s c.args.state.now.pending c.args.state.now.left c.args.c c.requires n in
     let put = subst (λ m. Shows w.puts w.halts w.stops c.drain-2.new.sink
     (written_units s m (Plain c.args.c ∷ [])) c.put_plain.new.sink c.put_plain.result) c.in-Ok.ensures.left c.put_plain.ensures.shows in
     subst (λ l. Shows w.puts w.halts w.stops c.args.sink.now l c.put_plain.new.sink c.put_plain.result) e.text
@@ -30,21 +30,21 @@ returns-in-Ok-clause-shows g c =
 pub returns-in-Ok-clause-pending : goal.returns-in-Ok-clause-pending
 returns-in-Ok-clause-pending g c =
     let n : is_part c.args.c ≡ false = cc in
-    let e = ends_pending g.S.Spec.tests c.args.pending.now c.args.left.now c.args.c c.requires n in
+    let e = ends_pending g.S.Spec.tests c.args.state.now.pending c.args.state.now.left c.args.c c.requires n in
     on_ok c.put_plain.result (c.in-Ok.ensures.pending ∙ e.none ∙ sym e.pending)
 
 pub returns-in-Ok-clause-left : goal.returns-in-Ok-clause-left
 returns-in-Ok-clause-left g c =
     let n : is_part c.args.c ≡ false = cc in
-    let e = ends_pending g.S.Spec.tests c.args.pending.now c.args.left.now c.args.c c.requires n in
-    on_ok_then c.put_plain.new.left (fewer c.drain-2.new.left 1)
-    (fewer c.args.left.now (length (step_units c.args.pending.now c.args.c))) c.put_plain.result c.put_plain.ensures.left
+    let e = ends_pending g.S.Spec.tests c.args.state.now.pending c.args.state.now.left c.args.c c.requires n in
+    on_ok_then c.put_plain.new.left (fewer c.drain-2.new.state.left 1)
+    (fewer c.args.state.now.left (length (step_units c.args.state.now.pending c.args.c))) c.put_plain.result c.put_plain.ensures.left
     (ap (λ m. fewer m 1) c.in-Ok.ensures.left ∙ e.lefts)
 
 pub returns-in-Ok-clause-short : goal.returns-in-Ok-clause-short
 returns-in-Ok-clause-short g c =
     let n : is_part c.args.c ≡ false = cc in
-    let e = ends_pending g.S.Spec.tests c.args.pending.now c.args.left.now c.args.c c.requires n in
+    let e = ends_pending g.S.Spec.tests c.args.state.now.pending c.args.state.now.left c.args.c c.requires n in
     omega (arith, ap length (c.in-Ok.ensures.pending ∙ e.none))
 
 pub returns-in-Err-clause-shows : goal.returns-in-Err-clause-shows
@@ -52,8 +52,8 @@ returns-in-Err-clause-shows g c =
     let w = g.W.TextSink in
     let s = g.S.Spec.tests in
     let n : is_part c.args.c ≡ false = cc in
-    let e = ends_pending s c.args.pending.now c.args.left.now c.args.c c.requires n in
+    let e = ends_pending s c.args.state.now.pending c.args.state.now.left c.args.c c.requires n in
     subst (λ l. Shows w.puts w.halts w.stops c.args.sink.now l c.drain-2.new.sink (Err c.in-Err.stop)) e.text
     (shows_exit g.met.W.TextSink.rules {r = Err c.in-Err.stop}
-    (written_units s (fewer c.args.left.now (length (told_units true 12 c.args.pending.now)))
+    (written_units s (fewer c.args.state.now.left (length (told_units true 12 c.args.state.now.pending)))
     (Plain c.args.c ∷ [])) refl c.in-Err.ensures.shows)

@@ -4,7 +4,7 @@ use Rattle.std.proofs.lemmas.Str.{chars-append}
 use Rattle.iri_text.proofs.CharSteps.{no_chars}
 use Rattle.iri_text.specs.inside.Through.{after}
 use Rattle.iri_template.proofs.ThroughEach.{up_to_none, up_to_some, up_to_stop, up_to_end}
-use Rattle.iri_template.specs.inside.UnitSteps.{UnitState, unit_step, unit_step_text}
+use Rattle.iri_template.specs.inside.UnitSteps.{unit_step, unit_step_text}
 use Rattle.iri_template.proofs.units.put_text.Goals as goal
 
 pub pieces-init : goal.pieces-init
@@ -27,7 +27,7 @@ pieces-preserved g c =
       utf8 = v;
       short = c.put_piece.ensures.short;
       far = up_to_some g.met.W.TextSink.rules (chars piece) cut
-          c.in_ok-put_piece.ensures.state i.far c.in_ok-put_piece.ensures.shows;
+          c.in_ok-put_piece.ensures.goes_on i.far c.in_ok-put_piece.ensures.shows;
     }
 
 pub returns-in_err-put_piece-clause-shows : goal.returns-in_err-put_piece-clause-shows
@@ -45,7 +45,6 @@ returns-clause-shows g c =
     up_to_end g.met.W.TextSink.rules
     (no_chars c.pieces.rest.now c.in_default.ensures) c.pieces.invariant.far
 
-pub returns-clause-state : goal.returns-clause-state
-returns-clause-state g c =
-    let now : UnitState = record { pending = c.pieces.pending; left = c.pieces.left } in
-    sym (c.pieces.invariant.far.goes_on ∙ ap (λ l. after unit_step (unit_step_text g.S.Spec.tests) now l) (no_chars c.pieces.rest.now c.in_default.ensures))
+pub returns-clause-goes_on : goal.returns-clause-goes_on
+returns-clause-goes_on g c =
+    sym (c.pieces.invariant.far.goes_on ∙ ap (λ l. after unit_step (unit_step_text g.S.Spec.tests) c.pieces.state l) (no_chars c.pieces.rest.now c.in_default.ensures))

@@ -1,6 +1,5 @@
-use Rattle.iri_template.specs.Events.{PairsBegun, entry_of, pair_text}
 use Rattle.iri_template.proofs.VisitsEach.{heard_exit_first, up_to_more, up_to_exit, up_to_end}
-use Rattle.iri_template.specs.declared.visitor.Phase.TheVariants.{InPairs, Done}
+use Rattle.iri_template.specs.declared.visitor.Phase.TheVariants.{Done}
 use Rattle.iri_template.proofs.naive.BTreeMapVisitValueNaive.visit_value.Goals as goal
 
 pub returns-in_err-visit_assoc : goal.returns-in_err-visit_assoc
