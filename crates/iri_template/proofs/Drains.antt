@@ -82,8 +82,8 @@ pub record Ended {W : Type 0} (s : Tests) (puts halts : W → List ℕ → W →
   pub holds : pending ≡ left_over end 12 first
   pub lefts : left ≡ fewer most (length (told_units end 12 first))
 
-module _ {W : Type 0} {puts halts : W → List ℕ → W → Type 0} {stops : W → ℕ} (laws : AreSinkLaws puts halts) (s : Tests) (end : Bool)
-    (first : List ℕ) (most : Option ℕ) where
+module _ {W : Type 0} {puts halts : W → List ℕ → W → Type 0} {stops : W → ℕ} (laws : AreSinkLaws puts halts) {s : Tests} {end : Bool}
+    {first : List ℕ} {most : Option ℕ} where
   pub drained_none : (a : W) → Drained s puts stops end first most a 12 first most a
   drained_none a = record { before = []; put = shown_none laws a; split = refl; lefts = refl; over = refl }
 

@@ -28,9 +28,6 @@ pub first_first : (f g h : Option Error) → first (first f g) h ≡ first f (fi
 first_first None g h = refl
 first_first (Some e) g h = refl
 
-pub first_at : (f g : Option Error) → f ≡ None → first f g ≡ g
-first_at f g h = ap (λ x. first x g) h
-
 pub neither : (f g : Option Error) → first f g ≡ None → (f ≡ None) × (g ≡ None)
 neither None g h = (refl, h)
 neither (Some e) g h = cc
@@ -43,9 +40,6 @@ passed false f e h = cc
 pub unmoved : (a : ℕ) (f : Option Error) → moved a f ≡ None → f ≡ None
 unmoved a None h = refl
 unmoved a (Some e) h = cc
-
-pub still_none : (a : ℕ) (f : Option Error) → f ≡ None → moved a f ≡ None
-still_none a f h = ap (moved a) h
 
 -- varspecs further on in a text
 pub varspecs_moved : (a at : ℕ) (vs : List (List ℕ)) → varspecs_fault (a + at) vs ≡ moved a (varspecs_fault at vs)

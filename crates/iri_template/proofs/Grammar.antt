@@ -38,7 +38,7 @@ use Rattle.iri_template.specs.declared.error.ErrorKind.TheVariants.{ExpressionNo
 use Rattle.iri_template.specs.declared.operator.Operator.{Operator}
 use Rattle.iri_template.specs.declared.operator.Operator.TheVariants.{Simple, Reserved, Fragment, Label, PathSegment, PathParameter}
 use Rattle.iri_template.specs.declared.operator.Operator.TheVariants.{FormQuery, FormContinuation}
-use Rattle.iri_template.proofs.FaultLemmas.{neither, unmoved, still_none, passed, of_text}
+use Rattle.iri_template.proofs.FaultLemmas.{neither, unmoved, passed, of_text}
 use Rattle.iri_template.proofs.VarSpecLemmas.{inner, varspec_bytes, varspecs_fine, varspecs_are}
 use Rattle.iri_template.proofs.Prefixes.{Begins, Fine, other_piece, begins_fault, begins_pieces, literal_begins, triplet_begins}
 use Rattle.iri_template.proofs.Prefixes.{expression_begins, has_delimiter}
@@ -151,41 +151,33 @@ ascii_text (c ∷ cs) h =
     let low : c < 128 = grind (arith, nat_tests) in
     delimited-utf8 c cs low (ascii_text cs k.1)
 
+-- a body whose operator, and what stands after it, are known
+body_of_parts : (o : Operator) (vs : List VarSpec) (b j : List ℕ) → operator_of b ≡ o → after_operator b ≡ j → operator_fault b ≡ None
+    → map varspec_of (pieces 44 j) ≡ vs → varspecs_fault (length (operator_text o)) (pieces 44 j) ≡ None → lacks 125 b ≡ true → IsUtf8 b → IsBodyOf o vs b
+body_of_parts o vs b j e a n m f l u = record {
+  operator = e;
+  rest = ap (λ k. map varspec_of (pieces 44 k)) a ∙ m;
+  fault = ap (λ k. first k (varspecs_fault (length (operator_text (operator_of b))) (pieces 44 (after_operator b)))) n
+      ∙ (ap (λ p. varspecs_fault (length (operator_text p)) (pieces 44 (after_operator b))) e
+      ∙ (ap (λ k. varspecs_fault (length (operator_text o)) (pieces 44 k)) a ∙ f));
+  closed = l;
+  ascii = u;
+}
+
 -- an operator that is written, and what follows it
 written_body : (o : Operator) (c : ℕ) (vs : List VarSpec) (j : List ℕ) → operator_text o ≡ c ∷ [] → operator_at c ≡ o
     → is_reserved_operator c ≡ false → c < 128 → (c == 125) ≡ false → map varspec_of (pieces 44 j) ≡ vs
     → varspecs_fault 1 (pieces 44 j) ≡ None → lacks 125 j ≡ true → IsUtf8 j → IsBodyOf o vs (c ∷ j)
 written_body o c vs j e a r low b m f l u =
-    let text : operator_text (operator_at c) ≡ c ∷ [] = ap operator_text a ∙ e in
-    let after_is : after_operator (c ∷ j) ≡ j = ap (λ k. drop (length k) (c ∷ j)) text in
-    record {
-      operator = a;
-      rest = ap (λ k. map varspec_of (pieces 44 k)) after_is ∙ m;
-      fault = ap (λ q. first (cond q (fault UnsupportedOperator 0) None)
-          (varspecs_fault (length (operator_text (operator_at c))) (pieces 44 (after_operator (c ∷ j))))) r
-          ∙ (ap (λ k. varspecs_fault (length k) (pieces 44 (after_operator (c ∷ j)))) text
-          ∙ (ap (λ k. varspecs_fault 1 (pieces 44 k)) after_is ∙ f));
-      closed = ap (λ q. not q && lacks 125 j) b ∙ l;
-      ascii = delimited-utf8 c j low u;
-    }
+    body_of_parts o vs (c ∷ j) j a (ap (λ k. drop (length k) (c ∷ j)) (ap operator_text a ∙ e)) (ap (λ q. cond q (fault UnsupportedOperator 0) None) r) m
+    (ap (λ k. varspecs_fault (length k) (pieces 44 j)) e ∙ f) (ap (λ q. not q && lacks 125 j) b ∙ l) (delimited-utf8 c j low u)
 
 -- no operator is written
 simple_body : (vs : List VarSpec) (j : List ℕ) → IsPlain (first_of j) → 0 < length j → map varspec_of (pieces 44 j) ≡ vs
     → varspecs_fault 0 (pieces 44 j) ≡ None → lacks 125 j ≡ true → IsUtf8 j → IsBodyOf Simple vs j
 simple_body vs [] p n m f l u = absurd (omega arith)
-simple_body vs (c ∷ cs) p n m f l u =
-    let text : operator_text (operator_at c) ≡ [] = ap operator_text p.operator in
-    let after_is : after_operator (c ∷ cs) ≡ c ∷ cs = ap (λ k. drop (length k) (c ∷ cs)) text in
-    record {
-      operator = p.operator;
-      rest = ap (λ k. map varspec_of (pieces 44 k)) after_is ∙ m;
-      fault = ap (λ q. first (cond q (fault UnsupportedOperator 0) None)
-          (varspecs_fault (length (operator_text (operator_at c))) (pieces 44 (after_operator (c ∷ cs))))) p.reserved
-          ∙ (ap (λ k. varspecs_fault (length k) (pieces 44 (after_operator (c ∷ cs)))) text
-          ∙ (ap (λ k. varspecs_fault 0 (pieces 44 k)) after_is ∙ f));
-      closed = l;
-      ascii = u;
-    }
+simple_body vs (c ∷ cs) p n m f l u = body_of_parts Simple vs (c ∷ cs) (c ∷ cs) p.operator
+    (ap (λ k. drop (length k) (c ∷ cs)) (ap operator_text p.operator)) (ap (λ q. cond q (fault UnsupportedOperator 0) None) p.reserved) m f l u
 
 first_joined : (v : VarSpec) (vs : List VarSpec) → is_varspec v ≡ true
     → IsPlain (first_of (split.joined 44 (map varspec_text (v ∷ vs)))) × (0 < length (split.joined 44 (map varspec_text (v ∷ vs))))
@@ -300,7 +292,7 @@ body_begins o vs b r k =
     record {
       begins = subst (λ p. Begins p t r) same begins;
       fault = ap (λ l. cond l (fault ExpressionNotClosed 0) (moved 1 (body_fault (body_of t)))) (has_delimiter 125 (b ++ 125 ∷ r) r there)
-          ∙ (ap (λ l. moved 1 (body_fault l)) body ∙ still_none 1 (body_fault b) k.fault);
+          ∙ (ap (λ l. moved 1 (body_fault l)) body ∙ ap (moved 1) k.fault);
     }
 
 pub spelled_is_read : (ps : List Piece) → list_all is_piece ps ≡ true → IsRead ps (template_text ps)

@@ -1,4 +1,5 @@
 -- A walk over the parts of a template without a fault: the part at the start, the types of values, and the portions that are left.
+use Rattle.std.proofs.lemmas.List.{nil_from_length, length-map}
 use Rattle.std.proofs.Common.{◌≡◌, ℕ, ◌+◌, ◌-◌, cond, List, [], ◌∷◌, ◌++◌, None, length, map, refl, sym, ◌∙◌, ap, arith, length-append, ◌<◌}
 use Rattle.std.proofs.Common.{◌≤◌, ◌*◌, false, Option, Some, subst, append_assoc, append-nil, Ok, Err, Bor}
 use Rattle.std.specs.Str.{IsUtf8, chars}
@@ -92,8 +93,7 @@ literals_have_no_type value at (c ∷ cs) = literals_have_no_type value (at + le
 
 pub no_types_left : (value : List ℕ → ShownValue) (at : ℕ) (t : List ℕ) → length t ≡ 0 → type_fault_from value at (pieces_of t) ≡ None
 unfolding pieces_from
-no_types_left value at [] h = refl
-no_types_left value at (x ∷ xs) h = absurd (omega arith)
+no_types_left value at t h = ap (λ l. type_fault_from value at (pieces_of l)) (nil_from_length t h)
 
 -- ---- literals and triplets
 pub outside_fault : (at : ℕ) (t : List ℕ) → portions_fault (outside at t) ≡ None
@@ -441,8 +441,7 @@ abbrev pub names_in : List ℕ → ℕ
 names_in t = length (names_of (pieces_of t))
 
 same_length : (vs : List VarSpec) → length (map (λ (v : VarSpec). v.name) vs ++ []) ≡ length vs
-same_length [] = refl
-same_length (v ∷ vs) = let e = same_length vs in omega arith
+same_length vs = ap length (append-nil (map (λ (v : VarSpec). v.name) vs)) ∙ length-map vs (λ (v : VarSpec). v.name)
 
 part_names : (p : Part) → 2 * length (names_of (part_pieces p)) ≡ calls_of p
 part_names (part.Literals l) = ap (λ ns. 2 * length ns) (literals_have_none (chars l.now))
@@ -457,5 +456,4 @@ names_left p t r cut =
 
 pub none_in : (t : List ℕ) → length t ≡ 0 → names_in t ≡ 0
 unfolding pieces_from
-none_in [] z = refl
-none_in (x ∷ xs) z = absurd (omega arith)
+none_in t z = ap names_in (nil_from_length t z)

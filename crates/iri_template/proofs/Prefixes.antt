@@ -17,7 +17,7 @@ use Rattle.iri_template.specs.Reading.{first_of, piece_at, piece_of, len_at, pie
 use Rattle.iri_template.specs.Reading.{triplet_of, varspec_of, operator_of, after_operator}
 use Rattle.iri_template.specs.Fault.{fault, moved, first, unless, fault_at, piece_fault, fault_from, triplet_fault, literal_fault}
 use Rattle.iri_template.specs.Fault.{operator_fault, expression_fault, varspecs_fault}
-use Rattle.iri_template.proofs.FaultLemmas.{first_at, moved_moved, varspecs_moved}
+use Rattle.iri_template.proofs.FaultLemmas.{moved_moved, varspecs_moved}
 use Rattle.iri_template.specs.declared.error.Error.{Error}
 use Rattle.iri_template.specs.declared.error.ErrorKind.TheVariants.{InvalidCharacter, ExpressionNotClosed}
 use Rattle.iri_grammar.proofs.ClassLaws.{class_has_ascii}
@@ -169,7 +169,7 @@ literals_passed (c ∷ cs) at t r h u e =
     let z : at + (length t - length s) + (length s - length r) ≡ at + (length t - length r) = omega (arith, one.begins.len, more.len) in
     record {
       fault = begins_fault (literal c) at t s one.begins
-          ∙ (first_at (moved at (piece_fault t)) _ (ap (moved at) one.fault) ∙ (more.fault ∙ ap (λ n. fault_from 0 n r) z));
+          ∙ (ap (λ f. first (moved at f) (fault_from 0 (at + (length t - length s)) s)) one.fault ∙ (more.fault ∙ ap (λ n. fault_from 0 n r) z));
       pieces = begins_pieces (literal c) t s one.begins ∙ ap (λ ps. literal c ∷ ps) more.pieces;
       len = omega (arith, one.begins.len, more.len);
     }
@@ -328,9 +328,6 @@ known true f o v h = cc
 known false f None v h = refl
 known false f (Some e) v h = cc
 
-brace_fault : (t : List ℕ) → first_of t ≡ 123 → piece_fault t ≡ expression_fault t
-brace_fault t e = ap (λ c. fault_at c t) e
-
 pub expression_prefix : (e : Expression) (at : ℕ) (t r : List ℕ) → IsExpression e t at r → IsPrefix (part.Expression e) t at r
 expression_prefix e at t r k =
     let b = body_of t in
@@ -341,7 +338,7 @@ expression_prefix e at t r k =
     let rest = known (lacks 125 (tail t)) _ (operator_fault b) (varspecs_fault n w) k.prefix in
     let z : at + 1 + n ≡ e.location = omega (arith, k.location, ap length k.varspecs, operator_len b) in
     let told : moved at (piece_fault t) ≡ varspecs_fault e.location (pieces 44 e.varspecs.now) =
-    ap (moved at) (brace_fault t brace ∙ rest) ∙ (moved_moved at 1 (varspecs_fault n w)
+    ap (moved at) (ap (λ c. fault_at c t) brace ∙ rest) ∙ (moved_moved at 1 (varspecs_fault n w)
     ∙ (sym (varspecs_moved (at + 1) n w) ∙ (ap (λ m. varspecs_fault m w) z
     ∙ ap (λ l. varspecs_fault e.location (pieces 44 l)) (sym k.varspecs)))) in
     record {
@@ -372,7 +369,7 @@ pub expression_error : (at : ℕ) (t : List ℕ) (e : Error) → 0 < length t �
     → fault_from 0 at t ≡ Some e
 expression_error at t e some brace h =
     fault_at_start at t e some (some_piece t brace)
-    (ap (moved at) (brace_fault t brace) ∙ first_known at (lacks 125 (tail t)) _ (operator_fault (body_of t)) _ e h)
+    (ap (moved at) (ap (λ c. fault_at c t) brace) ∙ first_known at (lacks 125 (tail t)) _ (operator_fault (body_of t)) _ e h)
 
 -- ---- triplets
 triplet_taken : (t : List ℕ) → triplet_fault t ≡ None → triplet_of (take 3 t) ≡ triplet_of t

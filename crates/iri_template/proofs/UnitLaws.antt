@@ -355,12 +355,6 @@ or_last true a b h = refl
 or_last false true b h = refl
 or_last false false b h = h
 
-some_true : {o : Option ℕ} (b : Bool) (c : ℕ) → o ≡ Some c → is_some o || b ≡ true
-some_true b c h = ap (λ p. is_some p || b) h
-
-none_false : {o : Option ℕ} (b : Bool) → o ≡ None → is_some o || b ≡ b
-none_false b h = ap (λ p. is_some p || b) h
-
 pub tells_none : (end : Bool) (t : List ℕ) → end || is_settled t ≡ false → TellsNone end t
 tells_none end [] h zero = (refl, refl)
 tells_none end [] h (suc k) = (refl, refl)
@@ -392,7 +386,7 @@ unit_of_char s end t c h k =
     record {
       some = omega (arith, len_utf8_bounds c);
       within = inside;
-      told = ap (λ b. end || b) (some_true (nat_le 12 (length t) || is_closed t) c k) ∙ or_right end true refl;
+      told = ap (λ b. end || b) (ap (λ p. is_some p || (nat_le 12 (length t) || is_closed t)) k) ∙ or_right end true refl;
       all = ap (λ u. length (unit_text u)) is ∙ length-take-le (3 * len_utf8 c) t inside;
       text = ap (kept_unit s) is;
     }
@@ -426,7 +420,7 @@ unit_of_lone s end t h k e =
 
 pub open_triplet : (end : Bool) (t : List ℕ) → first_char (octets t) ≡ None → (end || (nat_le 12 (length t) || is_closed t)) ≡ false
     → TellsNone end t
-open_triplet end t k e = tells_none end t (ap (λ b. end || b) (none_false (nat_le 12 (length t) || is_closed t) k) ∙ e)
+open_triplet end t k e = tells_none end t (ap (λ b. end || b) (ap (λ p. is_some p || (nat_le 12 (length t) || is_closed t)) k) ∙ e)
 
 -- ---- any other byte
 byte_unit_at : (x : ℕ) (t : List ℕ) → begins_triplet (x ∷ t) ≡ false → unit_at (x ∷ t) ≡ byte_unit x
@@ -457,13 +451,6 @@ one_byte s x k h =
     percent e = sym (ap (encoded_char (any_char s)) e ∙ ap (λ b. cond b (encode_utf8 37) (triplets (encode_utf8 37))) (any_percent s k)
         ∙ ap triplets (encode_ascii 37 (omega arith)))
 
-first_ascii : (x : ℕ) (t : List ℕ) → IsAscii (x ∷ t) → x < 128
-first_ascii x t h = h 0
-
-settled_byte : (x : ℕ) (t : List ℕ) (end : Bool) → (end || (nat_le 12 (length (x ∷ t)) || is_closed (x ∷ t))) ≡ true
-    → end || is_settled (x ∷ t) ≡ true
-settled_byte x t end h = or_last end (is_some (first_char (octets (x ∷ t)))) (nat_le 12 (length (x ∷ t)) || is_closed (x ∷ t)) h
-
 byte_length : (x : ℕ) → length (unit_text (byte_unit x)) ≡ 1
 byte_length x = elim (x == 37) as (λ b. length (unit_text (cond b Stray (Plain x))) ≡ 1) [ true ↦ refl | false ↦ refl ]
 
@@ -475,9 +462,9 @@ unit_of_byte s end (x ∷ t) k a h l e =
     record {
       some = omega arith;
       within = omega arith;
-      told = settled_byte x t end e;
+      told = or_last end (is_some (first_char (octets (x ∷ t)))) (nat_le 12 (length (x ∷ t)) || is_closed (x ∷ t)) e;
       all = ap (λ u. length (unit_text u)) is ∙ byte_length x;
-      text = ap (kept_unit s) is ∙ one_byte s x k (first_ascii x t a);
+      text = ap (kept_unit s) is ∙ one_byte s x k (a 0);
     }
 
 -- where it isn't told, no character begins there

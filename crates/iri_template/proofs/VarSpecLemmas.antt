@@ -17,7 +17,7 @@ use Rattle.iri_template.specs.Reading.{ends_name, name_of, modifier_of, varspec_
 use Rattle.iri_template.specs.Fault.{fault, moved, first, unless, max_length_fault, modifier_fault, varspec_fault, varspecs_fault}
 use Rattle.iri_template.specs.declared.error.Error.{Error}
 use Rattle.iri_template.specs.declared.error.ErrorKind.TheVariants.{InvalidExpression}
-use Rattle.iri_template.proofs.FaultLemmas.{unmoved, still_none, neither, passed}
+use Rattle.iri_template.proofs.FaultLemmas.{unmoved, neither, passed}
 use Rattle.iri_grammar.proofs.DelimiterLemmas.{run_of_all}
 use Rattle.iri_grammar.proofs.LiteralChars.{all-join as all_append, all-weaken}
 
@@ -173,7 +173,7 @@ varspec_fine v h =
           ap (λ n. cond (is_varname n) (moved (length n) (modifier_fault (from_any ends_name (varspec_text v))))
           (fault InvalidExpression 0)) cut.0
           ∙ (ap (λ b. cond b (moved (length v.name) (modifier_fault (from_any ends_name (varspec_text v)))) (fault InvalidExpression 0)) k.0
-          ∙ still_none (length v.name) (modifier_fault (from_any ends_name (varspec_text v))) (ap modifier_fault cut.1 ∙ m.0));
+          ∙ ap (moved (length v.name)) (ap modifier_fault cut.1 ∙ m.0));
       read = ap (λ n. record { name = n; modifier = modifier_of (from_any ends_name (varspec_text v)) }) cut.0
           ∙ ap (λ q. record { name = v.name; modifier = q }) (ap modifier_of cut.1 ∙ m.1);
     }

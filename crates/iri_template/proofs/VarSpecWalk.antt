@@ -12,7 +12,7 @@ use Rattle.iri_template.specs.Reading.{ends_name, name_of, varspec_of, pieces_of
 use Rattle.iri_template.specs.Fault.{fault, moved, first, unless, name_fault, modifier_fault, varspec_fault, varspecs_fault, text_fault}
 use Rattle.iri_template.specs.declared.error.Error.{Error}
 use Rattle.iri_template.specs.declared.error.ErrorKind.TheVariants.{InvalidExpression, UnexpectedValueType}
-use Rattle.iri_template.proofs.FaultLemmas.{moved_moved, unmoved, varspecs_moved, moved_none, first_first, first_none, still_none}
+use Rattle.iri_template.proofs.FaultLemmas.{moved_moved, unmoved, varspecs_moved, moved_none, first_first, first_none}
 use denote.Ref.{Bor}
 use Rattle.iri_grammar.specs.OptionalSlices.{now_of}
 use Rattle.iri_template.specs.Left.{varspecs_left, IsTaken}
@@ -151,7 +151,7 @@ types_spec value found at t v o e h i =
     let w = varspec_of (before 44 t) in
     let b = is_mistyped_as v.modifier (value v.name.text.now) in
     let others = varspecs_type_fault value (at + length (before 44 t) + 1) (map varspec_of (varspecs_left o)) in
-    let good : moved 0 (varspec_fault (before 44 t)) ≡ None = still_none 0 (varspec_fault (before 44 t)) (unmoved at (varspec_fault (before 44 t)) h) in
+    let good : moved 0 (varspec_fault (before 44 t)) ≡ None = ap (moved 0) (unmoved at (varspec_fault (before 44 t)) h) in
     ap (λ ps. first found (varspecs_type_fault value at (map varspec_of ps))) (cut_spec t o e)
     ∙ ap (λ n. first found (cond (is_mistyped w.modifier (value w.name)) (fault UnexpectedValueType at)
     (varspecs_type_fault value (at + n + 1) (map varspec_of (varspecs_left o))))) (spec_len (before 44 t) good)

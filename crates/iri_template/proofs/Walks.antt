@@ -1,4 +1,5 @@
 -- A walk over a template without a fault.
+use Rattle.std.proofs.lemmas.List.{nil_from_length}
 use Rattle.std.proofs.Common.{◌≡◌, ℕ, zero, suc, ◌+◌, ◌-◌, true, false, List, [], ◌∷◌, ◌++◌, length, map, Option, Some, None, refl, sym}
 use Rattle.std.proofs.Common.{◌∙◌, ap, subst, arith, append_assoc}
 use Rattle.std.specs.Prelude.{is_some}
@@ -19,8 +20,7 @@ use Rattle.iri_template.proofs.VarSpecWalk.{varspecs_anywhere}
 
 pub nothing_left : (at : ℕ) (t : List ℕ) → length t ≡ 0 → fault_from 0 at t ≡ None
 unfolding fault_from
-nothing_left at [] h = refl
-nothing_left at (x ∷ xs) h = absurd (omega arith)
+nothing_left at t h = ap (fault_from 0 at) (nil_from_length t h)
 
 -- the same text further on in another
 pub fault_moved : (a skip at : ℕ) (t : List ℕ) → fault_from skip (a + at) t ≡ moved a (fault_from skip at t)
@@ -112,8 +112,7 @@ none_left (Some s) h = let clash = sym (pieces_cut 44 s.now) ∙ h in cc
 
 pub no_names : (t : List ℕ) → length t ≡ 0 → names_of (pieces_of t) ≡ []
 unfolding pieces_from
-no_names [] h = refl
-no_names (x ∷ xs) h = absurd (omega arith)
+no_names t h = ap (λ l. names_of (pieces_of l)) (nil_from_length t h)
 
 -- an iterator whose varspecs have run out, and that found no more
 pub ended : (o : Option (Bor (List ℕ))) (r t : List ℕ) → varspecs_left o ≡ [] → (o ≡ None → length r ≡ 0)
@@ -121,6 +120,3 @@ pub ended : (o : Option (Bor (List ℕ))) (r t : List ℕ) → varspecs_left o �
 ended o r t e n h =
     let left = no_names r (n (none_left o e)) in
     (sym h ∙ (ap (λ vs. map name_of vs ++ names_of (pieces_of r)) e ∙ left), left)
-
-pub some_left : (s : Bor (List ℕ)) → varspecs_left (Some s) ≡ [] → ⊥
-some_left s h = let clash = sym (pieces_cut 44 s.now) ∙ h in cc

@@ -67,13 +67,8 @@ fn tell_next<C: DynamicContext, S: Spec, W: TextSink>(
         (C.ends context.old) (C.ends context.new) }
 {
     match context.visit_dynamic(visitor) {
-        Ok(()) => {
-            if visitor.mistyped {
-                Err(Error::new(ErrorKind::UnexpectedValueType, at))
-            } else {
-                Ok(())
-            }
-        }
+        Ok(()) if visitor.mistyped => Err(Error::new(ErrorKind::UnexpectedValueType, at)),
+        Ok(()) => Ok(()),
         Err(_) => Err(Error::new(ErrorKind::WriteFailed, at)),
     }
 }

@@ -71,12 +71,8 @@ impl UriTemplateString {
     pub fn try_from_str(alloc: Global, s: &str) -> Result<Self, CreateTemplateError>
         ensures { MatchResult result (λ t. t.text ≡ s.now) (λ e. RefusedFor e (text_fault s.now)) }
     {
-        match UriTemplateStr::new(s) {
-            Ok(view) => UriTemplateString::from_view(alloc, view).map_err(
-                CreateTemplateError::Memory,
-            ),
-            Err(error) => Err(CreateTemplateError::Invalid(error)),
-        }
+        let view = UriTemplateStr::new(s).map_err(CreateTemplateError::Invalid)?;
+        UriTemplateString::from_view(alloc, view).map_err(CreateTemplateError::Memory)
     }
 
     /// A copy of bytes that are the UTF-8 of a template.
@@ -89,12 +85,8 @@ impl UriTemplateString {
     pub fn try_from_bytes(alloc: Global, b: &[u8]) -> Result<Self, CreateTemplateError>
         ensures { MatchResult result (λ t. t.text ≡ b.now) (λ e. RefusedFor e (template_fault b.now)) }
     {
-        match UriTemplateStr::try_from_bytes(b) {
-            Ok(view) => UriTemplateString::from_view(alloc, view).map_err(
-                CreateTemplateError::Memory,
-            ),
-            Err(error) => Err(CreateTemplateError::Invalid(error)),
-        }
+        let view = UriTemplateStr::try_from_bytes(b).map_err(CreateTemplateError::Invalid)?;
+        UriTemplateString::from_view(alloc, view).map_err(CreateTemplateError::Memory)
     }
 
     /// A string whose text is a template. It takes no memory.

@@ -33,12 +33,15 @@ loop-c-preserved g c =
       far = up_to_more g.met.W.TextSink.rules c.in-Some.c f.first refl i.far put;
     }
 
-pub returns-then-left-eq0-clause-shows : goal.returns-then-left-eq0-clause-shows
-returns-then-left-eq0-clause-shows g c = up_to_last g.met.W.TextSink.rules (none_left g.S.Spec.tests _ c.loop-c.left c.if-left-eq0.true) c.loop-c.invariant.far
-
-pub returns-then-left-eq0-clause-left : goal.returns-then-left-eq0-clause-left
-returns-then-left-eq0-clause-left g c =
-    sym (c.loop-c.invariant.far.goes_on ∙ none_after g.S.Spec.tests (chars (chars_rest c.loop-c.c-iterator)) c.loop-c.left c.if-left-eq0.true)
+pub returns-then-left-eq0 : goal.returns-then-left-eq0
+returns-then-left-eq0 g c =
+    let i = c.loop-c.invariant in
+    let s = g.S.Spec.tests in
+    let none = c.if-left-eq0.true in
+    record {
+      shows = up_to_last g.met.W.TextSink.rules (none_left s _ c.loop-c.left none) i.far;
+      left = sym (i.far.goes_on ∙ none_after s (chars (chars_rest c.loop-c.c-iterator)) c.loop-c.left none);
+    }
 
 pub returns-in_err-put_char-clause-shows : goal.returns-in_err-put_char-clause-shows
 returns-in_err-put_char-clause-shows g c =

@@ -1,4 +1,4 @@
-use Rattle.std.proofs.Common.{◌≡◌, ◌+◌, ◌-◌, Some, length, map, ap, refl, sym, ◌∙◌, arith}
+use Rattle.std.proofs.Common.{◌≡◌, ◌+◌, ◌-◌, Some, length, map, ap, refl, sym, ◌∙◌, arith, rules}
 use Rattle.iri_grammar.specs.Cut.{before, after}
 use Rattle.iri_grammar.specs.Pieces.{pieces}
 use Rattle.iri_grammar.specs.OptionalSlices.{now_of}
@@ -85,25 +85,25 @@ returns-in-None-clause-moves g c =
     (moved_more (d.tells c.args.context.now) (d.tells c.varspecs.context) (d.tells c.write_varspec.new.context)
     (specs_in c.args.varspecs.now) (specs_in t) 0 2 (omega arith) c.varspecs.invariant.moved c.in-Ok-write_varspec.ensures.moves)
 
-pub returns-in-Err-write_varspec-clause-written : goal.returns-in-Err-write_varspec-clause-written
-returns-in-Err-write_varspec-clause-written g c =
+pub returns-in-Err-write_varspec : goal.returns-in-Err-write_varspec
+returns-in-Err-write_varspec g c =
     let w = g.W.TextSink in
     let d = g.C.DynamicContext in
+    let i = c.varspecs.invariant in
     let q = c.in-Err-write_varspec.ensures in
-    (up_to_refused g.S.Spec.tests c.args.operator w.puts w.halts g.met.W.TextSink.rules c.args.at c.args.varspecs.now c.args.sink.now
+    let ends = up_to_refused g.S.Spec.tests c.args.operator w.puts w.halts g.met.W.TextSink.rules c.args.at c.args.varspecs.now c.args.sink.now
     c.varspecs.written c.varspecs.rest.now c.in-Ok.varspec c.in-Ok.others c.in-Ok.ensures.others c.in-Ok.ensures.fault c.in-Ok.ensures.value
     c.varspecs.sink c.write_varspec.new.sink c.in-Err-write_varspec.error q.place (d.tells c.args.context.now) (d.tells c.varspecs.context)
-    (d.tells c.write_varspec.new.context) c.varspecs.invariant.far q.written q.calls).0
-
-pub returns-in-Err-write_varspec-clause-refused : goal.returns-in-Err-write_varspec-clause-refused
-returns-in-Err-write_varspec-clause-refused g c =
-    let w = g.W.TextSink in
-    let d = g.C.DynamicContext in
-    let q = c.in-Err-write_varspec.ensures in
-    (up_to_refused g.S.Spec.tests c.args.operator w.puts w.halts g.met.W.TextSink.rules c.args.at c.args.varspecs.now c.args.sink.now
-    c.varspecs.written c.varspecs.rest.now c.in-Ok.varspec c.in-Ok.others c.in-Ok.ensures.others c.in-Ok.ensures.fault c.in-Ok.ensures.value
-    c.varspecs.sink c.write_varspec.new.sink c.in-Err-write_varspec.error q.place (d.tells c.args.context.now) (d.tells c.varspecs.context)
-    (d.tells c.write_varspec.new.context) c.varspecs.invariant.far q.written q.calls).1
+    (d.tells c.write_varspec.new.context) i.far q.written q.calls in
+    record {
+      written = ends.0;
+      cause = search rules;
+      later = omega (arith, i.later, q.later);
+      moves = tt;
+      refused = ends.1;
+      same_starts = q.same_starts ∙ i.starts;
+      same_ends = q.same_ends ∙ i.ends;
+    }
 
 pub unreachable-requires : goal.unreachable-requires
 unreachable-requires g c =

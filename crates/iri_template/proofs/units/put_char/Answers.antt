@@ -16,36 +16,23 @@ pub returns-then-is_part-clause-short : goal.returns-then-is_part-clause-short
 returns-then-is_part-clause-short g c =
     part_short c.args.state.now.pending c.push.new.self c.args.c c.drain.result c.drain.new.state.pending c.requires c.push.ensures c.drain.ensures.pending c.drain.ensures.cleared
 
-pub returns-in-Ok-clause-shows : goal.returns-in-Ok-clause-shows
-returns-in-Ok-clause-shows g c =
+pub returns-in-Ok : goal.returns-in-Ok
+returns-in-Ok g c =
     let w = g.W.TextSink in
     let s = g.S.Spec.tests in
     let n : is_part c.args.c ≡ false = cc in
     let e = ends_pending s c.args.state.now.pending c.args.state.now.left c.args.c c.requires n in
     let put = subst (λ m. Shows w.puts w.halts w.stops c.drain-2.new.sink
     (written_units s m (Plain c.args.c ∷ [])) c.put_plain.new.sink c.put_plain.result) c.in-Ok.ensures.left c.put_plain.ensures.shows in
-    subst (λ l. Shows w.puts w.halts w.stops c.args.sink.now l c.put_plain.new.sink c.put_plain.result) e.text
-    (shows_then g.met.W.TextSink.rules c.in-Ok.ensures.shows put)
-
-pub returns-in-Ok-clause-pending : goal.returns-in-Ok-clause-pending
-returns-in-Ok-clause-pending g c =
-    let n : is_part c.args.c ≡ false = cc in
-    let e = ends_pending g.S.Spec.tests c.args.state.now.pending c.args.state.now.left c.args.c c.requires n in
-    on_ok c.put_plain.result (c.in-Ok.ensures.pending ∙ e.none ∙ sym e.pending)
-
-pub returns-in-Ok-clause-left : goal.returns-in-Ok-clause-left
-returns-in-Ok-clause-left g c =
-    let n : is_part c.args.c ≡ false = cc in
-    let e = ends_pending g.S.Spec.tests c.args.state.now.pending c.args.state.now.left c.args.c c.requires n in
-    on_ok_then c.put_plain.new.left (fewer c.drain-2.new.state.left 1)
-    (fewer c.args.state.now.left (length (step_units c.args.state.now.pending c.args.c))) c.put_plain.result c.put_plain.ensures.left
-    (ap (λ m. fewer m 1) c.in-Ok.ensures.left ∙ e.lefts)
-
-pub returns-in-Ok-clause-short : goal.returns-in-Ok-clause-short
-returns-in-Ok-clause-short g c =
-    let n : is_part c.args.c ≡ false = cc in
-    let e = ends_pending g.S.Spec.tests c.args.state.now.pending c.args.state.now.left c.args.c c.requires n in
-    omega (arith, ap length (c.in-Ok.ensures.pending ∙ e.none))
+    record {
+      shows = subst (λ l. Shows w.puts w.halts w.stops c.args.sink.now l c.put_plain.new.sink c.put_plain.result) e.text
+          (shows_then g.met.W.TextSink.rules c.in-Ok.ensures.shows put);
+      pending = on_ok c.put_plain.result (c.in-Ok.ensures.pending ∙ e.none ∙ sym e.pending);
+      left = on_ok_then c.put_plain.new.left (fewer c.drain-2.new.state.left 1)
+          (fewer c.args.state.now.left (length (step_units c.args.state.now.pending c.args.c))) c.put_plain.result c.put_plain.ensures.left
+          (ap (λ m. fewer m 1) c.in-Ok.ensures.left ∙ e.lefts);
+      short = omega (arith, ap length (c.in-Ok.ensures.pending ∙ e.none));
+    }
 
 pub returns-in-Err-clause-shows : goal.returns-in-Err-clause-shows
 returns-in-Err-clause-shows g c =

@@ -46,17 +46,12 @@ loop-c-preserved g c =
       far = up_to_more g.met.W.TextSink.rules c.in-Some.c f.first goes i.far c.in_ok-put_char.ensures.shows;
     }
 
-pub returns-then-is_used_up-clause-shows : goal.returns-then-is_used_up-clause-shows
-returns-then-is_used_up-clause-shows g c =
+pub returns-then-is_used_up : goal.returns-then-is_used_up
+returns-then-is_used_up g c =
+    let i = c.loop-c.invariant in
     let none = used_up g.S.Spec.tests c.loop-c.state.pending c.loop-c.state.left (chars (chars_rest c.loop-c.c-iterator))
     (sym c.is_used_up.ensures ∙ c.if-is_used_up.true) in
-    up_to_last g.met.W.TextSink.rules none.0 c.loop-c.invariant.far
-
-pub returns-then-is_used_up-clause-goes_on : goal.returns-then-is_used_up-clause-goes_on
-returns-then-is_used_up-clause-goes_on g c =
-    let none = used_up g.S.Spec.tests c.loop-c.state.pending c.loop-c.state.left (chars (chars_rest c.loop-c.c-iterator))
-    (sym c.is_used_up.ensures ∙ c.if-is_used_up.true) in
-    sym (c.loop-c.invariant.far.goes_on ∙ none.1)
+    record { shows = up_to_last g.met.W.TextSink.rules none.0 i.far; goes_on = sym (i.far.goes_on ∙ none.1); short = i.short }
 
 pub returns-in_err-put_char-clause-shows : goal.returns-in_err-put_char-clause-shows
 returns-in_err-put_char-clause-shows g c =
@@ -64,12 +59,12 @@ returns-in_err-put_char-clause-shows g c =
     let f = first_char _ _ c.in-Some.c i.utf8 c.in-Some.ensures.steps.0 in
     up_to_exit g.met.W.TextSink.rules c.in-Some.c f.first c.from_residual.ensures.0 i.far c.in_err-put_char.ensures.shows
 
-pub returns-clause-shows : goal.returns-clause-shows
-returns-clause-shows g c =
-    up_to_end g.met.W.TextSink.rules
-    (no_chars _ c.in-None.ensures.steps.0.0) c.loop-c.invariant.far
-
-pub returns-clause-goes_on : goal.returns-clause-goes_on
-returns-clause-goes_on g c =
-    sym (c.loop-c.invariant.far.goes_on ∙ ap (λ l. after unit_step (unit_step_text g.S.Spec.tests) c.loop-c.state l)
-    (no_chars _ c.in-None.ensures.steps.0.0))
+pub returns : goal.returns
+returns g c =
+    let i = c.loop-c.invariant in
+    let none = no_chars _ c.in-None.ensures.steps.0.0 in
+    record {
+      shows = up_to_end g.met.W.TextSink.rules none i.far;
+      goes_on = sym (i.far.goes_on ∙ ap (λ l. after unit_step (unit_step_text g.S.Spec.tests) c.loop-c.state l) none);
+      short = i.short;
+    }

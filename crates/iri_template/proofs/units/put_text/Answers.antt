@@ -40,11 +40,12 @@ returns-in_err-put_piece-clause-shows g c =
     up_to_stop g.met.W.TextSink.rules (chars piece) (chars following) cut
     c.from_residual.ensures.0 i.far c.in_err-put_piece.ensures.shows
 
-pub returns-clause-shows : goal.returns-clause-shows
-returns-clause-shows g c =
-    up_to_end g.met.W.TextSink.rules
-    (no_chars c.pieces.rest.now c.in_default.ensures) c.pieces.invariant.far
-
-pub returns-clause-goes_on : goal.returns-clause-goes_on
-returns-clause-goes_on g c =
-    sym (c.pieces.invariant.far.goes_on ∙ ap (λ l. after unit_step (unit_step_text g.S.Spec.tests) c.pieces.state l) (no_chars c.pieces.rest.now c.in_default.ensures))
+pub returns : goal.returns
+returns g c =
+    let i = c.pieces.invariant in
+    let none = no_chars c.pieces.rest.now c.in_default.ensures in
+    record {
+      shows = up_to_end g.met.W.TextSink.rules none i.far;
+      goes_on = sym (i.far.goes_on ∙ ap (λ l. after unit_step (unit_step_text g.S.Spec.tests) c.pieces.state l) none);
+      short = i.short;
+    }

@@ -3,7 +3,7 @@ use Rattle.std.specs.Prelude.{◌==◌}
 use Rattle.std.specs.Char.{is_ascii_hexdigit}
 use Rattle.std.proofs.lemmas.Bool.{and_parts, and_left, ne_eqb}
 use Rattle.std.proofs.lemmas.Bool.Decides.{nat_tests}
-use Rattle.std.proofs.lemmas.List.{take_rest}
+use Rattle.std.proofs.lemmas.List.{take_rest, nil_from_length}
 use Rattle.iri_grammar.proofs.CutLaws.{by_test}
 use Rattle.iri_grammar.specs.Over.{over, over_from}
 use Rattle.iri_template.specs.Names.{is_name_char}
@@ -45,8 +45,7 @@ no_unit x t h k =
 
 nothing_left : (t : List ℕ) → length t ≡ 0 → over is_name_char t ≡ (length t == 0)
 unfolding over_from
-nothing_left [] h = refl
-nothing_left (x ∷ xs) h = absurd (omega arith)
+nothing_left t h = let e = nil_from_length t h in rw e refl
 
 pub returns-then-begins_triplet : goal.returns-then-begins_triplet
 returns-then-begins_triplet c =

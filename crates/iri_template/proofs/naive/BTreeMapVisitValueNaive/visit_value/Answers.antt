@@ -10,10 +10,8 @@ loop-key-preserved g c = up_to_more g.met.V.Visitor.rules
     (c.in-Some.key.now, c.in-Some.value.now) c.in-Some.ensures.steps c.loop-key.invariant c.in_ok-visit_entry.ensures
 
 pub returns-in_err-visit_entry : goal.returns-in_err-visit_entry
-returns-in_err-visit_entry g c = up_to_exit g.met.V.Visitor.rules (
-  c.in-Some.key.now,
-  c.in-Some.value.now,
-) Done c.in-Some.ensures.steps c.from_residual-in_err-visit_entry.ensures.0 c.loop-key.invariant c.in_err-visit_entry.ensures
+returns-in_err-visit_entry g c = up_to_exit g.met.V.Visitor.rules (c.in-Some.key.now, c.in-Some.value.now) Done
+    c.in-Some.ensures.steps c.from_residual-in_err-visit_entry.ensures.0 c.loop-key.invariant c.in_err-visit_entry.ensures
 
 pub returns : goal.returns
 returns g c = up_to_end g.met.V.Visitor.rules Done c.in-None.ensures.steps.0 c.loop-key.invariant c.finish.ensures
