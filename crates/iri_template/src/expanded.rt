@@ -141,10 +141,8 @@ impl<'a, S: Spec, C: Context> Expanded<'a, S, C> {
             (λ e. RefusedAs e (expanded_text S.tests C.value_of self.now)
             (K.fault S.tests (expanded_text S.tests C.value_of self.now))) }
     {
-        match self.try_to_string(alloc) {
-            Ok(text) => Owned::try_from_string(text).map_err(ExpandedError::Invalid),
-            Err(error) => Err(ExpandedError::Memory(error)),
-        }
+        let text = self.try_to_string(alloc).map_err(ExpandedError::Memory)?;
+        Owned::try_from_string(text).map_err(ExpandedError::Invalid)
     }
 
     /// The expansion as a reference.

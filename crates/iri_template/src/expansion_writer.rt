@@ -170,10 +170,7 @@ pub(crate) fn write_varspecs<C: DynamicContext, S: Spec, W: TextSink>(
 fn told(put: Result<(), Stop>, begin: usize) -> Result<(), Error>
     ensures { result ≡ told_of begin put }
 {
-    match put {
-        Ok(()) => Ok(()),
-        Err(_) => Err(Error::new(ErrorKind::WriteFailed, begin)),
-    }
+    put.map_err(|_| Error::new(ErrorKind::WriteFailed, begin))
 }
 
 // Writes a part with this text. `begin` is the place of the literals and percent-encoded octets to which it belongs, where

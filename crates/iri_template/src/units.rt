@@ -74,10 +74,7 @@ pub(crate) fn is_used_up(left: Option<u16>) -> bool
 fn one_fewer(left: Option<u16>) -> Option<u16>
     ensures { result ≡ fewer left 1 }
 {
-    match left {
-        Some(n) => Some(n.saturating_sub(1)),
-        None => None,
-    }
+    left.map(|n| n.saturating_sub(1))
 }
 
 // Writes a text as it stands, or so that a reference of `S` can hold it.
