@@ -16,7 +16,7 @@ use Rattle.iri_template.specs.Template.{Piece, literal, triplet, literal_char, e
 use Rattle.iri_template.specs.Reading.{first_of, piece_at, piece_of, len_at, piece_len, pieces_from, pieces_of, body_of, expression_of}
 use Rattle.iri_template.specs.Reading.{triplet_of, varspec_of, operator_of, after_operator}
 use Rattle.iri_template.specs.Fault.{fault, moved, first, unless, fault_at, piece_fault, fault_from, triplet_fault, literal_fault}
-use Rattle.iri_template.specs.Fault.{operator_fault, expression_fault, varspecs_fault}
+use Rattle.iri_template.specs.Fault.{operator_fault, varspecs_fault}
 use Rattle.iri_template.proofs.FaultLemmas.{moved_moved, varspecs_moved}
 use Rattle.iri_template.specs.declared.error.Error.{Error}
 use Rattle.iri_template.specs.declared.error.ErrorKind.TheVariants.{InvalidCharacter, ExpressionNotClosed}

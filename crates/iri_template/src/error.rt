@@ -90,8 +90,7 @@ impl fmt::Display for Error {
     ghost output = { λ e. Some (displayed e) };
 
     fn fmt<W: fmt::Write>(&self, f: &mut fmt::Formatter<W>) -> fmt::Result {
-        let description = self.kind.description();
-        let location = self.location;
+        let (description, location) = (self.kind.description(), self.location);
         write!(
             f,
             "invalid URI template: {description} (at {location}-th byte)"

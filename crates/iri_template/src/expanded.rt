@@ -77,11 +77,8 @@ impl<'a, S: Spec, C: Context> Show for Expanded<'a, S, C> {
 
     fn show<W: TextSink>(&self, sink: &mut W) -> Result<(), Stop> {
         let mut values = Typechecked::new(self.context);
-        match write_expansion::<Typechecked<'_, C>, S, W>(
-            sink,
-            &mut values,
-            self.template.as_str(),
-        ) {
+        let template = self.template.as_str();
+        match write_expansion::<Typechecked<'_, C>, S, W>(sink, &mut values, template) {
             Ok(()) => Ok(()),
             Err(_) => Err(Stop),
         }

@@ -195,13 +195,9 @@ fn write_part<C: DynamicContext, S: Spec, W: TextSink>(
     ensures same_ends { C.ends context.new ≡ C.ends context.old }
 {
     match part {
-        Part::Expression(expression) => write_varspecs::<C, S, W>(
-            sink,
-            context,
-            expression.operator,
-            expression.varspecs,
-            expression.location,
-        ),
+        Part::Expression(e) => {
+            write_varspecs::<C, S, W>(sink, context, e.operator, e.varspecs, e.location)
+        }
         Part::Literals(literals) => told(put_as::<S, W>(sink, literals, false), begin),
         Part::Triplet(_) => told(sink.put(text), begin),
     }

@@ -207,13 +207,9 @@ fn cut_char(text: &str) -> Option<(&str, &str)>
     ensures { MatchOption result (length text.now ≡ 0) (λ p. IsCut text.now p.0.now p.1.now) }
 {
     let mut chars = text.chars();
-    match chars.next() {
-        Some(_) => {
-            let rest = chars.as_str();
-            Some((&text[..text.len() - rest.len()], rest))
-        }
-        None => None,
-    }
+    chars.next()?;
+    let rest = chars.as_str();
+    Some((&text[..text.len() - rest.len()], rest))
 }
 
 // What is written next, and what follows: a character, and in a plain state the run before the next `%`.

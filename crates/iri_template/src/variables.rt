@@ -88,12 +88,9 @@ fn take_name(varspecs: Option<&str>) -> Option<(VarName<'_>, Option<&str>)>
     ensures { MatchOption result (varspecs_left varspecs.entry ≡ [])
         (λ p. IsTaken p.0.text.now (varspecs_left varspecs.entry) (varspecs_left p.1)) }
 {
-    match varspecs {
-        Some(varspecs) => match read_first(varspecs, 0) {
-            Ok((varspec, others)) => Some((varspec.name, others)),
-            Err(_) => None,
-        },
-        None => None,
+    match read_first(varspecs?, 0) {
+        Ok((varspec, others)) => Some((varspec.name, others)),
+        Err(_) => None,
     }
 }
 

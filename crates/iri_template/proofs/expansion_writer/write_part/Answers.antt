@@ -6,5 +6,5 @@ use Rattle.iri_template.proofs.expansion_writer.write_part.Goals as goal
 
 pub write_varspecs-requires-clause-fine : goal.write_varspecs-requires-clause-fine
 write_varspecs-requires-clause-fine g c =
-    let e = c.in-Expression.expression in
+    let e = c.in-Expression.e in
     varspecs_anywhere e.location (pieces 44 e.varspecs.now) (ap part_fault (sym c.in-Expression.is) ∙ c.requires.fine)
