@@ -15,7 +15,7 @@ use Rattle.iri_grammar.specs.declared.class.Class.TheVariants.{Any}
 use Rattle.iri_grammar.proofs.ClassLaws.{ascii_test_below}
 use Rattle.iri_grammar.specs.Cut.{before, after, lacks, delimited}
 use Rattle.iri_grammar.proofs.CutLaws.{before-delimited, after-delimited, all-lacks, by_test, joined, lacks-append}
-use Rattle.iri_grammar.proofs.Ipv6Laws.{one_piece, joined_pieces}
+use Rattle.iri_grammar.proofs.Ipv6Laws.{one_piece, joined_pieces, pieces_before}
 use Rattle.iri_grammar.specs.Over.{over, over_from}
 use Rattle.iri_grammar.specs.Pieces.{pieces}
 use Rattle.iri_grammar.specs.Pieces as split
@@ -43,7 +43,6 @@ use Rattle.iri_template.proofs.VarSpecLemmas.{inner, varspec_bytes, varspecs_fin
 use Rattle.iri_template.proofs.Prefixes.{Begins, Fine, other_piece, begins_fault, begins_pieces, literal_begins, triplet_begins}
 use Rattle.iri_template.proofs.Prefixes.{expression_begins, has_delimiter}
 use Rattle.iri_template.proofs.Walks.{nothing_left, fine_there, none_anywhere}
-use Rattle.iri_grammar.proofs.Ipv6Laws.{pieces_before}
 
 -- ---- operators
 Good : ℕ → Operator → Type 0

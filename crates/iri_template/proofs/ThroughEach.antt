@@ -1,6 +1,5 @@
 -- How a loop writes the texts of things one by one, with those that are left.
-use Rattle.std.proofs.Common.{◌≡◌, ℕ, List, [], ◌∷◌, ◌++◌, ◌∙◌, ap, sym, subst, refl, append_assoc, append-nil, Result, Ok, Err}
-use Rattle.std.proofs.Common.{IsErr}
+use Rattle.std.proofs.Common.{◌≡◌, ℕ, List, [], ◌∷◌, ◌++◌, ◌∙◌, ap, sym, subst, refl, append_assoc, append-nil, Result, Ok, Err, IsErr}
 use Rattle.iri_text.specs.Shown.{AreSinkLaws, Shows}
 use Rattle.iri_text.proofs.Compose.{HasShown, shown_none, shown_more, shown_exit, shows_all}
 use Rattle.iri_text.specs.declared.shown.show.Stop.{Stop}
