@@ -114,5 +114,5 @@ module _ {V X Y : Type 0} {name : V → List ℕ} {aim : V → VisitPurpose} {ph
       (heard_then laws p.heard q)
 
 -- the member of this number, and those after it
-pub next_at : {X : Type 0} (xs : List X) (i j : ℕ) (x : X) → j ≡ i + 1 → i < length xs → x ≡ get_or xs i x → drop i xs ≡ x ∷ drop j xs
-next_at xs i j x e l is = drop_more xs i x l ∙ ap (λ y. y ∷ drop (i + 1) xs) (sym is) ∙ ap (λ k. x ∷ drop k xs) (sym e)
+pub next_at : {X : Type 0} (xs : List X) (i j : ℕ) (x d : X) → j ≡ i + 1 → i < length xs → x ≡ get_or xs i d → drop i xs ≡ x ∷ drop j xs
+next_at xs i j x d e l is = drop_more xs i d l ∙ ap (λ y. y ∷ drop (i + 1) xs) (sym is) ∙ ap (λ k. x ∷ drop k xs) (sym e)

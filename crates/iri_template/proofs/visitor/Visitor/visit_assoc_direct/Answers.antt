@@ -11,13 +11,13 @@ pub returns-in_err-visit_entry : goal.returns-in_err-visit_entry
 returns-in_err-visit_entry g c =
     let i = c.loop-entry.entry-index in
     up_to_exit g.met.Self.Visitor.rules c.entry-item.result Done
-    (next_at c.args.entries.now i (i + 1) c.entry-item.result refl c.loop-entry-test.true c.entry-item.is)
+    (next_at c.args.entries.now i (i + 1) c.entry-item.result c.entry-item.result refl c.loop-entry-test.true c.entry-item.is)
     c.from_residual-in_err-visit_entry.ensures.0 c.loop-entry.invariant c.in_err-visit_entry.ensures
 
 pub loop-entry-preserved : goal.loop-entry-preserved
 loop-entry-preserved g c =
     up_to_more g.met.Self.Visitor.rules c.entry-item.result
-    (next_at c.args.entries.now c.loop-entry.entry-index _ c.entry-item.result (omega arith) c.loop-entry-test.true c.entry-item.is)
+    (next_at c.args.entries.now c.loop-entry.entry-index _ c.entry-item.result c.entry-item.result (omega arith) c.loop-entry-test.true c.entry-item.is)
     c.loop-entry.invariant c.in_ok-visit_entry.ensures
 
 pub returns : goal.returns
