@@ -1,23 +1,29 @@
--- How a loop writes the units that are told of what is held back.
+-- How a loop writes the units that are told of what is held back, and what a sink that keeps triplets has written of a whole text.
 use Rattle.std.proofs.Common.{◌≡◌, ◌≤◌, ℕ, zero, suc, ◌+◌, ◌-◌, Bool, true, false, cond, List, [], ◌∷◌, ◌++◌, Option, Some, None, length}
 use Rattle.std.proofs.Common.{take, drop, refl, sym, ◌∙◌, ap, subst, arith, append_assoc, append-nil, length-append, Result, Ok, Err}
 use Rattle.std.specs.Prelude.{OnOk, OnErr}
 use Rattle.std.specs.Char.{encode_utf8}
-use Rattle.std.specs.Str.{IsUtf8}
+use Rattle.std.specs.Str.{IsUtf8, chars}
 use Rattle.std.proofs.lemmas.Str.{chars-nil}
 use Rattle.iri_text.proofs.CharSteps.{first_char}
 use Rattle.iri_percent.specs.Encoding.{encoded_char, encoded}
 use Rattle.std.specs.List.{flat_map}
 use Rattle.iri_text.specs.Shown.{AreSinkLaws, Shows}
-use Rattle.iri_text.proofs.Compose.{HasShown, shown_none, shown_more, shown_exit, shows_all}
+use Rattle.iri_text.proofs.Compose.{HasShown, shown_none, shown_more, shown_exit, shows_all, shows_then, shows_exit}
 use Rattle.iri_text.specs.declared.shown.show.Stop.{Stop}
 use Rattle.iri_grammar.specs.Classes.{Tests, any_char}
 use Rattle.iri_percent.specs.Units.{TextUnit, Plain, first_unit, units}
 use Rattle.iri_template.specs.Expansion.{kept_unit}
 use Rattle.iri_template.specs.inside.UnitSteps.{is_part, after_unit, told_units, left_over, fewer, step_units, step_pending, written_units}
-use Rattle.iri_template.specs.inside.UnitSteps.{is_used_up, unit_step_text}
+use Rattle.iri_template.specs.inside.UnitSteps.{is_used_up, unit_step_text, unit_step}
+use Rattle.iri_template.specs.declared.units.Units.{Units}
 use Rattle.iri_template.specs.inside.UnitViews.{unit_at, unit_as, TellsNone, IsUnit}
-use Rattle.iri_template.proofs.UnitLaws.{after_shorter, all_told, left_short, written-append}
+use Rattle.iri_template.proofs.UnitLaws.{after_shorter, all_told, left_short, written-append, units_all}
+use Rattle.iri_text.specs.inside.Through.{after, texts}
+use Rattle.iri_text.proofs.ThroughLaws.{through_laws}
+use Rattle.iri_text.proofs.ByCharsLaws.{chars_halt}
+use Rattle.iri_template.specs.inside.UnitText.{state_of, UnitPuts, UnitHalts}
+use Rattle.iri_template.specs.declared.units.UnitSink.{UnitSink}
 
 take_nil : {U : Type 0} (n : ℕ) → take {A = U} n [] ≡ []
 take_nil zero = refl
@@ -76,8 +82,8 @@ pub record Ended {W : Type 0} (s : Tests) (puts halts : W → List ℕ → W →
   pub holds : pending ≡ left_over end 12 first
   pub lefts : left ≡ fewer most (length (told_units end 12 first))
 
-module _ {W : Type 0} {puts halts : W → List ℕ → W → Type 0} {stops : W → ℕ} (laws : AreSinkLaws puts halts) (s : Tests) (end : Bool)
-    (first : List ℕ) (most : Option ℕ) where
+module _ {W : Type 0} {puts halts : W → List ℕ → W → Type 0} {stops : W → ℕ} (laws : AreSinkLaws puts halts) {s : Tests} {end : Bool}
+    {first : List ℕ} {most : Option ℕ} where
   pub drained_none : (a : W) → Drained s puts stops end first most a 12 first most a
   drained_none a = record { before = []; put = shown_none laws a; split = refl; lefts = refl; over = refl }
 
@@ -187,3 +193,49 @@ unfolding encoded
 plain_unit s c t u e =
     let f = first_char t [] c u (e ∙ sym (append-nil (encode_utf8 c))) in
     sym (ap (flat_map (encoded_char (any_char s))) (f.first ∙ ap (λ l. c ∷ l) chars-nil) ∙ append-nil (encoded_char (any_char s) c))
+
+-- what was written, and the end
+whole_text : {S W : Type 0} (s : Tests) (a : UnitSink S W) (t : List ℕ) → a.state.pending ≡ []
+    → texts unit_step (unit_step_text s) (state_of s a) (chars t)
+    ++ written_units s (after unit_step (unit_step_text s) (state_of s a) (chars t)).left
+    (units (after unit_step (unit_step_text s) (state_of s a) (chars t)).pending) ≡ written_units s a.state.left (units (chars t))
+whole_text s a t none = units_all s (state_of s a) (chars t) ∙ ap (λ h. written_units s a.state.left (units (h ++ chars t))) none
+
+module _ {S W : Type 0} (s : Tests) {puts halts : W → List ℕ → W → Type 0} {stops : W → ℕ} (laws : AreSinkLaws puts halts) where
+  pub units_then : (a b : UnitSink S W) (c : W) (t : List ℕ) (x : Unit {0}) (r : Result (Unit {0}) Stop) → a.state.pending ≡ [] → length b.state.pending ≤ 12
+      → Shows (UnitPuts s puts) (UnitHalts s halts) (λ (u : UnitSink S W). stops u.to.now) a t b (Ok x)
+      → Shows puts halts stops b.to.now (written_units s b.state.left (told_units true 12 b.state.pending)) c r
+      → Shows puts halts stops a.to.now (written_units s a.state.left (units (chars t))) c r
+  units_then a b c t x r none short p q =
+      let first : Shows puts halts stops a.to.now (texts unit_step (unit_step_text s) (state_of s a) (chars t)) b.to.now (Ok x) =
+      record { appends = p.appends.put.put; stops_within = tt; rose = tt; later = p.later } in
+      let now : Units = after unit_step (unit_step_text s) (state_of s a) (chars t) in
+      let ends : written_units s b.state.left (told_units true 12 b.state.pending) ≡ written_units s now.left (units now.pending) =
+      ap (written_units s b.state.left) (all_told 12 b.state.pending short)
+      ∙ ap (λ (u : Units). written_units s u.left (units u.pending)) p.appends.put.goes_on in
+      subst (λ l. Shows puts halts stops a.to.now l c r)
+      (ap (λ l. texts unit_step (unit_step_text s) (state_of s a) (chars t) ++ l) ends ∙ whole_text s a t none)
+      (shows_then laws first q)
+
+  pub units_exit : (a b : UnitSink S W) (t : List ℕ) (e : Stop) → a.state.pending ≡ []
+      → Shows (UnitPuts s puts) (UnitHalts s halts) (λ (u : UnitSink S W). stops u.to.now) a t b (Err e)
+      → Shows puts halts stops a.to.now (written_units s a.state.left (units (chars t))) b.to.now (Err e)
+  units_exit a b t e none p =
+      let h = chars_halt (through_laws unit_step (unit_step_text s) (state_of {S = S} {W = W} s) (λ (u : UnitSink S W). u.to.now)
+      (λ (u : UnitSink S W). u.to.ghost_name) laws) t p.stops_within in
+      let first : Shows puts halts stops a.to.now (texts unit_step (unit_step_text s) (state_of s a) (chars t)) b.to.now (Err e) =
+      record { appends = tt; stops_within = h.halt; rose = p.rose; later = p.later } in
+      let now : Units = after unit_step (unit_step_text s) (state_of s a) (chars t) in
+      subst (λ l. Shows puts halts stops a.to.now l b.to.now (Err e)) (whole_text s a t none)
+      (shows_exit laws {r = Err e} (written_units s now.left (units now.pending)) refl first)
+
+-- nothing is pending after the end
+pub end_short : (h now : List ℕ) (r : Result (Unit {0}) Stop) → length h ≤ 11 → OnOk r (now ≡ left_over true 12 h) → OnErr r (now ≡ [])
+    → length now ≤ 11
+end_short h now (Ok x) short p q = omega (arith, ap length (p ∙ all_left 12 h (omega arith)))
+end_short h now (Err e) short p q = omega (arith, ap length q)
+
+-- what holds holds after a call that went on
+pub on_ok : {P : Type 0} (r : Result (Unit {0}) Stop) → P → OnOk r P
+on_ok (Ok x) p = p
+on_ok (Err x) p = tt

@@ -1,7 +1,12 @@
--- Faults that are moved, and the first of several.
-use Rattle.std.proofs.Common.{◌≡◌, ℕ, ◌+◌, List, [], ◌∷◌, length, Option, Some, None, refl, sym, ◌∙◌, ap, arith}
-use Rattle.iri_template.specs.Fault.{fault, moved, first, varspec_fault, varspecs_fault}
+-- Faults that are moved, the first of several, and those of bytes that are UTF-8 and of others.
+use Rattle.std.proofs.Common.{◌≡◌, ℕ, ◌+◌, Bool, true, false, cond, List, [], ◌∷◌, length, Option, Some, None, refl, sym, ◌∙◌, ap, arith}
+use Rattle.iri_template.specs.Fault.{fault, moved, first, varspec_fault, varspecs_fault, text_fault, template_fault}
 use Rattle.iri_template.specs.declared.error.Error.{Error}
+use Rattle.std.specs.Str.{IsUtf8, is_utf8}
+use Rattle.std.specs.Str.Lossy.{utf8_valid_len}
+use Rattle.std.proofs.lemmas.Bool.{false_from_ne_true}
+use Rattle.std.proofs.lemmas.Str.{is_utf8-from_IsUtf8, IsUtf8-from_is_utf8}
+use Rattle.iri_template.specs.declared.error.ErrorKind.TheVariants.{InvalidUtf8}
 
 pub moved_none : (f : Option Error) → moved 0 f ≡ f
 moved_none None = refl
@@ -23,19 +28,18 @@ pub first_first : (f g h : Option Error) → first (first f g) h ≡ first f (fi
 first_first None g h = refl
 first_first (Some e) g h = refl
 
-pub first_at : (f g : Option Error) → f ≡ None → first f g ≡ g
-first_at f g h = ap (λ x. first x g) h
-
 pub neither : (f g : Option Error) → first f g ≡ None → (f ≡ None) × (g ≡ None)
 neither None g h = (refl, h)
 neither (Some e) g h = cc
 
+-- a test that is passed, before another fault
+pub passed : (b : Bool) (f : Option Error) (e : Error) → cond b f (Some e) ≡ None → (b ≡ true) × (f ≡ None)
+passed true f e h = (refl, h)
+passed false f e h = cc
+
 pub unmoved : (a : ℕ) (f : Option Error) → moved a f ≡ None → f ≡ None
 unmoved a None h = refl
 unmoved a (Some e) h = cc
-
-pub still_none : (a : ℕ) (f : Option Error) → f ≡ None → moved a f ≡ None
-still_none a f h = ap (moved a) h
 
 -- varspecs further on in a text
 pub varspecs_moved : (a at : ℕ) (vs : List (List ℕ)) → varspecs_fault (a + at) vs ≡ moved a (varspecs_fault at vs)
@@ -45,3 +49,9 @@ varspecs_moved a at (v ∷ vs) =
     ap (λ f. first f (varspecs_fault (a + at + length v + 1) vs)) (sym (moved_moved a at (varspec_fault v)))
     ∙ (ap (λ g. first (moved a (moved at (varspec_fault v))) g) (ap (λ n. varspecs_fault n vs) z ∙ varspecs_moved a (at + length v + 1) vs)
     ∙ sym (moved_first a (moved at (varspec_fault v)) (varspecs_fault (at + length v + 1) vs)))
+
+pub of_text : (b : List ℕ) → IsUtf8 b → template_fault b ≡ text_fault b
+of_text b u = rw (is_utf8-from_IsUtf8 b u) refl
+
+pub of_bytes : (b : List ℕ) → ¬ (IsUtf8 b) → template_fault b ≡ fault InvalidUtf8 (utf8_valid_len b)
+of_bytes b other = let e : is_utf8 b ≡ false = false_from_ne_true (is_utf8 b) (λ h. other (IsUtf8-from_is_utf8 b h)) in rw e refl

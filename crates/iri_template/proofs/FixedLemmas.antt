@@ -25,7 +25,7 @@ use Rattle.iri_template.specs.declared.error.ErrorKind.TheVariants.{InvalidPerce
 use Rattle.iri_template.specs.declared.operator.Operator.{Operator}
 use Rattle.iri_template.specs.declared.visitor.VisitPurpose.TheVariants.{Typecheck, Expand}
 use Rattle.iri_template.proofs.FaultLemmas.{neither}
-use Rattle.iri_template.proofs.PartPortions.{outside_fault, outside_text}
+use Rattle.iri_template.proofs.PartWalk.{outside_fault, outside_text}
 use Rattle.iri_template.proofs.PortionWalk.{fault_after, text_after}
 use Rattle.iri_template.proofs.Telling.{led-append, led_expression}
 

@@ -6,23 +6,24 @@ use Rattle.std.specs.Char.{encode_utf8, is_ascii_hexdigit, IsScalar}
 use Rattle.std.specs.List.{list_all}
 use Rattle.std.specs.Str.Lossy.{utf8_valid_len}
 use Rattle.std.specs.Str.{chars, IsUtf8, is_utf8}
-use Rattle.std.proofs.lemmas.Bool.{and_parts as both, cases_eq, or_cases}
+use Rattle.std.proofs.lemmas.Bool.{and_parts as both, cases_eq, or_cases, or_left, ne_eqb}
 use Rattle.std.proofs.lemmas.Bool.Decides.{nat_tests}
 use Rattle.std.proofs.lemmas.Str.{IsUtf8-nil, IsUtf8-append, IsUtf8-encode, chars_from_encodes, is_utf8-from_IsUtf8, IsUtf8-from_is_utf8}
-use Rattle.std.proofs.lemmas.Str.{encode_ascii}
 use lib.Utf8.{scalar, scalars, encodes}
 use Rattle.iri_grammar.specs.Classes.{any_char, is_ascii_any, is_ucschar, is_ucschar_plane, is_iprivate}
 use Rattle.iri_grammar.specs.declared.class.Class.TheVariants.{Any}
 use Rattle.iri_grammar.proofs.ClassLaws.{ascii_test_below}
 use Rattle.iri_grammar.specs.Cut.{before, after, lacks, delimited}
 use Rattle.iri_grammar.proofs.CutLaws.{before-delimited, after-delimited, all-lacks, by_test, joined, lacks-append}
-use Rattle.iri_grammar.proofs.Ipv6Laws.{one_piece, joined_pieces}
+use Rattle.iri_grammar.proofs.Ipv6Laws.{one_piece, joined_pieces, pieces_before}
 use Rattle.iri_grammar.specs.Over.{over, over_from}
 use Rattle.iri_grammar.specs.Pieces.{pieces}
 use Rattle.iri_grammar.specs.Pieces as split
 use Rattle.iri_grammar.proofs.PiecesLaws.{pieces_cut}
 use Rattle.iri_grammar.proofs.Delimiters.{text_after}
-use Rattle.iri_grammar.proofs.Units.{text_after_ascii}
+use Rattle.iri_grammar.proofs.AuthorityTexts.{delimited-utf8}
+use Rattle.iri_grammar.proofs.LiteralChars.{all-join, all-weaken}
+use Rattle.iri_grammar.proofs.Units.{text_after_ascii, hex_is_ascii}
 use Rattle.iri_template.specs.Names.{is_name_char, is_varname}
 use Rattle.iri_template.specs.Template.{Piece, literal, triplet, expression, VarSpec, literal_char, is_varspec, has_varspecs, is_piece}
 use Rattle.iri_template.specs.Template.{operator_text, varspec_text, modifier_text, body_text, piece_text, template_text, Spells}
@@ -30,19 +31,18 @@ use Rattle.iri_template.specs.Template.{IsTemplate}
 use Rattle.iri_template.specs.Reading.{operator_at, operator_of, after_operator, varspec_of, expression_of, body_of, first_of, pieces_of}
 use Rattle.iri_template.specs.Reading.{pieces_from}
 use Rattle.iri_template.specs.Fault.{fault, moved, first, is_reserved_operator, operator_fault, body_fault, expression_fault}
-use Rattle.iri_template.specs.Fault.{triplet_fault, literal_fault, piece_fault, fault_at, varspecs_fault, fault_from, text_fault}
+use Rattle.iri_template.specs.Fault.{triplet_fault, piece_fault, unless, fault_at, varspecs_fault, fault_from, text_fault}
 use Rattle.iri_template.specs.Fault.{template_fault}
 use Rattle.iri_template.specs.declared.error.Error.{Error}
-use Rattle.iri_template.specs.declared.error.ErrorKind.TheVariants.{ExpressionNotClosed, InvalidUtf8, UnsupportedOperator}
+use Rattle.iri_template.specs.declared.error.ErrorKind.TheVariants.{ExpressionNotClosed, InvalidPercentEncoding, InvalidUtf8, UnsupportedOperator}
 use Rattle.iri_template.specs.declared.operator.Operator.{Operator}
 use Rattle.iri_template.specs.declared.operator.Operator.TheVariants.{Simple, Reserved, Fragment, Label, PathSegment, PathParameter}
 use Rattle.iri_template.specs.declared.operator.Operator.TheVariants.{FormQuery, FormContinuation}
-use Rattle.iri_template.proofs.FaultLemmas.{neither, unmoved, still_none}
+use Rattle.iri_template.proofs.FaultLemmas.{neither, unmoved, passed, of_text}
 use Rattle.iri_template.proofs.VarSpecLemmas.{inner, varspec_bytes, varspecs_fine, varspecs_are}
-use Rattle.iri_template.proofs.Steps.{Begins, Fine, begins_fault, begins_pieces, literal_begins, triplet_begins, expression_begins}
+use Rattle.iri_template.proofs.Prefixes.{Begins, Fine, other_piece, begins_fault, begins_pieces, literal_begins, triplet_begins}
+use Rattle.iri_template.proofs.Prefixes.{expression_begins, has_delimiter}
 use Rattle.iri_template.proofs.Walks.{nothing_left, fine_there, none_anywhere}
-use Rattle.iri_template.proofs.Bodies.{has_delimiter}
-use Rattle.iri_grammar.proofs.Ipv6Laws.{pieces_before}
 
 -- ---- operators
 Good : ℕ → Operator → Type 0
@@ -69,17 +69,18 @@ pub record IsPlain (c : ℕ) : Type 0 where
   pub operator : operator_at c ≡ Simple
   pub reserved : is_reserved_operator c ≡ false
 
+-- a byte that is no operator
+pub no_operator : (c : ℕ) → c ≢ 43 → c ≢ 35 → c ≢ 46 → c ≢ 47 → c ≢ 59 → c ≢ 63 → c ≢ 38 → operator_at c ≡ Simple
+no_operator c a b d e f g h =
+    rw (ne_eqb c 43 a, ne_eqb c 35 b, ne_eqb c 46 d, ne_eqb c 47 e, ne_eqb c 59 f, ne_eqb c 63 g, ne_eqb c 38 h) refl
+
 name_plain : (c : ℕ) → is_name_char c ≡ true → c ≢ 46 → IsPlain c
 unfolding is_name_char is_reserved_operator
-name_plain c h n =
-    let a : (c == 43) ≡ false = grind (arith, nat_tests) in
-    let b : (c == 35) ≡ false = grind (arith, nat_tests) in
-    let k : (c == 46) ≡ false = grind (arith, nat_tests) in
-    let d : (c == 47) ≡ false = grind (arith, nat_tests) in
-    let e : (c == 59) ≡ false = grind (arith, nat_tests) in
-    let f : (c == 63) ≡ false = grind (arith, nat_tests) in
-    let g : (c == 38) ≡ false = grind (arith, nat_tests) in
-    record { operator = rw (a, b, k, d, e, f, g) refl; reserved = grind (arith, nat_tests) }
+name_plain c h n = record {
+  operator = no_operator c (grind (arith, nat_tests)) (grind (arith, nat_tests)) n (grind (arith, nat_tests)) (grind (arith, nat_tests))
+      (grind (arith, nat_tests)) (grind (arith, nat_tests));
+  reserved = grind (arith, nat_tests);
+}
 
 percent_plain : IsPlain 37
 unfolding is_reserved_operator
@@ -92,6 +93,9 @@ pieces_joined c p (q ∷ ps) h =
     let k = both (lacks c p) (list_all (lacks c) (q ∷ ps)) h in
     pieces_before c p (split.joined c (q ∷ ps)) k.0 ∙ ap (λ rs. p ∷ rs) (pieces_joined c q ps k.1)
 
+wider : (x : List ℕ) → list_all inner x ≡ true → list_all (λ c. inner c || c == 44) x ≡ true
+wider x h = all-weaken inner (λ c. inner c || c == 44) (λ c k. or_left (inner c) (c == 44) k) x h
+
 joined_bytes : (ps : List (List ℕ)) → list_all (list_all inner) ps ≡ true
     → (lacks 125 (split.joined 44 ps) ≡ true) × (list_all (λ c. inner c || c == 44) (split.joined 44 ps) ≡ true)
     × (list_all (lacks 44) ps ≡ true)
@@ -99,22 +103,13 @@ joined_bytes [] h = (refl, refl, refl)
 joined_bytes (p ∷ []) h =
     let k = (both (list_all inner p) true h).0 in
     (all-lacks inner 125 p refl k, wider p k, rw (all-lacks inner 44 p refl k) refl)
-  where
-    wider : (x : List ℕ) → list_all inner x ≡ true → list_all (λ c. inner c || c == 44) x ≡ true
-    wider [] j = refl
-    wider (y ∷ ys) j = let i = both (inner y) (list_all inner ys) j in rw i.0 (wider ys i.1)
 joined_bytes (p ∷ q ∷ ps) h =
     let k = both (list_all inner p) (list_all (list_all inner) (q ∷ ps)) h in
     let more = joined_bytes (q ∷ ps) k.1 in (
       lacks-append 125 p (44 ∷ split.joined 44 (q ∷ ps)) (all-lacks inner 125 p refl k.0) more.0,
-      wider p _ k.0 more.1,
+      all-join (λ c. inner c || c == 44) p (44 ∷ split.joined 44 (q ∷ ps)) (wider p k.0) more.1,
       rw (all-lacks inner 44 p refl k.0) more.2,
     )
-  where
-    wider : (x y : List ℕ) → list_all inner x ≡ true → list_all (λ c. inner c || c == 44) y ≡ true
-        → list_all (λ c. inner c || c == 44) (x ++ 44 ∷ y) ≡ true
-    wider [] y j i = i
-    wider (z ∷ zs) y j i = let l = both (inner z) (list_all inner zs) j in rw l.0 (wider zs y l.1 i)
 
 texts_bytes : (vs : List VarSpec) → list_all is_varspec vs ≡ true → list_all (list_all inner) (map varspec_text vs) ≡ true
 texts_bytes [] h = refl
@@ -153,48 +148,35 @@ ascii_text [] h = IsUtf8-nil
 ascii_text (c ∷ cs) h =
     let k = both (inner c || c == 44) (list_all (λ d. inner d || d == 44) cs) h in
     let low : c < 128 = grind (arith, nat_tests) in
-    subst IsUtf8 (ap (λ l. l ++ cs) (encode_ascii c low))
-    (IsUtf8-append (encode_utf8 c) cs (IsUtf8-encode c (low_scalar c low)) (ascii_text cs k.1))
+    delimited-utf8 c cs low (ascii_text cs k.1)
 
-low_first : (c : ℕ) (t : List ℕ) → c < 128 → IsUtf8 t → IsUtf8 (c ∷ t)
-low_first c t low u = subst IsUtf8 (ap (λ l. l ++ t) (encode_ascii c low))
-    (IsUtf8-append (encode_utf8 c) t (IsUtf8-encode c (low_scalar c low)) u)
+-- a body whose operator, and what stands after it, are known
+body_of_parts : (o : Operator) (vs : List VarSpec) (b j : List ℕ) → operator_of b ≡ o → after_operator b ≡ j → operator_fault b ≡ None
+    → map varspec_of (pieces 44 j) ≡ vs → varspecs_fault (length (operator_text o)) (pieces 44 j) ≡ None → lacks 125 b ≡ true → IsUtf8 b → IsBodyOf o vs b
+body_of_parts o vs b j e a n m f l u = record {
+  operator = e;
+  rest = ap (λ k. map varspec_of (pieces 44 k)) a ∙ m;
+  fault = ap (λ k. first k (varspecs_fault (length (operator_text (operator_of b))) (pieces 44 (after_operator b)))) n
+      ∙ (ap (λ p. varspecs_fault (length (operator_text p)) (pieces 44 (after_operator b))) e
+      ∙ (ap (λ k. varspecs_fault (length (operator_text o)) (pieces 44 k)) a ∙ f));
+  closed = l;
+  ascii = u;
+}
 
 -- an operator that is written, and what follows it
 written_body : (o : Operator) (c : ℕ) (vs : List VarSpec) (j : List ℕ) → operator_text o ≡ c ∷ [] → operator_at c ≡ o
     → is_reserved_operator c ≡ false → c < 128 → (c == 125) ≡ false → map varspec_of (pieces 44 j) ≡ vs
     → varspecs_fault 1 (pieces 44 j) ≡ None → lacks 125 j ≡ true → IsUtf8 j → IsBodyOf o vs (c ∷ j)
 written_body o c vs j e a r low b m f l u =
-    let text : operator_text (operator_at c) ≡ c ∷ [] = ap operator_text a ∙ e in
-    let after_is : after_operator (c ∷ j) ≡ j = ap (λ k. drop (length k) (c ∷ j)) text in
-    record {
-      operator = a;
-      rest = ap (λ k. map varspec_of (pieces 44 k)) after_is ∙ m;
-      fault = ap (λ q. first (cond q (fault UnsupportedOperator 0) None)
-          (varspecs_fault (length (operator_text (operator_at c))) (pieces 44 (after_operator (c ∷ j))))) r
-          ∙ (ap (λ k. varspecs_fault (length k) (pieces 44 (after_operator (c ∷ j)))) text
-          ∙ (ap (λ k. varspecs_fault 1 (pieces 44 k)) after_is ∙ f));
-      closed = ap (λ q. not q && lacks 125 j) b ∙ l;
-      ascii = low_first c j low u;
-    }
+    body_of_parts o vs (c ∷ j) j a (ap (λ k. drop (length k) (c ∷ j)) (ap operator_text a ∙ e)) (ap (λ q. cond q (fault UnsupportedOperator 0) None) r) m
+    (ap (λ k. varspecs_fault (length k) (pieces 44 j)) e ∙ f) (ap (λ q. not q && lacks 125 j) b ∙ l) (delimited-utf8 c j low u)
 
 -- no operator is written
 simple_body : (vs : List VarSpec) (j : List ℕ) → IsPlain (first_of j) → 0 < length j → map varspec_of (pieces 44 j) ≡ vs
     → varspecs_fault 0 (pieces 44 j) ≡ None → lacks 125 j ≡ true → IsUtf8 j → IsBodyOf Simple vs j
 simple_body vs [] p n m f l u = absurd (omega arith)
-simple_body vs (c ∷ cs) p n m f l u =
-    let text : operator_text (operator_at c) ≡ [] = ap operator_text p.operator in
-    let after_is : after_operator (c ∷ cs) ≡ c ∷ cs = ap (λ k. drop (length k) (c ∷ cs)) text in
-    record {
-      operator = p.operator;
-      rest = ap (λ k. map varspec_of (pieces 44 k)) after_is ∙ m;
-      fault = ap (λ q. first (cond q (fault UnsupportedOperator 0) None)
-          (varspecs_fault (length (operator_text (operator_at c))) (pieces 44 (after_operator (c ∷ cs))))) p.reserved
-          ∙ (ap (λ k. varspecs_fault (length k) (pieces 44 (after_operator (c ∷ cs)))) text
-          ∙ (ap (λ k. varspecs_fault 0 (pieces 44 k)) after_is ∙ f));
-      closed = l;
-      ascii = u;
-    }
+simple_body vs (c ∷ cs) p n m f l u = body_of_parts Simple vs (c ∷ cs) (c ∷ cs) p.operator
+    (ap (λ k. drop (length k) (c ∷ cs)) (ap operator_text p.operator)) (ap (λ q. cond q (fault UnsupportedOperator 0) None) p.reserved) m f l u
 
 first_joined : (v : VarSpec) (vs : List VarSpec) → is_varspec v ≡ true
     → IsPlain (first_of (split.joined 44 (map varspec_text (v ∷ vs)))) × (0 < length (split.joined 44 (map varspec_text (v ∷ vs))))
@@ -288,9 +270,6 @@ literal_scalar c h = elim (or_cases (is_ascii_any c || is_ucschar c) (is_iprivat
   | inr p ↦ scalar_iprivate c p
 ]
 
-hex_low : (c : ℕ) → is_ascii_hexdigit c ≡ true → c < 128
-hex_low c h = grind (arith, nat_tests)
-
 one_more : (p : Piece) (ps : List Piece) (t r : List ℕ) → IsUtf8 t → Fine p t r → IsRead ps r → IsRead (p ∷ ps) t
 one_more p ps t r u f k = record {
   text = u;
@@ -312,7 +291,7 @@ body_begins o vs b r k =
     record {
       begins = subst (λ p. Begins p t r) same begins;
       fault = ap (λ l. cond l (fault ExpressionNotClosed 0) (moved 1 (body_fault (body_of t)))) (has_delimiter 125 (b ++ 125 ∷ r) r there)
-          ∙ (ap (λ l. moved 1 (body_fault l)) body ∙ still_none 1 (body_fault b) k.fault);
+          ∙ (ap (λ l. moved 1 (body_fault l)) body ∙ ap (moved 1) k.fault);
     }
 
 pub spelled_is_read : (ps : List Piece) → list_all is_piece ps ≡ true → IsRead ps (template_text ps)
@@ -328,7 +307,7 @@ spelled_is_read (triplet a b ∷ ps) h =
     let hex = both (is_ascii_hexdigit a) (is_ascii_hexdigit b) k.0 in
     let more = spelled_is_read ps k.1 in
     let r = template_text ps in
-    let u = low_first 37 (a ∷ b ∷ r) (omega arith) (low_first a (b ∷ r) (hex_low a hex.0) (low_first b r (hex_low b hex.1) more.text)) in
+    let u = delimited-utf8 37 (a ∷ b ∷ r) (omega arith) (delimited-utf8 a (b ∷ r) (hex_is_ascii a hex.0) (delimited-utf8 b r (hex_is_ascii b hex.1) more.text)) in
     one_more (triplet a b) ps (37 ∷ a ∷ b ∷ r) r u (triplet_begins (37 ∷ a ∷ b ∷ r) refl (rw (hex.0, hex.1) refl)) more
 spelled_is_read (expression o vs ∷ ps) h =
     let k = both (has_varspecs vs && list_all is_varspec vs) (list_all is_piece ps) h in
@@ -338,7 +317,7 @@ spelled_is_read (expression o vs ∷ ps) h =
     let b = body_text o vs in
     let body = body_fine o vs specs.0 specs.1 in
     let same : 123 ∷ (b ++ 125 ∷ r) ≡ (123 ∷ (b ++ 125 ∷ [])) ++ r = ap (λ l. 123 ∷ l) (sym (append_assoc b (125 ∷ []) r)) in
-    let u = low_first 123 (b ++ 125 ∷ r) (omega arith) (IsUtf8-append b (125 ∷ r) body.ascii (low_first 125 r (omega arith) more.text)) in
+    let u = delimited-utf8 123 (b ++ 125 ∷ r) (omega arith) (IsUtf8-append b (125 ∷ r) body.ascii (delimited-utf8 125 r (omega arith) more.text)) in
     subst (λ t. IsRead (expression o vs ∷ ps) t) same
     (one_more (expression o vs) ps (123 ∷ (b ++ 125 ∷ r)) r u (body_begins o vs b r body) more)
 
@@ -372,21 +351,17 @@ triplet_splits [] u e h = cc
 triplet_splits (x ∷ []) u e h = cc
 triplet_splits (x ∷ a ∷ []) u e h = cc
 triplet_splits (x ∷ a ∷ b ∷ cs) u e h =
-    let hex = digits (is_ascii_hexdigit a) (is_ascii_hexdigit b) _ _ h in
+    let k = passed (is_ascii_hexdigit a) (unless (is_ascii_hexdigit b) (fault InvalidPercentEncoding 2)) _ h in
+    let hex : (is_ascii_hexdigit a ≡ true) × (is_ascii_hexdigit b ≡ true) = (k.0, (passed (is_ascii_hexdigit b) None _ k.1).0) in
     record {
       piece = triplet a b;
       rest = cs;
       fine = rw (hex.0, hex.1) refl;
       begins = (triplet_begins (x ∷ a ∷ b ∷ cs) e h).begins;
       joined = ap (λ n. n ∷ a ∷ b ∷ cs) (sym e);
-      text = text_after_ascii b cs (text_after_ascii a (b ∷ cs) (text_after_ascii x (a ∷ b ∷ cs) u (omega (arith, e))) (hex_low a hex.0))
-          (hex_low b hex.1);
+      text = text_after_ascii b cs (text_after_ascii a (b ∷ cs) (text_after_ascii x (a ∷ b ∷ cs) u (omega (arith, e))) (hex_is_ascii a hex.0))
+          (hex_is_ascii b hex.1);
     }
-  where
-    digits : (i j : Bool) (d f : Error) → cond i (cond j None (Some d)) (Some f) ≡ None → (i ≡ true) × (j ≡ true)
-    digits true true d f k = (refl, refl)
-    digits true false d f k = cc
-    digits false j d f k = cc
 
 delimiter_there : (c : ℕ) (t : List ℕ) → lacks c t ≡ false → (r : List ℕ) × (after c t ≡ Some r)
 delimiter_there c [] h = cc
@@ -415,10 +390,6 @@ expression_splits (x ∷ xs) u e h =
     closed true d o j = cc
     closed false d o j = (refl, j)
 
-unclear : (b c : Bool) (d : Error) → cond b None (Some d) ≡ None → b ≡ true
-unclear true c d h = refl
-unclear false c d h = cc
-
 piece_splits : (t : List ℕ) → IsUtf8 t → 0 < length t → piece_fault t ≡ None → Splits t
 piece_splits t u n h =
     elim (cases_eq (first_of t) 123) [
@@ -428,12 +399,9 @@ piece_splits t u n h =
         | inr neither_one ↦
             let a : (first_of t == 123) ≡ false = grind (arith, nat_tests) in
             let b : (first_of t == 37) ≡ false = grind (arith, nat_tests) in
-            literal_splits t u n (unclear (literal_char (first_of (chars t))) true _ (sym (plain_fault (first_of t) a b) ∙ h))
+            literal_splits t u n (passed (literal_char (first_of (chars t))) None _ (sym (other_piece (first_of t) t a b).2 ∙ h)).0
       ]
     ]
-  where
-    plain_fault : (x : ℕ) → (x == 123) ≡ false → (x == 37) ≡ false → fault_at x t ≡ literal_fault t
-    plain_fault x i j = rw (i, j) refl
 
 first_fine : (t : List ℕ) → 0 < length t → text_fault t ≡ None → piece_fault t ≡ None
 unfolding fault_from
@@ -460,12 +428,8 @@ within (suc n) (x ∷ xs) l u h =
 -- ---- the law
 pub no_fault_is_template : (bs : List ℕ) → template_fault bs ≡ None → Spells (pieces_of bs) bs
 no_fault_is_template bs h =
-    let k = of_bytes (is_utf8 bs) (text_fault bs) _ h in
+    let k = passed (is_utf8 bs) (text_fault bs) _ h in
     within (length bs) bs (omega arith) (IsUtf8-from_is_utf8 bs k.0) k.1
-  where
-    of_bytes : (b : Bool) (f : Option Error) (d : Error) → cond b f (Some d) ≡ None → (b ≡ true) × (f ≡ None)
-    of_bytes true f d j = (refl, j)
-    of_bytes false f d j = cc
 
 pub template_has_no_fault : (ps : List Piece) (t : List ℕ) → Spells ps t → template_fault t ≡ None
 template_has_no_fault ps t s =
@@ -485,15 +449,6 @@ text_more (p ∷ ps) qs = ap (λ l. piece_text p ++ l) (text_more ps qs)
     ∙ sym (append_assoc (piece_text p) (template_text ps) (template_text qs))
 
 -- a template and another after it
-pub joined_templates : (a b : List ℕ) → IsUtf8 a → IsUtf8 b → text_fault a ≡ None → text_fault b ≡ None → text_fault (a ++ b) ≡ None
-joined_templates a b u v h k =
-    let x = within (length a) a (omega arith) u h in
-    let y = within (length b) b (omega arith) v k in
-    let ps = pieces_of a in
-    let qs = pieces_of b in
-    let same : template_text (ps ++ qs) ≡ a ++ b = text_more ps qs ∙ (ap (λ l. l ++ template_text qs) x.text ∙ ap (λ l. a ++ l) y.text) in
-    subst (λ t. text_fault t ≡ None) same (spelled_is_read (ps ++ qs) (all_more ps qs x.pieces y.pieces)).fault
-
 pub templates_joined : (a b : List ℕ) → template_fault a ≡ None → template_fault b ≡ None → template_fault (a ++ b) ≡ None
 templates_joined a b h k =
     let x = no_fault_is_template a h in
@@ -504,6 +459,9 @@ templates_joined a b h k =
       pieces = all_more ps qs x.pieces y.pieces;
       text = text_more ps qs ∙ (ap (λ l. l ++ template_text qs) x.text ∙ ap (λ l. a ++ l) y.text);
     })
+
+pub joined_templates : (a b : List ℕ) → IsUtf8 a → IsUtf8 b → text_fault a ≡ None → text_fault b ≡ None → text_fault (a ++ b) ≡ None
+joined_templates a b u v h k = sym (of_text (a ++ b) (IsUtf8-append a b u v)) ∙ templates_joined a b (of_text a u ∙ h) (of_text b v ∙ k)
 
 pub template_is_text : (bs : List ℕ) → IsTemplate bs → IsUtf8 bs
 template_is_text bs (ps, s) = (subst (IsRead ps) s.text (spelled_is_read ps s.pieces)).text

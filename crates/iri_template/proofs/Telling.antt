@@ -2,6 +2,8 @@
 use Rattle.std.proofs.Common.{◌≡◌, ℕ, Bool, true, false, cond, not, ◌&&◌, ◌||◌, List, [], ◌∷◌, ◌++◌, None, map, refl, sym, ◌∙◌, ap}
 use Rattle.std.proofs.Common.{append_assoc, append-nil}
 use Rattle.iri_grammar.specs.Classes.{Tests}
+use Rattle.std.proofs.lemmas.Bool.{and_right}
+use Rattle.std.proofs.lemmas.Simd.{map-map}
 use Rattle.iri_grammar.specs.Pieces.{joined}
 use Rattle.iri_text.specs.inside.Through.{after, texts}
 use Rattle.iri_template.specs.Template as template
@@ -58,9 +60,9 @@ named_delimiter : (row : Row) (name t : List ℕ) → name_part row name ++ t �
 named_delimiter row name t = elim row.named as (λ b. cond b (name ++ 61 ∷ []) [] ++ t
     ≡ cond b (name ++ 61 ∷ t) t) [ true ↦ append_assoc name (61 ∷ []) t | false ↦ refl ]
 
-and_false : (b : Bool) → (b && false) ≡ false
-and_false true = refl
-and_false false = refl
+none : (b : Bool) → has_texts (cond b [] []) ≡ false
+none true = refl
+none false = refl
 
 module _ (s : Tests) (operator : Operator) (name : List ℕ) (m : Modifier) where
   abbrev row : Row
@@ -130,14 +132,10 @@ module _ (s : Tests) (operator : Operator) (name : List ℕ) (m : Modifier) wher
   entries : IsMember entry_of (λ w b. entry_lead (state w b)) (pair_text (entry_delimiter m))
   entries = record { text = λ w b x. refl; step = λ w b x. refl }
 
-  mapped_twice : {X Y Z : Type 0} (f : Y → Z) (g : X → Y) (xs : List X) → map f (map g xs) ≡ map (λ x. f (g x)) xs
-  mapped_twice f g [] = refl
-  mapped_twice f g (x ∷ xs) = ap (λ l. f (g x) ∷ l) (mapped_twice f g xs)
-
   item_exploded : explodes m ≡ true → (w b : Bool) (x : List ℕ) → item_lead (state w b) ++ sh x ≡ lead row w ++ named_text row name (sh x)
   item_exploded e w b x =
       ap (λ v. cond (b && not v) (44 ∷ []) (lead row w ++ name_part row name) ++ sh x) e
-      ∙ ap (λ v. cond v (44 ∷ []) (lead row w ++ name_part row name) ++ sh x) (and_false b)
+      ∙ ap (λ v. cond v (44 ∷ []) (lead row w ++ name_part row name) ++ sh x) (and_right b false refl)
       ∙ append_assoc (lead row w) (name_part row name) (sh x) ∙ ap (λ l. lead row w ++ l) (named_delimiter row name (sh x))
 
   item_later : explodes m ≡ false → (w : Bool) → item_lead (state w true) ≡ 44 ∷ []
@@ -155,7 +153,7 @@ module _ (s : Tests) (operator : Operator) (name : List ℕ) (m : Modifier) wher
       elim (explodes m) as (λ v. explodes m ≡ v → told w false (map Item xs ++ (Finished ∷ []))
       ≡ led row w (cond v (map (named_text row name) (map sh xs)) (in_one row name (map sh xs)))) [
         | true ↦ λ e. each Item (λ w b. item_lead (state w b)) sh (λ x. named_text row name (sh x)) items (item_exploded e) w false xs
-            ∙ ap (led row w) (sym (mapped_twice (named_text row name) sh xs))
+            ∙ ap (led row w) (sym (map-map (named_text row name) sh xs))
         | false ↦ λ e. together Item (λ w b. item_lead (state w b)) sh items (item_later e) (λ w. refl) w xs
       ] refl
 
@@ -167,11 +165,11 @@ module _ (s : Tests) (operator : Operator) (name : List ℕ) (m : Modifier) wher
       (in_one row name (map (pair_with 44) (map (shown_pair s row.allow) ps))))) [
         | true ↦ λ e.
             each entry_of (λ w b. entry_lead (state w b)) (pair_text (entry_delimiter m)) (pair_text 61) entries (exploded e) w false ps
-            ∙ ap (led row w) (sym (mapped_twice (pair_with 61) (shown_pair s row.allow) ps))
+            ∙ ap (led row w) (sym (map-map (pair_with 61) (shown_pair s row.allow) ps))
         | false ↦ λ e.
             together entry_of (λ w b. entry_lead (state w b)) (pair_text (entry_delimiter m)) entries (entry_later e) (entry_first e) w ps
             ∙ ap (λ k. led row w (in_one row name (map (pair_text (cond k 61 44)) ps))) e
-            ∙ ap (λ l. led row w (in_one row name l)) (sym (mapped_twice (pair_with 44) (shown_pair s row.allow) ps))
+            ∙ ap (λ l. led row w (in_one row name l)) (sym (map-map (pair_with 44) (shown_pair s row.allow) ps))
       ] refl
     where
       exploded : explodes m ≡ true → (w b : Bool) (p : List ℕ × List ℕ)
@@ -207,20 +205,12 @@ module _ (s : Tests) (operator : Operator) (name : List ℕ) (m : Modifier) wher
   told_written w (list xs) = after_members Item (λ w b. item_lead (state w b)) sh (λ ys. told_texts s row name m (list ys)) items
       (none (explodes m)) some w xs
     where
-      none : (b : Bool) → has_texts (cond b [] []) ≡ false
-      none true = refl
-      none false = refl
-
       some : (y : List ℕ) (ys : List (List ℕ)) → has_texts (told_texts s row name m (list (y ∷ ys))) ≡ true
       some y ys = elim (explodes m) as (λ b. has_texts
           (cond b (map (named_text row name) (map sh (y ∷ ys))) (in_one row name (map sh (y ∷ ys)))) ≡ true) [ true ↦ refl | false ↦ refl ]
   told_written w (pairs ps) = after_members entry_of (λ w b. entry_lead (state w b)) (pair_text (entry_delimiter m))
       (λ ys. told_texts s row name m (pairs ys)) entries (none (explodes m)) some w ps
     where
-      none : (b : Bool) → has_texts (cond b [] []) ≡ false
-      none true = refl
-      none false = refl
-
       some : (y : List ℕ × List ℕ) (ys : List (List ℕ × List ℕ)) → has_texts (told_texts s row name m (pairs (y ∷ ys))) ≡ true
       some y ys = elim (explodes m) as (λ b. has_texts
           (cond b (map (pair_with 61) (map (shown_pair s row.allow) (y ∷ ys)))

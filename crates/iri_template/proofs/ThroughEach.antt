@@ -1,6 +1,5 @@
 -- How a loop writes the texts of things one by one, with those that are left.
-use Rattle.std.proofs.Common.{◌≡◌, ℕ, List, [], ◌∷◌, ◌++◌, ◌∙◌, ap, sym, subst, refl, append_assoc, append-nil, Result, Ok, Err}
-use Rattle.std.proofs.Common.{IsErr}
+use Rattle.std.proofs.Common.{◌≡◌, ℕ, List, [], ◌∷◌, ◌++◌, ◌∙◌, ap, sym, subst, refl, append_assoc, append-nil, Result, Ok, Err, IsErr}
 use Rattle.iri_text.specs.Shown.{AreSinkLaws, Shows}
 use Rattle.iri_text.proofs.Compose.{HasShown, shown_none, shown_more, shown_exit, shows_all}
 use Rattle.iri_text.specs.declared.shown.show.Stop.{Stop}
@@ -15,8 +14,8 @@ pub record HasPutUpTo {X S W : Type 0} (step : S → X → S) (text : S → X �
   pub split : texts step text first all ≡ before ++ texts step text now rest
   pub goes_on : after step text first all ≡ after step text now rest
 
-module _ {X S W : Type 0} (step : S → X → S) (text : S → X → List ℕ) {puts halts : W → List ℕ → W → Type 0} {stops : W → ℕ}
-    (laws : AreSinkLaws puts halts) (first : S) (all : List X) where
+module _ {X S W : Type 0} {step : S → X → S} {text : S → X → List ℕ} {puts halts : W → List ℕ → W → Type 0} {stops : W → ℕ}
+    (laws : AreSinkLaws puts halts) {first : S} {all : List X} where
   pub up_to_none : (a : W) → HasPutUpTo step text puts stops first all a first all a
   up_to_none a = record { before = []; put = shown_none laws a; split = refl; goes_on = refl }
 

@@ -1,24 +1,37 @@
--- What is written for a text that comes character by character is what its units are written as.
+-- What is written for a text that comes character by character is what its units are written as; and the unit at the start of what is held back.
 use Rattle.std.proofs.Common.{◌≡◌, ℕ, zero, suc, ◌*◌, ◌-◌, ◌<◌, ◌≤◌, Bool, true, false, cond, not, ◌&&◌, ◌||◌, List, [], ◌∷◌, ◌++◌, Option}
-use Rattle.std.proofs.Common.{Some, None, length, take, drop, refl, sym, ◌∙◌, ap, arith, append_assoc, append-nil, length-drop}
-use Rattle.std.specs.Prelude.{◌==◌, is_some, nat_le}
+use Rattle.std.proofs.Common.{Some, None, length, take, drop, refl, sym, ◌∙◌, ap, arith, append_assoc, append-nil, length-drop, subst}
+use Rattle.std.proofs.Common.{eqb-true}
+use Rattle.std.specs.Prelude.{◌==◌, is_some, nat_le, slice_index}
 use Rattle.std.specs.List.{flat_map}
 use Rattle.std.specs.Char.{is_ascii_hexdigit, len_utf8, encode_utf8}
+use Rattle.std.proofs.lemmas.Bool.{not-true, or_right, and_parts}
 use Rattle.std.proofs.lemmas.Bool.Decides.{nat_tests}
 use Rattle.std.proofs.lemmas.Grind.{flat_map-append}
-use Rattle.std.proofs.lemmas.List.{take-append-le}
-use Rattle.std.proofs.lemmas.Str.{len_utf8_bounds, chars-nil}
-use Rattle.iri_grammar.specs.Classes.{Tests}
+use Rattle.std.proofs.lemmas.List.{take-append-le, drop-append-le, length-take-le}
+use Rattle.std.proofs.lemmas.Str.{len_utf8_bounds, chars-nil, encodes-chars, encode_ascii, chars-IsAscii}
+use Rattle.iri_grammar.specs.Classes.{Tests, any_char, IsSpec, is_ascii_any, is_ascii_reg_name, is_ascii_unreserved, is_sub_delim}
+use Rattle.iri_grammar.specs.Classes.{is_gen_delim}
 use Rattle.iri_percent.specs.Units.{TextUnit, Plain, Char, Stray, is_triplet, octet, octets, well_formed, first_char, triplet_unit}
-use Rattle.iri_percent.specs.Units.{byte_unit, first_unit, unit_text, units_from, units}
+use Rattle.iri_percent.specs.Units.{byte_unit, first_unit, unit_text, units_from, units, Lone}
 use Rattle.iri_percent.proofs.UnitLaws.{first_char_is, char_first, octets_other, byte_other, units_from_drop}
 use Rattle.iri_percent.specs.DelimiterLaws.{IsOutsideTriplets}
 use Rattle.iri_percent.proofs.DelimiterLaws.{char_within, unit_within, units_delimiter}
 use Rattle.iri_percent.proofs.Characters.{first_of_four}
 use Rattle.iri_text.specs.inside.Through.{after, texts}
 use Rattle.iri_template.specs.Expansion.{limited, kept_unit}
-use Rattle.iri_template.specs.inside.UnitSteps.{is_part, is_closed, is_settled, after_unit, told_units, left_over, UnitState, fewer}
-use Rattle.iri_template.specs.inside.UnitSteps.{step_units, step_pending, is_used_up, next_state, unit_step, written_units, unit_step_text}
+use Rattle.iri_template.specs.inside.UnitSteps.{is_part, is_closed, is_settled, after_unit, told_units, left_over, fewer, step_units}
+use Rattle.iri_template.specs.inside.UnitSteps.{step_pending, is_used_up, next_state, unit_step, written_units, unit_step_text}
+use Rattle.iri_template.specs.inside.UnitSteps.{begins_triplet}
+use Rattle.iri_template.specs.declared.units.Units.{Units}
+use Rattle.std.specs.Str.{IsUtf8, chars, IsAscii}
+use lib.Utf8.{encode, encodes}
+use Rattle.iri_grammar.specs.Cut.{lacks}
+use Rattle.iri_grammar.proofs.CutLaws.{by_test, both}
+use Rattle.iri_percent.specs.Encoding.{keeps, encoded_char, encoded}
+use Rattle.iri_percent.specs.declared.context.Context.TheVariants.{Any}
+use Rattle.iri_percent.specs.Mapping.{triplets}
+use Rattle.iri_template.specs.inside.UnitViews.{unit_at, TellsNone, IsUnit}
 
 -- ---- octets, whatever follows
 more_octets : (t r : List ℕ) → (zs : List ℕ) × (octets (t ++ r) ≡ octets t ++ zs)
@@ -43,21 +56,17 @@ octets_taken (suc n) (x ∷ a ∷ b ∷ t) r h =
       | false ↦ refl
     ]
 
-not_true : (b : Bool) → not b ≡ true → b ≡ false
-not_true true h = cc
-not_true false h = refl
-
-and_more : (p q : Bool) (z : Bool) → (p && q) ≡ false → (p && (q && z)) ≡ false
+pub and_more : (p q : Bool) (z : Bool) → (p && q) ≡ false → (p && (q && z)) ≡ false
 and_more true true z h = cc
 and_more true false z h = refl
 and_more false q z h = refl
 
 octets_closed : (t r : List ℕ) → is_closed t ≡ true → octets (t ++ r) ≡ octets t
 octets_closed [] r h = cc
-octets_closed (x ∷ []) r h = octets_other x r (not_true (x == 37) h)
+octets_closed (x ∷ []) r h = octets_other x r (not-true (x == 37) h)
 octets_closed (x ∷ a ∷ []) [] h = refl
 octets_closed (x ∷ a ∷ []) (b ∷ r) h = ap (λ v. cond v (octet a b ∷ octets r) [])
-    (and_more (x == 37) (is_ascii_hexdigit a) (is_ascii_hexdigit b) (not_true (x == 37 && is_ascii_hexdigit a) h))
+    (and_more (x == 37) (is_ascii_hexdigit a) (is_ascii_hexdigit b) (not-true (x == 37 && is_ascii_hexdigit a) h))
 octets_closed (x ∷ a ∷ b ∷ t) r h =
     elim (is_triplet x a b) as (λ v. cond v (is_closed t) true ≡ true
     → cond v (octet a b ∷ octets (t ++ r)) [] ≡ cond v (octet a b ∷ octets t) []) [
@@ -104,11 +113,11 @@ settled_short : (t : List ℕ) (b : Bool) → octets t ≡ [] → is_some (first
 settled_short t b e h = or_cases (is_some (first_char (octets t))) b h (ap is_some (ap first_char e ∙ no_char))
 
 first_settled : (x : ℕ) (xs r : List ℕ) → is_settled (x ∷ xs) ≡ true → first_unit x (xs ++ r) ≡ first_unit x xs
-first_settled x [] r h = let other = not_true (x == 37) (settled_short (x ∷ []) (not (x == 37)) refl h) in
+first_settled x [] r h = let other = not-true (x == 37) (settled_short (x ∷ []) (not (x == 37)) refl h) in
     byte_other x r other ∙ sym (byte_other x [] other)
 first_settled x (a ∷ []) [] h = refl
 first_settled x (a ∷ []) (b ∷ r) h =
-    let none = not_true (x == 37 && is_ascii_hexdigit a) (settled_short (x ∷ a ∷ []) (not (x == 37 && is_ascii_hexdigit a)) refl h) in
+    let none = not-true (x == 37 && is_ascii_hexdigit a) (settled_short (x ∷ a ∷ []) (not (x == 37 && is_ascii_hexdigit a)) refl h) in
     ap (λ v. cond v (triplet_unit a b (x ∷ a ∷ b ∷ r) (first_char (octets (x ∷ a ∷ b ∷ r)))) (byte_unit x))
     (and_more (x == 37) (is_ascii_hexdigit a) (is_ascii_hexdigit b) none)
 first_settled x (a ∷ b ∷ xs) r h =
@@ -138,14 +147,9 @@ unit_some x (a ∷ b ∷ xs) =
       | false ↦ some_byte x
     ]
 
-drop_prefix : (n : ℕ) (xs r : List ℕ) → n ≤ length xs → drop n (xs ++ r) ≡ drop n xs ++ r
-drop_prefix zero xs r h = refl
-drop_prefix (suc n) [] r h = absurd (omega arith)
-drop_prefix (suc n) (x ∷ xs) r h = drop_prefix n xs r (omega arith)
-
 drop_within : (n x : ℕ) (xs r : List ℕ) → 0 < n → n ≤ length (x ∷ xs) → drop (n - 1) (xs ++ r) ≡ drop n (x ∷ xs) ++ r
 drop_within zero x xs r h k = absurd (omega arith)
-drop_within (suc n) x xs r h k = let e : suc n - 1 ≡ n = omega arith in ap (λ m. drop m (xs ++ r)) e ∙ drop_prefix n xs r (omega arith)
+drop_within (suc n) x xs r h k = let e : suc n - 1 ≡ n = omega arith in ap (λ m. drop m (xs ++ r)) e ∙ drop-append-le n xs r (omega arith)
 
 -- the unit at the start, and the units after it
 units_first : (x : ℕ) (xs r : List ℕ) → first_unit x (xs ++ r) ≡ first_unit x xs
@@ -248,13 +252,13 @@ used_up s h (Some zero) t e = none_more s h t
 used_up s h (Some (suc n)) t e = cc
 
 -- ---- the whole: what was written for a text, and what is pending after it
-abbrev end_text : Tests → UnitState → List ℕ → List ℕ
+abbrev end_text : Tests → Units → List ℕ → List ℕ
 end_text s u t = written_units s (after unit_step (unit_step_text s) u t).left (units (after unit_step (unit_step_text s) u t).pending)
 
-abbrev AreAll : Tests → UnitState → List ℕ → Type 0
+abbrev AreAll : Tests → Units → List ℕ → Type 0
 AreAll s u t = texts unit_step (unit_step_text s) u t ++ end_text s u t ≡ written_units s u.left (units (u.pending ++ t))
 
-one_more : (s : Tests) (u : UnitState) (c : ℕ) (t : List ℕ) → AreAll s (next_state u c) t
+one_more : (s : Tests) (u : Units) (c : ℕ) (t : List ℕ) → AreAll s (next_state u c) t
     → (unit_step_text s u c ++ texts unit_step (unit_step_text s) (next_state u c) t) ++ end_text s (next_state u c) t
     ≡ written_units s u.left (units (u.pending ++ c ∷ t))
 one_more s u c t all =
@@ -268,10 +272,208 @@ all_after s h l [] = ap (λ r. written_units s l (units r)) (sym (append-nil h))
 all_after s h None (c ∷ t) = one_more s (record { pending = h; left = None }) c t (all_after s (step_pending h c) None t)
 all_after s h (Some zero) (c ∷ t) =
     let none = none_more s h t in
-    let u : UnitState = record { pending = h; left = Some 0 } in
-    ap (λ l. l ++ end_text s u t) none.0 ∙ ap (λ (v : UnitState). written_units s v.left (units v.pending)) none.1
+    let u : Units = record { pending = h; left = Some 0 } in
+    ap (λ l. l ++ end_text s u t) none.0 ∙ ap (λ (v : Units). written_units s v.left (units v.pending)) none.1
 all_after s h (Some (suc n)) (c ∷ t) = one_more s (record { pending = h; left = Some (suc n) }) c t
     (all_after s (step_pending h c) (fewer (Some (suc n)) (length (step_units h c))) t)
 
-pub units_all : (s : Tests) (u : UnitState) (t : List ℕ) → AreAll s u t
+pub units_all : (s : Tests) (u : Units) (t : List ℕ) → AreAll s u t
 units_all s u t = all_after s u.pending u.left t
+
+abbrev plain : Units
+plain = record { pending = []; left = None }
+
+-- a character but `%` is told at once
+one_told : (c : ℕ) → (c == 37) ≡ false → (step_units [] c ≡ Plain c ∷ []) × (step_pending [] c ≡ [])
+unfolding units_from
+one_told c n =
+    let settled : is_settled (c ∷ []) ≡ true =
+    ap (λ b. is_some (first_char []) || not b) n ∙ or_right (is_some (first_char [])) true refl in
+    let unit : first_unit c [] ≡ Plain c = ap (λ b. cond b Stray (Plain c)) n in
+    elim (is_part c) as (λ b. (cond b (told_units false 12 (c ∷ [])) (units [] ++ Plain c ∷ []) ≡ Plain c ∷ [])
+    × (cond b (left_over false 12 (c ∷ [])) [] ≡ [])) [
+      | true ↦ (
+        ap (λ b. cond b (first_unit c [] ∷ told_units false 11 (after_unit c [])) []) settled
+            ∙ ap (λ u. u ∷ told_units false 11 (drop (length (unit_text u)) (c ∷ []))) unit,
+        ap (λ b. cond b (left_over false 11 (after_unit c [])) (c ∷ [])) settled
+            ∙ ap (λ u. left_over false 11 (drop (length (unit_text u)) (c ∷ []))) unit,
+      )
+      | false ↦ (refl, refl)
+    ]
+
+plain_texts : (s : Tests) (cs : List ℕ) → lacks 37 cs ≡ true
+    → (texts unit_step (unit_step_text s) plain cs ≡ flat_map (encoded_char (any_char s)) cs)
+    × (after unit_step (unit_step_text s) plain cs ≡ plain)
+plain_texts s [] h = (refl, refl)
+plain_texts s (c ∷ cs) h =
+    let k = both (not (c == 37)) (lacks 37 cs) h in
+    let one = one_told c (not-true (c == 37) k.0) in
+    let more = plain_texts s cs k.1 in
+    let step : unit_step plain c ≡ plain = ap (λ (l : List ℕ). record plain { pending = l }) one.1 in
+    let kept = encoded_char (any_char s) c in (
+      ap (λ us. flat_map (kept_unit s) us ++ texts unit_step (unit_step_text s) (unit_step plain c) cs) one.0
+          ∙ ap (λ u. (kept ++ []) ++ texts unit_step (unit_step_text s) u cs) step
+          ∙ ap (λ l. l ++ texts unit_step (unit_step_text s) plain cs) (append-nil kept) ∙ ap (λ l. kept ++ l) more.0,
+      ap (λ u. after unit_step (unit_step_text s) u cs) step ∙ more.1,
+    )
+
+-- ---- the characters of a text without `%`
+lacks_right : (xs ys : List ℕ) → lacks 37 (xs ++ ys) ≡ true → lacks 37 ys ≡ true
+lacks_right [] ys h = h
+lacks_right (x ∷ xs) ys h = lacks_right xs ys (both (not (x == 37)) (lacks 37 (xs ++ ys)) h).1
+
+encodes_lack : (cs : List ℕ) → lacks 37 (encodes cs) ≡ true → lacks 37 cs ≡ true
+encodes_lack [] h = refl
+encodes_lack (x ∷ cs) h =
+    by_test x 37 (λ b. (not b && lacks 37 cs) ≡ true)
+    (λ e. subst (λ l. lacks 37 (l ++ encodes cs) ≡ true) (encode_ascii 37 (omega arith))
+    (subst (λ y. lacks 37 (encode y ++ encodes cs) ≡ true) e h))
+    (λ _. encodes_lack cs (lacks_right (encode x) (encodes cs) h))
+
+-- it is encoded, and nothing is pending after it
+pub record IsPlainRun (s : Tests) (u : Units) (t : List ℕ) : Type 0 where
+  pub text : texts unit_step (unit_step_text s) u (chars t) ≡ encoded (keeps s Any) t
+  pub same : after unit_step (unit_step_text s) u (chars t) ≡ u
+
+pub plain_run : (s : Tests) (h : List ℕ) (l : Option ℕ) (t : List ℕ) → IsUtf8 t → h ≡ [] → l ≡ None → lacks 37 t ≡ true
+    → IsPlainRun s (record { pending = h; left = l }) t
+unfolding encoded
+plain_run s h l t u none all n =
+    let k = plain_texts s (chars t) (encodes_lack (chars t) (subst (λ (x : List ℕ). lacks 37 x ≡ true) (sym (encodes-chars t u)) n)) in
+    subst (λ (x : List ℕ). IsPlainRun s (record { pending = x; left = l }) t) (sym none)
+    (subst (λ (y : Option ℕ). IsPlainRun s (record { pending = []; left = y }) t) (sym all) (record { text = k.0; same = k.1 }))
+
+pub long_enough : (t : List ℕ) → begins_triplet t ≡ true → 3 ≤ length t
+long_enough [] h = cc
+long_enough (x ∷ []) h = cc
+long_enough (x ∷ a ∷ []) h = cc
+long_enough (x ∷ a ∷ b ∷ t) h = omega arith
+
+-- ---- whether it is told
+or_last : (e a b : Bool) → e || b ≡ true → e || (a || b) ≡ true
+or_last true a b h = refl
+or_last false true b h = refl
+or_last false false b h = h
+
+pub tells_none : (end : Bool) (t : List ℕ) → end || is_settled t ≡ false → TellsNone end t
+tells_none end [] h zero = (refl, refl)
+tells_none end [] h (suc k) = (refl, refl)
+tells_none end (x ∷ xs) h zero = (refl, refl)
+tells_none end (x ∷ xs) h (suc k) = (
+  ap (λ b. cond b (first_unit x xs ∷ told_units end k (after_unit x xs)) []) h,
+  ap (λ b. cond b (left_over end k (after_unit x xs)) (x ∷ xs)) h,
+)
+
+pub empty_tells_none : (end : Bool) (t : List ℕ) → length t ≡ 0 → TellsNone end t
+empty_tells_none end [] h zero = (refl, refl)
+empty_tells_none end [] h (suc k) = (refl, refl)
+empty_tells_none end (x ∷ xs) h k = absurd (omega arith)
+
+-- ---- a character in triplets
+char_unit : (s : Tests) (t : List ℕ) (c : ℕ) → begins_triplet t ≡ true → first_char (octets t) ≡ Some c
+    → unit_at t ≡ Char c (take (3 * len_utf8 c) t)
+char_unit s [] c h k = cc
+char_unit s (x ∷ []) c h k = cc
+char_unit s (x ∷ a ∷ []) c h k = cc
+char_unit s (x ∷ a ∷ b ∷ t) c h k = ap (λ v. cond v (triplet_unit a b (x ∷ a ∷ b ∷ t) (first_char (octets (x ∷ a ∷ b ∷ t))))
+    (byte_unit x)) h ∙ ap (triplet_unit a b (x ∷ a ∷ b ∷ t)) k
+
+pub unit_of_char : (s : Tests) (end : Bool) (t : List ℕ) (c : ℕ) → begins_triplet t ≡ true → first_char (octets t) ≡ Some c
+    → IsUnit s end t (3 * len_utf8 c) true
+unit_of_char s end t c h k =
+    let is = char_unit s t c h k in
+    let inside = char_within t c k in
+    record {
+      some = omega (arith, len_utf8_bounds c);
+      within = inside;
+      told = ap (λ b. end || b) (ap (λ p. is_some p || (nat_le 12 (length t) || is_closed t)) k) ∙ or_right end true refl;
+      all = ap (λ u. length (unit_text u)) is ∙ length-take-le (3 * len_utf8 c) t inside;
+      text = ap (kept_unit s) is;
+    }
+
+-- ---- a triplet where no character begins
+lone_unit : (s : Tests) (t : List ℕ) → begins_triplet t ≡ true → first_char (octets t) ≡ None
+    → (length (unit_text (unit_at t)) ≡ 3) × (kept_unit s (unit_at t) ≡ take 3 t)
+lone_unit s [] h k = cc
+lone_unit s (x ∷ []) h k = cc
+lone_unit s (x ∷ a ∷ []) h k = cc
+lone_unit s (x ∷ a ∷ b ∷ t) h k =
+    let is : unit_at (x ∷ a ∷ b ∷ t) ≡ Lone a b = ap
+    (λ v. cond v (triplet_unit a b (x ∷ a ∷ b ∷ t) (first_char (octets (x ∷ a ∷ b ∷ t)))) (byte_unit x)) h
+    ∙ ap (triplet_unit a b (x ∷ a ∷ b ∷ t)) k in (
+      ap (λ u. length (unit_text u)) is,
+      ap (kept_unit s) is
+          ∙ ap (λ y. y ∷ a ∷ b ∷ []) (sym (eqb-true x 37 (and_parts (x == 37) (is_ascii_hexdigit a && is_ascii_hexdigit b) h).0)),
+    )
+
+pub unit_of_lone : (s : Tests) (end : Bool) (t : List ℕ) → begins_triplet t ≡ true → first_char (octets t) ≡ None
+    → (end || (nat_le 12 (length t) || is_closed t)) ≡ true → IsUnit s end t 3 true
+unit_of_lone s end t h k e =
+    let is = lone_unit s t h k in
+    record {
+      some = omega arith;
+      within = long_enough t h;
+      told = or_last end (is_some (first_char (octets t))) (nat_le 12 (length t) || is_closed t) e;
+      all = is.0;
+      text = is.1;
+    }
+
+pub open_triplet : (end : Bool) (t : List ℕ) → first_char (octets t) ≡ None → (end || (nat_le 12 (length t) || is_closed t)) ≡ false
+    → TellsNone end t
+open_triplet end t k e = tells_none end t (ap (λ b. end || b) (ap (λ p. is_some p || (nat_le 12 (length t) || is_closed t)) k) ∙ e)
+
+-- ---- any other byte
+byte_unit_at : (x : ℕ) (t : List ℕ) → begins_triplet (x ∷ t) ≡ false → unit_at (x ∷ t) ≡ byte_unit x
+byte_unit_at x [] h = refl
+byte_unit_at x (a ∷ []) h = refl
+byte_unit_at x (a ∷ b ∷ t) h = ap (λ v. cond v (triplet_unit a b (x ∷ a ∷ b ∷ t) (first_char (octets (x ∷ a ∷ b ∷ t)))) (byte_unit x)) h
+
+any_percent : (s : Tests) → IsSpec s → any_char s 37 ≡ false
+unfolding any_char is_ascii_any is_ascii_reg_name is_ascii_unreserved is_sub_delim is_gen_delim
+any_percent s k = rw (k.ucs_ascii 37 (omega arith), k.priv_ascii 37 (omega arith)) refl
+
+one_byte : (s : Tests) (x : ℕ) → IsSpec s → x < 128 → kept_unit s (byte_unit x) ≡ encoded (keeps s Any) (x ∷ [])
+unfolding encoded
+one_byte s x k h =
+    let ascii : IsAscii (x ∷ []) = one in
+    let char : flat_map (encoded_char (any_char s)) (chars (x ∷ [])) ≡ encoded_char (any_char s) x =
+    ap (flat_map (encoded_char (any_char s))) (chars-IsAscii (x ∷ []) ascii) ∙ append-nil (encoded_char (any_char s) x) in
+    elim (x == 37) as (λ b. (x == 37) ≡ b → kept_unit s (cond b Stray (Plain x)) ≡ encoded_char (any_char s) x) [
+      | true ↦ λ e. percent (eqb-true x 37 e)
+      | false ↦ λ _. refl
+    ] refl ∙ sym char
+  where
+    one : (i : ℕ) → slice_index (x ∷ []) i < 128
+    one zero = h
+    one (suc i) = omega arith
+
+    percent : x ≡ 37 → 37 ∷ 50 ∷ 53 ∷ [] ≡ encoded_char (any_char s) x
+    percent e = sym (ap (encoded_char (any_char s)) e ∙ ap (λ b. cond b (encode_utf8 37) (triplets (encode_utf8 37))) (any_percent s k)
+        ∙ ap triplets (encode_ascii 37 (omega arith)))
+
+byte_length : (x : ℕ) → length (unit_text (byte_unit x)) ≡ 1
+byte_length x = elim (x == 37) as (λ b. length (unit_text (cond b Stray (Plain x))) ≡ 1) [ true ↦ refl | false ↦ refl ]
+
+pub unit_of_byte : (s : Tests) (end : Bool) (t : List ℕ) → IsSpec s → IsAscii t → begins_triplet t ≡ false → 0 < length t
+    → (end || (nat_le 12 (length t) || is_closed t)) ≡ true → IsUnit s end t 1 false
+unit_of_byte s end [] k a h l e = absurd (omega arith)
+unit_of_byte s end (x ∷ t) k a h l e =
+    let is = byte_unit_at x t h in
+    record {
+      some = omega arith;
+      within = omega arith;
+      told = or_last end (is_some (first_char (octets (x ∷ t)))) (nat_le 12 (length (x ∷ t)) || is_closed (x ∷ t)) e;
+      all = ap (λ u. length (unit_text u)) is ∙ byte_length x;
+      text = ap (kept_unit s) is ∙ one_byte s x k (a 0);
+    }
+
+-- where it isn't told, no character begins there
+no_octets : (t : List ℕ) → begins_triplet t ≡ false → octets t ≡ []
+no_octets [] h = refl
+no_octets (x ∷ []) h = refl
+no_octets (x ∷ a ∷ []) h = refl
+no_octets (x ∷ a ∷ b ∷ t) h = ap (λ v. cond v (octet a b ∷ octets t) []) h
+
+pub open_byte : (end : Bool) (t : List ℕ) → begins_triplet t ≡ false → (end || (nat_le 12 (length t) || is_closed t)) ≡ false
+    → TellsNone end t
+open_byte end t h e = open_triplet end t (ap first_char (no_octets t h) ∙ no_char) e

@@ -1,5 +1,5 @@
 -- A varspec has no fault exactly where it is one.
-use Rattle.std.proofs.Common.{◌≡◌, ◌≢◌, ℕ, zero, suc, ◌+◌, true, false, cond, Bool, not, ◌&&◌, List, [], ◌∷◌, ◌++◌, length, map, Option}
+use Rattle.std.proofs.Common.{◌≡◌, ◌≢◌, ℕ, zero, suc, ◌+◌, true, false, cond, Bool, not, ◌&&◌, List, [], ◌∷◌, ◌++◌, length, map}
 use Rattle.std.proofs.Common.{Some, None, refl, sym, ◌∙◌, ap, arith}
 use Rattle.std.specs.Prelude.{◌==◌, nat_lt, nat_le}
 use Rattle.std.specs.Char.{is_ascii_digit, is_ascii_hexdigit}
@@ -17,8 +17,9 @@ use Rattle.iri_template.specs.Reading.{ends_name, name_of, modifier_of, varspec_
 use Rattle.iri_template.specs.Fault.{fault, moved, first, unless, max_length_fault, modifier_fault, varspec_fault, varspecs_fault}
 use Rattle.iri_template.specs.declared.error.Error.{Error}
 use Rattle.iri_template.specs.declared.error.ErrorKind.TheVariants.{InvalidExpression}
-use Rattle.iri_template.proofs.FaultLemmas.{unmoved, still_none, neither}
-use Rattle.iri_grammar.proofs.LiteralChars.{all-join as all_append}
+use Rattle.iri_template.proofs.FaultLemmas.{unmoved, neither, passed}
+use Rattle.iri_grammar.proofs.DelimiterLemmas.{run_of_all}
+use Rattle.iri_grammar.proofs.LiteralChars.{all-join as all_append, all-weaken}
 
 -- ---- the bytes of names
 -- ASCII, and neither a comma nor a brace
@@ -53,10 +54,6 @@ pub name_bytes : (x : List ℕ) → is_varname x ≡ true → list_all name_byte
 unfolding is_varname
 name_bytes x h = over_bytes is_name_char name_byte 0 x char_is_byte refl hex_is_byte (both (begins_name x) (over is_name_char x) h).1
 
-all_of : (p q : ℕ → Bool) (xs : List ℕ) → ((c : ℕ) → p c ≡ true → q c ≡ true) → list_all p xs ≡ true → list_all q xs ≡ true
-all_of p q [] f h = refl
-all_of p q (x ∷ xs) f h = let k = both (p x) (list_all p xs) h in rw (f x k.0) (all_of p q xs f k.1)
-
 modifier_bytes : (m : Modifier) → is_modifier m ≡ true → list_all inner (modifier_text m) ≡ true
 unfolding is_max_length
 modifier_bytes whole h = refl
@@ -64,13 +61,13 @@ modifier_bytes explode h = refl
 modifier_bytes (prefix []) h = cc
 modifier_bytes (prefix (d ∷ ds)) h =
     let one = both (not (d == 48) && list_all is_ascii_digit (d ∷ ds)) (nat_le (length (d ∷ ds)) 4) h in
-    all_of is_ascii_digit inner (d ∷ ds) digit_is_inner (both (not (d == 48)) (list_all is_ascii_digit (d ∷ ds)) one.0).1
+    all-weaken is_ascii_digit inner digit_is_inner (d ∷ ds) (both (not (d == 48)) (list_all is_ascii_digit (d ∷ ds)) one.0).1
 
 pub varspec_bytes : (v : VarSpec) → is_varspec v ≡ true → list_all inner (varspec_text v) ≡ true
 varspec_bytes v h =
     let k = both (is_varname v.name) (is_modifier v.modifier) h in
     all_append inner v.name (modifier_text v.modifier)
-    (all_of name_byte inner v.name (λ c j. (both (inner c) (not (ends_name c)) j).0) (name_bytes v.name k.0))
+    (all-weaken name_byte inner (λ c j. (both (inner c) (not (ends_name c)) j).0) v.name (name_bytes v.name k.0))
     (modifier_bytes v.modifier k.1)
 
 -- ---- cutting at the end of the name
@@ -99,18 +96,6 @@ any_joined p (x ∷ xs) =
     ] refl
 
 -- ---- lengths
-run_all : (q : ℕ → Bool) (xs : List ℕ) → list_all q xs ≡ true → run_of q xs ≡ length xs
-run_all q [] h = refl
-run_all q (x ∷ xs) h = let k = both (q x) (list_all q xs) h in rw k.0 (ap suc (run_all q xs k.1))
-
-all_run : (q : ℕ → Bool) (xs : List ℕ) → run_of q xs ≡ length xs → list_all q xs ≡ true
-all_run q [] h = refl
-all_run q (x ∷ xs) h =
-    elim (q x) as (λ b. cond b (suc (run_of q xs)) 0 ≡ suc (length xs) → (b && list_all q xs) ≡ true) [
-      | true ↦ λ k. all_run q xs (omega (arith, k))
-      | false ↦ λ k. absurd (omega (arith, k))
-    ] h
-
 max_fine : (ds : List ℕ) → is_max_length ds ≡ true → max_length_fault ds ≡ None
 unfolding is_max_length
 max_fine [] h = cc
@@ -119,9 +104,7 @@ max_fine (d ∷ ds) h =
     let two = both (not (d == 48)) (list_all is_ascii_digit (d ∷ ds)) one.0 in
     let short = leb-true (length (d ∷ ds)) 4 one.1 in
     let long : (nat_lt 0 (length (d ∷ ds)) && nat_lt (length (d ∷ ds)) 5) ≡ true = grind (arith, nat_tests) in
-    let run = run_all is_ascii_digit (d ∷ ds) two.1 in
-    let all : (run_of is_ascii_digit (d ∷ ds) == length (d ∷ ds)) ≡ true = grind (arith, nat_tests) in
-    max_none _ _ _ long all (not-true (d == 48) two.0)
+    max_none _ _ _ long (run_of_all is_ascii_digit (d ∷ ds) ∙ two.1) (not-true (d == 48) two.0)
   where
     max_none : (a b c : Bool) → a ≡ true → b ≡ true → c ≡ false
         → cond a (cond b (cond c (fault InvalidExpression 2) None) (fault InvalidExpression (run_of is_ascii_digit (d ∷ ds) + 2)))
@@ -142,9 +125,8 @@ max_is (d ∷ ds) h =
     let k = tests (nat_lt 0 (length (d ∷ ds)) && nat_lt (length (d ∷ ds)) 5) (run_of is_ascii_digit (d ∷ ds) == length (d ∷ ds))
     (d == 48) _ _ _ h in
     let short = (both (nat_lt 0 (length (d ∷ ds))) (nat_lt (length (d ∷ ds)) 5) k.0).1 in
-    let same : run_of is_ascii_digit (d ∷ ds) ≡ length (d ∷ ds) = grind (arith, nat_tests) in
     let four : nat_le (length (d ∷ ds)) 4 ≡ true = grind (arith, nat_tests) in
-    rw (k.2, all_run is_ascii_digit (d ∷ ds) same, four) refl
+    rw (k.2, sym (run_of_all is_ascii_digit (d ∷ ds)) ∙ k.1, four) refl
 
 -- ---- modifiers
 modifier_fine : (m : Modifier) → is_modifier m ≡ true
@@ -178,7 +160,7 @@ pub record IsOne (v : VarSpec) (t : List ℕ) : Type 0 where
   pub read : varspec_of t ≡ v
 
 no_end : (x : List ℕ) → is_varname x ≡ true → list_all (λ c. not (ends_name c)) x ≡ true
-no_end x h = all_of name_byte (λ c. not (ends_name c)) x (λ c j. (both (inner c) (not (ends_name c)) j).1) (name_bytes x h)
+no_end x h = all-weaken name_byte (λ c. not (ends_name c)) (λ c j. (both (inner c) (not (ends_name c)) j).1) x (name_bytes x h)
 
 pub varspec_fine : (v : VarSpec) → is_varspec v ≡ true → IsOne v (varspec_text v)
 unfolding varspec_fault
@@ -191,7 +173,7 @@ varspec_fine v h =
           ap (λ n. cond (is_varname n) (moved (length n) (modifier_fault (from_any ends_name (varspec_text v))))
           (fault InvalidExpression 0)) cut.0
           ∙ (ap (λ b. cond b (moved (length v.name) (modifier_fault (from_any ends_name (varspec_text v)))) (fault InvalidExpression 0)) k.0
-          ∙ still_none (length v.name) (modifier_fault (from_any ends_name (varspec_text v))) (ap modifier_fault cut.1 ∙ m.0));
+          ∙ ap (moved (length v.name)) (ap modifier_fault cut.1 ∙ m.0));
       read = ap (λ n. record { name = n; modifier = modifier_of (from_any ends_name (varspec_text v)) }) cut.0
           ∙ ap (λ q. record { name = v.name; modifier = q }) (ap modifier_of cut.1 ∙ m.1);
     }
@@ -199,14 +181,10 @@ varspec_fine v h =
 pub varspec_is : (t : List ℕ) → varspec_fault t ≡ None → (is_varspec (varspec_of t) ≡ true) × (varspec_text (varspec_of t) ≡ t)
 unfolding varspec_fault
 varspec_is t h =
-    let k = named (is_varname (name_of t)) (moved (length (name_of t)) (modifier_fault (from_any ends_name t))) _ h in
+    let k = passed (is_varname (name_of t)) (moved (length (name_of t)) (modifier_fault (from_any ends_name t))) _ h in
     let cut = any_joined ends_name t in
     let m = modifier_is (from_any ends_name t) cut.1 (unmoved (length (name_of t)) (modifier_fault (from_any ends_name t)) k.1) in
     (rw (k.0, m.0) refl, ap (λ l. name_of t ++ l) m.1 ∙ cut.0)
-  where
-    named : (b : Bool) (f : Option Error) (e : Error) → cond b f (Some e) ≡ None → (b ≡ true) × (f ≡ None)
-    named true f e j = (refl, j)
-    named false f e j = cc
 
 pub varspecs_fine : (at : ℕ) (vs : List VarSpec) → list_all is_varspec vs ≡ true
     → (varspecs_fault at (map varspec_text vs) ≡ None) × (map varspec_of (map varspec_text vs) ≡ vs)

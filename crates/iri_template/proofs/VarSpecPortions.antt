@@ -25,8 +25,7 @@ use Rattle.iri_template.specs.declared.error.ErrorKind.TheVariants.{UnexpectedVa
 use Rattle.iri_template.specs.declared.operator.Operator.{Operator}
 use Rattle.iri_template.specs.declared.varspec.VarSpec.{VarSpec}
 use Rattle.iri_template.specs.declared.visitor.VisitPurpose.TheVariants.{Typecheck, Expand}
-use Rattle.iri_template.proofs.PortionWalk.{HasEnded, ended_none, ended_more, ended_exit, ended_calls, ended_end}
-use Rattle.iri_template.proofs.TellWalk.{BothTold, moved_on}
+use Rattle.iri_template.proofs.PortionWalk.{HasEnded, ended_none, ended_more, ended_exit, ended_calls, ended_end, BothTold, moved_on}
 use Rattle.iri_template.proofs.VarSpecWalk.{cut_spec, held_spec, mistyped_spec, spec_len}
 
 -- the varspecs in a text
@@ -154,28 +153,24 @@ module _ (s : Tests) (operator : Operator) where
           (subst (λ ps. HasEnded puts (whole f) a (varspec_portions s operator k (place + length (before 44 t) + 1) now (map varspec_of ps)) c f k) none
           (written_one f h k now x is m q p))
 
-      pub up_to_exit : (error : Error) → (u w : Option Telling) → BothTold u w (WrittenUpTo written t b)
+      pub up_to_refused : (error : Error) → error.location ≡ place → (u w z : Option Telling) → BothTold u w (WrittenUpTo written t b)
           → WhereTold w (λ h. EndsAs puts halts (portion_of place written v h ∷ []) b c (Err error))
-          → WhereTold u (λ f. EndsAs puts halts (whole f) a c (Err error))
-      up_to_exit error None w p q = tt
-      up_to_exit error (Some f) None p q = absurd p
-      up_to_exit error (Some f) (Some h) p q =
-          ended_exit puts halts laws (whole f) (portion_of place written v h ∷ []) (rest_of h) a b c f h error (parted f h p) q
-
-      -- the calls that were made then
-      pub up_to_calls : (here : ℕ) → here ≡ place → (u w z : Option Telling) → BothTold u w (WrittenUpTo written t b)
-          → WhereTold w (λ h. MovesBy (portion_of place written v h).calls w z) → WhereTold u (λ f. CallsUpTo (whole f) here 0 u z)
-      up_to_calls here is None w z p q = tt
-      up_to_calls here is (Some f) None z p q = absurd p
-      up_to_calls here is (Some f) (Some h) z p q =
+          → WhereTold w (λ h. MovesBy (portion_of place written v h).calls w z)
+          → WhereTold u (λ f. EndsAs puts halts (whole f) a c (Err error)) × WhereTold u (λ f. CallsUpTo (whole f) error.location 0 u z)
+      up_to_refused error is None w z p q m = (tt, tt)
+      up_to_refused error is (Some f) None z p q m = absurd p
+      up_to_refused error is (Some f) (Some h) z p q m =
           let one = (portion_of place written v h).calls in
           let n : one ≡ 0 + one + 0 = omega arith in
-          ended_calls puts halts laws (whole f) (portion_of place written v h ∷ []) (rest_of h) a b f h here z (parted f h p) (record {
-            prefix = [];
-            here = portion_of place written v h;
-            rest = [];
-            split = refl;
-            fine = refl;
-            location = sym is;
-            moves = subst (λ k. MovesBy k (Some h) z) n q;
-          })
+          let o = parted f h p in (
+            ended_exit puts halts laws (whole f) (portion_of place written v h ∷ []) (rest_of h) a b c f h error o q,
+            ended_calls puts halts laws (whole f) (portion_of place written v h ∷ []) (rest_of h) a b f h error.location z o (record {
+              prefix = [];
+              here = portion_of place written v h;
+              rest = [];
+              split = refl;
+              fine = refl;
+              location = sym is;
+              moves = subst (λ k. MovesBy k (Some h) z) n m;
+            }),
+          )

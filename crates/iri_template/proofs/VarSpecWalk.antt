@@ -1,32 +1,109 @@
--- A walk over varspecs without a fault: what is written of them, and their values' types.
-use Rattle.std.proofs.Common.{◌≡◌, ℕ, ◌+◌, Bool, true, false, cond, List, [], ◌∷◌, Option, Some, None, length, map, refl, sym}
-use Rattle.std.proofs.Common.{◌∙◌, ap}
-use denote.Ref.{Bor}
-use Rattle.iri_grammar.specs.Classes.{Tests}
-use Rattle.iri_grammar.specs.Cut.{before, after}
+-- A walk over varspecs: their faults, one by one, what is written of them, and their values' types.
+use Rattle.std.proofs.Common.{◌≡◌, ℕ, ◌+◌, ◌-◌, true, false, cond, Bool, List, ◌∷◌, length, map, Option, Some, None, refl, sym, ◌∙◌, ap}
+use Rattle.std.proofs.Common.{arith, length-append, []}
+use Rattle.iri_grammar.specs.Cut.{before, after, delimited}
+use Rattle.iri_grammar.proofs.CutLaws.{joined}
+use Rattle.iri_grammar.specs.Delimiters.{from_any}
 use Rattle.iri_grammar.specs.Pieces.{pieces}
 use Rattle.iri_grammar.specs.inside.PiecesLaws.{more_pieces}
 use Rattle.iri_grammar.proofs.PiecesLaws.{pieces_cut}
+use Rattle.iri_template.specs.Names.{is_varname}
+use Rattle.iri_template.specs.Reading.{ends_name, name_of, varspec_of, pieces_of}
+use Rattle.iri_template.specs.Fault.{fault, moved, first, unless, name_fault, modifier_fault, varspec_fault, varspecs_fault, text_fault}
+use Rattle.iri_template.specs.declared.error.Error.{Error}
+use Rattle.iri_template.specs.declared.error.ErrorKind.TheVariants.{InvalidExpression, UnexpectedValueType}
+use Rattle.iri_template.proofs.FaultLemmas.{moved_moved, unmoved, varspecs_moved, moved_none, first_first, first_none}
+use denote.Ref.{Bor}
 use Rattle.iri_grammar.specs.OptionalSlices.{now_of}
-use Rattle.iri_template.specs.Template as template
+use Rattle.iri_template.specs.Left.{varspecs_left, IsTaken}
+use Rattle.iri_grammar.specs.Classes.{Tests}
 use Rattle.iri_template.specs.Template.{Piece, literal, triplet, expression, operator_text, varspec_text, piece_text}
 use Rattle.iri_template.specs.Expansion.{row_of, varspec_texts}
-use Rattle.iri_template.specs.Fault.{fault, moved, first, varspec_fault, varspecs_fault}
-use Rattle.iri_template.specs.Left.{varspecs_left}
-use Rattle.iri_template.specs.Reading.{name_of, varspec_of}
 use Rattle.iri_template.specs.ShownValues.{ShownValue, undefined}
-use Rattle.iri_template.specs.TypeFaults.{is_mistyped, is_mistyped_as, varspecs_type_fault, type_fault_from}
+use Rattle.iri_template.specs.TypeFaults.{is_mistyped, is_mistyped_as, varspecs_type_fault, type_fault_from, type_fault}
 use Rattle.iri_template.specs.VarSpecs.{held, IsHeld}
 use Rattle.iri_template.specs.inside.ByPurpose.{untold}
 use Rattle.iri_template.specs.inside.Written.{told_texts}
-use Rattle.iri_template.specs.declared.error.Error.{Error}
-use Rattle.iri_template.specs.declared.error.ErrorKind.TheVariants.{UnexpectedValueType}
 use Rattle.iri_template.specs.declared.operator.Operator.{Operator}
 use Rattle.iri_template.specs.declared.varspec.VarSpec.{VarSpec}
-use Rattle.iri_template.proofs.FaultLemmas.{moved_none, first_first, unmoved, still_none}
 use Rattle.iri_template.proofs.Telling.{held_texts}
 use Rattle.iri_template.proofs.VarSpecLemmas.{varspec_is}
-use Rattle.iri_template.proofs.Walks.{taken}
+use Rattle.iri_template.specs.Template as template
+
+-- ---- one varspec
+good : (b : Bool) (f : Option Error) (e : Error) → unless b (Some e) ≡ None → cond b f (Some e) ≡ f
+good true f e h = refl
+good false f e h = cc
+
+bad : (b : Bool) (f : Option Error) (e d : Error) → unless b (Some e) ≡ Some d → cond b f (Some e) ≡ Some e
+bad true f e d h = cc
+bad false f e d h = refl
+
+pub good_name : (at : ℕ) (t : List ℕ) → name_fault (name_of t) ≡ None
+    → moved at (varspec_fault t) ≡ moved (at + length (name_of t)) (modifier_fault (from_any ends_name t))
+unfolding varspec_fault
+good_name at t h =
+    let n = length (name_of t) in
+    ap (moved at) (good (is_varname (name_of t)) (moved n (modifier_fault (from_any ends_name t))) _ h)
+    ∙ moved_moved at n (modifier_fault (from_any ends_name t))
+
+pub bad_name : (at : ℕ) (t : List ℕ) (e : Error) → name_fault (name_of t) ≡ Some e → moved at (varspec_fault t) ≡ fault InvalidExpression at
+unfolding varspec_fault
+bad_name at t e h =
+    let z : at + 0 ≡ at = omega arith in
+    ap (moved at) (bad (is_varname (name_of t)) (moved (length (name_of t)) (modifier_fault (from_any ends_name t))) _ e h)
+    ∙ ap (fault InvalidExpression) z
+
+-- ---- several, parted by commas
+step : (at : ℕ) (t : List ℕ) → varspecs_fault at (pieces 44 t)
+    ≡ first (moved at (varspec_fault (before 44 t))) (varspecs_fault (at + length (before 44 t) + 1) (more_pieces 44 (after 44 t)))
+step at t = ap (varspecs_fault at) (pieces_cut 44 t)
+
+pub cut_len : (t r : List ℕ) → Some r ≡ after 44 t → length (before 44 t) + 1 + length r ≡ length t
+cut_len t r e = omega (
+  arith,
+  ap length (joined 44 t),
+  length-append (before 44 t) (delimited 44 (after 44 t)),
+  ap (λ o. length (delimited 44 o)) e,
+)
+
+pub more_varspecs : (at : ℕ) (t r : List ℕ) → Some r ≡ after 44 t → moved at (varspec_fault (before 44 t)) ≡ None
+    → varspecs_fault at (pieces 44 t) ≡ varspecs_fault (at + (length t - length r)) (pieces 44 r)
+more_varspecs at t r e h =
+    let z : at + length (before 44 t) + 1 ≡ at + (length t - length r) = omega (arith, cut_len t r e) in
+    step at t ∙ (ap (λ f. first f (varspecs_fault (at + length (before 44 t) + 1) (more_pieces 44 (after 44 t)))) h
+    ∙ (ap (λ o. varspecs_fault (at + length (before 44 t) + 1) (more_pieces 44 o)) (sym e) ∙ ap (λ n. varspecs_fault n (pieces 44 r)) z))
+
+pub last_varspec : (at : ℕ) (t : List ℕ) → None ≡ after 44 t → moved at (varspec_fault (before 44 t)) ≡ None
+    → varspecs_fault at (pieces 44 t) ≡ None
+last_varspec at t e h =
+    step at t ∙ (ap (λ f. first f (varspecs_fault (at + length (before 44 t) + 1) (more_pieces 44 (after 44 t)))) h
+    ∙ ap (λ o. varspecs_fault (at + length (before 44 t) + 1) (more_pieces 44 o)) (sym e))
+
+pub bad_varspec : (at : ℕ) (t : List ℕ) (e : Error) → moved at (varspec_fault (before 44 t)) ≡ Some e
+    → varspecs_fault at (pieces 44 t) ≡ Some e
+bad_varspec at t e h = step at t ∙ ap (λ f. first f (varspecs_fault (at + length (before 44 t) + 1) (more_pieces 44 (after 44 t)))) h
+
+-- the first name, and the others
+pub names_cut : (t : List ℕ) → map name_of (pieces 44 t) ≡ name_of (before 44 t) ∷ map name_of (more_pieces 44 (after 44 t))
+names_cut t = ap (map name_of) (pieces_cut 44 t)
+
+pub varspecs_anywhere : (at : ℕ) (vs : List (List ℕ)) → varspecs_fault at vs ≡ None → varspecs_fault 0 vs ≡ None
+varspecs_anywhere at vs h = let z : at + 0 ≡ at = omega arith in
+    unmoved at (varspecs_fault 0 vs) (sym (varspecs_moved at 0 vs) ∙ (ap (λ n. varspecs_fault n vs) z ∙ h))
+
+-- ---- the first of the varspecs
+pub taken : (t name : List ℕ) (o : Option (Bor (List ℕ))) → now_of o ≡ after 44 t → name ≡ name_of (before 44 t)
+    → moved 0 (varspec_fault (before 44 t)) ≡ None → varspecs_fault 0 (pieces 44 t) ≡ None → IsTaken name (pieces 44 t) (varspecs_left o)
+taken t name None e n h k = record {
+  names = names_cut t ∙ (ap (λ r. name_of (before 44 t) ∷ map name_of (more_pieces 44 r)) (sym e) ∙ ap (λ x. x ∷ []) (sym n));
+  fine = refl;
+}
+taken t name (Some r) e n h k = record {
+  names = names_cut t ∙ (ap (λ q. name_of (before 44 t) ∷ map name_of (more_pieces 44 q)) (sym e)
+      ∙ ap (λ x. x ∷ map name_of (pieces 44 r.now)) (sym n));
+  fine = varspecs_anywhere (0 + (length t - length r.now)) (pieces 44 r.now) (sym (more_varspecs 0 t r.now e h) ∙ k);
+}
 
 -- ---- the first varspec
 pub cut_spec : (t : List ℕ) (o : Option (Bor (List ℕ))) → now_of o ≡ after 44 t → pieces 44 t ≡ before 44 t ∷ varspecs_left o
@@ -74,7 +151,7 @@ types_spec value found at t v o e h i =
     let w = varspec_of (before 44 t) in
     let b = is_mistyped_as v.modifier (value v.name.text.now) in
     let others = varspecs_type_fault value (at + length (before 44 t) + 1) (map varspec_of (varspecs_left o)) in
-    let good : moved 0 (varspec_fault (before 44 t)) ≡ None = still_none 0 (varspec_fault (before 44 t)) (unmoved at (varspec_fault (before 44 t)) h) in
+    let good : moved 0 (varspec_fault (before 44 t)) ≡ None = ap (moved 0) (unmoved at (varspec_fault (before 44 t)) h) in
     ap (λ ps. first found (varspecs_type_fault value at (map varspec_of ps))) (cut_spec t o e)
     ∙ ap (λ n. first found (cond (is_mistyped w.modifier (value w.name)) (fault UnexpectedValueType at)
     (varspecs_type_fault value (at + n + 1) (map varspec_of (varspecs_left o))))) (spec_len (before 44 t) good)
@@ -93,10 +170,13 @@ untold_specs at (v ∷ vs) =
     ap (λ b. cond b (fault UnexpectedValueType at) (varspecs_type_fault untold there vs)) (untold_right v.modifier) ∙ untold_specs there vs
 
 -- no value is of a wrong type where there is none
-pub untold_types : (at : ℕ) (ps : List Piece) → type_fault_from untold at ps ≡ None
+untold_types : (at : ℕ) (ps : List Piece) → type_fault_from untold at ps ≡ None
 untold_types at [] = refl
 untold_types at (literal c ∷ ps) = untold_types (at + length (piece_text (literal c))) ps
 untold_types at (triplet a b ∷ ps) = untold_types (at + length (piece_text (triplet a b))) ps
 untold_types at (expression operator vs ∷ ps) =
     let there = at + length (piece_text (expression operator vs)) in
     ap (λ f. first f (type_fault_from untold there ps)) (untold_specs (at + 1 + length (operator_text operator)) vs) ∙ untold_types there ps
+
+pub untold_fault : (t : List ℕ) → first (text_fault t) (type_fault untold (pieces_of t)) ≡ text_fault t
+untold_fault t = ap (first (text_fault t)) (untold_types 0 (pieces_of t)) ∙ first_none (text_fault t)

@@ -1,29 +1,26 @@
 -- A walk over a template without a fault.
+use Rattle.std.proofs.lemmas.List.{nil_from_length}
 use Rattle.std.proofs.Common.{◌≡◌, ℕ, zero, suc, ◌+◌, ◌-◌, true, false, List, [], ◌∷◌, ◌++◌, length, map, Option, Some, None, refl, sym}
 use Rattle.std.proofs.Common.{◌∙◌, ap, subst, arith, append_assoc}
 use Rattle.std.specs.Prelude.{is_some}
 use Rattle.std.specs.Str.{chars}
 use denote.Ref.{Bor}
-use Rattle.iri_grammar.specs.Cut.{before, after}
 use Rattle.iri_grammar.specs.Pieces.{pieces}
-use Rattle.iri_grammar.specs.inside.PiecesLaws.{more_pieces}
 use Rattle.iri_grammar.proofs.PiecesLaws.{pieces_cut}
-use Rattle.iri_grammar.specs.OptionalSlices.{now_of}
 use Rattle.iri_template.specs.Template.{Piece, literal, names_of, piece_names}
 use Rattle.iri_template.specs.Reading.{name_of, varspec_of, pieces_from, pieces_of, piece_len}
-use Rattle.iri_template.specs.Fault.{moved, first, piece_fault, varspec_fault, varspecs_fault, fault_from, text_fault}
+use Rattle.iri_template.specs.Fault.{moved, first, piece_fault, fault_from, text_fault}
 use Rattle.iri_template.specs.inside.Parts.{part_pieces, part_fault, IsPrefix}
-use Rattle.iri_template.specs.Left.{varspecs_left, names_among, AreFine, IsTaken, Has}
+use Rattle.iri_template.specs.Left.{varspecs_left, names_among, AreFine, Has}
 use Rattle.iri_template.specs.declared.error.Error.{Error}
 use Rattle.iri_template.specs.declared.part.Part.{Part}
 use Rattle.iri_template.specs.declared.part.Part.TheVariants as part
-use Rattle.iri_template.proofs.FaultLemmas.{moved_moved, moved_first, neither, unmoved, varspecs_moved}
-use Rattle.iri_template.proofs.VarSpecFaults.{more_varspecs, names_cut}
+use Rattle.iri_template.proofs.FaultLemmas.{moved_moved, moved_first, neither, unmoved}
+use Rattle.iri_template.proofs.VarSpecWalk.{varspecs_anywhere}
 
 pub nothing_left : (at : ℕ) (t : List ℕ) → length t ≡ 0 → fault_from 0 at t ≡ None
 unfolding fault_from
-nothing_left at [] h = refl
-nothing_left at (x ∷ xs) h = absurd (omega arith)
+nothing_left at t h = ap (fault_from 0 at) (nil_from_length t h)
 
 -- the same text further on in another
 pub fault_moved : (a skip at : ℕ) (t : List ℕ) → fault_from skip (a + at) t ≡ moved a (fault_from skip at t)
@@ -44,23 +41,6 @@ none_anywhere at t h = let z : at + 0 ≡ at = omega arith in
 
 pub fine_there : (at : ℕ) (t : List ℕ) → text_fault t ≡ None → fault_from 0 at t ≡ None
 fine_there at t h = let z : at + 0 ≡ at = omega arith in sym (ap (λ n. fault_from 0 n t) z) ∙ (fault_moved at 0 0 t ∙ ap (moved at) h)
-
-pub varspecs_anywhere : (at : ℕ) (vs : List (List ℕ)) → varspecs_fault at vs ≡ None → varspecs_fault 0 vs ≡ None
-varspecs_anywhere at vs h = let z : at + 0 ≡ at = omega arith in
-    unmoved at (varspecs_fault 0 vs) (sym (varspecs_moved at 0 vs) ∙ (ap (λ n. varspecs_fault n vs) z ∙ h))
-
--- ---- the first of the varspecs
-pub taken : (t name : List ℕ) (o : Option (Bor (List ℕ))) → now_of o ≡ after 44 t → name ≡ name_of (before 44 t)
-    → moved 0 (varspec_fault (before 44 t)) ≡ None → varspecs_fault 0 (pieces 44 t) ≡ None → IsTaken name (pieces 44 t) (varspecs_left o)
-taken t name None e n h k = record {
-  names = names_cut t ∙ (ap (λ r. name_of (before 44 t) ∷ map name_of (more_pieces 44 r)) (sym e) ∙ ap (λ x. x ∷ []) (sym n));
-  fine = refl;
-}
-taken t name (Some r) e n h k = record {
-  names = names_cut t ∙ (ap (λ q. name_of (before 44 t) ∷ map name_of (more_pieces 44 q)) (sym e)
-      ∙ ap (λ x. x ∷ map name_of (pieces 44 r.now)) (sym n));
-  fine = varspecs_anywhere (0 + (length t - length r.now)) (pieces 44 r.now) (sym (more_varspecs 0 t r.now e h) ∙ k);
-}
 
 -- ---- the parts
 pub names_append : (ps qs : List Piece) → names_of (ps ++ qs) ≡ names_of ps ++ names_of qs
@@ -132,8 +112,7 @@ none_left (Some s) h = let clash = sym (pieces_cut 44 s.now) ∙ h in cc
 
 pub no_names : (t : List ℕ) → length t ≡ 0 → names_of (pieces_of t) ≡ []
 unfolding pieces_from
-no_names [] h = refl
-no_names (x ∷ xs) h = absurd (omega arith)
+no_names t h = ap (λ l. names_of (pieces_of l)) (nil_from_length t h)
 
 -- an iterator whose varspecs have run out, and that found no more
 pub ended : (o : Option (Bor (List ℕ))) (r t : List ℕ) → varspecs_left o ≡ [] → (o ≡ None → length r ≡ 0)
@@ -141,6 +120,3 @@ pub ended : (o : Option (Bor (List ℕ))) (r t : List ℕ) → varspecs_left o �
 ended o r t e n h =
     let left = no_names r (n (none_left o e)) in
     (sym h ∙ (ap (λ vs. map name_of vs ++ names_of (pieces_of r)) e ∙ left), left)
-
-pub some_left : (s : Bor (List ℕ)) → varspecs_left (Some s) ≡ [] → ⊥
-some_left s h = let clash = sym (pieces_cut 44 s.now) ∙ h in cc

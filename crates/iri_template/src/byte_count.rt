@@ -1,6 +1,7 @@
 //! How many bytes a text has.
 ghost use Rattle.std.specs.Prelude.{◌≡◌, ◌<◌, false, length, nat_le};
 ghost use Rattle.std.specs.Str.{chars};
+ghost use Rattle.iri_template.specs.inside.ByteCounts.{CountPuts, CountHalts, count_rules};
 
 use iri_text::{Show, Stop, TextSink};
 
@@ -13,8 +14,6 @@ pub(crate) struct ByteCount {
 }
 
 impl TextSink for ByteCount {
-    ghost use Rattle.iri_template.specs.inside.ByteCounts.{CountPuts, CountHalts, count_rules};
-
     ghost puts = { CountPuts };
 
     ghost halts = { CountHalts };

@@ -45,8 +45,7 @@ impl<T> fmt::Display for CreationError<T> {
     ghost output = { λ e. Some (displayed e.error) };
 
     fn fmt<W: fmt::Write>(&self, f: &mut fmt::Formatter<W>) -> fmt::Result {
-        let error = self.error;
-        write!(f, "{error}")
+        write!(f, "{}", self.error)
     }
 }
 

@@ -1,10 +1,11 @@
 //! Contexts whose values may change while a template is expanded.
-ghost use Rattle.std.specs.Prelude.{◌≡◌, ℕ, Option};
-ghost use Rattle.iri_template.specs.Tells.{Telling, VisitsNext, Calls, StartsOnce, EndsOnce};
+ghost use Rattle.std.specs.Prelude.{◌≡◌, ℕ, Option, None, Some};
+ghost use Rattle.iri_template.specs.Tells.{Telling, VisitsNext, Calls, StartsOnce, EndsOnce, always};
+ghost use Rattle.iri_template.specs.inside.ByPurpose.{by_purpose, untold};
 ghost use Rattle.iri_template.specs.declared.visitor.Phase.TheVariants.{Fresh};
 
 use crate::context::Context;
-use crate::visitor::Visitor;
+use crate::visitor::{VisitPurpose, Visitor};
 use iri_text::Stop;
 
 /// What has the values of variables, which may change with each call. An expansion calls `on_expansion_start` once, then
@@ -61,9 +62,6 @@ impl<'a, C: Context> Fixed<'a, C> {
 }
 
 impl<'a, C: Context> DynamicContext for Fixed<'a, C> {
-    ghost use Rattle.std.specs.Prelude.{None, Some};
-    ghost use Rattle.iri_template.specs.Tells.{always};
-
     ghost tells = { λ f. Some (always (C.value_of f.context.now)) };
 
     ghost starts = { λ f. None };
@@ -72,6 +70,40 @@ impl<'a, C: Context> DynamicContext for Fixed<'a, C> {
 
     fn visit_dynamic<V: Visitor>(&mut self, visitor: &mut V) -> Result<(), Stop> {
         self.context.visit(visitor)
+    }
+
+    fn on_expansion_start(&mut self) {}
+
+    fn on_expansion_end(&mut self) {}
+}
+
+// A dynamic context that tells the values of a `Context` where they are written, and none where a type is asked for.
+#[derive(Drop)]
+pub(crate) struct Typechecked<'a, C> {
+    context: &'a C,
+}
+
+impl<'a, C: Context> Typechecked<'a, C> {
+    // It tells what this context tells.
+    pub(crate) fn new(context: &'a C) -> Typechecked<'a, C>
+        ensures { result.context.now ≡ context.now }
+    {
+        Typechecked { context }
+    }
+}
+
+impl<'a, C: Context> DynamicContext for Typechecked<'a, C> {
+    ghost tells = { λ t. Some (by_purpose untold (C.value_of t.context.now)) };
+
+    ghost starts = { λ t. None };
+
+    ghost ends = { λ t. None };
+
+    fn visit_dynamic<V: Visitor>(&mut self, visitor: &mut V) -> Result<(), Stop> {
+        match visitor.purpose() {
+            VisitPurpose::Typecheck => visitor.visit_undefined(),
+            VisitPurpose::Expand => self.context.visit(visitor),
+        }
     }
 
     fn on_expansion_start(&mut self) {}

@@ -1,5 +1,7 @@
 //! What is wrong with a template.
-ghost use Rattle.std.specs.Prelude.{◌≡◌, ◌++◌, Some, codes};
+ghost use Rattle.std.specs.Prelude.{◌≡◌, Some};
+ghost use Rattle.iri_template.specs.ErrorTexts.{description, displayed};
+ghost use Rattle.iri_template.specs.inside.InMemory.{in_memory};
 
 use std::fmt;
 
@@ -27,8 +29,6 @@ pub enum ErrorKind {
 }
 
 impl ErrorKind {
-    ghost use Rattle.iri_template.specs.ErrorTexts.{description};
-
     /// The kind in words, as they stand in `Error`'s `Display`.
     pub fn description(self) -> &'static str
         ensures { result.now ≡ description self }
@@ -55,8 +55,6 @@ pub struct Error {
 }
 
 impl Error {
-    ghost use Rattle.iri_template.specs.inside.InMemory.{in_memory};
-
     pub(crate) fn new(kind: ErrorKind, location: usize) -> Self
         ensures { result ≡ record { kind = kind; location = location } }
     {
@@ -89,13 +87,10 @@ impl Error {
 }
 
 impl fmt::Display for Error {
-    ghost use Rattle.iri_template.specs.ErrorTexts.{displayed};
-
     ghost output = { λ e. Some (displayed e) };
 
     fn fmt<W: fmt::Write>(&self, f: &mut fmt::Formatter<W>) -> fmt::Result {
-        let description = self.kind.description();
-        let location = self.location;
+        let (description, location) = (self.kind.description(), self.location);
         write!(
             f,
             "invalid URI template: {description} (at {location}-th byte)"

@@ -8,11 +8,11 @@ ghost use Rattle.iri_template.specs.TypeFaults.{type_fault, expansion_fault};
 
 use crate::byte_count::is_within;
 use crate::context::Context;
+use crate::dynamic_context::Typechecked;
 use crate::error::{Error, ErrorKind};
 use crate::expansion_writer::write_expansion;
 use crate::fault::find_fault;
 use crate::template::UriTemplateStr;
-use crate::typechecked::Typechecked;
 use iri_grammar::spec::Spec;
 use iri_owned::error::CreationError;
 use iri_owned::owned::{Owned, RiAbsoluteString, RiReferenceString, RiRelativeString, RiString};
@@ -77,11 +77,8 @@ impl<'a, S: Spec, C: Context> Show for Expanded<'a, S, C> {
 
     fn show<W: TextSink>(&self, sink: &mut W) -> Result<(), Stop> {
         let mut values = Typechecked::new(self.context);
-        match write_expansion::<Typechecked<'_, C>, S, W>(
-            sink,
-            &mut values,
-            self.template.as_str(),
-        ) {
+        let template = self.template.as_str();
+        match write_expansion::<Typechecked<'_, C>, S, W>(sink, &mut values, template) {
             Ok(()) => Ok(()),
             Err(_) => Err(Stop),
         }
@@ -141,13 +138,8 @@ impl<'a, S: Spec, C: Context> Expanded<'a, S, C> {
             (λ e. RefusedAs e (expanded_text S.tests C.value_of self.now)
             (K.fault S.tests (expanded_text S.tests C.value_of self.now))) }
     {
-        match self.try_to_string(alloc) {
-            Ok(text) => match Owned::try_from_string(text) {
-                Ok(owned) => Ok(owned),
-                Err(error) => Err(ExpandedError::Invalid(error)),
-            },
-            Err(error) => Err(ExpandedError::Memory(error)),
-        }
+        let text = self.try_to_string(alloc).map_err(ExpandedError::Memory)?;
+        Owned::try_from_string(text).map_err(ExpandedError::Invalid)
     }
 
     /// The expansion as a reference.
@@ -232,9 +224,6 @@ impl<'a, S: Spec, C: Context> Expanded<'a, S, C> {
         if !is_within(self, limit) {
             return Ok(None);
         }
-        match self.try_to_string(alloc) {
-            Ok(text) => Ok(Some(text)),
-            Err(error) => Err(error),
-        }
+        Ok(Some(self.try_to_string(alloc)?))
     }
 }

@@ -1,30 +1,168 @@
-//! Expansions that are written (RFC 6570 section 3.1).
-ghost use Rattle.std.specs.Prelude.{◌≡◌, ◌≤◌, ◌<◌, ◌+◌, ◌-◌, ◌*◌, ◌^◌, length, IfErr, OnOk, None};
-ghost use Rattle.iri_text.specs.Shown.{Shows};
-ghost use Rattle.iri_percent.specs.Encoding.{encoded, keeps};
-ghost use Rattle.iri_percent.specs.declared.context.Context.TheVariants.{Any};
-ghost use Rattle.iri_template.specs.Fault.{text_fault};
-ghost use Rattle.iri_template.specs.Portions.{portions};
-ghost use Rattle.iri_template.specs.Reading.{pieces_of};
-ghost use Rattle.iri_template.specs.Template.{names_of, template_text};
-ghost use Rattle.iri_template.specs.Tells.{WhereTold, MovesBy};
+//! Expansions that are written: their expressions (RFC 6570 section 3.2.1), and the literals between them (section 3.1).
+ghost use Rattle.std.specs.Prelude.{◌≡◌, ◌≤◌, ◌<◌, ◌+◌, ◌*◌, ◌^◌, ◌||◌, [], ◌∷◌, false, cond, None, map, length, IfErr};
+ghost use Rattle.std.specs.Prelude.{OnOk, ◌-◌};
+ghost use Rattle.iri_grammar.specs.Pieces.{pieces};
+ghost use Rattle.iri_template.specs.Expansion.{row_of};
+ghost use Rattle.iri_template.specs.Fault.{varspecs_fault, text_fault};
+ghost use Rattle.iri_template.specs.Led.{has_texts};
+ghost use Rattle.iri_template.specs.Portions.{varspec_portions, portions};
+ghost use Rattle.iri_template.specs.Reading.{varspec_of, pieces_of};
+ghost use Rattle.iri_template.specs.Tells.{WhereTold, MovesBy, Calls};
+ghost use Rattle.iri_template.specs.TypeFaults.{is_mistyped_as};
 ghost use Rattle.iri_template.specs.Writings.{EndsAs, HasCause, CallsUpTo};
+ghost use Rattle.iri_template.specs.inside.Checked.{state_texts, state_portion, held_portion};
+ghost use Rattle.iri_template.specs.inside.Written.{told_texts};
+ghost use Rattle.iri_template.specs.declared.visitor.Phase.TheVariants.{Fresh};
+ghost use Rattle.iri_template.specs.declared.visitor.VisitPurpose.TheVariants.{Typecheck, Expand};
+ghost use Rattle.iri_template.specs.Template.{names_of, template_text};
 ghost use Rattle.iri_template.specs.inside.PartEnds.{PartEnds, PartCalls, calls_of, begin_after, told_of};
 ghost use Rattle.iri_template.specs.inside.Parts.{part_pieces, part_fault, EndsBefore};
 
 use crate::dynamic_context::DynamicContext;
 use crate::error::{Error, ErrorKind};
-use crate::expression_writer::write_varspecs;
+use crate::operator::Operator;
 use crate::part::{Part, read_part};
+use crate::type_check::TypeCheck;
+use crate::units::put_as;
+use crate::value_writer::{ExpressionState, ValueWriter};
+use crate::varspec::{VarSpec, read_first};
 use iri_grammar::spec::Spec;
-use iri_percent::PercentEncoded;
-use iri_text::{Show, Stop, TextSink};
+use iri_text::{Stop, TextSink};
 
-// Writes literals: what a reference of `S` can't hold becomes percent-encoded octets.
-fn write_literals<S: Spec, W: TextSink>(sink: &mut W, literals: &str) -> Result<(), Stop>
-    ensures { Shows W.puts W.halts W.stops sink.old (encoded (keeps S.tests Any) literals.now) sink.new result }
+// Looks at the value that the context tells next: whether the varspec has no use for it.
+fn looks_mistyped<C: DynamicContext>(context: &mut C, varspec: VarSpec<'_>) -> bool
+    ensures value { WhereTold (C.tells context.old)
+        (λ f. result ≡ is_mistyped_as varspec.entry.modifier (f 0 varspec.entry.name.text.now Typecheck)) }
+    ensures call { Calls 1 (C.tells context.old) (C.tells context.new) (C.starts context.old) (C.starts context.new)
+        (C.ends context.old) (C.ends context.new) }
 {
-    PercentEncoded::<&str, S>::characters(literals).show(sink)
+    let mut visitor = TypeCheck::new(varspec.name);
+    match context.visit_dynamic(&mut visitor) {
+        Ok(()) => varspec.modifier.prefix().is_some() && visitor.members,
+        Err(_) => false,
+    }
+}
+
+// Tells a writer the value that the context tells next. `at` is the place of the varspec.
+fn tell_next<C: DynamicContext, S: Spec, W: TextSink>(
+    visitor: &mut ValueWriter<S, W>,
+    context: &mut C,
+    at: usize,
+) -> Result<(), Error>
+    requires fresh { visitor.old.phase ≡ Fresh }
+    requires first { visitor.old.state.member ≡ false }
+    requires right { visitor.old.mistyped ≡ false }
+    ensures written { WhereTold (C.tells context.old)
+        (λ f. EndsAs W.puts W.halts (state_portion S.tests at visitor.old.state false
+        (f 0 visitor.old.state.name.text.now Expand) ∷ []) visitor.old.to.now visitor.new.to.now
+        result) }
+    ensures goes_on { OnOk result (WhereTold (C.tells context.old)
+        (λ f. visitor.new.state.written ≡ (visitor.old.state.written || has_texts
+        (state_texts S.tests visitor.old.state (f 0 visitor.old.state.name.text.now Expand))))) }
+    ensures same { visitor.new.to.ghost_name ≡ visitor.old.to.ghost_name }
+    ensures place { IfErr result (λ e. e.location ≡ at) }
+    ensures cause { HasCause (W.stops visitor.old.to.now) (W.stops visitor.new.to.now) result }
+    ensures later { W.stops visitor.old.to.now ≤ W.stops visitor.new.to.now }
+    ensures call { Calls 1 (C.tells context.old) (C.tells context.new) (C.starts context.old) (C.starts context.new)
+        (C.ends context.old) (C.ends context.new) }
+{
+    match context.visit_dynamic(visitor) {
+        Ok(()) if visitor.mistyped => Err(Error::new(ErrorKind::UnexpectedValueType, at)),
+        Ok(()) => Ok(()),
+        Err(_) => Err(Error::new(ErrorKind::WriteFailed, at)),
+    }
+}
+
+// Looks at the value of a variable, and then writes it, after the operator's first text or its separator. `at` is the place
+// of the varspec.
+fn write_varspec<C: DynamicContext, S: Spec, W: TextSink>(
+    sink: &mut W,
+    context: &mut C,
+    operator: Operator,
+    varspec: VarSpec<'_>,
+    at: usize,
+    written: &mut bool,
+) -> Result<(), Error>
+    ensures written { WhereTold (C.tells context.old)
+        (λ f. EndsAs W.puts W.halts (held_portion S.tests operator at written.old varspec.entry
+        (is_mistyped_as varspec.entry.modifier (f 0 varspec.entry.name.text.now Typecheck))
+        (f 1 varspec.entry.name.text.now Expand) ∷ []) sink.old sink.new result) }
+    ensures goes_on { OnOk result (WhereTold (C.tells context.old)
+        (λ f. written.new ≡ (written.old || has_texts (told_texts S.tests (row_of operator) varspec.entry.name.text.now
+        varspec.entry.modifier (f 1 varspec.entry.name.text.now Expand))))) }
+    ensures cause { HasCause (W.stops sink.old) (W.stops sink.new) result }
+    ensures later { W.stops sink.old ≤ W.stops sink.new }
+    ensures moves { OnOk result (MovesBy 2 (C.tells context.old) (C.tells context.new)) }
+    ensures place { IfErr result (λ e. e.location ≡ at) }
+    ensures calls { WhereTold (C.tells context.old)
+        (λ f. MovesBy (cond (is_mistyped_as varspec.entry.modifier (f 0 varspec.entry.name.text.now Typecheck)) 1 2)
+        (C.tells context.old) (C.tells context.new)) }
+    ensures same_starts { C.starts context.new ≡ C.starts context.old }
+    ensures same_ends { C.ends context.new ≡ C.ends context.old }
+{
+    if looks_mistyped(context, varspec) {
+        return Err(Error::new(ErrorKind::UnexpectedValueType, at));
+    }
+    let state = ExpressionState {
+        operator,
+        name: varspec.name,
+        modifier: varspec.modifier,
+        written: *written,
+        member: false,
+    };
+    let mut visitor = ValueWriter::<S, W>::new(sink, state);
+    let result = tell_next(&mut visitor, context, at);
+    *written = visitor.state.written;
+    result
+}
+
+// Writes the values of varspecs, which have no fault. `at` is their place, and a brace stands after them.
+pub(crate) fn write_varspecs<C: DynamicContext, S: Spec, W: TextSink>(
+    sink: &mut W,
+    context: &mut C,
+    operator: Operator,
+    varspecs: &str,
+    at: usize,
+) -> Result<(), Error>
+    requires fine { varspecs_fault 0 (pieces 44 varspecs.now) ≡ None }
+    requires fits { at + length varspecs.now + 1 < 2 ^ 64 }
+    ensures written { WhereTold (C.tells context.old)
+        (λ f. EndsAs W.puts W.halts
+        (varspec_portions S.tests operator f at false (map varspec_of (pieces 44 varspecs.now))) sink.old sink.new result) }
+    ensures cause { HasCause (W.stops sink.old) (W.stops sink.new) result }
+    ensures later { W.stops sink.old ≤ W.stops sink.new }
+    ensures moves { OnOk result (MovesBy (2 * length (map varspec_of (pieces 44 varspecs.now))) (C.tells context.old)
+        (C.tells context.new)) }
+    ensures refused { IfErr result (λ e. WhereTold (C.tells context.old)
+        (λ f. CallsUpTo (varspec_portions S.tests operator f at false (map varspec_of (pieces 44 varspecs.now)))
+        e.location 0 (C.tells context.old) (C.tells context.new))) }
+    ensures same_starts { C.starts context.new ≡ C.starts context.old }
+    ensures same_ends { C.ends context.new ≡ C.ends context.old }
+{
+    let mut rest = varspecs;
+    let mut written = false;
+    'varspecs: loop {
+        match read_first(rest, 0) {
+            Ok((varspec, others)) => {
+                let place = at + (varspecs.len() - rest.len());
+                match write_varspec::<C, S, W>(
+                    sink,
+                    context,
+                    operator,
+                    varspec,
+                    place,
+                    &mut written,
+                ) {
+                    Ok(()) => match others {
+                        Some(more) => rest = more,
+                        None => return Ok(()),
+                    },
+                    Err(error) => return Err(error),
+                }
+            }
+            Err(_) => unreachable!(),
+        }
+    }
 }
 
 // What is told of literals and percent-encoded octets that begin at this place, where they were put or the sink stopped
@@ -32,10 +170,7 @@ fn write_literals<S: Spec, W: TextSink>(sink: &mut W, literals: &str) -> Result<
 fn told(put: Result<(), Stop>, begin: usize) -> Result<(), Error>
     ensures { result ≡ told_of begin put }
 {
-    match put {
-        Ok(()) => Ok(()),
-        Err(_) => Err(Error::new(ErrorKind::WriteFailed, begin)),
-    }
+    put.map_err(|_| Error::new(ErrorKind::WriteFailed, begin))
 }
 
 // Writes a part with this text. `begin` is the place of the literals and percent-encoded octets to which it belongs, where
@@ -60,14 +195,10 @@ fn write_part<C: DynamicContext, S: Spec, W: TextSink>(
     ensures same_ends { C.ends context.new ≡ C.ends context.old }
 {
     match part {
-        Part::Expression(expression) => write_varspecs::<C, S, W>(
-            sink,
-            context,
-            expression.operator,
-            expression.varspecs,
-            expression.location,
-        ),
-        Part::Literals(literals) => told(write_literals::<S, W>(sink, literals), begin),
+        Part::Expression(e) => {
+            write_varspecs::<C, S, W>(sink, context, e.operator, e.varspecs, e.location)
+        }
+        Part::Literals(literals) => told(put_as::<S, W>(sink, literals, false), begin),
         Part::Triplet(_) => told(sink.put(text), begin),
     }
 }
@@ -78,8 +209,7 @@ fn begin_after(part: Part<'_>, begin: usize, end: usize) -> usize
 {
     match part {
         Part::Expression(_) => end,
-        Part::Literals(_) => begin,
-        Part::Triplet(_) => begin,
+        _ => begin,
     }
 }
 

@@ -11,18 +11,7 @@ use crate::context::Context;
 use crate::error::{Error, ErrorKind};
 use crate::part::{Part, read_part};
 use crate::type_check::value_has_members;
-use crate::variable_list::read_first;
-use crate::varspec::{Modifier, VarSpec};
-
-fn is_mistyped<C: Context>(context: &C, varspec: VarSpec<'_>) -> bool
-    ensures { result ≡ is_mistyped_as varspec.entry.modifier (C.value_of context.now varspec.entry.name.text.now) }
-{
-    match varspec.modifier {
-        Modifier::Prefix(_) => value_has_members(context, varspec.name),
-        Modifier::Whole => false,
-        Modifier::Explode => false,
-    }
-}
+use crate::varspec::{VarSpec, read_first};
 
 // The type fault that was found, or else that of a varspec at this place.
 fn or_mistyped<C: Context>(
@@ -35,7 +24,8 @@ fn or_mistyped<C: Context>(
         (cond (is_mistyped_as varspec.entry.modifier (C.value_of context.now varspec.entry.name.text.now))
         (fault UnexpectedValueType at) None) }
 {
-    if found.is_none() && is_mistyped(context, varspec) {
+    let has_prefix = varspec.modifier.prefix().is_some();
+    if found.is_none() && has_prefix && value_has_members(context, varspec.name) {
         Some(Error::new(ErrorKind::UnexpectedValueType, at))
     } else {
         found

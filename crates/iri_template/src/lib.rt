@@ -48,7 +48,6 @@
 #![tactic(auto)]
 
 mod byte_count;
-pub mod comparison;
 pub mod context;
 pub mod creation;
 pub mod dynamic_context;
@@ -56,30 +55,20 @@ mod encoded_value;
 pub mod error;
 pub mod expanded;
 mod expansion_writer;
-mod expression_state;
-mod expression_writer;
 mod fault;
-mod first_unit;
 pub mod laws;
 pub mod naive;
-mod no_values;
 mod operator;
 pub mod owned;
 mod part;
 mod pending;
-mod prefix;
-mod prefix_sink;
 pub mod simple_context;
 pub mod template;
 mod type_check;
-mod typechecked;
-mod unit_sink;
 mod units;
 pub mod value;
 mod value_writer;
 pub mod var_name;
-mod variable_expansion;
-mod variable_list;
 pub mod variables;
 mod varspec;
 pub mod visitor;

@@ -1,7 +1,8 @@
 //! Values that tell themselves to a visitor.
-ghost use Rattle.std.specs.Prelude.{◌≡◌};
-ghost use Rattle.iri_template.specs.ShownValues.{ShownValue};
-ghost use Rattle.iri_template.specs.Events.{telling};
+ghost use Rattle.std.specs.Prelude.{◌≡◌, decimal, map, string_bytes};
+ghost use Rattle.std.specs.Fmt.{signed_decimal};
+ghost use Rattle.iri_template.specs.ShownValues.{ShownValue, undefined, string, optional, list, pairs};
+ghost use Rattle.iri_template.specs.Events.{telling, pair_text};
 ghost use Rattle.iri_template.specs.Visits.{Visits};
 ghost use Rattle.iri_template.specs.declared.visitor.Phase.TheVariants.{Fresh, Done};
 
@@ -43,8 +44,6 @@ pub fn visit_value_naive<V: Visitor, T: VisitValueNaive>(
 }
 
 impl VisitValueNaive for () {
-    ghost use Rattle.iri_template.specs.ShownValues.{undefined};
-
     ghost naive_value = { λ _. undefined };
 
     fn visit_value<V: Visitor>(&self, visitor: &mut V) -> Result<(), Stop> {
@@ -53,9 +52,6 @@ impl VisitValueNaive for () {
 }
 
 impl VisitValueNaive for u8 {
-    ghost use Rattle.std.specs.Prelude.{decimal};
-    ghost use Rattle.iri_template.specs.ShownValues.{string};
-
     ghost naive_value = { λ n. string (decimal n) };
 
     fn visit_value<V: Visitor>(&self, visitor: &mut V) -> Result<(), Stop> {
@@ -64,9 +60,6 @@ impl VisitValueNaive for u8 {
 }
 
 impl VisitValueNaive for u16 {
-    ghost use Rattle.std.specs.Prelude.{decimal};
-    ghost use Rattle.iri_template.specs.ShownValues.{string};
-
     ghost naive_value = { λ n. string (decimal n) };
 
     fn visit_value<V: Visitor>(&self, visitor: &mut V) -> Result<(), Stop> {
@@ -75,9 +68,6 @@ impl VisitValueNaive for u16 {
 }
 
 impl VisitValueNaive for u32 {
-    ghost use Rattle.std.specs.Prelude.{decimal};
-    ghost use Rattle.iri_template.specs.ShownValues.{string};
-
     ghost naive_value = { λ n. string (decimal n) };
 
     fn visit_value<V: Visitor>(&self, visitor: &mut V) -> Result<(), Stop> {
@@ -86,9 +76,6 @@ impl VisitValueNaive for u32 {
 }
 
 impl VisitValueNaive for u64 {
-    ghost use Rattle.std.specs.Prelude.{decimal};
-    ghost use Rattle.iri_template.specs.ShownValues.{string};
-
     ghost naive_value = { λ n. string (decimal n) };
 
     fn visit_value<V: Visitor>(&self, visitor: &mut V) -> Result<(), Stop> {
@@ -97,9 +84,6 @@ impl VisitValueNaive for u64 {
 }
 
 impl VisitValueNaive for u128 {
-    ghost use Rattle.std.specs.Prelude.{decimal};
-    ghost use Rattle.iri_template.specs.ShownValues.{string};
-
     ghost naive_value = { λ n. string (decimal n) };
 
     fn visit_value<V: Visitor>(&self, visitor: &mut V) -> Result<(), Stop> {
@@ -108,9 +92,6 @@ impl VisitValueNaive for u128 {
 }
 
 impl VisitValueNaive for usize {
-    ghost use Rattle.std.specs.Prelude.{decimal};
-    ghost use Rattle.iri_template.specs.ShownValues.{string};
-
     ghost naive_value = { λ n. string (decimal n) };
 
     fn visit_value<V: Visitor>(&self, visitor: &mut V) -> Result<(), Stop> {
@@ -119,9 +100,6 @@ impl VisitValueNaive for usize {
 }
 
 impl VisitValueNaive for i8 {
-    ghost use Rattle.std.specs.Fmt.{signed_decimal};
-    ghost use Rattle.iri_template.specs.ShownValues.{string};
-
     ghost naive_value = { λ n. string (signed_decimal n) };
 
     fn visit_value<V: Visitor>(&self, visitor: &mut V) -> Result<(), Stop> {
@@ -130,9 +108,6 @@ impl VisitValueNaive for i8 {
 }
 
 impl VisitValueNaive for i16 {
-    ghost use Rattle.std.specs.Fmt.{signed_decimal};
-    ghost use Rattle.iri_template.specs.ShownValues.{string};
-
     ghost naive_value = { λ n. string (signed_decimal n) };
 
     fn visit_value<V: Visitor>(&self, visitor: &mut V) -> Result<(), Stop> {
@@ -141,9 +116,6 @@ impl VisitValueNaive for i16 {
 }
 
 impl VisitValueNaive for i32 {
-    ghost use Rattle.std.specs.Fmt.{signed_decimal};
-    ghost use Rattle.iri_template.specs.ShownValues.{string};
-
     ghost naive_value = { λ n. string (signed_decimal n) };
 
     fn visit_value<V: Visitor>(&self, visitor: &mut V) -> Result<(), Stop> {
@@ -152,9 +124,6 @@ impl VisitValueNaive for i32 {
 }
 
 impl VisitValueNaive for i64 {
-    ghost use Rattle.std.specs.Fmt.{signed_decimal};
-    ghost use Rattle.iri_template.specs.ShownValues.{string};
-
     ghost naive_value = { λ n. string (signed_decimal n) };
 
     fn visit_value<V: Visitor>(&self, visitor: &mut V) -> Result<(), Stop> {
@@ -163,9 +132,6 @@ impl VisitValueNaive for i64 {
 }
 
 impl VisitValueNaive for i128 {
-    ghost use Rattle.std.specs.Fmt.{signed_decimal};
-    ghost use Rattle.iri_template.specs.ShownValues.{string};
-
     ghost naive_value = { λ n. string (signed_decimal n) };
 
     fn visit_value<V: Visitor>(&self, visitor: &mut V) -> Result<(), Stop> {
@@ -174,9 +140,6 @@ impl VisitValueNaive for i128 {
 }
 
 impl VisitValueNaive for isize {
-    ghost use Rattle.std.specs.Fmt.{signed_decimal};
-    ghost use Rattle.iri_template.specs.ShownValues.{string};
-
     ghost naive_value = { λ n. string (signed_decimal n) };
 
     fn visit_value<V: Visitor>(&self, visitor: &mut V) -> Result<(), Stop> {
@@ -185,8 +148,6 @@ impl VisitValueNaive for isize {
 }
 
 impl<'a> VisitValueNaive for &'a str {
-    ghost use Rattle.iri_template.specs.ShownValues.{string};
-
     ghost naive_value = { λ s. string s.now };
 
     fn visit_value<V: Visitor>(&self, visitor: &mut V) -> Result<(), Stop> {
@@ -195,9 +156,6 @@ impl<'a> VisitValueNaive for &'a str {
 }
 
 impl VisitValueNaive for String {
-    ghost use Rattle.std.specs.Prelude.{string_bytes};
-    ghost use Rattle.iri_template.specs.ShownValues.{string};
-
     ghost naive_value = { λ s. string (string_bytes s) };
 
     fn visit_value<V: Visitor>(&self, visitor: &mut V) -> Result<(), Stop> {
@@ -206,8 +164,6 @@ impl VisitValueNaive for String {
 }
 
 impl<T: VisitValueNaive> VisitValueNaive for Option<T> {
-    ghost use Rattle.iri_template.specs.ShownValues.{optional};
-
     ghost naive_value = { optional T.naive_value };
 
     fn visit_value<V: Visitor>(&self, visitor: &mut V) -> Result<(), Stop> {
@@ -219,9 +175,6 @@ impl<T: VisitValueNaive> VisitValueNaive for Option<T> {
 }
 
 impl<T: Show> VisitValueNaive for Vec<T> {
-    ghost use Rattle.std.specs.Prelude.{map};
-    ghost use Rattle.iri_template.specs.ShownValues.{list};
-
     ghost naive_value = { λ v. list (map T.text v.items) };
 
     fn visit_value<V: Visitor>(&self, visitor: &mut V) -> Result<(), Stop> {
@@ -230,9 +183,6 @@ impl<T: Show> VisitValueNaive for Vec<T> {
 }
 
 impl<T: Show, const N: usize> VisitValueNaive for [T; N] {
-    ghost use Rattle.std.specs.Prelude.{map};
-    ghost use Rattle.iri_template.specs.ShownValues.{list};
-
     ghost naive_value = { λ a. list (map T.text a) };
 
     fn visit_value<V: Visitor>(&self, visitor: &mut V) -> Result<(), Stop> {
@@ -241,9 +191,6 @@ impl<T: Show, const N: usize> VisitValueNaive for [T; N] {
 }
 
 impl<T: Show + Ord> VisitValueNaive for BTreeSet<T> {
-    ghost use Rattle.std.specs.Prelude.{map};
-    ghost use Rattle.iri_template.specs.ShownValues.{list};
-
     ghost naive_value = { λ s. list (map T.text s.keys) };
 
     fn visit_value<V: Visitor>(&self, visitor: &mut V) -> Result<(), Stop> {
@@ -256,10 +203,6 @@ impl<T: Show + Ord> VisitValueNaive for BTreeSet<T> {
 }
 
 impl<K: Show + Ord, T: Show> VisitValueNaive for BTreeMap<K, T> {
-    ghost use Rattle.std.specs.Prelude.{map};
-    ghost use Rattle.iri_template.specs.ShownValues.{pairs};
-    ghost use Rattle.iri_template.specs.Events.{pair_text};
-
     ghost naive_value = { λ m. pairs (map (pair_text K.text T.text) m.entries) };
 
     fn visit_value<V: Visitor>(&self, visitor: &mut V) -> Result<(), Stop> {

@@ -63,10 +63,10 @@ impl Operator {
     pub(crate) fn is_named(self) -> bool
         ensures { result ≡ (row_of self).named }
     {
-        match self {
-            Operator::PathParameter | Operator::FormQuery | Operator::FormContinuation => true,
-            _ => false,
-        }
+        matches!(
+            self,
+            Operator::PathParameter | Operator::FormQuery | Operator::FormContinuation
+        )
     }
 
     // What follows the name of an empty string.
@@ -83,9 +83,6 @@ impl Operator {
     pub(crate) fn allows_reserved(self) -> bool
         ensures { result ≡ (row_of self).allow }
     {
-        match self {
-            Operator::Reserved | Operator::Fragment => true,
-            _ => false,
-        }
+        matches!(self, Operator::Reserved | Operator::Fragment)
     }
 }

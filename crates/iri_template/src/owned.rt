@@ -1,14 +1,23 @@
 //! Owned templates.
 ghost use Rattle.std.specs.Prelude.{◌≡◌, ◌≤◌, ◌<◌, ◌+◌, ◌++◌, length, MatchResult, None, Some, IfOk, OnOk, OnErr, IsOk};
+ghost use Rattle.std.proofs.Common.{refl, rules};
+ghost use Rattle.std.specs.Cmp.{partial_equiv_from_equiv};
+ghost use Rattle.std.specs.Cmp.Rules.{hashing};
+ghost use Rattle.std.specs.Hash as fed;
 ghost use Rattle.std.specs.String.{string_bytes, string_capacity};
-ghost use Rattle.iri_owned.specs.OwnedText.{owned_text};
+ghost use Rattle.iri_owned.specs.Laws.{text_eq_equiv, text_cmp_total, text_ties, text_po};
+ghost use Rattle.iri_owned.specs.OwnedText.{owned_text, text_eq, text_cmp};
 ghost use Rattle.iri_template.specs.Fault.{text_fault, template_fault};
 ghost use Rattle.iri_template.specs.Refusals.{RefusedFor};
 ghost use Rattle.iri_template.specs.Texts.{text};
 
 use crate::creation::{CreateTemplateError, CreationError};
-use crate::template::{UriTemplateStr, validate};
+use crate::template::UriTemplateStr;
+use iri_text::{FormatSink, Show, Stop, TextSink};
 use std::alloc::{AllocError, Global};
+use std::cmp::Ordering;
+use std::fmt;
+use std::hash::{Hash, Hasher};
 use std::marker::Model;
 
 /// A URI template, owned (RFC 6570 section 2). It is seen as its UTF-8 bytes and its capacity. Templates are equal,
@@ -62,12 +71,8 @@ impl UriTemplateString {
     pub fn try_from_str(alloc: Global, s: &str) -> Result<Self, CreateTemplateError>
         ensures { MatchResult result (λ t. t.text ≡ s.now) (λ e. RefusedFor e (text_fault s.now)) }
     {
-        match UriTemplateStr::new(s) {
-            Ok(view) => UriTemplateString::from_view(alloc, view).map_err(
-                CreateTemplateError::Memory,
-            ),
-            Err(error) => Err(CreateTemplateError::Invalid(error)),
-        }
+        let view = UriTemplateStr::new(s).map_err(CreateTemplateError::Invalid)?;
+        UriTemplateString::from_view(alloc, view).map_err(CreateTemplateError::Memory)
     }
 
     /// A copy of bytes that are the UTF-8 of a template.
@@ -80,12 +85,8 @@ impl UriTemplateString {
     pub fn try_from_bytes(alloc: Global, b: &[u8]) -> Result<Self, CreateTemplateError>
         ensures { MatchResult result (λ t. t.text ≡ b.now) (λ e. RefusedFor e (template_fault b.now)) }
     {
-        match UriTemplateStr::try_from_bytes(b) {
-            Ok(view) => UriTemplateString::from_view(alloc, view).map_err(
-                CreateTemplateError::Memory,
-            ),
-            Err(error) => Err(CreateTemplateError::Invalid(error)),
-        }
+        let view = UriTemplateStr::try_from_bytes(b).map_err(CreateTemplateError::Invalid)?;
+        UriTemplateString::from_view(alloc, view).map_err(CreateTemplateError::Memory)
     }
 
     /// A string whose text is a template. It takes no memory.
@@ -97,8 +98,8 @@ impl UriTemplateString {
         ensures { MatchResult result (λ t. t ≡ owned_text s)
             (λ e. (e.source ≡ s) × (text_fault (string_bytes s) ≡ Some e.error)) }
     {
-        match validate(s.as_str()) {
-            Ok(()) => Ok(UriTemplateString { text: s }),
+        match UriTemplateStr::new(s.as_str()) {
+            Ok(_) => Ok(UriTemplateString { text: s }),
             Err(error) => Err(CreationError { source: s, error }),
         }
     }
@@ -184,5 +185,69 @@ impl UriTemplateString {
         ensures { IfOk result (λ t. t.text ≡ self.now.text) }
     {
         UriTemplateString::from_view(alloc, self.as_slice())
+    }
+}
+
+impl PartialEq for UriTemplateString {
+    ghost eq = { text_eq };
+
+    ghost laws = { partial_equiv_from_equiv text_eq_equiv };
+
+    fn eq(&self, other: &Self) -> bool {
+        self.as_str() == other.as_str()
+    }
+}
+
+impl Eq for UriTemplateString {
+    ghost laws = { text_eq_equiv };
+}
+
+impl PartialOrd for UriTemplateString {
+    ghost partial_cmp = { λ x y. Some (text_cmp x y) };
+
+    ghost laws = { text_po };
+
+    fn partial_cmp(&self, other: &Self) -> Option<Ordering> {
+        Some(self.cmp(other))
+    }
+}
+
+impl Ord for UriTemplateString {
+    ghost cmp = { text_cmp };
+
+    ghost total = { text_cmp_total };
+
+    ghost matches_partial_cmp = { λ x y. refl };
+
+    ghost matches_eq = { text_ties };
+
+    fn cmp(&self, other: &Self) -> Ordering {
+        self.as_str().cmp(other.as_str())
+    }
+}
+
+impl Hash for UriTemplateString {
+    ghost hash_input = { λ t. fed.str t.text };
+
+    ghost respects_eq = { Prim.search (hashing, rules) };
+
+    fn hash<H: Hasher>(&self, state: &mut H) {
+        self.as_str().hash(state);
+    }
+}
+
+impl Show for UriTemplateString {
+    ghost text = { λ t. t.text };
+
+    fn show<W: TextSink>(&self, sink: &mut W) -> Result<(), Stop> {
+        sink.put(self.as_str())
+    }
+}
+
+impl fmt::Display for UriTemplateString {
+    ghost output = { λ t. Some t.text };
+
+    fn fmt<W: fmt::Write>(&self, f: &mut fmt::Formatter<W>) -> fmt::Result {
+        FormatSink::new(f).display(self)
     }
 }

@@ -113,14 +113,8 @@ fn past_literal(s: &str) -> &str
 {
     let mut chars = s.chars();
     match chars.next() {
-        Some(c) => {
-            if is_any_char::<IriSpec>(c) {
-                chars.as_str()
-            } else {
-                s
-            }
-        }
-        None => s,
+        Some(c) if is_any_char::<IriSpec>(c) => chars.as_str(),
+        _ => s,
     }
 }
 

@@ -1,7 +1,12 @@
-//! The bytes that a sink holds back: `%` and hex digits, of which the next may make a character with them, twelve at most.
-ghost use Rattle.std.specs.Prelude.{◌≡◌, ◌<◌, ◌≤◌, ◌++◌, ◌∷◌, [], length, take, drop};
+//! The bytes that a sink holds back: `%` and hex digits, of which the next may make a character with them, twelve at most; and
+//! the unit at their start.
+ghost use Rattle.std.specs.Prelude.{◌≡◌, ◌<◌, ◌≤◌, ◌++◌, ◌∷◌, [], length, take, drop, ◌||◌, true, nat_le, MatchOption};
 ghost use Rattle.std.specs.Str.{IsAscii};
+ghost use Rattle.iri_template.specs.inside.UnitSteps.{begins_triplet, is_closed};
+ghost use Rattle.iri_template.specs.inside.UnitViews.{IsUnit, TellsNone};
 
+use iri_grammar::spec::Spec;
+use iri_percent::character::triplets_char;
 use std::marker::Model;
 
 // They are seen as the list of their bytes.
@@ -68,5 +73,88 @@ impl Pending {
     {
         self.buf.copy_within(n..self.len, 0);
         self.len -= n;
+    }
+}
+
+// A unit: how many bytes it has, and whether it stands as it is or is encoded.
+#[derive(Clone, Copy)]
+pub(crate) struct FirstUnit {
+    pub(crate) len: usize,
+    pub(crate) stands: bool,
+}
+
+pub(crate) fn begins_triplet(t: &[u8]) -> bool
+    ensures { result ≡ begins_triplet t.now }
+{
+    match t {
+        [b'%', a, b, ..] => a.is_ascii_hexdigit() && b.is_ascii_hexdigit(),
+        _ => false,
+    }
+}
+
+// Whether the percent-encoded octets at the start end within the text.
+fn is_closed(t: &[u8]) -> bool
+    ensures { result ≡ is_closed t.now }
+{
+    let mut rest = t;
+    'triplets: while begins_triplet(rest) {
+        rest = &rest[3..];
+    }
+    match rest {
+        [] => false,
+        [b] => *b != b'%',
+        [b, a] => !(*b == b'%' && a.is_ascii_hexdigit()),
+        _ => true,
+    }
+}
+
+// Whether no more percent-encoded octets may belong to those at the start.
+fn is_settled(t: &[u8], end: bool) -> bool
+    ensures { result ≡ (end || (nat_le 12 (length t.now) || is_closed t.now)) }
+{
+    end || t.len() >= 12 || is_closed(t)
+}
+
+// A percent-encoded octet at the start, or the percent-encoded octets of a character; none where more may follow.
+fn first_triplets<S: Spec>(t: &[u8], end: bool) -> Option<FirstUnit>
+    requires { begins_triplet t.now ≡ true }
+    ensures { MatchOption result (TellsNone end t.now) (λ u. IsUnit S.tests end t.now u.len u.stands) }
+{
+    match triplets_char(t) {
+        Some(c) => Some(FirstUnit {
+            len: 3 * c.len_utf8(),
+            stands: true,
+        }),
+        None => {
+            if is_settled(t, end) {
+                Some(FirstUnit {
+                    len: 3,
+                    stands: true,
+                })
+            } else {
+                None
+            }
+        }
+    }
+}
+
+// The unit at the start; none where the text is empty, or where more may follow that changes it.
+pub(crate) fn first_unit<S: Spec>(t: &[u8], end: bool) -> Option<FirstUnit>
+    requires { IsAscii t.now }
+    ensures { MatchOption result (TellsNone end t.now) (λ u. IsUnit S.tests end t.now u.len u.stands) }
+{
+    if begins_triplet(t) {
+        return first_triplets::<S>(t, end);
+    }
+    if t.is_empty() {
+        return None;
+    }
+    if is_settled(t, end) {
+        Some(FirstUnit {
+            len: 1,
+            stands: false,
+        })
+    } else {
+        None
     }
 }

@@ -3,7 +3,7 @@ ghost use Rattle.std.specs.Prelude.{◌≡◌, ℕ, List, None, cond, ◌&&◌, 
 ghost use Rattle.std.specs.String.{string_bytes};
 ghost use Rattle.std.specs.Str.{bytes_eq};
 ghost use Rattle.iri_template.specs.Names.{is_varname};
-ghost use Rattle.iri_template.specs.Contexts.{value_at, is_undefined, kept};
+ghost use Rattle.iri_template.specs.Contexts.{value_at, is_undefined, kept, value_in};
 
 use crate::context::Context;
 use crate::naive::VisitValueNaive;
@@ -41,12 +41,7 @@ pub struct InsertError {
 fn is_undefined(value: &Value) -> bool
     ensures { result ≡ is_undefined value.now }
 {
-    match value {
-        Value::Undefined => true,
-        Value::String(_) => false,
-        Value::List(_) => false,
-        Value::Assoc(_) => false,
-    }
+    matches!(value, Value::Undefined)
 }
 
 impl SimpleContext {
@@ -107,8 +102,6 @@ impl SimpleContext {
 }
 
 impl Context for SimpleContext {
-    ghost use Rattle.iri_template.specs.Contexts.{value_in};
-
     ghost value_of = { value_in };
 
     fn visit<V: Visitor>(&self, visitor: &mut V) -> Result<(), Stop> {

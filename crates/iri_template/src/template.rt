@@ -3,48 +3,24 @@ ghost use Rattle.std.specs.Prelude.{◌≡◌, ◌≤◌, ◌==◌, ◌+◌, ◌
 ghost use Rattle.iri_template.specs.Fault.{Answers, text_fault, template_fault};
 ghost use Rattle.iri_template.specs.Portions.{portions};
 ghost use Rattle.iri_template.specs.Reading.{pieces_of};
-ghost use Rattle.iri_template.specs.Tells.{WhereTold, MovesBy, Raises, EndsOnce, later};
+ghost use Rattle.iri_template.specs.Tells.{WhereTold, MovesBy, Raises, later};
 ghost use Rattle.iri_template.specs.Template.{names_of};
 ghost use Rattle.iri_template.specs.TypeFaults.{type_fault};
 ghost use Rattle.iri_template.specs.Variables.{names_left};
 ghost use Rattle.iri_template.specs.Writings.{EndsAs, HasCause, CallsUpTo, IsString, IsOfString};
 
-use crate::context::Context;
+use crate::context::{Context, NoValues};
 use crate::dynamic_context::DynamicContext;
 use crate::error::{Error, ErrorKind};
 use crate::expanded::Expanded;
 use crate::expansion_writer::write_expansion;
 use crate::fault::find_fault;
-use crate::no_values::NoValues;
 use crate::variables::UriTemplateVariables;
 use iri_grammar::spec::Spec;
 use iri_text::{FormatSink, Show, Stop, StringSink, TextSink};
 use std::alloc::{AllocError, Global};
 use std::marker::PhantomData;
 use std::{fmt, str};
-
-// Whether the text is a template: otherwise its first fault.
-pub(crate) fn validate(s: &str) -> Result<(), Error>
-    ensures { Answers result (text_fault s.now) }
-{
-    match find_fault(&NoValues, s) {
-        None => Ok(()),
-        Some(error) => Err(error),
-    }
-}
-
-// Ends an expansion that came out like this.
-fn end_expansion<C: DynamicContext>(
-    context: &mut C,
-    outcome: Result<(), Error>,
-) -> Result<(), Error>
-    ensures same { result ≡ outcome }
-    ensures end { EndsOnce (C.tells context.old) (C.tells context.new) (C.starts context.old) (C.starts context.new)
-        (C.ends context.old) (C.ends context.new) }
-{
-    context.on_expansion_end();
-    outcome
-}
 
 /// A URI template, borrowed (RFC 6570 section 2). It is as small as a `&str`. Templates are equal, ordered and hashed
 /// as their texts.
@@ -90,13 +66,14 @@ impl<'a> UriTemplateStr<'a> {
     /// let error = UriTemplateStr::new("/a/{b").err().ok_or("a fault")?;
     /// assert_eq!(rt; error.location(), 3);
     /// ```
+    #[tactic(auto, using(crate::proofs::VarSpecWalk::untold_fault))]
     pub fn new(s: &'a str) -> Result<Self, Error>
         ensures fault { Answers result (text_fault s.now) }
         ensures text { IfOk result (λ v. text v ≡ s.now) }
     {
-        match validate(s) {
-            Ok(()) => Ok(UriTemplateStr { text: s }),
-            Err(error) => Err(error),
+        match find_fault(&NoValues, s) {
+            None => Ok(UriTemplateStr { text: s }),
+            Some(error) => Err(error),
         }
     }
 
@@ -221,7 +198,8 @@ impl<'a> UriTemplateStr<'a> {
     {
         context.on_expansion_start();
         let result = write_expansion::<C, S, W>(writer, context, self.text);
-        end_expansion(context, result)
+        context.on_expansion_end();
+        result
     }
 
     /// That expansion as a string.

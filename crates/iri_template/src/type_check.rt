@@ -1,6 +1,7 @@
 //! A visitor that learns whether a value has members.
 ghost use Rattle.std.specs.Prelude.{◌≡◌, false};
 ghost use Rattle.iri_template.specs.ShownValues.{has_members};
+ghost use Rattle.iri_template.specs.inside.TypeHears.{TypeHears, TypeHalts, type_rules};
 ghost use Rattle.iri_template.specs.declared.visitor.VisitPurpose.TheVariants.{Typecheck};
 ghost use Rattle.iri_template.specs.declared.visitor.Phase.TheVariants.{Fresh};
 
@@ -33,9 +34,6 @@ impl<'a> TypeCheck<'a> {
 }
 
 impl<'a> Visitor for TypeCheck<'a> {
-    ghost use Rattle.iri_template.specs.declared.visitor.VisitPurpose.TheVariants.{Typecheck};
-    ghost use Rattle.iri_template.specs.inside.TypeHears.{TypeHears, TypeHalts, type_rules};
-
     ghost name = { λ v. v.name.text.now };
 
     ghost aim = { λ v. Typecheck };

@@ -13,13 +13,49 @@ ghost use Rattle.iri_template.specs.inside.UnitSteps.{is_part, told_units, left_
 ghost use Rattle.iri_template.specs.inside.UnitSteps.{is_used_up, unit_step, unit_step_text, written_units};
 ghost use Rattle.iri_template.specs.inside.UnitViews.{unit_as};
 
-use crate::first_unit::first_unit;
-use crate::pending::Pending;
-use crate::unit_sink::UnitSink;
+use crate::pending::{Pending, first_unit};
 use iri_grammar::cutting::{cut_before, lacks};
 use iri_grammar::spec::Spec;
 use iri_percent::PercentEncoded;
 use iri_text::{Show, Stop, TextSink};
+use std::marker::PhantomData;
+
+// The units that are still to come: what is held back of them, and how many may be written, where not all may.
+#[derive(Drop)]
+pub(crate) struct Units {
+    pub(crate) pending: Pending,
+    pub(crate) left: Option<u16>,
+}
+
+// Encodes what is put, but for reserved characters and percent-encoded octets, and writes it, or its first units, to another
+// sink.
+#[derive(Drop)]
+pub(crate) struct UnitSink<'s, S, W> {
+    pub(crate) to: &'s mut W,
+    pub(crate) state: Units,
+    spec: PhantomData<S>,
+    pub ghost short: { length state.pending ≤ 11 },
+}
+
+impl<'s, S, W> UnitSink<'s, S, W> {
+    // So many units, or all, go to this sink.
+    pub(crate) fn new(to: &'s mut W, prefix: Option<u16>) -> UnitSink<'s, S, W>
+        ensures same { result.to.ghost_name ≡ to.entry.ghost_name }
+        ensures now { result.to.now ≡ to.old }
+        ensures pending { result.state.pending ≡ [] }
+        ensures left { result.state.left ≡ prefix }
+    {
+        let state = Units {
+            pending: Pending::new(),
+            left: prefix,
+        };
+        UnitSink {
+            to,
+            state,
+            spec: PhantomData,
+        }
+    }
+}
 
 #[tactic(auto, using(std::proofs::lemmas::Bool::Decides::nat_tests))]
 fn is_part(c: char) -> bool
@@ -32,22 +68,21 @@ fn is_part(c: char) -> bool
 pub(crate) fn is_used_up(left: Option<u16>) -> bool
     ensures { result ≡ is_used_up left }
 {
-    match left {
-        Some(n) => n == 0,
-        None => false,
-    }
+    matches!(left, Some(0))
 }
 
 fn one_fewer(left: Option<u16>) -> Option<u16>
     ensures { result ≡ fewer left 1 }
 {
-    match left {
-        Some(n) => Some(n.saturating_sub(1)),
-        None => None,
-    }
+    left.map(|n| n.saturating_sub(1))
 }
 
-fn put_as<S: Spec, W: TextSink>(sink: &mut W, text: &str, stands: bool) -> Result<(), Stop>
+// Writes a text as it stands, or so that a reference of `S` can hold it.
+pub(crate) fn put_as<S: Spec, W: TextSink>(
+    sink: &mut W,
+    text: &str,
+    stands: bool,
+) -> Result<(), Stop>
     ensures { Shows W.puts W.halts W.stops sink.old (unit_as S.tests stands text.now) sink.new result }
 {
     if stands {
@@ -75,30 +110,31 @@ fn put_unit<S: Spec, W: TextSink>(
 }
 
 // Writes the units that are settled, or all, and holds the rest back.
-fn drain<S: Spec, W: TextSink>(
-    sink: &mut W,
-    pending: &mut Pending,
-    left: &mut Option<u16>,
-    end: bool,
-) -> Result<(), Stop>
+fn drain<S: Spec, W: TextSink>(sink: &mut W, state: &mut Units, end: bool) -> Result<(), Stop>
     ensures shows { Shows W.puts W.halts W.stops sink.old
-        (written_units S.tests left.old (told_units end 12 pending.old)) sink.new result }
-    ensures pending { OnOk result (pending.new ≡ left_over end 12 pending.old) }
-    ensures left { OnOk result (left.new ≡ fewer left.old (length (told_units end 12 pending.old))) }
-    ensures cleared { OnErr result (pending.new ≡ []) }
+        (written_units S.tests state.old.left (told_units end 12 state.old.pending)) sink.new result }
+    ensures pending { OnOk result (state.new.pending ≡ left_over end 12 state.old.pending) }
+    ensures left { OnOk result (state.new.left
+        ≡ fewer state.old.left (length (told_units end 12 state.old.pending))) }
+    ensures cleared { OnErr result (state.new.pending ≡ []) }
 {
     let mut told = 0u8;
     'units: while told < 12 {
-        match first_unit::<S>(pending.as_bytes(), end) {
+        match first_unit::<S>(state.pending.as_bytes(), end) {
             Some(unit) => {
-                match put_unit::<S, W>(sink, *left, pending.start(unit.len), unit.stands) {
+                match put_unit::<S, W>(
+                    sink,
+                    state.left,
+                    state.pending.start(unit.len),
+                    unit.stands,
+                ) {
                     Ok(()) => {
-                        pending.drop_start(unit.len);
-                        *left = one_fewer(*left);
+                        state.pending.drop_start(unit.len);
+                        state.left = one_fewer(state.left);
                         told += 1;
                     }
                     Err(stop) => {
-                        pending.clear();
+                        state.pending.clear();
                         return Err(stop);
                     }
                 }
@@ -120,67 +156,50 @@ fn put_plain<S: Spec, W: TextSink>(
     ensures left { OnOk result (left.new ≡ fewer left.old 1) }
 {
     let mut buf = [0u8; 4];
-    match put_unit::<S, W>(sink, *left, c.encode_utf8(&mut buf), false) {
-        Ok(()) => {
-            *left = one_fewer(*left);
-            Ok(())
-        }
-        Err(stop) => Err(stop),
-    }
+    let result = put_unit::<S, W>(sink, *left, c.encode_utf8(&mut buf), false);
+    *left = one_fewer(*left);
+    result
 }
 
 // Writes what a character settles.
-fn put_char<S: Spec, W: TextSink>(
-    sink: &mut W,
-    pending: &mut Pending,
-    left: &mut Option<u16>,
-    c: char,
-) -> Result<(), Stop>
-    requires { length pending.old ≤ 11 }
-    ensures shows { Shows W.puts W.halts W.stops sink.old
-        (unit_step_text S.tests (record { pending = pending.old; left = left.old }) c) sink.new result }
-    ensures pending { OnOk result (pending.new ≡ step_pending pending.old c) }
-    ensures left { OnOk result (left.new ≡ fewer left.old (length (step_units pending.old c))) }
-    ensures short { length pending.new ≤ 11 }
+fn put_char<S: Spec, W: TextSink>(sink: &mut W, state: &mut Units, c: char) -> Result<(), Stop>
+    requires { length state.old.pending ≤ 11 }
+    ensures shows { Shows W.puts W.halts W.stops sink.old (unit_step_text S.tests state.old c) sink.new result }
+    ensures pending { OnOk result (state.new.pending ≡ step_pending state.old.pending c) }
+    ensures left { OnOk result (state.new.left ≡ fewer state.old.left (length (step_units state.old.pending c))) }
+    ensures short { length state.new.pending ≤ 11 }
 {
     if is_part(c) {
-        pending.push(c as u8);
-        return drain::<S, W>(sink, pending, left, false);
+        state.pending.push(c as u8);
+        return drain::<S, W>(sink, state, false);
     }
-    match drain::<S, W>(sink, pending, left, true) {
-        Ok(()) => put_plain::<S, W>(sink, left, c),
+    match drain::<S, W>(sink, state, true) {
+        Ok(()) => put_plain::<S, W>(sink, &mut state.left, c),
         Err(stop) => Err(stop),
     }
 }
 
-fn put_chars<S: Spec, W: TextSink>(
-    sink: &mut W,
-    pending: &mut Pending,
-    left: &mut Option<u16>,
-    text: &str,
-) -> Result<(), Stop>
-    requires { length pending.old ≤ 11 }
+fn put_chars<S: Spec, W: TextSink>(sink: &mut W, state: &mut Units, text: &str) -> Result<(), Stop>
+    requires { length state.old.pending ≤ 11 }
     ensures shows { Shows W.puts W.halts W.stops sink.old
-        (texts unit_step (unit_step_text S.tests) (record { pending = pending.old; left = left.old })
-        (chars text.now)) sink.new result }
-    ensures state { OnOk result (record { pending = pending.new; left = left.new }
-        ≡ after unit_step (unit_step_text S.tests) (record { pending = pending.old; left = left.old }) (chars text.now)) }
-    ensures short { length pending.new ≤ 11 }
+        (texts unit_step (unit_step_text S.tests) state.old (chars text.now)) sink.new result }
+    ensures goes_on { OnOk result (state.new ≡ after unit_step (unit_step_text S.tests) state.old (chars text.now)) }
+    ensures short { length state.new.pending ≤ 11 }
 {
     for c in text.chars() {
-        if is_used_up(*left) {
+        if is_used_up(state.left) {
             return Ok(());
         }
-        put_char::<S, W>(sink, pending, left, c)?;
+        put_char::<S, W>(sink, state, c)?;
     }
     Ok(())
 }
 
 // Whether a text without `%` is written whole, each of its characters a unit.
-fn is_plain(pending: &Pending, left: Option<u16>) -> bool
-    ensures { OnTrue result ((pending.now ≡ []) × (left ≡ None)) }
+fn is_plain(state: &Units) -> bool
+    ensures { OnTrue result ((state.now.pending ≡ []) × (state.now.left ≡ None)) }
 {
-    pending.as_bytes().is_empty() && left.is_none()
+    state.pending.as_bytes().is_empty() && state.left.is_none()
 }
 
 // The first character, and what follows.
@@ -188,13 +207,9 @@ fn cut_char(text: &str) -> Option<(&str, &str)>
     ensures { MatchOption result (length text.now ≡ 0) (λ p. IsCut text.now p.0.now p.1.now) }
 {
     let mut chars = text.chars();
-    match chars.next() {
-        Some(_) => {
-            let rest = chars.as_str();
-            Some((&text[..text.len() - rest.len()], rest))
-        }
-        None => None,
-    }
+    chars.next()?;
+    let rest = chars.as_str();
+    Some((&text[..text.len() - rest.len()], rest))
 }
 
 // What is written next, and what follows: a character, and in a plain state the run before the next `%`.
@@ -210,49 +225,35 @@ fn next_piece(text: &str, plain: bool) -> Option<(&str, &str)>
     cut_char(text)
 }
 
-fn put_piece<S: Spec, W: TextSink>(
-    sink: &mut W,
-    pending: &mut Pending,
-    left: &mut Option<u16>,
-    piece: &str,
-) -> Result<(), Stop>
-    requires { length pending.old ≤ 11 }
+fn put_piece<S: Spec, W: TextSink>(sink: &mut W, state: &mut Units, piece: &str) -> Result<(), Stop>
+    requires { length state.old.pending ≤ 11 }
     ensures shows { Shows W.puts W.halts W.stops sink.old
-        (texts unit_step (unit_step_text S.tests) (record { pending = pending.old; left = left.old })
-        (chars piece.now)) sink.new result }
-    ensures state { OnOk result (record { pending = pending.new; left = left.new }
-        ≡ after unit_step (unit_step_text S.tests) (record { pending = pending.old; left = left.old }) (chars piece.now)) }
-    ensures short { length pending.new ≤ 11 }
+        (texts unit_step (unit_step_text S.tests) state.old (chars piece.now)) sink.new result }
+    ensures goes_on { OnOk result (state.new ≡ after unit_step (unit_step_text S.tests) state.old (chars piece.now)) }
+    ensures short { length state.new.pending ≤ 11 }
 {
-    if is_plain(pending, *left) && lacks(piece, b'%') {
+    if is_plain(state) && lacks(piece, b'%') {
         put_as::<S, W>(sink, piece, false)
     } else {
-        put_chars::<S, W>(sink, pending, left, piece)
+        put_chars::<S, W>(sink, state, piece)
     }
 }
 
 // Writes what a text settles: runs without `%` as one, as long as nothing is pending and all units are written. After the last unit
 // that may be written, the text isn't looked at.
-fn put_text<S: Spec, W: TextSink>(
-    sink: &mut W,
-    pending: &mut Pending,
-    left: &mut Option<u16>,
-    text: &str,
-) -> Result<(), Stop>
-    requires { length pending.old ≤ 11 }
+fn put_text<S: Spec, W: TextSink>(sink: &mut W, state: &mut Units, text: &str) -> Result<(), Stop>
+    requires { length state.old.pending ≤ 11 }
     ensures shows { Shows W.puts W.halts W.stops sink.old
-        (texts unit_step (unit_step_text S.tests) (record { pending = pending.old; left = left.old })
-        (chars text.now)) sink.new result }
-    ensures state { OnOk result (record { pending = pending.new; left = left.new }
-        ≡ after unit_step (unit_step_text S.tests) (record { pending = pending.old; left = left.old }) (chars text.now)) }
-    ensures short { length pending.new ≤ 11 }
+        (texts unit_step (unit_step_text S.tests) state.old (chars text.now)) sink.new result }
+    ensures goes_on { OnOk result (state.new ≡ after unit_step (unit_step_text S.tests) state.old (chars text.now)) }
+    ensures short { length state.new.pending ≤ 11 }
 {
-    if left.is_some() {
-        return put_chars::<S, W>(sink, pending, left, text);
+    if state.left.is_some() {
+        return put_chars::<S, W>(sink, state, text);
     }
     let mut rest = text;
-    'pieces: while let Some((piece, following)) = next_piece(rest, is_plain(pending, *left)) {
-        put_piece::<S, W>(sink, pending, left, piece)?;
+    'pieces: while let Some((piece, following)) = next_piece(rest, is_plain(state)) {
+        put_piece::<S, W>(sink, state, piece)?;
         rest = following;
     }
     Ok(())
@@ -270,7 +271,7 @@ impl<'s, S: Spec, W: TextSink> TextSink for UnitSink<'s, S, W> {
     ghost rules = { unit_rules S.tests W.rules };
 
     fn put(&mut self, piece: &str) -> Result<(), Stop> {
-        put_text::<S, W>(&mut *self.to, &mut self.pending, &mut self.left, piece)
+        put_text::<S, W>(&mut *self.to, &mut self.state, piece)
     }
 }
 
@@ -279,13 +280,13 @@ fn show_units<T: Show, S: Spec, W: TextSink>(
     units: &mut UnitSink<S, W>,
     value: &T,
 ) -> Result<(), Stop>
-    requires { units.old.pending ≡ [] }
+    requires { units.old.state.pending ≡ [] }
     ensures shows { Shows W.puts W.halts W.stops units.old.to.now
-        (written_units S.tests units.old.left (text_units (T.text value.now))) units.new.to.now result }
+        (written_units S.tests units.old.state.left (text_units (T.text value.now))) units.new.to.now result }
     ensures same { units.new.to.ghost_name ≡ units.old.to.ghost_name }
 {
     match value.show(units) {
-        Ok(()) => drain::<S, W>(&mut *units.to, &mut units.pending, &mut units.left, true),
+        Ok(()) => drain::<S, W>(&mut *units.to, &mut units.state, true),
         Err(stop) => Err(stop),
     }
 }

@@ -54,10 +54,7 @@ impl TextList {
         ensures same { OnErr result (self.new ≡ self.old) }
         ensures handed_back { IfErr result (λ s. s ≡ item) }
     {
-        match self.items.push(item) {
-            Ok(()) => Ok(()),
-            Err(refused) => Err(refused.value),
-        }
+        self.items.push(item).map_err(|refused| refused.value)
     }
 
     /// How many items there are.
@@ -71,10 +68,7 @@ impl TextList {
     pub fn get(&self, i: usize) -> Option<&str>
         ensures { now_of result ≡ slice_get self.now i }
     {
-        match self.items.get(i) {
-            Some(item) => Some(item.as_str()),
-            None => None,
-        }
+        self.items.get(i).map(|item| item.as_str())
     }
 
     fn as_slice(&self) -> &[String]
@@ -128,10 +122,9 @@ impl PairList {
         ensures same { OnErr result (self.new ≡ self.old) }
         ensures handed_back { IfErr result (λ p. (p.0 ≡ key) × (p.1 ≡ value)) }
     {
-        match self.pairs.push((key, value)) {
-            Ok(()) => Ok(()),
-            Err(refused) => Err(refused.value),
-        }
+        self.pairs
+            .push((key, value))
+            .map_err(|refused| refused.value)
     }
 
     /// How many pairs there are.
@@ -145,10 +138,9 @@ impl PairList {
     pub fn get(&self, i: usize) -> Option<(&str, &str)>
         ensures { lent_pair result ≡ slice_get self.now i }
     {
-        match self.pairs.get(i) {
-            Some(pair) => Some((pair.0.as_str(), pair.1.as_str())),
-            None => None,
-        }
+        self.pairs
+            .get(i)
+            .map(|pair| (pair.0.as_str(), pair.1.as_str()))
     }
 
     fn as_slice(&self) -> &[(String, String)]

@@ -1,10 +1,11 @@
 //! The names of variables (RFC 6570 section 2.3).
-ghost use Rattle.std.specs.Prelude.{◌≡◌, true, IfOk};
+ghost use Rattle.std.specs.Prelude.{◌≡◌, ◌<◌, ◌==◌, true, length, IfOk, MatchOption};
 ghost use Rattle.iri_grammar.specs.Over.{over};
 ghost use Rattle.iri_template.specs.Names.{is_varname, is_name_char};
 ghost use Rattle.iri_template.specs.Fault.{Answers, name_fault};
 
 use crate::error::{Error, ErrorKind};
+use crate::pending::begins_triplet;
 use std::alloc::AllocError;
 
 /// The name of a variable (RFC 6570 section 2.3): letters, digits, `_`, percent-encoded octets and dots, of which no
@@ -66,25 +67,29 @@ fn is_name_byte(b: u8) -> bool
     b.is_ascii_alphanumeric() || b == b'_' || b == b'.'
 }
 
+// What follows the character of names or the percent-encoded octet at the start; none where neither stands there.
+fn past_unit(t: &[u8]) -> Option<&[u8]>
+    ensures { MatchOption result (over is_name_char t.now ≡ (length t.now == 0))
+        (λ r. (over is_name_char r.now ≡ over is_name_char t.now) × (length r.now < length t.now)) }
+{
+    if begins_triplet(t) {
+        return Some(&t[3..]);
+    }
+    match t.split_first() {
+        Some((b, rest)) => { if is_name_byte(*b) { Some(rest) } else { None } }
+        None => None,
+    }
+}
+
 // Whether the bytes are a name's characters and percent-encoded octets.
 fn is_over_name(bytes: &[u8]) -> bool
     ensures { result ≡ over is_name_char bytes.now }
 {
-    // How many hex digits of a percent-encoded octet are still to come.
-    let mut due = 0u8;
-    for b in bytes {
-        if due > 0 {
-            if !b.is_ascii_hexdigit() {
-                return false;
-            }
-            due -= 1;
-        } else if *b == b'%' {
-            due = 2;
-        } else if !is_name_byte(*b) {
-            return false;
-        }
+    let mut rest = bytes;
+    'units: while let Some(next) = past_unit(rest) {
+        rest = next;
     }
-    due == 0
+    rest.is_empty()
 }
 
 // Whether the bytes are a name.

@@ -8,7 +8,7 @@ ghost use Rattle.iri_template.specs.Left.{names_among, varspecs_left, IsTaken, A
 
 use crate::part::{Part, read_part};
 use crate::var_name::VarName;
-use crate::variable_list::read_first;
+use crate::varspec::read_first;
 use std::alloc::AllocError;
 
 /// The names of a template's variables, from left to right, each as often as it stands there.
@@ -55,8 +55,7 @@ fn varspecs_within(part: Part<'_>) -> Option<&str>
 {
     match part {
         Part::Expression(expression) => Some(expression.varspecs),
-        Part::Literals(_) => None,
-        Part::Triplet(_) => None,
+        _ => None,
     }
 }
 
@@ -89,12 +88,9 @@ fn take_name(varspecs: Option<&str>) -> Option<(VarName<'_>, Option<&str>)>
     ensures { MatchOption result (varspecs_left varspecs.entry ≡ [])
         (λ p. IsTaken p.0.text.now (varspecs_left varspecs.entry) (varspecs_left p.1)) }
 {
-    match varspecs {
-        Some(varspecs) => match read_first(varspecs, 0) {
-            Ok((varspec, others)) => Some((varspec.name, others)),
-            Err(_) => None,
-        },
-        None => None,
+    match read_first(varspecs?, 0) {
+        Ok((varspec, others)) => Some((varspec.name, others)),
+        Err(_) => None,
     }
 }
 

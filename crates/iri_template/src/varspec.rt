@@ -1,7 +1,9 @@
 //! Varspecs: a variable's name and a modifier (RFC 6570 sections 2.3 and 2.4).
 ghost use Rattle.std.specs.Prelude.{◌≡◌, ◌≤◌, ◌<◌, ◌+◌, ◌^◌, true, length, slice_index, take, drop, MatchResult, IfOk};
 ghost use Rattle.std.specs.Prelude.{Some, None};
+ghost use Rattle.iri_grammar.specs.Cut.{before, after};
 ghost use Rattle.iri_grammar.specs.Delimiters.{from_any};
+ghost use Rattle.iri_grammar.specs.OptionalSlices.{now_of};
 ghost use Rattle.iri_template.specs.Reading.{ends_name, name_of, modifier_of, varspec_of};
 ghost use Rattle.iri_template.specs.Fault.{Answers, moved, max_length_fault, modifier_fault, varspec_fault};
 ghost use Rattle.iri_template.specs.VarSpecs.{number_of, held, IsHeld};
@@ -9,6 +11,7 @@ ghost use Rattle.iri_template.specs.inside.Written.{explodes, prefix_of};
 
 use crate::error::{Error, ErrorKind};
 use crate::var_name::VarName;
+use iri_grammar::cutting::cut;
 
 // How much of a value is meant (RFC 6570 section 2.4).
 #[derive(Clone, Copy, Debug, PartialEq, Eq)]
@@ -26,11 +29,7 @@ impl Modifier {
     pub(crate) fn explodes(self) -> bool
         ensures { result ≡ explodes self }
     {
-        match self {
-            Modifier::Explode => true,
-            Modifier::Whole => false,
-            Modifier::Prefix(_) => false,
-        }
+        matches!(self, Modifier::Explode)
     }
 
     // How many characters or units of a string are meant, where a prefix stands.
@@ -39,8 +38,7 @@ impl Modifier {
     {
         match self {
             Modifier::Prefix(max_length) => Some(max_length),
-            Modifier::Whole => None,
-            Modifier::Explode => None,
+            _ => None,
         }
     }
 }
@@ -125,4 +123,16 @@ pub(crate) fn read_varspec(s: &str, at: usize) -> Result<VarSpec<'_>, Error>
         Ok(modifier) => Ok(VarSpec { name, modifier }),
         Err(error) => Err(error),
     }
+}
+
+// The first varspec, and the others, where there are some. `at` is its place, and a brace stands after all of
+// them.
+pub(crate) fn read_first(varspecs: &str, at: usize) -> Result<(VarSpec<'_>, Option<&str>), Error>
+    requires { at + length varspecs.now + 1 < 2 ^ 64 }
+    ensures fault { Answers result (moved at (varspec_fault (before 44 varspecs.now))) }
+    ensures value { IfOk result (λ p. IsHeld p.0 (varspec_of (before 44 varspecs.now))) }
+    ensures others { IfOk result (λ p. now_of p.1 ≡ after 44 varspecs.now) }
+{
+    let (first, others) = cut(varspecs, b',');
+    Ok((read_varspec(first, at)?, others))
 }

@@ -10,7 +10,7 @@ use Rattle.iri_template.specs.TypeFaults.{is_mistyped_as}
 use Rattle.iri_template.specs.inside.Members.{is_member}
 use Rattle.iri_template.specs.inside.Written.{WriteState, event_step, event_text, told_texts, prefix_of}
 use Rattle.iri_template.specs.declared.operator.Operator.{Operator}
-use Rattle.iri_template.specs.declared.expression_state.ExpressionState.{ExpressionState}
+use Rattle.iri_template.specs.declared.value_writer.ExpressionState.{ExpressionState}
 use Rattle.iri_template.specs.declared.varspec.Modifier.{Modifier}
 use Rattle.iri_template.specs.declared.varspec.VarSpec.{VarSpec}
 

@@ -7,7 +7,7 @@ use Rattle.iri_text.specs.inside.ByChars.{CharsPut, CharsHalt}
 use Rattle.iri_text.proofs.ThroughLaws.{through_laws}
 use Rattle.iri_text.proofs.ByCharsLaws.{chars_laws}
 use Rattle.iri_template.specs.inside.Prefix.{prefix_step, char_text}
-use Rattle.iri_template.specs.declared.prefix_sink.PrefixSink.{PrefixSink}
+use Rattle.iri_template.specs.declared.encoded_value.PrefixSink.{PrefixSink}
 
 module _ {S W : Type 0} (s : Tests) where
   abbrev pub PrefixPuts : (W → List ℕ → W → Type 0) → PrefixSink S W → List ℕ → PrefixSink S W → Type 0

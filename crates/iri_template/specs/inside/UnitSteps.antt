@@ -6,6 +6,7 @@ use Rattle.std.specs.Char.{is_ascii_hexdigit}
 use Rattle.iri_grammar.specs.Classes.{Tests}
 use Rattle.iri_percent.specs.Units.{TextUnit, Plain, is_triplet, octets, first_char, first_unit, unit_text, units}
 use Rattle.iri_template.specs.Expansion.{limited, kept_unit}
+use Rattle.iri_template.specs.declared.units.Units.{Units}
 
 -- a `%` or a hex digit, which may be part of a triplet
 abbrev pub is_part : ℕ → Bool
@@ -41,11 +42,6 @@ left_over end (suc k) [] = []
 left_over end (suc k) (x ∷ xs) = cond (end || is_settled (x ∷ xs)) (left_over end k (after_unit x xs)) (x ∷ xs)
 
 -- ---- the steps
--- what is held back, and how many units may still be written
-pub record UnitState : Type 0 where
-  pub pending : List ℕ
-  pub left : Option ℕ
-
 -- so many units fewer
 abbrev pub fewer : Option ℕ → ℕ → Option ℕ
 fewer None n = None
@@ -63,15 +59,15 @@ abbrev pub is_used_up : Option ℕ → Bool
 is_used_up (Some zero) = true
 is_used_up left = false
 
-abbrev pub next_state : UnitState → ℕ → UnitState
+abbrev pub next_state : Units → ℕ → Units
 next_state u c = record { pending = step_pending u.pending c; left = fewer u.left (length (step_units u.pending c)) }
 
 -- after the last unit that may be written nothing is held back any more
-abbrev pub unit_step : UnitState → ℕ → UnitState
+abbrev pub unit_step : Units → ℕ → Units
 unit_step u c = cond (is_used_up u.left) u (next_state u c)
 
 abbrev pub written_units : Tests → Option ℕ → List TextUnit → List ℕ
 written_units s left us = flat_map (kept_unit s) (limited left us)
 
-abbrev pub unit_step_text : Tests → UnitState → ℕ → List ℕ
+abbrev pub unit_step_text : Tests → Units → ℕ → List ℕ
 unit_step_text s u c = written_units s u.left (step_units u.pending c)

@@ -6,12 +6,13 @@ use Rattle.iri_text.specs.inside.Through.{ThroughPuts, ThroughHalts}
 use Rattle.iri_text.specs.inside.ByChars.{CharsPut, CharsHalt}
 use Rattle.iri_text.proofs.ThroughLaws.{through_laws}
 use Rattle.iri_text.proofs.ByCharsLaws.{chars_laws}
-use Rattle.iri_template.specs.inside.UnitSteps.{UnitState, unit_step, unit_step_text}
-use Rattle.iri_template.specs.declared.unit_sink.UnitSink.{UnitSink}
+use Rattle.iri_template.specs.inside.UnitSteps.{unit_step, unit_step_text}
+use Rattle.iri_template.specs.declared.units.UnitSink.{UnitSink}
+use Rattle.iri_template.specs.declared.units.Units.{Units}
 
 module _ {S W : Type 0} (s : Tests) where
-  abbrev pub state_of : UnitSink S W → UnitState
-  state_of u = record { pending = u.pending; left = u.left }
+  abbrev pub state_of : UnitSink S W → Units
+  state_of u = u.state
 
   abbrev pub UnitPuts : (W → List ℕ → W → Type 0) → UnitSink S W → List ℕ → UnitSink S W → Type 0
   UnitPuts puts = CharsPut (ThroughPuts unit_step (unit_step_text s) state_of (λ u. u.to.now) (λ u. u.to.ghost_name) puts)

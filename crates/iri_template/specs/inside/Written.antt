@@ -6,7 +6,7 @@ use Rattle.iri_template.specs.Expansion.{Row, row_of, shown_text, shown_pair, st
 use Rattle.iri_template.specs.Led.{lead}
 use Rattle.iri_template.specs.ShownValues.{ShownValue, undefined, string, list, pairs}
 use Rattle.iri_template.specs.declared.operator.Operator.{Operator}
-use Rattle.iri_template.specs.declared.expression_state.ExpressionState.{ExpressionState}
+use Rattle.iri_template.specs.declared.value_writer.ExpressionState.{ExpressionState}
 use Rattle.iri_template.specs.declared.varspec.Modifier.{Modifier}
 use Rattle.iri_template.specs.declared.varspec.Modifier.TheVariants.{Whole, Explode, Prefix}
 

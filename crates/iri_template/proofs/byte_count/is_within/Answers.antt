@@ -1,5 +1,5 @@
 use Rattle.std.proofs.Common.{arith}
-use Rattle.iri_template.proofs.FirstChars.{some_chars}
+use Rattle.iri_template.proofs.PrefixChars.{some_chars}
 use Rattle.iri_template.proofs.byte_count.is_within.Goals as goal
 
 pub returns-in-Err-clause-longer : goal.returns-in-Err-clause-longer

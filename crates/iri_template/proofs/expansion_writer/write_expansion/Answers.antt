@@ -6,9 +6,9 @@ use Rattle.iri_template.specs.inside.PartEnds.{calls_of}
 use Rattle.iri_template.specs.inside.Parts.{part_pieces}
 use Rattle.iri_template.specs.Template.{template_text}
 use Rattle.iri_template.proofs.Prefixes.{prefix_range}
-use Rattle.iri_template.proofs.PartPortions.{ReachedUpTo, reached_none, reached_more, reached_exit, reached_calls, reached_end, names_in, names_left, none_in}
-use Rattle.iri_template.proofs.PartWalk.{part_cut}
-use Rattle.iri_template.proofs.TellWalk.{BothTold, HasMoved, moved_none, moved_more, moved_all}
+use Rattle.iri_template.proofs.PartWalk.{ReachedUpTo, reached_none, reached_more, reached_refused, reached_end, names_in, names_left}
+use Rattle.iri_template.proofs.PartWalk.{none_in, part_cut}
+use Rattle.iri_template.proofs.PortionWalk.{BothTold, HasMoved, moved_none, moved_more, moved_all}
 use Rattle.iri_template.proofs.Walks.{never}
 use Rattle.iri_template.proofs.expansion_writer.write_expansion.Goals as goal
 
@@ -76,35 +76,30 @@ parts-preserved g c =
       later = omega (arith, i.later, q.later);
     }
 
-pub returns-in-Err-write_part-clause-written : goal.returns-in-Err-write_part-clause-written
-returns-in-Err-write_part-clause-written g c =
+pub returns-in-Err-write_part : goal.returns-in-Err-write_part
+returns-in-Err-write_part g c =
     let w = g.W.TextSink in
     let d = g.C.DynamicContext in
     let i = c.parts.invariant in
+    let q = c.in-Err-write_part.ensures in
     let t = c.parts.rest.now in
     let r = c.in-Ok.next.now in
     let whole = c.args.template.now in
     let v : IsUtf8 r = search rules in
     let k = part_cut c.in-Ok.part (length whole - length t) t r c.in-Ok.ensures i.utf8 v i.fine in
     let text = c.range-text.ensures.value ∙ prefix_range t (template_text (part_pieces c.in-Ok.part)) r (length t - length r) (sym k.text) refl in
-    reached_exit g.S.Spec.tests w.puts w.halts g.met.W.TextSink.rules whole c.args.sink.now c.in-Ok.part t r c.range-text.result.now
+    let ends = reached_refused g.S.Spec.tests w.puts w.halts g.met.W.TextSink.rules whole c.args.sink.now c.in-Ok.part t r c.range-text.result.now
     c.parts.begin c.parts.sink c.write_part.new.sink c.in-Err-write_part.error k c.in-Ok.ensures.placed text c.in-Ok.ensures.shorter
-    (d.tells c.args.context.now) (d.tells c.parts.context) i.far c.in-Err-write_part.ensures.written
-
-pub returns-in-Err-write_part-clause-refused : goal.returns-in-Err-write_part-clause-refused
-returns-in-Err-write_part-clause-refused g c =
-    let w = g.W.TextSink in
-    let d = g.C.DynamicContext in
-    let i = c.parts.invariant in
-    let t = c.parts.rest.now in
-    let r = c.in-Ok.next.now in
-    let whole = c.args.template.now in
-    let v : IsUtf8 r = search rules in
-    let k = part_cut c.in-Ok.part (length whole - length t) t r c.in-Ok.ensures i.utf8 v i.fine in
-    let text = c.range-text.ensures.value ∙ prefix_range t (template_text (part_pieces c.in-Ok.part)) r (length t - length r) (sym k.text) refl in
-    reached_calls g.S.Spec.tests w.puts w.halts g.met.W.TextSink.rules whole c.args.sink.now c.in-Ok.part t r c.range-text.result.now
-    c.parts.begin c.parts.sink c.write_part.new.sink c.in-Err-write_part.error.location k c.in-Ok.ensures.placed text c.in-Ok.ensures.shorter
-    (d.tells c.args.context.now) (d.tells c.parts.context) (d.tells c.write_part.new.context) i.far c.in-Err-write_part.ensures.refused
+    (d.tells c.args.context.now) (d.tells c.parts.context) (d.tells c.write_part.new.context) i.far q.written q.refused in
+    record {
+      written = ends.0;
+      cause = search rules;
+      later = omega (arith, i.later, q.later);
+      moves = tt;
+      refused = ends.1;
+      same_starts = q.same_starts ∙ i.starts;
+      same_ends = q.same_ends ∙ i.ends;
+    }
 
 pub unreachable-requires : goal.unreachable-requires
 unreachable-requires g c =

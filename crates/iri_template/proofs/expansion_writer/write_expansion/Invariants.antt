@@ -2,8 +2,8 @@ use Rattle.std.proofs.Common.{◌≡◌, ◌≤◌, length, None}
 use denote.Text.{Utf8}
 use denote.Shadow.{shadow}
 use Rattle.iri_template.specs.Fault.{text_fault}
-use Rattle.iri_template.proofs.PartPortions.{names_in, ReachedUpTo}
-use Rattle.iri_template.proofs.TellWalk.{BothTold, HasMoved}
+use Rattle.iri_template.proofs.PartWalk.{names_in, ReachedUpTo}
+use Rattle.iri_template.proofs.PortionWalk.{BothTold, HasMoved}
 use Rattle.iri_template.proofs.expansion_writer.write_expansion.Given as goal
 
 -- the parts before those that are left were written, with two calls for each varspec

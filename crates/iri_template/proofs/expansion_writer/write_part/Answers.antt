@@ -1,10 +1,10 @@
 use Rattle.std.proofs.Common.{sym, ◌∙◌, ap}
 use Rattle.iri_grammar.specs.Pieces.{pieces}
 use Rattle.iri_template.specs.inside.Parts.{part_fault}
-use Rattle.iri_template.proofs.Walks.{varspecs_anywhere}
+use Rattle.iri_template.proofs.VarSpecWalk.{varspecs_anywhere}
 use Rattle.iri_template.proofs.expansion_writer.write_part.Goals as goal
 
 pub write_varspecs-requires-clause-fine : goal.write_varspecs-requires-clause-fine
 write_varspecs-requires-clause-fine g c =
-    let e = c.in-Expression.expression in
+    let e = c.in-Expression.e in
     varspecs_anywhere e.location (pieces 44 e.varspecs.now) (ap part_fault (sym c.in-Expression.is) ∙ c.requires.fine)

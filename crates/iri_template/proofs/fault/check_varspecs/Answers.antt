@@ -8,8 +8,7 @@ use Rattle.iri_template.specs.Left.{varspecs_left}
 use Rattle.iri_template.specs.Reading.{varspec_of}
 use Rattle.iri_template.specs.TypeFaults.{varspecs_type_fault}
 use Rattle.iri_template.proofs.FaultLemmas.{first_none}
-use Rattle.iri_template.proofs.VarSpecFaults.{cut_len, more_varspecs, last_varspec, bad_varspec}
-use Rattle.iri_template.proofs.VarSpecWalk.{types_spec}
+use Rattle.iri_template.proofs.VarSpecWalk.{cut_len, more_varspecs, last_varspec, bad_varspec, types_spec}
 use Rattle.iri_template.proofs.fault.check_varspecs.Goals as goal
 
 pub varspecs-smaller : goal.varspecs-smaller

@@ -1,4 +1,4 @@
-use Rattle.iri_template.proofs.Runs.{run_passed}
+use Rattle.iri_template.proofs.Prefixes.{run_passed}
 use Rattle.iri_template.proofs.part.past_literals.Goals as goal
 
 pub returns-then-tail-s : goal.returns-then-tail-s

@@ -1,26 +1,19 @@
-use Rattle.std.proofs.Common.{◌≡◌, ◌<◌, ℕ, ◌≤◌, length, get_or, inl, inr, false, refl, sym, ◌∙◌, ap, arith}
+use Rattle.std.proofs.Common.{◌≡◌, ◌<◌, ℕ, length, get_or, inl, inr, false, sym, ◌∙◌, ap, arith}
 use Rattle.std.specs.Prelude.{◌==◌}
 use Rattle.std.proofs.lemmas.Bool.{cases_lt}
 use Rattle.std.proofs.lemmas.Bool.Decides.{nat_tests}
 use Rattle.std.proofs.lemmas.Str.{IsCharBoundary-after_ascii}
 use Rattle.iri_template.specs.Reading.{operator_at}
 use Rattle.iri_template.specs.declared.operator.Operator.TheVariants.{Simple}
+use Rattle.iri_template.proofs.Grammar.{no_operator}
 use Rattle.iri_template.proofs.part.read_body.Goals as goal
-
-past_ascii : (x : ℕ) → 128 ≤ x → operator_at x ≡ Simple
-past_ascii x h =
-    let a : (x == 43) ≡ false = grind (arith, nat_tests) in
-    let b : (x == 35) ≡ false = grind (arith, nat_tests) in
-    let c : (x == 46) ≡ false = grind (arith, nat_tests) in
-    let d : (x == 47) ≡ false = grind (arith, nat_tests) in
-    let e : (x == 59) ≡ false = grind (arith, nat_tests) in
-    let f : (x == 63) ≡ false = grind (arith, nat_tests) in
-    let g : (x == 38) ≡ false = grind (arith, nat_tests) in
-    rw (a, b, c, d, e, f, g) refl
 
 -- an operator is ASCII
 operator_ascii : (x : ℕ) → (operator_at x ≡ Simple → ⊥) → x < 128
-operator_ascii x h = elim (cases_lt x 128) [ inl lt ↦ lt | inr ge ↦ absurd (h (past_ascii x ge)) ]
+operator_ascii x h = elim (cases_lt x 128) [
+  | inl lt ↦ lt
+  | inr ge ↦ absurd (h (no_operator x (omega arith) (omega arith) (omega arith) (omega arith) (omega arith) (omega arith) (omega arith)))
+]
 
 pub range_from-requires : goal.range_from-requires
 range_from-requires c _ =

@@ -5,8 +5,7 @@ use Rattle.iri_grammar.specs.OptionalSlices.{now_of}
 use Rattle.iri_template.specs.Reading.{first_of, operator_of, after_operator}
 use Rattle.iri_template.specs.inside.Parts.{prefix_fault}
 use Rattle.iri_template.proofs.FaultLemmas.{unmoved}
-use Rattle.iri_template.proofs.Steps.{first_get}
-use Rattle.iri_template.proofs.Bodies.{body_cut, prefix_of_body, prefix_not_closed, no_delimiter, tail_drop}
+use Rattle.iri_template.proofs.Prefixes.{first_get, body_cut, prefix_of_body, prefix_not_closed, no_delimiter, tail_drop}
 use Rattle.iri_template.proofs.part.read_expression.Goals as goal
 
 some : (t : List ℕ) → first_of t ≡ 123 → 0 < length t

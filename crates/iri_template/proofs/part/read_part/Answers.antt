@@ -2,8 +2,8 @@ use Rattle.std.proofs.Common.{◌≡◌, ◌-◌, ◌≢◌, length, get_or, Som
 use Rattle.std.specs.Str.{IsCharBoundary, encode_utf8_all}
 use Rattle.std.proofs.lemmas.Str.{IsCharBoundary-at_seam}
 use Rattle.iri_template.specs.Reading.{first_of}
-use Rattle.iri_template.proofs.Steps.{first_get}
-use Rattle.iri_template.proofs.Prefixes.{literals_prefix, expression_prefix, expression_error, triplet_prefix, triplet_error, character_error}
+use Rattle.iri_template.proofs.Prefixes.{first_get, literals_prefix, expression_prefix, expression_error, triplet_prefix, triplet_error}
+use Rattle.iri_template.proofs.Prefixes.{character_error}
 use Rattle.iri_template.proofs.part.read_part.Goals as goal
 
 pub range-requires-clause-end_boundary : goal.range-requires-clause-end_boundary

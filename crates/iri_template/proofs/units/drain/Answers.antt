@@ -8,8 +8,7 @@ use Rattle.iri_template.proofs.units.drain.Goals as goal
 pub units-init : goal.units-init
 units-init g c = record {
   most = omega arith;
-  far =
-      drained_none g.met.W.TextSink.rules g.S.Spec.tests c.args.end c.args.pending.now c.args.left.now c.args.sink.now;
+  far = drained_none g.met.W.TextSink.rules c.args.sink.now;
 }
 
 pub units-preserved : goal.units-preserved
@@ -19,12 +18,11 @@ units-preserved g c =
     let u = c.in-Some.unit in
     let unit = subst (λ h. IsUnit s c.args.end h u.len u.stands) c.as_bytes.ensures.bytes c.in-Some.ensures in
     let put = subst (λ t. Shows w.puts w.halts w.stops c.units.sink
-    (cond (is_used_up c.units.left) [] (unit_as s u.stands t)) c.put_unit.new.sink (Ok tt)) c.start.ensures c.in-Ok.ensures in
+    (cond (is_used_up c.units.state.left) [] (unit_as s u.stands t)) c.put_unit.new.sink (Ok tt)) c.start.ensures c.in-Ok.ensures in
     record {
       most = omega arith;
-      far = drained_more g.met.W.TextSink.rules s c.args.end c.args.pending.now c.args.left.now (12 - c.units.told)
-          (12 - (c.units.told + 1)) c.units.pending _ c.units.left _ u.len u.stands
-          (omega arith) unit c.drop_start.ensures c.one_fewer.ensures c.units.invariant.far put;
+      far = drained_more g.met.W.TextSink.rules (12 - c.units.told) (12 - (c.units.told + 1)) c.units.state.pending _ c.units.state.left _ u.len
+          u.stands (omega arith) unit c.drop_start.ensures c.one_fewer-state.ensures c.units.invariant.far put;
     }
 
 pub returns-in-Err-clause-shows : goal.returns-in-Err-clause-shows
@@ -34,40 +32,20 @@ returns-in-Err-clause-shows g c =
     let u = c.in-Some.unit in
     let unit = subst (λ h. IsUnit s c.args.end h u.len u.stands) c.as_bytes.ensures.bytes c.in-Some.ensures in
     let put = subst (λ t. Shows w.puts w.halts w.stops c.units.sink
-    (cond (is_used_up c.units.left) [] (unit_as s u.stands t)) c.put_unit.new.sink
+    (cond (is_used_up c.units.state.left) [] (unit_as s u.stands t)) c.put_unit.new.sink
     (Err c.in-Err.stop)) c.start.ensures c.in-Err.ensures in
-    drained_exit g.met.W.TextSink.rules s c.args.end c.args.pending.now c.args.left.now (12 - c.units.told)
-    (12 - (c.units.told + 1)) c.units.pending c.units.left u.len u.stands (omega arith) unit c.units.invariant.far put
+    drained_exit g.met.W.TextSink.rules (12 - c.units.told)
+    (12 - (c.units.told + 1)) c.units.state.pending c.units.state.left u.len u.stands (omega arith) unit c.units.invariant.far put
 
-pub returns-in-None-clause-shows : goal.returns-in-None-clause-shows
-returns-in-None-clause-shows g c =
+pub returns-in-None : goal.returns-in-None
+returns-in-None g c =
     let none = subst (λ h. TellsNone c.args.end h) c.as_bytes.ensures.bytes c.in-None.ensures in
-    (drained_end g.met.W.TextSink.rules g.S.Spec.tests c.args.end c.args.pending.now c.args.left.now
-    (12 - c.units.told) c.units.pending c.units.left none c.units.invariant.far).shows
+    let k = drained_end g.met.W.TextSink.rules (12 - c.units.told) c.units.state.pending c.units.state.left none
+    c.units.invariant.far in
+    record { shows = k.shows; pending = k.holds; left = k.lefts; cleared = tt }
 
-pub returns-in-None-clause-pending : goal.returns-in-None-clause-pending
-returns-in-None-clause-pending g c =
-    let none = subst (λ h. TellsNone c.args.end h) c.as_bytes.ensures.bytes c.in-None.ensures in
-    (drained_end g.met.W.TextSink.rules g.S.Spec.tests c.args.end c.args.pending.now c.args.left.now
-    (12 - c.units.told) c.units.pending c.units.left none c.units.invariant.far).holds
-
-pub returns-in-None-clause-left : goal.returns-in-None-clause-left
-returns-in-None-clause-left g c =
-    let none = subst (λ h. TellsNone c.args.end h) c.as_bytes.ensures.bytes c.in-None.ensures in
-    (drained_end g.met.W.TextSink.rules g.S.Spec.tests c.args.end c.args.pending.now c.args.left.now
-    (12 - c.units.told) c.units.pending c.units.left none c.units.invariant.far).lefts
-
-pub returns-clause-shows : goal.returns-clause-shows
-returns-clause-shows g c =
-    (drained_out g.met.W.TextSink.rules g.S.Spec.tests c.args.end c.args.pending.now c.args.left.now
-    (12 - c.units.told) c.units.pending c.units.left (omega arith) c.units.invariant.far).shows
-
-pub returns-clause-pending : goal.returns-clause-pending
-returns-clause-pending g c =
-    (drained_out g.met.W.TextSink.rules g.S.Spec.tests c.args.end c.args.pending.now c.args.left.now
-    (12 - c.units.told) c.units.pending c.units.left (omega arith) c.units.invariant.far).holds
-
-pub returns-clause-left : goal.returns-clause-left
-returns-clause-left g c =
-    (drained_out g.met.W.TextSink.rules g.S.Spec.tests c.args.end c.args.pending.now c.args.left.now
-    (12 - c.units.told) c.units.pending c.units.left (omega arith) c.units.invariant.far).lefts
+pub returns : goal.returns
+returns g c =
+    let k = drained_out g.met.W.TextSink.rules (12 - c.units.told) c.units.state.pending c.units.state.left (omega arith)
+    c.units.invariant.far in
+    record { shows = k.shows; pending = k.holds; left = k.lefts; cleared = tt }

@@ -6,7 +6,8 @@ use Rattle.iri_template.proofs.units.drain.Given as goal
 abbrev pub invariant-units : goal.invariant-units
 invariant-units g l = record {
   most : l.told ≤ 12;
-  far : Drained g.S.Spec.tests g.W.TextSink.puts g.W.TextSink.stops l.end l.fn.pending l.fn.left l.fn.sink (12 - l.told) l.pending l.left l.sink;
+  far : Drained g.S.Spec.tests g.W.TextSink.puts g.W.TextSink.stops l.end l.fn.state.pending l.fn.state.left l.fn.sink (12 - l.told) l.state.pending
+      l.state.left l.sink;
 }
 
 abbrev pub decreases-units : goal.decreases-units

@@ -4,11 +4,12 @@ use Rattle.std.specs.Str.Iter.{chars_rest}
 use Rattle.iri_text.proofs.CharSteps.{first_char, no_chars}
 use Rattle.iri_template.proofs.ThroughEach.{HasPutUpTo, up_to_none, up_to_more, up_to_exit, up_to_last, up_to_end}
 use Rattle.iri_text.specs.inside.Through.{after}
-use Rattle.iri_template.specs.inside.UnitSteps.{UnitState, fewer, step_units, step_pending, is_used_up, next_state, unit_step, unit_step_text}
+use Rattle.iri_template.specs.inside.UnitSteps.{fewer, step_units, step_pending, is_used_up, next_state, unit_step, unit_step_text}
+use Rattle.iri_template.specs.declared.units.Units.{Units}
 use Rattle.iri_template.proofs.UnitLaws.{used_up}
 use Rattle.iri_template.proofs.units.put_chars.Goals as goal
 
-abbrev state : List ℕ → Option ℕ → UnitState
+abbrev state : List ℕ → Option ℕ → Units
 state h l = record { pending = h; left = l }
 
 same_state : (h k : List ℕ) (l m : Option ℕ) → h ≡ k → l ≡ m → state h l ≡ state k m
@@ -17,67 +18,53 @@ same_state h k l m p q = ap (λ x. state x l) p ∙ ap (λ y. state k y) q
 pub loop-c-init : goal.loop-c-init
 loop-c-init g c =
     let e = ap chars_rest c.into_iter-c-iterator.ensures.into_iter_gives ∙ c.chars-c-items.ensures.rest in
-    let first : UnitState = record { pending = c.args.pending.now; left = c.args.left.now } in
     record {
       can = tt;
       ends = tt;
       utf8 = subst IsUtf8 (sym e) c.utf8.text;
       short = c.requires;
       far =
-          subst (λ l. HasPutUpTo unit_step (unit_step_text g.S.Spec.tests) g.W.TextSink.puts g.W.TextSink.stops first
-          (chars c.args.text.now) c.args.sink.now first (chars l) c.args.sink.now) (sym e)
-          (up_to_none unit_step (unit_step_text g.S.Spec.tests) g.met.W.TextSink.rules first (chars c.args.text.now) c.args.sink.now);
+          subst (λ l. HasPutUpTo unit_step (unit_step_text g.S.Spec.tests) g.W.TextSink.puts g.W.TextSink.stops c.args.state.now
+          (chars c.args.text.now) c.args.sink.now c.args.state.now (chars l) c.args.sink.now) (sym e)
+          (up_to_none g.met.W.TextSink.rules c.args.sink.now);
     }
 
 pub loop-c-preserved : goal.loop-c-preserved
 loop-c-preserved g c =
     let i = c.loop-c.invariant in
     let f = first_char _ _ c.in-Some.c i.utf8 c.in-Some.ensures.steps.0 in
-    let first : UnitState = record { pending = c.args.pending.now; left = c.args.left.now } in
-    let now : UnitState = record { pending = c.loop-c.pending; left = c.loop-c.left } in
-    let next : UnitState = record { pending = c.put_char.new.pending; left = c.put_char.new.left } in
-    let still : is_used_up c.loop-c.left ≡ false = sym c.is_used_up.ensures ∙ c.if-is_used_up.false in
-    let goes : next ≡ unit_step now c.in-Some.c = same_state c.put_char.new.pending (step_pending c.loop-c.pending c.in-Some.c) c.put_char.new.left
-    (fewer c.loop-c.left (length (step_units c.loop-c.pending c.in-Some.c))) c.in_ok-put_char.ensures.pending c.in_ok-put_char.ensures.left
+    let now = c.loop-c.state in
+    let still : is_used_up c.loop-c.state.left ≡ false = sym c.is_used_up.ensures ∙ c.if-is_used_up.false in
+    let goes : c.put_char.new.state ≡ unit_step now c.in-Some.c = same_state c.put_char.new.state.pending (step_pending c.loop-c.state.pending c.in-Some.c) c.put_char.new.state.left
+    (fewer c.loop-c.state.left (length (step_units c.loop-c.state.pending c.in-Some.c))) c.in_ok-put_char.ensures.pending c.in_ok-put_char.ensures.left
     ∙ sym (ap (λ b. cond b now (next_state now c.in-Some.c)) still) in
     record {
       can = tt;
       ends = tt;
       utf8 = f.utf8;
       short = c.put_char.ensures.short;
-      far = up_to_more unit_step (unit_step_text g.S.Spec.tests) g.met.W.TextSink.rules first
-          (chars c.args.text.now) c.in-Some.c f.first goes i.far c.in_ok-put_char.ensures.shows;
+      far = up_to_more g.met.W.TextSink.rules c.in-Some.c f.first goes i.far c.in_ok-put_char.ensures.shows;
     }
 
-pub returns-then-is_used_up-clause-shows : goal.returns-then-is_used_up-clause-shows
-returns-then-is_used_up-clause-shows g c =
-    let first : UnitState = record { pending = c.args.pending.now; left = c.args.left.now } in
-    let none = used_up g.S.Spec.tests c.loop-c.pending c.loop-c.left (chars (chars_rest c.loop-c.c-iterator))
+pub returns-then-is_used_up : goal.returns-then-is_used_up
+returns-then-is_used_up g c =
+    let i = c.loop-c.invariant in
+    let none = used_up g.S.Spec.tests c.loop-c.state.pending c.loop-c.state.left (chars (chars_rest c.loop-c.c-iterator))
     (sym c.is_used_up.ensures ∙ c.if-is_used_up.true) in
-    up_to_last unit_step (unit_step_text g.S.Spec.tests) g.met.W.TextSink.rules first (chars c.args.text.now) none.0 c.loop-c.invariant.far
-
-pub returns-then-is_used_up-clause-state : goal.returns-then-is_used_up-clause-state
-returns-then-is_used_up-clause-state g c =
-    let none = used_up g.S.Spec.tests c.loop-c.pending c.loop-c.left (chars (chars_rest c.loop-c.c-iterator))
-    (sym c.is_used_up.ensures ∙ c.if-is_used_up.true) in
-    sym (c.loop-c.invariant.far.goes_on ∙ none.1)
+    record { shows = up_to_last g.met.W.TextSink.rules none.0 i.far; goes_on = sym (i.far.goes_on ∙ none.1); short = i.short }
 
 pub returns-in_err-put_char-clause-shows : goal.returns-in_err-put_char-clause-shows
 returns-in_err-put_char-clause-shows g c =
     let i = c.loop-c.invariant in
     let f = first_char _ _ c.in-Some.c i.utf8 c.in-Some.ensures.steps.0 in
-    let first : UnitState = record { pending = c.args.pending.now; left = c.args.left.now } in
-    up_to_exit unit_step (unit_step_text g.S.Spec.tests) g.met.W.TextSink.rules first
-    (chars c.args.text.now) c.in-Some.c f.first c.from_residual.ensures.0 i.far c.in_err-put_char.ensures.shows
+    up_to_exit g.met.W.TextSink.rules c.in-Some.c f.first c.from_residual.ensures.0 i.far c.in_err-put_char.ensures.shows
 
-pub returns-clause-shows : goal.returns-clause-shows
-returns-clause-shows g c =
-    let first : UnitState = record { pending = c.args.pending.now; left = c.args.left.now } in
-    up_to_end unit_step (unit_step_text g.S.Spec.tests) g.met.W.TextSink.rules first (chars c.args.text.now)
-    (no_chars _ c.in-None.ensures.steps.0.0) c.loop-c.invariant.far
-
-pub returns-clause-state : goal.returns-clause-state
-returns-clause-state g c =
-    let now : UnitState = record { pending = c.loop-c.pending; left = c.loop-c.left } in
-    sym (c.loop-c.invariant.far.goes_on ∙ ap (λ l. after unit_step (unit_step_text g.S.Spec.tests) now l)
-    (no_chars _ c.in-None.ensures.steps.0.0))
+pub returns : goal.returns
+returns g c =
+    let i = c.loop-c.invariant in
+    let none = no_chars _ c.in-None.ensures.steps.0.0 in
+    record {
+      shows = up_to_end g.met.W.TextSink.rules none i.far;
+      goes_on = sym (i.far.goes_on ∙ ap (λ l. after unit_step (unit_step_text g.S.Spec.tests) c.loop-c.state l) none);
+      short = i.short;
+    }

@@ -11,8 +11,7 @@ invariant-loop-c g l = record {
   can : (goal.iterator-loop-c g).can_next l.c-iterator;
   ends : (goal.iterator-loop-c g).is_finite l.c-iterator;
   utf8 : IsUtf8 (chars_rest l.c-iterator);
-  short : length l.pending ≤ 11;
+  short : length l.state.pending ≤ 11;
   far : HasPutUpTo unit_step (unit_step_text g.S.Spec.tests) g.W.TextSink.puts g.W.TextSink.stops
-      (record { pending = l.fn.pending; left = l.fn.left }) (chars l.text) l.fn.sink (record { pending = l.pending; left = l.left })
-      (chars (chars_rest l.c-iterator)) l.sink;
+      l.fn.state (chars l.text) l.fn.sink l.state (chars (chars_rest l.c-iterator)) l.sink;
 }

@@ -1,25 +1,17 @@
-use Rattle.std.proofs.Common.{Result, Ok, Err, ◌∙◌, sym, subst}
-use Rattle.std.specs.Prelude.{OnOk}
+use Rattle.std.proofs.Common.{◌∙◌, sym, subst}
 use Rattle.iri_text.specs.Shown.{Shows}
-use Rattle.iri_text.specs.declared.shown.show.Stop.{Stop}
-use Rattle.iri_template.proofs.UnitRuns.{plain_run}
+use Rattle.iri_template.proofs.Drains.{on_ok}
+use Rattle.iri_template.proofs.UnitLaws.{plain_run}
 use Rattle.iri_template.proofs.units.put_piece.Goals as goal
 
-on_ok : {P : Type 0} (r : Result (Unit {0}) Stop) → P → OnOk r P
-on_ok (Ok x) p = p
-on_ok (Err x) p = tt
-
-pub returns-then-lacks-clause-shows : goal.returns-then-lacks-clause-shows
-returns-then-lacks-clause-shows g c =
+pub returns-then-lacks : goal.returns-then-lacks
+returns-then-lacks g c =
     let w = g.W.TextSink in
     let plain = c.if-is_plain.ensures in
-    let run = plain_run g.S.Spec.tests c.args.pending.now c.args.left.now c.args.piece.now c.utf8.piece plain.0 plain.1
+    let run = plain_run g.S.Spec.tests c.args.state.now.pending c.args.state.now.left c.args.piece.now c.utf8.piece plain.0 plain.1
     (sym c.lacks.ensures ∙ c.if-lacks.true) in
-    subst (λ l. Shows w.puts w.halts w.stops c.args.sink.now l c.put_as.new.sink c.put_as.result) (sym run.text) c.put_as.ensures
-
-pub returns-then-lacks-clause-state : goal.returns-then-lacks-clause-state
-returns-then-lacks-clause-state g c =
-    let plain = c.if-is_plain.ensures in
-    let run = plain_run g.S.Spec.tests c.args.pending.now c.args.left.now c.args.piece.now c.utf8.piece plain.0 plain.1
-    (sym c.lacks.ensures ∙ c.if-lacks.true) in
-    on_ok c.put_as.result (sym run.same)
+    record {
+      shows = subst (λ l. Shows w.puts w.halts w.stops c.args.sink.now l c.put_as.new.sink c.put_as.result) (sym run.text) c.put_as.ensures;
+      goes_on = on_ok c.put_as.result (sym run.same);
+      short = c.requires;
+    }

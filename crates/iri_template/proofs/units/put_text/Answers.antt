@@ -4,16 +4,15 @@ use Rattle.std.proofs.lemmas.Str.{chars-append}
 use Rattle.iri_text.proofs.CharSteps.{no_chars}
 use Rattle.iri_text.specs.inside.Through.{after}
 use Rattle.iri_template.proofs.ThroughEach.{up_to_none, up_to_some, up_to_stop, up_to_end}
-use Rattle.iri_template.specs.inside.UnitSteps.{UnitState, unit_step, unit_step_text}
+use Rattle.iri_template.specs.inside.UnitSteps.{unit_step, unit_step_text}
 use Rattle.iri_template.proofs.units.put_text.Goals as goal
 
 pub pieces-init : goal.pieces-init
 pieces-init g c =
-    let first : UnitState = record { pending = c.args.pending.now; left = c.args.left.now } in
     record {
       utf8 = c.utf8.text;
       short = c.requires;
-      far = up_to_none unit_step (unit_step_text g.S.Spec.tests) g.met.W.TextSink.rules first (chars c.args.text.now) c.args.sink.now;
+      far = up_to_none g.met.W.TextSink.rules c.args.sink.now;
     }
 
 pub pieces-preserved : goal.pieces-preserved
@@ -23,13 +22,12 @@ pieces-preserved g c =
     let following = c.in-Some.following.now in
     let u : IsUtf8 piece = search rules in
     let v : IsUtf8 following = search rules in
-    let first : UnitState = record { pending = c.args.pending.now; left = c.args.left.now } in
     let cut : chars c.pieces.rest.now ≡ chars piece ++ chars following = ap chars (sym c.in-Some.ensures.whole) ∙ chars-append piece following u in
     record {
       utf8 = v;
       short = c.put_piece.ensures.short;
-      far = up_to_some unit_step (unit_step_text g.S.Spec.tests) g.met.W.TextSink.rules first (chars c.args.text.now) (chars piece) cut
-          c.in_ok-put_piece.ensures.state i.far c.in_ok-put_piece.ensures.shows;
+      far = up_to_some g.met.W.TextSink.rules (chars piece) cut
+          c.in_ok-put_piece.ensures.goes_on i.far c.in_ok-put_piece.ensures.shows;
     }
 
 pub returns-in_err-put_piece-clause-shows : goal.returns-in_err-put_piece-clause-shows
@@ -38,18 +36,16 @@ returns-in_err-put_piece-clause-shows g c =
     let piece = c.in-Some.piece.now in
     let following = c.in-Some.following.now in
     let u : IsUtf8 piece = search rules in
-    let first : UnitState = record { pending = c.args.pending.now; left = c.args.left.now } in
     let cut : chars c.pieces.rest.now ≡ chars piece ++ chars following = ap chars (sym c.in-Some.ensures.whole) ∙ chars-append piece following u in
-    up_to_stop unit_step (unit_step_text g.S.Spec.tests) g.met.W.TextSink.rules first (chars c.args.text.now) (chars piece) (chars following) cut
+    up_to_stop g.met.W.TextSink.rules (chars piece) (chars following) cut
     c.from_residual.ensures.0 i.far c.in_err-put_piece.ensures.shows
 
-pub returns-clause-shows : goal.returns-clause-shows
-returns-clause-shows g c =
-    let first : UnitState = record { pending = c.args.pending.now; left = c.args.left.now } in
-    up_to_end unit_step (unit_step_text g.S.Spec.tests) g.met.W.TextSink.rules first (chars c.args.text.now)
-    (no_chars c.pieces.rest.now c.in_default.ensures) c.pieces.invariant.far
-
-pub returns-clause-state : goal.returns-clause-state
-returns-clause-state g c =
-    let now : UnitState = record { pending = c.pieces.pending; left = c.pieces.left } in
-    sym (c.pieces.invariant.far.goes_on ∙ ap (λ l. after unit_step (unit_step_text g.S.Spec.tests) now l) (no_chars c.pieces.rest.now c.in_default.ensures))
+pub returns : goal.returns
+returns g c =
+    let i = c.pieces.invariant in
+    let none = no_chars c.pieces.rest.now c.in_default.ensures in
+    record {
+      shows = up_to_end g.met.W.TextSink.rules none i.far;
+      goes_on = sym (i.far.goes_on ∙ ap (λ l. after unit_step (unit_step_text g.S.Spec.tests) c.pieces.state l) none);
+      short = i.short;
+    }

@@ -8,9 +8,9 @@ use Rattle.iri_template.proofs.units.put_text.Given as goal
 abbrev pub invariant-pieces : goal.invariant-pieces
 invariant-pieces g l = record {
   utf8 : IsUtf8 l.rest;
-  short : length l.pending ≤ 11;
+  short : length l.state.pending ≤ 11;
   far : HasPutUpTo unit_step (unit_step_text g.S.Spec.tests) g.W.TextSink.puts g.W.TextSink.stops
-      (record { pending = l.fn.pending; left = l.fn.left }) (chars l.text) l.fn.sink (record { pending = l.pending; left = l.left }) (chars l.rest) l.sink;
+      l.fn.state (chars l.text) l.fn.sink l.state (chars l.rest) l.sink;
 }
 
 abbrev pub decreases-pieces : goal.decreases-pieces

@@ -1,5 +1,5 @@
 use Rattle.std.proofs.Common.{arith}
-use Rattle.iri_template.proofs.UnitShows.{units_then, units_exit, end_short}
+use Rattle.iri_template.proofs.Drains.{units_then, units_exit, end_short}
 use Rattle.iri_template.proofs.units.show_units.Goals as goal
 
 pub returns-in-Ok-clause-shows : goal.returns-in-Ok-clause-shows
@@ -12,6 +12,6 @@ returns-in-Err-clause-shows g c = units_exit g.S.Spec.tests g.met.W.TextSink.rul
 
 pub invariant_of-units : goal.invariant_of-units
 invariant_of-units g c = record {
-  short = end_short c.show.new.sink.pending c.drain.new.pending c.drain.result
+  short = end_short c.show.new.sink.state.pending c.drain.new.state.pending c.drain.result
       (omega arith) c.drain.ensures.pending c.drain.ensures.cleared;
 }

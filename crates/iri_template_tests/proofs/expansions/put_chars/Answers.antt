@@ -15,8 +15,7 @@ loop-c-init g c =
       ends = tt;
       utf8 = subst IsUtf8 (sym e) c.utf8.text;
       far = subst (λ l. HasPutUpTo no_step plain_text g.W.TextSink.puts g.W.TextSink.stops tt (chars c.args.text.now) c.args.sink.now tt
-          (chars l) c.args.sink.now) (sym e) (up_to_none no_step plain_text g.met.W.TextSink.rules tt
-          (chars c.args.text.now) c.args.sink.now);
+          (chars l) c.args.sink.now) (sym e) (up_to_none g.met.W.TextSink.rules c.args.sink.now);
     }
 
 pub loop-c-preserved : goal.loop-c-preserved
@@ -27,8 +26,7 @@ loop-c-preserved g c =
       can = tt;
       ends = tt;
       utf8 = f.utf8;
-      far = up_to_more no_step plain_text g.met.W.TextSink.rules tt
-          (chars c.args.text.now) c.in-Some.c f.first refl i.far c.in_ok-put_char.ensures;
+      far = up_to_more g.met.W.TextSink.rules c.in-Some.c f.first refl i.far c.in_ok-put_char.ensures;
     }
 
 pub returns-in_err-put_char : goal.returns-in_err-put_char
@@ -38,12 +36,11 @@ returns-in_err-put_char g c =
     let f = first_char _ _ c.in-Some.c i.utf8 c.in-Some.ensures.steps.0 in
     subst (λ l. Shows w.puts w.halts w.stops c.args.sink.now l c.put_char.new.sink c.from_residual.result)
     (plain_all c.args.text.now c.utf8.text)
-    (up_to_exit no_step plain_text g.met.W.TextSink.rules tt
-    (chars c.args.text.now) c.in-Some.c f.first c.from_residual.ensures.0 i.far c.in_err-put_char.ensures)
+    (up_to_exit g.met.W.TextSink.rules c.in-Some.c f.first c.from_residual.ensures.0 i.far c.in_err-put_char.ensures)
 
 pub returns : goal.returns
 returns g c =
     let w = g.W.TextSink in
     subst (λ l. Shows w.puts w.halts w.stops c.args.sink.now l c.loop-c.sink (Ok tt)) (plain_all c.args.text.now c.utf8.text)
-    (up_to_end no_step plain_text g.met.W.TextSink.rules tt (chars c.args.text.now)
+    (up_to_end g.met.W.TextSink.rules
     (no_chars _ c.in-None.ensures.steps.0.0) c.loop-c.invariant.far)

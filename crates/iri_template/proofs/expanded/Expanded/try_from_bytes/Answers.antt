@@ -6,7 +6,7 @@ use Rattle.iri_template.specs.ShownValues.{ShownValue}
 use Rattle.iri_template.specs.TypeFaults.{expansion_fault, type_fault}
 use Rattle.iri_template.specs.declared.error.Error.{Error}
 use Rattle.iri_template.specs.declared.error.ErrorKind.TheVariants.{InvalidUtf8}
-use Rattle.iri_template.proofs.Utf8Faults.{of_text, of_bytes}
+use Rattle.iri_template.proofs.FaultLemmas.{of_text, of_bytes}
 use Rattle.iri_template.proofs.expanded.Expanded.try_from_bytes.Goals as goal
 
 -- the fault that a walk over the text of bytes found

@@ -23,7 +23,7 @@ returns-in-Ok g c =
     shows_all s untold (value self.context.now) (untold_adds (value self.context.now)) {stops = w.stops} (pieces_of (text self.template)) a b none
     (subst (λ x. EndsAs w.puts w.halts (portions s (by_purpose untold (value x)) (pieces_of (text self.template))) a b (Ok tt)) c.new-values.ensures
     (subst (λ t. EndsAs w.puts w.halts (portions s (by_purpose untold (value c.new-values.result.context.now)) (pieces_of t)) a b (Ok tt))
-    c.as_str.ensures.text c.in-Ok.ensures.written))
+    c.as_str-template.ensures.text c.in-Ok.ensures.written))
     c.in-Ok.ensures.later
 
 pub returns-in-Err : goal.returns-in-Err
@@ -41,5 +41,5 @@ returns-in-Err g c =
     (pieces_of (text self.template)) a b e none
     (subst (λ x. EndsAs w.puts w.halts (portions s (by_purpose untold (value x)) (pieces_of (text self.template))) a b (Err e)) c.new-values.ensures
     (subst (λ t. EndsAs w.puts w.halts (portions s (by_purpose untold (value c.new-values.result.context.now)) (pieces_of t)) a b (Err e))
-    c.as_str.ensures.text c.in-Err.ensures.written))
+    c.as_str-template.ensures.text c.in-Err.ensures.written))
     c.in-Err.ensures.cause c.in-Err.ensures.later

@@ -1,12 +1,11 @@
-use Rattle.std.proofs.Common.{◌∷◌, map, take}
+use Rattle.std.proofs.Common.{drop}
 use Rattle.iri_template.specs.Events.{ListBegun, Item}
-use Rattle.iri_template.proofs.VisitsCompose.{HasHeard}
+use Rattle.iri_template.proofs.VisitsEach.{HasHeardUpTo}
 use Rattle.iri_template.specs.declared.visitor.Phase.TheVariants.{InList}
 use Rattle.iri_template.proofs.visitor.Visitor.visit_list_direct.Given as goal
 
--- the list was begun, and these items of it were told
+-- the items before those that are left were told
 abbrev pub invariant-loop-item : goal.invariant-loop-item
 invariant-loop-item g l =
     let v = g.Self.Visitor in
-    HasHeard v.name v.aim v.phase v.hears v.stops l.fn.self
-    (ListBegun ∷ map Item (map g.T.Show.text (take l.item-index l.items))) InList l.self
+    HasHeardUpTo v.name v.aim v.phase v.hears v.stops ListBegun Item g.T.Show.text InList l.fn.self l.items (drop l.item-index l.items) l.self
