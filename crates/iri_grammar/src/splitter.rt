@@ -475,6 +475,3 @@ impl<'a> Splitter<'a> {
         self.fragment
     }
 }
-
-#[cfg(test)]
-mod tests;

@@ -216,6 +216,3 @@ pub fn relative_ref<S: Spec>(s: &str) -> Result<(), Error>
 {
     judge::<S>(&Splitter::cut_relative(s))
 }
-
-#[cfg(test)]
-mod tests;

@@ -1,6 +1,8 @@
-use super::*;
-use crate::spec::{IriSpec, UriSpec};
-use crate::{authority_laws, laws};
+use iri_grammar::error::{Error, ErrorKind};
+use iri_grammar::spec::{IriSpec, Spec, UriSpec};
+use iri_grammar::splitter::Splitter;
+use iri_grammar::validate::{absolute_iri, iri, iri_reference, relative_ref};
+use iri_grammar::{authority_laws, laws};
 use std::process::Abort;
 
 fn fault(answer: Result<(), Error>) -> Option<ErrorKind> {
@@ -167,9 +169,13 @@ fn splits_what_was_validated(rt: HostRuntime) {
         }
         Err(e) => assert_eq!(rt; Some(e.kind()), None),
     }
-    let parts = Splitter::cut("a#b?c");
-    is_part(&rt, parts.query(), None);
-    is_part(&rt, parts.fragment(), Some("b?c"));
+    match Splitter::new::<IriSpec>("a#b?c") {
+        Ok(parts) => {
+            is_part(&rt, parts.query(), None);
+            is_part(&rt, parts.fragment(), Some("b?c"));
+        }
+        Err(e) => assert_eq!(rt; Some(e.kind()), None),
+    }
 }
 
 // The laws of one spec, where they speak of it.
