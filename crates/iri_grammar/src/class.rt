@@ -143,6 +143,3 @@ pub fn is_any_char<S: Spec>(c: char) -> bool
 {
     Class::Any.has::<S>(c)
 }
-
-#[cfg(test)]
-mod tests;

@@ -434,6 +434,3 @@ impl<'a> Splitter<'a> {
         self.fragment
     }
 }
-
-#[cfg(test)]
-mod tests;

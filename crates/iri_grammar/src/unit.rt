@@ -276,6 +276,3 @@ pub(crate) fn cut_units<S: Spec>(class: Class, bytes: &[u8]) -> (&str, &[u8], bo
     let units = unsafe { str::from_utf8_unchecked(&bytes[..end]) };
     (units, &bytes[end..], bare)
 }
-
-#[cfg(test)]
-mod tests;

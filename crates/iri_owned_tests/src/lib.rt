@@ -5,4 +5,6 @@
 #[cfg(test)]
 mod owned;
 #[cfg(test)]
+mod same;
+#[cfg(test)]
 mod splice;

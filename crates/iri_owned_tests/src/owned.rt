@@ -1,3 +1,4 @@
+use crate::same::same;
 use iri_grammar::error::ErrorKind;
 use iri_owned::error::CreateError;
 use iri_owned::owned::{
@@ -28,35 +29,36 @@ fn told<E: Error>(error: &E, alloc: Global) -> Result<String, Fail> {
 #[test]
 fn made_and_refused(rt: HostRuntime) -> Result<(), Fail> {
     let iri = IriString::try_from_str(rt.alloc(), "http://a/#f")?;
-    assert_eq!(rt; iri.as_str(), "http://a/#f");
+    same(&rt, iri.as_str(), "http://a/#f");
     match IriString::try_from_bytes(rt.alloc(), &[0xFF]) {
         Ok(_) => assert!(rt; false),
-        Err(error) => assert_eq!(rt; fault(error), Some(ErrorKind::InvalidUtf8)),
+        Err(error) => same(&rt, fault(error), Some(ErrorKind::InvalidUtf8)),
     }
     let bytes = IriString::try_from_bytes(rt.alloc(), b"a:b")?;
-    assert_eq!(rt; bytes.as_str(), "a:b");
+    same(&rt, bytes.as_str(), "a:b");
     let text = "a".to_string(rt.alloc())?;
     match UriString::try_from_string(text) {
         Ok(_) => assert!(rt; false),
         Err(error) => {
             let kind = error.validation_error().kind();
-            assert_eq!(rt; kind, ErrorKind::UnexpectedRelative);
+            same(&rt, kind, ErrorKind::UnexpectedRelative);
             let want = "invalid IRI: expected an absolute IRI but got a relative IRI";
-            assert_eq!(rt; told(&error, rt.alloc())?.as_str(), want);
-            assert_eq!(rt; error.into_source().as_str(), "a");
+            same(&rt, told(&error, rt.alloc())?.as_str(), want);
+            same(&rt, error.into_source().as_str(), "a");
         }
     }
     match UriString::try_from_str(rt.alloc(), "a") {
         Ok(_) => assert!(rt; false),
         Err(error) => {
             let want = "invalid IRI: expected an absolute IRI but got a relative IRI";
-            assert_eq!(rt; told(&error, rt.alloc())?.as_str(), want);
+            same(&rt, told(&error, rt.alloc())?.as_str(), want);
         }
     }
     let refused = CreateError::Memory(AllocError);
-    assert_eq!(rt;
+    same(
+        &rt,
         told(&refused, rt.alloc())?.as_str(),
-        "memory allocation failed"
+        "memory allocation failed",
     );
     Ok(())
 }
@@ -68,7 +70,7 @@ fn copies(rt: HostRuntime) -> Result<(), Fail> {
     let clone = iri.try_clone(rt.alloc())?;
     iri.shrink_to_fit()?;
     assert!(rt; iri.capacity() >= 11);
-    for same in [&copy, &clone, &iri] {
+    for &same in &[&copy, &clone, &iri] {
         assert_eq!(rt; same.as_str(), "http://a/#f");
     }
     assert!(rt; copy == iri && clone == iri);
@@ -92,11 +94,11 @@ fn cut(
 fn cut_at_the_fragment(rt: HostRuntime) -> Result<(), Fail> {
     let iri = UriString::try_from_str(rt.alloc(), "http://a/#f")?;
     let (absolute, fragment) = cut(rt.alloc(), iri)?;
-    assert_eq!(rt; absolute.as_str(), "http://a/");
+    same(&rt, absolute.as_str(), "http://a/");
     let fragment = fragment.ok_or("no fragment")?;
-    assert_eq!(rt; fragment.into_iri_spec().as_str(), "f");
+    same(&rt, fragment.into_iri_spec().as_str(), "f");
     let absolute = absolute.into_iri().into_absolute();
-    assert_eq!(rt; absolute.into_reference().as_str(), "http://a/");
+    same(&rt, absolute.into_reference().as_str(), "http://a/");
     Ok(())
 }
 
@@ -104,25 +106,26 @@ fn cut_at_the_fragment(rt: HostRuntime) -> Result<(), Fail> {
 fn kinds(rt: HostRuntime) -> Result<(), Fail> {
     let reference = UriReferenceString::try_from_str(rt.alloc(), "//a?q")?;
     let relative = reference.into_relative_iri().ok().ok_or("an iri")?;
-    assert_eq!(rt; relative.as_str(), "//a?q");
+    same(&rt, relative.as_str(), "//a?q");
     let reference = UriReferenceString::try_from_str(rt.alloc(), "a:")?;
     let iri = reference.into_iri().ok().ok_or("a relative reference")?;
     let absolute = UriAbsoluteString::try_from_iri(iri).ok().ok_or("refused")?;
-    assert_eq!(rt; absolute.as_str(), "a:");
+    same(&rt, absolute.as_str(), "a:");
     let reference = UriReferenceString::try_from_str(rt.alloc(), "a:#")?;
     let error = UriAbsoluteString::try_from_reference(reference)
         .err()
         .ok_or("taken")?;
-    assert_eq!(rt;
+    same(
+        &rt,
         error.validation_error().kind(),
-        ErrorKind::UnexpectedFragment
+        ErrorKind::UnexpectedFragment,
     );
-    assert_eq!(rt; error.into_source().as_str(), "a:#");
+    same(&rt, error.into_source().as_str(), "a:#");
     let reference = UriReferenceString::try_from_str(rt.alloc(), "a")?;
     let relative = UriRelativeString::try_from_reference(reference)
         .ok()
         .ok_or("refused")?;
-    assert_eq!(rt; relative.as_str(), "a");
+    same(&rt, relative.as_str(), "a");
     Ok(())
 }
 
@@ -138,12 +141,12 @@ fn as_texts(rt: HostRuntime) -> Result<(), Fail> {
     let b = UriQueryString::try_from_str(rt.alloc(), "b")?;
     let again = a.try_clone(rt.alloc())?;
     assert_eq!(rt; again, a);
-    assert_eq!(rt; a.cmp(&b), Ordering::Less);
+    same(&rt, a.cmp(&b), Ordering::Less);
     assert!(rt; a < b && a != b);
-    assert_eq!(rt; hash_of(&a), hash_of(&again));
+    same(&rt, hash_of(&a), hash_of(&again));
     let told = format!(in rt.alloc(); "<{a}>")?;
-    assert_eq!(rt; told.as_str(), "<a>");
-    assert_eq!(rt; b.try_to_string(rt.alloc())?.as_str(), "b");
+    same(&rt, told.as_str(), "<a>");
+    same(&rt, b.try_to_string(rt.alloc())?.as_str(), "b");
     Ok(())
 }
 
@@ -155,19 +158,20 @@ fn length_of<T: AsStr>(value: &T) -> usize {
 fn by_the_traits_of_std(rt: HostRuntime) -> Result<(), Fail> {
     // RFC 3986 section 1.1.2.
     let link = UriString::try_from("urn:oasis:names".to_string(rt.alloc())?)?;
-    assert_eq!(rt; length_of(&link), 15);
-    assert_eq!(rt; UriStr::from(&link).path_str(), "oasis:names");
+    same(&rt, length_of(&link), 15);
+    same(&rt, UriStr::from(&link).path_str(), "oasis:names");
     let reference = UriReferenceString::from(link);
     let absolute = UriAbsoluteString::try_from(reference)?;
     let absolute = UriAbsoluteString::try_from(UriString::from(absolute))?;
     let reference = UriReferenceString::from(absolute);
-    assert_eq!(rt;
+    same(
+        &rt,
         IriReferenceString::from(reference).as_str(),
-        "urn:oasis:names"
+        "urn:oasis:names",
     );
     let relative = UriRelativeString::try_from("../g".to_string(rt.alloc())?)?;
     let reference = UriReferenceString::from(relative);
-    assert_eq!(rt; String::from(reference).as_str(), "../g");
+    same(&rt, String::from(reference).as_str(), "../g");
     Ok(())
 }
 
@@ -175,17 +179,17 @@ fn by_the_traits_of_std(rt: HostRuntime) -> Result<(), Fail> {
 fn refused_by_the_traits_of_std(rt: HostRuntime) -> Result<(), Fail> {
     let text = "http://a b".to_string(rt.alloc())?;
     let error = UriString::try_from(text).err().ok_or("taken")?;
-    assert_eq!(rt; error.validation_error().kind(), ErrorKind::InvalidHost);
-    assert_eq!(rt; error.into_source().as_str(), "http://a b");
+    same(&rt, error.validation_error().kind(), ErrorKind::InvalidHost);
+    same(&rt, error.into_source().as_str(), "http://a b");
     let reference = UriReferenceString::try_from_str(rt.alloc(), "//a")?;
     let error = UriString::try_from(reference).err().ok_or("taken")?;
     let kind = error.validation_error().kind();
-    assert_eq!(rt; kind, ErrorKind::UnexpectedRelative);
-    assert_eq!(rt; String::from(error.into_source()).as_str(), "//a");
+    same(&rt, kind, ErrorKind::UnexpectedRelative);
+    same(&rt, String::from(error.into_source()).as_str(), "//a");
     let link = UriString::try_from_str(rt.alloc(), "a:#")?;
     let error = UriAbsoluteString::try_from(link).err().ok_or("taken")?;
     let kind = error.validation_error().kind();
-    assert_eq!(rt; kind, ErrorKind::UnexpectedFragment);
+    same(&rt, kind, ErrorKind::UnexpectedFragment);
     let told = format!(in rt.alloc(); "{:?}", error.into_source())?;
     assert!(rt; told.as_str().contains("\"a:#\""));
     Ok(())

@@ -1,3 +1,4 @@
+use crate::same::same;
 use iri_grammar::error::ErrorKind;
 use iri_grammar::spec::{IriSpec, UriSpec};
 use iri_resolve::canonical::{CanonError, canonicalize};
@@ -36,7 +37,7 @@ fn canonical_texts_and_refusals(rt: HostRuntime) -> Result<(), Fail> {
 // The two links of RFC 3986 section 6.2.2 that normalization of syntax makes one.
 #[test]
 fn links_that_syntax_makes_one(rt: HostRuntime) -> Result<(), Fail> {
-    for link in [
+    for &link in &[
         "example://a/b/c/%7Bfoo%7D",
         "eXAMPLE://a/./b/../b/%63/%7bfoo%7d",
     ] {
@@ -55,15 +56,14 @@ fn links_that_syntax_makes_one(rt: HostRuntime) -> Result<(), Fail> {
 
 #[test]
 fn refusals_in_words(rt: HostRuntime) -> Result<(), Fail> {
-    let rows = [
+    for &(base, reference, words) in &[
         (
             "a/b",
             "%",
             "bad base: invalid IRI: expected an absolute IRI but got a relative IRI",
         ),
         ("http://a/", "%", "bad reference: invalid IRI: invalid path"),
-    ];
-    for (base, reference, words) in rows {
+    ] {
         let error = canonicalize::<UriSpec>(
             rt.alloc(),
             base.as_bytes(),
@@ -80,19 +80,22 @@ fn refusals_in_words(rt: HostRuntime) -> Result<(), Fail> {
 #[test]
 fn other_refusals_in_words(rt: HostRuntime) -> Result<(), Fail> {
     let memory = CanonError::Memory;
-    assert_eq!(rt;
+    same(
+        &rt,
         format!(in rt.alloc(); "{memory}")?.as_str(),
-        "out of memory"
+        "out of memory",
     );
     let illegal = ReplayError::Illegal(3);
-    assert_eq!(rt;
+    same(
+        &rt,
         format!(in rt.alloc(); "{illegal}")?.as_str(),
-        "step 3 is no step from the parts reached"
+        "step 3 is no step from the parts reached",
     );
     let replay = ReplayError::Memory;
-    assert_eq!(rt;
+    same(
+        &rt,
         format!(in rt.alloc(); "{replay}")?.as_str(),
-        "out of memory"
+        "out of memory",
     );
     Ok(())
 }

@@ -4,7 +4,7 @@ use std::test::Fail;
 
 #[test]
 fn dot_segments_are_found_at_each_place(rt: HostRuntime) -> Result<(), Fail> {
-    for path in [
+    for &path in &[
         ".",
         "aaaaaa/.",
         "aaaaaaa/.",
@@ -25,7 +25,7 @@ fn dot_segments_are_found_at_each_place(rt: HostRuntime) -> Result<(), Fail> {
 
 #[test]
 fn dots_of_other_segments_are_none(rt: HostRuntime) -> Result<(), Fail> {
-    for path in [
+    for &path in &[
         "",
         "...",
         "aaaaaa/a",

@@ -4,7 +4,7 @@ use std::test::Fail;
 
 #[test]
 fn texts_in_normal_form(rt: HostRuntime) -> Result<(), Fail> {
-    for (text, normal, by_rfc3986, preserving) in [
+    for &(text, normal, by_rfc3986, preserving) in &[
         ("scheme:/.//foo", true, false, true),
         ("scheme:.///foo", false, false, true),
         ("http://example.com:/", false, false, false),

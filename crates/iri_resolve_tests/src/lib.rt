@@ -22,6 +22,8 @@ mod resolver;
 #[cfg(test)]
 mod rewriting;
 #[cfg(test)]
+mod same;
+#[cfg(test)]
 mod segments;
 #[cfg(test)]
 mod shown_steps;

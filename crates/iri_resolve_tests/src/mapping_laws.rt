@@ -4,7 +4,7 @@ use std::test::Fail;
 
 #[test]
 fn both_ways(rt: HostRuntime) -> Result<(), Fail> {
-    for (base, reference, want) in [
+    for &(base, reference, want) in &[
         ("http://a/", "//\u{c9}X.COM", "http://%C3%89X.COM"),
         (
             "http://a/\u{e9}/b",

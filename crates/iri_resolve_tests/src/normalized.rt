@@ -1,3 +1,4 @@
+use crate::same::same;
 use iri_grammar::spec::{IriSpec, Spec, UriSpec};
 use iri_resolve::resolver::FixedBaseResolver;
 use iri_resolve::views::{Normalize, ResolveAgainst};
@@ -32,11 +33,15 @@ fn a_base_taken_whole(rt: HostRuntime) -> Result<(), Fail> {
     let resolver = FixedBaseResolver::new(base::<UriSpec>("http://a/b/c/d/e/../..")?);
     let mut text = resolver.resolve(reference("")?);
     let owned = text.try_to_dedicated_string(rt.alloc())?;
-    assert_eq!(rt; owned.as_str(), "http://a/b/c/d/e/../..");
+    same(&rt, owned.as_str(), "http://a/b/c/d/e/../..");
     let owned = text.and_normalize().try_to_dedicated_string(rt.alloc())?;
-    assert_eq!(rt; owned.as_str(), "http://a/b/c/");
+    same(&rt, owned.as_str(), "http://a/b/c/");
     text.enable_normalization();
-    assert_eq!(rt; text.try_to_string(rt.alloc())?.as_str(), "http://a/b/c/");
+    same(
+        &rt,
+        text.try_to_string(rt.alloc())?.as_str(),
+        "http://a/b/c/",
+    );
     Ok(())
 }
 
@@ -44,10 +49,11 @@ fn a_base_taken_whole(rt: HostRuntime) -> Result<(), Fail> {
 fn an_absolute_text(rt: HostRuntime) -> Result<(), Fail> {
     let view = base::<UriSpec>("HTTP://A/")?;
     let owned = view.normalize().try_to_dedicated_string(rt.alloc())?;
-    assert_eq!(rt; owned.as_str(), "http://a/");
-    assert_eq!(rt;
+    same(&rt, owned.as_str(), "http://a/");
+    same(
+        &rt,
         format!(in rt.alloc(); "{}", view.normalize())?.as_str(),
-        "http://a/"
+        "http://a/",
     );
     Ok(())
 }
@@ -57,25 +63,28 @@ fn an_absolute_text(rt: HostRuntime) -> Result<(), Fail> {
 fn a_relative_path_preserved(rt: HostRuntime) -> Result<(), Fail> {
     let view = iri::<UriSpec>("scheme:relative/..//foo")?;
     let mut text = view.normalize();
-    assert_eq!(rt;
+    same(
+        &rt,
         text.try_to_dedicated_string(rt.alloc())?.as_str(),
-        "scheme:/.//foo"
+        "scheme:/.//foo",
     );
     text.enable_normalization_preserving_authorityless_relative_path();
-    assert_eq!(rt;
+    same(
+        &rt,
         text.try_to_string(rt.alloc())?.as_str(),
-        "scheme:relative/..//foo"
+        "scheme:relative/..//foo",
     );
     let kept = view.normalize_but_preserve_authorityless_relative_path();
-    assert_eq!(rt;
+    same(
+        &rt,
         kept.try_to_string(rt.alloc())?.as_str(),
-        "scheme:relative/..//foo"
+        "scheme:relative/..//foo",
     );
     match view.ensure_rfc3986_normalizable() {
         Ok(()) => assert!(rt; false),
         Err(error) => {
             let words = format!(in rt.alloc(); "{error}")?;
-            assert_eq!(rt; words.as_str(), "unresolvable IRI");
+            same(&rt, words.as_str(), "unresolvable IRI");
         }
     }
     assert!(rt; kept.ensure_rfc3986_normalizable().is_err());
@@ -84,7 +93,7 @@ fn a_relative_path_preserved(rt: HostRuntime) -> Result<(), Fail> {
 
 #[test]
 fn normal_forms_by_rfc3986_alone(rt: HostRuntime) -> Result<(), Fail> {
-    for (text, stands) in [
+    for &(text, stands) in &[
         ("scheme:relative/..//foo", false),
         ("scheme:/a/..//b", false),
         ("scheme://a/..//b", true),
@@ -102,9 +111,10 @@ fn a_slice(rt: HostRuntime) -> Result<(), Fail> {
     let resolver = FixedBaseResolver::new(base::<UriSpec>("http://a/b/c/d;p?q")?);
     let text = resolver.resolve(reference("../../../g")?).and_normalize();
     let mut room = [0u8; 10];
-    assert_eq!(rt;
+    same(
+        &rt,
         write_to_slice(&mut room, &text).unwrap_or("no room"),
-        "http://a/g"
+        "http://a/g",
     );
     let mut room = [0u8; 9];
     assert!(rt; write_to_slice(&mut room, &text).is_err());
@@ -127,7 +137,7 @@ fn is_resolved<S: Spec>(
 
 #[test]
 fn resolved_texts(rt: HostRuntime) -> Result<(), Fail> {
-    for (prefix, text, plain, normal) in [
+    for &(prefix, text, plain, normal) in &[
         (
             "http://a/b/c/d;p?q",
             "",
@@ -209,20 +219,20 @@ fn a_relative_reference(rt: HostRuntime) -> Result<(), Fail> {
         return Err("a valid reference is refused")?;
     };
     let text = view.resolve_against(base("http://a/b/c")?).clone()?;
-    assert_eq!(rt; text.try_to_string(rt.alloc())?.as_str(), "http://a/x");
+    same(&rt, text.try_to_string(rt.alloc())?.as_str(), "http://a/x");
     Ok(())
 }
 
 #[test]
 fn the_parts_of_a_base(rt: HostRuntime) -> Result<(), Fail> {
     let resolver = FixedBaseResolver::new(base::<UriSpec>("http://a:1/b?q")?);
-    assert_eq!(rt; resolver.scheme_str(), "http");
+    same(&rt, resolver.scheme_str(), "http");
     assert!(rt; resolver.authority_str() == Some("a:1"));
-    assert_eq!(rt; resolver.path_str(), "/b");
+    same(&rt, resolver.path_str(), "/b");
     assert!(rt; resolver.query_str() == Some("q"));
     let Some(query) = resolver.query() else {
         return Err("a query is missed")?;
     };
-    assert_eq!(rt; query.as_str(), "q");
+    same(&rt, query.as_str(), "q");
     Ok(())
 }

@@ -1,3 +1,4 @@
+use crate::same::same;
 use iri_grammar::spec::{IriSpec, Spec, UriSpec};
 use iri_resolve::join::join_steps;
 use iri_resolve::normal_steps::steps_to_normal;
@@ -78,7 +79,7 @@ fn normal<S: Spec>(alloc: Global, reference: &str) -> Result<String, Fail> {
 #[test]
 fn letters_digits_and_the_port_of_scheme_and_authority(rt: HostRuntime) -> Result<(), Fail> {
     let named = "HTTP://U%3a@H%2d:/";
-    for (reference, step, text) in [
+    for &(reference, step, text) in &[
         (named, Step::SchemeLetter(0), Some("hTTP://U%3a@H%2d:/")),
         (named, Step::SchemeLetter(3), Some("HTTp://U%3a@H%2d:/")),
         (named, Step::SchemeLetter(4), None),
@@ -124,7 +125,7 @@ fn letters_digits_and_the_port_of_scheme_and_authority(rt: HostRuntime) -> Resul
 
 #[test]
 fn triplets_and_dots_of_the_other_parts(rt: HostRuntime) -> Result<(), Fail> {
-    for (reference, step, text) in [
+    for &(reference, step, text) in &[
         (
             "/%7e%2f",
             Step::HexDigit(Part::Path, 3),
@@ -180,7 +181,7 @@ fn triplets_and_dots_of_the_other_parts(rt: HostRuntime) -> Result<(), Fail> {
 
 #[test]
 fn characters_past_ascii(rt: HostRuntime) -> Result<(), Fail> {
-    for (reference, step, iri, uri) in [
+    for &(reference, step, iri, uri) in &[
         (
             "/%C3%89",
             Step::Decode(Part::Path, 1),
@@ -212,7 +213,7 @@ fn characters_past_ascii(rt: HostRuntime) -> Result<(), Fail> {
 
 #[test]
 fn steps_to_normal_forms(rt: HostRuntime) -> Result<(), Fail> {
-    for (reference, text) in [
+    for &(reference, text) in &[
         ("HTTP://H/%7e", "http://h/~"),
         ("//U%3a:P@H%2d:/", "http://U%3A:P@h-/"),
         ("//%41%2d%42@C%44.e:8", "http://A-B@cd.e:8"),
@@ -226,7 +227,7 @@ fn steps_to_normal_forms(rt: HostRuntime) -> Result<(), Fail> {
         assert_eq!(rt; got.as_str(), text, "at {reference}");
     }
     let got = normal::<IriSpec>(rt.alloc(), "//HÉ%C3%89%41/%C3%89%ff?%c3%89")?;
-    assert_eq!(rt; got.as_str(), "http://HÉÉA/É%FF?É");
+    same(&rt, got.as_str(), "http://HÉÉA/É%FF?É");
     Ok(())
 }
 
@@ -282,7 +283,7 @@ fn dot_segments_go_after_the_triplets(rt: HostRuntime) -> Result<(), Fail> {
 
 #[test]
 fn dot_segments_go_but_for_the_guard(rt: HostRuntime) -> Result<(), Fail> {
-    for reference in [
+    for &reference in &[
         "//h/.//b",
         "foo:/./b",
         "foo:.//b",
@@ -307,7 +308,7 @@ fn the_first_illegal_step_is_named(rt: HostRuntime) -> Result<(), Fail> {
     steps.push(Step::EmptyPort)?;
     match replay(rt.alloc(), &target, &steps) {
         Ok(_) => assert!(rt; false),
-        Err(ReplayError::Illegal(place)) => assert_eq!(rt; place, 1),
+        Err(ReplayError::Illegal(place)) => same(&rt, place, 1),
         Err(error) => Err(error)?,
     }
     Ok(())
@@ -342,7 +343,7 @@ fn steps_of_all_parts_by_turns(rt: HostRuntime) -> Result<(), Fail> {
         Step::HexDigit(Part::Query, 3),
     ];
     let got = after_all(rt.alloc(), "HTTP://U%41@H%42C:/%43?%44%3a#%45%3b", &steps)?;
-    assert_eq!(rt; got.as_str(), "HTTp://UA@hbc/C?D%3A#E%3B");
+    same(&rt, got.as_str(), "HTTp://UA@hbc/C?D%3A#E%3B");
     Ok(())
 }
 
@@ -360,11 +361,11 @@ fn many_steps_in_long_parts(rt: HostRuntime) -> Result<(), Fail> {
     let host = repeated(rt.alloc(), "//", "AB", 1000)?;
     let small = repeated(rt.alloc(), "http://", "ab", 1000)?;
     let got = normal::<UriSpec>(rt.alloc(), host.as_str())?;
-    assert_eq!(rt; got.as_str(), small.as_str());
+    same(&rt, got.as_str(), small.as_str());
     let path = repeated(rt.alloc(), "/", "%41%c3", 500)?;
     let decoded = repeated(rt.alloc(), "http://a/", "A%C3", 500)?;
     let got = normal::<UriSpec>(rt.alloc(), path.as_str())?;
-    assert_eq!(rt; got.as_str(), decoded.as_str());
+    same(&rt, got.as_str(), decoded.as_str());
     Ok(())
 }
 
@@ -396,7 +397,7 @@ fn are_joined(alloc: Global, a: &str, b: &str, text: &str) -> Result<bool, Fail>
 
 #[test]
 fn joined_targets(rt: HostRuntime) -> Result<(), Fail> {
-    for (a, b, text) in [
+    for &(a, b, text) in &[
         ("/a", "/%61", "http://a/a"),
         ("HTTP://A:/", "", "http://a/"),
         ("/b/../c", "/./%63", "http://a/c"),
@@ -408,7 +409,7 @@ fn joined_targets(rt: HostRuntime) -> Result<(), Fail> {
 
 #[test]
 fn targets_apart(rt: HostRuntime) -> Result<(), Fail> {
-    for (a, b) in [
+    for &(a, b) in &[
         ("/a", "/b"),
         ("/a", "/A"),
         ("//a", "//a/"),
@@ -429,9 +430,9 @@ fn parts_of_a_target_in_normal_form(rt: HostRuntime) -> Result<(), Fail> {
     let target = target::<UriSpec>(rt.alloc(), "HTTP://H/%7e")?;
     let steps = steps_to_normal(rt.alloc(), &target)?;
     let after = replay(rt.alloc(), &target, &steps)?;
-    assert_eq!(rt; after.scheme(), "http");
-    assert_eq!(rt; after.authority(), Some("h"));
-    assert_eq!(rt; after.path(), "/~");
+    same(&rt, after.scheme(), "http");
+    same(&rt, after.authority(), Some("h"));
+    same(&rt, after.path(), "/~");
     assert!(rt; gives::<UriSpec>(rt.alloc(), "HTTP://H/%7e", Step::EmptyPort, None)?);
     Ok(())
 }
@@ -441,7 +442,7 @@ fn parts_of_a_target_in_normal_form(rt: HostRuntime) -> Result<(), Fail> {
 fn steps_kept_where_memory_is_refused(rt: HostRuntime) -> Result<(), Fail> {
     let mut steps = StepList::new(rt.alloc());
     if steps.push(Step::EmptyPort).is_err() {
-        assert_eq!(rt; steps.len(), 0);
+        same(&rt, steps.len(), 0);
         return Err(AllocError)?;
     }
     assert!(rt; steps.get(0) == Some(Step::EmptyPort));

@@ -13,13 +13,12 @@ fn many_references_against_one_base(rt: HostRuntime) -> Result<(), Fail> {
         return Err("a valid base is refused")?;
     };
     let resolver = FixedBaseResolver::<UriSpec>::new(base).clone()?;
-    let rows = [
+    for &(reference, text) in &[
         ("g:h", "g:h"),
         ("../../../g", "http://a/g"),
         ("?y", "http://a/b/c/d;p?y"),
         ("", "http://a/b/c/d;p?q"),
-    ];
-    for (reference, text) in rows {
+    ] {
         let Ok(reference) = SplitView::<'_, UriSpec, Reference>::new(reference) else {
             return Err("a valid reference is refused")?;
         };
@@ -32,14 +31,13 @@ fn many_references_against_one_base(rt: HostRuntime) -> Result<(), Fail> {
 // Bases whose scheme and authority are in normal form, and ones that aren't: split by the scan that judges them, or afterwards.
 #[test]
 fn bases_that_were_split_before(rt: HostRuntime) -> Result<(), Fail> {
-    let rows = [
+    for &(text, wanted) in &[
         ("http://a:80/b/c", "http://a:80/b/~"),
         ("HTTP://A:/b/c", "http://a/b/~"),
         ("http://u%7e@a/b/c", "http://u~@a/b/~"),
         ("http://[::A]", "http://[::a]/~"),
         ("a:b", "a:~"),
-    ];
-    for (text, wanted) in rows {
+    ] {
         let Ok(split) = SplitView::<'_, UriSpec, Absolute>::absolute(text) else {
             return Err("a valid base is refused")?;
         };

@@ -1,3 +1,4 @@
+use crate::same::same;
 use iri_grammar::spec::{Spec, UriSpec};
 use iri_resolve::mode::CanonMode;
 use iri_resolve::normal_steps::{put_steps_in, show_steps, show_steps_in};
@@ -26,7 +27,7 @@ fn lines<S: Spec>(alloc: Global, mode: CanonMode, text: &str) -> Result<String, 
 #[test]
 fn steps_as_lines(rt: HostRuntime) -> Result<(), Fail> {
     let letters = "scheme letter 0\nscheme letter 1\nscheme letter 2\nscheme letter 3\n";
-    for (mode, text, steps) in [
+    for &(mode, text, steps) in &[
         (CanonMode::Default, "HTTP://a/", letters),
         (
             CanonMode::Default,
@@ -72,7 +73,7 @@ fn steps_put_into_a_list(rt: HostRuntime) -> Result<(), Fail> {
     let mut steps = StepList::new(rt.alloc());
     steps.push(Step::Dots)?;
     assert!(rt; put_steps_in(&mut steps, CanonMode::Default, &target).is_ok());
-    assert_eq!(rt; steps.len(), 2);
+    same(&rt, steps.len(), 2);
     assert!(rt; steps.get(1) == Some(Step::Decode(Part::Path, 1)));
     Ok(())
 }

@@ -215,6 +215,3 @@ pub fn authority<S: Spec>(s: &str) -> Result<(), Error>
     }
     host::<S>(parts.host())
 }
-
-#[cfg(test)]
-mod tests;

@@ -232,6 +232,3 @@ pub fn relative_ref<S: Spec>(s: &str) -> Result<(), Error>
     Splitter::relative::<S>(s)?;
     Ok(())
 }
-
-#[cfg(test)]
-mod tests;

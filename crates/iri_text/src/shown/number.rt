@@ -5,9 +5,6 @@ ghost use Rattle.iri_text.specs.Shown.{Shows};
 
 use crate::{Show, Stop, TextSink};
 
-#[cfg(test)]
-mod tests;
-
 // The most bytes of a number: a sign and the 39 digits of the greatest `u128`.
 const MOST: usize = 40;
 

@@ -2,9 +2,6 @@
 ghost use Rattle.std.specs.Prelude.{ℕ, List, string_bytes};
 ghost use Rattle.iri_text.specs.Shown.{AreSinkLaws, Shows};
 
-#[cfg(test)]
-mod tests;
-
 /// A sink took no more.
 #[derive(Clone, Copy, Debug)]
 pub struct Stop;

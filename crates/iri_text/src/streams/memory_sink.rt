@@ -118,6 +118,3 @@ impl<'a> Sink for MemorySink<'a> {
         Ok(())
     }
 }
-
-#[cfg(test)]
-mod tests;

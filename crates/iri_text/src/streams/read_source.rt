@@ -61,6 +61,3 @@ impl<R: Read> Source for ReadSource<R> {
         Err(Failed)
     }
 }
-
-#[cfg(test)]
-mod tests;

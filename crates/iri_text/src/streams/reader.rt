@@ -414,6 +414,3 @@ impl LineReader {
         }
     }
 }
-
-#[cfg(test)]
-mod tests;

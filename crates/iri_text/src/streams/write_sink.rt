@@ -108,6 +108,3 @@ impl<W: Write> Sink for WriteSink<W> {
         }
     }
 }
-
-#[cfg(test)]
-mod tests;

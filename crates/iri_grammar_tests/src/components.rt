@@ -1,7 +1,11 @@
-use super::*;
-use crate::host::host_is_reg_name;
-use crate::spec::{IriSpec, UriSpec};
-use crate::validate::whole::{absolute_iri, iri};
+use iri_grammar::authority::AuthoritySpan;
+use iri_grammar::error::{Error, ErrorKind};
+use iri_grammar::host::host_is_reg_name;
+use iri_grammar::spec::{IriSpec, Spec, UriSpec};
+use iri_grammar::validate::{
+    absolute_iri, authority, fragment, host, iri, path, path_segment, port, query, reg_name,
+    scheme, userinfo,
+};
 use std::alloc::Global;
 use std::process::Abort;
 use std::test::Fail;

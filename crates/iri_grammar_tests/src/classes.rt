@@ -1,5 +1,8 @@
-use super::*;
-use crate::spec::{IriSpec, UriSpec};
+use iri_grammar::class::{
+    is_any_char, is_fragment_char, is_path_char, is_pchar, is_query_char, is_reg_name_char,
+    is_unreserved, is_userinfo_char,
+};
+use iri_grammar::spec::{IriSpec, Spec, UriSpec};
 
 // The answers of the eight tests.
 fn answers<S: Spec>(c: char) -> [bool; 8] {

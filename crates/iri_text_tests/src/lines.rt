@@ -1,4 +1,5 @@
-use crate::{LineFault, LineReader, MemorySource, PlainSource, Source};
+use crate::same::same;
+use iri_text::{LineFault, LineReader, MemorySource, PlainSource, Source};
 use std::alloc::{AllocError, Global};
 use std::test::Fail;
 
@@ -116,8 +117,12 @@ fn a_source_that_fails_in_a_line(rt: HostRuntime) -> Result<(), Fail> {
 #[test]
 fn goes_to_a_line(rt: HostRuntime) -> Result<(), Fail> {
     let mut reader = LineReader::new(rt.alloc(), 1048576, 268435456)?;
-    assert_eq!(rt; reader.advance(&mut PlainSource::new(b"a\nb")), Ok(true));
-    assert_eq!(rt; reader.line(), b"a".as_slice());
+    same(
+        &rt,
+        reader.advance(&mut PlainSource::new(b"a\nb")),
+        Ok(true),
+    );
+    same(&rt, reader.line(), b"a".as_slice());
     Ok(())
 }
 
@@ -141,7 +146,7 @@ fn tells_whether_an_lf_is_held(rt: HostRuntime) -> Result<(), Fail> {
     let mut reader = LineReader::new(rt.alloc(), 8, 20)?;
     let mut source = MemorySource::new(b"a\nb\nc\n", &[5, 2], &[]);
     // What is held before each line: nothing, then `b`, LF and `c`, then `c` alone.
-    for (held, line) in [(false, b"a"), (true, b"b"), (false, b"c")] {
+    for &(held, line) in &[(false, b"a"), (true, b"b"), (false, b"c")] {
         let want = Some((held, line.as_slice()));
         assert_eq!(rt; next_held(&mut reader, &mut source), want);
     }

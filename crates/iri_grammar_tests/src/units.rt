@@ -1,8 +1,10 @@
 ghost use Rattle.iri_grammar.specs.Classes.{iri_tests};
 ghost use Rattle.iri_grammar.specs.inside.Laws.{iri_is_spec};
 
-use super::*;
-use crate::spec::{IriSpec, Spec, UriSpec};
+use crate::notes::{NOTHING, notes};
+use iri_grammar::class::Class;
+use iri_grammar::over::is_over;
+use iri_grammar::spec::{IriSpec, Spec, UriSpec};
 
 // The grammar of IRIs by its two tests alone.
 #[derive(Clone, Copy)]
@@ -45,17 +47,14 @@ fn characters_by_their_first_bytes(rt: HostRuntime) {
     ] {
         let mut buf = [0u8; 4];
         let s: &str = c.encode_utf8(&mut buf);
-        let (units, rest, bare) = cut_units::<IriSpec>(Class::Path, s.as_bytes());
+        assert!(rt; is_over::<IriSpec>(Class::Path, s) == want, "at {c}");
         assert!(rt;
-            bare && (units == s) == want && (rest == s.as_bytes()) == !want,
-            "at {c}"
-        );
-        let (units, rest, bare) = cut_units::<TestsAlone>(Class::Path, s.as_bytes());
-        assert!(rt;
-            bare && (units == s) == want && (rest == s.as_bytes()) == !want,
+            is_over::<TestsAlone>(Class::Path, s) == want,
             "at {c}, by the tests alone"
         );
-        let (units, rest, bare) = cut_units::<UriSpec>(Class::Path, s.as_bytes());
-        assert!(rt; bare && units.is_empty() && rest == s.as_bytes(), "at {c}");
+        assert!(rt; !is_over::<UriSpec>(Class::Path, s), "at {c}");
+        let taken = if want { Some(NOTHING) } else { None };
+        assert_eq!(rt; notes::<IriSpec>(s), taken, "at {c}");
+        assert_eq!(rt; notes::<TestsAlone>(s), taken, "at {c}, by the tests alone");
     }
 }

@@ -1,11 +1,11 @@
-use super::WriteSink;
-use crate::Sink;
+use crate::told::tells;
+use iri_text::{Sink, WriteSink};
 use std::io;
 use std::io::Write;
 use std::test::Fail;
 
 // Takes at most three bytes a call, fails once where it has `failing` bytes, and takes nothing once it has `full`.
-#[derive(Drop)]
+#[derive(Debug, Drop)]
 struct ShortWriter {
     got: Vec<u8>,
     failing: Option<usize>,
@@ -40,24 +40,27 @@ fn writes_until_all_is_taken(rt: HostRuntime) -> Result<(), Fail> {
         full: 10,
     });
     assert!(rt; sink.put_all(b"abcdefg").is_ok());
-    assert_eq!(rt; sink.faults, 0);
+    assert!(rt; tells(rt.alloc(), &sink, &["faults: 0,"])?);
     // An error, and nothing after it is tried.
     assert!(rt; sink.put_all(b"hij").is_err());
-    assert_eq!(rt; sink.faults, 1);
-    assert_eq!(rt; sink.writer.got.as_slice(), b"abcdefg".as_slice());
+    let first = ["faults: 1,", "got: [97, 98, 99, 100, 101, 102, 103]"];
+    assert!(rt; tells(rt.alloc(), &sink, &first)?);
     // A write of no bytes.
     assert!(rt; sink.put_all(b"hijk").is_err());
-    assert_eq!(rt; sink.faults, 2);
-    assert_eq!(rt; sink.writer.got.as_slice(), b"abcdefghij".as_slice());
+    let all = [
+        "faults: 2,",
+        "got: [97, 98, 99, 100, 101, 102, 103, 104, 105, 106]",
+    ];
+    assert!(rt; tells(rt.alloc(), &sink, &all)?);
     Ok(())
 }
 
-// Holds bytes back until it is flushed, and answers an error to its first flush.
-#[derive(Drop)]
+// Holds bytes back until it is flushed, and answers an error to two of its flushes, by their numbers.
+#[derive(Debug, Drop)]
 struct HoldingWriter {
     held: Vec<u8>,
     out: Vec<u8>,
-    failing: bool,
+    failing: [u8; 2],
     flushes: u8,
 }
 
@@ -69,8 +72,7 @@ impl Write for HoldingWriter {
 
     fn flush(&mut self) -> io::Result<()> {
         self.flushes = self.flushes.saturating_add(1);
-        if self.failing {
-            self.failing = false;
+        if self.failing.contains(&self.flushes) {
             return Err(io::ErrorKind::Other.into());
         }
         self.out.extend_from_slice(self.held.as_slice())?;
@@ -84,25 +86,22 @@ fn flushes_its_writer(rt: HostRuntime) -> Result<(), Fail> {
     let mut sink = WriteSink::new(HoldingWriter {
         held: Vec::with_capacity(rt.alloc(), 3)?,
         out: Vec::with_capacity(rt.alloc(), 3)?,
-        failing: true,
+        failing: [1, 3],
         flushes: 0,
     });
     assert!(rt; sink.put_all(b"abc").is_ok());
-    assert_eq!(rt; sink.writer.flushes, 0);
+    assert!(rt; tells(rt.alloc(), &sink, &["flushes: 0 "])?);
     assert!(rt; sink.flush().is_err());
-    assert_eq!(rt; sink.faults, 1);
-    assert_eq!(rt; sink.writer.flushes, 1);
+    assert!(rt; tells(rt.alloc(), &sink, &["flushes: 1 ", "faults: 1,"])?);
     assert!(rt; sink.flush().is_ok());
-    assert_eq!(rt; sink.faults, 1);
-    assert_eq!(rt; sink.writer.flushes, 2);
-    assert_eq!(rt; sink.writer.out.as_slice(), b"abc".as_slice());
-    // Nothing is pending now: the writer isn't called.
-    sink.writer.failing = true;
+    let flushed = ["flushes: 2 ", "faults: 1,", "out: [97, 98, 99]"];
+    assert!(rt; tells(rt.alloc(), &sink, &flushed)?);
+    // Nothing is pending now: the writer, whose next flush fails, isn't called.
     assert!(rt; sink.flush().is_ok());
-    assert_eq!(rt; sink.writer.flushes, 2);
+    assert!(rt; tells(rt.alloc(), &sink, &["flushes: 2 "])?);
     assert!(rt; sink.put_all(b"d").is_ok());
     assert!(rt; sink.flush().is_err());
-    assert_eq!(rt; sink.writer.flushes, 3);
+    assert!(rt; tells(rt.alloc(), &sink, &["flushes: 3 "])?);
     Ok(())
 }
 
@@ -114,11 +113,10 @@ fn flushes_a_writer_before_any_put(rt: HostRuntime) -> Result<(), Fail> {
     let mut sink = WriteSink::new(HoldingWriter {
         held,
         out: Vec::with_capacity(rt.alloc(), 1)?,
-        failing: false,
+        failing: [0, 0],
         flushes: 0,
     });
     assert!(rt; sink.flush().is_ok());
-    assert_eq!(rt; sink.writer.flushes, 1);
-    assert_eq!(rt; sink.writer.out.as_slice(), b"a".as_slice());
+    assert!(rt; tells(rt.alloc(), &sink, &["flushes: 1 ", "out: [97]"])?);
     Ok(())
 }

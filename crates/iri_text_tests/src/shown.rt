@@ -1,4 +1,5 @@
-use crate::{
+use crate::same::same;
+use iri_text::{
     Bytes, CapacityOverflowError, Show, SliceSink, Stop, StringSink, Text, TextSink,
     ToDedicatedString, ToStringFallible, show_each, show_five, show_four, show_three, show_two,
     try_append_to_string, write_to_slice,
@@ -36,7 +37,7 @@ fn owned<T: ToDedicatedString>(value: &T, alloc: Global) -> Result<T::Target, Al
 fn slices(rt: HostRuntime) -> Result<(), Fail> {
     let mut five = [0u8; 5];
     match write_to_slice(&mut five, &"hello") {
-        Ok(text) => assert_eq!(rt; text, "hello"),
+        Ok(text) => same(&rt, text, "hello"),
         Err(_) => assert!(rt; false),
     }
     let mut four = [0u8; 4];
@@ -44,12 +45,12 @@ fn slices(rt: HostRuntime) -> Result<(), Fail> {
         Ok(_) => assert!(rt; false),
         Err(error) => {
             let told = format!(in rt.alloc(); "{error}")?;
-            assert_eq!(rt; told.as_str(), "buffer capacity overflow");
+            same(&rt, told.as_str(), "buffer capacity overflow");
         }
     }
     let copy = CapacityOverflowError.clone()?;
     let told = format!(in rt.alloc(); "{copy:?}")?;
-    assert_eq!(rt; told.as_str(), "CapacityOverflowError");
+    same(&rt, told.as_str(), "CapacityOverflowError");
     Ok(())
 }
 
@@ -58,9 +59,9 @@ fn a_slice_stops_where_no_room_is_left(rt: HostRuntime) {
     let mut buf = [0u8; 4];
     let mut sink = SliceSink::new(&mut buf);
     assert!(rt; show_three(&mut sink, &"ab", &"cde", &"f").is_err());
-    assert_eq!(rt; sink.as_str(), "ab");
+    same(&rt, sink.as_str(), "ab");
     assert!(rt; sink.put("\u{e9}").is_ok());
-    assert_eq!(rt; sink.as_str(), "ab\u{e9}");
+    same(&rt, sink.as_str(), "ab\u{e9}");
 }
 
 #[test]
@@ -71,14 +72,14 @@ fn strings(rt: HostRuntime) -> Result<(), Fail> {
         assert!(rt; ["a", "a4"].contains(&text.as_str()));
         return Err(AllocError)?;
     }
-    assert_eq!(rt; text.as_str(), "a42");
+    same(&rt, text.as_str(), "a42");
     let shown = 42i32.try_to_string(rt.alloc())?;
-    assert_eq!(rt; shown.as_str(), "42");
+    same(&rt, shown.as_str(), "42");
     let mut sink = StringSink::new(&mut text);
     sink.put("b")?;
-    assert_eq!(rt; text.as_str(), "a42b");
+    same(&rt, text.as_str(), "a42b");
     let again = text.try_to_string(rt.alloc())?;
-    assert_eq!(rt; again.as_str(), "a42b");
+    same(&rt, again.as_str(), "a42b");
     Ok(())
 }
 
@@ -90,22 +91,22 @@ fn rows(rt: HostRuntime) -> Result<(), Fail> {
     show_four(&mut sink, &"b", &-2i8, &"c", &"d")?;
     show_five(&mut sink, &"e", &"f", &3u64, &"g", &"h")?;
     show_each(&mut sink, &["i", "", "jk"])?;
-    assert_eq!(rt; text.as_str(), "a1b-2cdef3ghijk");
+    same(&rt, text.as_str(), "a1b-2cdef3ghijk");
     Ok(())
 }
 
 #[test]
 fn held(rt: HostRuntime) -> Result<(), Fail> {
     let text = owned(&Word("word"), rt.alloc())?;
-    assert_eq!(rt; text.as_str(), "word");
+    same(&rt, text.as_str(), "word");
     let printed = format!(in rt.alloc(); "<{text}>")?;
-    assert_eq!(rt; printed.as_str(), "<word>");
+    same(&rt, printed.as_str(), "<word>");
     let shown = text.try_to_string(rt.alloc())?;
-    assert_eq!(rt; shown.as_str(), "word");
-    assert_eq!(rt; text.into_string().as_str(), "word");
+    same(&rt, shown.as_str(), "word");
+    same(&rt, text.into_string().as_str(), "word");
     let bytes = Bytes::from_vec(vec![in rt.alloc(); 1, 2]?);
-    assert_eq!(rt; bytes.as_slice(), [1, 2].as_slice());
-    assert_eq!(rt; bytes.into_vec().as_slice(), [1, 2].as_slice());
+    same(&rt, bytes.as_slice(), [1, 2].as_slice());
+    same(&rt, bytes.into_vec().as_slice(), [1, 2].as_slice());
     Ok(())
 }
 

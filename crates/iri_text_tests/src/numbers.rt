@@ -1,4 +1,4 @@
-use crate::{Show, write_to_slice};
+use iri_text::{Show, write_to_slice};
 
 // A value shows this text, and needs as many bytes as it has.
 fn shows<T: Show + Drop>(value: T, want: &str) -> bool {

@@ -1,10 +1,12 @@
-use super::ReadSource;
-use crate::Source;
+use crate::same::same;
+use crate::told::tells;
+use iri_text::{ReadSource, Source};
 use std::io;
 use std::io::Read;
+use std::test::Fail;
 
 // Gives at most two bytes a call. The second call fails.
-#[derive(Drop)]
+#[derive(Debug, Drop)]
 struct ShortReader {
     bytes: &'static [u8],
     calls: u8,
@@ -24,28 +26,27 @@ impl Read for ShortReader {
 }
 
 #[test]
-fn takes_what_the_reader_gives(rt: HostRuntime) {
+fn takes_what_the_reader_gives(rt: HostRuntime) -> Result<(), Fail> {
     let mut source = ReadSource::new(ShortReader {
         bytes: b"abc",
         calls: 0,
     });
     let mut buf = [0; 4];
-    assert_eq!(rt; source.take(&mut buf).ok(), Some(2));
-    assert_eq!(rt; &buf[..2], b"ab".as_slice());
-    assert_eq!(rt; source.reader.calls, 1);
-    assert_eq!(rt; source.take(&mut buf).ok(), None);
-    assert_eq!(rt; source.faults, 1);
+    same(&rt, source.take(&mut buf).ok(), Some(2));
+    same(&rt, &buf[..2], b"ab".as_slice());
+    assert!(rt; tells(rt.alloc(), &source, &["calls: 1 ", "faults: 0 "])?);
+    same(&rt, source.take(&mut buf).ok(), None);
     // The error isn't followed by another read.
-    assert_eq!(rt; source.reader.calls, 2);
-    assert_eq!(rt; source.take(&mut buf).ok(), Some(1));
-    assert_eq!(rt; &buf[..1], b"c".as_slice());
-    assert_eq!(rt; source.take(&mut buf).ok(), Some(0));
-    assert_eq!(rt; source.faults, 1);
-    assert_eq!(rt; source.reader.calls, 4);
+    assert!(rt; tells(rt.alloc(), &source, &["calls: 2 ", "faults: 1 "])?);
+    same(&rt, source.take(&mut buf).ok(), Some(1));
+    same(&rt, &buf[..1], b"c".as_slice());
+    same(&rt, source.take(&mut buf).ok(), Some(0));
+    assert!(rt; tells(rt.alloc(), &source, &["calls: 4 ", "faults: 1 "])?);
+    Ok(())
 }
 
 // Each call that is odd is ended by a signal; the others give the last byte.
-#[derive(Drop)]
+#[derive(Debug, Drop)]
 struct SignalledReader {
     calls: u8,
 }
@@ -62,12 +63,12 @@ impl Read for SignalledReader {
 }
 
 #[test]
-fn reads_again_after_a_signal(rt: HostRuntime) {
+fn reads_again_after_a_signal(rt: HostRuntime) -> Result<(), Fail> {
     let mut source = ReadSource::new(SignalledReader { calls: 0 });
     let mut buf = [0; 1];
-    for calls in [2, 4] {
-        assert_eq!(rt; source.take(&mut buf).ok(), Some(1));
-        assert_eq!(rt; source.reader.calls, calls);
-        assert_eq!(rt; source.faults, 0);
+    for &calls in &["calls: 2 ", "calls: 4 "] {
+        same(&rt, source.take(&mut buf).ok(), Some(1));
+        assert!(rt; tells(rt.alloc(), &source, &[calls, "faults: 0 "])?);
     }
+    Ok(())
 }

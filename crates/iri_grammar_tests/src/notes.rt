@@ -1,12 +1,12 @@
-use super::Splitter;
-use crate::spec::{IriSpec, UriSpec};
+use iri_grammar::spec::{IriSpec, Spec, UriSpec};
+use iri_grammar::splitter::Splitter;
 
-const NOTHING: [bool; 6] = [false; 6];
+pub(crate) const NOTHING: [bool; 6] = [false; 6];
 
 // The notes of a reference, in the order of the fields: triplets of path, query and fragment, dots, capitals, another
 // authority. That a note is left out where nothing is to note is said by no clause.
-fn notes(text: &str) -> Option<[bool; 6]> {
-    match Splitter::new::<IriSpec>(text) {
+pub(crate) fn notes<S: Spec>(text: &str) -> Option<[bool; 6]> {
+    match Splitter::new::<S>(text) {
         Ok(parts) => {
             let seen = parts.seen();
             Some([
@@ -34,7 +34,7 @@ fn what_needs_no_note(rt: HostRuntime) {
         "urn:a:B",
         "/\u{3B1}/\u{3B2}.\u{3B3}?\u{3B1}",
     ] {
-        assert_eq!(rt; notes(text), Some(NOTHING), "{text}");
+        assert_eq!(rt; notes::<IriSpec>(text), Some(NOTHING), "{text}");
     }
 }
 
@@ -60,7 +60,7 @@ fn what_is_noted(rt: HostRuntime) {
         ("//%41", [false, false, false, false, true, true]),
         ("//\u{3B1}", [false, false, false, false, true, true]),
     ] {
-        assert_eq!(rt; notes(text), Some(notes_of), "{text}");
+        assert_eq!(rt; notes::<IriSpec>(text), Some(notes_of), "{text}");
     }
 }
 

@@ -1,6 +1,8 @@
-use super::*;
-use crate::spec::{IriSpec, UriSpec};
-use crate::{authority_laws, laws};
+use iri_grammar::error::{Error, ErrorKind};
+use iri_grammar::spec::{IriSpec, Spec, UriSpec};
+use iri_grammar::splitter::Splitter;
+use iri_grammar::validate::{absolute_iri, iri, iri_reference, relative_ref};
+use iri_grammar::{authority_laws, laws};
 use std::process::Abort;
 
 fn fault(answer: Result<(), Error>) -> Option<ErrorKind> {

@@ -1,13 +1,13 @@
-use super::MemorySink;
-use crate::Sink;
+use crate::same::same;
+use iri_text::{MemorySink, Sink};
 
 #[test]
 fn fails_as_told_and_where_a_piece_has_no_room(rt: HostRuntime) {
     let mut buf = [0; 4];
     let mut sink = MemorySink::new(&mut buf, &[2]);
-    for (piece, want) in [(b"ab", true), (b"cd", false), (b"cd", true), (b"ef", false)] {
+    for &(piece, want) in &[(b"ab", true), (b"cd", false), (b"cd", true), (b"ef", false)] {
         assert_eq!(rt; sink.put_all(piece).is_ok(), want);
     }
     assert!(rt; sink.flush().is_ok());
-    assert_eq!(rt; sink.written(), b"abcd".as_slice());
+    same(&rt, sink.written(), b"abcd".as_slice());
 }
