@@ -1,5 +1,6 @@
 -- The walk over a template finds its names, and these stand in their slots.
-use Rattle.std.proofs.Common.{◌≡◌, ◌<◌, ◌≤◌, ℕ, zero, suc, ◌+◌, ◌-◌, true, false, cond, Bool, not, ◌&&◌, ◌||◌, List, [], ◌∷◌, ◌++◌, length, map, take, drop, get_or, set}
+use Rattle.std.proofs.Common.{◌≡◌, ◌<◌, ◌≤◌, ℕ, zero, suc, ◌+◌, ◌-◌, true, false, cond, Bool, not, ◌&&◌, ◌||◌}
+use Rattle.std.proofs.Common.{List, [], ◌∷◌, ◌++◌, length, map, take, drop, get_or, set}
 use Rattle.std.proofs.Common.{Option, Some, None, refl, sym, ◌∙◌, ap, subst, arith, append_assoc, length-append}
 use Rattle.std.specs.Prelude.{◌==◌}
 use Rattle.std.specs.Char.{encode_utf8, is_ascii_hexdigit}
@@ -161,7 +162,8 @@ begins at (c ∷ cs) y h =
     rw (plain c cs h, no_end c k.0) refl
 
 simple : (at : ℕ) (v : VarSpec) (vs : List VarSpec) (r : List ℕ) → list_all is_varspec (v ∷ vs) ≡ true
-    → found Opened at (joined 44 (map varspec_text (v ∷ vs)) ++ 125 ∷ r) ≡ found (Name at) at (joined 44 (map varspec_text (v ∷ vs)) ++ 125 ∷ r)
+    → found Opened at (joined 44 (map varspec_text (v ∷ vs)) ++ 125 ∷ r)
+    ≡ found (Name at) at (joined 44 (map varspec_text (v ∷ vs)) ++ 125 ∷ r)
 simple at v [] r h =
     let m = modifier_text v.modifier in
     let k = both (is_varname v.name) (is_modifier v.modifier) (both (is_varspec v) true h).0 in
@@ -345,7 +347,8 @@ pub walk_goes_on : (t : List ℕ) (i : ℕ) (walk after : Walk) (count counted_n
     → Walked t (drop (i + 1) t) after (i + 1) counted_now old new
 walk_goes_on t i walk after count counted_now o old now new h e a n c w =
     let rest = drop (i + 1) t in
-    let cut : drop i t ≡ get_or t i 0 ∷ rest = (let z : suc i ≡ i + 1 = omega arith in drop-cons t i 0 h ∙ ap (λ k. get_or t i 0 ∷ drop k t) z) in
+    let z : suc i ≡ i + 1 = omega arith in
+    let cut : drop i t ≡ get_or t i 0 ∷ rest = drop-cons t i 0 h ∙ ap (λ k. get_or t i 0 ∷ drop k t) z in
     let found_now : slot_list o ++ found after (i + 1) rest ≡ found walk i (drop i t) =
     ap (λ p. slot_list p ++ found after (i + 1) rest) e
     ∙ (ap (λ x. slot_list (name_before walk (get_or t i 0) i) ++ found x (i + 1) rest) a ∙ ap (found walk i) (sym cut)) in

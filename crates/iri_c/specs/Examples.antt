@@ -51,7 +51,7 @@ empty = refl
 
 -- names after an operator, commas and a brace, with and without a modifier
 names :
-    name_slots (codes "%2F{?a,b*,c:12}{d}")
-    ≡ record { offset = 5; len = 1 } ∷ record { offset = 7; len = 1 } ∷ record { offset = 10; len = 1 } ∷ record { offset = 16; len = 1 } ∷ []
+    name_slots (codes "%2F{?a,b*}{cd:12}")
+    ≡ record { offset = 5; len = 1 } ∷ record { offset = 7; len = 1 } ∷ record { offset = 11; len = 2 } ∷ []
 unfolding pieces_from
 names = refl

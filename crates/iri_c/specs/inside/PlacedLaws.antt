@@ -56,7 +56,8 @@ length-over_at (suc n) t [] = refl
 length-over_at (suc n) t (y ∷ buf) = omega (arith, length-over_at n t buf)
 
 -- so many members of the list as there is room for, and the rest of the buffer
-over-mid : {A : Type 0} (k : ℕ) (t buf : List A) → k ≤ length t → k ≤ length buf → (k < length t → length buf ≤ k) → take k t ++ drop k buf ≡ over t buf
+over-mid : {A : Type 0} (k : ℕ) (t buf : List A) → k ≤ length t → k ≤ length buf → (k < length t → length buf ≤ k)
+    → take k t ++ drop k buf ≡ over t buf
 unfolding over
 over-mid zero [] buf h i j = refl
 over-mid zero (x ∷ t) [] h i j = refl
