@@ -13,7 +13,8 @@
  *
  * Statuses: each call but irikit_run returns one of irikit_status, and always writes `told`:
  *
- *   IRIKIT_OK, IRIKIT_SHORT   where a text is written: its length in bytes. Otherwise 0
+ *   IRIKIT_OK, IRIKIT_SHORT   where a text is written: its length in bytes; of a template's variables: how many there are.
+ *                             Otherwise 0
  *   IRIKIT_BAD_..             the kind of the first fault from the left, one of irikit_fault; of IRIKIT_BAD_VARIABLE 0
  *   IRIKIT_NOT_NORMAL, IRIKIT_UNKNOWN, IRIKIT_NO_HOST   0
  *
@@ -309,18 +310,21 @@ uint8_t irikit_expand(uint8_t grammar, const char *template_text, size_t templat
                       const struct irikit_variable *variables, size_t count, char *out, size_t size, size_t *told,
                       size_t *place);
 
-/* The names of a template's variables, from left to right, each as often as it stands there; or the template's first fault.
+/* Where the names of a template's variables stand, from left to right, each as often as it stands there; or the template's
+ * first fault.
  *
- * Takes: the template; a buffer.
- * Writes: to `out`, the names, each with an LF after it: at most `template_len` bytes; `*place`, which is 0 but at
- * IRIKIT_BAD_TEXT.
- * Returns: IRIKIT_OK: it is a template; IRIKIT_SHORT; IRIKIT_BAD_TEXT: `*told` is its first fault, one of
- * irikit_template_fault, and `*place` its place in bytes.
+ * Takes: the template; `count` slots, of which no template wants more than template_len / 2.
+ * Writes: to the start of `names`, where each name stands, as far as there is room; to `*told`, how many names there are;
+ * `*place`, which is 0 but at IRIKIT_BAD_TEXT.
+ * Returns: IRIKIT_OK: it is a template; IRIKIT_SHORT: it has more than `count` names; IRIKIT_BAD_TEXT: `*told` is its first
+ * fault, one of irikit_template_fault, and `*place` its place in bytes; then `names` stays as it was.
  *
- *   irikit_template_variables("/s{?q,n*}", 9, out, sizeof out, &told, &place);  // "q\nn\n"
- *   irikit_template_variables("/s{", 3, out, sizeof out, &told, &place);  // IRIKIT_BAD_TEXT, place 2 */
-uint8_t irikit_template_variables(const char *template_text, size_t template_len, char *out, size_t size, size_t *told,
-                                  size_t *place);
+ *   const char *text = "/s{?q,n*}";
+ *   irikit_template_variables(text, 9, names, 4, &told, &place);  // IRIKIT_OK, told 2
+ *   fwrite(text + names[1].offset, 1, names[1].len, stdout);  // "n"
+ *   irikit_template_variables("/s{", 3, names, 4, &told, &place);  // IRIKIT_BAD_TEXT, place 2 */
+uint8_t irikit_template_variables(const char *template_text, size_t template_len, struct irikit_slot *names, size_t count,
+                                  size_t *told, size_t *place);
 
 /* The words for a kind of fault of a template, as `irikit expand` answers them, in ASCII.
  *

@@ -170,9 +170,10 @@ class Kit {
     return this.#read(this.#out, this.#words[0]);
   }
 
-  // The same of a call on a template.
-  #ofTemplate(status) {
-    if (status !== BAD_TEXT) return this.#written(status);
+  // Refuses what a call on a template refuses.
+  #judge(status) {
+    if (status === OK) return;
+    if (status !== BAD_TEXT) throw this.#refusal(status);
     const fault = this.#words[0], place = this.#words[2];
     throw new Refused("template", fault, this.templateFaultWords(fault), place);
   }
@@ -312,13 +313,18 @@ class Kit {
       return [...all[i], BigInt(kind), at, BigInt(found.length)];
     });
     this.#cells.set([...structs, ...all.slice(count).flat()]);
-    return this.#ofTemplate(
-      this.#run(this.#calls.irikit_expand, grammar, this.#baseAt, this.#baseLen, this.#textAt, BigInt(count)));
+    this.#judge(this.#run(this.#calls.irikit_expand, grammar, this.#baseAt, this.#baseLen, this.#textAt, BigInt(count)));
+    return this.#read(this.#out, this.#words[0]);
   }
 
   templateVariables(template) {
     const len = this.#put(template);
-    return linesOf(this.#ofTemplate(this.#run(this.#calls.irikit_template_variables, this.#textAt, len)));
+    // A name and what parts it from the next have two bytes at least, and a slot has sixteen.
+    this.#room(0, 0, 8 * Number(len));
+    this.#judge(this.#calls.irikit_template_variables(
+      this.#textAt, len, this.#outAt, this.#outSize / 16n, this.#told, this.#slots));
+    const cells = new Uint32Array(this.#memory.buffer, this.#out, 4 * this.#words[0]);
+    return Array.from({ length: this.#words[0] }, (_, i) => this.#read(this.#textBytes.byteOffset + cells[4 * i], cells[4 * i + 2]));
   }
 
   faultWords(fault) {

@@ -118,16 +118,36 @@ static size_t check_others(void) {
     return failed;
 }
 
-/* The names of variables in a buffer of each size. */
-static size_t check_names(const char *text, const char *wanted) {
-    size_t failed = 0, len = strlen(wanted);
-    for (size_t size = 0; size <= len + 1; size++) {
-        char out[64];
+enum { SLOTS = 8 };
+
+/* Whether the first `written` slots are those that are wanted, and the others as they were. */
+static int are_slots(const struct irikit_slot *slots, size_t written, const struct irikit_slot *wanted) {
+    int right = 1;
+    for (size_t i = 0; i < SLOTS; i++) {
+        struct irikit_slot is = i < written ? wanted[i] : (struct irikit_slot){7, 7};
+        right &= slots[i].offset == is.offset && slots[i].len == is.len;
+    }
+    return right;
+}
+
+/* Where the names stand, in slots of each count: `^` stands below each of their bytes. */
+static size_t check_names(const char *text, const char *below) {
+    struct irikit_slot wanted[SLOTS];
+    size_t failed = 0, names = 0;
+    for (size_t at = 0; below[at]; at++) {
+        if (below[at] != '^')
+            continue;
+        wanted[names++] = (struct irikit_slot){at, strspn(below + at, "^")};
+        at += wanted[names - 1].len - 1;
+    }
+    for (size_t count = 0; count <= SLOTS; count++) {
+        struct irikit_slot slots[SLOTS];
         size_t told = 9, place = 9;
-        memset(out, '.', sizeof out);
-        uint8_t status = irikit_template_variables(text, strlen(text), out, size, &told, &place);
-        failed += wrong(status == (size < len ? IRIKIT_SHORT : IRIKIT_OK) && told == len && !place
-                            && is_over(out, size, wanted, len, sizeof out), text);
+        for (size_t i = 0; i < SLOTS; i++)
+            slots[i] = (struct irikit_slot){7, 7};
+        uint8_t status = irikit_template_variables(text, strlen(text), slots, count, &told, &place);
+        failed += wrong(status == (count < names ? IRIKIT_SHORT : IRIKIT_OK) && told == names && !place
+                            && are_slots(slots, count < names ? count : names, wanted), text);
     }
     return failed;
 }
@@ -139,10 +159,15 @@ static size_t check_variable_names(void) {
         {"{=v}", IRIKIT_UNSUPPORTED_OPERATOR, 1}, {"a%4", IRIKIT_INVALID_PERCENT_ENCODING, 1},
     };
     size_t failed = 0, told = 9, place = 9;
-    failed += check_names("http://example.com/~{username}/", "username\n");
-    failed += check_names("http://example.com/dictionary/{term:1}/{term}", "term\nterm\n");
-    failed += check_names("http://www.example.com/foo{?query,number}", "query\nnumber\n");
-    failed += check_names("{+x,hello,y}{;list*}{a%41.b_}", "x\nhello\ny\nlist\na%41.b_\n") + check_names("/a", "");
+    failed += check_names("http://example.com/~{username}/",
+                          "                     ^^^^^^^^  ");
+    failed += check_names("http://example.com/dictionary/{term:1}/{term}",
+                          "                               ^^^^     ^^^^ ");
+    failed += check_names("http://www.example.com/foo{?query,number}",
+                          "                            ^^^^^ ^^^^^^ ");
+    failed += check_names("{+x,hello,y:33}%7b{.list*}{a%41.b_}",
+                          "  ^ ^^^^^ ^         ^^^^   ^^^^^^^ ");
+    failed += check_names("\xc3\xa9{a}", "   ^ ") + check_names("/a", "");
     for (size_t i = 0; i < sizeof refused / sizeof *refused; i++) {
         const char *text = refused[i].text;
         uint8_t status = irikit_template_variables(text, strlen(text), NULL, 0, &told, &place);

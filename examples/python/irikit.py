@@ -85,7 +85,7 @@ _fault_words = _call("irikit_fault_words", _size, _text, _size, _told)
 _template_fault_words = _call("irikit_template_fault_words", _size, _text, _size, _told)
 _expand = _call("irikit_expand", _byte, _text, _size, ctypes.POINTER(_Variable), _size, _text, _size, _told, _told)
 
-_template_variables = _call("irikit_template_variables", _text, _size, _text, _size, _told, _told)
+_template_variables = _call("irikit_template_variables", _text, _size, ctypes.POINTER(_size), _size, _told, _told)
 
 
 class Refused(ValueError):
@@ -394,11 +394,12 @@ def variables(template: Text) -> list[str]:
     ['q', 'n']
     """
     template = _bytes(template)
-    out, told, place = ctypes.create_string_buffer(len(template) + 1), _size(), _size()
-    status = _template_variables(template, len(template), out, len(template), told, place)
+    slots, told, place = (_size * len(template))(), _size(), _size()
+    status = _template_variables(template, len(template), slots, len(template) // 2, told, place)
     if status != OK:
         raise Refused(status, told.value, place.value)
-    return out.raw[: told.value].decode().split("\n")[:-1]
+    places = zip(slots[: 2 * told.value : 2], slots[1 : 2 * told.value : 2])
+    return [template[offset : offset + size].decode() for offset, size in places]
 
 
 def fault(text: Text, kind: int = REFERENCE, grammar: int = URI) -> str | None:

@@ -1,8 +1,8 @@
--- A text written over the start of a buffer.
-use Rattle.std.specs.Prelude.{ℕ, List, [], ◌∷◌}
+-- A list written over the start of a buffer.
+use Rattle.std.specs.Prelude.{List, [], ◌∷◌}
 
--- the bytes of the text, and after them what stood there; what the buffer has no room for is cut off
-unfoldable pub over : List ℕ → List ℕ → List ℕ
+-- the members of the list, bytes or slots, and after them what stood there; what the buffer has no room for is cut off
+unfoldable pub over : {A : Type 0} → List A → List A → List A
 over [] buffer = buffer
-over (x ∷ text) [] = []
-over (x ∷ text) (y ∷ buffer) = x ∷ over text buffer
+over (x ∷ xs) [] = []
+over (x ∷ xs) (y ∷ buffer) = x ∷ over xs buffer

@@ -1,9 +1,11 @@
 -- Worked examples, computed.
-use Rattle.std.specs.Prelude.{◌≡◌, [], codes, refl}
+use Rattle.std.specs.Prelude.{◌≡◌, [], ◌∷◌, codes, refl}
 use Rattle.iri_grammar.specs.Authority.{authority_parts}
 use Rattle.iri_grammar.specs.Components.{is_letter, is_scheme_char}
 use Rattle.iri_grammar.specs.Split.{split_of}
+use Rattle.iri_template.specs.Reading.{pieces_from}
 use Rattle.iri_c.specs.Buffers.{over}
+use Rattle.iri_c.specs.Names.{name_slots}
 use Rattle.iri_c.specs.Slots.{nowhere, slots_of}
 
 -- a text in a buffer with room, with room for exactly it, with too little and with none
@@ -46,3 +48,10 @@ empty :
     }
 unfolding split_of authority_parts is_letter is_scheme_char
 empty = refl
+
+-- names after an operator, commas and a brace, with and without a modifier
+names :
+    name_slots (codes "%2F{?a,b*}{cd:12}")
+    ≡ record { offset = 5; len = 1 } ∷ record { offset = 7; len = 1 } ∷ record { offset = 11; len = 2 } ∷ []
+unfolding pieces_from
+names = refl

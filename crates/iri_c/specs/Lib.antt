@@ -5,6 +5,7 @@ pub mod Encodings
 pub mod Examples
 pub mod Forms
 pub mod Lines
+pub mod Names
 pub mod Numbers
 pub mod Outcome
 pub mod Outcomes

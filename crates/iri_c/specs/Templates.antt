@@ -1,14 +1,11 @@
 -- What an expansion comes to.
-use Rattle.std.specs.Prelude.{◌≡◌, ℕ, not, List, [], ◌∷◌, ◌++◌, Option, Some, None, position, slice_get}
-use Rattle.std.specs.List.{flat_map}
+use Rattle.std.specs.Prelude.{◌≡◌, ℕ, not, List, [], ◌∷◌, Option, Some, None, position, slice_get}
 use Rattle.iri_grammar.specs.Classes.{Tests}
 use Rattle.iri_template.specs.ErrorTexts.{description}
 use Rattle.iri_template.specs.Expansion.{expansion}
 use Rattle.iri_template.specs.Fault.{template_fault, first}
 use Rattle.iri_template.specs.Reading.{pieces_of}
-use Rattle.iri_template.specs.Template.{names_of}
 use Rattle.iri_template.specs.TypeFaults.{type_fault}
-use Rattle.iri_text.specs.LineEnds.{line_feed}
 use Rattle.iri_template.specs.declared.error.Error.{Error}
 use Rattle.iri_template.specs.declared.error.ErrorKind.{ErrorKind}
 use Rattle.iri_template.specs.declared.error.ErrorKind.TheVariants.{ExpressionNotClosed, InvalidCharacter, InvalidExpression}
@@ -69,17 +66,3 @@ ExpandedOf None (Some s) t vs old new told place status = ExpandedIn s t vs old 
 abbrev pub Expanded : ℕ → List ℕ → List Variable → List ℕ → List ℕ → ℕ → ℕ → ℕ → Type 0
 Expanded grammar t vs old new told place status =
     ExpandedOf (position (λ v. not (is_sound v)) vs) (grammar_of grammar) t vs old new told place status
-
--- ---- the names of the variables, from left to right, each as often as it stands there, and each with an LF
-abbrev pub name_line : List ℕ → List ℕ
-name_line name = name ++ line_feed ∷ []
-
-abbrev pub name_lines : List ℕ → List ℕ
-name_lines t = flat_map name_line (names_of (pieces_of t))
-
-abbrev pub NamesToldBy : Option Error → List ℕ → List ℕ → List ℕ → ℕ → ℕ → ℕ → Type 0
-NamesToldBy (Some e) t old new told place status = (new ≡ old) × Refused e told place status
-NamesToldBy None t old new told place status = (place ≡ 0) × Answered (text (name_lines t)) old new told status
-
-abbrev pub NamesTold : List ℕ → List ℕ → List ℕ → ℕ → ℕ → ℕ → Type 0
-NamesTold t old new told place status = NamesToldBy (template_fault t) t old new told place status

@@ -288,19 +288,27 @@ fn built(rt: HostRuntime) {
     assert!(rt; irikit_build(2, 0, &no_text, &mut out, &mut told) == 8 && told == 10);
 }
 
-// The example of RFC 6570 section 1.1, with a name twice.
+// The example of RFC 6570 section 1.1, with a name twice; operators, modifiers, and slots that lack or stay.
 #[test]
 fn names(rt: HostRuntime) {
-    let mut out = [b'.'; 64];
+    let mut slots = [HERE; 5];
     let (mut told, mut place) = (9, 9);
     let text = b"http://example.com/~{username}/{term:1}/{term}{?q*,lang}";
-    let status = irikit_template_variables(text, &mut out, &mut told, &mut place);
-    assert!(rt; status == 0 && told == 26 && place == 0);
-    assert!(rt; out.starts_with(b"username\nterm\nterm\nq\nlang\n."));
-    let status = irikit_template_variables(b"ab{", &mut out, &mut told, &mut place);
-    assert!(rt; status == 3 && told == 0 && place == 2);
+    let status = irikit_template_variables(text, &mut slots, &mut told, &mut place);
+    assert!(rt; status == 0 && told == 5 && place == 0);
+    assert!(rt; is_slot(slots[0], 21, 8) && is_slot(slots[1], 32, 4) && is_slot(slots[2], 41, 4));
+    assert!(rt; is_slot(slots[3], 48, 1) && is_slot(slots[4], 51, 4));
+    let status = irikit_template_variables(b"ab{", &mut slots, &mut told, &mut place);
+    assert!(rt; status == 3 && told == 0 && place == 2 && is_slot(slots[0], 21, 8));
     let status = irikit_template_variables(b"ab", &mut [], &mut told, &mut place);
     assert!(rt; status == 0 && told == 0 && place == 0);
+    let text = "{&.}%7b\u{e9}".as_bytes();
+    assert!(rt; irikit_template_variables(text, &mut [], &mut told, &mut place) == 3 && place == 2);
+    let text = "%7b\u{e9}{.a%41.b:12,c}{d}".as_bytes();
+    let room = &mut slots[..2];
+    let status = irikit_template_variables(text, room, &mut told, &mut place);
+    assert!(rt; status == 1 && told == 3 && place == 0);
+    assert!(rt; is_slot(slots[0], 7, 6) && is_slot(slots[1], 17, 1) && is_slot(slots[2], 41, 4));
 }
 
 // The example of RFC 3986 section 6.2.2; hosts and ports; the rules of schemes; what only IRIs decode.

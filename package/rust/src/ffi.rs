@@ -90,7 +90,7 @@ calls! {
     irikit_replace_reg_name(grammar: u8, text: *const c_char, len: usize, host: *const c_char, host_len: usize,
         out: *mut c_char, size: usize, told: *mut usize);
     irikit_build(grammar: u8, kind: u8, parts: *const Given, count: usize, out: *mut c_char, size: usize, told: *mut usize);
-    irikit_template_variables(template: *const c_char, len: usize, out: *mut c_char, size: usize, told: *mut usize,
+    irikit_template_variables(template: *const c_char, len: usize, names: *mut Slot, count: usize, told: *mut usize,
         place: *mut usize);
     irikit_expand(grammar: u8, template: *const c_char, template_len: usize, variables: *const Variable, count: usize,
         out: *mut c_char, size: usize, told: *mut usize, place: *mut usize);

@@ -513,23 +513,17 @@ impl Grammar {
 /// assert_eq!(irikit::template_variables("/search{?q,n*}")?, ["q", "n"]);
 /// # Ok::<(), irikit::Error>(())
 /// ```
-pub fn template_variables(template: &str) -> Result<Vec<String>, Error> {
-    let ((template, len), mut out, mut told, mut place) =
-        (at(template), vec![0; template.len()], 0, 0);
-    let size = out.len();
-    let status = unsafe {
-        ffi::irikit_template_variables(
-            template,
-            len,
-            out.as_mut_ptr().cast(),
-            size,
-            &mut told,
-            &mut place,
-        )
-    };
-    let len = refuse(status, told, place)?;
-    let names = std::str::from_utf8(&out[..len]).expect("irikit writes UTF-8");
-    Ok(names.split_terminator('\n').map(Into::into).collect())
+pub fn template_variables(template: &str) -> Result<Vec<&str>, Error> {
+    let ((bytes, len), mut told, mut place) = (at(template), 0, 0);
+    let mut slots = vec![ffi::Slot::default(); len / 2];
+    let (names, count) = (slots.as_mut_ptr(), slots.len());
+    let status =
+        unsafe { ffi::irikit_template_variables(bytes, len, names, count, &mut told, &mut place) };
+    slots.truncate(refuse(status, told, place)?);
+    Ok(slots
+        .iter()
+        .map(|s| &template[s.offset..s.offset + s.len])
+        .collect())
 }
 
 /// A reference of IRIs, mapped to one of URIs (RFC 3987 section 3.1).
