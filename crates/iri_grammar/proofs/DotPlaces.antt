@@ -1,11 +1,15 @@
--- What begins a dot after a slash, looked for in eight places at a time.
-use Rattle.std.proofs.Common.{◌≡◌, ℕ, zero, suc, ◌+◌, ◌-◌, ◌*◌, ◌%◌, ◌^◌, ◌<◌, ◌≤◌, Bool, true, false, cond, not, eqb, ◌&&◌, ◌||◌, List, [], ◌∷◌, map, length, take, drop, get_or, replicate}
-use Rattle.std.proofs.Common.{refl, sym, ◌∙◌, ap, ap₂, arith, drop-cons, inl, inr}
+-- What begins a dot after a slash, looked for in sixteen places at a time.
+use Rattle.std.proofs.Common.{◌≡◌, ℕ, zero, suc, ◌+◌, ◌-◌, ◌%◌, ◌^◌, ◌<◌, ◌≤◌, Bool, true, false, cond, not, eqb, ◌&&◌, ◌||◌, List, [], ◌∷◌, map, length, take, drop, get_or, replicate}
+use Rattle.std.proofs.Common.{◌≢◌, refl, sym, ◌∙◌, ap, ap₂, arith, drop-cons, inl, inr}
 use Rattle.std.specs.Prelude.{◌==◌, slice_index}
-use Rattle.std.proofs.lemmas.Bool.{cases_eq, eqb-true}
-use Rattle.std.proofs.lemmas.List.{length-map}
-use Rattle.std.proofs.lemmas.Simd.{mask_l-mod, zip2_splat, length-zip2, get_or-chunk, length-chunk}
+use Rattle.std.proofs.lemmas.Bool.{cases_eq, cases_lt}
+use Rattle.std.proofs.lemmas.Bool.Decides.{nat_tests}
+use Rattle.std.specs.List.{prefix_len}
+use Rattle.std.proofs.lemmas.List.Sums.{prefix_len-le-length, prefix_len_passes}
+use Rattle.std.proofs.lemmas.List.{drop-drop, get_or-map, length-drop, length-map}
+use Rattle.std.proofs.lemmas.Simd.{first_set_mask_l, mask_l-mod, zip2_splat, length-zip2, get_or-chunk, get_or-zip2, length-chunk}
 use lib.Bits.{bit_and, bit_or}
+use lib.Count.{count_trailing_zeros}
 use lib.Lanes.{zip2, mask_l, top}
 use Rattle.iri_grammar.specs.Seen.{begins_dot, goes_on_as_dot, has_slash_and_dot, may_have_dots, slash_and_dot}
 
@@ -28,14 +32,14 @@ either : (ys : List ℕ) → zip2 bit_or (map (λ y. hit y 46) ys) (map (λ y. h
 either [] = refl
 either (y ∷ ys) = ap (λ r. dot_lane y ∷ r) (either ys)
 
--- the lanes of eight bytes and of those after them
+-- the lanes of sixteen bytes and of those after them
 abbrev pub lanes : List ℕ → List ℕ → List ℕ
-lanes xs ys = zip2 bit_and (zip2 hit xs (replicate 8 47)) (zip2 bit_or (zip2 hit ys (replicate 8 46)) (zip2 hit ys (replicate 8 37)))
+lanes xs ys = zip2 bit_and (zip2 hit xs (replicate 16 47)) (zip2 bit_or (zip2 hit ys (replicate 16 46)) (zip2 hit ys (replicate 16 37)))
 
-lanes-map : (xs ys : List ℕ) → length xs ≡ 8 → length ys ≡ 8 → lanes xs ys ≡ zip2 bit_and (map slash_lane xs) (map dot_lane ys)
+lanes-map : (xs ys : List ℕ) → length xs ≡ 16 → length ys ≡ 16 → lanes xs ys ≡ zip2 bit_and (map slash_lane xs) (map dot_lane ys)
 lanes-map xs ys n m =
-    ap₂ (zip2 bit_and) (zip2_splat hit xs 8 47 n)
-    (ap₂ (zip2 bit_or) (zip2_splat hit ys 8 46 m) (zip2_splat hit ys 8 37 m) ∙ either ys)
+    ap₂ (zip2 bit_and) (zip2_splat hit xs 16 47 n)
+    (ap₂ (zip2 bit_or) (zip2_splat hit ys 16 46 m) (zip2_splat hit ys 16 37 m) ∙ either ys)
 
 one_lane : (a b c : Bool) → top 7 (bit_and (cond a 255 0) (bit_or (cond b 255 0) (cond c 255 0))) ≡ (a && (b || c))
 one_lane true true true = refl
@@ -47,41 +51,58 @@ one_lane false true false = refl
 one_lane false false true = refl
 one_lane false false false = refl
 
-no_bit : (b : Bool) (n : ℕ) → cond b 1 0 + 2 * n ≡ 0 → (b ≡ false) × (n ≡ 0)
-no_bit true n e = absurd (omega (arith, e))
-no_bit false n e = (refl, omega (arith, e))
+-- the first lane that is set of sixteen, or 16
+abbrev pub first : ℕ → ℕ
+first m = cond (eqb m 0) 16 (count_trailing_zeros 64 m)
 
-none_delimited : (xs ys : List ℕ) → mask_l (map (top 7) (zip2 bit_and (map slash_lane xs) (map dot_lane ys))) ≡ 0
-    → (k : ℕ) → k < length xs → k < length ys → begins_plain (get_or xs k 0) (get_or ys k 0) ≡ true
-none_delimited [] ys e k l m = absurd (omega arith)
-none_delimited (x ∷ xs) [] e k l m = absurd (omega arith)
-none_delimited (x ∷ xs) (y ∷ ys) e zero l m =
-    let h = no_bit (top 7 (bit_and (slash_lane x) (dot_lane y))) (mask_l (map (top 7) (zip2 bit_and (map slash_lane xs) (map dot_lane ys)))) e in
-    ap not (sym (one_lane (x == 47) (y == 46) (y == 37)) ∙ h.0)
-none_delimited (x ∷ xs) (y ∷ ys) e (suc k) l m =
-    let h = no_bit (top 7 (bit_and (slash_lane x) (dot_lane y))) (mask_l (map (top 7) (zip2 bit_and (map slash_lane xs) (map dot_lane ys)))) e in
-    none_delimited xs ys h.1 k (omega arith) (omega arith)
+pub first-none : (m : ℕ) → m ≡ 0 → 16 ≡ first m
+first-none m e = ap first (sym e)
 
-is_zero : (n : ℕ) → not (eqb n 0) ≡ false → n ≡ 0
-is_zero n h = eqb-true n 0 (elim (eqb n 0) as (λ b. not b ≡ false → b ≡ true) [ true ↦ λ _. refl | false ↦ λ k. cc ] h)
+pub first-some : (m : ℕ) → m ≢ 0 → count_trailing_zeros 64 m ≡ first m
+first-some m e = ap (λ c. cond c 16 (count_trailing_zeros 64 m)) (sym (other m e))
+  where
+    other : (n : ℕ) → n ≢ 0 → eqb n 0 ≡ false
+    other n h = grind (arith, nat_tests)
 
-pub none-found : (xs ys : List ℕ) → length xs ≡ 8 → length ys ≡ 8 → not (eqb (mask_l (map (top 7) (lanes xs ys)) % 2 ^ 64) 0) ≡ false
-    → (k : ℕ) → k < 8 → begins_plain (get_or xs k 0) (get_or ys k 0) ≡ true
-none-found xs ys n m h k l =
-    let same = lanes-map xs ys n m in
-    let ms = map (top 7) (zip2 bit_and (map slash_lane xs) (map dot_lane ys)) in
-    let long : length ms ≡ 8 = length-map (zip2 bit_and (map slash_lane xs) (map dot_lane ys)) (top 7)
-    ∙ (length-zip2 bit_and (map slash_lane xs) (map dot_lane ys) (length-map xs slash_lane ∙ (n ∙ sym (length-map ys dot_lane ∙ m)))
-    ∙ (length-map xs slash_lane ∙ n)) in
-    let none : mask_l ms ≡ 0 = sym (mask_l-mod ms 64 (omega (arith, long)))
-    ∙ (ap (λ l. mask_l (map (top 7) l) % 2 ^ 64) (sym same) ∙ is_zero (mask_l (map (top 7) (lanes xs ys)) % 2 ^ 64) h) in
-    none_delimited xs ys none k (omega (arith, n, l)) (omega (arith, m, l))
+abbrev pub mask : List ℕ → List ℕ → ℕ
+mask xs ys = mask_l (map (top 7) (lanes xs ys)) % 2 ^ 64
 
--- ---- none in eight places
-not-not : (b : Bool) → not b ≡ true → b ≡ false
-not-not true e = cc
-not-not false e = refl
+abbrev pair_lanes : List ℕ → List ℕ → List ℕ
+pair_lanes xs ys = zip2 bit_and (map slash_lane xs) (map dot_lane ys)
 
+pair-long : (xs ys : List ℕ) → length xs ≡ 16 → length ys ≡ 16 → length (pair_lanes xs ys) ≡ 16
+pair-long xs ys n m =
+    length-zip2 bit_and (map slash_lane xs) (map dot_lane ys) (length-map xs slash_lane ∙ (n ∙ sym (length-map ys dot_lane ∙ m)))
+    ∙ (length-map xs slash_lane ∙ n)
+
+first-lane : (xs ys : List ℕ) → length xs ≡ 16 → length ys ≡ 16
+    → first (mask xs ys) ≡ prefix_len (λ x. not (top 7 x)) (pair_lanes xs ys)
+first-lane xs ys n m =
+    let l = pair_lanes xs ys in
+    let long = pair-long xs ys n m in
+    ap first (ap (λ l. mask_l (map (top 7) l) % 2 ^ 64) (lanes-map xs ys n m)
+    ∙ mask_l-mod (map (top 7) l) 64 (omega (arith, length-map l (top 7), long)))
+    ∙ first_set_mask_l (top 7) l 16 long (omega arith)
+
+pub first-within : (xs ys : List ℕ) → length xs ≡ 16 → length ys ≡ 16 → first (mask xs ys) ≤ 16
+first-within xs ys n m =
+    omega (arith, first-lane xs ys n m, pair-long xs ys n m, prefix_len-le-length (λ x. not (top 7 x)) (pair_lanes xs ys))
+
+none-first : (xs ys : List ℕ) → length xs ≡ 16 → length ys ≡ 16 → (k : ℕ) → k < first (mask xs ys)
+    → begins_plain (get_or xs k 0) (get_or ys k 0) ≡ true
+none-first xs ys n m k l =
+    let x = get_or xs k 0 in
+    let y = get_or ys k 0 in
+    let low : k < 16 = omega (arith, l, first-within xs ys n m) in
+    let left : k < length (map slash_lane xs) = omega (arith, length-map xs slash_lane, n) in
+    let right : k < length (map dot_lane ys) = omega (arith, length-map ys dot_lane, m) in
+    let at : get_or (pair_lanes xs ys) k 0 ≡ bit_and (slash_lane x) (dot_lane y) =
+    get_or-zip2 bit_and (map slash_lane xs) (map dot_lane ys) k 0 0 0 left right
+    ∙ ap₂ bit_and (get_or-map slash_lane xs k 0 0 (omega (arith, n))) (get_or-map dot_lane ys k 0 0 (omega (arith, m))) in
+    let unset = prefix_len_passes (λ x. not (top 7 x)) (pair_lanes xs ys) k 0 (omega (arith, l, first-lane xs ys n m)) in
+    sym (ap (λ v. not (top 7 v)) at ∙ ap not (one_lane (x == 47) (y == 46) (y == 37))) ∙ unset
+
+-- ---- none in sixteen places
 plain_pair : (x y : ℕ) (xs : List ℕ) → begins_plain x y ≡ true → slash_and_dot (x ∷ y ∷ xs) ≡ false
 plain_pair x y xs h = no_pair (x == 47) (y == 46) (y == 37) (goes_on_as_dot xs) h
   where
@@ -91,27 +112,62 @@ plain_pair x y xs h = no_pair (x == 47) (y == 46) (y == 37) (goes_on_as_dot xs) 
     no_pair true false false d h = refl
     no_pair false b c d h = refl
 
--- eight bytes, and those one place further
-pub none-near : (t : List ℕ) (i : ℕ) → 1 ≤ i → i + 8 ≤ length t
-    → not (not (eqb (mask_l (map (top 7) (lanes (take 8 (drop (i - 1) t)) (take 8 (drop i t)))) % 2 ^ 64) 0)) ≡ true
-    → (k : ℕ) → k < 8 → slash_and_dot (drop (i - 1 + k) t) ≡ false
-none-near t i low n h k l =
+-- sixteen bytes, and those one place further
+abbrev pub mask_at : List ℕ → ℕ → ℕ
+mask_at t i = mask (take 16 (drop (i - 1) t)) (take 16 (drop i t))
+
+pub near-within : (t : List ℕ) (i r : ℕ) → 1 ≤ i → i + 16 ≤ length t → r ≡ first (mask_at t i) → r ≤ 16
+near-within t i r low n e =
+    omega (
+      arith,
+      e,
+      first-within (take 16 (drop (i - 1) t)) (take 16 (drop i t)) (length-chunk (i - 1) 16 t (omega arith)) (length-chunk i 16 t (omega arith)),
+    )
+
+pub none-near : (t : List ℕ) (i r : ℕ) → 1 ≤ i → i + 16 ≤ length t → r ≡ first (mask_at t i)
+    → (k : ℕ) → k < r → slash_and_dot (drop (i - 1 + k) t) ≡ false
+none-near t i r low n e k l =
     let at = i - 1 + k in
     let x = slice_index t at in
     let y = slice_index t (suc at) in
-    let found = none-found (take 8 (drop (i - 1) t)) (take 8 (drop i t)) (length-chunk (i - 1) 8 t (omega arith)) (length-chunk i 8 t (omega arith))
-    (not-not (not (eqb (mask_l (map (top 7) (lanes (take 8 (drop (i - 1) t)) (take 8 (drop i t)))) % 2 ^ 64) 0)) h) k l in
+    let few : k < 16 = omega (arith, l, near-within t i r low n e) in
+    let found = none-first (take 16 (drop (i - 1) t)) (take 16 (drop i t)) (length-chunk (i - 1) 16 t (omega arith)) (length-chunk i 16 t (omega arith))
+    k (omega (arith, l, e)) in
     let place : suc at ≡ i + k = omega arith in
-    let plain : begins_plain x y ≡ true = sym (ap₂ begins_plain (get_or-chunk (i - 1) 8 t k 0 l)
-    (get_or-chunk i 8 t k 0 l ∙ ap (slice_index t) (sym place))) ∙ found in
+    let plain : begins_plain x y ≡ true = sym (ap₂ begins_plain (get_or-chunk (i - 1) 16 t k 0 few)
+    (get_or-chunk i 16 t k 0 few ∙ ap (slice_index t) (sym place))) ∙ found in
     let first : drop at t ≡ x ∷ drop (suc at) t = drop-cons t at 0 (omega arith) in
     let second : drop (suc at) t ≡ y ∷ drop (suc (suc at)) t = drop-cons t (suc at) 0 (omega arith) in
     ap slash_and_dot (first ∙ ap (λ l. x ∷ l) second) ∙ plain_pair x y (drop (suc (suc at)) t) plain
 
 -- ---- none in the whole
+neither : (a b : Bool) → (a || b) ≡ false → (a ≡ false) × (b ≡ false)
+neither true b e = cc
+neither false b e = (refl, e)
+
 pub none-at : (t : List ℕ) → ((k : ℕ) → k < length t → slash_and_dot (drop k t) ≡ false) → has_slash_and_dot t ≡ false
 none-at [] h = refl
 none-at (x ∷ xs) h = rw (h 0 (omega arith)) (none-at xs (λ k l. h (suc k) (omega arith)))
+
+-- and in each place of a part that has none
+lacking : (t : List ℕ) → has_slash_and_dot t ≡ false → (k : ℕ) → k < length t → slash_and_dot (drop k t) ≡ false
+lacking [] h k l = absurd (omega arith)
+lacking (x ∷ xs) h zero l = (neither (slash_and_dot (x ∷ xs)) (has_slash_and_dot xs) h).0
+lacking (x ∷ xs) h (suc k) l = lacking xs (neither (slash_and_dot (x ∷ xs)) (has_slash_and_dot xs) h).1 k (omega arith)
+
+pub none-onward : (t : List ℕ) (j k : ℕ) → has_slash_and_dot (drop j t) ≡ false → j ≤ k → k < length t → slash_and_dot (drop k t) ≡ false
+none-onward t j k h le l =
+    sym (ap slash_and_dot (drop-drop (k - j) j t ∙ ap (λ n. drop n t) (omega arith))) ∙ lacking (drop j t) h (k - j) (omega (arith, length-drop j t))
+
+-- none before a place, and none in r places from the one before it
+pub none-passed : (t : List ℕ) (i r : ℕ) → 1 ≤ i → ((k : ℕ) → k + 1 < i → slash_and_dot (drop k t) ≡ false)
+    → ((k : ℕ) → k < r → slash_and_dot (drop (i - 1 + k) t) ≡ false) → (k : ℕ) → k < i - 1 + r → slash_and_dot (drop k t) ≡ false
+none-passed t i r low before near k l = elim (cases_lt (k + 1) i) [
+  | inl lt ↦ before k lt
+  | inr ge ↦
+      let place : i - 1 + (k - (i - 1)) ≡ k = omega arith in
+      sym (ap (λ n. slash_and_dot (drop n t)) place) ∙ near (k - (i - 1)) (omega arith)
+]
 
 last_alone : (t : List ℕ) (k : ℕ) → suc k ≡ length t → slash_and_dot (drop k t) ≡ false
 last_alone [] k e = absurd (omega (arith, e))

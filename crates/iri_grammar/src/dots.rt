@@ -23,43 +23,25 @@ fn begins_slash_and_dot(path: &[u8]) -> bool
     }
 }
 
-// Whether eight places have no slash with `.` or `%` after it: the place before `i`, and seven more.
+// How many of sixteen places, the one before `i` and fifteen more, come before the first slash that a `.` or `%` follows.
 #[inline(always)]
-fn are_plain(path: &[u8], i: usize) -> bool
-    requires { (1 ≤ i) × (i + 8 ≤ length path.now) }
-    ensures { result ≡ true → (k : ℕ) → k < 8 → slash_and_dot (drop (i - 1 + k) path.now) ≡ false }
+fn plain_len(path: &[u8], i: usize) -> usize
+    requires { (1 ≤ i) × (i + 16 ≤ length path.now) }
+    ensures within { result ≤ 16 }
+    ensures plain { (k : ℕ) → k < result → slash_and_dot (drop (i - 1 + k) path.now) ≡ false }
 {
-    let next = u8x8::from_slice(&path[i..]);
-    let slashes = u8x8::from_slice(&path[i - 1..]).simd_eq(u8x8::splat(b'/'));
-    let dots = next.simd_eq(u8x8::splat(b'.')) | next.simd_eq(u8x8::splat(b'%'));
-    !(slashes & dots).any()
-}
-
-// Whether a dot comes after a slash at one of eight places.
-fn has_dots_near(path: &[u8], i: usize) -> bool
-    requires { (1 ≤ i) × (i + 8 ≤ length path.now) }
-    ensures { result ≡ false → (k : ℕ) → k < 8 → slash_and_dot (drop (i - 1 + k) path.now) ≡ false }
-{
-    let mut k = 0;
-    'places: while k < 8 {
-        if begins_slash_and_dot(&path[i - 1 + k..]) {
-            return true;
-        }
-        k += 1;
+    let next = u8x16::from_slice(&path[i..]);
+    let slashes = u8x16::from_slice(&path[i - 1..]).simd_eq(u8x16::splat(b'/'));
+    let dots = next.simd_eq(u8x16::splat(b'.')) | next.simd_eq(u8x16::splat(b'%'));
+    let places = (slashes & dots).to_bitmask();
+    if places == 0 {
+        16
+    } else {
+        places.trailing_zeros() as usize
     }
-    false
 }
 
-// The same, and mostly eight places are passed at once.
-#[inline(always)]
-fn has_dots_in(path: &[u8], i: usize) -> bool
-    requires { (1 ≤ i) × (i + 8 ≤ length path.now) }
-    ensures { result ≡ false → (k : ℕ) → k < 8 → slash_and_dot (drop (i - 1 + k) path.now) ≡ false }
-{
-    !are_plain(path, i) && has_dots_near(path, i)
-}
-
-// The same after any slash, byte by byte.
+// Whether a dot comes after a slash, in any spelling: byte by byte.
 #[inline(always)]
 fn has_dots_in_short(path: &[u8]) -> bool
     ensures { result ≡ has_slash_and_dot path.now }
@@ -74,21 +56,24 @@ fn has_dots_in_short(path: &[u8]) -> bool
     false
 }
 
-// The same of a path of nine bytes and more. Places are looked at by eight, and the last ones perhaps twice.
+// The same of a path of 17 bytes and more, of which each place alone that may have one is looked at. The last places are looked
+// at perhaps twice. Byte by byte, web's lines take 2 instructions a byte more.
 #[inline(always)]
 fn has_dots_in_long(path: &[u8]) -> bool
-    requires { 9 ≤ length path.now }
+    requires { 17 ≤ length path.now }
     ensures { result ≡ false → (k : ℕ) → k + 1 < length path.now → slash_and_dot (drop k path.now) ≡ false }
 {
-    let last = path.len() - 8;
+    let last = path.len() - 16;
     let mut i = 1;
     'places: while i < last {
-        if has_dots_in(path, i) {
+        let at = i - 1 + plain_len(path, i);
+        if begins_slash_and_dot(&path[at..]) {
             return true;
         }
-        i += 8;
+        i = at + 2;
     }
-    has_dots_in(path, last)
+    let at = last - 1 + plain_len(path, last);
+    has_dots_in_short(&path[at..])
 }
 
 /// Whether a segment of the path begins with a dot, in any spelling, and may be a dot segment. `false` is sure.
@@ -100,7 +85,7 @@ pub fn may_have_dots(path: &[u8]) -> bool
     if begins_dot(path) {
         return true;
     }
-    if path.len() < 9 {
+    if path.len() < 17 {
         return has_dots_in_short(path);
     }
     has_dots_in_long(path)

@@ -6,7 +6,7 @@ use Rattle.iri_grammar.proofs.dots.has_dots_in_long.Given as goal
 abbrev pub invariant-places : goal.invariant-places
 invariant-places l = record {
   low : 1 ≤ l.i;
-  last : l.last ≡ length l.path - 8;
+  last : l.last ≡ length l.path - 16;
   none : (k : ℕ) → k + 1 < l.i → slash_and_dot (drop k l.path) ≡ false;
 }
 
