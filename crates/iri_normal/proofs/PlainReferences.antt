@@ -26,7 +26,7 @@ use Rattle.iri_percent.specs.NormalHost.{normal_authority}
 use Rattle.iri_percent.specs.Triplets.{pct}
 use Rattle.iri_percent.specs.Units.{whole_triplets}
 use Rattle.iri_percent.proofs.DelimiterLaws.{pct_delimiter}
-use Rattle.iri_percent.proofs.PlainTexts.{pct-directory, pct-delimited, plain-ascii, plain-lacks, plain_authority, small-lowered}
+use Rattle.iri_percent.proofs.PlainTexts.{pct-prefix, pct-delimited, plain-ascii, plain-lacks, plain_authority, small-lowered}
 use Rattle.iri_percent.proofs.Reading.{whole_plain}
 use Rattle.iri_percent.proofs.WholeLaws.{fragment-whole, lacks-whole, path-whole, query-whole, whole-append}
 use Rattle.iri_normal.specs.Dots.{has_dot_segment}
@@ -191,7 +191,7 @@ whole-form s base r prefix directory own k f b n =
     let whole = whole-append directory r.path (lacks-whole directory plain.0) (path-whole s r.path k f.path) in
     let path : normal_path s u.authority u.path ≡ directory ++ pct s r.path =
     ap (normal_path s u.authority) b.path
-    ∙ (path-form s u.authority (directory ++ r.path) k dots whole b.unguarded ∙ pct-directory s directory r.path plain.0) in
+    ∙ (path-form s u.authority (directory ++ r.path) k dots whole b.unguarded ∙ pct-prefix s directory r.path plain.0) in
     let tail = delimited 63 (where_there (pct s) r.query) ++ delimited 35 (where_there (pct s) r.fragment) in
     sym (prefix-form s Normal false u (prefix_in s true u) refl refl)
     ∙ (ap (λ x. prefix_in s true u ++ (x ++ (delimited 63 (where_there (pct s) u.query) ++ delimited 35 (where_there (pct s) u.fragment)))) path
@@ -209,7 +209,7 @@ unfolding canonical
 unchanged s base t prefix directory k f b n =
     let r = split_of t in
     let own = prefix_in s false r in
-    let form = ap (pct s) (text-cut t) ∙ (pct-directory s own (rest r) b.percent ∙ ap (λ x. own ++ x) (rest-form s r.path r.query r.fragment)) in
+    let form = ap (pct s) (text-cut t) ∙ (pct-prefix s own (rest r) b.percent ∙ ap (λ x. own ++ x) (rest-form s r.path r.query r.fragment)) in
     record {
       text = whole-form s (split_of base) r prefix directory own k f b n ∙ ap (λ x. prefix ++ (directory ++ x)) (sym form);
       whole = ap whole_triplets (text-cut t) ∙ whole-append own (rest r) (lacks-whole own b.percent) (rest-whole s r k f);

@@ -26,7 +26,7 @@ seam old new directory n e k u v =
 pub truncate-requires : goal.truncate-requires
 truncate-requires g c =
     let p = c.in-Err.ensures.prefix in
-    λ _. seam (string_bytes c.args.dest.now) (string_bytes c.append.new.dest) p.directory (length c.as_str-len.result.now) p.appended
+    λ _. seam (string_bytes c.args.dest.now) (string_bytes c.append.new.dest) p.prefix (length c.as_str-len.result.now) p.appended
     (ap length c.as_str-len.ensures.value) (IsUtf8-string_bytes c.args.dest.now) (IsUtf8-string_bytes c.append.new.dest)
 
 canonical_valid : (s : Tests) → IsSpec s → (mode : CanonMode) (b r : List ℕ) → absolute_fault s b ≡ None → reference_fault s r ≡ None
