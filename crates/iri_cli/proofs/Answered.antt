@@ -6,7 +6,7 @@ use Rattle.std.proofs.lemmas.List.{append-nil}
 use Rattle.iri_text.specs.Count.{Rose}
 use Rattle.iri_text.specs.Lines.{no_cr}
 use Rattle.iri_text.specs.Source.{Consumes, IsAtEnd}
-use Rattle.iri_text.specs.Sink.{Appends, AppendsPrefix, KeepsRoom}
+use Rattle.iri_text.specs.Sink.{Appends, AppendsPrefix, KeepsRoom, SinkState}
 use Rattle.iri_text.specs.Line.{LineState}
 use Rattle.iri_text.specs.Reader.{Advances}
 use Rattle.iri_text.specs.declared.streams.reader.LineFault.{LineFault}
@@ -51,8 +51,7 @@ answered_to rules base rest = concat (answers rules base rest)
 
 -- The lines that were given after the base were answered.
 pub record Goes (stands_at : Answering → Type 0) (start : Answering) (reader_old reader : LineState)
-    (left_old left written_old written : Option (List ℕ)) (source_old source sink_old sink : ℕ) (room_old room_new : Option ℕ)
-    (good : Bool) : Type 0 where
+    (left_old left : Option (List ℕ)) (source_old source : ℕ) (sink_old sink : SinkState) (good : Bool) : Type 0 where
   pub between : List (List ℕ)
   pub at : stands_at (record start { between = between })
   pub going : IsGoing start.rules reader
@@ -60,11 +59,11 @@ pub record Goes (stands_at : Answering → Type 0) (start : Answering) (reader_o
   pub few : length between + length reader.held ≤ reader.taken
   pub read : (before : Option (List ℕ)) → HasRead start.rules before left_old reader_old (start.base ∷ [])
       → HasRead start.rules before left reader (start.base ∷ between)
-  pub writes : Appends written_old written (answered_to start.rules start.base between)
+  pub writes : Appends sink_old.written sink.written (answered_to start.rules start.base between)
   pub all_good : good ≡ list_all start.rules.is_good (answers start.rules start.base between)
   pub source_later : source_old ≤ source
-  pub sink_same : sink ≡ sink_old
-  pub room : KeepsRoom room_old room_new (answered_to start.rules start.base between) (Unit {0})
+  pub sink_same : sink.faults ≡ sink_old.faults
+  pub room : KeepsRoom sink_old.room_left sink.room_left (answered_to start.rules start.base between) (Unit {0})
 
 -- it isn't the sink that failed
 abbrev pub NotSink : Result Bool AnswerError → Type 0
@@ -76,25 +75,25 @@ not_sink Source h = cc h
 not_sink FaultLineTooLong h = cc h
 not_sink FaultInputTooLong h = cc h
 
-pub start_lines : (stands_at : Answering → Type 0) (start : Answering) (reader : LineState) (left wo w : Option (List ℕ)) (so ko k : ℕ)
-    (ro r : Option ℕ) → stands_at start → start.between ≡ [] → IsGoing start.rules reader → w ≡ wo → k ≡ ko → KeepsRoom ro r [] (Unit {0})
-    → Goes stands_at start reader reader left left wo w so so ko k ro r true
-start_lines stands_at start reader left wo w so ko k ro r at none is kept same room = record {
+pub start_lines : (stands_at : Answering → Type 0) (start : Answering) (reader : LineState) (left : Option (List ℕ)) (so : ℕ) (ko k : SinkState)
+    → stands_at start → start.between ≡ [] → IsGoing start.rules reader → k.written ≡ ko.written → k.faults ≡ ko.faults
+    → KeepsRoom ko.room_left k.room_left [] (Unit {0}) → Goes stands_at start reader reader left left so so ko k true
+start_lines stands_at start reader left so ko k at none is kept same room = record {
   between = [];
   at = subst (λ (b : List (List ℕ)). stands_at (record start { between = b })) none at;
   going = is;
   few = omega (arith, is.counted);
   read = λ before h. h;
-  writes = subst (λ (o : Option (List ℕ)). Appends wo o []) (sym kept) (Appends-none wo);
+  writes = subst (λ (o : Option (List ℕ)). Appends ko.written o []) (sym kept) (Appends-none ko.written);
   all_good = refl;
   source_later = omega arith;
   sink_same = same;
   room = room;
 }
 
-module _ (stands_at : Answering → Type 0) (start : Answering) (reader0 old new : LineState) (l0 lm ln wo wm : Option (List ℕ))
-    (so sm sn ko km : ℕ) (ro rm : Option ℕ) (good : Bool) (taken : start.rules.refusal start.base ≡ None)
-    (go : Goes stands_at start reader0 old l0 lm wo wm so sm ko km ro rm good) where
+module _ (stands_at : Answering → Type 0) (start : Answering) (reader0 old new : LineState) (l0 lm ln : Option (List ℕ))
+    (so sm sn : ℕ) (ko km : SinkState) (good : Bool) (taken : start.rules.refusal start.base ≡ None)
+    (go : Goes stands_at start reader0 old l0 lm so sm ko km good) where
   abbrev rules : Rules
   rules = start.rules
 
@@ -102,11 +101,11 @@ module _ (stands_at : Answering → Type 0) (start : Answering) (reader0 old new
   out = answered_to start.rules start.base go.between
 
   -- A line was given and answered.
-  pub one_line_more : (is_next : Answering → Type 0) (wn : Option (List ℕ)) (kn : ℕ) (rn : Option ℕ) (answer_good : Bool)
+  pub one_line_more : (is_next : Answering → Type 0) (kn : SinkState) (answer_good : Bool)
       → Advances old new lm ln sm sn (Ok true)
-      → ((at : Answering) → stands_at at → AnswersLine is_next at new.line wm wn km kn rm rn (Ok answer_good))
-      → Goes is_next start reader0 new l0 ln wo wn so sn ko kn ro rn (good && answer_good)
-  one_line_more is_next wn kn rn answer_good a p =
+      → ((at : Answering) → stands_at at → AnswersLine is_next at new.line km kn (Ok answer_good))
+      → Goes is_next start reader0 new l0 ln so sn ko kn (good && answer_good)
+  one_line_more is_next kn answer_good a p =
       let q = p (record start { between = go.between }) go.at in
       record {
         between = go.between ++ new.line ∷ [];
@@ -117,14 +116,14 @@ module _ (stands_at : Answering → Type 0) (start : Answering) (reader0 old new
             let size = length-append go.between (new.line ∷ []) in
             omega (arith, more, size, go.few);
         read = λ before h. reads_line start.rules before lm ln sm sn old new (start.base ∷ go.between) go.going (go.read before h) a;
-        writes = subst (Appends wo wn) (sym (one_more start.rules start.base taken go.between new.line))
-            (Appends-append wo wm wn out (start.rules.answer start.base go.between new.line) go.writes q.puts.0);
+        writes = subst (Appends ko.written kn.written) (sym (one_more start.rules start.base taken go.between new.line))
+            (Appends-append ko.written km.written kn.written out (start.rules.answer start.base go.between new.line) go.writes q.puts.0);
         all_good = ap (λ (b : Bool). b && answer_good) go.all_good
             ∙ ap (λ (b : Bool). list_all start.rules.is_good (answers start.rules start.base go.between) && b) q.puts.2
             ∙ sym (one_more_good start.rules start.base taken go.between new.line);
         source_later = omega (arith, go.source_later, a.later);
         sink_same = q.puts.1 ∙ go.sink_same;
-        room = subst (λ (t : List ℕ). KeepsRoom ro rn t (Unit {0})) (sym (one_more start.rules start.base taken go.between new.line))
+        room = subst (λ (t : List ℕ). KeepsRoom ko.room_left kn.room_left t (Unit {0})) (sym (one_more start.rules start.base taken go.between new.line))
             (room-then go.room (room-so (λ _. tt) q.room));
       }
 
@@ -136,15 +135,15 @@ module _ (stands_at : Answering → Type 0) (start : Answering) (reader0 old new
   module _ (before : Option (List ℕ)) (faults : ℕ) (first : HasRead start.rules before l0 reader0 (start.base ∷ []))
       (earlier : faults ≤ so) where
     -- the outside at both ends of the run
-    abbrev Ends : Option (List ℕ) → ℕ → Option ℕ → End → Type 0
-    Ends wn kn rn end = Ran start.rules (outside before wo faults ko) (outside ln wn sn kn) ro rn end
+    abbrev Ends : SinkState → End → Type 0
+    Ends kn end = Ran start.rules (outside before faults ko) (outside ln sn kn) end
 
     -- The answer to a line failed.
-    pub fails_at : (is_next : Answering → Type 0) (wn : Option (List ℕ)) (kn : ℕ) (rn : Option ℕ) (error : AnswerError) (end : End)
+    pub fails_at : (is_next : Answering → Type 0) (kn : SinkState) (error : AnswerError) (end : End)
         → end ≡ end_of_error error → Advances old new lm ln sm sn (Ok true)
-        → ((at : Answering) → stands_at at → AnswersLine is_next at new.line wm wn km kn rm rn (Err error)) → Ends wn kn rn end
-    fails_at is_next wn kn rn error end is a p = let q = p (record start { between = go.between }) go.at in
-        subst (Ends wn kn rn) (sym is) (by_error error q.puts q.room)
+        → ((at : Answering) → stands_at at → AnswersLine is_next at new.line km kn (Err error)) → Ends kn end
+    fails_at is_next kn error end is a p = let q = p (record start { between = go.between }) go.at in
+        subst (Ends kn) (sym is) (by_error error q.puts q.room)
       where
         -- the whole output begins with the answers, this one among them
         output : (x : List ℕ) → before ≡ Some x → (more : List ℕ)
@@ -154,24 +153,24 @@ module _ (stands_at : Answering → Type 0) (start : Answering) (reader0 old new
             (reads_line start.rules before lm ln sm sn old new (start.base ∷ go.between) go.going (go.read before first) a) x told in
             (h.0, h.1 ∙ ap (λ (t : List ℕ). t ++ h.0) (one_more start.rules start.base taken go.between new.line))
 
-        room_of : (e : AnswerError) → KeepsRoom rm rn (start.rules.answer start.base go.between new.line) (NotSink (Err e)) → (x : List ℕ)
+        room_of : (e : AnswerError) → KeepsRoom km.room_left kn.room_left (start.rules.answer start.base go.between new.line) (NotSink (Err e)) → (x : List ℕ)
             → before ≡ Some x
-            → KeepsRoom ro rn (ending start.rules x).output (end_of_error e ≢ SinkFailed)
+            → KeepsRoom ko.room_left kn.room_left (ending start.rules x).output (end_of_error e ≢ SinkFailed)
         room_of e k x told =
             let h = output x told in
-            subst (λ (t : List ℕ). KeepsRoom ro rn t (end_of_error e ≢ SinkFailed)) (sym h.1)
+            subst (λ (t : List ℕ). KeepsRoom ko.room_left kn.room_left t (end_of_error e ≢ SinkFailed)) (sym h.1)
             (room-longer h.0 (room-then go.room (room-so (goes e) k)))
           where
             goes : (e : AnswerError) → NotSink (Err e) → end_of_error e ≢ SinkFailed
             goes AnswerFailed n = absurd (n refl)
             goes AnswerMemory n = λ h. cc h
 
-        by_error : (e : AnswerError) → PutsAnswer start.rules wm wn km kn (start.rules.answer start.base go.between new.line) (Err e)
-            → KeepsRoom rm rn (start.rules.answer start.base go.between new.line) (NotSink (Err e)) → Ends wn kn rn (end_of_error e)
+        by_error : (e : AnswerError) → PutsAnswer start.rules km kn (start.rules.answer start.base go.between new.line) (Err e)
+            → KeepsRoom km.room_left kn.room_left (start.rules.answer start.base go.between new.line) (NotSink (Err e)) → Ends kn (end_of_error e)
         by_error AnswerFailed q k = record {
           to = omega (arith, q.1, go.sink_same);
           prefix = λ x told. let h = output x told in
-              subst (AppendsPrefix wo wn) (sym h.1) (prefix-longer h.0 (prefix-after out go.writes q.0));
+              subst (AppendsPrefix ko.written kn.written) (sym h.1) (prefix-longer h.0 (prefix-after out go.writes q.0));
           source_later = omega (arith, earlier, go.source_later, a.later);
           sink_later = omega (arith, q.2, go.sink_same);
           room = room_of AnswerFailed k;
@@ -182,24 +181,24 @@ module _ (stands_at : Answering → Type 0) (start : Answering) (reader0 old new
             whole = start.base ∷ go.between;
             first = first_lines start.rules before lm old (start.base ∷ go.between) (go.read before first);
             base_taken = taken;
-            writes = subst (λ (w : Option (List ℕ)). Appends wo w out) (sym q.1) go.writes;
+            writes = subst (λ (w : Option (List ℕ)). Appends ko.written w out) (sym q.1) go.writes;
             sink = q.2 ∙ go.sink_same;
           };
           prefix = λ x told.
               let h = output x told in
-              subst (AppendsPrefix wo wn) (sym (h.1 ∙ append_assoc out (start.rules.answer start.base go.between new.line) h.0))
+              subst (AppendsPrefix ko.written kn.written) (sym (h.1 ∙ append_assoc out (start.rules.answer start.base go.between new.line) h.0))
               (prefix-longer (start.rules.answer start.base go.between new.line ++ h.0)
-              (whole_prefix (subst (λ (w : Option (List ℕ)). Appends wo w out) (sym q.1) go.writes)));
+              (whole_prefix (subst (λ (w : Option (List ℕ)). Appends ko.written w out) (sym q.1) go.writes)));
           source_later = omega (arith, earlier, go.source_later, a.later);
           sink_later = omega (arith, q.2, go.sink_same);
           room = room_of AnswerMemory k;
         }
 
     -- There is no further line.
-    pub finishes : (wn : Option (List ℕ)) (kn : ℕ) (rn : Option ℕ) (end : End) → Advances old new lm ln sm sn (Ok false)
-        → ((at : Answering) → stands_at at → ClosesRun wm wn km kn good (at.rules.closing at.base at.between) end)
-        → ((at : Answering) → stands_at at → KeepsRoom rm rn (at.rules.closing at.base at.between) (end ≢ SinkFailed)) → Ends wn kn rn end
-    finishes wn kn rn end a p k = by_end end (p (record start { between = go.between }) go.at)
+    pub finishes : (kn : SinkState) (end : End) → Advances old new lm ln sm sn (Ok false)
+        → ((at : Answering) → stands_at at → ClosesRun km kn good (at.rules.closing at.base at.between) end)
+        → ((at : Answering) → stands_at at → KeepsRoom km.room_left kn.room_left (at.rules.closing at.base at.between) (end ≢ SinkFailed)) → Ends kn end
+    finishes kn end a p k = by_end end (p (record start { between = go.between }) go.at)
         (k (record start { between = go.between }) go.at)
       where
         all : ReadsAll start.rules before ln (start.base ∷ go.between)
@@ -218,35 +217,35 @@ module _ (stands_at : Answering → Type 0) (start : Answering) (reader0 old new
             ∙ ap (λ (e : Ending). e.output) ends
 
         -- a prefix of it
-        prefix_of : AppendsPrefix wo wn (out ++ start.rules.closing start.base go.between) → (x : List ℕ) → before ≡ Some x
-            → AppendsPrefix wo wn (ending start.rules x).output
-        prefix_of f x told = subst (AppendsPrefix wo wn) (sym (output x told)) f
+        prefix_of : AppendsPrefix ko.written kn.written (out ++ start.rules.closing start.base go.between) → (x : List ℕ) → before ≡ Some x
+            → AppendsPrefix ko.written kn.written (ending start.rules x).output
+        prefix_of f x told = subst (AppendsPrefix ko.written kn.written) (sym (output x told)) f
 
-        room_of : (e : End) → KeepsRoom rm rn (start.rules.closing start.base go.between) (e ≢ SinkFailed) → (x : List ℕ) → before ≡ Some x
-            → KeepsRoom ro rn (ending start.rules x).output (e ≢ SinkFailed)
-        room_of e f x told = subst (λ (t : List ℕ). KeepsRoom ro rn t (e ≢ SinkFailed)) (sym (output x told)) (room-then go.room f)
+        room_of : (e : End) → KeepsRoom km.room_left kn.room_left (start.rules.closing start.base go.between) (e ≢ SinkFailed) → (x : List ℕ) → before ≡ Some x
+            → KeepsRoom ko.room_left kn.room_left (ending start.rules x).output (e ≢ SinkFailed)
+        room_of e f x told = subst (λ (t : List ℕ). KeepsRoom ko.room_left kn.room_left t (e ≢ SinkFailed)) (sym (output x told)) (room-then go.room f)
 
-        finished : (b : Bool) → good ≡ b → Appends wm wn (start.rules.closing start.base go.between) → kn ≡ km
-            → Finishes start.rules (if b then 0 else 1) (outside before wo faults ko) (outside ln wn sn kn)
+        finished : (b : Bool) → good ≡ b → Appends km.written kn.written (start.rules.closing start.base go.between) → kn.faults ≡ km.faults
+            → Finishes start.rules (if b then 0 else 1) (outside before faults ko) (outside ln sn kn)
         finished b is put same = record {
           taken = all.taken;
           takes = all.takes;
           at_end = all.at_end;
           ends = ap (λ (e : Ending). e.status) ends ∙ ap (λ (g : Bool). if g then 0 else 1) (sym go.all_good ∙ is);
-          writes = subst (Appends wo wn) (sym (ap (λ (e : Ending). e.output) ends))
-              (Appends-append wo wm wn out (start.rules.closing start.base go.between) go.writes put);
+          writes = subst (Appends ko.written kn.written) (sym (ap (λ (e : Ending). e.output) ends))
+              (Appends-append ko.written km.written kn.written out (start.rules.closing start.base go.between) go.writes put);
           sink = same ∙ go.sink_same;
         }
 
-        put_whole : Appends wm wn (start.rules.closing start.base go.between)
-            → AppendsPrefix wo wn (out ++ start.rules.closing start.base go.between)
-        put_whole put = whole_prefix (Appends-append wo wm wn out (start.rules.closing start.base go.between) go.writes put)
+        put_whole : Appends km.written kn.written (start.rules.closing start.base go.between)
+            → AppendsPrefix ko.written kn.written (out ++ start.rules.closing start.base go.between)
+        put_whole put = whole_prefix (Appends-append ko.written km.written kn.written out (start.rules.closing start.base go.between) go.writes put)
 
         source : faults ≤ sn
         source = omega (arith, earlier, go.source_later, a.later)
 
-        by_end : (e : End) → ClosesRun wm wn km kn good (start.rules.closing start.base go.between) e
-            → KeepsRoom rm rn (start.rules.closing start.base go.between) (e ≢ SinkFailed) → Ends wn kn rn e
+        by_end : (e : End) → ClosesRun km kn good (start.rules.closing start.base go.between) e
+            → KeepsRoom km.room_left kn.room_left (start.rules.closing start.base go.between) (e ≢ SinkFailed) → Ends kn e
         by_end Done q f = record {
           to = finished true q.0 q.1 q.2;
           prefix = prefix_of (put_whole q.1);
@@ -275,8 +274,8 @@ module _ (stands_at : Answering → Type 0) (start : Answering) (reader0 old new
         by_end InputTooLong q f = absurd q
 
     -- The reader answered a fault.
-    pub stops_at : (fault : LineFault) (end : End) → end ≡ end_at fault → Advances old new lm ln sm sn (Err fault) → Ends wm km rm end
-    stops_at fault end is a = subst (Ends wm km rm) (sym is) (record {
+    pub stops_at : (fault : LineFault) (end : End) → end ≡ end_at fault → Advances old new lm ln sm sn (Err fault) → Ends km end
+    stops_at fault end is a = subst (Ends km) (sym is) (record {
       to = by_fault fault a;
       prefix = prefix_of;
       source_later = omega (arith, earlier, go.source_later, a.later);
@@ -284,37 +283,37 @@ module _ (stands_at : Answering → Type 0) (start : Answering) (reader0 old new
       room = room_of;
     })
       where
-        room_of : (x : List ℕ) → before ≡ Some x → KeepsRoom ro rm (ending start.rules x).output (end_at fault ≢ SinkFailed)
+        room_of : (x : List ℕ) → before ≡ Some x → KeepsRoom ko.room_left km.room_left (ending start.rules x).output (end_at fault ≢ SinkFailed)
         room_of x told =
             let h = first_read start.rules start.base taken before lm old go.between (go.read before first) x told in
-            subst (λ (t : List ℕ). KeepsRoom ro rm t (end_at fault ≢ SinkFailed)) (sym h.1)
+            subst (λ (t : List ℕ). KeepsRoom ko.room_left km.room_left t (end_at fault ≢ SinkFailed)) (sym h.1)
             (room-longer h.0 (room-so (λ _. not_sink fault) go.room))
 
-        prefix_of : (x : List ℕ) → before ≡ Some x → AppendsPrefix wo wm (ending start.rules x).output
+        prefix_of : (x : List ℕ) → before ≡ Some x → AppendsPrefix ko.written km.written (ending start.rules x).output
         prefix_of x told =
             let h = first_read start.rules start.base taken before lm old go.between (go.read before first) x told in
-            subst (AppendsPrefix wo wm) (sym h.1) (prefix-longer h.0 (whole_prefix go.writes))
+            subst (AppendsPrefix ko.written km.written) (sym h.1) (prefix-longer h.0 (whole_prefix go.writes))
 
         decided : (status : ℕ) → ReadsPast start.rules status before ln (start.base ∷ go.between)
-            → Decides start.rules status (outside before wo faults ko) (outside ln wm sn km)
+            → Decides start.rules status (outside before faults ko) (outside ln sn km)
         decided status r = record {
           taken = r.taken;
           takes = r.takes;
           ends = λ more. ap (λ (e : Ending). e.status) (ends_past start.rules start.base taken status before ln go.between r more);
-          writes = λ more. subst (Appends wo wm) (sym
+          writes = λ more. subst (Appends ko.written km.written) (sym
               (ap (λ (e : Ending). e.output) (ends_past start.rules start.base taken status before ln go.between r more))) go.writes;
           sink = go.sink_same;
         }
 
         short : (f : LineFault) → f ≡ Source → Advances old new lm ln sm sn (Err f)
             → ReadsSome start.rules before ln (start.base ∷ go.between)
-            → StopsShort start.rules (outside before wo faults ko) (outside ln wm sn km)
+            → StopsShort start.rules (outside before faults ko) (outside ln sn km)
         short f is b r = record {
           taken = r.taken;
           takes = r.takes;
           passes = r.passes;
           base_taken = subst (IsBaseTaken start.rules) (sym r.ended) taken;
-          writes = subst (λ (t : List (List ℕ)). Appends wo wm (answered start.rules t)) (sym r.ended) go.writes;
+          writes = subst (λ (t : List (List ℕ)). Appends ko.written km.written (answered start.rules t)) (sym r.ended) go.writes;
           source = rose (subst (λ (e : LineFault). Advances old new lm ln sm sn (Err e)) is b);
           sink = go.sink_same;
         }
@@ -323,7 +322,7 @@ module _ (stands_at : Answering → Type 0) (start : Answering) (reader0 old new
             rose c = omega (arith, c.cause, earlier, go.source_later)
 
         by_fault : (f : LineFault) → Advances old new lm ln sm sn (Err f)
-            → RanTo start.rules (outside before wo faults ko) (outside ln wm sn km) (end_at f)
+            → RanTo start.rules (outside before faults ko) (outside ln sn km) (end_at f)
         by_fault Source b = short Source refl b (reads_some start.rules before lm ln sm sn old new (start.base ∷ go.between) go.going
             (go.read before first) b)
         by_fault FaultLineTooLong b = decided 7 (reads_long start.rules before lm ln sm sn old new (start.base ∷ go.between) go.going
@@ -332,16 +331,16 @@ module _ (stands_at : Answering → Type 0) (start : Answering) (reader0 old new
             (go.read before first) b)
 
 -- The sink failed before the first line.
-pub fails_first : (start : Answering) (reader : LineState) (before left wo wn : Option (List ℕ)) (faults sn ko kn : ℕ) (ro rn : Option ℕ)
-    → start.rules.refusal start.base ≡ None → HasRead start.rules before left reader (start.base ∷ []) → wn ≡ wo
-    → Rose ko kn → faults ≤ sn → ko ≤ kn → KeepsRoom ro rn [] ⊥
-    → Ran start.rules (outside before wo faults ko) (outside left wn sn kn) ro rn SinkFailed
-fails_first start reader before left wo wn faults sn ko kn ro rn taken read kept rose later sink room = record {
+pub fails_first : (start : Answering) (reader : LineState) (before left : Option (List ℕ)) (faults sn : ℕ) (ko kn : SinkState)
+    → start.rules.refusal start.base ≡ None → HasRead start.rules before left reader (start.base ∷ []) → kn.written ≡ ko.written
+    → Rose ko.faults kn.faults → faults ≤ sn → ko.faults ≤ kn.faults → KeepsRoom ko.room_left kn.room_left [] ⊥
+    → Ran start.rules (outside before faults ko) (outside left sn kn) SinkFailed
+fails_first start reader before left faults sn ko kn taken read kept rose later sink room = record {
   to = rose;
   prefix = λ x told.
       let h = first_read start.rules start.base taken before left reader [] read x told in
-      subst (λ (w : Option (List ℕ)). AppendsPrefix wo w (ending start.rules x).output) (sym kept)
-      (record { prefix = []; rest = (ending start.rules x).output; split = refl; appended = Appends-none wo });
+      subst (λ (w : Option (List ℕ)). AppendsPrefix ko.written w (ending start.rules x).output) (sym kept)
+      (record { prefix = []; rest = (ending start.rules x).output; split = refl; appended = Appends-none ko.written });
   source_later = later;
   sink_later = sink;
   room = λ x told. room-longer (ending start.rules x).output (room-so (λ h. absurd h) room);

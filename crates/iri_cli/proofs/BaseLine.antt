@@ -5,7 +5,7 @@ use Rattle.std.proofs.lemmas.List.{append-nil}
 use Rattle.std.proofs.Math.Seq.{take-append-add}
 use Rattle.iri_text.specs.Count.{Rose}
 use Rattle.iri_text.specs.Source.{Consumes, IsAtEnd}
-use Rattle.iri_text.specs.Sink.{Appends, AppendsPrefix, KeepsRoom}
+use Rattle.iri_text.specs.Sink.{Appends, AppendsPrefix, KeepsRoom, SinkState}
 use Rattle.iri_text.specs.Line.{LineState}
 use Rattle.iri_text.specs.Reader.{Advances}
 use Rattle.iri_text.specs.declared.streams.reader.LineFault.{LineFault}
@@ -68,37 +68,37 @@ module _ (rules : Rules) where
     -- The reader answered a fault.
     pub gives_fault : (base : List ℕ) (fault : LineFault) → Advances old new lo ln fo fn (Err fault)
         → ReadsBase rules lo ln fo fn new base (Err fault)
-    gives_fault base fault a written k r = record {
+    gives_fault base fault a sink = record {
       to = by_fault fault a;
-      prefix = λ x told. record { prefix = []; rest = (ending rules x).output; split = refl; appended = Appends-none written };
+      prefix = λ x told. record { prefix = []; rest = (ending rules x).output; split = refl; appended = Appends-none sink.written };
       source_later = a.later;
       sink_later = omega arith;
-      room = λ x told. room-same r (ending rules x).output (λ _. not_sink fault);
+      room = λ x told. room-same sink.room_left (ending rules x).output (λ _. not_sink fault);
     }
       where
-        decided : (status : ℕ) → ReadsPast rules status lo ln [] → Decides rules status (outside lo written fo k) (outside ln written fn k)
+        decided : (status : ℕ) → ReadsPast rules status lo ln [] → Decides rules status (outside lo fo sink) (outside ln fn sink)
         decided status r = record {
           taken = r.taken;
           takes = r.takes;
           ends = λ more. ap (λ (e : Ending). e.status) (ends_past_none rules status lo ln r more);
-          writes = λ more. subst (Appends written written) (sym (ap (λ (e : Ending). e.output) (ends_past_none rules status lo ln r more)))
-              (Appends-none written);
+          writes = λ more. subst (Appends sink.written sink.written) (sym (ap (λ (e : Ending). e.output) (ends_past_none rules status lo ln r more)))
+              (Appends-none sink.written);
           sink = refl;
         }
 
-        short : Rose fo fn → ReadsSome rules lo ln [] → StopsShort rules (outside lo written fo k) (outside ln written fn k)
+        short : Rose fo fn → ReadsSome rules lo ln [] → StopsShort rules (outside lo fo sink) (outside ln fn sink)
         short rose r = record {
           taken = r.taken;
           takes = r.takes;
           passes = r.passes;
           base_taken = subst (IsBaseTaken rules) (sym r.ended) tt;
-          writes = subst (λ (t : List (List ℕ)). Appends written written (answered rules t)) (sym r.ended) (Appends-none written);
+          writes = subst (λ (t : List (List ℕ)). Appends sink.written sink.written (answered rules t)) (sym r.ended) (Appends-none sink.written);
           source = rose;
           sink = refl;
         }
 
         by_fault : (f : LineFault) → Advances old new lo ln fo fn (Err f)
-            → RanTo rules (outside lo written fo k) (outside ln written fn k) (end_at f)
+            → RanTo rules (outside lo fo sink) (outside ln fn sink) (end_at f)
         by_fault Source b = short b.cause (reads_some rules lo lo ln fo fn old new [] (new_going old is) before b)
         by_fault FaultLineTooLong b = decided 7 (reads_long rules lo lo ln fo fn old new [] (new_going old is) before b)
         by_fault FaultInputTooLong b = decided 8 (reads_over rules lo lo ln fo fn old new [] (new_going old is) before b)
@@ -136,11 +136,11 @@ module _ (rules : Rules) where
       ends : ending rules taken ≡ record { status = 3; output = base_line words }
 
     -- The base is refused.
-    pub refuses : (lo ln wo wn : Option (List ℕ)) (fo fn ko kn : ℕ) (ro rn : Option ℕ) (reader : LineState) (end : End)
+    pub refuses : (lo ln : Option (List ℕ)) (fo fn : ℕ) (ko kn : SinkState) (reader : LineState) (end : End)
         → GivesBase rules lo ln reader base → fo ≤ fn
-        → RefusesBase words wo wn ko kn end → KeepsRoom ro rn (base_line words) (end ≢ SinkFailed)
-        → Ran rules (outside lo wo fo ko) (outside ln wn fn kn) ro rn end
-    refuses lo ln wo wn fo fn ko kn ro rn reader end gives later = by_end end
+        → RefusesBase words ko kn end → KeepsRoom ko.room_left kn.room_left (base_line words) (end ≢ SinkFailed)
+        → Ran rules (outside lo fo ko) (outside ln fn kn) end
+    refuses lo ln fo fn ko kn reader end gives later = by_end end
       where
         ends : EndsOpen lo ln ⊎ EndsAll lo ln
         ends = ⊎_elim
@@ -174,22 +174,22 @@ module _ (rules : Rules) where
             (λ e. ap (λ (n : Ending). n.output) (ap (ending rules) (taken_is lo ln x e.taken told e.takes e.at_end) ∙ e.ends))
             ends
 
-        prefix_of : AppendsPrefix wo wn (base_line words) → (x : List ℕ) → lo ≡ Some x → AppendsPrefix wo wn (ending rules x).output
-        prefix_of f x told = subst (AppendsPrefix wo wn) (sym (output x told)) f
+        prefix_of : AppendsPrefix ko.written kn.written (base_line words) → (x : List ℕ) → lo ≡ Some x → AppendsPrefix ko.written kn.written (ending rules x).output
+        prefix_of f x told = subst (AppendsPrefix ko.written kn.written) (sym (output x told)) f
 
-        room_of : (e : End) → KeepsRoom ro rn (base_line words) (e ≢ SinkFailed) → (x : List ℕ) → lo ≡ Some x
-            → KeepsRoom ro rn (ending rules x).output (e ≢ SinkFailed)
-        room_of e k x told = subst (λ (t : List ℕ). KeepsRoom ro rn t (e ≢ SinkFailed)) (sym (output x told)) k
+        room_of : (e : End) → KeepsRoom ko.room_left kn.room_left (base_line words) (e ≢ SinkFailed) → (x : List ℕ) → lo ≡ Some x
+            → KeepsRoom ko.room_left kn.room_left (ending rules x).output (e ≢ SinkFailed)
+        room_of e k x told = subst (λ (t : List ℕ). KeepsRoom ko.room_left kn.room_left t (e ≢ SinkFailed)) (sym (output x told)) k
 
-        by_end : (e : End) → RefusesBase words wo wn ko kn e → KeepsRoom ro rn (base_line words) (e ≢ SinkFailed)
-            → Ran rules (outside lo wo fo ko) (outside ln wn fn kn) ro rn e
+        by_end : (e : End) → RefusesBase words ko kn e → KeepsRoom ko.room_left kn.room_left (base_line words) (e ≢ SinkFailed)
+            → Ran rules (outside lo fo ko) (outside ln fn kn) e
         by_end BadBase q k = record {
           to = ⊎_elim
               (λ e. inl (record {
                 taken = e.taken;
                 takes = e.takes;
                 ends = λ more. ap (λ (n : Ending). n.status) (e.ends more);
-                writes = λ more. subst (Appends wo wn) (sym (ap (λ (n : Ending). n.output) (e.ends more))) q.0;
+                writes = λ more. subst (Appends ko.written kn.written) (sym (ap (λ (n : Ending). n.output) (e.ends more))) q.0;
                 sink = q.1;
               }))
               (λ e. inr (record {
@@ -197,7 +197,7 @@ module _ (rules : Rules) where
                 takes = e.takes;
                 at_end = e.at_end;
                 ends = ap (λ (n : Ending). n.status) e.ends;
-                writes = subst (Appends wo wn) (sym (ap (λ (n : Ending). n.output) e.ends)) q.0;
+                writes = subst (Appends ko.written kn.written) (sym (ap (λ (n : Ending). n.output) e.ends)) q.0;
                 sink = q.1;
               }))
               ends;

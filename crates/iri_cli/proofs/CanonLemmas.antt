@@ -4,7 +4,7 @@ use Rattle.std.proofs.Common.{arith, ◌∙◌}
 use Rattle.iri_grammar.specs.Classes.{Tests, IsSpec}
 use Rattle.iri_grammar.specs.Fault.{bytes_fault}
 use Rattle.iri_grammar.specs.WholeFault.{reference_fault}
-use Rattle.iri_text.specs.Sink.{PutsAll, KeepsRoom}
+use Rattle.iri_text.specs.Sink.{PutsAll, KeepsRoom, SinkState}
 use Rattle.iri_text.proofs.Puts.{Appends-none, room-same, room-so}
 use Rattle.iri_text.specs.declared.Failed.{Failed}
 use Rattle.iri_percent.specs.declared.canon_mode.CanonMode.{CanonMode}
@@ -26,29 +26,29 @@ use Rattle.std.specs.Prelude.{OnOk}
 use Rattle.iri_cli.proofs.BytesLemmas.{base_absolute, line_reference}
 
 -- nothing was put
-puts_nothing : (w : Option (List ℕ)) (f : ℕ) (r : Option ℕ) → PutsAll w w f f r r (Ok tt) []
-puts_nothing w f r = record {
-  whole = Appends-none w;
+puts_nothing : (k : SinkState) → PutsAll k k (Ok tt) []
+puts_nothing k = record {
+  whole = Appends-none k.written;
   same = refl;
   later = omega arith;
   cause = tt;
   prefix = tt;
-  room = room-same r [] (λ _. refl);
+  room = room-same k.room_left [] (λ _. refl);
 }
 
 -- a command that writes nothing after all answers
-pub closes_nothing : (at : Answering) (w : Option (List ℕ)) (f : ℕ) (r : Option ℕ) → at.rules.closing at.base at.between ≡ []
-    → PutsAll w w f f r r (Ok tt) (at.rules.closing at.base at.between)
-closes_nothing at w f r none = subst (λ t. PutsAll w w f f r r (Ok tt) t) (sym none) (puts_nothing w f r)
+pub closes_nothing : (at : Answering) (k : SinkState) → at.rules.closing at.base at.between ≡ []
+    → PutsAll k k (Ok tt) (at.rules.closing at.base at.between)
+closes_nothing at k none = subst (λ t. PutsAll k k (Ok tt) t) (sym none) (puts_nothing k)
 
 -- pieces that were put, and what is said of them
-pub puts_line : {wo wn : Option (List ℕ)} {fo fn : ℕ} {ro rn : Option ℕ} (good : Bool) (r : Result (Unit {0}) Failed) (text : List ℕ)
-    → PutsAll wo wn fo fn ro rn r text → good ≡ is_ok text → PutsLine wo wn fo fn text (told_of good r)
+pub puts_line : {ko kn : SinkState} (good : Bool) (r : Result (Unit {0}) Failed) (text : List ℕ)
+    → PutsAll ko kn r text → good ≡ is_ok text → PutsLine ko kn text (told_of good r)
 puts_line good (Ok x) text p e = (p.whole, p.same, e)
 puts_line good (Err f) text p e = (p.prefix, p.cause, p.later)
 
-pub line_room : {wo wn : Option (List ℕ)} {fo fn : ℕ} {ro rn : Option ℕ} (good : Bool) (r : Result (Unit {0}) Failed) (text : List ℕ)
-    → PutsAll wo wn fo fn ro rn r text → KeepsRoom ro rn text (told_of good r ≢ Err SinkFailed)
+pub line_room : {ko kn : SinkState} (good : Bool) (r : Result (Unit {0}) Failed) (text : List ℕ)
+    → PutsAll ko kn r text → KeepsRoom ko.room_left kn.room_left text (told_of good r ≢ Err SinkFailed)
 line_room good (Ok x) text p = room-so (λ _ h. cc h) p.room
 line_room good (Err f) text p = room-so (λ h. absurd (cc h)) p.room
 
@@ -78,25 +78,24 @@ canon_opened s m line text output k is taken short room =
     )
 
 -- the answer to a line
-pub puts_answer : (rules : Rules) (wo wn : Option (List ℕ)) (fo fn : ℕ) (r : Result Bool AnswerError) (text : List ℕ) → rules.is_good ≡ is_ok
-    → PutsLine wo wn fo fn text r → PutsAnswer rules wo wn fo fn text r
-puts_answer rules wo wn fo fn (Ok good) text e p = (p.0, p.1, p.2 ∙ ap (λ f. f text) (sym e))
-puts_answer rules wo wn fo fn (Err SinkFailed) text e p = p
-puts_answer rules wo wn fo fn (Err Memory) text e p = absurd p
+pub puts_answer : (rules : Rules) (ko kn : SinkState) (r : Result Bool AnswerError) (text : List ℕ) → rules.is_good ≡ is_ok
+    → PutsLine ko kn text r → PutsAnswer rules ko kn text r
+puts_answer rules ko kn (Ok good) text e p = (p.0, p.1, p.2 ∙ ap (λ f. f text) (sym e))
+puts_answer rules ko kn (Err SinkFailed) text e p = p
+puts_answer rules ko kn (Err Memory) text e p = absurd p
 
 pub on_ok : {X : Type 0} (r : Result Bool AnswerError) → X → OnOk r X
 on_ok (Ok x) h = h
 on_ok (Err x) h = tt
 
-pub answers_line : (s : Tests) (m : CanonMode) (base line : List ℕ) (output new : ℕ) (at : Answering) (wo wn : Option (List ℕ)) (fo fn : ℕ)
-    (ro rn : Option ℕ) (r : Result Bool AnswerError) → IsCanonAt s m base output at → output ≤ new → PutsLine wo wn fo fn (answer_in s m base line) r
-    → KeepsRoom ro rn (answer_in s m base line) (r ≢ Err SinkFailed) → AnswersLine (IsCanonAt s m base new) at line wo wn fo fn ro rn r
-answers_line s m base line output new at wo wn fo fn ro rn r is grows p room =
+pub answers_line : (s : Tests) (m : CanonMode) (base line : List ℕ) (output new : ℕ) (at : Answering) (ko kn : SinkState) (r : Result Bool AnswerError) → IsCanonAt s m base output at → output ≤ new → PutsLine ko kn (answer_in s m base line) r
+    → KeepsRoom ko.room_left kn.room_left (answer_in s m base line) (r ≢ Err SinkFailed) → AnswersLine (IsCanonAt s m base new) at line ko kn r
+answers_line s m base line output new at ko kn r is grows p room =
     let e : answer_in s m base line ≡ at.rules.answer at.base at.between line =
     is.same line ∙ ap (λ (rules : Rules). rules.answer at.base at.between line) (sym is.rules) in
     record {
-      puts = puts_answer at.rules wo wn fo fn r (at.rules.answer at.base at.between line) (ap (λ (rules : Rules). rules.is_good) is.rules)
-          (subst (λ t. PutsLine wo wn fo fn t r) e p);
+      puts = puts_answer at.rules ko kn r (at.rules.answer at.base at.between line) (ap (λ (rules : Rules). rules.is_good) is.rules)
+          (subst (λ t. PutsLine ko kn t r) e p);
       next = on_ok r (record { rules = is.rules; same = is.same; taken = is.taken; short = is.short; room = omega (arith, grows, is.room) });
-      room = subst (λ t. KeepsRoom ro rn t (r ≢ Err SinkFailed)) e room;
+      room = subst (λ t. KeepsRoom ko.room_left kn.room_left t (r ≢ Err SinkFailed)) e room;
     }

@@ -8,6 +8,7 @@ use Rattle.iri_docs.specs.Held.{Held}
 use Rattle.iri_docs.specs.ErrorTexts.{description}
 use Rattle.iri_docs.specs.declared.doc_error.DocError.{DocError}
 use Rattle.iri_docs.specs.declared.doc_error.DocError.TheVariants.{Json, Shape, Name, Truth, Float, Nested, Memory}
+use Rattle.iri_text.specs.Sink.{SinkState}
 use Rattle.iri_cli.specs.canon.Answers.{refusal}
 use Rattle.iri_cli.specs.docs.Answers.{docs_answer, read_answer}
 use Rattle.iri_cli.specs.inside.DocsAt.{IsDocsAt}
@@ -36,11 +37,10 @@ bad Nested = refl
 bad Memory = refl
 
 -- one line more
-pub answers_docs : (s : Tests) (base expansion after : List ℕ) (output grown : ℕ) (at : Answering) (line : List ℕ) (wo wn : Option (List ℕ))
-    (fo fn : ℕ) (ro rn : Option ℕ) (r : Result Bool AnswerError) → IsDocsAt s base expansion output at → length after ≡ length expansion
-    → output ≤ grown → AnswersLine (IsStatelessAt docs_answer s base) at line wo wn fo fn ro rn r
-    → AnswersLine (IsDocsAt s base after grown) at line wo wn fo fn ro rn r
-answers_docs s base expansion after output grown at line wo wn fo fn ro rn r is same grows a =
+pub answers_docs : (s : Tests) (base expansion after : List ℕ) (output grown : ℕ) (at : Answering) (line : List ℕ) (ko kn : SinkState) (r : Result Bool AnswerError) → IsDocsAt s base expansion output at → length after ≡ length expansion
+    → output ≤ grown → AnswersLine (IsStatelessAt docs_answer s base) at line ko kn r
+    → AnswersLine (IsDocsAt s base after grown) at line ko kn r
+answers_docs s base expansion after output grown at line ko kn r is same grows a =
     record { puts = a.puts; next = next r a.next; room = a.room }
   where
     next : (x : Result Bool AnswerError) → OnOk x (IsStatelessAt docs_answer s base (record at { between = at.between ++ line ∷ [] }))

@@ -8,7 +8,7 @@ use Rattle.iri_grammar.specs.Fault.{bytes_fault}
 use Rattle.iri_grammar.specs.WholeFault.{reference_fault}
 use Rattle.iri_grammar.specs.declared.error.ErrorKind.{ErrorKind}
 use Rattle.iri_normal.specs.NormalForm.{canonical}
-use Rattle.iri_text.specs.Sink.{KeepsRoom, PutsAll}
+use Rattle.iri_text.specs.Sink.{KeepsRoom, PutsAll, SinkState}
 use Rattle.iri_text.specs.declared.Failed.{Failed}
 use Rattle.iri_text.proofs.Puts.{Appends-none, room-same}
 use Rattle.iri_docs.specs.Expanded.{expansion_limit}
@@ -89,18 +89,18 @@ template_good s base values t = by_fault (expansion_fault values t)
     by_fault (Some e) = refl
 
 -- ---- an answer that was put as one piece or several, and what is said of it
-pub told_line : {wo wn : Option (List ℕ)} {fo fn : ℕ} {ro rn : Option ℕ} (good : Bool) (r : Result (Unit {0}) Failed) (text line : List ℕ)
-    (result : Result Bool AnswerError) → result ≡ told_of good r → good ≡ is_ok text → text ≡ line → PutsAll wo wn fo fn ro rn r text
-    → PutsLine wo wn fo fn line result
-told_line {wo} {wn} {fo} {fn} good r text line result told e is p =
-    subst (λ x. PutsLine wo wn fo fn line x) (sym told) (subst (λ t. PutsLine wo wn fo fn t (told_of good r)) is (puts_line good r text p e))
+pub told_line : {ko kn : SinkState} (good : Bool) (r : Result (Unit {0}) Failed) (text line : List ℕ)
+    (result : Result Bool AnswerError) → result ≡ told_of good r → good ≡ is_ok text → text ≡ line → PutsAll ko kn r text
+    → PutsLine ko kn line result
+told_line {ko} {kn} good r text line result told e is p =
+    subst (λ x. PutsLine ko kn line x) (sym told) (subst (λ t. PutsLine ko kn t (told_of good r)) is (puts_line good r text p e))
 
-pub told_room : {wo wn : Option (List ℕ)} {fo fn : ℕ} {ro rn : Option ℕ} (good : Bool) (r : Result (Unit {0}) Failed) (text line : List ℕ)
-    (result : Result Bool AnswerError) → result ≡ told_of good r → text ≡ line → PutsAll wo wn fo fn ro rn r text
-    → KeepsRoom ro rn line (result ≢ Err SinkFailed)
-told_room {ro = ro} {rn} good r text line result told is p =
-    subst (λ x. KeepsRoom ro rn line (x ≢ Err SinkFailed)) (sym told)
-    (subst (λ t. KeepsRoom ro rn t (told_of good r ≢ Err SinkFailed)) is (line_room good r text p))
+pub told_room : {ko kn : SinkState} (good : Bool) (r : Result (Unit {0}) Failed) (text line : List ℕ)
+    (result : Result Bool AnswerError) → result ≡ told_of good r → text ≡ line → PutsAll ko kn r text
+    → KeepsRoom ko.room_left kn.room_left line (result ≢ Err SinkFailed)
+told_room {ko} {kn} good r text line result told is p =
+    subst (λ x. KeepsRoom ko.room_left kn.room_left line (x ≢ Err SinkFailed)) (sym told)
+    (subst (λ t. KeepsRoom ko.room_left kn.room_left t (told_of good r ≢ Err SinkFailed)) is (line_room good r text p))
 
 -- ---- one line more
 module _ (s : Tests) (base expansion : List ℕ) (output : ℕ) (values : Values) (at : Answering)
@@ -131,9 +131,9 @@ module _ (s : Tests) (base expansion : List ℕ) (output : ℕ) (values : Values
   on_ok (Err x) h = tt
 
   -- an answer was put, and no variable changed
-  module _ (wo wn : Option (List ℕ)) (fo fn : ℕ) (ro rn : Option ℕ) where
-    puts_answer : (r : Result Bool AnswerError) (text : List ℕ) → is_ok_or_none text ≡ is_ok text → PutsLine wo wn fo fn text r
-        → PutsAnswer at.rules wo wn fo fn text r
+  module _ (ko kn : SinkState) where
+    puts_answer : (r : Result Bool AnswerError) (text : List ℕ) → is_ok_or_none text ≡ is_ok text → PutsLine ko kn text r
+        → PutsAnswer at.rules ko kn text r
     puts_answer (Ok good) text e p = (p.0, p.1, p.2 ∙ sym e ∙ ap (λ (r : Rules). r.is_good text) (sym is.rules))
     puts_answer (Err SinkFailed) text e p = p
     puts_answer (Err Memory) text e p = absurd p
@@ -141,17 +141,17 @@ module _ (s : Tests) (base expansion : List ℕ) (output : ℕ) (values : Values
     pub answers_text : (expansion_new : List ℕ) (output_new : ℕ) (r : Result Bool AnswerError) → length expansion_new ≡ length expansion
         → output ≤ output_new → values ≡ after_line values said
         → is_ok_or_none (answer_to s base values said) ≡ is_ok (answer_to s base values said)
-        → PutsLine wo wn fo fn (answer_to s base values said) r
-        → KeepsRoom ro rn (answer_to s base values said) (r ≢ Err SinkFailed)
-        → AnswersLine (IsExpandAt s base expansion_new output_new values) at line wo wn fo fn ro rn r
+        → PutsLine ko kn (answer_to s base values said) r
+        → KeepsRoom ko.room_left kn.room_left (answer_to s base values said) (r ≢ Err SinkFailed)
+        → AnswersLine (IsExpandAt s base expansion_new output_new values) at line ko kn r
     answers_text expansion_new output_new r expansion_size output_grows same good p room = record {
-      puts = subst (λ t. PutsAnswer at.rules wo wn fo fn t r) (sym answer_is) (puts_answer r (answer_to s base values said) good p);
+      puts = subst (λ t. PutsAnswer at.rules ko kn t r) (sym answer_is) (puts_answer r (answer_to s base values said) good p);
       next = on_ok r (next_at expansion_new output_new values expansion_size output_grows same);
-      room = subst (λ t. KeepsRoom ro rn t (r ≢ Err SinkFailed)) (sym answer_is) room;
+      room = subst (λ t. KeepsRoom ko.room_left kn.room_left t (r ≢ Err SinkFailed)) (sym answer_is) room;
     }
 
   -- nothing was put
-  module _ (w : Option (List ℕ)) (f : ℕ) (r : Option ℕ) (none : answer_to s base values said ≡ []) where
+  module _ (k : SinkState) (none : answer_to s base values said ≡ []) where
     abbrev text : List ℕ
     text = at.rules.answer at.base at.between line
 
@@ -160,20 +160,20 @@ module _ (s : Tests) (base expansion : List ℕ) (output : ℕ) (values : Values
 
     -- a variable changed
     pub answers_nothing : (new : Values) → new ≡ after_line values said
-        → AnswersLine (IsExpandAt s base expansion output new) at line w w f f r r (Ok true)
+        → AnswersLine (IsExpandAt s base expansion output new) at line k k (Ok true)
     answers_nothing new after = record {
-      puts = subst (λ t. PutsAnswer at.rules w w f f t (Ok true)) (sym text_is)
-          (Appends-none w, refl, ap (λ (x : Rules). x.is_good []) (sym is.rules));
+      puts = subst (λ t. PutsAnswer at.rules k k t (Ok true)) (sym text_is)
+          (Appends-none k.written, refl, ap (λ (x : Rules). x.is_good []) (sym is.rules));
       next = next_at expansion output new refl (omega arith) after;
-      room = room-same r text (λ _ h. cc h);
+      room = room-same k.room_left text (λ _ h. cc h);
     }
 
     -- allocation failed
-    pub answers_memory : (is_next : Answering → Type 0) → AnswersLine is_next at line w w f f r r (Err Memory)
+    pub answers_memory : (is_next : Answering → Type 0) → AnswersLine is_next at line k k (Err Memory)
     answers_memory is_next = record {
       puts = (ap (λ (x : Rules). x.takes_memory) is.rules, refl, refl);
       next = tt;
-      room = room-same r text (λ _ h. cc h);
+      room = room-same k.room_left text (λ _ h. cc h);
     }
 
 -- `expand` stands after a base line, with buffers and no values

@@ -6,6 +6,7 @@ use Rattle.iri_grammar.specs.WholeFault.{absolute_fault}
 use Rattle.iri_normal.proofs.CanonLemmas.{fault_none}
 use Rattle.iri_text.specs.Line.{LineState}
 use Rattle.iri_text.proofs.Puts.{Appends-none, room-same}
+use Rattle.iri_text.specs.Sink.{SinkState}
 use Rattle.iri_cli.specs.canon.Answers.{refusal}
 use Rattle.iri_cli.specs.run.Answering.{Answering, IsReady}
 use Rattle.iri_cli.specs.run.Buffers.{AreBuffers}
@@ -18,14 +19,14 @@ use Rattle.iri_cli.specs.declared.run.end.End.TheVariants.{Memory}
 use Rattle.iri_cli.proofs.BytesLemmas.{refused_none}
 
 -- Allocation failed before the first line after the base was answered.
-pub ends_in_memory : (rules : Rules) (lo ln wo : Option (List ℕ)) (fo fn ko : ℕ) (ro : Option ℕ) → rules.takes_memory ≡ true → fo ≤ fn
-    → Ran rules (outside lo wo fo ko) (outside ln wo fn ko) ro ro Memory
-ends_in_memory rules lo ln wo fo fn ko ro takes later = record {
-  to = record { takes_memory = takes; whole = []; first = λ x told. (_, refl); base_taken = tt; writes = Appends-none wo; sink = refl };
-  prefix = λ x told. record { prefix = []; rest = (ending rules x).output; split = refl; appended = Appends-none wo };
+pub ends_in_memory : (rules : Rules) (lo ln : Option (List ℕ)) (fo fn : ℕ) (ko : SinkState) → rules.takes_memory ≡ true → fo ≤ fn
+    → Ran rules (outside lo fo ko) (outside ln fn ko) Memory
+ends_in_memory rules lo ln fo fn ko takes later = record {
+  to = record { takes_memory = takes; whole = []; first = λ x told. (_, refl); base_taken = tt; writes = Appends-none ko.written; sink = refl };
+  prefix = λ x told. record { prefix = []; rest = (ending rules x).output; split = refl; appended = Appends-none ko.written };
   source_later = later;
   sink_later = omega arith;
-  room = λ x told. room-same ro (ending rules x).output (λ _ h. cc h);
+  room = λ x told. room-same ko.room_left (ending rules x).output (λ _ h. cc h);
 }
 
 -- the empty text is no base

@@ -14,7 +14,7 @@ use Rattle.iri_register.specs.Kept.{Kept}
 use Rattle.iri_register.proofs.CommandLemmas.{obeyed_from}
 use Rattle.iri_cli.specs.register.Answers.{answer_to, entry_line, entry_lines, more_numbers}
 use Rattle.iri_cli.specs.register.Lines.{line_of, command_of, commands_from, entries_after}
-use Rattle.iri_text.specs.Sink.{KeepsRoom, PutsAll}
+use Rattle.iri_text.specs.Sink.{KeepsRoom, PutsAll, SinkState}
 use Rattle.iri_text.specs.declared.Failed.{Failed}
 use Rattle.iri_cli.specs.run.Answering.{Answering, AnswersLine, PutsAnswer}
 use Rattle.iri_cli.specs.canon.Puts.{told_of}
@@ -135,10 +135,10 @@ entries_left es i e =
 -- ---- answers
 
 -- what is said of an answer, where it was put or the sink failed
-said_of : (rules : Rules) (wo wn : Option (List ℕ)) (fo fn : ℕ) (ro rn : Option ℕ) (good : Bool) (r : Result (Unit {0}) Failed)
-    (text : List ℕ) → PutsAll wo wn fo fn ro rn r text → good ≡ rules.is_good text → PutsAnswer rules wo wn fo fn text (told_of good r)
-said_of rules wo wn fo fn ro rn good (Ok x) text p e = (p.whole, p.same, e)
-said_of rules wo wn fo fn ro rn good (Err f) text p e = (p.prefix, p.cause, p.later)
+said_of : (rules : Rules) (ko kn : SinkState) (good : Bool) (r : Result (Unit {0}) Failed)
+    (text : List ℕ) → PutsAll ko kn r text → good ≡ rules.is_good text → PutsAnswer rules ko kn text (told_of good r)
+said_of rules ko kn good (Ok x) text p e = (p.whole, p.same, e)
+said_of rules ko kn good (Err f) text p e = (p.prefix, p.cause, p.later)
 
 on_told : {X : Type 0} (good : Bool) (r : Result (Unit {0}) Failed) → X → OnOk (told_of good r) X
 on_told good (Ok x) h = h
@@ -168,20 +168,19 @@ next_at s against kept new answered count at line is counted base entries = reco
   counted = let size = length-append at.between (line ∷ []) in omega (arith, counted, is.counted, size);
 }
 
-pub answers_line : (s : Tests) (against : List ℕ) (kept new : Kept) (answered count : ℕ) (at : Answering) (line text : List ℕ) (wo wn : Option (List ℕ))
-    (fo fn : ℕ) (ro rn : Option ℕ) (good : Bool) (r : Result (Unit {0}) Failed) → IsRegisterAt s against kept answered at
+pub answers_line : (s : Tests) (against : List ℕ) (kept new : Kept) (answered count : ℕ) (at : Answering) (line text : List ℕ) (ko kn : SinkState) (good : Bool) (r : Result (Unit {0}) Failed) → IsRegisterAt s against kept answered at
     → count ≡ answered + 1 → new.base ≡ kept.base
     → new.entries ≡ obeyed_by kept.entries (command_of s kept.base (answered + 2) (line_of line))
-    → text ≡ answer_to s kept.base kept.entries (line_of line) → good ≡ is_not_bad text → PutsAll wo wn fo fn ro rn r text
-    → AnswersLine (IsRegisterAt s against new count) at line wo wn fo fn ro rn (told_of good r)
-answers_line s against kept new answered count at line text wo wn fo fn ro rn good r is counted base entries answer good_is p =
+    → text ≡ answer_to s kept.base kept.entries (line_of line) → good ≡ is_not_bad text → PutsAll ko kn r text
+    → AnswersLine (IsRegisterAt s against new count) at line ko kn (told_of good r)
+answers_line s against kept new answered count at line text ko kn good r is counted base entries answer good_is p =
     let e = answer_is s against kept answered at line text is answer in
     let test : good ≡ at.rules.is_good text = good_is ∙ ap (λ (rules : Rules). rules.is_good text) (sym is.rules) in
     record {
-      puts = subst (λ t. PutsAnswer at.rules wo wn fo fn t (told_of good r)) e
-          (said_of at.rules wo wn fo fn ro rn good r text p test);
+      puts = subst (λ t. PutsAnswer at.rules ko kn t (told_of good r)) e
+          (said_of at.rules ko kn good r text p test);
       next = on_told good r (next_at s against kept new answered count at line is counted base entries);
-      room = subst (λ t. KeepsRoom ro rn t (told_of good r ≢ Err SinkFailed)) e (line_room good r text p);
+      room = subst (λ t. KeepsRoom ko.room_left kn.room_left t (told_of good r ≢ Err SinkFailed)) e (line_room good r text p);
     }
 
 -- an empty register stands after a base line

@@ -11,7 +11,7 @@ use Rattle.iri_robots.specs.Records.{FileRecord, FileRule}
 use Rattle.iri_robots.specs.declared.robots.Verdict.{Verdict}
 use Rattle.iri_robots.specs.declared.robots.Verdict.TheVariants.{Allow, Disallow}
 use Rattle.iri_robots.proofs.Decisions.{allowed_is}
-use Rattle.iri_text.specs.Sink.{KeepsRoom, PutsAll}
+use Rattle.iri_text.specs.Sink.{KeepsRoom, PutsAll, SinkState}
 use Rattle.iri_text.specs.declared.Failed.{Failed}
 use Rattle.iri_text.proofs.Puts.{Appends-none, room-same}
 use Rattle.iri_cli.specs.run.Answering.{Answering, AnswersLine, PutsAnswer}
@@ -46,16 +46,16 @@ word_is site allowed a b e h = ap (λ x. verdict_word x b) (sym e) ∙ ap (verdi
 
 -- ---- replies
 
-pub replies : {wo wn : Option (List ℕ)} {fo fn : ℕ} {ro rn : Option ℕ} (good : Bool) (r : Result (Unit {0}) Failed) (text : List ℕ)
-    → PutsAll wo wn fo fn ro rn r text → good ≡ is_not_bad text → PutsReply wo wn fo fn ro rn text (told_of good r)
-replies {wo} {wn} {fo} {fn} good r text p e = record { puts = by r p; room = line_room good r text p }
+pub replies : {ko kn : SinkState} (good : Bool) (r : Result (Unit {0}) Failed) (text : List ℕ)
+    → PutsAll ko kn r text → good ≡ is_not_bad text → PutsReply ko kn text (told_of good r)
+replies {ko} {kn} good r text p e = record { puts = by r p; room = line_room good r text p }
   where
-    by : {ro rn : Option ℕ} (r : Result (Unit {0}) Failed) → PutsAll wo wn fo fn ro rn r text → Replies wo wn fo fn text (told_of good r)
+    by : (r : Result (Unit {0}) Failed) → PutsAll ko kn r text → Replies ko kn text (told_of good r)
     by (Ok x) p = (p.whole, p.same, e)
     by (Err f) p = (p.prefix, p.cause, p.later)
 
-pub no_reply : (wo : Option (List ℕ)) (fo : ℕ) (ro : Option ℕ) → PutsReply wo wo fo fo ro ro [] (Ok true)
-no_reply wo fo ro = record { puts = (Appends-none wo, refl, refl); room = room-same ro [] (λ _ h. cc h) }
+pub no_reply : (ko : SinkState) → PutsReply ko ko [] (Ok true)
+no_reply ko = record { puts = (Appends-none ko.written, refl, refl); room = room-same ko.room_left [] (λ _ h. cc h) }
 
 -- ---- one line more
 
@@ -64,11 +64,11 @@ unfolding records_after
 records_more between line =
     flat_map-append (λ l. fed (line_of l)) between (line ∷ []) ∙ ap (λ t. records_after between ++ t) (append-nil (fed (line_of line)))
 
-puts_by : (rules : Rules) (wo wn : Option (List ℕ)) (fo fn : ℕ) (text : List ℕ) (r : Result Bool AnswerError) → rules.is_good ≡ is_not_bad
-    → rules.takes_memory ≡ true → Replies wo wn fo fn text r → PutsAnswer rules wo wn fo fn text r
-puts_by rules wo wn fo fn text (Ok good) e m p = (p.0, p.1, p.2 ∙ ap (λ f. f text) (sym e))
-puts_by rules wo wn fo fn text (Err SinkFailed) e m p = p
-puts_by rules wo wn fo fn text (Err Memory) e m p = (m, p.0, p.1)
+puts_by : (rules : Rules) (ko kn : SinkState) (text : List ℕ) (r : Result Bool AnswerError) → rules.is_good ≡ is_not_bad
+    → rules.takes_memory ≡ true → Replies ko kn text r → PutsAnswer rules ko kn text r
+puts_by rules ko kn text (Ok good) e m p = (p.0, p.1, p.2 ∙ ap (λ f. f text) (sym e))
+puts_by rules ko kn text (Err SinkFailed) e m p = p
+puts_by rules ko kn text (Err Memory) e m p = (m, p.0, p.1)
 
 next_at : (s : Tests) (token base normal : List ℕ) (records new : List FileRecord) (at : Answering) (line : List ℕ)
     → IsRobotsAt s token base normal records at → new ≡ records ++ fed (line_of line)
@@ -87,20 +87,20 @@ on_next s token base normal records new at line (Ok good) is e = next_at s token
 on_next s token base normal records new at line (Err x) is e = tt
 
 pub answers_line : (s : Tests) (token base normal : List ℕ) (records new : List FileRecord) (at : Answering) (line text : List ℕ)
-    (wo wn : Option (List ℕ)) (fo fn : ℕ) (ro rn : Option ℕ) (r : Result Bool AnswerError) → IsRobotsAt s token base normal records at
+    (ko kn : SinkState) (r : Result Bool AnswerError) → IsRobotsAt s token base normal records at
     → text ≡ answer_to s token base records (line_of line) → OnOk r (new ≡ records ++ fed (line_of line))
-    → PutsReply wo wn fo fn ro rn text r → AnswersLine (IsRobotsAt s token base normal new) at line wo wn fo fn ro rn r
-answers_line s token base normal records new at line text wo wn fo fn ro rn r is answer e p =
+    → PutsReply ko kn text r → AnswersLine (IsRobotsAt s token base normal new) at line ko kn r
+answers_line s token base normal records new at line text ko kn r is answer e p =
     let whole : text ≡ at.rules.answer at.base at.between line =
     answer ∙ ap (λ b. answer_to s token b records (line_of line)) is.base_is
     ∙ ap (λ rs. answer_to s token at.base rs (line_of line)) is.records_are
     ∙ ap (λ (rules : Rules). rules.answer at.base at.between line) (sym is.rules) in
     record {
-      puts = subst (λ t. PutsAnswer at.rules wo wn fo fn t r) whole
-          (puts_by at.rules wo wn fo fn text r (ap (λ (rules : Rules). rules.is_good) is.rules)
+      puts = subst (λ t. PutsAnswer at.rules ko kn t r) whole
+          (puts_by at.rules ko kn text r (ap (λ (rules : Rules). rules.is_good) is.rules)
           (ap (λ (rules : Rules). rules.takes_memory) is.rules) p.puts);
       next = on_next s token base normal records new at line r is e;
-      room = subst (λ t. KeepsRoom ro rn t (r ≢ Err SinkFailed)) whole p.room;
+      room = subst (λ t. KeepsRoom ko.room_left kn.room_left t (r ≢ Err SinkFailed)) whole p.room;
     }
 
 -- no record came

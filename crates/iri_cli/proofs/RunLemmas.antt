@@ -3,7 +3,7 @@ use Rattle.std.proofs.Common.{◌≡◌, ◌≢◌, ◌⊎◌, ℕ, ◌+◌, ◌
 use Rattle.std.proofs.Common.{inr, ⊎_elim}
 use Rattle.iri_text.specs.Count.{Rose}
 use Rattle.iri_text.specs.Source.{Consumes, IsAtEnd}
-use Rattle.iri_text.specs.Sink.{Appends, KeepsRoom}
+use Rattle.iri_text.specs.Sink.{Appends, AppendsPrefix, KeepsRoom, SinkState}
 use Rattle.iri_text.proofs.Puts.{room-so, room-less}
 use Rattle.iri_cli.specs.run.Ending.{Rules, ending}
 use Rattle.iri_cli.specs.run.Run.{Outside, outside, Finishes, Decides, StopsShort, RunsOut, RanTo, Ran, Runs, status_of, IsDecided}
@@ -16,20 +16,20 @@ use Rattle.iri_cli.proofs.Answered.{taken_is}
 module _ (rules : Rules) (old new : Outside) where
   -- status and output are those of the input's ending
   abbrev Meets : ℕ → List ℕ → Type 0
-  Meets status x = (status ≡ (ending rules x).status) × Appends old.written new.written (ending rules x).output
+  Meets status x = (status ≡ (ending rules x).status) × Appends old.sink.written new.sink.written (ending rules x).output
 
   finished : (n : ℕ) → Finishes rules n old new → (x : List ℕ) → old.left ≡ Some x → Meets n x
   finished n p x told =
       let all = taken_is old.left new.left x p.taken told p.takes p.at_end in (
         sym p.ends ∙ ap (λ (t : List ℕ). (ending rules t).status) (sym all),
-        subst (λ (t : List ℕ). Appends old.written new.written (ending rules t).output) (sym all) p.writes,
+        subst (λ (t : List ℕ). Appends old.sink.written new.sink.written (ending rules t).output) (sym all) p.writes,
       )
 
   decided : (n : ℕ) → Decides rules n old new → (x : List ℕ) → old.left ≡ Some x → Meets n x
   decided n p x told =
       let l = left_is new.left x p.taken (subst (λ (s : Option (List ℕ)). Consumes s new.left p.taken) told p.takes) in (
         sym (p.ends l.0) ∙ ap (λ (t : List ℕ). (ending rules t).status) (sym l.2),
-        subst (λ (t : List ℕ). Appends old.written new.written (ending rules t).output) (sym l.2) (p.writes l.0),
+        subst (λ (t : List ℕ). Appends old.sink.written new.sink.written (ending rules t).output) (sym l.2) (p.writes l.0),
       )
 
   not_decided : (n : ℕ) → (4 ≤ n) × (n ≤ 6) → IsDecided n → ⊥
@@ -66,7 +66,7 @@ module _ (rules : Rules) (old new : Outside) where
   source_failed_of LineTooLong p h = absurd (omega (arith, h))
   source_failed_of InputTooLong p h = absurd (omega (arith, h))
 
-  sink_failed_of : (e : End) → RanTo rules old new e → status_of e ≡ 5 → Rose old.sink_faults new.sink_faults
+  sink_failed_of : (e : End) → RanTo rules old new e → status_of e ≡ 5 → Rose old.sink.faults new.sink.faults
   sink_failed_of Done p h = absurd (omega (arith, h))
   sink_failed_of SomeBad p h = absurd (omega (arith, h))
   sink_failed_of BadBase p h = absurd (omega (arith, h))
@@ -76,7 +76,7 @@ module _ (rules : Rules) (old new : Outside) where
   sink_failed_of LineTooLong p h = absurd (omega (arith, h))
   sink_failed_of InputTooLong p h = absurd (omega (arith, h))
 
-  sink_same_of : (e : End) → RanTo rules old new e → status_of e ≢ 5 → new.sink_faults ≡ old.sink_faults
+  sink_same_of : (e : End) → RanTo rules old new e → status_of e ≢ 5 → new.sink.faults ≡ old.sink.faults
   sink_same_of Done p h = p.sink
   sink_same_of SomeBad p h = p.sink
   sink_same_of BadBase p h = ⊎_elim (λ q. q.sink) (λ q. q.sink) p
@@ -97,7 +97,7 @@ module _ (rules : Rules) (old new : Outside) where
   ran_out_of InputTooLong p h = absurd (omega (arith, h))
 
   completes_of : (e : End) → RanTo rules old new e → (x : List ℕ) → old.left ≡ Some x → ¬ (Rose old.source_faults new.source_faults)
-      → ¬ (Rose old.sink_faults new.sink_faults)
+      → ¬ (Rose old.sink.faults new.sink.faults)
       → (status_of e ≡ (ending rules x).status) ⊎ ((status_of e ≡ 6) × (rules.takes_memory ≡ true))
   completes_of Done p x told f k = inl (finished 0 p x told).0
   completes_of SomeBad p x told f k = inl (finished 1 p x told).0
@@ -132,9 +132,9 @@ module _ (rules : Rules) (old new : Outside) where
   in_room_of InputTooLong p x told f k = inl (decided 8 p x told)
 
   -- a run by its end
-  runs_by : (room_old room_new : Option ℕ) (e : End) → Ran rules old new room_old room_new e
-      → Runs rules old new room_old room_new (status_of e)
-  runs_by room_old room_new e r = record {
+  runs_by : (e : End) → Ran rules old new e
+      → Runs rules old new (status_of e)
+  runs_by e r = record {
     end = e;
     told = refl;
     ran = r;
@@ -149,14 +149,14 @@ module _ (rules : Rules) (old new : Outside) where
     completes_in_room = λ x told f k. in_room_of e r.to x told f ((r.room x told).holds k);
   }
 
-  pub runs_of : (room_old room_new : Option ℕ) (e : End) (status : ℕ) → status ≡ status_of e → Ran rules old new room_old room_new e
-      → Runs rules old new room_old room_new status
-  runs_of room_old room_new e status is r = subst (Runs rules old new room_old room_new) (sym is) (runs_by room_old room_new e r)
+  pub runs_of : (e : End) (status : ℕ) → status ≡ status_of e → Ran rules old new e
+      → Runs rules old new status
+  runs_of e status is r = subst (Runs rules old new) (sym is) (runs_by e r)
 
   -- allocation fails only where lines take it
-  pub never_six : (room_old room_new : Option ℕ) → rules.takes_memory ≡ false → (e : End) (status : ℕ) → status ≡ status_of e
-      → Ran rules old new room_old room_new e → status ≢ 6
-  never_six room_old room_new none e status is r h = let m = (ran_out_of e r.to (sym is ∙ h)).takes_memory in cc
+  pub never_six : rules.takes_memory ≡ false → (e : End) (status : ℕ) → status ≡ status_of e
+      → Ran rules old new e → status ≢ 6
+  never_six none e status is r h = let m = (ran_out_of e r.to (sym is ∙ h)).takes_memory in cc
 
 -- no end has the status of words that are no command
 not_two : (e : End) → status_of e ≢ 2
@@ -173,36 +173,73 @@ pub never_two : (e : End) (status : ℕ) → status ≡ status_of e → status �
 never_two e status is h = not_two e (sym is ∙ h)
 
 -- A run that ended so, and whose sink was flushed then.
-pub closed : (rules : Rules) (lo ln wo wn wc : Option (List ℕ)) (so sn ko km kn : ℕ) (ro rm rn : Option ℕ) (end last : End)
-    → Ran rules (outside lo wo so ko) (outside ln wn sn km) ro rm end → Closes wn wc km kn rm rn end last
-    → Ran rules (outside lo wo so ko) (outside ln wc sn kn) ro rn last
-closed rules lo ln wo wn wc so sn ko km kn ro rm rn end last r c =
-    subst (λ (w : Option (List ℕ)). Ran rules (outside lo wo so ko) (outside ln w sn kn) ro rn last) (sym c.kept)
-    (⊎_elim same broken c.ends)
+pub closed : (rules : Rules) (lo ln : Option (List ℕ)) (so sn : ℕ) (ko km kn : SinkState) (end last : End)
+    → Ran rules (outside lo so ko) (outside ln sn km) end → Closes km kn end last → Ran rules (outside lo so ko) (outside ln sn kn) last
+closed rules lo ln so sn ko km kn end last r c = ⊎_elim same broken c.ends
   where
-    room : (x : List ℕ) → lo ≡ Some x → KeepsRoom ro rn (ending rules x).output (last ≢ SinkFailed)
+    room : (x : List ℕ) → lo ≡ Some x → KeepsRoom ko.room_left kn.room_left (ending rules x).output (last ≢ SinkFailed)
     room x told =
         let k = r.room x told in
         record {
           holds = λ h failed. k.holds h (sym ((c.room).holds
-              (k.left 0 (room-less ro (length (ending rules x).output) (length (ending rules x).output + 0) (omega arith) h))) ∙ failed);
-          left = λ more h. (c.room).left more (room-less rm more (0 + more) (omega arith) (k.left more h));
+              (k.left 0 (room-less ko.room_left (length (ending rules x).output) (length (ending rules x).output + 0) (omega arith) h))) ∙ failed);
+          left = λ more h. (c.room).left more (room-less km.room_left more (0 + more) (omega arith) (k.left more h));
         }
 
-    same : (last ≡ end) × (kn ≡ km) → Ran rules (outside lo wo so ko) (outside ln wn sn kn) ro rn last
+    prefix : (x : List ℕ) → lo ≡ Some x → AppendsPrefix ko.written kn.written (ending rules x).output
+    prefix x told = subst (λ (w : Option (List ℕ)). AppendsPrefix ko.written w (ending rules x).output) (sym c.kept) (r.prefix x told)
+
+    writes : (bytes : List ℕ) → Appends ko.written km.written bytes → Appends ko.written kn.written bytes
+    writes bytes p = subst (λ (w : Option (List ℕ)). Appends ko.written w bytes) (sym c.kept) p
+
+    finishes : kn.faults ≡ km.faults → (n : ℕ) → Finishes rules n (outside lo so ko) (outside ln sn km)
+        → Finishes rules n (outside lo so ko) (outside ln sn kn)
+    finishes k n p = record { taken = p.taken; takes = p.takes; at_end = p.at_end; ends = p.ends; writes = writes _ p.writes; sink = k ∙ p.sink }
+
+    decides : kn.faults ≡ km.faults → (n : ℕ) → Decides rules n (outside lo so ko) (outside ln sn km)
+        → Decides rules n (outside lo so ko) (outside ln sn kn)
+    decides k n p = record { taken = p.taken; takes = p.takes; ends = p.ends; writes = λ more. writes _ (p.writes more); sink = k ∙ p.sink }
+
+    -- where the count of faults stays too, the end is the same
+    same_end : kn.faults ≡ km.faults → (e : End) → RanTo rules (outside lo so ko) (outside ln sn km) e
+        → RanTo rules (outside lo so ko) (outside ln sn kn) e
+    same_end k Done p = finishes k 0 p
+    same_end k SomeBad p = finishes k 1 p
+    same_end k BadBase p = ⊎_elim (λ q. inl (decides k 3 q)) (λ q. inr (finishes k 3 q)) p
+    same_end k SourceFailed p = record {
+      taken = p.taken;
+      takes = p.takes;
+      passes = p.passes;
+      base_taken = p.base_taken;
+      writes = writes _ p.writes;
+      source = p.source;
+      sink = k ∙ p.sink;
+    }
+    same_end k SinkFailed p = omega (arith, p, k)
+    same_end k Memory p = record {
+      takes_memory = p.takes_memory;
+      whole = p.whole;
+      first = p.first;
+      base_taken = p.base_taken;
+      writes = writes _ p.writes;
+      sink = k ∙ p.sink;
+    }
+    same_end k LineTooLong p = decides k 7 p
+    same_end k InputTooLong p = decides k 8 p
+
+    same : (last ≡ end) × (kn.faults ≡ km.faults) → Ran rules (outside lo so ko) (outside ln sn kn) last
     same p = record {
-      to = subst (λ (e : End). RanTo rules (outside lo wo so ko) (outside ln wn sn kn) e) (sym p.0)
-          (subst (λ (k : ℕ). RanTo rules (outside lo wo so ko) (outside ln wn sn k) end) (sym p.1) r.to);
-      prefix = r.prefix;
+      to = subst (λ (e : End). RanTo rules (outside lo so ko) (outside ln sn kn) e) (sym p.0) (same_end p.1 end r.to);
+      prefix = prefix;
       source_later = r.source_later;
       sink_later = omega (arith, p.1, r.sink_later);
       room = room;
     }
 
-    broken : (last ≡ SinkFailed) × Rose km kn → Ran rules (outside lo wo so ko) (outside ln wn sn kn) ro rn last
+    broken : (last ≡ SinkFailed) × Rose km.faults kn.faults → Ran rules (outside lo so ko) (outside ln sn kn) last
     broken p = record {
-      to = subst (λ (e : End). RanTo rules (outside lo wo so ko) (outside ln wn sn kn) e) (sym p.0) (omega (arith, p.1, r.sink_later));
-      prefix = r.prefix;
+      to = subst (λ (e : End). RanTo rules (outside lo so ko) (outside ln sn kn) e) (sym p.0) (omega (arith, p.1, r.sink_later));
+      prefix = prefix;
       source_later = r.source_later;
       sink_later = omega (arith, c.later, r.sink_later);
       room = room;

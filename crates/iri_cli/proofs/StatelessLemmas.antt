@@ -1,7 +1,7 @@
 -- The answers of commands that answer each line alone.
 use Rattle.std.proofs.Common.{◌≡◌, ◌≢◌, ◌∙◌, ℕ, Bool, List, [], ◌∷◌, ◌++◌, Option, Result, Err, refl, sym, ap, subst}
 use Rattle.iri_grammar.specs.Classes.{Tests}
-use Rattle.iri_text.specs.Sink.{KeepsRoom}
+use Rattle.iri_text.specs.Sink.{KeepsRoom, SinkState}
 use Rattle.iri_text.proofs.Puts.{room-same}
 use Rattle.iri_cli.specs.run.Answering.{Answering, AnswersLine}
 use Rattle.iri_cli.specs.canon.Puts.{PutsLine}
@@ -20,21 +20,21 @@ module _ (answer : Tests → List ℕ → List ℕ → List ℕ) (s : Tests) whe
     next_at = record { rules = is.rules; base_is = is.base_is }
 
     -- the answer was put
-    pub answers_text : (wo wn : Option (List ℕ)) (fo fn : ℕ) (ro rn : Option ℕ) (r : Result Bool AnswerError) (text : List ℕ)
-        → text ≡ answer s base line → PutsLine wo wn fo fn text r → KeepsRoom ro rn text (r ≢ Err SinkFailed)
-        → AnswersLine (IsStatelessAt answer s base) at line wo wn fo fn ro rn r
-    answers_text wo wn fo fn ro rn r text text_is p room = record {
-      puts = puts_answer at.rules wo wn fo fn r (at.rules.answer at.base at.between line) (ap (λ (r : Rules). r.is_good) is.rules)
-          (subst (λ t. PutsLine wo wn fo fn t r) (text_is ∙ answer_is) p);
+    pub answers_text : (ko kn : SinkState) (r : Result Bool AnswerError) (text : List ℕ)
+        → text ≡ answer s base line → PutsLine ko kn text r → KeepsRoom ko.room_left kn.room_left text (r ≢ Err SinkFailed)
+        → AnswersLine (IsStatelessAt answer s base) at line ko kn r
+    answers_text ko kn r text text_is p room = record {
+      puts = puts_answer at.rules ko kn r (at.rules.answer at.base at.between line) (ap (λ (r : Rules). r.is_good) is.rules)
+          (subst (λ t. PutsLine ko kn t r) (text_is ∙ answer_is) p);
       next = on_ok r next_at;
-      room = subst (λ t. KeepsRoom ro rn t (r ≢ Err SinkFailed)) (text_is ∙ answer_is) room;
+      room = subst (λ t. KeepsRoom ko.room_left kn.room_left t (r ≢ Err SinkFailed)) (text_is ∙ answer_is) room;
     }
 
     -- allocation failed
-    pub answers_memory : (w : Option (List ℕ)) (f : ℕ) (r : Option ℕ)
-        → AnswersLine (IsStatelessAt answer s base) at line w w f f r r (Err Memory)
-    answers_memory w f r = record {
+    pub answers_memory : (k : SinkState)
+        → AnswersLine (IsStatelessAt answer s base) at line k k (Err Memory)
+    answers_memory k = record {
       puts = (ap (λ (x : Rules). x.takes_memory) is.rules, refl, refl);
       next = tt;
-      room = room-same r (at.rules.answer at.base at.between line) (λ _ h. cc h);
+      room = room-same k.room_left (at.rules.answer at.base at.between line) (λ _ h. cc h);
     }

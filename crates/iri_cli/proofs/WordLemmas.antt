@@ -10,7 +10,7 @@ use Rattle.iri_cli.specs.inside.Obeyed.{IsSound, Obeys}
 use Rattle.iri_cli.specs.robots.Rules.{robots_rules}
 use Rattle.iri_cli.specs.run.Ending.{Rules}
 use Rattle.iri_cli.specs.run.Run.{Outside, RunsLines}
-use Rattle.iri_cli.specs.run.Words.{IsCommand, command_word, notice_word, rules_of, tests_of, word_of, words_after}
+use Rattle.iri_cli.specs.run.Words.{IsCommand, named, notice_word, rules_of, tests_of, word_of}
 use Rattle.iri_cli.specs.declared.help.Notice.{Notice}
 use Rattle.iri_cli.specs.declared.help.Notice.TheVariants.{Help, Version}
 use Rattle.iri_cli.specs.declared.run.words.Command.{Command}
@@ -34,7 +34,7 @@ one_notice Version Version e = refl
 one_notice a b e = let third = ap (letter 2) e in absurd (omega (arith, third))
 
 -- a name and the words after that of the grammar tell the rules
-one_line_command : (s : Tests) (a b : LineCommand) → command_word a ≡ command_word b → words_after a ≡ words_after b
+one_line_command : (s : Tests) (a b : LineCommand) → (named a).word ≡ (named b).word → (named a).after ≡ (named b).after
     → rules_of a s ≡ rules_of b s
 one_line_command s (Canon Default) (Canon Default) e f = refl
 one_line_command s (Canon Scheme) (Canon Scheme) e f = refl
@@ -49,7 +49,7 @@ one_line_command s a b e f =
     let count = ap (λ (ws : List (List ℕ)). length ws) f in
     absurd (omega (arith, first, second, count))
 
-no_line_command : (a : LineCommand) → command_word a ≢ codes "gen"
+no_line_command : (a : LineCommand) → (named a).word ≢ codes "gen"
 no_line_command Expand e = let first = ap (letter 0) e in omega (arith, first)
 no_line_command a e = let first = ap (letter 0) e in omega (arith, first)
 
@@ -58,9 +58,9 @@ module _ (words : List (List ℕ)) where
       → rules_of a (tests_of g) ≡ rules_of b (tests_of h)
   one_lines a b g h p q =
       let e = sym p.0 ∙ q.0 in
-      let name : command_word a ≡ command_word b = ap (λ (ws : List (List ℕ)). get_or ws 0 []) e in
+      let name : (named a).word ≡ (named b).word = ap (λ (ws : List (List ℕ)). get_or ws 0 []) e in
       let word : word_of g ≡ word_of h = ap (λ (ws : List (List ℕ)). get_or ws 1 []) e in
-      let after : words_after a ≡ words_after b = ap (λ (ws : List (List ℕ)). drop 2 ws) e in
+      let after : (named a).after ≡ (named b).after = ap (λ (ws : List (List ℕ)). drop 2 ws) e in
       one_line_command (tests_of g) a b name after ∙ ap (λ x. rules_of b (tests_of x)) (one_grammar g h word)
 
   one_gen : (a b : Grammar) (m n : ℕ) → IsCommand words (Gen a m) → IsCommand words (Gen b n)
@@ -73,17 +73,17 @@ module _ (words : List (List ℕ)) where
       (sym p.2.spelled ∙ number ∙ q.2.spelled) in
       ap (λ x. gen_text (tests_of x) m) (one_grammar a b word) ∙ ap (gen_text (tests_of b)) count
 
-  module _ (old new : Outside) (room_old room_new : Option ℕ) (status : ℕ) where
+  module _ (old new : Outside) (status : ℕ) where
     -- words that are two commands have the same done for both
-    one_command : (a b : Command) → IsCommand words a → IsCommand words b → Obeys (Some a) old new room_old room_new status
-        → Obeys (Some b) old new room_old room_new status
+    one_command : (a b : Command) → IsCommand words a → IsCommand words b → Obeys (Some a) old new status
+        → Obeys (Some b) old new status
     one_command (Lines a g) (Lines b h) p q o =
-        subst (λ (r : Rules). RunsLines r old new room_old room_new status) (one_lines a b g h p q) o
+        subst (λ (r : Rules). RunsLines r old new status) (one_lines a b g h p q) o
     one_command (Gen a m) (Gen b n) p q o =
-        subst (λ (t : List ℕ). MakesText t old new room_old room_new status) (one_gen a b m n p q) o
+        subst (λ (t : List ℕ). MakesText t old new status) (one_gen a b m n p q) o
     one_command (Tell a) (Tell b) p q o =
         let word : notice_word a ≡ notice_word b = ap (λ (ws : List (List ℕ)). get_or ws 0 []) (sym p ∙ q) in
-        subst (λ (n : Notice). Tells (notice_text n) old new room_old room_new status) (one_notice a b word) o
+        subst (λ (n : Notice). Tells (notice_text n) old new status) (one_notice a b word) o
     one_command (Lines a g) (Gen b n) p q o = absurd (no_line_command a (ap (λ (ws : List (List ℕ)). get_or ws 0 []) (sym p.0 ∙ q.1)))
     one_command (Gen a m) (Lines b h) p q o = absurd (no_line_command b (ap (λ (ws : List (List ℕ)). get_or ws 0 []) (sym q.0 ∙ p.1)))
     one_command (Lines a g) (Tell b) p q o = let e = sym p.0 ∙ q in cc e
@@ -93,13 +93,13 @@ module _ (words : List (List ℕ)) where
 
     -- what is done for the command of words
     pub obeyed : (command : Option Command) → MatchOption command ((c : Command) → ¬ (IsCommand words c)) (IsCommand words)
-        → Obeys command old new room_old room_new status → (c : Command) → IsCommand words c
-        → Obeys (Some c) old new room_old room_new status
+        → Obeys command old new status → (c : Command) → IsCommand words c
+        → Obeys (Some c) old new status
     obeyed None none o c is = absurd (none c is)
     obeyed (Some a) p o c is = one_command a c p is o
 
     pub unknown : (command : Option Command) → MatchOption command ((c : Command) → ¬ (IsCommand words c)) (IsCommand words)
-        → Obeys command old new room_old room_new status → ((c : Command) → ¬ (IsCommand words c)) → (status ≡ 2) × (new ≡ old)
+        → Obeys command old new status → ((c : Command) → ¬ (IsCommand words c)) → (status ≡ 2) × (new ≡ old)
     unknown None is o none = o
     unknown (Some a) is o none = absurd (none a is)
 

@@ -1,7 +1,7 @@
 // The answers of `canon`.
 ghost use Rattle.std.specs.Prelude.{◌≡◌, ◌≢◌, ◌≤◌, ◌+◌, [], ◌∷◌, ◌++◌, None, Some, Err, codes, length, take, MatchResult};
 ghost use Rattle.std.specs.Vec.{vec_capacity};
-ghost use Rattle.iri_text.specs.Sink.{PutsAll, KeepsRoom};
+ghost use Rattle.iri_text.specs.Sink.{PutsAll, KeepsRoom, sink_state};
 ghost use Rattle.iri_types.specs.SplitText.{split_text};
 ghost use Rattle.iri_types.specs.Texts.{text};
 ghost use Rattle.iri_normal.specs.NormalForm.{canonical_in};
@@ -32,7 +32,8 @@ use iri_types::view::RiAbsoluteStr;
 /// The base of a base line, or in words why it is refused.
 #[tactic(auto, unfolding(crate::specs::canon::Answers::refusal))]
 pub fn base_of<S: Spec>(line: &[u8]) -> Result<RiAbsoluteStr<'_, S>, &'static str>
-    ensures { MatchResult result (λ base. (text base ≡ line.now) × (refusal S.tests line.now ≡ None))
+    ensures { MatchResult result
+        (λ base. (text base ≡ line.now) × (refusal S.tests line.now ≡ None))
         (λ words. refusal S.tests line.now ≡ Some words.now) }
 {
     match RiAbsoluteStr::<S>::try_from_bytes(line) {
@@ -60,10 +61,10 @@ fn fill<'a, S: Spec>(
     reference: &SplitView<'a, S, Reference>,
 )
     requires empty { line.old.taken ≡ [] }
-    requires room { length (canonical_in S.tests mode (base_text resolver.now) (split_text reference.now)) + 4
-        ≤ line.old.room }
-    ensures { line.new.taken ≡ codes "ok "
-        ++ (canonical_in S.tests mode (base_text resolver.now) (split_text reference.now) ++ line_feed ∷ []) }
+    requires room { length (canonical_in S.tests mode (base_text resolver.now)
+        (split_text reference.now)) + 4 ≤ line.old.room }
+    ensures { line.new.taken ≡ codes "ok " ++ (canonical_in S.tests mode
+        (base_text resolver.now) (split_text reference.now) ++ line_feed ∷ []) }
 {
     let _ = line.put("ok ");
     if let Ok(()) = show_canonical_in(line, mode, resolver, reference) {
@@ -80,12 +81,12 @@ fn put_shown<'a, S: Spec, O: Sink>(
     resolver: &FixedBaseResolver<'a, S>,
     reference: &SplitView<'a, S, Reference>,
 ) -> Result<(), Failed>
-    requires { length (canonical_in S.tests mode (base_text resolver.now) (split_text reference.now)) + 4
-        ≤ length output.old }
-    ensures { PutsAll (O.written sink.old) (O.written sink.new) (O.faults sink.old) (O.faults sink.new)
-        (O.room_left sink.old) (O.room_left sink.new) result
-        (codes "ok " ++ (canonical_in S.tests mode (base_text resolver.now) (split_text reference.now)
-        ++ line_feed ∷ [])) }
+    requires { length (canonical_in S.tests mode (base_text resolver.now)
+        (split_text reference.now)) + 4 ≤ length output.old }
+    ensures { let state = sink_state O.written O.faults O.room_left in
+        PutsAll (state sink.old) (state sink.new) result
+        (codes "ok " ++ (canonical_in S.tests mode (base_text resolver.now)
+        (split_text reference.now) ++ line_feed ∷ [])) }
 {
     let mut line = SliceSink::new(output);
     fill(&mut line, mode, resolver, reference);
@@ -134,10 +135,10 @@ fn put_good<'a, S: Spec, O: Sink>(
 ) -> Result<(), Failed>
     requires { length (canonical_in S.tests mode (base_text resolver.now) (split_text reference.now)) + 4
         ≤ length output.old }
-    ensures { PutsAll (O.written sink.old) (O.written sink.new) (O.faults sink.old) (O.faults sink.new)
-        (O.room_left sink.old) (O.room_left sink.new) result
-        (codes "ok " ++ (canonical_in S.tests mode (base_text resolver.now) (split_text reference.now)
-        ++ line_feed ∷ [])) }
+    ensures { let state = sink_state O.written O.faults O.room_left in
+        PutsAll (state sink.old) (state sink.new) result
+        (codes "ok " ++ (canonical_in S.tests mode (base_text resolver.now)
+        (split_text reference.now) ++ line_feed ∷ [])) }
 {
     match resolver.before_text(mode, reference) {
         Some(before) => {
@@ -161,8 +162,10 @@ pub(crate) fn put_answer<S: Spec, O: Sink>(
     line: &[u8],
 ) -> Result<bool, AnswerError>
     requires base { refusal S.tests (base_text resolver.now) ≡ None }
-    requires room { length (base_text resolver.now) + length line.now + 7 ≤ vec_capacity output.old }
-    ensures puts { PutsLine (O.written sink.old) (O.written sink.new) (O.faults sink.old) (O.faults sink.new)
+    requires room { length (base_text resolver.now) + length line.now + 7
+        ≤ vec_capacity output.old }
+    ensures puts { let state = sink_state O.written O.faults O.room_left in
+        PutsLine (state sink.old) (state sink.new)
         (answer_in S.tests mode (base_text resolver.now) line.now) result }
     ensures room { KeepsRoom (O.room_left sink.old) (O.room_left sink.new)
         (answer_in S.tests mode (base_text resolver.now) line.now) (result ≢ Err SinkFailed) }

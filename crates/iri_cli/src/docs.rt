@@ -2,7 +2,7 @@
 ghost use Rattle.std.specs.Prelude.{◌++◌, ◌∷◌, []};
 ghost use Rattle.iri_docs.specs.ErrorTexts.{description};
 ghost use Rattle.iri_text.specs.LineEnds.{line_feed};
-ghost use Rattle.iri_text.specs.Sink.{PutsAll};
+ghost use Rattle.iri_text.specs.Sink.{PutsAll, sink_state};
 
 use crate::expand::{expansion_buffer, put_template};
 use crate::run::answers::{AnswerError, Answers, BaseError};
@@ -16,8 +16,8 @@ use std::alloc::Global;
 
 // Why a line is no document, and an LF.
 fn put_refusal<O: Sink>(sink: &mut O, error: DocError) -> Result<(), Failed>
-    ensures { PutsAll (O.written sink.old) (O.written sink.new) (O.faults sink.old) (O.faults sink.new)
-        (O.room_left sink.old) (O.room_left sink.new) result (description error ++ line_feed ∷ []) }
+    ensures { let state = sink_state O.written O.faults O.room_left in
+        PutsAll (state sink.old) (state sink.new) result (description error ++ line_feed ∷ []) }
 {
     sink.put_all(error.description().as_bytes())?;
     sink.put_all(b"\n")
@@ -43,7 +43,8 @@ impl<S: Spec> Answers<S> for Docs {
 
     ghost begins = { λ alloc. record { line_limit = refl; input_limit = refl; refusal = refl } };
 
-    ghost stands_at = { λ d base at. IsDocsAt S.tests base d.expansion.items (vec_capacity d.output) at };
+    ghost stands_at = { λ d base at. IsDocsAt S.tests base d.expansion.items
+        (vec_capacity d.output) at };
 
     fn open(alloc: Global, base: &mut Vec<u8>, output: Vec<u8>) -> Result<Self, BaseError> {
         match expansion_buffer::<S>(alloc, base) {

@@ -3,7 +3,7 @@ ghost use Rattle.std.specs.Prelude.{◌≡◌, ◌≢◌, ◌≤◌, length, Err
 ghost use Rattle.std.specs.Vec.{vec_capacity};
 ghost use Rattle.iri_template.specs.Contexts.{value_in};
 ghost use Rattle.iri_template.specs.ExpandedTexts.{expanded_text};
-ghost use Rattle.iri_text.specs.Sink.{KeepsRoom, PutsAll};
+ghost use Rattle.iri_text.specs.Sink.{KeepsRoom, PutsAll, sink_state};
 ghost use Rattle.iri_normal.specs.Resolver.{base_text};
 ghost use Rattle.iri_cli.specs.run.Limits.{longest_line, answer_room};
 ghost use Rattle.iri_cli.specs.canon.Answers.{refusal};
@@ -33,8 +33,8 @@ use std::alloc::Global;
 
 // Why a template isn't expanded, and an LF.
 fn put_refusal<O: Sink>(sink: &mut O, error: Error) -> Result<(), Failed>
-    ensures { PutsAll (O.written sink.old) (O.written sink.new) (O.faults sink.old) (O.faults sink.new)
-        (O.room_left sink.old) (O.room_left sink.new) result (template_refusal error) }
+    ensures { let state = sink_state O.written O.faults O.room_left in
+        PutsAll (state sink.old) (state sink.new) result (template_refusal error) }
 {
     sink.put_all(b"template ")?;
     sink.put_all(error.kind().description().as_bytes())?;
@@ -55,10 +55,12 @@ fn put_expansion<S: Spec, O: Sink>(
     requires short { length (base_text resolver) ≤ longest_line }
     requires room { length expansion.old ≡ expansion_limit }
     requires output_room { answer_room ≤ vec_capacity output.old }
-    ensures puts { PutsLine (O.written sink.old) (O.written sink.new) (O.faults sink.old) (O.faults sink.new)
-        (expansion_answer S.tests (base_text resolver.entry) (expanded_text S.tests value_in expanded.now)) result }
+    ensures puts { let state = sink_state O.written O.faults O.room_left in
+        PutsLine (state sink.old) (state sink.new) (expansion_answer S.tests
+        (base_text resolver.entry) (expanded_text S.tests value_in expanded.now)) result }
     ensures room { KeepsRoom (O.room_left sink.old) (O.room_left sink.new)
-        (expansion_answer S.tests (base_text resolver.entry) (expanded_text S.tests value_in expanded.now))
+        (expansion_answer S.tests (base_text resolver.entry)
+        (expanded_text S.tests value_in expanded.now))
         (result ≢ Err SinkFailed) }
     ensures capacity { vec_capacity output.old ≤ vec_capacity output.new }
 {
@@ -87,8 +89,9 @@ pub(crate) fn put_template<'a, S: Spec, O: Sink>(
     requires short { length (base_text resolver) ≤ longest_line }
     requires room { length expansion.old ≡ expansion_limit }
     requires output_room { answer_room ≤ vec_capacity output.old }
-    ensures puts { PutsLine (O.written sink.old) (O.written sink.new) (O.faults sink.old) (O.faults sink.new)
-        (template_answer S.tests (base_text resolver.entry) (value_in values.now) template.now) result }
+    ensures puts { let state = sink_state O.written O.faults O.room_left in
+        PutsLine (state sink.old) (state sink.new) (template_answer S.tests
+        (base_text resolver.entry) (value_in values.now) template.now) result }
     ensures room { KeepsRoom (O.room_left sink.old) (O.room_left sink.new)
         (template_answer S.tests (base_text resolver.entry) (value_in values.now) template.now)
         (result ≢ Err SinkFailed) }
@@ -134,8 +137,8 @@ impl<S: Spec> Answers<S> for Expand {
 
     ghost begins = { λ alloc. record { line_limit = refl; input_limit = refl; refusal = refl } };
 
-    ghost stands_at = { λ e base at. IsExpandAt S.tests base e.expansion.items (vec_capacity e.output)
-        (value_in e.values) at };
+    ghost stands_at = { λ e base at. IsExpandAt S.tests base e.expansion.items
+        (vec_capacity e.output) (value_in e.values) at };
 
     fn open(alloc: Global, base: &mut Vec<u8>, output: Vec<u8>) -> Result<Self, BaseError> {
         match expansion_buffer::<S>(alloc, base) {

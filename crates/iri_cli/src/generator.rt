@@ -2,7 +2,7 @@
 // texts.
 ghost use Rattle.std.specs.Prelude.{◌≡◌, ◌≤◌, ◌<◌, ◌+◌, ◌*◌, ◌%◌, ◌^◌, ◌++◌, None, OnOk, IfOk, length, sum};
 ghost use Rattle.std.specs.Prelude.{◌≢◌, ◌⊎◌, string_bytes};
-ghost use Rattle.iri_text.specs.Sink.{KeepsRoom};
+ghost use Rattle.iri_text.specs.Sink.{KeepsRoom, sink_state};
 ghost use Rattle.iri_grammar.specs.WholeFault.{reference_fault};
 ghost use Rattle.iri_normal.specs.NormalForm.{canonical};
 ghost use Rattle.iri_normal.specs.Resolver.{base_text};
@@ -173,10 +173,9 @@ fn gen_lines_by(alloc: Global, grammar: Grammar, count: u32) -> Result<String, A
 /// Makes the lines of `gen`, and writes them.
 pub(crate) fn generate<O: Sink>(alloc: Global, grammar: Grammar, count: u32, sink: &mut O) -> u8
     requires { count ≤ 100000 }
-    ensures puts { PutsText (gen_text (tests_of grammar) count)
-        (O.written sink.old) (O.written sink.new) (O.faults sink.old) (O.faults sink.new) result
-        ⊎ ((result ≡ 6) × (O.written sink.new ≡ O.written sink.old)
-        × (O.faults sink.new ≡ O.faults sink.old)) }
+    ensures puts { let state = sink_state O.written O.faults O.room_left in
+        PutsText (gen_text (tests_of grammar) count) (state sink.old) (state sink.new) result
+        ⊎ ((result ≡ 6) × (state sink.new ≡ state sink.old)) }
     ensures room { KeepsRoom (O.room_left sink.old) (O.room_left sink.new)
         (gen_text (tests_of grammar) count) (result ≢ 5) }
 {

@@ -1,6 +1,6 @@
 //! What the program tells of itself.
 ghost use Rattle.std.specs.Prelude.{◌≡◌, ◌≢◌, MatchOption};
-ghost use Rattle.iri_text.specs.Sink.{KeepsRoom};
+ghost use Rattle.iri_text.specs.Sink.{KeepsRoom, sink_state};
 ghost use Rattle.iri_cli.specs.help.Notices.{notice_text, PutsText};
 ghost use Rattle.iri_cli.specs.run.Words.{notice_word};
 ghost use Rattle.iri_cli.specs.declared.help.Notice.{Notice};
@@ -69,8 +69,8 @@ pub(crate) fn notice_of(word: &str) -> Option<Notice>
 
 /// Writes a text, flushes the sink, and gives the program's status.
 pub(crate) fn put_text<O: Sink>(text: &str, sink: &mut O) -> u8
-    ensures puts { PutsText text.now (O.written sink.old) (O.written sink.new) (O.faults sink.old)
-        (O.faults sink.new) result }
+    ensures puts { let state = sink_state O.written O.faults O.room_left in
+        PutsText text.now (state sink.old) (state sink.new) result }
     ensures room { KeepsRoom (O.room_left sink.old) (O.room_left sink.new) text.now (result ≢ 5) }
 {
     match sink.put_all(text.as_bytes()) {
@@ -81,8 +81,8 @@ pub(crate) fn put_text<O: Sink>(text: &str, sink: &mut O) -> u8
 
 /// Writes a notice, flushes the sink, and gives the program's status.
 pub(crate) fn tell<O: Sink>(notice: Notice, sink: &mut O) -> u8
-    ensures puts { PutsText (notice_text notice)
-        (O.written sink.old) (O.written sink.new) (O.faults sink.old) (O.faults sink.new) result }
+    ensures puts { let state = sink_state O.written O.faults O.room_left in
+        PutsText (notice_text notice) (state sink.old) (state sink.new) result }
     ensures room { KeepsRoom (O.room_left sink.old) (O.room_left sink.new) (notice_text notice)
         (result ≢ 5) }
 {

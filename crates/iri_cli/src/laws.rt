@@ -10,7 +10,7 @@ ghost use Rattle.iri_cli.specs.canon.Prepared.{prepared};
 ghost use Rattle.iri_cli.specs.generator.References.{gen_base, gen_reference};
 ghost use Rattle.iri_cli.specs.links.FieldValues.{AnswersAreLinks};
 ghost use Rattle.iri_cli.specs.register.Shared.{LiveLinesShareEntries};
-ghost use Rattle.iri_text.specs.Memory.{SinkState, room_left_of};
+ghost use Rattle.iri_text.specs.Memory.{MemorySinkState, state_of};
 ghost use Rattle.iri_cli.specs.run.Ending.{Rules, ending};
 ghost use Rattle.iri_cli.specs.run.Run.{outside, Runs};
 
@@ -21,10 +21,9 @@ use iri_normal::mode::CanonMode;
 /// output of their ending, a run has that ending's status and writes its output, or allocation
 /// failed at a line.
 pub fn run_over_memory()
-    ensures { (rules : Rules) (input left : List ℕ) (old new : SinkState) (status : ℕ)
-        → Runs rules (outside (Some input) (Some old.written) 0 old.faults)
-        (outside (Some left) (Some new.written) 0 new.faults)
-        (room_left_of old) (room_left_of new) status
+    ensures { (rules : Rules) (input left : List ℕ) (old new : MemorySinkState) (status : ℕ)
+        → Runs rules (outside (Some input) 0 (state_of old)) (outside (Some left) 0 (state_of new))
+        status
         → old.fails ≡ [] → length old.written + length (ending rules input).output ≤ old.room →
         ((status ≡ (ending rules input).status)
         × (new.written ≡ old.written ++ (ending rules input).output))

@@ -1,7 +1,7 @@
 // The answers of `links`.
 ghost use Rattle.std.specs.Prelude.{◌≡◌, ◌≢◌, ◌++◌, ◌∷◌, [], Err, OnOk, string_bytes};
 ghost use Rattle.iri_text.specs.LineEnds.{line_feed};
-ghost use Rattle.iri_text.specs.Sink.{KeepsRoom};
+ghost use Rattle.iri_text.specs.Sink.{KeepsRoom, sink_state};
 ghost use Rattle.iri_normal.specs.Resolver.{base_text};
 ghost use Rattle.iri_cli.specs.canon.Puts.{PutsLine};
 ghost use Rattle.iri_cli.specs.links.Answers.{links_answer};
@@ -49,9 +49,8 @@ fn write_answer<S: Spec>(
 
 // Puts an answer, and says whether it is good.
 fn put_answer<O: Sink>(sink: &mut O, answer: &str) -> Result<bool, AnswerError>
-    ensures puts { PutsLine
-        (O.written sink.old) (O.written sink.new) (O.faults sink.old) (O.faults sink.new)
-        answer.now result }
+    ensures puts { let state = sink_state O.written O.faults O.room_left in
+        PutsLine (state sink.old) (state sink.new) answer.now result }
     ensures room { KeepsRoom (O.room_left sink.old) (O.room_left sink.new) answer.now
         (result ≢ Err SinkFailed) }
 {

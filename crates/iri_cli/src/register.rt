@@ -2,7 +2,7 @@
 ghost use Rattle.std.specs.Prelude.{◌≡◌, Option, Some, IfOk, OnOk};
 ghost use Rattle.iri_grammar.specs.declared.error.ErrorKind.{ErrorKind};
 ghost use Rattle.iri_normal.specs.Resolver.{base_text};
-ghost use Rattle.iri_text.specs.Sink.{PutsAll};
+ghost use Rattle.iri_text.specs.Sink.{PutsAll, sink_state};
 ghost use Rattle.iri_register.specs.Entries.{Entry, entry_at};
 ghost use Rattle.iri_register.specs.Refusals.{CausedBy};
 ghost use Rattle.iri_cli.specs.run.Refused.{is_not_bad};
@@ -64,8 +64,8 @@ fn reply_to<S: Spec>(
 ) -> Result<Reply, AllocError>
     ensures reply { IfOk result (λ reply. reply_text reply
         ≡ answer_to S.tests (base_text resolver.now) register.old.entries (asked line.entry)) }
-    ensures entries { OnOk result (register.new.entries
-        ≡ obeyed_by register.old.entries (command_of S.tests (base_text resolver.now) number (asked line.entry))) }
+    ensures entries { OnOk result (register.new.entries ≡ obeyed_by register.old.entries
+        (command_of S.tests (base_text resolver.now) number (asked line.entry))) }
     ensures base { register.new.base ≡ register.old.base }
 {
     match line {
@@ -97,8 +97,8 @@ fn is_good(reply: Reply) -> bool
 
 // Puts words and a number, as a line.
 fn put_numbered<O: Sink>(sink: &mut O, words: &str, number: usize) -> Result<(), Failed>
-    ensures { PutsAll (O.written sink.old) (O.written sink.new) (O.faults sink.old) (O.faults sink.new)
-        (O.room_left sink.old) (O.room_left sink.new) result (numbered words.now number) }
+    ensures { let state = sink_state O.written O.faults O.room_left in
+        PutsAll (state sink.old) (state sink.new) result (numbered words.now number) }
 {
     sink.put_all(words.as_bytes())?;
     put_number(sink, number)?;
@@ -106,8 +106,8 @@ fn put_numbered<O: Sink>(sink: &mut O, words: &str, number: usize) -> Result<(),
 }
 
 fn put_reply<O: Sink>(sink: &mut O, reply: Reply) -> Result<(), Failed>
-    ensures { PutsAll (O.written sink.old) (O.written sink.new) (O.faults sink.old) (O.faults sink.new)
-        (O.room_left sink.old) (O.room_left sink.new) result (reply_text reply) }
+    ensures { let state = sink_state O.written O.faults O.room_left in
+        PutsAll (state sink.old) (state sink.new) result (reply_text reply) }
 {
     match reply {
         Reply::New(place) => put_numbered(sink, "new ", place),
@@ -122,8 +122,8 @@ fn put_reply<O: Sink>(sink: &mut O, reply: Reply) -> Result<(), Failed>
 
 // Puts numbers, each after a comma.
 fn put_more<O: Sink>(sink: &mut O, numbers: &[u64]) -> Result<(), Failed>
-    ensures { PutsAll (O.written sink.old) (O.written sink.new) (O.faults sink.old) (O.faults sink.new)
-        (O.room_left sink.old) (O.room_left sink.new) result (more_numbers numbers.now) }
+    ensures { let state = sink_state O.written O.faults O.room_left in
+        PutsAll (state sink.old) (state sink.new) result (more_numbers numbers.now) }
 {
     for number in numbers {
         sink.put_all(b",")?;
@@ -134,8 +134,8 @@ fn put_more<O: Sink>(sink: &mut O, numbers: &[u64]) -> Result<(), Failed>
 
 // Puts numbers, joined by commas.
 fn put_joined<O: Sink>(sink: &mut O, numbers: &[u64]) -> Result<(), Failed>
-    ensures { PutsAll (O.written sink.old) (O.written sink.new) (O.faults sink.old) (O.faults sink.new)
-        (O.room_left sink.old) (O.room_left sink.new) result (joined numbers.now) }
+    ensures { let state = sink_state O.written O.faults O.room_left in
+        PutsAll (state sink.old) (state sink.new) result (joined numbers.now) }
 {
     let Some((first, rest)) = numbers.split_first() else {
         return Ok(());
@@ -151,8 +151,8 @@ fn put_entry_line<O: Sink>(
     lines: &[u64],
     target: &str,
 ) -> Result<(), Failed>
-    ensures { PutsAll (O.written sink.old) (O.written sink.new) (O.faults sink.old) (O.faults sink.new)
-        (O.room_left sink.old) (O.room_left sink.new) result
+    ensures { let state = sink_state O.written O.faults O.room_left in
+        PutsAll (state sink.old) (state sink.new) result
         (entry_line place (record { target = target.now; lines = lines.now })) }
 {
     put_number(sink, place)?;
@@ -170,9 +170,9 @@ fn put_entry<S: Spec, O: Sink>(
     place: usize,
 ) -> Result<(), Failed>
     requires { (e : Entry) × (entry_at register.now.entries place ≡ Some e) }
-    ensures { (e : Entry) → entry_at register.now.entries place ≡ Some e
-        → PutsAll (O.written sink.old) (O.written sink.new) (O.faults sink.old) (O.faults sink.new)
-        (O.room_left sink.old) (O.room_left sink.new) result (entry_line place e) }
+    ensures { let state = sink_state O.written O.faults O.room_left in
+        (e : Entry) → entry_at register.now.entries place ≡ Some e
+        → PutsAll (state sink.old) (state sink.new) result (entry_line place e) }
 {
     match (register.lines_at(place), register.target_at(place)) {
         (Some(lines), Some(target)) => put_entry_line(sink, place, lines, target),
@@ -182,8 +182,8 @@ fn put_entry<S: Spec, O: Sink>(
 
 // Puts all entries, in order.
 fn put_entries<S: Spec, O: Sink>(sink: &mut O, register: &Register<S>) -> Result<(), Failed>
-    ensures { PutsAll (O.written sink.old) (O.written sink.new) (O.faults sink.old) (O.faults sink.new)
-        (O.room_left sink.old) (O.room_left sink.new) result (entry_lines 1 register.now.entries) }
+    ensures { let state = sink_state O.written O.faults O.room_left in
+        PutsAll (state sink.old) (state sink.new) result (entry_lines 1 register.now.entries) }
 {
     for index in 0..register.len() {
         put_entry(sink, register, index + 1)?;

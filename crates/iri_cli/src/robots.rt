@@ -6,7 +6,7 @@ ghost use Rattle.iri_grammar.specs.WholeFault.{iri_fault};
 ghost use Rattle.iri_normal.specs.NormalForm.{canonical};
 ghost use Rattle.iri_normal.specs.Resolver.{base_text};
 ghost use Rattle.iri_text.specs.LineEnds.{line_feed};
-ghost use Rattle.iri_text.specs.Sink.{PutsAll};
+ghost use Rattle.iri_text.specs.Sink.{PutsAll, sink_state};
 ghost use Rattle.iri_types.specs.SplitText.{split_text};
 ghost use Rattle.iri_types.specs.Texts.{text};
 ghost use Rattle.iri_robots.specs.Compared.{subject};
@@ -17,7 +17,7 @@ ghost use Rattle.iri_cli.specs.robots.Answers.{answer_to, normal_base, same_site
 ghost use Rattle.iri_cli.specs.robots.Lines.{asks};
 ghost use Rattle.iri_cli.specs.inside.RobotsAt.{PutsReply};
 ghost use Rattle.iri_cli.specs.robots.Rules.{robots_rules};
-ghost use Rattle.iri_cli.specs.run.Run.{RunsLines, outside};
+ghost use Rattle.iri_cli.specs.run.Run.{RunsLines, outside_state};
 
 pub(crate) mod line;
 pub(crate) mod sites;
@@ -69,9 +69,10 @@ fn verdict_word<S: Spec>(
     robots: &Robots,
     target: RiStr<'_, S>,
 ) -> Result<&'static str, AllocError>
-    ensures { IfOk result (λ word. word.now ≡ verdict_word (same_site (split_of (text normal.entry)) (split_of (text target.entry)))
-        (is_allowed (rules_for (string_bytes robots.now.token) (record_texts robots.now.records.items))
-        (subject (split_of (text target.entry))))) }
+    ensures { IfOk result (λ word. word.now ≡ verdict_word
+        (same_site (split_of (text normal.entry)) (split_of (text target.entry)))
+        (is_allowed (rules_for (string_bytes robots.now.token)
+        (record_texts robots.now.records.items)) (subject (split_of (text target.entry))))) }
 {
     let site = SplitView::of(normal);
     let target = SplitView::of(target);
@@ -89,8 +90,9 @@ fn verdict_word<S: Spec>(
 
 // Puts a word and a target, as a line.
 fn put_target<O: Sink>(sink: &mut O, word: &str, target: &str) -> Result<(), Failed>
-    ensures { PutsAll (O.written sink.old) (O.written sink.new) (O.faults sink.old) (O.faults sink.new)
-        (O.room_left sink.old) (O.room_left sink.new) result (word.now ++ (target.now ++ line_feed ∷ [])) }
+    ensures { let state = sink_state O.written O.faults O.room_left in
+        PutsAll (state sink.old) (state sink.new) result
+        (word.now ++ (target.now ++ line_feed ∷ [])) }
 {
     sink.put_all(word.as_bytes())?;
     sink.put_all(target.as_bytes())?;
@@ -105,8 +107,9 @@ fn put_verdict<S: Spec, O: Sink>(
     robots: &Robots,
     target: RiStr<'_, S>,
 ) -> Result<bool, AnswerError>
-    ensures { PutsReply (O.written sink.old) (O.written sink.new) (O.faults sink.old) (O.faults sink.new)
-        (O.room_left sink.old) (O.room_left sink.new) (target_answer (string_bytes robots.now.token) (text normal.entry)
+    ensures { let state = sink_state O.written O.faults O.room_left in
+        PutsReply (state sink.old) (state sink.new)
+        (target_answer (string_bytes robots.now.token) (text normal.entry)
         (record_texts robots.now.records.items) (text target.entry)) result }
 {
     match verdict_word(alloc, normal, robots, target) {
@@ -138,9 +141,10 @@ fn put_answer<S: Spec, O: Sink>(
     reference: &[u8],
 ) -> Result<bool, AnswerError>
     requires { site.now.normal.text ≡ normal_base S.tests (base_text resolver.now) }
-    ensures { PutsReply (O.written sink.old) (O.written sink.new) (O.faults sink.old) (O.faults sink.new)
-        (O.room_left sink.old) (O.room_left sink.new) (answer_to S.tests (string_bytes site.now.robots.token)
-        (base_text resolver.now) (record_texts site.now.robots.records.items) (asks reference.now)) result }
+    ensures { let state = sink_state O.written O.faults O.room_left in
+        PutsReply (state sink.old) (state sink.new)
+        (answer_to S.tests (string_bytes site.now.robots.token) (base_text resolver.now)
+        (record_texts site.now.robots.records.items) (asks reference.now)) result }
 {
     match SplitView::<S, Reference>::try_from_bytes(reference) {
         Ok(reference) => match write_target(buffer, resolver, &reference) {
@@ -188,8 +192,8 @@ impl<S: Spec> Answers<S> for Crawls<S> {
 
     ghost begins = { λ crawler. record { line_limit = refl; input_limit = refl; refusal = refl } };
 
-    ghost stands_at = { λ c base at. IsRobotsAt S.tests (string_bytes c.site.robots.token) base c.site.normal.text
-        (record_texts c.site.robots.records.items) at };
+    ghost stands_at = { λ c base at. IsRobotsAt S.tests (string_bytes c.site.robots.token)
+        base c.site.normal.text (record_texts c.site.robots.records.items) at };
 
     fn open(crawler: Crawler, base: &mut Vec<u8>, _output: Vec<u8>) -> Result<Self, BaseError> {
         let Crawler { alloc, robots } = crawler;
@@ -241,10 +245,9 @@ pub(crate) fn robots_lines<S: Spec, I: Source, O: Sink>(
     sink: &mut O,
 ) -> u8
     requires { is_token token.now ≡ true }
-    ensures { RunsLines (robots_rules S.tests token.now)
-        (outside (I.left source.old) (O.written sink.old) (I.faults source.old) (O.faults sink.old))
-        (outside (I.left source.new) (O.written sink.new) (I.faults source.new) (O.faults sink.new))
-        (O.room_left sink.old) (O.room_left sink.new) result }
+    ensures { let state = outside_state I.left I.faults O.written O.faults O.room_left in
+        RunsLines (robots_rules S.tests token.now)
+        (state source.old sink.old) (state source.new sink.new) result }
 {
     match Crawler::new(alloc, token) {
         Ok(crawler) => run_lines::<S, Crawls<S>, I, O>(crawler, buffers, source, sink),

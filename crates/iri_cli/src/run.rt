@@ -6,7 +6,7 @@ ghost use Rattle.iri_cli.specs.links.FieldValues.{AnswersAreLinks};
 ghost use Rattle.iri_cli.specs.register.Shared.{LiveLinesShareEntries};
 ghost use Rattle.iri_cli.specs.robots.Verdicts.{AnswersAreVerdicts};
 ghost use Rattle.iri_cli.specs.canon.Answers.{AnswersAreCanonicalIn};
-ghost use Rattle.iri_cli.specs.run.Run.{RunsLines, outside};
+ghost use Rattle.iri_cli.specs.run.Run.{RunsLines, outside_state};
 ghost use Rattle.iri_cli.specs.generator.References.{gen_text};
 ghost use Rattle.iri_cli.specs.help.Notices.{MakesText, Tells, notice_text};
 ghost use Rattle.iri_cli.specs.inside.Obeyed.{IsSound, Obeys};
@@ -54,10 +54,9 @@ fn lines_in<S: Spec, I: Source, O: Sink>(
     sink: &mut O,
 ) -> u8
     requires { HasToken command }
-    ensures { RunsLines (rules_of command.entry S.tests)
-        (outside (I.left source.old) (O.written sink.old) (I.faults source.old) (O.faults sink.old))
-        (outside (I.left source.new) (O.written sink.new) (I.faults source.new) (O.faults sink.new))
-        (O.room_left sink.old) (O.room_left sink.new) result }
+    ensures { let state = outside_state I.left I.faults O.written O.faults O.room_left in
+        RunsLines (rules_of command.entry S.tests)
+        (state source.old sink.old) (state source.new sink.new) result }
 {
     let Ok(buffers) = CanonBuffers::new(alloc) else {
         return MEMORY;
@@ -83,10 +82,9 @@ fn lines_by<I: Source, O: Sink>(
     sink: &mut O,
 ) -> u8
     requires { HasToken command }
-    ensures { RunsLines (rules_of command.entry (tests_of grammar))
-        (outside (I.left source.old) (O.written sink.old) (I.faults source.old) (O.faults sink.old))
-        (outside (I.left source.new) (O.written sink.new) (I.faults source.new) (O.faults sink.new))
-        (O.room_left sink.old) (O.room_left sink.new) result }
+    ensures { let state = outside_state I.left I.faults O.written O.faults O.room_left in
+        RunsLines (rules_of command.entry (tests_of grammar))
+        (state source.old sink.old) (state source.new sink.new) result }
 {
     match grammar {
         Grammar::Uri => lines_in::<UriSpec, I, O>(alloc, command, source, sink),
@@ -102,10 +100,8 @@ fn obey<I: Source, O: Sink>(
     sink: &mut O,
 ) -> u8
     requires { IsSound command }
-    ensures { Obeys command.entry
-        (outside (I.left source.old) (O.written sink.old) (I.faults source.old) (O.faults sink.old))
-        (outside (I.left source.new) (O.written sink.new) (I.faults source.new) (O.faults sink.new))
-        (O.room_left sink.old) (O.room_left sink.new) result }
+    ensures { let state = outside_state I.left I.faults O.written O.faults O.room_left in
+        Obeys command.entry (state source.old sink.old) (state source.new sink.new) result }
 {
     match command {
         Some(Command::Lines(command, grammar)) => lines_by(alloc, command, grammar, source, sink),
@@ -138,37 +134,31 @@ fn obey<I: Source, O: Sink>(
 /// allocation failed and nothing was written.
 pub fn run<I: Source, O: Sink>(alloc: Global, words: &[String], source: &mut I, sink: &mut O) -> u8
     // Words that are no command: nothing is read or written.
-    ensures no_command { ((command : Command) → ¬ (IsCommand (map string_bytes words.now) command))
-        → (result ≡ 2)
-        × (outside (I.left source.new) (O.written sink.new) (I.faults source.new)
-        (O.faults sink.new)
-        ≡ outside (I.left source.old) (O.written sink.old) (I.faults source.old)
-        (O.faults sink.old)) }
+    ensures no_command { let state = outside_state I.left I.faults O.written O.faults O.room_left in
+        ((command : Command) → ¬ (IsCommand (map string_bytes words.now) command))
+        → (result ≡ 2) × (state source.new sink.new ≡ state source.old sink.old) }
 
     // `--help` and `--version`: the text is written, and nothing is read.
-    ensures tells { (notice : Notice) → IsCommand (map string_bytes words.now) (Command.Tell notice)
+    ensures tells { let state = outside_state I.left I.faults O.written O.faults O.room_left in
+        (notice : Notice) → IsCommand (map string_bytes words.now) (Command.Tell notice)
         → Tells (notice_text notice)
-        (outside (I.left source.old) (O.written sink.old) (I.faults source.old) (O.faults sink.old))
-        (outside (I.left source.new) (O.written sink.new) (I.faults source.new) (O.faults sink.new))
-        (O.room_left sink.old) (O.room_left sink.new) result }
+        (state source.old sink.old) (state source.new sink.new) result }
 
     // A command over lines: each status comes only by its cause. Where its lines take no memory, as
     // those of `canon`, allocation fails only before anything is read or written.
-    ensures lines { (command : LineCommand) (grammar : Grammar)
+    ensures lines { let state = outside_state I.left I.faults O.written O.faults O.room_left in
+        (command : LineCommand) (grammar : Grammar)
         → IsCommand (map string_bytes words.now) (Command.Lines command grammar)
         → RunsLines (rules_of command (tests_of grammar))
-        (outside (I.left source.old) (O.written sink.old) (I.faults source.old) (O.faults sink.old))
-        (outside (I.left source.new) (O.written sink.new) (I.faults source.new) (O.faults sink.new))
-        (O.room_left sink.old) (O.room_left sink.new) result }
+        (state source.old sink.old) (state source.new sink.new) result }
 
     // `gen`: the three lines are written, and nothing is read; or allocation failed, and nothing
     // was written.
-    ensures gens { (grammar : Grammar) (count : ℕ)
+    ensures gens { let state = outside_state I.left I.faults O.written O.faults O.room_left in
+        (grammar : Grammar) (count : ℕ)
         → IsCommand (map string_bytes words.now) (Command.Gen grammar count)
         → MakesText (gen_text (tests_of grammar) count)
-        (outside (I.left source.old) (O.written sink.old) (I.faults source.old) (O.faults sink.old))
-        (outside (I.left source.new) (O.written sink.new) (I.faults source.new) (O.faults sink.new))
-        (O.room_left sink.old) (O.room_left sink.new) result }
+        (state source.old sink.old) (state source.new sink.new) result }
 
     // `canon`, in the mode that its words name: each good answer is a URI of the spec that splits
     // into exactly the normal form of the target, and is its own canonical text.

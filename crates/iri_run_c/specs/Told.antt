@@ -1,7 +1,7 @@
 -- What a run over memory comes to.
 use Rattle.std.specs.Str.{IsUtf8}
 use Rattle.iri_grammar.specs.Pieces.{pieces}
-use Rattle.std.specs.Prelude.{◌≡◌, ◌⊎◌, ℕ, length, take, drop, List, [], ◌++◌, Option, Some}
+use Rattle.std.specs.Prelude.{◌≡◌, ◌⊎◌, ℕ, length, take, drop, List, [], ◌++◌, Some}
 use Rattle.iri_cli.specs.generator.References.{gen_text}
 use Rattle.iri_cli.specs.help.Notices.{MakesText, Tells, notice_text}
 use Rattle.iri_cli.specs.run.Run.{Outside, outside, RunsLines}
@@ -20,25 +20,24 @@ abbrev pub over : List ℕ → List ℕ → List ℕ
 over text buffer = take (length buffer) text ++ drop (length text) buffer
 
 -- The contract of the program's `run`.
-pub record RunsWords (words : List (List ℕ)) (old new : Outside) (room_old room_new : Option ℕ) (status : ℕ) : Type 0 where
+pub record RunsWords (words : List (List ℕ)) (old new : Outside) (status : ℕ) : Type 0 where
   pub no_command : ((command : Command) → ¬ (IsCommand words command)) → (status ≡ 2) × (new ≡ old)
-  pub tells : (notice : Notice) → IsCommand words (Tell notice) → Tells (notice_text notice) old new room_old room_new status
+  pub tells : (notice : Notice) → IsCommand words (Tell notice) → Tells (notice_text notice) old new status
   pub lines : (command : LineCommand) (grammar : Grammar) → IsCommand words (Lines command grammar)
-      → RunsLines (rules_of command (tests_of grammar)) old new room_old room_new status
+      → RunsLines (rules_of command (tests_of grammar)) old new status
   pub gens : (grammar : Grammar) (count : ℕ) → IsCommand words (Gen grammar count)
-      → MakesText (gen_text (tests_of grammar) count) old new room_old room_new status
+      → MakesText (gen_text (tests_of grammar) count) old new status
 
--- nothing was read or written
-abbrev pub begun : List ℕ → Outside
-begun input = outside (Some input) (Some []) 0 0
+-- nothing was read or written, and there is so much room
+abbrev pub begun : List ℕ → ℕ → Outside
+begun input room = outside (Some input) 0 (record { written = Some []; faults = 0; room_left = Some room })
 
 -- The output stands over the start of the buffer; a sink with room for as many bytes as the buffer has would have taken it.
 pub record Ran (words : List (List ℕ)) (input old new : List ℕ) (told status : ℕ) : Type 0 where
   pub end : Outside
-  pub room_left : Option ℕ
   pub output : List ℕ
-  pub written : end.written ≡ Some output
-  pub runs : RunsWords words (begun input) end (Some (length old)) room_left status
+  pub written : end.sink.written ≡ Some output
+  pub runs : RunsWords words (begun input (length old)) end status
   pub out : new ≡ over output old
   pub len : told ≡ length output
 

@@ -2,7 +2,7 @@
 use Rattle.std.proofs.Common.{ℕ, ◌+◌, ◌≤◌, List, [], ◌++◌, length, Option, None, Some, Result, Ok, Err, IsErr, sym, ◌∙◌, ap, arith}
 use Rattle.std.proofs.Common.{append_assoc, length-append}
 use Rattle.std.proofs.lemmas.List.{append-nil}
-use Rattle.iri_text.specs.Sink.{Appends, AppendsPrefix, HasRoom, KeepsRoom, PutsAll}
+use Rattle.iri_text.specs.Sink.{Appends, AppendsPrefix, HasRoom, KeepsRoom, PutsAll, SinkState}
 use Rattle.iri_text.specs.declared.Failed.{Failed}
 
 pub Appends-append : (a b c : Option (List ℕ)) (xs ys : List ℕ) → Appends a b xs → Appends b c ys → Appends a c (xs ++ ys)
@@ -66,8 +66,8 @@ room-so f p = record { holds = λ h. f (p.holds h); left = p.left }
 pub room-same : {P : Type 0} (a : Option ℕ) (xs : List ℕ) → (HasRoom a (length xs) → P) → KeepsRoom a a xs P
 room-same a xs holds = record { holds = holds; left = λ more h. room-less a (length xs + more) more (omega arith) h }
 
-pub puts-then : {a b c : Option (List ℕ)} {fa fb fc : ℕ} {ra rb rc : Option ℕ} {t u : List ℕ} {x : Unit {0}} {r : Result (Unit {0}) Failed}
-    → PutsAll a b fa fb ra rb (Ok x) t → PutsAll b c fb fc rb rc r u → PutsAll a c fa fc ra rc r (t ++ u)
+pub puts-then : {a b c : SinkState} {t u : List ℕ} {x : Unit {0}} {r : Result (Unit {0}) Failed}
+    → PutsAll a b (Ok x) t → PutsAll b c r u → PutsAll a c r (t ++ u)
 puts-then {r = Ok y} p q = record {
   whole = Appends-append _ _ _ _ _ p.whole q.whole;
   same = q.same ∙ p.same;
@@ -86,9 +86,8 @@ puts-then {r = Err e} p q = record {
 }
 
 -- at the exit of a `?`
-pub puts-exit : {a b : Option (List ℕ)} {fa fb : ℕ} {ra rb : Option ℕ} {t : List ℕ} {e : Failed} {r : Result (Unit {0}) Failed} (u : List ℕ)
-    → IsErr r → PutsAll a b fa fb ra rb (Err e) t
-    → PutsAll a b fa fb ra rb r (t ++ u)
+pub puts-exit : {a b : SinkState} {t : List ℕ} {e : Failed} {r : Result (Unit {0}) Failed} (u : List ℕ)
+    → IsErr r → PutsAll a b (Err e) t → PutsAll a b r (t ++ u)
 puts-exit {r = Ok y} u is q = absurd (cc is)
 puts-exit {r = Err d} u is q = record {
   whole = tt;

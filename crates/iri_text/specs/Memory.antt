@@ -1,5 +1,6 @@
 -- What the sources and the sink over memory are seen as. Lengths, cuts and room are counts of bytes.
 use Rattle.std.specs.Prelude.{◌≡◌, ℕ, ◌+◌, ◌-◌, ◌^◌, List, [], ◌∷◌, length, min, Option, None, Some, slice_get}
+use Rattle.iri_text.specs.Sink.{SinkState}
 
 -- The bytes that are left, the most bytes that each call gives, the numbers of the calls that fail,
 -- the number of the last call, from 1 and at most 2^64 - 1, and how often it failed.
@@ -18,7 +19,7 @@ pub record IsNextCall (old new : SourceState) : Type 0 where
 
 -- The bytes that were written, how many there can be, the numbers of the calls that fail,
 -- the number of the last call, from 1 and at most 2^64 - 1, and how often it failed.
-pub record SinkState : Type 0 where
+pub record MemorySinkState : Type 0 where
   pub written : List ℕ
   pub room : ℕ
   pub fails : List ℕ
@@ -31,8 +32,12 @@ unless_failing [] room = Some room
 unless_failing (number ∷ fails) room = None
 
 -- How many more bytes the sink takes without a fault. That is known where none of its calls is told to fail.
-abbrev pub room_left_of : SinkState → Option ℕ
+abbrev pub room_left_of : MemorySinkState → Option ℕ
 room_left_of s = unless_failing s.fails (s.room - length s.written)
+
+-- it tells its bytes
+abbrev pub state_of : MemorySinkState → SinkState
+state_of s = record { written = Some s.written; faults = s.faults; room_left = room_left_of s }
 
 -- the most bytes that a call gives, by its number from 1: the last cut repeats, and with no cuts there is no bound
 abbrev pub cut_of : List ℕ → ℕ → Option ℕ

@@ -3,6 +3,17 @@ use Rattle.std.specs.Prelude.{◌≡◌, ◌≤◌, ℕ, ◌+◌, List, [], ◌+
 use Rattle.iri_text.specs.Count.{Rose}
 use Rattle.iri_text.specs.declared.Failed.{Failed}
 
+-- what a sink tells: the bytes that were written, how often it failed, and how many more bytes it is known to take
+pub record SinkState : Type 0 where
+  pub written : Option (List ℕ)
+  pub faults : ℕ
+  pub room_left : Option ℕ
+
+-- the state of a sink, by the three members of its trait
+abbrev pub sink_state : {X : Type 0} → (X → Option (List ℕ)) → (X → ℕ) → (X → Option ℕ) → X → SinkState
+sink_state written faults room_left sink =
+    record { written = written sink; faults = faults sink; room_left = room_left sink }
+
 -- what is written grew by these bytes, where that is told. A sink tells it always or never.
 abbrev pub Appends : Option (List ℕ) → Option (List ℕ) → List ℕ → Type 0
 Appends None None bs = ⊤
@@ -29,20 +40,18 @@ pub record KeepsRoom (room_old room_new : Option ℕ) (bytes : List ℕ) (Holds 
 
 -- It appended the whole piece. It failed only where the count of faults rose, and then it appended a prefix of the piece. Where it is
 -- known to have room for the piece, it didn't fail.
-pub record PutsAll (written_old written_new : Option (List ℕ)) (faults_old faults_new : ℕ) (room_old room_new : Option ℕ)
-    (result : Result (Unit {0}) Failed) (piece : List ℕ) : Type 0 where
-  pub whole : OnOk result (Appends written_old written_new piece)
-  pub same : OnOk result (faults_new ≡ faults_old)
-  pub later : faults_old ≤ faults_new
-  pub cause : OnErr result (Rose faults_old faults_new)
-  pub prefix : OnErr result (AppendsPrefix written_old written_new piece)
-  pub room : KeepsRoom room_old room_new piece (IsOk result)
+pub record PutsAll (old new : SinkState) (result : Result (Unit {0}) Failed) (piece : List ℕ) : Type 0 where
+  pub whole : OnOk result (Appends old.written new.written piece)
+  pub same : OnOk result (new.faults ≡ old.faults)
+  pub later : old.faults ≤ new.faults
+  pub cause : OnErr result (Rose old.faults new.faults)
+  pub prefix : OnErr result (AppendsPrefix old.written new.written piece)
+  pub room : KeepsRoom old.room_left new.room_left piece (IsOk result)
 
 -- What is written stays as it was. It failed only where the count of faults rose. Where any room is known, it didn't fail.
-pub record Flushes (written_old written_new : Option (List ℕ)) (faults_old faults_new : ℕ) (room_old room_new : Option ℕ)
-    (result : Result (Unit {0}) Failed) : Type 0 where
-  pub kept : written_new ≡ written_old
-  pub same : OnOk result (faults_new ≡ faults_old)
-  pub later : faults_old ≤ faults_new
-  pub cause : OnErr result (Rose faults_old faults_new)
-  pub room : KeepsRoom room_old room_new [] (IsOk result)
+pub record Flushes (old new : SinkState) (result : Result (Unit {0}) Failed) : Type 0 where
+  pub kept : new.written ≡ old.written
+  pub same : OnOk result (new.faults ≡ old.faults)
+  pub later : old.faults ≤ new.faults
+  pub cause : OnErr result (Rose old.faults new.faults)
+  pub room : KeepsRoom old.room_left new.room_left [] (IsOk result)

@@ -38,7 +38,7 @@
 
 ghost use Rattle.std.specs.Prelude.{ℕ, List, Option, None, ⊤};
 ghost use Rattle.iri_text.specs.Source.{Takes};
-ghost use Rattle.iri_text.specs.Sink.{PutsAll, Flushes};
+ghost use Rattle.iri_text.specs.Sink.{PutsAll, Flushes, sink_state};
 
 mod copying;
 pub mod laws;
@@ -122,8 +122,8 @@ pub trait Sink {
     /// Only where the count of faults rises, and never where the sink is known to have room for the piece; a prefix of
     /// the piece is written then.
     fn put_all(&mut self, piece: &[u8]) -> Result<(), Failed>
-        ensures { PutsAll (written self.old) (written self.new) (faults self.old) (faults self.new) (room_left self.old)
-            (room_left self.new) result piece.now };
+        ensures { let state = sink_state written faults room_left in
+            PutsAll (state self.old) (state self.new) result piece.now };
 
     /// Hands on what the sink buffers. A sink that buffers nothing needn't give it: nothing is done then.
     ///
@@ -131,8 +131,8 @@ pub trait Sink {
     ///
     /// Only where the count of faults rises; what is written stays as it was.
     fn flush(&mut self) -> Result<(), Failed>
-        ensures { Flushes (written self.old) (written self.new) (faults self.old) (faults self.new) (room_left self.old)
-            (room_left self.new) result }
+        ensures { let state = sink_state written faults room_left in
+            Flushes (state self.old) (state self.new) result }
     {
         Ok(())
     }

@@ -1,7 +1,7 @@
 -- What the answers of `canon` do to a sink.
 use Rattle.std.specs.Prelude.{◌≡◌, ◌≤◌, ℕ, Bool, List, length, Option, None, Result, Ok, Err}
 use Rattle.iri_grammar.specs.Classes.{Tests}
-use Rattle.iri_text.specs.Sink.{Appends}
+use Rattle.iri_text.specs.Sink.{Appends, SinkState}
 use Rattle.iri_text.specs.declared.Failed.{Failed}
 use Rattle.iri_percent.specs.declared.canon_mode.CanonMode.{CanonMode}
 use Rattle.iri_cli.specs.run.Limits.{longest_line, answer_room}
@@ -13,12 +13,12 @@ use Rattle.iri_cli.specs.declared.run.answers.AnswerError.{AnswerError}
 use Rattle.iri_cli.specs.declared.run.answers.AnswerError.TheVariants.{SinkFailed, Memory}
 
 -- The whole answer was written, and it is said whether it is good; or the sink failed, and a prefix of it was written.
-abbrev pub PutsLine : (written_old written_new : Option (List ℕ)) → (faults_old faults_new : ℕ) → List ℕ → Result Bool AnswerError → Type 0
-PutsLine written_old written_new faults_old faults_new answer (Ok good) =
-    Appends written_old written_new answer × (faults_new ≡ faults_old) × (good ≡ is_ok answer)
-PutsLine written_old written_new faults_old faults_new answer (Err SinkFailed) =
-    FailsWithin written_old written_new faults_old faults_new answer
-PutsLine written_old written_new faults_old faults_new answer (Err Memory) = ⊥
+abbrev pub PutsLine : (old new : SinkState) → List ℕ → Result Bool AnswerError → Type 0
+PutsLine old new answer (Ok good) =
+    Appends old.written new.written answer × (new.faults ≡ old.faults) × (good ≡ is_ok answer)
+PutsLine old new answer (Err SinkFailed) =
+    FailsWithin old new answer
+PutsLine old new answer (Err Memory) = ⊥
 
 -- what is said of an answer that is good or not, where its pieces were put or the sink failed
 abbrev pub told_of : Bool → Result (Unit {0}) Failed → Result Bool AnswerError

@@ -1,5 +1,5 @@
 -- The command `expand`: what a line says, and the values of variables after lines (RFC 6570 section 2.3).
-use Rattle.std.specs.Prelude.{ℕ, ◌==◌, cond, List, [], ◌∷◌, ◌++◌, Option, None, Some, if◌then◌else◌}
+use Rattle.std.specs.Prelude.{ℕ, ◌==◌, List, [], ◌∷◌, ◌++◌, Option, None, Some, if◌then◌else◌}
 use Rattle.std.specs.Str.{bytes_eq, is_utf8}
 use Rattle.iri_grammar.specs.Cut.{before, after}
 use Rattle.iri_template.specs.Names.{is_varname}
@@ -77,7 +77,7 @@ Values = List ℕ → ShownValue
 
 -- the same values, but for that of a name
 abbrev pub with_value : Values → List ℕ → ShownValue → Values
-with_value values name value other = cond (bytes_eq other name) value (values other)
+with_value values name value other = if bytes_eq other name then value else values other
 
 -- the items of a list, where the value is one
 abbrev pub items_of : ShownValue → List (List ℕ)

@@ -15,10 +15,10 @@ IsSound (Some (Gen grammar count)) = count ≤ 100000
 IsSound (Some (Tell notice)) = Unit {0}
 
 -- what is done for this command, or for none
-abbrev pub Obeys : Option Command → (old new : Outside) → (room_old room_new : Option ℕ) → (status : ℕ) → Type 0
-Obeys None old new room_old room_new status = (status ≡ 2) × (new ≡ old)
-Obeys (Some (Lines command grammar)) old new room_old room_new status =
-    RunsLines (rules_of command (tests_of grammar)) old new room_old room_new status
-Obeys (Some (Gen grammar count)) old new room_old room_new status =
-    MakesText (gen_text (tests_of grammar) count) old new room_old room_new status
-Obeys (Some (Tell notice)) old new room_old room_new status = Tells (notice_text notice) old new room_old room_new status
+abbrev pub Obeys : Option Command → (old new : Outside) → (status : ℕ) → Type 0
+Obeys None old new status = (status ≡ 2) × (new ≡ old)
+Obeys (Some (Lines command grammar)) old new status =
+    RunsLines (rules_of command (tests_of grammar)) old new status
+Obeys (Some (Gen grammar count)) old new status =
+    MakesText (gen_text (tests_of grammar) count) old new status
+Obeys (Some (Tell notice)) old new status = Tells (notice_text notice) old new status

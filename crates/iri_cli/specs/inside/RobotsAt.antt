@@ -2,7 +2,7 @@
 use Rattle.std.specs.Prelude.{◌≡◌, ◌≢◌, ℕ, Bool, List, Option, Result, Ok, Err}
 use Rattle.iri_grammar.specs.Classes.{Tests}
 use Rattle.iri_robots.specs.Records.{FileRecord}
-use Rattle.iri_text.specs.Sink.{Appends, KeepsRoom}
+use Rattle.iri_text.specs.Sink.{Appends, KeepsRoom, SinkState}
 use Rattle.iri_cli.specs.run.Answering.{Answering, FailsWithin}
 use Rattle.iri_cli.specs.run.Refused.{is_not_bad}
 use Rattle.iri_cli.specs.robots.Answers.{normal_base}
@@ -19,15 +19,14 @@ pub record IsRobotsAt (s : Tests) (token base normal : List ℕ) (records : List
   pub records_are : records ≡ records_after at.between
 
 -- The whole answer was put, and it is said whether it is refused; or the sink failed within it; or allocation failed, and nothing was put.
-abbrev pub Replies : (written_old written_new : Option (List ℕ)) → (faults_old faults_new : ℕ) → List ℕ → Result Bool AnswerError → Type 0
-Replies written_old written_new faults_old faults_new answer (Ok good) =
-    Appends written_old written_new answer × (faults_new ≡ faults_old) × (good ≡ is_not_bad answer)
-Replies written_old written_new faults_old faults_new answer (Err SinkFailed) =
-    FailsWithin written_old written_new faults_old faults_new answer
-Replies written_old written_new faults_old faults_new answer (Err Memory) = (written_new ≡ written_old) × (faults_new ≡ faults_old)
+abbrev pub Replies : (old new : SinkState) → List ℕ → Result Bool AnswerError → Type 0
+Replies old new answer (Ok good) =
+    Appends old.written new.written answer × (new.faults ≡ old.faults) × (good ≡ is_not_bad answer)
+Replies old new answer (Err SinkFailed) =
+    FailsWithin old new answer
+Replies old new answer (Err Memory) = (new.written ≡ old.written) × (new.faults ≡ old.faults)
 
 -- The same, and a sink that is known to have room for the answer didn't fail.
-pub record PutsReply (written_old written_new : Option (List ℕ)) (faults_old faults_new : ℕ) (room_old room_new : Option ℕ)
-    (answer : List ℕ) (result : Result Bool AnswerError) : Type 0 where
-  pub puts : Replies written_old written_new faults_old faults_new answer result
-  pub room : KeepsRoom room_old room_new answer (result ≢ Err SinkFailed)
+pub record PutsReply (old new : SinkState) (answer : List ℕ) (result : Result Bool AnswerError) : Type 0 where
+  pub puts : Replies old new answer result
+  pub room : KeepsRoom old.room_left new.room_left answer (result ≢ Err SinkFailed)

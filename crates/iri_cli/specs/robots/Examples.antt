@@ -19,7 +19,7 @@ use Rattle.iri_normal.specs.Dots.{is_dot_segment}
 use Rattle.iri_normal.specs.NormalForm.{normal_path, normal_form, form, canonical}
 use Rattle.iri_normal.specs.Target.{target}
 use Rattle.iri_robots.specs.Compared.{compared}
-use Rattle.iri_robots.specs.Decided.{delimiter_of, piece_of, pieces, some_suffix, begins, fills, is_match, matching, most_bytes, longest_allow}
+use Rattle.iri_robots.specs.Decided.{special_of, piece_of, pieces, some_suffix, begins, fills, is_match, matching, most_bytes, longest_allow}
 use Rattle.iri_robots.specs.Decided.{is_allowed}
 use Rattle.iri_cli.specs.run.Ending.{answers}
 use Rattle.iri_cli.specs.robots.Answers.{same_site}
@@ -32,7 +32,7 @@ pub answers_by_rules : answers (robots_rules uri_tests (codes "examplebot")) (co
     ∷ codes "u " ∷ codes "u %4" ∷ codes "u http://b/" ∷ [])
     ≡ [] ∷ [] ∷ [] ∷ [] ∷ codes "allow http://a/x\n" ∷ codes "disallow http://a/a-*\n" ∷ codes "allow http://a\n"
     ∷ codes "bad invalid path\n" ∷ codes "other http://b/\n" ∷ []
-unfolding line_of records_after compared delimiter_of piece_of pieces some_suffix begins fills is_match matching most_bytes longest_allow is_allowed
+unfolding line_of records_after compared special_of piece_of pieces some_suffix begins fills is_match matching most_bytes longest_allow is_allowed
     same_site canonical normal_form form normal_path target split_of relative_split_of recompose dots is_dot_segment is_letter is_scheme_char
     authority_parts recompose_authority normal_authority normal_host is_ascii_host normal char_units_from first_char chars encode is_utf8
     unreserved is_ascii_unreserved fault_before_fragment parts_fault over_from userinfo_char reg_name_char path_char query_char fragment_char

@@ -1,7 +1,7 @@
 -- What answers the lines after a base, and what its calls do to a sink.
 use Rattle.std.specs.Prelude.{◌≡◌, ◌≢◌, ◌≤◌, ℕ, Bool, true, false, List, [], ◌∷◌, ◌++◌, Option, None, Result, Ok, Err, OnOk}
 use Rattle.iri_text.specs.Count.{Rose}
-use Rattle.iri_text.specs.Sink.{Appends, AppendsPrefix, KeepsRoom}
+use Rattle.iri_text.specs.Sink.{Appends, AppendsPrefix, KeepsRoom, SinkState}
 use Rattle.iri_text.specs.Line.{LineState}
 use Rattle.iri_cli.specs.run.Ending.{Rules, base_line}
 use Rattle.iri_cli.specs.run.Read.{HasRead, IsGoing}
@@ -18,45 +18,45 @@ pub record Answering : Type 0 where
   pub between : List (List ℕ)
 
 -- a prefix of these bytes was written, and the sink failed
-abbrev pub FailsWithin : (written_old written_new : Option (List ℕ)) → (faults_old faults_new : ℕ) → List ℕ → Type 0
-FailsWithin written_old written_new faults_old faults_new bytes =
-    AppendsPrefix written_old written_new bytes × Rose faults_old faults_new × (faults_old ≤ faults_new)
+abbrev pub FailsWithin : (old new : SinkState) → List ℕ → Type 0
+FailsWithin old new bytes =
+    AppendsPrefix old.written new.written bytes × Rose old.faults new.faults × (old.faults ≤ new.faults)
 
 -- the line that says why a base line is refused was written, or the sink failed
-abbrev pub RefusesBase : (words : List ℕ) → (written_old written_new : Option (List ℕ)) → (faults_old faults_new : ℕ) → End → Type 0
-RefusesBase words written_old written_new faults_old faults_new BadBase =
-    Appends written_old written_new (base_line words) × (faults_new ≡ faults_old)
-RefusesBase words written_old written_new faults_old faults_new SinkFailed =
-    FailsWithin written_old written_new faults_old faults_new (base_line words)
-RefusesBase words written_old written_new faults_old faults_new end = ⊥
+abbrev pub RefusesBase : (words : List ℕ) → (old new : SinkState) → End → Type 0
+RefusesBase words old new BadBase =
+    Appends old.written new.written (base_line words) × (new.faults ≡ old.faults)
+RefusesBase words old new SinkFailed =
+    FailsWithin old new (base_line words)
+RefusesBase words old new end = ⊥
 
-module _ (rules : Rules) (written_old written_new : Option (List ℕ)) (faults_old faults_new : ℕ) where
+module _ (rules : Rules) (old new : SinkState) where
   -- allocation failed, and nothing was written
   abbrev pub IsRefusedMemory : Type 0
-  IsRefusedMemory = (rules.takes_memory ≡ true) × (written_new ≡ written_old) × (faults_new ≡ faults_old)
+  IsRefusedMemory = (rules.takes_memory ≡ true) × (new.written ≡ old.written) × (new.faults ≡ old.faults)
 
   -- The whole answer was written, and it is said whether it is good; or the sink failed; or allocation failed.
   abbrev pub PutsAnswer : List ℕ → Result Bool AnswerError → Type 0
-  PutsAnswer answer (Ok good) = Appends written_old written_new answer × (faults_new ≡ faults_old) × (good ≡ rules.is_good answer)
-  PutsAnswer answer (Err AnswerFailed) = FailsWithin written_old written_new faults_old faults_new answer
+  PutsAnswer answer (Ok good) = Appends old.written new.written answer × (new.faults ≡ old.faults) × (good ≡ rules.is_good answer)
+  PutsAnswer answer (Err AnswerFailed) = FailsWithin old new answer
   PutsAnswer answer (Err AnswerMemory) = IsRefusedMemory
 
 -- The text after all answers was written, which ends the run; or the sink failed within it.
-abbrev pub ClosesRun : (written_old written_new : Option (List ℕ)) → (faults_old faults_new : ℕ) → Bool → List ℕ → End → Type 0
-ClosesRun written_old written_new faults_old faults_new good text Done =
-    (good ≡ true) × Appends written_old written_new text × (faults_new ≡ faults_old)
-ClosesRun written_old written_new faults_old faults_new good text SomeBad =
-    (good ≡ false) × Appends written_old written_new text × (faults_new ≡ faults_old)
-ClosesRun written_old written_new faults_old faults_new good text SinkFailed =
-    FailsWithin written_old written_new faults_old faults_new text
-ClosesRun written_old written_new faults_old faults_new good text end = ⊥
+abbrev pub ClosesRun : (old new : SinkState) → Bool → List ℕ → End → Type 0
+ClosesRun old new good text Done =
+    (good ≡ true) × Appends old.written new.written text × (new.faults ≡ old.faults)
+ClosesRun old new good text SomeBad =
+    (good ≡ false) × Appends old.written new.written text × (new.faults ≡ old.faults)
+ClosesRun old new good text SinkFailed =
+    FailsWithin old new text
+ClosesRun old new good text end = ⊥
 
 -- A line was answered, and is then one of those between. A sink that is known to have room for the answer didn't fail.
-pub record AnswersLine (is_new : Answering → Type 0) (old : Answering) (line : List ℕ) (written_old written_new : Option (List ℕ))
-    (faults_old faults_new : ℕ) (room_old room_new : Option ℕ) (result : Result Bool AnswerError) : Type 0 where
-  pub puts : PutsAnswer old.rules written_old written_new faults_old faults_new (old.rules.answer old.base old.between line) result
-  pub next : OnOk result (is_new (record old { between = old.between ++ line ∷ [] }))
-  pub room : KeepsRoom room_old room_new (old.rules.answer old.base old.between line) (result ≢ Err AnswerFailed)
+pub record AnswersLine (is_new : Answering → Type 0) (at : Answering) (line : List ℕ) (old new : SinkState) (result : Result Bool AnswerError)
+    : Type 0 where
+  pub puts : PutsAnswer at.rules old new (at.rules.answer at.base at.between line) result
+  pub next : OnOk result (is_new (record at { between = at.between ++ line ∷ [] }))
+  pub room : KeepsRoom old.room_left new.room_left (at.rules.answer at.base at.between line) (result ≢ Err AnswerFailed)
 
 -- A base line that is taken was read, no line after it was answered, and the reader goes on.
 pub record IsReady (stands_at : Answering → Type 0) (start : Answering) (reader : LineState) : Type 0 where
@@ -66,10 +66,10 @@ pub record IsReady (stands_at : Answering → Type 0) (start : Answering) (reade
   pub going : IsGoing start.rules reader
 
 -- The lines after the base were answered, whatever the source had left before the base line was read.
-abbrev pub AnswersLines : Answering → LineState → Outside → Outside → Option ℕ → Option ℕ → End → Type 0
-AnswersLines answering reader old new room_old room_new end =
+abbrev pub AnswersLines : Answering → LineState → Outside → Outside → End → Type 0
+AnswersLines answering reader old new end =
     (left : Option (List ℕ)) (faults : ℕ) → HasRead answering.rules left old.left reader (answering.base ∷ []) → faults ≤ old.source_faults
-    → Ran answering.rules (outside left old.written faults old.sink_faults) new room_old room_new end
+    → Ran answering.rules (outside left faults old.sink) new end
 
 -- the end of a run at an answer that failed
 abbrev pub end_of_error : AnswerError → End

@@ -3,25 +3,24 @@ use Rattle.std.specs.Prelude.{◌≡◌, ◌≢◌, ◌⊎◌, ◌≤◌, ℕ, t
 use Rattle.iri_text.specs.Count.{Rose}
 use Rattle.iri_text.specs.Lines.{lines}
 use Rattle.iri_text.specs.Source.{Consumes, IsAtEnd}
-use Rattle.iri_text.specs.Sink.{Appends, AppendsPrefix, HasRoom, KeepsRoom}
+use Rattle.iri_text.specs.Sink.{Appends, AppendsPrefix, HasRoom, KeepsRoom, SinkState, sink_state}
 use Rattle.iri_cli.specs.run.Ending.{Rules, ending, first_passed, ended_lines, IsBaseTaken, answered}
 use Rattle.iri_cli.specs.declared.run.end.End.{End}
 use Rattle.iri_cli.specs.declared.run.end.End.TheVariants.{Done, SomeBad, BadBase, SourceFailed, SinkFailed, Memory, LineTooLong, InputTooLong}
 
--- what the source has left, what was written to the sink, and how often each of them failed
+-- what the source has left, how often it failed, and what the sink tells
 pub record Outside : Type 0 where
   pub left : Option (List ℕ)
-  pub written : Option (List ℕ)
   pub source_faults : ℕ
-  pub sink_faults : ℕ
+  pub sink : SinkState
 
-abbrev pub outside : Option (List ℕ) → Option (List ℕ) → ℕ → ℕ → Outside
-outside left written source_faults sink_faults = record {
-  left = left;
-  written = written;
-  source_faults = source_faults;
-  sink_faults = sink_faults;
-}
+abbrev pub outside : Option (List ℕ) → ℕ → SinkState → Outside
+outside left source_faults sink = record { left = left; source_faults = source_faults; sink = sink }
+
+-- the same of a source and a sink, by the members of their traits
+abbrev pub outside_state : {X Y : Type 0} → (X → Option (List ℕ)) → (X → ℕ) → (Y → Option (List ℕ)) → (Y → ℕ) → (Y → Option ℕ) → X → Y → Outside
+outside_state left source_faults written sink_faults room_left source sink =
+    outside (left source) (source_faults source) (sink_state written sink_faults room_left sink)
 
 module _ (rules : Rules) where
   -- The source was read to its end, and its bytes have this ending.
@@ -30,16 +29,16 @@ module _ (rules : Rules) where
     pub takes : Consumes old.left new.left taken
     pub at_end : IsAtEnd new.left
     pub ends : (ending rules taken).status ≡ status
-    pub writes : Appends old.written new.written (ending rules taken).output
-    pub sink : new.sink_faults ≡ old.sink_faults
+    pub writes : Appends old.sink.written new.sink.written (ending rules taken).output
+    pub sink : new.sink.faults ≡ old.sink.faults
 
   -- These bytes were taken, and whatever comes after them, the input has this ending.
   pub record Decides (status : ℕ) (old new : Outside) : Type 0 where
     pub taken : List ℕ
     pub takes : Consumes old.left new.left taken
     pub ends : (more : List ℕ) → (ending rules (taken ++ more)).status ≡ status
-    pub writes : (more : List ℕ) → Appends old.written new.written (ending rules (taken ++ more)).output
-    pub sink : new.sink_faults ≡ old.sink_faults
+    pub writes : (more : List ℕ) → Appends old.sink.written new.sink.written (ending rules (taken ++ more)).output
+    pub sink : new.sink.faults ≡ old.sink.faults
 
   -- The source failed after these bytes. They pass no limit, and have no refused base line with an LF. Exactly the lines that an LF ends in them were answered.
   pub record StopsShort (old new : Outside) : Type 0 where
@@ -47,9 +46,9 @@ module _ (rules : Rules) where
     pub takes : Consumes old.left new.left taken
     pub passes : first_passed rules taken ≡ None
     pub base_taken : IsBaseTaken rules (ended_lines taken)
-    pub writes : Appends old.written new.written (answered rules (ended_lines taken))
+    pub writes : Appends old.sink.written new.sink.written (answered rules (ended_lines taken))
     pub source : Rose old.source_faults new.source_faults
-    pub sink : new.sink_faults ≡ old.sink_faults
+    pub sink : new.sink.faults ≡ old.sink.faults
 
   -- Allocation failed at a line. The lines before it were answered, which are the first of the input.
   pub record RunsOut (old new : Outside) : Type 0 where
@@ -57,8 +56,8 @@ module _ (rules : Rules) where
     pub whole : List (List ℕ)
     pub first : (input : List ℕ) → old.left ≡ Some input → (more : List (List ℕ)) × (lines input ≡ whole ++ more)
     pub base_taken : IsBaseTaken rules whole
-    pub writes : Appends old.written new.written (answered rules whole)
-    pub sink : new.sink_faults ≡ old.sink_faults
+    pub writes : Appends old.sink.written new.sink.written (answered rules whole)
+    pub sink : new.sink.faults ≡ old.sink.faults
 
   -- what holds at each end
   abbrev pub RanTo : Outside → Outside → End → Type 0
@@ -66,19 +65,19 @@ module _ (rules : Rules) where
   RanTo old new SomeBad = Finishes 1 old new
   RanTo old new BadBase = Decides 3 old new ⊎ Finishes 3 old new
   RanTo old new SourceFailed = StopsShort old new
-  RanTo old new SinkFailed = Rose old.sink_faults new.sink_faults
+  RanTo old new SinkFailed = Rose old.sink.faults new.sink.faults
   RanTo old new Memory = RunsOut old new
   RanTo old new LineTooLong = Decides 7 old new
   RanTo old new InputTooLong = Decides 8 old new
 
   -- A run ended so. Whatever the end, what was written is a prefix of the input's output, and no count of faults fell. A sink that is known to
   -- have room for that output didn't fail.
-  pub record Ran (old new : Outside) (room_old room_new : Option ℕ) (end : End) : Type 0 where
+  pub record Ran (old new : Outside) (end : End) : Type 0 where
     pub to : RanTo old new end
-    pub prefix : (input : List ℕ) → old.left ≡ Some input → AppendsPrefix old.written new.written (ending rules input).output
+    pub prefix : (input : List ℕ) → old.left ≡ Some input → AppendsPrefix old.sink.written new.sink.written (ending rules input).output
     pub source_later : old.source_faults ≤ new.source_faults
-    pub sink_later : old.sink_faults ≤ new.sink_faults
-    pub room : (input : List ℕ) → old.left ≡ Some input → KeepsRoom room_old room_new (ending rules input).output (end ≢ SinkFailed)
+    pub sink_later : old.sink.faults ≤ new.sink.faults
+    pub room : (input : List ℕ) → old.left ≡ Some input → KeepsRoom old.sink.room_left new.sink.room_left (ending rules input).output (end ≢ SinkFailed)
 
 -- the status of an end
 abbrev pub status_of : End → ℕ
@@ -96,35 +95,35 @@ abbrev pub IsDecided : ℕ → Type 0
 IsDecided status = (status ≤ 1) ⊎ (status ≡ 3) ⊎ (status ≡ 7) ⊎ (status ≡ 8)
 
 -- What a run over the lines of a source does, and what each status says.
-pub record Runs (rules : Rules) (old new : Outside) (room_old room_new : Option ℕ) (status : ℕ) : Type 0 where
+pub record Runs (rules : Rules) (old new : Outside) (status : ℕ) : Type 0 where
   -- it ended in one of the ways above, and the status tells which
   pub end : End
   pub told : status ≡ status_of end
-  pub ran : Ran rules old new room_old room_new end
+  pub ran : Ran rules old new end
   -- 0 and 1: the source was read to its end
   pub at_end : status ≤ 1 → IsAtEnd new.left
   -- 0, 1, 3, 7 and 8: where the source tells its bytes, status and output are those of their ending
   pub meets : (input : List ℕ) → old.left ≡ Some input → IsDecided status
-      → (status ≡ (ending rules input).status) × Appends old.written new.written (ending rules input).output
+      → (status ≡ (ending rules input).status) × Appends old.sink.written new.sink.written (ending rules input).output
   -- 4: the source failed, and exactly the lines that an LF ends in the bytes taken were answered
   pub source_failed : status ≡ 4 → StopsShort rules old new
   -- 5: the sink failed; in every other status it didn't
-  pub sink_failed : status ≡ 5 → Rose old.sink_faults new.sink_faults
-  pub sink_same : status ≢ 5 → new.sink_faults ≡ old.sink_faults
+  pub sink_failed : status ≡ 5 → Rose old.sink.faults new.sink.faults
+  pub sink_same : status ≢ 5 → new.sink.faults ≡ old.sink.faults
   -- 6: allocation failed at a line
   pub ran_out : status ≡ 6 → RunsOut rules old new
   -- where the source tells its bytes and nothing fails, the run has their ending, or allocation failed
   pub completes : (input : List ℕ) → old.left ≡ Some input → ¬ (Rose old.source_faults new.source_faults)
-      → ¬ (Rose old.sink_faults new.sink_faults)
+      → ¬ (Rose old.sink.faults new.sink.faults)
       → (status ≡ (ending rules input).status) ⊎ ((status ≡ 6) × (rules.takes_memory ≡ true))
   -- 5 never comes where the source tells its bytes and the sink is known to have room for the output of their ending
-  pub room : (input : List ℕ) → old.left ≡ Some input → KeepsRoom room_old room_new (ending rules input).output (status ≢ 5)
+  pub room : (input : List ℕ) → old.left ≡ Some input → KeepsRoom old.sink.room_left new.sink.room_left (ending rules input).output (status ≢ 5)
   -- where the source doesn't fail either, status and output are those of that ending, or allocation failed
   pub completes_in_room : (input : List ℕ) → old.left ≡ Some input → ¬ (Rose old.source_faults new.source_faults)
-      → HasRoom room_old (length (ending rules input).output)
-      → ((status ≡ (ending rules input).status) × Appends old.written new.written (ending rules input).output)
+      → HasRoom old.sink.room_left (length (ending rules input).output)
+      → ((status ≡ (ending rules input).status) × Appends old.sink.written new.sink.written (ending rules input).output)
       ⊎ ((status ≡ 6) × (rules.takes_memory ≡ true))
 
 -- The same, or allocation failed before anything was read or written.
-abbrev pub RunsLines : Rules → Outside → Outside → Option ℕ → Option ℕ → ℕ → Type 0
-RunsLines rules old new room_old room_new status = Runs rules old new room_old room_new status ⊎ ((status ≡ 6) × (new ≡ old))
+abbrev pub RunsLines : Rules → Outside → Outside → ℕ → Type 0
+RunsLines rules old new status = Runs rules old new status ⊎ ((status ≡ 6) × (new ≡ old))

@@ -1,6 +1,7 @@
 -- The ends of a run by what its steps answer, and the base line.
 use Rattle.std.specs.Prelude.{◌≡◌, ◌⊎◌, ◌≤◌, ℕ, Bool, true, false, List, [], ◌∷◌, length, Option, Result, Ok, Err}
 use Rattle.iri_text.specs.Line.{LineState}
+use Rattle.iri_text.specs.Sink.{SinkState}
 use Rattle.iri_cli.specs.run.Ending.{Rules}
 use Rattle.iri_cli.specs.run.Read.{HasRead, ReadsAll, IsGoing}
 use Rattle.iri_cli.specs.run.Run.{outside, Ran}
@@ -40,6 +41,4 @@ abbrev pub ReadsBase : Rules → Option (List ℕ) → Option (List ℕ) → ℕ
 ReadsBase rules left_old left_new faults_old faults_new reader base (Ok x) =
     GivesBase rules left_old left_new reader base × (length base ≤ rules.line_limit) × (faults_old ≤ faults_new)
 ReadsBase rules left_old left_new faults_old faults_new reader base (Err fault) =
-    (written : Option (List ℕ)) (sink_faults : ℕ) (sink_room : Option ℕ)
-    → Ran rules (outside left_old written faults_old sink_faults) (outside left_new written faults_new sink_faults) sink_room sink_room
-    (end_at fault)
+    (sink : SinkState) → Ran rules (outside left_old faults_old sink) (outside left_new faults_new sink) (end_at fault)

@@ -30,25 +30,24 @@ abbrev pub notice_word : Notice → List ℕ
 notice_word Help = codes "--help"
 notice_word Version = codes "--version"
 
--- how a command over lines is named
-abbrev pub command_word : LineCommand → List ℕ
-command_word (Canon mode) = codes "canon"
-command_word Expand = codes "expand"
-command_word Register = codes "register"
-command_word Links = codes "links"
-command_word Docs = codes "docs"
-command_word (Robots token) = codes "robots"
-
 -- how the mode of `canon` is named
 abbrev pub mode_words : CanonMode → List (List ℕ)
 mode_words Default = []
 mode_words Scheme = codes "scheme" ∷ []
 
--- the words after that of its grammar
-abbrev pub words_after : LineCommand → List (List ℕ)
-words_after (Canon mode) = mode_words mode
-words_after (Robots token) = token.now ∷ []
-words_after command = []
+-- the name of a command over lines, the words after that of its grammar, and what it says of lines
+pub record Named : Type 0 where
+  pub word : List ℕ
+  pub after : List (List ℕ)
+  pub rules : Tests → Rules
+
+abbrev pub named : LineCommand → Named
+named (Canon mode) = record { word = codes "canon"; after = mode_words mode; rules = λ s. canon_rules_in s mode }
+named Expand = record { word = codes "expand"; after = []; rules = expand_rules }
+named Register = record { word = codes "register"; after = []; rules = register_rules }
+named Links = record { word = codes "links"; after = []; rules = links_rules }
+named Docs = record { word = codes "docs"; after = []; rules = docs_rules }
+named (Robots token) = record { word = codes "robots"; after = token.now ∷ []; rules = λ s. robots_rules s token.now }
 
 -- the token of `robots` is a product token (RFC 9309 section 2.2.1)
 abbrev pub HasToken : LineCommand → Type 0
@@ -63,7 +62,8 @@ pub record IsCount (word : List ℕ) (count : ℕ) : Type 0 where
 
 -- These words, in UTF-8, are this command.
 abbrev pub IsCommand : List (List ℕ) → Command → Type 0
-IsCommand words (Lines command grammar) = (words ≡ command_word command ∷ word_of grammar ∷ words_after command) × HasToken command
+IsCommand words (Lines command grammar) =
+    (words ≡ (named command).word ∷ word_of grammar ∷ (named command).after) × HasToken command
 IsCommand words (Gen grammar count) = (number : List ℕ) × (words ≡ codes "gen" ∷ word_of grammar ∷ number ∷ []) × IsCount number count
 IsCommand words (Tell notice) = words ≡ notice_word notice ∷ []
 
@@ -73,9 +73,4 @@ tests_of Iri = iri_tests
 
 -- what a command over lines says of them
 abbrev pub rules_of : LineCommand → Tests → Rules
-rules_of (Canon mode) s = canon_rules_in s mode
-rules_of Expand s = expand_rules s
-rules_of Register s = register_rules s
-rules_of Links s = links_rules s
-rules_of Docs s = docs_rules s
-rules_of (Robots token) s = robots_rules s token.now
+rules_of command = (named command).rules

@@ -1,7 +1,7 @@
 //! The lines of `canon`.
 ghost use Rattle.std.specs.Prelude.{◌≢◌};
 ghost use Rattle.iri_cli.specs.canon.Answers.{AnswersAreCanonical, AnswersAreCanonicalIn};
-ghost use Rattle.iri_cli.specs.run.Run.{Runs, outside};
+ghost use Rattle.iri_cli.specs.run.Run.{Runs, outside_state};
 ghost use Rattle.iri_cli.specs.canon.Rules.{canon_rules, canon_rules_in};
 
 use crate::canon::Canon;
@@ -23,10 +23,8 @@ pub fn canon_lines<S: Spec, I: Source, O: Sink>(
     source: &mut I,
     sink: &mut O,
 ) -> u8
-    ensures runs { Runs (canon_rules S.tests)
-        (outside (I.left source.old) (O.written sink.old) (I.faults source.old) (O.faults sink.old))
-        (outside (I.left source.new) (O.written sink.new) (I.faults source.new) (O.faults sink.new))
-        (O.room_left sink.old) (O.room_left sink.new) result }
+    ensures runs { let state = outside_state I.left I.faults O.written O.faults O.room_left in
+        Runs (canon_rules S.tests) (state source.old sink.old) (state source.new sink.new) result }
     ensures a_command { result ≢ 2 }
     ensures in_memory { result ≢ 6 }
 
@@ -44,10 +42,9 @@ pub fn canon_lines_in<S: Spec, I: Source, O: Sink>(
     source: &mut I,
     sink: &mut O,
 ) -> u8
-    ensures runs { Runs (canon_rules_in S.tests mode)
-        (outside (I.left source.old) (O.written sink.old) (I.faults source.old) (O.faults sink.old))
-        (outside (I.left source.new) (O.written sink.new) (I.faults source.new) (O.faults sink.new))
-        (O.room_left sink.old) (O.room_left sink.new) result }
+    ensures runs { let state = outside_state I.left I.faults O.written O.faults O.room_left in
+        Runs (canon_rules_in S.tests mode)
+        (state source.old sink.old) (state source.new sink.new) result }
     ensures a_command { result ≢ 2 }
     ensures in_memory { result ≢ 6 }
 

@@ -28,7 +28,8 @@ fn show_path<S: Spec, W: TextSink>(
     authority_stands: bool,
 ) -> Result<(), Stop>
     requires { is_path S.tests path.now ≡ true }
-    ensures { Shows W.puts W.halts W.stops sink.old (prepared_path authority_stands path.now) sink.new result }
+    ensures { Shows W.puts W.halts W.stops sink.old (prepared_path authority_stands path.now)
+        sink.new result }
 {
     let (directory, last) = cut_last_segment(path);
     show_guarded::<S, W>(sink, &MergedPath::of(directory), authority_stands, false)?;
@@ -37,7 +38,8 @@ fn show_path<S: Spec, W: TextSink>(
 
 // The query after its question mark, where it stands.
 fn show_query<W: TextSink>(sink: &mut W, query: Option<&str>) -> Result<(), Stop>
-    ensures { Shows W.puts W.halts W.stops sink.old (delimited question_mark (now_of query.entry)) sink.new result }
+    ensures { Shows W.puts W.halts W.stops sink.old
+        (delimited question_mark (now_of query.entry)) sink.new result }
 {
     match query {
         Some(query) => show_two(sink, &"?", &query),
@@ -61,7 +63,8 @@ impl<S: Spec> Show for Prepared<'_, S> {
     ghost use Rattle.iri_cli.specs.canon.Prepared.{prepared_path};
 
     ghost text = { λ p. prefix_in S.tests true (split_of (split_text p.base))
-        ++ (prepared_path (is_some (split_of (split_text p.base)).authority) (split_of (split_text p.base)).path
+        ++ (prepared_path (is_some (split_of (split_text p.base)).authority)
+        (split_of (split_text p.base)).path
         ++ delimited question_mark (split_of (split_text p.base)).query) };
 
     fn show<W: TextSink>(&self, sink: &mut W) -> Result<(), Stop> {
@@ -92,7 +95,8 @@ pub fn prepare_base<S: Spec>(buffer: &mut Vec<u8>, output: &mut Vec<u8>) -> Resu
     requires short { length buffer.old.items ≤ longest_line }
     requires room { answer_room ≤ vec_capacity output.old }
     ensures prepares { MatchResult result
-        (λ _. (length buffer.new.items ≤ length buffer.old.items) × (refusal S.tests buffer.old.items ≡ None)
+        (λ _. (length buffer.new.items ≤ length buffer.old.items)
+        × (refusal S.tests buffer.old.items ≡ None)
         × (buffer.new.items ≡ prepared S.tests buffer.old.items))
         (λ words. refusal S.tests buffer.old.items ≡ Some words.now) }
     ensures capacity { vec_capacity output.old ≤ vec_capacity output.new }

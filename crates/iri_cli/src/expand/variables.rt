@@ -20,7 +20,8 @@ fn set(
     name: VarName<'_>,
     value: Value,
 ) -> Result<(), AllocError>
-    ensures { OnOk result (value_in values.new ≡ with_value (value_in values.old) name.entry.text.now (shown_value value)) }
+    ensures { OnOk result (value_in values.new
+        ≡ with_value (value_in values.old) name.entry.text.now (shown_value value)) }
 {
     let key = String::from_str(alloc, name.as_str())?;
     match values.insert(key, value) {
@@ -37,7 +38,8 @@ fn take(
 ) -> Result<Option<Value>, AllocError>
     ensures { MatchResult result
         (λ old. (optional shown_value old ≡ value_in values.old name.entry.text.now)
-        × (value_in values.new ≡ with_value (value_in values.old) name.entry.text.now undefined)) (λ _. Unit {0}) }
+        × (value_in values.new ≡ with_value (value_in values.old) name.entry.text.now undefined))
+        (λ _. Unit {0}) }
 {
     let key = String::from_str(alloc, name.as_str())?;
     match values.insert(key, Value::Undefined) {
@@ -73,7 +75,8 @@ fn add_item(
     name: VarName<'_>,
     item: &str,
 ) -> Result<(), AllocError>
-    ensures { OnOk result (value_in values.new ≡ changed (value_in values.old) (adds_item name.entry.text.now item.now)) }
+    ensures { OnOk result (value_in values.new
+        ≡ changed (value_in values.old) (adds_item name.entry.text.now item.now)) }
 {
     let item = String::from_str(alloc, item)?;
     let old = take(alloc, values, name)?;
@@ -92,7 +95,8 @@ fn add_pair(
     key: &str,
     value: &str,
 ) -> Result<(), AllocError>
-    ensures { OnOk result (value_in values.new ≡ changed (value_in values.old) (adds_pair name.entry.text.now key.now value.now)) }
+    ensures { OnOk result (value_in values.new
+        ≡ changed (value_in values.old) (adds_pair name.entry.text.now key.now value.now)) }
 {
     let key = String::from_str(alloc, key)?;
     let value = String::from_str(alloc, value)?;
@@ -110,7 +114,8 @@ pub(crate) fn apply(
     values: &mut SimpleContext,
     change: Change<'_>,
 ) -> Result<(), AllocError>
-    ensures { OnOk result (value_in values.new ≡ changed (value_in values.old) (change_of change.entry)) }
+    ensures { OnOk result (value_in values.new
+        ≡ changed (value_in values.old) (change_of change.entry)) }
 {
     match change {
         Change::Sets(name, value) => {

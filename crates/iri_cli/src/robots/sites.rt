@@ -41,7 +41,8 @@ pub(crate) fn is_of_site<S: Spec>(
     base: &SplitView<'_, S, Absolute>,
     target: &SplitView<'_, S, Iri>,
 ) -> bool
-    ensures { result ≡ same_site (split_of (split_text base.now)) (split_of (split_text target.now)) }
+    ensures { result
+        ≡ same_site (split_of (split_text base.now)) (split_of (split_text target.now)) }
 {
     let (base, target) = (base.parts(), target.parts());
     is_part(base.scheme(), target.scheme()) && is_part(base.authority(), target.authority())

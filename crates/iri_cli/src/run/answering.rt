@@ -1,8 +1,8 @@
 // The lines after the base line.
 ghost use Rattle.std.specs.Prelude.{◌≡◌, ◌≢◌, ◌≤◌, ℕ, List, length};
-ghost use Rattle.iri_text.specs.Sink.{KeepsRoom};
+ghost use Rattle.iri_text.specs.Sink.{KeepsRoom, sink_state};
 ghost use Rattle.iri_normal.specs.Resolver.{base_text};
-ghost use Rattle.iri_cli.specs.run.Run.{outside};
+ghost use Rattle.iri_cli.specs.run.Run.{outside_state};
 ghost use Rattle.iri_cli.specs.run.Steps.{end_at, end_of_all};
 ghost use Rattle.iri_cli.specs.run.Answering.{Answering, AnswersLine, AnswersLines, IsReady, ClosesRun, end_of_error};
 ghost use Rattle.iri_cli.specs.declared.run.end.End.TheVariants.{SinkFailed};
@@ -51,10 +51,10 @@ fn answer_line<S: Spec, A: Answers<S>, O: Sink>(
     requires { (at : Answering) × (A.stands_at answers.old (base_text resolver.now) at)
         × (length reader.now.line ≤ at.rules.line_limit)
         × (length at.between ≤ at.rules.input_limit) }
-    ensures { (at : Answering) → A.stands_at answers.old (base_text resolver.now) at
+    ensures { let state = sink_state O.written O.faults O.room_left in
+        (at : Answering) → A.stands_at answers.old (base_text resolver.now) at
         → AnswersLine (A.stands_at answers.new (base_text resolver.now)) at reader.now.line
-        (O.written sink.old) (O.written sink.new) (O.faults sink.old) (O.faults sink.new)
-        (O.room_left sink.old) (O.room_left sink.new) result }
+        (state sink.old) (state sink.new) result }
 {
     let answer = answers.answer(resolver, reader.line(), sink);
     if reader.holds_lf() {
@@ -75,10 +75,10 @@ fn close_lines<S: Spec, A: Answers<S>, O: Sink>(
     all_good: bool,
     sink: &mut O,
 ) -> End
-    ensures closes { (text : List ℕ) (at : Answering) → A.stands_at answers.old text at
-        → ClosesRun
-        (O.written sink.old) (O.written sink.new) (O.faults sink.old) (O.faults sink.new)
-        all_good (at.rules.closing at.base at.between) result }
+    ensures closes { let state = sink_state O.written O.faults O.room_left in
+        (text : List ℕ) (at : Answering) → A.stands_at answers.old text at
+        → ClosesRun (state sink.old) (state sink.new) all_good
+        (at.rules.closing at.base at.between) result }
     ensures room { (text : List ℕ) (at : Answering) → A.stands_at answers.old text at
         → KeepsRoom (O.room_left sink.old) (O.room_left sink.new)
         (at.rules.closing at.base at.between) (result ≢ SinkFailed) }
@@ -99,12 +99,11 @@ pub fn answer_lines<S: Spec, A: Answers<S>, I: Source, O: Sink>(
 ) -> End
     requires { (start : Answering)
         × IsReady (A.stands_at answers.old (base_text resolver.now)) start reader }
-    ensures { (start : Answering)
+    ensures { let state = outside_state I.left I.faults O.written O.faults O.room_left in
+        (start : Answering)
         → IsReady (A.stands_at answers.old (base_text resolver.now)) start reader
         → AnswersLines start reader
-        (outside (I.left source.old) (O.written sink.old) (I.faults source.old) (O.faults sink.old))
-        (outside (I.left source.new) (O.written sink.new) (I.faults source.new) (O.faults sink.new))
-        (O.room_left sink.old) (O.room_left sink.new) result }
+        (state source.old sink.old) (state source.new sink.new) result }
 {
     if let Err(Failed) = sink.flush() {
         return End::SinkFailed;

@@ -1,7 +1,7 @@
 // What answers lines.
 ghost use Rattle.std.specs.Prelude.{◌≤◌, ℕ, List, length};
 ghost use Rattle.std.specs.Vec.{vec_capacity};
-ghost use Rattle.iri_text.specs.Sink.{PutsAll};
+ghost use Rattle.iri_text.specs.Sink.{PutsAll, sink_state};
 ghost use Rattle.iri_normal.specs.Resolver.{base_text};
 ghost use Rattle.iri_cli.specs.run.Answering.{Answering, AnswersLine};
 ghost use Rattle.iri_cli.specs.run.Ending.{Rules};
@@ -59,17 +59,16 @@ pub trait Answers<S: Spec>: Drop + Sized {
     ) -> Result<bool, AnswerError>
         requires { (at : Answering) × (stands_at self.old (base_text resolver.now) at)
             × (length line.now ≤ at.rules.line_limit) × (length at.between ≤ at.rules.input_limit) }
-        ensures { (at : Answering) → stands_at self.old (base_text resolver.now) at
+        ensures { let state = sink_state O.written O.faults O.room_left in
+            (at : Answering) → stands_at self.old (base_text resolver.now) at
             → AnswersLine (stands_at self.new (base_text resolver.now)) at line.now
-            (O.written sink.old) (O.written sink.new) (O.faults sink.old) (O.faults sink.new)
-            (O.room_left sink.old) (O.room_left sink.new) result };
+            (state sink.old) (state sink.new) result };
 
     /// Puts the text after all answers. It takes no memory.
     fn close<O: Sink>(&mut self, sink: &mut O) -> Result<(), Failed>
-        ensures { (text : List ℕ) (at : Answering) → stands_at self.old text at
-            → PutsAll
-            (O.written sink.old) (O.written sink.new) (O.faults sink.old) (O.faults sink.new)
-            (O.room_left sink.old) (O.room_left sink.new) result
+        ensures { let state = sink_state O.written O.faults O.room_left in
+            (text : List ℕ) (at : Answering) → stands_at self.old text at
+            → PutsAll (state sink.old) (state sink.new) result
             (at.rules.closing at.base at.between) };
 
     /// Limits and base of the command are those of every command.

@@ -1,7 +1,7 @@
 // The base line.
 ghost use Rattle.std.specs.Prelude.{◌≡◌, ◌≢◌, ◌≤◌, false, length};
 ghost use Rattle.std.specs.Vec.{vec_capacity};
-ghost use Rattle.iri_text.specs.Sink.{PutsAll, KeepsRoom};
+ghost use Rattle.iri_text.specs.Sink.{PutsAll, KeepsRoom, sink_state};
 ghost use Rattle.iri_cli.specs.run.Ending.{Rules, base_line};
 ghost use Rattle.iri_cli.specs.run.Steps.{IsNew, ReadsBase};
 ghost use Rattle.iri_cli.specs.run.Answering.{RefusesBase};
@@ -50,8 +50,8 @@ pub fn read_base<I: Source>(
 
 /// Writes why a base line is refused, which ends the run.
 pub fn refuse_base<O: Sink>(sink: &mut O, words: &str) -> End
-    ensures refuses { RefusesBase words.now
-        (O.written sink.old) (O.written sink.new) (O.faults sink.old) (O.faults sink.new) result }
+    ensures refuses { let state = sink_state O.written O.faults O.room_left in
+        RefusesBase words.now (state sink.old) (state sink.new) result }
     ensures room { KeepsRoom (O.room_left sink.old) (O.room_left sink.new) (base_line words.now)
         (result ≢ SinkFailed) }
 {
@@ -62,9 +62,8 @@ pub fn refuse_base<O: Sink>(sink: &mut O, words: &str) -> End
 }
 
 fn put_refusal<O: Sink>(sink: &mut O, words: &str) -> Result<(), Failed>
-    ensures { PutsAll
-        (O.written sink.old) (O.written sink.new) (O.faults sink.old) (O.faults sink.new)
-        (O.room_left sink.old) (O.room_left sink.new) result (base_line words.now) }
+    ensures { let state = sink_state O.written O.faults O.room_left in
+        PutsAll (state sink.old) (state sink.new) result (base_line words.now) }
 {
     sink.put_all(b"base ")?;
     sink.put_all(words.as_bytes())?;

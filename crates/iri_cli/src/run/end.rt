@@ -1,5 +1,6 @@
 // How a run ends.
 ghost use Rattle.std.specs.Prelude.{◌≡◌};
+ghost use Rattle.iri_text.specs.Sink.{sink_state};
 ghost use Rattle.iri_cli.specs.run.Run.{status_of};
 ghost use Rattle.iri_cli.specs.run.Closes.{Finishes};
 
@@ -46,9 +47,8 @@ pub fn status(end: End) -> u8
 /// The status of a run that ended so, once its sink is flushed. A sink that failed isn't asked
 /// again.
 pub fn finish<O: Sink>(sink: &mut O, end: End) -> u8
-    ensures { Finishes
-        (O.written sink.old) (O.written sink.new) (O.faults sink.old) (O.faults sink.new)
-        (O.room_left sink.old) (O.room_left sink.new) end result }
+    ensures { let state = sink_state O.written O.faults O.room_left in
+        Finishes (state sink.old) (state sink.new) end result }
 {
     match end {
         End::SinkFailed => status(end),

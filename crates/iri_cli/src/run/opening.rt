@@ -3,7 +3,7 @@ ghost use Rattle.std.specs.Prelude.{◌≡◌, None, MatchResult};
 ghost use Rattle.std.specs.Vec.{vec_capacity};
 ghost use Rattle.iri_cli.specs.canon.Answers.{refusal};
 ghost use Rattle.iri_cli.specs.run.Buffers.{AreBuffers};
-ghost use Rattle.iri_cli.specs.run.Run.{Ran, Runs, outside};
+ghost use Rattle.iri_cli.specs.run.Run.{Ran, Runs, outside_state};
 ghost use Rattle.iri_cli.specs.inside.Opening.{RefusesLine};
 
 use crate::canon::{base_of, resolver_of};
@@ -42,10 +42,8 @@ fn answer_with<S: Spec, A: Answers<S>, I: Source, O: Sink>(
     sink: &mut O,
 ) -> End
     requires { AreBuffers reader (vec_capacity base.old) (vec_capacity output) }
-    ensures { Ran (A.rules start)
-        (outside (I.left source.old) (O.written sink.old) (I.faults source.old) (O.faults sink.old))
-        (outside (I.left source.new) (O.written sink.new) (I.faults source.new) (O.faults sink.new))
-        (O.room_left sink.old) (O.room_left sink.new) result }
+    ensures { let state = outside_state I.left I.faults O.written O.faults O.room_left in
+        Ran (A.rules start) (state source.old sink.old) (state source.new sink.new) result }
 {
     match read_base(&mut reader, source, base) {
         Ok(()) => (),
@@ -69,10 +67,8 @@ pub(crate) fn run_lines<S: Spec, A: Answers<S>, I: Source, O: Sink>(
     source: &mut I,
     sink: &mut O,
 ) -> u8
-    ensures { Runs (A.rules start)
-        (outside (I.left source.old) (O.written sink.old) (I.faults source.old) (O.faults sink.old))
-        (outside (I.left source.new) (O.written sink.new) (I.faults source.new) (O.faults sink.new))
-        (O.room_left sink.old) (O.room_left sink.new) result }
+    ensures { let state = outside_state I.left I.faults O.written O.faults O.room_left in
+        Runs (A.rules start) (state source.old sink.old) (state source.new sink.new) result }
 {
     let CanonBuffers {
         reader,

@@ -1,7 +1,7 @@
 // What several commands put, and say of it.
 ghost use Rattle.std.specs.Prelude.{◌≡◌, [], ◌∷◌, ◌++◌, codes, decimal};
 ghost use Rattle.iri_text.specs.LineEnds.{line_feed};
-ghost use Rattle.iri_text.specs.Sink.{PutsAll};
+ghost use Rattle.iri_text.specs.Sink.{PutsAll, sink_state};
 ghost use Rattle.iri_cli.specs.canon.Puts.{told_of};
 ghost use Rattle.iri_cli.specs.run.Refused.{bad_line};
 
@@ -10,9 +10,8 @@ use iri_text::{Failed, Sink, write_to_slice};
 
 /// Puts a number in decimal.
 pub(crate) fn put_number<O: Sink>(sink: &mut O, number: usize) -> Result<(), Failed>
-    ensures { PutsAll
-        (O.written sink.old) (O.written sink.new) (O.faults sink.old) (O.faults sink.new)
-        (O.room_left sink.old) (O.room_left sink.new) result (decimal number) }
+    ensures { let state = sink_state O.written O.faults O.room_left in
+        PutsAll (state sink.old) (state sink.new) result (decimal number) }
 {
     let mut digits = [0u8; 20];
     match write_to_slice(&mut digits, &number) {
@@ -23,9 +22,8 @@ pub(crate) fn put_number<O: Sink>(sink: &mut O, number: usize) -> Result<(), Fai
 
 /// Puts the answer to a refused reference: `bad `, the words for its fault and an LF.
 pub(crate) fn put_bad<O: Sink>(sink: &mut O, words: &str) -> Result<(), Failed>
-    ensures { PutsAll
-        (O.written sink.old) (O.written sink.new) (O.faults sink.old) (O.faults sink.new)
-        (O.room_left sink.old) (O.room_left sink.new) result
+    ensures { let state = sink_state O.written O.faults O.room_left in
+        PutsAll (state sink.old) (state sink.new) result
         (codes "bad " ++ (words.now ++ line_feed ∷ [])) }
 {
     sink.put_all(b"bad ")?;
@@ -35,9 +33,8 @@ pub(crate) fn put_bad<O: Sink>(sink: &mut O, words: &str) -> Result<(), Failed>
 
 /// Puts the answer to a line that asks nothing.
 pub(crate) fn put_bad_line<O: Sink>(sink: &mut O) -> Result<(), Failed>
-    ensures { PutsAll
-        (O.written sink.old) (O.written sink.new) (O.faults sink.old) (O.faults sink.new)
-        (O.room_left sink.old) (O.room_left sink.new) result bad_line }
+    ensures { let state = sink_state O.written O.faults O.room_left in
+        PutsAll (state sink.old) (state sink.new) result bad_line }
 {
     sink.put_all(b"bad line\n")
 }

@@ -27,9 +27,9 @@ pub struct MemorySink<'a> {
 
 impl<'a> Model for MemorySink<'a> {
     ghost use Rattle.std.specs.Prelude.{◌≤◌, length, take};
-    ghost use Rattle.iri_text.specs.Memory.{SinkState};
+    ghost use Rattle.iri_text.specs.Memory.{MemorySinkState};
 
-    ghost Value = { SinkState };
+    ghost Value = { MemorySinkState };
 
     ghost view = { λ s. record {
       written = take s.len s.buf.now;
@@ -72,7 +72,7 @@ impl<'a> MemorySink<'a> {
 impl<'a> Sink for MemorySink<'a> {
     ghost use Rattle.std.specs.Prelude.{◌≡◌, ◌≤◌, ◌<◌, ◌+◌, ◌-◌, ◌^◌, ◌⊎◌, ◌↔◌, min, length, Some, IsOk, IsErr, OnErr};
     ghost use Rattle.std.specs.Prelude.{Contains};
-    ghost use Rattle.iri_text.specs.Memory.{room_left_of};
+    ghost use Rattle.iri_text.specs.Memory.{room_left_of, state_of};
     ghost use Rattle.iri_text.specs.Sink.{PutsAll, Flushes};
 
     ghost written = { λ s. Some s.written };
@@ -88,8 +88,7 @@ impl<'a> Sink for MemorySink<'a> {
     /// Exactly where the number of the call is in `fails`, or the piece is longer than the room that is left; nothing
     /// is written then.
     fn put_all(&mut self, piece: &[u8]) -> Result<(), Failed>
-        ensures puts { PutsAll (Some self.old.written) (Some self.new.written) self.old.faults self.new.faults
-            (room_left_of self.old) (room_left_of self.new) result piece.now }
+        ensures puts { PutsAll (state_of self.old) (state_of self.new) result piece.now }
         ensures calls { self.new.calls ≡ min (self.old.calls + 1) (2 ^ 64 - 1) }
         ensures exact { IsErr result ↔ (Contains self.old.fails self.new.calls
             ⊎ (self.old.room < length self.old.written + length piece.now)) }
@@ -110,8 +109,7 @@ impl<'a> Sink for MemorySink<'a> {
 
     /// Nothing is ever held back: it never fails, and changes nothing.
     fn flush(&mut self) -> Result<(), Failed>
-        ensures flushes { Flushes (Some self.old.written) (Some self.new.written) self.old.faults self.new.faults
-            (room_left_of self.old) (room_left_of self.new) result }
+        ensures flushes { Flushes (state_of self.old) (state_of self.new) result }
         ensures succeeds { IsOk result }
         ensures same { self.new ≡ self.old }
     {

@@ -40,7 +40,7 @@ impl<W: Write> WriteSink<W> {
 impl<W: Write> Sink for WriteSink<W> {
     ghost use Rattle.std.specs.Prelude.{◌≡◌, ◌≢◌, ◌+◌, ◌-◌, ◌^◌, [], false, min, None, OnOk, OnErr, IsOk, true};
     ghost use Rattle.std.specs.Io.KnownBytes.{Appends, Keeps};
-    ghost use Rattle.iri_text.specs.Streams.{WritesPrefix};
+    ghost use Rattle.iri_text.specs.Streams.{WritesPrefix, untold};
     ghost use Rattle.iri_text.specs.Sink.{PutsAll, Flushes};
 
     ghost written = { λ _. None };
@@ -54,7 +54,7 @@ impl<W: Write> Sink for WriteSink<W> {
     ///
     /// Where the writer answers an error or takes nothing; the count rises by one, up to its last value.
     fn put_all(&mut self, piece: &[u8]) -> Result<(), Failed>
-        ensures puts { PutsAll None None self.old.faults self.new.faults None None result piece.now }
+        ensures puts { PutsAll (untold self.old.faults) (untold self.new.faults) result piece.now }
         ensures whole { OnOk result (Appends (W.contents self.old.inner) (W.contents self.new.inner) piece.now) }
         ensures prefix { OnErr result (WritesPrefix (W.contents self.old.inner) (W.contents self.new.inner) piece.now) }
         ensures raised { OnErr result (self.new.faults ≡ min (self.old.faults + 1) (2 ^ 64 - 1)) }
@@ -87,7 +87,7 @@ impl<W: Write> Sink for WriteSink<W> {
     ///
     /// Where the writer answers an error; the count rises by one, up to its last value.
     fn flush(&mut self) -> Result<(), Failed>
-        ensures flushes { Flushes None None self.old.faults self.new.faults None None result }
+        ensures flushes { Flushes (untold self.old.faults) (untold self.new.faults) result }
         ensures kept { Keeps (W.contents self.old.inner) (W.contents self.new.inner) }
         ensures handed_on { OnOk result (self.new.pending ≡ false) }
         ensures pending { OnErr result (self.new.pending ≡ self.old.pending) }

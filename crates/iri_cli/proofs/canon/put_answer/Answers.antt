@@ -1,6 +1,6 @@
 use Rattle.std.proofs.Common.{◌≢◌, ◌≤◌, ◌+◌, ◌++◌, ◌∷◌, [], ◌∙◌, Some, Err, true, false, ap, arith, length, refl, subst, sym}
 use Rattle.std.specs.Prelude.{codes}
-use Rattle.iri_text.specs.Sink.{PutsAll, KeepsRoom}
+use Rattle.iri_text.specs.Sink.{PutsAll, KeepsRoom, sink_state}
 use Rattle.iri_cli.specs.declared.run.answers.AnswerError.TheVariants.{SinkFailed}
 use Rattle.iri_types.specs.SplitText.{split_text}
 use Rattle.iri_normal.specs.NormalForm.{canonical_in}
@@ -32,13 +32,12 @@ returns-in-Ok-clause-puts g c =
     let s = g.S.Spec.tests in
     let m = c.args.mode in
     let base = base_text c.args.resolver.now in
-    let wo = g.O.Sink.written c.args.sink.now in
-    let wn = g.O.Sink.written c.put_good.new.sink in
-    let fo = g.O.Sink.faults c.args.sink.now in
-    let fn = g.O.Sink.faults c.put_good.new.sink in
+    let state = sink_state g.O.Sink.written g.O.Sink.faults g.O.Sink.room_left in
+    let old = state c.args.sink.now in
+    let new = state c.put_good.new.sink in
     let text = canonical_in s m base (split_text c.in-Ok.reference) in
-    subst (λ r. PutsLine wo wn fo fn (answer_in s m base c.args.line.now) r) (sym c.told.ensures)
-    (subst (λ t. PutsLine wo wn fo fn t (told_of true c.put_good.result))
+    subst (λ r. PutsLine old new (answer_in s m base c.args.line.now) r) (sym c.told.ensures)
+    (subst (λ t. PutsLine old new t (told_of true c.put_good.result))
     (answer_of_reference s m base (split_text c.in-Ok.reference) c.args.line.now h.fault h.text)
     (puts_line true c.put_good.result (good_answer text) c.put_good.ensures refl))
 
@@ -47,16 +46,13 @@ returns-in-Err-clause-puts g c =
     let s = g.S.Spec.tests in
     let m = c.args.mode in
     let base = base_text c.args.resolver.now in
-    let wo = g.O.Sink.written c.args.sink.now in
-    let wn = g.O.Sink.written c.put_bad.new.sink in
-    let fo = g.O.Sink.faults c.args.sink.now in
-    let fn = g.O.Sink.faults c.put_bad.new.sink in
-    let ro = g.O.Sink.room_left c.args.sink.now in
-    let rn = g.O.Sink.room_left c.put_bad.new.sink in
-    let puts = subst (λ t. PutsAll wo wn fo fn ro rn c.put_bad.result
+    let state = sink_state g.O.Sink.written g.O.Sink.faults g.O.Sink.room_left in
+    let old = state c.args.sink.now in
+    let new = state c.put_bad.new.sink in
+    let puts = subst (λ t. PutsAll old new c.put_bad.result
     (codes "bad " ++ (t ++ 10 ∷ []))) c.description.ensures c.put_bad.ensures in
-    subst (λ r. PutsLine wo wn fo fn (answer_in s m base c.args.line.now) r) (sym c.told-in-Err.ensures)
-    (subst (λ t. PutsLine wo wn fo fn t (told_of false c.put_bad.result))
+    subst (λ r. PutsLine old new (answer_in s m base c.args.line.now) r) (sym c.told-in-Err.ensures)
+    (subst (λ t. PutsLine old new t (told_of false c.put_bad.result))
     (answer_of_fault s m base c.args.line.now c.kind.result (c.in-Err.ensures.fault ∙ ap Some (sym c.kind.ensures)))
     (puts_line false c.put_bad.result (bad_answer c.kind.result) puts refl))
 
@@ -66,11 +62,12 @@ returns-in-Ok-clause-room g c =
     let s = g.S.Spec.tests in
     let m = c.args.mode in
     let base = base_text c.args.resolver.now in
-    let ro = g.O.Sink.room_left c.args.sink.now in
-    let rn = g.O.Sink.room_left c.put_good.new.sink in
+    let state = sink_state g.O.Sink.written g.O.Sink.faults g.O.Sink.room_left in
+    let old = state c.args.sink.now in
+    let new = state c.put_good.new.sink in
     let text = canonical_in s m base (split_text c.in-Ok.reference) in
-    subst (λ r. KeepsRoom ro rn (answer_in s m base c.args.line.now) (r ≢ Err SinkFailed)) (sym c.told.ensures)
-    (subst (λ t. KeepsRoom ro rn t (told_of true c.put_good.result ≢ Err SinkFailed))
+    subst (λ r. KeepsRoom old.room_left new.room_left (answer_in s m base c.args.line.now) (r ≢ Err SinkFailed)) (sym c.told.ensures)
+    (subst (λ t. KeepsRoom old.room_left new.room_left t (told_of true c.put_good.result ≢ Err SinkFailed))
     (answer_of_reference s m base (split_text c.in-Ok.reference) c.args.line.now h.fault h.text)
     (line_room true c.put_good.result (good_answer text) c.put_good.ensures))
 
@@ -79,15 +76,12 @@ returns-in-Err-clause-room g c =
     let s = g.S.Spec.tests in
     let m = c.args.mode in
     let base = base_text c.args.resolver.now in
-    let wo = g.O.Sink.written c.args.sink.now in
-    let wn = g.O.Sink.written c.put_bad.new.sink in
-    let fo = g.O.Sink.faults c.args.sink.now in
-    let fn = g.O.Sink.faults c.put_bad.new.sink in
-    let ro = g.O.Sink.room_left c.args.sink.now in
-    let rn = g.O.Sink.room_left c.put_bad.new.sink in
-    let puts = subst (λ t. PutsAll wo wn fo fn ro rn c.put_bad.result
+    let state = sink_state g.O.Sink.written g.O.Sink.faults g.O.Sink.room_left in
+    let old = state c.args.sink.now in
+    let new = state c.put_bad.new.sink in
+    let puts = subst (λ t. PutsAll old new c.put_bad.result
     (codes "bad " ++ (t ++ 10 ∷ []))) c.description.ensures c.put_bad.ensures in
-    subst (λ r. KeepsRoom ro rn (answer_in s m base c.args.line.now) (r ≢ Err SinkFailed)) (sym c.told-in-Err.ensures)
-    (subst (λ t. KeepsRoom ro rn t (told_of false c.put_bad.result ≢ Err SinkFailed))
+    subst (λ r. KeepsRoom old.room_left new.room_left (answer_in s m base c.args.line.now) (r ≢ Err SinkFailed)) (sym c.told-in-Err.ensures)
+    (subst (λ t. KeepsRoom old.room_left new.room_left t (told_of false c.put_bad.result ≢ Err SinkFailed))
     (answer_of_fault s m base c.args.line.now c.kind.result (c.in-Err.ensures.fault ∙ ap Some (sym c.kind.ensures)))
     (line_room false c.put_bad.result (bad_answer c.kind.result) puts))

@@ -1,5 +1,5 @@
 use Rattle.std.proofs.Common.{◌≡◌, ◌≢◌, ◌<◌, ◌≤◌, ◌∙◌, ℕ, Err, true, false, refl, arith, subst, ap, length}
-use Rattle.iri_text.specs.Sink.{KeepsRoom}
+use Rattle.iri_text.specs.Sink.{KeepsRoom, sink_state}
 use Rattle.iri_normal.specs.Resolver.{base_text}
 use Rattle.iri_template.specs.Contexts.{value_in}
 use Rattle.iri_template.specs.ExpandedTexts.{expanded_text}
@@ -21,13 +21,13 @@ put_answer-requires-clause-room g c =
 
 pub returns-in-Ok-clause-puts : goal.returns-in-Ok-clause-puts
 returns-in-Ok-clause-puts g c =
+    let state = sink_state g.O.Sink.written g.O.Sink.faults g.O.Sink.room_left in
     let s = g.S.Spec.tests in
     let base = base_text c.args.resolver in
     let text = expanded_text s value_in c.args.expanded.now in
     let is = ap (answer s base) (c.as_bytes.ensures.value ∙ c.in-Ok.ensures.text)
     ∙ short_answer s base text (within _ _ expansion_limit (c.in-Ok.ensures.exact.1) c.requires.room) in
-    subst (λ t. PutsLine (g.O.Sink.written c.args.sink.now) (g.O.Sink.written c.put_answer.new.sink) (g.O.Sink.faults c.args.sink.now)
-    (g.O.Sink.faults c.put_answer.new.sink) t c.put_answer.result) is c.put_answer.ensures.puts
+    subst (λ t. PutsLine (state c.args.sink.now) (state c.put_answer.new.sink) t c.put_answer.result) is c.put_answer.ensures.puts
 
 pub returns-in-Ok-clause-room : goal.returns-in-Ok-clause-room
 returns-in-Ok-clause-room g c =

@@ -1,6 +1,6 @@
 use Rattle.std.proofs.Common.{◌≡◌, ◌≢◌, ◌∙◌, ℕ, List, Err, None, false, refl, subst, ap}
 use Rattle.iri_grammar.specs.Classes.{Tests}
-use Rattle.iri_text.specs.Sink.{KeepsRoom}
+use Rattle.iri_text.specs.Sink.{KeepsRoom, sink_state}
 use Rattle.iri_normal.specs.Resolver.{base_text}
 use Rattle.iri_template.specs.Contexts.{value_in}
 use Rattle.iri_template.specs.Expansion.{expansion}
@@ -22,11 +22,11 @@ expanded_is s base values held t shown none held_is shown_is =
 
 pub returns-in-Ok-clause-puts : goal.returns-in-Ok-clause-puts
 returns-in-Ok-clause-puts g c =
+    let state = sink_state g.O.Sink.written g.O.Sink.faults g.O.Sink.room_left in
     let e = c.in-Ok.ensures in
     let is = expanded_is g.S.Spec.tests (base_text c.args.resolver) (value_in c.args.values.now) _ c.args.template.now _ e.fault
     (ap value_in e.expanded.1) e.expanded.0 in
-    subst (λ t. PutsLine (g.O.Sink.written c.args.sink.now) (g.O.Sink.written c.put_expansion.new.sink) (g.O.Sink.faults c.args.sink.now)
-    (g.O.Sink.faults c.put_expansion.new.sink) t c.put_expansion.result) is c.put_expansion.ensures.puts
+    subst (λ t. PutsLine (state c.args.sink.now) (state c.put_expansion.new.sink) t c.put_expansion.result) is c.put_expansion.ensures.puts
 
 pub returns-in-Ok-clause-room : goal.returns-in-Ok-clause-room
 returns-in-Ok-clause-room g c =

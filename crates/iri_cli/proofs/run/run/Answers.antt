@@ -1,5 +1,5 @@
 use Rattle.std.proofs.Common.{map, string_bytes}
-use Rattle.iri_cli.specs.run.Run.{outside}
+use Rattle.iri_cli.specs.run.Run.{outside_state}
 use Rattle.iri_cli.specs.run.Words.{tests_of}
 use Rattle.iri_cli.specs.declared.run.words.Command.TheVariants.{Lines, Gen, Tell}
 use Rattle.iri_cli.proofs.BytesLemmas.{canonical_answers, grammar_is_spec}
@@ -12,21 +12,16 @@ obey-requires g c = sound (map string_bytes c.args.words.now) c.command_of.resul
 
 pub returns : goal.returns
 returns g c =
-    let i = g.I.Source in
-    let o = g.O.Sink in
-    let a = c.args.source.now in
-    let b = c.obey.new.source in
-    let x = c.args.sink.now in
-    let y = c.obey.new.sink in
+    let state = outside_state g.I.Source.left g.I.Source.faults g.O.Sink.written g.O.Sink.faults g.O.Sink.room_left in
     let words = map string_bytes c.args.words.now in
-    let old = outside (i.left a) (o.written x) (i.faults a) (o.faults x) in
-    let new = outside (i.left b) (o.written y) (i.faults b) (o.faults y) in
+    let old = state c.args.source.now c.args.sink.now in
+    let new = state c.obey.new.source c.obey.new.sink in
     let command = c.command_of.result in
     let is = c.command_of.ensures in
     let done = c.obey.ensures in
-    let for = obeyed words old new (o.room_left x) (o.room_left y) c.obey.result command is done in
+    let for = obeyed words old new c.obey.result command is done in
     record {
-      no_command = unknown words old new (o.room_left x) (o.room_left y) c.obey.result command is done;
+      no_command = unknown words old new c.obey.result command is done;
       tells = λ notice. for (Tell notice);
       lines = λ command grammar. for (Lines command grammar);
       gens = λ grammar count. for (Gen grammar count);

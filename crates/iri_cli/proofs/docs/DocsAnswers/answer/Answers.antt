@@ -1,5 +1,6 @@
 use Rattle.std.proofs.Common.{◌≡◌, ◌∙◌, [], ◌∷◌, ◌++◌, Ok, Err, arith, false, refl, sym, ap}
 use Rattle.std.specs.Vec.{vec_capacity, with_items}
+use Rattle.iri_text.specs.Sink.{sink_state}
 use Rattle.iri_docs.specs.ErrorTexts.{description}
 use Rattle.iri_docs.specs.Held.{held}
 use Rattle.iri_normal.specs.Resolver.{base_text}
@@ -13,8 +14,8 @@ use Rattle.iri_cli.proofs.docs.DocsAnswers.answer.Goals as goal
 
 pub returns-in-Ok : goal.returns-in-Ok
 returns-in-Ok g c = λ at is.
+    let state = sink_state g.O.Sink.written g.O.Sink.faults g.O.Sink.room_left in
     let s = g.S.Spec.tests in
-    let o = g.O.Sink in
     let self = c.args.self.now in
     let base = base_text c.args.resolver.now in
     let line = c.args.line.now in
@@ -30,28 +31,27 @@ returns-in-Ok g c = λ at is.
     in
     let expansion = with_items self.expansion c.put_template.new.expansion in
     answers_docs s base self.expansion.items expansion.items (vec_capacity self.output) (vec_capacity c.put_template.new.output) at line
-    (o.written a) (o.written b) (o.faults a) (o.faults b) (o.room_left a) (o.room_left b) c.put_template.result is
+    (state a) (state b) c.put_template.result is
     (sym expansion.ok.0 ∙ self.expansion.ok.0) c.put_template.ensures.capacity
-    (answers_text docs_answer s base at is.stands line (o.written a) (o.written b) (o.faults a) (o.faults b) (o.room_left a) (o.room_left b)
+    (answers_text docs_answer s base at is.stands line (state a) (state b)
     c.put_template.result text text_is c.put_template.ensures.puts c.put_template.ensures.room)
 
 pub returns-in-Memory : goal.returns-in-Memory
 returns-in-Memory g c = λ at is.
+    let state = sink_state g.O.Sink.written g.O.Sink.faults g.O.Sink.room_left in
     let s = g.S.Spec.tests in
-    let o = g.O.Sink in
     let self = c.args.self.now in
     let base = base_text c.args.resolver.now in
     let line = c.args.line.now in
     let a = c.args.sink.now in
     let n = vec_capacity self.output in
-    answers_docs s base self.expansion.items self.expansion.items n n at line (o.written a) (o.written a) (o.faults a) (o.faults a)
-    (o.room_left a) (o.room_left a) _ is refl (omega arith)
-    (answers_memory docs_answer s base at is.stands line (o.written a) (o.faults a) (o.room_left a))
+    answers_docs s base self.expansion.items self.expansion.items n n at line (state a) (state a) _ is refl (omega arith)
+    (answers_memory docs_answer s base at is.stands line (state a))
 
 pub returns-in_default : goal.returns-in_default
 returns-in_default g c = λ at is.
+    let state = sink_state g.O.Sink.written g.O.Sink.faults g.O.Sink.room_left in
     let s = g.S.Spec.tests in
-    let o = g.O.Sink in
     let self = c.args.self.now in
     let base = base_text c.args.resolver.now in
     let line = c.args.line.now in
@@ -59,9 +59,8 @@ returns-in_default g c = λ at is.
     let b = c.put_refusal.new.sink in
     let n = vec_capacity self.output in
     let text = description c.in-Err.error ++ 10 ∷ [] in
-    answers_docs s base self.expansion.items self.expansion.items n n at line (o.written a) (o.written b) (o.faults a) (o.faults b)
-    (o.room_left a) (o.room_left b) c.told.result is refl (omega arith)
-    (answers_text docs_answer s base at is.stands line (o.written a) (o.written b) (o.faults a) (o.faults b) (o.room_left a) (o.room_left b)
+    answers_docs s base self.expansion.items self.expansion.items n n at line (state a) (state b) c.told.result is refl (omega arith)
+    (answers_text docs_answer s base at is.stands line (state a) (state b)
     c.told.result text (docs_read s base line (Err c.in-Err.error) (c.in-Err.ensures c.in_default.not-Memory))
     (told_line false c.put_refusal.result text text c.told.result c.told.ensures (bad c.in-Err.error) refl c.put_refusal.ensures)
     (told_room false c.put_refusal.result text text c.told.result c.told.ensures refl c.put_refusal.ensures))

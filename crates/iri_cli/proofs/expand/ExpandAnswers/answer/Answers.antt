@@ -1,5 +1,6 @@
 use Rattle.std.proofs.Common.{◌∙◌, arith, false, refl, sym}
 use Rattle.std.specs.Vec.{vec_capacity, with_items}
+use Rattle.iri_text.specs.Sink.{sink_state}
 use Rattle.iri_normal.specs.Resolver.{base_text}
 use Rattle.iri_template.specs.Contexts.{value_in}
 use Rattle.iri_cli.specs.run.Refused.{bad_line}
@@ -10,20 +11,21 @@ use Rattle.iri_cli.proofs.expand.ExpandAnswers.answer.Goals as goal
 
 pub returns-in-Ok : goal.returns-in-Ok
 returns-in-Ok g c = λ at is.
+    let state = sink_state g.O.Sink.written g.O.Sink.faults g.O.Sink.room_left in
     let self = c.args.self.now in
     answers_nothing g.S.Spec.tests (base_text c.args.resolver.now) self.expansion.items (vec_capacity self.output) (value_in self.values) at is c.args.line.now
-    (changes (change_of c.in-Changes.change)) (sym (c.in-Changes.ensures {u = tt})) (g.O.Sink.written c.args.sink.now)
-    (g.O.Sink.faults c.args.sink.now) (g.O.Sink.room_left c.args.sink.now) refl (value_in c.apply.new.values) (c.in-Ok.ensures {u = tt})
+    (changes (change_of c.in-Changes.change)) (sym (c.in-Changes.ensures {u = tt})) (state c.args.sink.now) refl (value_in c.apply.new.values) (c.in-Ok.ensures {u = tt})
 
 pub returns-in-Err : goal.returns-in-Err
 returns-in-Err g c = λ at is.
+    let state = sink_state g.O.Sink.written g.O.Sink.faults g.O.Sink.room_left in
     let self = c.args.self.now in
     answers_memory g.S.Spec.tests (base_text c.args.resolver.now) self.expansion.items (vec_capacity self.output) (value_in self.values) at is c.args.line.now
-    (changes (change_of c.in-Changes.change)) (sym (c.in-Changes.ensures {u = tt})) (g.O.Sink.written c.args.sink.now)
-    (g.O.Sink.faults c.args.sink.now) (g.O.Sink.room_left c.args.sink.now) refl _
+    (changes (change_of c.in-Changes.change)) (sym (c.in-Changes.ensures {u = tt})) (state c.args.sink.now) refl _
 
 pub returns-in-Expands : goal.returns-in-Expands
 returns-in-Expands g c = λ at is.
+    let state = sink_state g.O.Sink.written g.O.Sink.faults g.O.Sink.room_left in
     let s = g.S.Spec.tests in
     let self = c.args.self.now in
     let base = base_text c.args.resolver.now in
@@ -31,17 +33,14 @@ returns-in-Expands g c = λ at is.
     let template = c.in-Expands.template.now in
     let expansion = with_items self.expansion c.put_template.new.expansion in
     answers_text s base self.expansion.items (vec_capacity self.output) values at is c.args.line.now (expands template)
-    (sym (c.in-Expands.ensures {u = tt})) (g.O.Sink.written c.args.sink.now) (g.O.Sink.written c.put_template.new.sink)
-    (g.O.Sink.faults c.args.sink.now) (g.O.Sink.faults c.put_template.new.sink) (g.O.Sink.room_left c.args.sink.now)
-    (g.O.Sink.room_left c.put_template.new.sink) expansion.items (vec_capacity c.put_template.new.output) c.put_template.result (sym expansion.ok.0 ∙ self.expansion.ok.0)
+    (sym (c.in-Expands.ensures {u = tt})) (state c.args.sink.now) (state c.put_template.new.sink) expansion.items (vec_capacity c.put_template.new.output) c.put_template.result (sym expansion.ok.0 ∙ self.expansion.ok.0)
     c.put_template.ensures.capacity refl (template_good s base values template) c.put_template.ensures.puts c.put_template.ensures.room
 
 pub returns-in-Bad : goal.returns-in-Bad
 returns-in-Bad g c = λ at is.
+    let state = sink_state g.O.Sink.written g.O.Sink.faults g.O.Sink.room_left in
     let self = c.args.self.now in
     let puts = told_line false c.put_bad_line.result bad_line bad_line c.told.result c.told.ensures refl refl c.put_bad_line.ensures in
     let room = told_room false c.put_bad_line.result bad_line bad_line c.told.result c.told.ensures refl c.put_bad_line.ensures in
     answers_text g.S.Spec.tests (base_text c.args.resolver.now) self.expansion.items (vec_capacity self.output) (value_in self.values) at is c.args.line.now bad
-    (sym (c.in-Bad.ensures {u = tt})) (g.O.Sink.written c.args.sink.now) (g.O.Sink.written c.put_bad_line.new.sink)
-    (g.O.Sink.faults c.args.sink.now) (g.O.Sink.faults c.put_bad_line.new.sink) (g.O.Sink.room_left c.args.sink.now)
-    (g.O.Sink.room_left c.put_bad_line.new.sink) self.expansion.items (vec_capacity self.output) c.told.result refl (omega arith) refl refl puts room
+    (sym (c.in-Bad.ensures {u = tt})) (state c.args.sink.now) (state c.put_bad_line.new.sink) self.expansion.items (vec_capacity self.output) c.told.result refl (omega arith) refl refl puts room

@@ -1,4 +1,5 @@
 use Rattle.std.proofs.Common.{◌+◌, ◌∙◌, ap, refl, subst, sym}
+use Rattle.iri_text.specs.Sink.{sink_state}
 use Rattle.iri_normal.specs.Resolver.{base_text}
 use Rattle.iri_cli.specs.run.Answering.{AnswersLine}
 use Rattle.iri_cli.specs.register.Answers.{answer_to}
@@ -14,16 +15,13 @@ returns-in-Ok g c = λ at is.
     let b = base_text c.args.resolver.now in
     let said = line_of c.args.line.now in
     let kept = c.args.self.now.register in
-    let new = c.reply_to.new.register in
+    let kept_new = c.reply_to.new.register in
     let n = c.args.self.now.answered in
-    let wo = g.O.Sink.written c.args.sink.now in
-    let wn = g.O.Sink.written c.put_reply.new.sink in
-    let fo = g.O.Sink.faults c.args.sink.now in
-    let fn = g.O.Sink.faults c.put_reply.new.sink in
-    let ro = g.O.Sink.room_left c.args.sink.now in
-    let rn = g.O.Sink.room_left c.put_reply.new.sink in
-    subst (AnswersLine (IsRegisterAt s b new (n + 1)) at c.args.line.now wo wn fo fn ro rn) (sym c.told.ensures)
-    (answers_line s b kept new n (n + 1) at c.args.line.now (reply_text c.in-Ok.reply) wo wn fo fn ro rn c.is_good.result c.put_reply.result
+    let state = sink_state g.O.Sink.written g.O.Sink.faults g.O.Sink.room_left in
+    let old = state c.args.sink.now in
+    let new = state c.put_reply.new.sink in
+    subst (AnswersLine (IsRegisterAt s b kept_new (n + 1)) at c.args.line.now old new) (sym c.told.ensures)
+    (answers_line s b kept kept_new n (n + 1) at c.args.line.now (reply_text c.in-Ok.reply) old new c.is_good.result c.put_reply.result
     is refl c.reply_to.ensures.base
     (c.in-Ok.ensures.entries ∙ ap (λ l. obeyed_by kept.entries (command_of s b (n + 2) l)) c.line_of.ensures
     ∙ ap (λ x. obeyed_by kept.entries (command_of s x (n + 2) said)) is.own)

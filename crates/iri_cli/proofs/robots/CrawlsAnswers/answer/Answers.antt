@@ -1,4 +1,5 @@
 use Rattle.std.proofs.Common.{◌++◌, ◌∙◌, [], Ok, ap, false, refl, string_bytes, subst, sym, true}
+use Rattle.iri_text.specs.Sink.{sink_state}
 use Rattle.iri_normal.specs.Resolver.{base_text}
 use Rattle.iri_robots.specs.Stored.{record_texts}
 use Rattle.iri_cli.specs.run.Answering.{AnswersLine}
@@ -18,14 +19,13 @@ returns-in-Ok g c = λ at is.
     let token = string_bytes site.robots.token in
     let records = record_texts site.robots.records.items in
     let new = record_texts c.feed_line.new.self.records.items in
-    let wo = g.O.Sink.written c.args.sink.now in
-    let fo = g.O.Sink.faults c.args.sink.now in
-    let ro = g.O.Sink.room_left c.args.sink.now in
-    subst (λ t. AnswersLine (IsRobotsAt s t base site.normal.text new) at c.args.line.now wo wo fo fo ro ro (Ok true))
+    let state = sink_state g.O.Sink.written g.O.Sink.faults g.O.Sink.room_left in
+    let old = state c.args.sink.now in
+    subst (λ t. AnswersLine (IsRobotsAt s t base site.normal.text new) at c.args.line.now old old (Ok true))
     (sym c.in-Ok.ensures.token)
-    (answers_line s token base site.normal.text records new at c.args.line.now [] wo wo fo fo ro ro (Ok true) is
+    (answers_line s token base site.normal.text records new at c.args.line.now [] old old (Ok true) is
     (ap (answer_to s token base records) c.in-Feeds.ensures)
-    (c.in-Ok.ensures.records ∙ ap (λ l. records ++ fed l) c.in-Feeds.ensures) (no_reply wo fo ro))
+    (c.in-Ok.ensures.records ∙ ap (λ l. records ++ fed l) c.in-Feeds.ensures) (no_reply old))
 
 pub returns-in-Asks : goal.returns-in-Asks
 returns-in-Asks g c = λ at is.
@@ -36,7 +36,7 @@ returns-in-Asks g c = λ at is.
     let records = record_texts site.robots.records.items in
     let reference = asks c.in-Asks.reference.now in
     answers_line s token base site.normal.text records records at c.args.line.now (answer_to s token base records reference)
-    _ _ _ _ _ _ c.put_answer.result is (ap (answer_to s token base records) c.in-Asks.ensures)
+    _ _ c.put_answer.result is (ap (answer_to s token base records) c.in-Asks.ensures)
     (unfed c.put_answer.result records reference c.args.line.now c.in-Asks.ensures refl) c.put_answer.ensures
 
 pub returns-in-Bad : goal.returns-in-Bad
@@ -46,14 +46,11 @@ returns-in-Bad g c = λ at is.
     let base = base_text c.args.resolver.now in
     let token = string_bytes site.robots.token in
     let records = record_texts site.robots.records.items in
-    let wo = g.O.Sink.written c.args.sink.now in
-    let wn = g.O.Sink.written c.put_bad_line.new.sink in
-    let fo = g.O.Sink.faults c.args.sink.now in
-    let fn = g.O.Sink.faults c.put_bad_line.new.sink in
-    let ro = g.O.Sink.room_left c.args.sink.now in
-    let rn = g.O.Sink.room_left c.put_bad_line.new.sink in
+    let state = sink_state g.O.Sink.written g.O.Sink.faults g.O.Sink.room_left in
+    let old = state c.args.sink.now in
+    let new = state c.put_bad_line.new.sink in
     let told = told_of false c.put_bad_line.result in
-    subst (AnswersLine (IsRobotsAt s token base site.normal.text records) at c.args.line.now wo wn fo fn ro rn) (sym c.told.ensures)
-    (answers_line s token base site.normal.text records records at c.args.line.now bad_line wo wn fo fn ro rn told is
+    subst (AnswersLine (IsRobotsAt s token base site.normal.text records) at c.args.line.now old new) (sym c.told.ensures)
+    (answers_line s token base site.normal.text records records at c.args.line.now bad_line old new told is
     (ap (answer_to s token base records) c.in-Bad.ensures) (unfed told records bad c.args.line.now c.in-Bad.ensures refl)
     (replies false c.put_bad_line.result bad_line c.put_bad_line.ensures refl))

@@ -4,4 +4,4 @@ use Rattle.iri_cli.proofs.CanonLemmas.{closes_nothing}
 use Rattle.iri_cli.proofs.robots.CrawlsAnswers.close.Goals as goal
 
 pub returns : goal.returns
-returns g c = λ text at is. closes_nothing at _ _ _ (ap (λ (r : Rules). r.closing at.base at.between) is.rules)
+returns g c = λ text at is. closes_nothing at _ (ap (λ (r : Rules). r.closing at.base at.between) is.rules)

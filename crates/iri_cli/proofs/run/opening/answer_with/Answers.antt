@@ -1,9 +1,10 @@
 use Rattle.std.proofs.Common.{◌≡◌, ◌∙◌, Err, arith, subst, sym}
 use Rattle.std.specs.Vec.{vec_capacity}
 use Rattle.iri_normal.specs.Resolver.{base_text}
+use Rattle.iri_text.specs.Sink.{sink_state}
 use Rattle.iri_cli.specs.inside.Opening.{Opens, begun}
 use Rattle.iri_cli.specs.run.Limits.{longest_line}
-use Rattle.iri_cli.specs.run.Run.{outside, Ran}
+use Rattle.iri_cli.specs.run.Run.{outside_state, Ran}
 use Rattle.iri_cli.proofs.BaseLine.{refuses}
 use Rattle.iri_cli.proofs.OpeningLemmas.{base_read, ends_in_memory, new_reader, ready, refusal_is}
 use Rattle.iri_cli.proofs.run.opening.answer_with.Goals as goal
@@ -14,11 +15,9 @@ returns-in-Err g c =
     let begins = g.met.A.Answers.begins c.args.start in
     let is_new = new_reader g.S.Spec.tests rules begins c.args.reader (vec_capacity c.args.base.now) (vec_capacity c.args.output) c.requires in
     let sink = c.args.sink.now in
-    subst (λ e. Ran rules (outside (g.I.Source.left c.args.source.now) (g.O.Sink.written sink) (g.I.Source.faults c.args.source.now)
-    (g.O.Sink.faults sink))
-    (outside (g.I.Source.left c.read_base.new.source) (g.O.Sink.written sink) (g.I.Source.faults c.read_base.new.source) (g.O.Sink.faults sink))
-    (g.O.Sink.room_left sink) (g.O.Sink.room_left sink) e) (sym c.fault_end.ensures)
-    (c.in-Err.ensures rules is_new (g.O.Sink.written sink) (g.O.Sink.faults sink) (g.O.Sink.room_left sink))
+    let state = outside_state g.I.Source.left g.I.Source.faults g.O.Sink.written g.O.Sink.faults g.O.Sink.room_left in
+    subst (λ e. Ran rules (state c.args.source.now sink) (state c.read_base.new.source sink) e) (sym c.fault_end.ensures)
+    (c.in-Err.ensures rules is_new (sink_state g.O.Sink.written g.O.Sink.faults g.O.Sink.room_left sink))
 
 pub open-requires-clause-short : goal.open-requires-clause-short
 open-requires-clause-short g c =
@@ -69,7 +68,7 @@ returns-in-Err-Refused g c =
     let line = c.read_base.new.buffer.items in
     let refused = subst (λ e. Opens s rules line c.open.new.base.items g.A.Answers.stands_at (Err e)) c.in-Err-Refused.field-0-is
     c.in-Err-Refused.ensures in
-    refuses rules line c.in-Err-Refused.words.now (refusal_is s rules begins line ∙ refused) _ _ _ _ _ _ _ _ _ _ c.read_base.new.reader _ n.0 n.2
+    refuses rules line c.in-Err-Refused.words.now (refusal_is s rules begins line ∙ refused) _ _ _ _ _ _ c.read_base.new.reader _ n.0 n.2
     c.refuse_base.ensures.refuses c.refuse_base.ensures.room
 
 pub returns : goal.returns
@@ -81,4 +80,4 @@ returns g c =
     let n = c.in-Ok.ensures rules is_new in
     let takes = subst (λ e. Opens s rules c.read_base.new.buffer.items c.open.new.base.items g.A.Answers.stands_at (Err e))
     c.in-Err-Memory.field-0-is c.in-Err-Memory.ensures in
-    ends_in_memory rules _ _ _ _ _ _ _ takes n.2
+    ends_in_memory rules _ _ _ _ _ takes n.2
