@@ -75,7 +75,8 @@ not_sink Source h = cc h
 not_sink FaultLineTooLong h = cc h
 not_sink FaultInputTooLong h = cc h
 
-pub start_lines : (stands_at : Answering → Type 0) (start : Answering) (reader : LineState) (left : Option (List ℕ)) (so : ℕ) (ko k : SinkState)
+pub start_lines : (stands_at : Answering → Type 0) (start : Answering) (reader : LineState) (left : Option (List ℕ)) (so : ℕ)
+    (ko k : SinkState)
     → stands_at start → start.between ≡ [] → IsGoing start.rules reader → k.written ≡ ko.written → k.faults ≡ ko.faults
     → KeepsRoom ko.room_left k.room_left [] (Unit {0}) → Goes stands_at start reader reader left left so so ko k true
 start_lines stands_at start reader left so ko k at none is kept same room = record {
@@ -123,7 +124,8 @@ module _ (stands_at : Answering → Type 0) (start : Answering) (reader0 old new
             ∙ sym (one_more_good start.rules start.base taken go.between new.line);
         source_later = omega (arith, go.source_later, a.later);
         sink_same = q.puts.1 ∙ go.sink_same;
-        room = subst (λ (t : List ℕ). KeepsRoom ko.room_left kn.room_left t (Unit {0})) (sym (one_more start.rules start.base taken go.between new.line))
+        room = subst (λ (t : List ℕ). KeepsRoom ko.room_left kn.room_left t (Unit {0}))
+            (sym (one_more start.rules start.base taken go.between new.line))
             (room-then go.room (room-so (λ _. tt) q.room));
       }
 
@@ -153,7 +155,8 @@ module _ (stands_at : Answering → Type 0) (start : Answering) (reader0 old new
             (reads_line start.rules before lm ln sm sn old new (start.base ∷ go.between) go.going (go.read before first) a) x told in
             (h.0, h.1 ∙ ap (λ (t : List ℕ). t ++ h.0) (one_more start.rules start.base taken go.between new.line))
 
-        room_of : (e : AnswerError) → KeepsRoom km.room_left kn.room_left (start.rules.answer start.base go.between new.line) (NotSink (Err e)) → (x : List ℕ)
+        room_of : (e : AnswerError) → KeepsRoom km.room_left kn.room_left (start.rules.answer start.base go.between new.line)
+            (NotSink (Err e)) → (x : List ℕ)
             → before ≡ Some x
             → KeepsRoom ko.room_left kn.room_left (ending start.rules x).output (end_of_error e ≢ SinkFailed)
         room_of e k x told =
@@ -166,7 +169,8 @@ module _ (stands_at : Answering → Type 0) (start : Answering) (reader0 old new
             goes AnswerMemory n = λ h. cc h
 
         by_error : (e : AnswerError) → PutsAnswer start.rules km kn (start.rules.answer start.base go.between new.line) (Err e)
-            → KeepsRoom km.room_left kn.room_left (start.rules.answer start.base go.between new.line) (NotSink (Err e)) → Ends kn (end_of_error e)
+            → KeepsRoom km.room_left kn.room_left (start.rules.answer start.base go.between new.line) (NotSink (Err e))
+            → Ends kn (end_of_error e)
         by_error AnswerFailed q k = record {
           to = omega (arith, q.1, go.sink_same);
           prefix = λ x told. let h = output x told in
@@ -186,7 +190,8 @@ module _ (stands_at : Answering → Type 0) (start : Answering) (reader0 old new
           };
           prefix = λ x told.
               let h = output x told in
-              subst (AppendsPrefix ko.written kn.written) (sym (h.1 ∙ append_assoc out (start.rules.answer start.base go.between new.line) h.0))
+              subst (AppendsPrefix ko.written kn.written) (sym (h.1 ∙ append_assoc out
+                  (start.rules.answer start.base go.between new.line) h.0))
               (prefix-longer (start.rules.answer start.base go.between new.line ++ h.0)
               (whole_prefix (subst (λ (w : Option (List ℕ)). Appends ko.written w out) (sym q.1) go.writes)));
           source_later = omega (arith, earlier, go.source_later, a.later);
@@ -197,7 +202,8 @@ module _ (stands_at : Answering → Type 0) (start : Answering) (reader0 old new
     -- There is no further line.
     pub finishes : (kn : SinkState) (end : End) → Advances old new lm ln sm sn (Ok false)
         → ((at : Answering) → stands_at at → ClosesRun km kn good (at.rules.closing at.base at.between) end)
-        → ((at : Answering) → stands_at at → KeepsRoom km.room_left kn.room_left (at.rules.closing at.base at.between) (end ≢ SinkFailed)) → Ends kn end
+        → ((at : Answering) → stands_at at → KeepsRoom km.room_left kn.room_left (at.rules.closing at.base at.between) (end ≢ SinkFailed))
+        → Ends kn end
     finishes kn end a p k = by_end end (p (record start { between = go.between }) go.at)
         (k (record start { between = go.between }) go.at)
       where
@@ -221,9 +227,11 @@ module _ (stands_at : Answering → Type 0) (start : Answering) (reader0 old new
             → AppendsPrefix ko.written kn.written (ending start.rules x).output
         prefix_of f x told = subst (AppendsPrefix ko.written kn.written) (sym (output x told)) f
 
-        room_of : (e : End) → KeepsRoom km.room_left kn.room_left (start.rules.closing start.base go.between) (e ≢ SinkFailed) → (x : List ℕ) → before ≡ Some x
+        room_of : (e : End) → KeepsRoom km.room_left kn.room_left (start.rules.closing start.base go.between) (e ≢ SinkFailed)
+            → (x : List ℕ) → before ≡ Some x
             → KeepsRoom ko.room_left kn.room_left (ending start.rules x).output (e ≢ SinkFailed)
-        room_of e f x told = subst (λ (t : List ℕ). KeepsRoom ko.room_left kn.room_left t (e ≢ SinkFailed)) (sym (output x told)) (room-then go.room f)
+        room_of e f x told = subst (λ (t : List ℕ). KeepsRoom ko.room_left kn.room_left t (e ≢ SinkFailed)) (sym (output x told))
+            (room-then go.room f)
 
         finished : (b : Bool) → good ≡ b → Appends km.written kn.written (start.rules.closing start.base go.between) → kn.faults ≡ km.faults
             → Finishes start.rules (if b then 0 else 1) (outside before faults ko) (outside ln sn kn)
@@ -239,7 +247,8 @@ module _ (stands_at : Answering → Type 0) (start : Answering) (reader0 old new
 
         put_whole : Appends km.written kn.written (start.rules.closing start.base go.between)
             → AppendsPrefix ko.written kn.written (out ++ start.rules.closing start.base go.between)
-        put_whole put = whole_prefix (Appends-append ko.written km.written kn.written out (start.rules.closing start.base go.between) go.writes put)
+        put_whole put = whole_prefix (Appends-append ko.written km.written kn.written out
+            (start.rules.closing start.base go.between) go.writes put)
 
         source : faults ≤ sn
         source = omega (arith, earlier, go.source_later, a.later)
@@ -283,7 +292,8 @@ module _ (stands_at : Answering → Type 0) (start : Answering) (reader0 old new
       room = room_of;
     })
       where
-        room_of : (x : List ℕ) → before ≡ Some x → KeepsRoom ko.room_left km.room_left (ending start.rules x).output (end_at fault ≢ SinkFailed)
+        room_of : (x : List ℕ) → before ≡ Some x → KeepsRoom ko.room_left km.room_left (ending start.rules x).output
+            (end_at fault ≢ SinkFailed)
         room_of x told =
             let h = first_read start.rules start.base taken before lm old go.between (go.read before first) x told in
             subst (λ (t : List ℕ). KeepsRoom ko.room_left km.room_left t (end_at fault ≢ SinkFailed)) (sym h.1)

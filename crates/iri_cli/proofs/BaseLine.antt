@@ -81,7 +81,8 @@ module _ (rules : Rules) where
           taken = r.taken;
           takes = r.takes;
           ends = λ more. ap (λ (e : Ending). e.status) (ends_past_none rules status lo ln r more);
-          writes = λ more. subst (Appends sink.written sink.written) (sym (ap (λ (e : Ending). e.output) (ends_past_none rules status lo ln r more)))
+          writes = λ more. subst (Appends sink.written sink.written) (sym
+              (ap (λ (e : Ending). e.output) (ends_past_none rules status lo ln r more)))
               (Appends-none sink.written);
           sink = refl;
         }
@@ -92,7 +93,8 @@ module _ (rules : Rules) where
           takes = r.takes;
           passes = r.passes;
           base_taken = subst (IsBaseTaken rules) (sym r.ended) tt;
-          writes = subst (λ (t : List (List ℕ)). Appends sink.written sink.written (answered rules t)) (sym r.ended) (Appends-none sink.written);
+          writes = subst (λ (t : List (List ℕ)). Appends sink.written sink.written (answered rules t)) (sym r.ended)
+              (Appends-none sink.written);
           source = rose;
           sink = refl;
         }
@@ -174,7 +176,8 @@ module _ (rules : Rules) where
             (λ e. ap (λ (n : Ending). n.output) (ap (ending rules) (taken_is lo ln x e.taken told e.takes e.at_end) ∙ e.ends))
             ends
 
-        prefix_of : AppendsPrefix ko.written kn.written (base_line words) → (x : List ℕ) → lo ≡ Some x → AppendsPrefix ko.written kn.written (ending rules x).output
+        prefix_of : AppendsPrefix ko.written kn.written (base_line words) → (x : List ℕ) → lo ≡ Some x
+            → AppendsPrefix ko.written kn.written (ending rules x).output
         prefix_of f x told = subst (AppendsPrefix ko.written kn.written) (sym (output x told)) f
 
         room_of : (e : End) → KeepsRoom ko.room_left kn.room_left (base_line words) (e ≢ SinkFailed) → (x : List ℕ) → lo ≡ Some x

@@ -88,8 +88,10 @@ pub on_ok : {X : Type 0} (r : Result Bool AnswerError) → X → OnOk r X
 on_ok (Ok x) h = h
 on_ok (Err x) h = tt
 
-pub answers_line : (s : Tests) (m : CanonMode) (base line : List ℕ) (output new : ℕ) (at : Answering) (ko kn : SinkState) (r : Result Bool AnswerError) → IsCanonAt s m base output at → output ≤ new → PutsLine ko kn (answer_in s m base line) r
-    → KeepsRoom ko.room_left kn.room_left (answer_in s m base line) (r ≢ Err SinkFailed) → AnswersLine (IsCanonAt s m base new) at line ko kn r
+pub answers_line : (s : Tests) (m : CanonMode) (base line : List ℕ) (output new : ℕ) (at : Answering) (ko kn : SinkState)
+    (r : Result Bool AnswerError) → IsCanonAt s m base output at → output ≤ new → PutsLine ko kn (answer_in s m base line) r
+    → KeepsRoom ko.room_left kn.room_left (answer_in s m base line) (r ≢ Err SinkFailed)
+    → AnswersLine (IsCanonAt s m base new) at line ko kn r
 answers_line s m base line output new at ko kn r is grows p room =
     let e : answer_in s m base line ≡ at.rules.answer at.base at.between line =
     is.same line ∙ ap (λ (rules : Rules). rules.answer at.base at.between line) (sym is.rules) in

@@ -37,7 +37,8 @@ bad Nested = refl
 bad Memory = refl
 
 -- one line more
-pub answers_docs : (s : Tests) (base expansion after : List ℕ) (output grown : ℕ) (at : Answering) (line : List ℕ) (ko kn : SinkState) (r : Result Bool AnswerError) → IsDocsAt s base expansion output at → length after ≡ length expansion
+pub answers_docs : (s : Tests) (base expansion after : List ℕ) (output grown : ℕ) (at : Answering) (line : List ℕ) (ko kn : SinkState)
+    (r : Result Bool AnswerError) → IsDocsAt s base expansion output at → length after ≡ length expansion
     → output ≤ grown → AnswersLine (IsStatelessAt docs_answer s base) at line ko kn r
     → AnswersLine (IsDocsAt s base after grown) at line ko kn r
 answers_docs s base expansion after output grown at line ko kn r is same grows a =

@@ -168,7 +168,8 @@ next_at s against kept new answered count at line is counted base entries = reco
   counted = let size = length-append at.between (line ∷ []) in omega (arith, counted, is.counted, size);
 }
 
-pub answers_line : (s : Tests) (against : List ℕ) (kept new : Kept) (answered count : ℕ) (at : Answering) (line text : List ℕ) (ko kn : SinkState) (good : Bool) (r : Result (Unit {0}) Failed) → IsRegisterAt s against kept answered at
+pub answers_line : (s : Tests) (against : List ℕ) (kept new : Kept) (answered count : ℕ) (at : Answering) (line text : List ℕ)
+    (ko kn : SinkState) (good : Bool) (r : Result (Unit {0}) Failed) → IsRegisterAt s against kept answered at
     → count ≡ answered + 1 → new.base ≡ kept.base
     → new.entries ≡ obeyed_by kept.entries (command_of s kept.base (answered + 2) (line_of line))
     → text ≡ answer_to s kept.base kept.entries (line_of line) → good ≡ is_not_bad text → PutsAll ko kn r text

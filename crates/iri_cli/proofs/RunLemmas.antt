@@ -182,7 +182,8 @@ closed rules lo ln so sn ko km kn end last r c = ⊎_elim same broken c.ends
         let k = r.room x told in
         record {
           holds = λ h failed. k.holds h (sym ((c.room).holds
-              (k.left 0 (room-less ko.room_left (length (ending rules x).output) (length (ending rules x).output + 0) (omega arith) h))) ∙ failed);
+              (k.left 0 (room-less ko.room_left (length (ending rules x).output) (length (ending rules x).output + 0) (omega arith) h)))
+              ∙ failed);
           left = λ more h. (c.room).left more (room-less km.room_left more (0 + more) (omega arith) (k.left more h));
         }
 
@@ -194,7 +195,8 @@ closed rules lo ln so sn ko km kn end last r c = ⊎_elim same broken c.ends
 
     finishes : kn.faults ≡ km.faults → (n : ℕ) → Finishes rules n (outside lo so ko) (outside ln sn km)
         → Finishes rules n (outside lo so ko) (outside ln sn kn)
-    finishes k n p = record { taken = p.taken; takes = p.takes; at_end = p.at_end; ends = p.ends; writes = writes _ p.writes; sink = k ∙ p.sink }
+    finishes k n p =
+        record { taken = p.taken; takes = p.takes; at_end = p.at_end; ends = p.ends; writes = writes _ p.writes; sink = k ∙ p.sink }
 
     decides : kn.faults ≡ km.faults → (n : ℕ) → Decides rules n (outside lo so ko) (outside ln sn km)
         → Decides rules n (outside lo so ko) (outside ln sn kn)

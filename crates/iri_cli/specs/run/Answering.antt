@@ -52,7 +52,8 @@ ClosesRun old new good text SinkFailed =
 ClosesRun old new good text end = ⊥
 
 -- A line was answered, and is then one of those between. A sink that is known to have room for the answer didn't fail.
-pub record AnswersLine (is_new : Answering → Type 0) (at : Answering) (line : List ℕ) (old new : SinkState) (result : Result Bool AnswerError)
+pub record AnswersLine (is_new : Answering → Type 0) (at : Answering) (line : List ℕ) (old new : SinkState)
+    (result : Result Bool AnswerError)
     : Type 0 where
   pub puts : PutsAnswer at.rules old new (at.rules.answer at.base at.between line) result
   pub next : OnOk result (is_new (record at { between = at.between ++ line ∷ [] }))

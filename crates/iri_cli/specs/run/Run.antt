@@ -18,7 +18,8 @@ abbrev pub outside : Option (List ℕ) → ℕ → SinkState → Outside
 outside left source_faults sink = record { left = left; source_faults = source_faults; sink = sink }
 
 -- the same of a source and a sink, by the members of their traits
-abbrev pub outside_state : {X Y : Type 0} → (X → Option (List ℕ)) → (X → ℕ) → (Y → Option (List ℕ)) → (Y → ℕ) → (Y → Option ℕ) → X → Y → Outside
+abbrev pub outside_state : {X Y : Type 0} → (X → Option (List ℕ)) → (X → ℕ)
+    → (Y → Option (List ℕ)) → (Y → ℕ) → (Y → Option ℕ) → X → Y → Outside
 outside_state left source_faults written sink_faults room_left source sink =
     outside (left source) (source_faults source) (sink_state written sink_faults room_left sink)
 
@@ -77,7 +78,8 @@ module _ (rules : Rules) where
     pub prefix : (input : List ℕ) → old.left ≡ Some input → AppendsPrefix old.sink.written new.sink.written (ending rules input).output
     pub source_later : old.source_faults ≤ new.source_faults
     pub sink_later : old.sink.faults ≤ new.sink.faults
-    pub room : (input : List ℕ) → old.left ≡ Some input → KeepsRoom old.sink.room_left new.sink.room_left (ending rules input).output (end ≢ SinkFailed)
+    pub room : (input : List ℕ) → old.left ≡ Some input → KeepsRoom old.sink.room_left new.sink.room_left (ending rules input).output
+        (end ≢ SinkFailed)
 
 -- the status of an end
 abbrev pub status_of : End → ℕ
@@ -117,7 +119,8 @@ pub record Runs (rules : Rules) (old new : Outside) (status : ℕ) : Type 0 wher
       → ¬ (Rose old.sink.faults new.sink.faults)
       → (status ≡ (ending rules input).status) ⊎ ((status ≡ 6) × (rules.takes_memory ≡ true))
   -- 5 never comes where the source tells its bytes and the sink is known to have room for the output of their ending
-  pub room : (input : List ℕ) → old.left ≡ Some input → KeepsRoom old.sink.room_left new.sink.room_left (ending rules input).output (status ≢ 5)
+  pub room : (input : List ℕ) → old.left ≡ Some input → KeepsRoom old.sink.room_left new.sink.room_left (ending rules input).output
+      (status ≢ 5)
   -- where the source doesn't fail either, status and output are those of that ending, or allocation failed
   pub completes_in_room : (input : List ℕ) → old.left ≡ Some input → ¬ (Rose old.source_faults new.source_faults)
       → HasRoom old.sink.room_left (length (ending rules input).output)

@@ -14,7 +14,8 @@ returns-in-Ok g c = λ at is.
     let state = sink_state g.O.Sink.written g.O.Sink.faults g.O.Sink.room_left in
     let self = c.args.self.now in
     answers_nothing g.S.Spec.tests (base_text c.args.resolver.now) self.expansion.items (vec_capacity self.output) (value_in self.values) at is c.args.line.now
-    (changes (change_of c.in-Changes.change)) (sym (c.in-Changes.ensures {u = tt})) (state c.args.sink.now) refl (value_in c.apply.new.values) (c.in-Ok.ensures {u = tt})
+    (changes (change_of c.in-Changes.change)) (sym (c.in-Changes.ensures {u = tt})) (state c.args.sink.now) refl
+    (value_in c.apply.new.values) (c.in-Ok.ensures {u = tt})
 
 pub returns-in-Err : goal.returns-in-Err
 returns-in-Err g c = λ at is.
@@ -33,7 +34,8 @@ returns-in-Expands g c = λ at is.
     let template = c.in-Expands.template.now in
     let expansion = with_items self.expansion c.put_template.new.expansion in
     answers_text s base self.expansion.items (vec_capacity self.output) values at is c.args.line.now (expands template)
-    (sym (c.in-Expands.ensures {u = tt})) (state c.args.sink.now) (state c.put_template.new.sink) expansion.items (vec_capacity c.put_template.new.output) c.put_template.result (sym expansion.ok.0 ∙ self.expansion.ok.0)
+    (sym (c.in-Expands.ensures {u = tt})) (state c.args.sink.now) (state c.put_template.new.sink) expansion.items
+    (vec_capacity c.put_template.new.output) c.put_template.result (sym expansion.ok.0 ∙ self.expansion.ok.0)
     c.put_template.ensures.capacity refl (template_good s base values template) c.put_template.ensures.puts c.put_template.ensures.room
 
 pub returns-in-Bad : goal.returns-in-Bad
@@ -43,4 +45,5 @@ returns-in-Bad g c = λ at is.
     let puts = told_line false c.put_bad_line.result bad_line bad_line c.told.result c.told.ensures refl refl c.put_bad_line.ensures in
     let room = told_room false c.put_bad_line.result bad_line bad_line c.told.result c.told.ensures refl c.put_bad_line.ensures in
     answers_text g.S.Spec.tests (base_text c.args.resolver.now) self.expansion.items (vec_capacity self.output) (value_in self.values) at is c.args.line.now bad
-    (sym (c.in-Bad.ensures {u = tt})) (state c.args.sink.now) (state c.put_bad_line.new.sink) self.expansion.items (vec_capacity self.output) c.told.result refl (omega arith) refl refl puts room
+    (sym (c.in-Bad.ensures {u = tt})) (state c.args.sink.now) (state c.put_bad_line.new.sink) self.expansion.items
+    (vec_capacity self.output) c.told.result refl (omega arith) refl refl puts room
