@@ -1,5 +1,5 @@
 // The answers of `canon`.
-ghost use Rattle.std.specs.Prelude.{◌≡◌, ◌≢◌, ◌≤◌, ◌+◌, [], ◌∷◌, ◌++◌, None, Some, Err, codes, length, take, MatchResult};
+ghost use Rattle.std.specs.Prelude.{◌≡◌, ◌≢◌, ◌≤◌, ◌+◌, [], ◌∷◌, ◌++◌, None, Some, Err, codes, length, MatchResult};
 ghost use Rattle.std.specs.Vec.{vec_capacity};
 ghost use Rattle.iri_text.specs.Sink.{PutsAll, KeepsRoom, sink_state};
 ghost use Rattle.iri_types.specs.SplitText.{split_text};
@@ -20,7 +20,6 @@ use crate::run::answers::{AnswerError, Answers, BaseError};
 use crate::run::buffers::room_for;
 use crate::run::puts::{put_bad, told};
 use iri_grammar::spec::Spec;
-use iri_normal::Before;
 use iri_normal::canonical::show_canonical_in;
 use iri_normal::mode::CanonMode;
 use iri_normal::resolver::FixedBaseResolver;
@@ -72,9 +71,8 @@ fn fill<'a, S: Spec>(
     }
 }
 
-// Puts the text that was shown to a buffer with room for it: the answer to an accepted reference, in one piece.
-#[inline(never)]
-fn put_shown<'a, S: Spec, O: Sink>(
+// The answer to an accepted reference, in one piece: a put costs more than the copy of it.
+fn put_good<'a, S: Spec, O: Sink>(
     sink: &mut O,
     output: &mut [u8],
     mode: CanonMode,
@@ -91,66 +89,6 @@ fn put_shown<'a, S: Spec, O: Sink>(
     let mut line = SliceSink::new(output);
     fill(&mut line, mode, resolver, reference);
     sink.put_all(line.as_str().as_bytes())
-}
-
-// Writes a piece after the bytes of a buffer that are used, and says how many are used then. Some are empty.
-#[inline(always)]
-fn append(output: &mut [u8], used: usize, piece: &str) -> usize
-    requires room { used + length piece.now ≤ length output.old }
-    ensures used { result ≡ used + length piece.now }
-    ensures text { take result output.new ≡ take used output.old ++ piece.now }
-{
-    if piece.is_empty() {
-        return used;
-    }
-    let end = used + piece.len();
-    output[used..end].copy_from_slice(piece.as_bytes());
-    end
-}
-
-// Writes the answer whose text is a text after these pieces, and says how many bytes it has.
-#[inline(always)]
-fn write_unchanged(output: &mut [u8], before: Before<'_>, text: &str) -> usize
-    requires room { length (before.prefix.now ++ (before.directory.now ++ text.now)) + 4 ≤ length output.old }
-    ensures within { result ≤ length output.new }
-    ensures text { take result output.new ≡ codes "ok "
-        ++ ((before.entry.prefix.now ++ (before.entry.directory.now ++ text.now)) ++ line_feed ∷ []) }
-{
-    let used = append(output, 0, "ok ");
-    let used = append(output, used, before.prefix);
-    let used = append(output, used, before.directory);
-    let used = append(output, used, text);
-    append(output, used, "\n")
-}
-
-// The answer to an accepted reference, in one piece: a put costs more than the copy of it. One whose text is only put after
-// others goes without a sink's tests: web's lines take an instruction a byte fewer than by `put_shown` alone.
-#[inline(always)]
-fn put_good<'a, S: Spec, O: Sink>(
-    sink: &mut O,
-    output: &mut [u8],
-    mode: CanonMode,
-    resolver: &FixedBaseResolver<'a, S>,
-    reference: &SplitView<'a, S, Reference>,
-) -> Result<(), Failed>
-    requires { length (canonical_in S.tests mode (base_text resolver.now) (split_text reference.now)) + 4
-        ≤ length output.old }
-    ensures { let state = sink_state O.written O.faults O.room_left in
-        PutsAll (state sink.old) (state sink.new) result
-        (codes "ok " ++ (canonical_in S.tests mode (base_text resolver.now)
-        (split_text reference.now) ++ line_feed ∷ [])) }
-{
-    match resolver.before_text(mode, reference) {
-        Some(before) => {
-            let used = write_unchanged(output, before, reference.view().as_str());
-            sink.put_all(&output[..used])
-        }
-        None => {
-            // The call gets a copy: the parts themselves can stay in registers.
-            let reference = *reference;
-            put_shown(sink, output, mode, resolver, &reference)
-        }
-    }
 }
 
 /// Puts the answer to a line by the rules of a mode, and says whether it is good.

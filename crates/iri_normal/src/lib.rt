@@ -63,4 +63,3 @@ pub use merged_path::MergedPath;
 pub use path_writer::show_guarded;
 pub use prefix::NormalPrefix;
 pub use target::{TargetSlices, cut_last_segment};
-pub use unchanged::Before;

@@ -6,7 +6,6 @@ ghost use Rattle.iri_grammar.specs.Splitters.{parts};
 ghost use Rattle.iri_grammar.specs.OptionalSlices.{now_of};
 ghost use Rattle.iri_types.specs.SplitText.{split_text};
 ghost use Rattle.iri_types.specs.Texts.{text, text_of};
-ghost use Rattle.iri_normal.specs.NormalForm.{canonical, canonical_in};
 ghost use Rattle.iri_normal.specs.Prefix.{IsPrefix, prefix_in};
 ghost use Rattle.iri_normal.specs.inside.Unchanged.{EndsCanonical, StandBefore, is_plain_prefix};
 ghost use Rattle.iri_normal.specs.Slices.{slices};
@@ -14,12 +13,12 @@ ghost use Rattle.iri_normal.specs.Target.{ends_at_slash, merge_prefix, target, t
 ghost use Rattle.std.proofs.Props.{props};
 ghost use Rattle.iri_normal.specs.declared.mode.Mode.TheVariants.{Plain};
 
-use crate::mode::{CanonMode, Mode};
+use crate::mode::Mode;
 use crate::normalized::{Normalized, NormalizedText};
 use crate::owned_target::Target;
 use crate::prefix::normal_prefix;
 use crate::target::{TargetSlices, merge_prefix, starts_with_slash, takes_base_path, target};
-use crate::unchanged::{Before, keeps_prefix, lacks_triplets, lacks_triplets_and_dots};
+use crate::unchanged::{Before, keeps_prefix, lacks_triplets_and_dots};
 use iri_grammar::spec::Spec;
 use iri_grammar::splitter::Splitter;
 use iri_types::kind::{Absolute, Reference};
@@ -220,46 +219,6 @@ impl<'a, S: Spec> FixedBaseResolver<'a, S> {
             None
         } else {
             self.before(parts)
-        }
-    }
-
-    // The same where no percent-encoded octet is after the reference's authority either.
-    fn before_bare(&self, reference: &SplitView<'a, S, Reference>) -> Option<Before<'a>>
-        ensures { MatchOption result (Unit {0}) (λ b. canonical S.tests (base_text self.now) (split_text reference.now)
-            ≡ b.prefix.now ++ (b.directory.now ++ split_text reference.now)) }
-    {
-        if lacks_triplets(reference.parts()) {
-            self.before_unchanged(reference)
-        } else {
-            None
-        }
-    }
-
-    /// What comes before a reference in its canonical text by the rules of a mode, where the reference's own text follows as
-    /// it is. `None` says nothing: a text may stay as it is all the same.
-    ///
-    /// ```
-    /// use iri::normalize::CanonMode;
-    /// use iri::resolve::FixedBaseResolver;
-    /// use iri::types::{SplitView, UriAbsoluteStr};
-    /// let page = FixedBaseResolver::new(UriAbsoluteStr::new("http://a/b/c/d;p?q")?);
-    /// let before = page.before_text(CanonMode::Default, &SplitView::new("g?y")?).ok_or("it stays")?;
-    /// assert_eq!(rt; before.prefix, "http://a");
-    /// assert_eq!(rt; before.directory, "/b/c/");
-    /// assert!(rt; page.before_text(CanonMode::Default, &SplitView::new("../g")?).is_none());
-    /// ```
-    #[inline(always)]
-    pub fn before_text(
-        &self,
-        mode: CanonMode,
-        reference: &SplitView<'a, S, Reference>,
-    ) -> Option<Before<'a>>
-        ensures { MatchOption result (Unit {0}) (λ b. canonical_in S.tests mode (base_text self.now) (split_text reference.now)
-            ≡ b.prefix.now ++ (b.directory.now ++ split_text reference.now)) }
-    {
-        match mode {
-            CanonMode::Default => self.before_bare(reference),
-            CanonMode::Scheme => None,
         }
     }
 

@@ -22,12 +22,10 @@ use iri_text::{Show, Stop, TextSink};
 use iri_types::kind::Reference;
 use iri_types::split::SplitView;
 
-/// What comes before such a reference in its canonical text. One or both are often empty.
-#[derive(Clone, Copy, Debug)]
-pub struct Before<'a> {
-    /// Scheme and authority of the base, in normal form.
+// What comes before such a reference: the prefix of the base and the path that relative ones are put after, or nothing.
+#[derive(Clone, Copy)]
+pub(crate) struct Before<'a> {
     pub prefix: &'a str,
-    /// The path of the base that relative ones are put after.
     pub directory: &'a str,
 }
 

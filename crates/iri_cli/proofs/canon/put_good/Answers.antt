@@ -1,6 +1,6 @@
 use Rattle.std.proofs.Common.{◌∙◌, subst}
 use Rattle.iri_text.specs.Sink.{PutsAll, sink_state}
-use Rattle.iri_cli.proofs.canon.put_shown.Goals as goal
+use Rattle.iri_cli.proofs.canon.put_good.Goals as goal
 
 pub returns : goal.returns
 returns g c =
