@@ -191,7 +191,7 @@ module _ (stands_at : Answering → Type 0) (start : Answering) (reader0 old new
           prefix = λ x told.
               let h = output x told in
               subst (AppendsPrefix ko.written kn.written) (sym (h.1 ∙ append_assoc out
-                  (start.rules.answer start.base go.between new.line) h.0))
+              (start.rules.answer start.base go.between new.line) h.0))
               (prefix-longer (start.rules.answer start.base go.between new.line ++ h.0)
               (whole_prefix (subst (λ (w : Option (List ℕ)). Appends ko.written w out) (sym q.1) go.writes)));
           source_later = omega (arith, earlier, go.source_later, a.later);

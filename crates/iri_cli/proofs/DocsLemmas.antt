@@ -1,5 +1,5 @@
 -- The answers of `docs`.
-use Rattle.std.proofs.Common.{◌≡◌, ◌≤◌, ◌∙◌, ℕ, Bool, false, List, [], ◌∷◌, ◌++◌, length, Option, None, Result, Ok, Err, refl, sym, ap, arith}
+use Rattle.std.proofs.Common.{◌≡◌, ◌≤◌, ◌∙◌, ℕ, Bool, false, List, [], ◌∷◌, ◌++◌, length, None, Result, Ok, Err, refl, sym, ap, arith}
 use Rattle.std.specs.Prelude.{OnOk}
 use Rattle.iri_grammar.specs.Classes.{Tests}
 use Rattle.iri_docs.specs.Documents.{line_document}

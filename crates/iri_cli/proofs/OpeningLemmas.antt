@@ -22,8 +22,14 @@ use Rattle.iri_cli.proofs.BytesLemmas.{refused_none}
 pub ends_in_memory : (rules : Rules) (lo ln : Option (List ℕ)) (fo fn : ℕ) (ko : SinkState) → rules.takes_memory ≡ true → fo ≤ fn
     → Ran rules (outside lo fo ko) (outside ln fn ko) Memory
 ends_in_memory rules lo ln fo fn ko takes later = record {
-  to = record { takes_memory = takes; whole = []; first = λ x told. (_, refl); base_taken = tt; writes = Appends-none ko.written;
-      sink = refl };
+  to = record {
+    takes_memory = takes;
+    whole = [];
+    first = λ x told. (_, refl);
+    base_taken = tt;
+    writes = Appends-none ko.written;
+    sink = refl;
+  };
   prefix = λ x told. record { prefix = []; rest = (ending rules x).output; split = refl; appended = Appends-none ko.written };
   source_later = later;
   sink_later = omega arith;

@@ -1,5 +1,5 @@
 -- The answers of commands that answer each line alone.
-use Rattle.std.proofs.Common.{◌≡◌, ◌≢◌, ◌∙◌, ℕ, Bool, List, [], ◌∷◌, ◌++◌, Option, Result, Err, refl, sym, ap, subst}
+use Rattle.std.proofs.Common.{◌≡◌, ◌≢◌, ◌∙◌, ℕ, Bool, List, [], ◌∷◌, ◌++◌, Result, Err, refl, sym, ap, subst}
 use Rattle.iri_grammar.specs.Classes.{Tests}
 use Rattle.iri_text.specs.Sink.{KeepsRoom, SinkState}
 use Rattle.iri_text.proofs.Puts.{room-same}

@@ -1,5 +1,5 @@
 -- Where `robots` stands after lines, and what its answers do to a sink.
-use Rattle.std.specs.Prelude.{◌≡◌, ◌≢◌, ℕ, Bool, List, Option, Result, Ok, Err}
+use Rattle.std.specs.Prelude.{◌≡◌, ◌≢◌, ℕ, Bool, List, Result, Ok, Err}
 use Rattle.iri_grammar.specs.Classes.{Tests}
 use Rattle.iri_robots.specs.Records.{FileRecord}
 use Rattle.iri_text.specs.Sink.{Appends, KeepsRoom, SinkState}

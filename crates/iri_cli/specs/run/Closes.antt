@@ -1,5 +1,5 @@
 -- How a run ends once its sink is flushed.
-use Rattle.std.specs.Prelude.{◌≡◌, ◌⊎◌, ◌≤◌, ℕ, List, [], Option}
+use Rattle.std.specs.Prelude.{◌≡◌, ◌⊎◌, ◌≤◌, ℕ, []}
 use Rattle.iri_text.specs.Count.{Rose}
 use Rattle.iri_text.specs.Sink.{KeepsRoom, SinkState}
 use Rattle.iri_cli.specs.run.Run.{status_of}

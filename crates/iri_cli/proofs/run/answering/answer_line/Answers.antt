@@ -22,7 +22,7 @@ returns-in-Err-flush g c = λ at is.
     let f = c.in-Err-flush.ensures in
     let before : KeepsRoom old.room_left mid.room_left answer (Unit {0}) = room-so (λ _. tt) p.room in
     let room : KeepsRoom old.room_left new.room_left (answer ++ []) (failed ≢ failed) = room-then before
-        (room-so (λ h. absurd (cc h)) f.room) in
+    (room-so (λ h. absurd (cc h)) f.room) in
     subst (λ l. AnswersLine stands_at at l old new failed) c.line.ensures (record {
       puts = (
         whole_prefix (subst (λ w. Appends old.written w answer) (sym f.kept) p.puts.0),
