@@ -1,5 +1,5 @@
 // The output buffer of dot removal: the segments that stay so far, each with its slash.
-ghost use Rattle.std.specs.Prelude.{◌≡◌, ◌<◌, ◌≤◌, ◌+◌, ◌++◌, ◌∷◌, [], ◌||◌, ◌==◌, length, take, false, true};
+ghost use Rattle.std.specs.Prelude.{◌≡◌, ◌<◌, ◌≤◌, ◌+◌, ◌++◌, ◌∷◌, ◌||◌, ◌==◌, length, take, false, true};
 ghost use Rattle.memchr.specs.Find.{IsLastByte, is_byte};
 ghost use Rattle.iri_grammar.specs.Characters.{slash};
 ghost use Rattle.iri_grammar.specs.Parts.{is_empty};
@@ -10,7 +10,6 @@ ghost use Rattle.iri_normal.specs.Target.{ends_at_slash};
 ghost use Rattle.iri_normal.specs.inside.Written.{left, popped, popped_times, written};
 
 use crate::dots::next_dots;
-use iri_grammar::dots::may_have_dots;
 
 // How many bytes a path has at most that is gathered.
 pub(crate) const SHORT: usize = 512;
@@ -20,9 +19,6 @@ fn append(buf: &mut [u8; SHORT], len: usize, piece: &[u8]) -> usize
     ensures len { result ≡ len + length piece.now }
     ensures text { take result buf.new ≡ take len buf.old ++ piece.now }
 {
-    if piece.is_empty() {
-        return len;
-    }
     let end = len + piece.len();
     buf[len..end].copy_from_slice(piece);
     end
@@ -105,19 +101,6 @@ fn pop_times(buf: &mut [u8; SHORT], len: usize, count: usize) -> usize
     end
 }
 
-// Puts the first piece of a path. Most come from a base, and have no dot segment.
-fn put_first(buf: &mut [u8; SHORT], base: &[u8]) -> usize
-    requires room { length base.now ≤ 512 }
-    ensures within { result ≤ length base.now }
-    ensures text { take result buf.new ≡ written [] base.now }
-{
-    if may_have_dots(base) {
-        put(buf, 0, base)
-    } else {
-        append(buf, 0, base)
-    }
-}
-
 // Puts a short path in two pieces, cut where a segment ends or with nothing after the cut, without its dot segments.
 pub(crate) fn put_path(buf: &mut [u8; SHORT], base: &[u8], reference: &[u8]) -> usize
     requires cut { (is_empty reference.now || ends_at_slash base.now) ≡ true }
@@ -125,7 +108,7 @@ pub(crate) fn put_path(buf: &mut [u8; SHORT], base: &[u8], reference: &[u8]) -> 
     ensures within { result ≤ 512 }
     ensures text { take result buf.new ≡ dots (base.now ++ reference.now) }
 {
-    let first = put_first(buf, base);
+    let first = put(buf, 0, base);
     put(buf, first, reference)
 }
 
