@@ -89,7 +89,7 @@ fn kinds_of_texts(rt: HostRuntime) {
         (3, b"/a?b#c", 0, 0),
         (4, b"a", 6, 0),
     ];
-    for (kind, text, status, fault) in rows {
+    for &(kind, text, status, fault) in &rows {
         assert!(rt; irikit_validate(0, kind, text, &mut told) == status);
         assert!(rt; told == fault);
     }
@@ -333,7 +333,7 @@ fn steps(rt: HostRuntime) {
         (1, 1, b"a:/%c3%a9", b"decode path 1\n"),
         (1, 0, b"a:/..//b", b"dot segments\n"),
     ];
-    for (grammar, mode, text, wanted) in rows {
+    for &(grammar, mode, text, wanted) in &rows {
         assert!(rt; irikit_steps(grammar, mode, text, &mut out, &mut told) == 0);
         assert!(rt; told == wanted.len() && out.starts_with(wanted));
     }

@@ -1,4 +1,5 @@
 // Lines and the documents that they are.
+use crate::same::same;
 use crate::told::{fault_of, fault_of_line};
 use iri_docs::doc_error::DocError;
 use iri_docs::document::Document;
@@ -53,23 +54,23 @@ fn values_of_each_kind(rt: HostRuntime) -> Result<(), Fail> {
     let line =
         "{\"vars\":{\"q\":\"é\",\"n\":-7,\"l\":[\"a\",2],\"o\":{\"k\":3,\"b\":\"\"},\"u\":null},\"template\":\"x{?q}\"}";
     let document = read_document(rt.alloc(), line.as_bytes())?;
-    assert_eq!(rt; document.template(), "x{?q}");
+    same(&rt, document.template(), "x{?q}");
     let context = document.context();
-    assert_eq!(rt; text_at(context, "q"), Some("é"));
-    assert_eq!(rt; text_at(context, "n"), Some("-7"));
+    same(&rt, text_at(context, "q"), Some("é"));
+    same(&rt, text_at(context, "n"), Some("-7"));
     match value_at(context, "l") {
         Some(Value::List(items)) => {
-            assert_eq!(rt; items.len(), 2);
-            assert_eq!(rt; items.get(0), Some("a"));
-            assert_eq!(rt; items.get(1), Some("2"));
+            same(&rt, items.len(), 2);
+            same(&rt, items.get(0), Some("a"));
+            same(&rt, items.get(1), Some("2"));
         }
         _ => panic!(rt; "no list"),
     }
     match value_at(context, "o") {
         Some(Value::Assoc(pairs)) => {
-            assert_eq!(rt; pairs.len(), 2);
-            assert_eq!(rt; pairs.get(0), Some(("b", "")));
-            assert_eq!(rt; pairs.get(1), Some(("k", "3")));
+            same(&rt, pairs.len(), 2);
+            same(&rt, pairs.get(0), Some(("b", "")));
+            same(&rt, pairs.get(1), Some(("k", "3")));
         }
         _ => panic!(rt; "no associative array"),
     }
@@ -88,15 +89,15 @@ fn values_in_memory(rt: HostRuntime) -> Result<(), Fail> {
         return Err(AllocError.into());
     };
     let document = document_of(rt.alloc(), &value)?;
-    assert_eq!(rt; document.template(), "{v}");
-    assert_eq!(rt; text_at(document.context(), "v"), Some("7"));
+    same(&rt, document.template(), "{v}");
+    same(&rt, text_at(document.context(), "v"), Some("7"));
     let vars = value.get("vars").ok_or("no member")?;
     let members = vars.as_object().ok_or("no object")?;
     let context = read_variables(rt.alloc(), members)?;
-    assert_eq!(rt; text_at(&context, "v"), Some("7"));
+    same(&rt, text_at(&context, "v"), Some("7"));
     let number = vars.get("v").ok_or("no member")?;
     let (name, read) = read_variable(rt.alloc(), "v", number)?;
-    assert_eq!(rt; name.as_str(), "v");
+    same(&rt, name.as_str(), "v");
     assert!(rt; matches!(&read, Value::String(text) if text.as_str() == "7"));
     let read = read_value(rt.alloc(), number)?;
     assert!(rt; matches!(&read, Value::String(text) if text.as_str() == "7"));
@@ -116,10 +117,10 @@ fn values_without_members(rt: HostRuntime) -> Result<(), Fail> {
 #[test]
 fn no_variables(rt: HostRuntime) -> Result<(), Fail> {
     let document = read_document(rt.alloc(), b"{\"template\":\"a\"}")?;
-    assert_eq!(rt; document.template(), "a");
+    same(&rt, document.template(), "a");
     assert!(rt; value_at(document.context(), "v").is_none());
     let document = read_document(rt.alloc(), b"{\"vars\":{},\"template\":\"\"}")?;
-    assert_eq!(rt; document.template(), "");
+    same(&rt, document.template(), "");
     Ok(())
 }
 
@@ -127,11 +128,11 @@ fn no_variables(rt: HostRuntime) -> Result<(), Fail> {
 #[test]
 fn keys_twice(rt: HostRuntime) -> Result<(), Fail> {
     let document = read_document(rt.alloc(), b"{\"template\":1,\"template\":\"b\"}")?;
-    assert_eq!(rt; document.template(), "b");
+    same(&rt, document.template(), "b");
     let line =
         b"{\"template\":\"\",\"vars\":[],\"vars\":{\"v\":true,\"\\u0076\":\"x\",\"w\":{\"k\":[],\"k\":1}}}";
     let document = read_document(rt.alloc(), line)?;
-    assert_eq!(rt; text_at(document.context(), "v"), Some("x"));
+    same(&rt, text_at(document.context(), "v"), Some("x"));
     assert!(rt;
         matches!(value_at(document.context(), "w"), Some(Value::Assoc(pairs)) if pairs.get(0) == Some(("k", "1")))
     );
@@ -141,7 +142,7 @@ fn keys_twice(rt: HostRuntime) -> Result<(), Fail> {
 // What `serde_json` holds as a whole number: from -2^63 to 2^64 - 1, without a point, an exponent, or a minus before 0.
 #[test]
 fn numbers_at_their_borders(rt: HostRuntime) -> Result<(), Fail> {
-    for number in [
+    for &number in &[
         "0",
         "7",
         "-1",
@@ -153,7 +154,7 @@ fn numbers_at_their_borders(rt: HostRuntime) -> Result<(), Fail> {
     ] {
         assert!(rt; is_text(rt.alloc(), number, number)?, "{number}");
     }
-    for number in [
+    for &number in &[
         "-0",
         "1.0",
         "1.5",
@@ -170,7 +171,7 @@ fn numbers_at_their_borders(rt: HostRuntime) -> Result<(), Fail> {
             "{number}"
         );
     }
-    for number in [
+    for &number in &[
         "1e400", "-1e400", "01", "1.", ".5", "+1", "0x1", "NaN", "Infinity",
     ] {
         assert_eq!(rt;
@@ -184,7 +185,7 @@ fn numbers_at_their_borders(rt: HostRuntime) -> Result<(), Fail> {
 
 #[test]
 fn escapes_and_surrogates(rt: HostRuntime) -> Result<(), Fail> {
-    for (value, text) in [
+    for &(value, text) in &[
         ("\"\\u00e9\\n\\/\\\"\\\\\"", "é\n/\"\\"),
         ("\"\\ud83d\\ude00\"", "😀"),
         ("\"\\u0000\"", "\0"),
@@ -192,7 +193,7 @@ fn escapes_and_surrogates(rt: HostRuntime) -> Result<(), Fail> {
     ] {
         assert!(rt; is_text(rt.alloc(), value, text)?, "{value}");
     }
-    for text in [
+    for &text in &[
         "\"\\ud83d\"",
         "\"\\ude00\\ud83d\"",
         "\"\\ud83dx\"",
@@ -214,8 +215,8 @@ fn escapes_and_surrogates(rt: HostRuntime) -> Result<(), Fail> {
 #[test]
 fn blanks_and_a_byte_order_mark(rt: HostRuntime) -> Result<(), Fail> {
     let document = read_document(rt.alloc(), b" \t\r\n{ \"template\" :\n\"a\" }\t ")?;
-    assert_eq!(rt; document.template(), "a");
-    for line in [
+    same(&rt, document.template(), "a");
+    for &line in &[
         "\u{FEFF}{\"template\":\"a\"}",
         "\u{A0}{\"template\":\"a\"}",
         "\u{C}{\"template\":\"a\"}",
@@ -252,7 +253,7 @@ fn nested(alloc: Global, start: &str, depth: usize, end: &str) -> Result<String,
 #[test]
 fn as_deep_as_is_read(rt: HostRuntime) -> Result<(), Fail> {
     let vars = "{\"template\":\"\",\"vars\":{\"v\":";
-    for (start, depth, end, error) in [
+    for &(start, depth, end, error) in &[
         ("", 127usize, "", DocError::Shape),
         ("", 128, "", DocError::Json),
         (vars, 2, "}}", DocError::Nested),

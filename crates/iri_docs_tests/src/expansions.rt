@@ -1,4 +1,5 @@
 // Documents and the canonical texts of their expansions.
+use crate::same::same;
 use iri_docs::expand::{EXPANSION_LIMIT, expand_document, expand_document_against};
 use iri_docs::expand_error::DocExpandError;
 use iri_docs::read::read_document;
@@ -91,7 +92,7 @@ fn documents_by_uris(rt: HostRuntime) -> Result<(), Fail> {
 
 #[test]
 fn documents_by_iris(rt: HostRuntime) -> Result<(), Fail> {
-    for (base, line, text) in [
+    for &(base, line, text) in &[
         (
             "http://a/b/",
             "{\"template\":\"x{?q}\",\"vars\":{\"q\":\"é\"}}",
@@ -130,8 +131,8 @@ fn long_line(alloc: Global, template: &str, count: usize) -> Result<String, Allo
 // The faults come in their order, and the limit is exact.
 #[test]
 fn long_expansions(rt: HostRuntime) -> Result<(), Fail> {
-    assert_eq!(rt; EXPANSION_LIMIT, 1048576);
-    for (template, count, words) in [
+    same(&rt, EXPANSION_LIMIT, 1048576);
+    for &(template, count, words) in &[
         (
             "1:{v}{l:3}",
             EXPANSION_LIMIT,
@@ -152,21 +153,21 @@ fn long_expansions(rt: HostRuntime) -> Result<(), Fail> {
     }
     let line = long_line(rt.alloc(), "{v}", EXPANSION_LIMIT)?;
     let answer = answer::<UriSpec>(rt.alloc(), "http://a/", line.as_str())?;
-    assert_eq!(rt; answer.len(), "http://a/".len() + EXPANSION_LIMIT);
+    same(&rt, answer.len(), "http://a/".len() + EXPANSION_LIMIT);
     Ok(())
 }
 
 #[test]
 fn words_of_an_allocation_failure(rt: HostRuntime) -> Result<(), Fail> {
     let words = DocExpandError::Memory.to_string(rt.alloc())?;
-    assert_eq!(rt; words.as_str(), "out of memory");
+    same(&rt, words.as_str(), "out of memory");
     Ok(())
 }
 
 #[test]
 fn documents_against_one_resolver(rt: HostRuntime) -> Result<(), Fail> {
     let page = FixedBaseResolver::new(RiAbsoluteStr::<UriSpec>::new("http://a/b/")?);
-    for (line, text) in [
+    for &(line, text) in &[
         ("{\"template\":\"c\"}", "http://a/b/c"),
         ("{\"template\":\"/%7E\"}", "http://a/~"),
     ] {

@@ -1,4 +1,5 @@
 // Refused lines: each fault alone, and with every later one also present.
+use crate::same::same;
 use crate::told::fault_of_line;
 use iri_docs::doc_error::DocError;
 use std::test::Fail;
@@ -72,13 +73,15 @@ fn lines_that_are_refused(rt: HostRuntime) -> Result<(), Fail> {
             "of {line}"
         );
     }
-    assert_eq!(rt;
+    same(
+        &rt,
         fault_of_line(rt.alloc(), b"{\"template\":\"\xFF\"}")?,
-        Some(DocError::Json)
+        Some(DocError::Json),
     );
-    assert_eq!(rt;
+    same(
+        &rt,
         fault_of_line(rt.alloc(), b"\xFF[1]")?,
-        Some(DocError::Json)
+        Some(DocError::Json),
     );
     for line in SHAPE.iter() {
         assert_eq!(rt;
@@ -92,7 +95,7 @@ fn lines_that_are_refused(rt: HostRuntime) -> Result<(), Fail> {
 
 #[test]
 fn variables_that_are_refused(rt: HostRuntime) -> Result<(), Fail> {
-    for (error, all) in [
+    for &(error, all) in &[
         (DocError::Name, NAME.as_slice()),
         (DocError::Truth, TRUTH.as_slice()),
         (DocError::Float, FLOAT.as_slice()),
@@ -112,7 +115,7 @@ fn variables_that_are_refused(rt: HostRuntime) -> Result<(), Fail> {
 
 #[test]
 fn words_of_faults(rt: HostRuntime) -> Result<(), Fail> {
-    for (error, words) in [
+    for &(error, words) in &[
         (DocError::Json, "bad json"),
         (DocError::Shape, "bad document"),
         (DocError::Name, "bad variable name"),

@@ -8,4 +8,6 @@ mod expansions;
 #[cfg(test)]
 mod faults;
 #[cfg(test)]
+mod same;
+#[cfg(test)]
 mod told;

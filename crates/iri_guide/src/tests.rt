@@ -14,14 +14,22 @@ use iri::types::{
     IriStr, SplitView, UriAbsoluteStr, UriAbsoluteString, UriReferenceStr, UriStr, UriString,
 };
 use iri::validate::ErrorKind;
+use std::fmt::Debug;
+use std::process::Abort;
 use std::test::Fail;
+
+// An assertion that is proved once, and not at each place that makes it.
+fn same<T: PartialEq + Debug + Drop>(rt: &impl Abort, got: T, want: T) {
+    assert_eq!(rt; got, want);
+}
 
 #[test]
 fn a_text_is_checked(rt: HostRuntime) {
-    assert_eq!(rt; check::fault_of(b"//[2001:db8::7]/c"), None);
-    assert_eq!(rt;
+    same(&rt, check::fault_of(b"//[2001:db8::7]/c"), None);
+    same(
+        &rt,
         check::fault_of(b"//[1::2::3]"),
-        Some(ErrorKind::InvalidHost)
+        Some(ErrorKind::InvalidHost),
     );
 }
 
@@ -29,8 +37,8 @@ fn a_text_is_checked(rt: HostRuntime) {
 fn a_text_is_taken_apart(rt: HostRuntime) -> Result<(), Fail> {
     let link = IriStr::new("ftp://u@\u{e9}x.example:21/a?q#f")?;
     let (host, port) = parts::host_and_port(link).ok_or("an authority")?;
-    assert_eq!(rt; host, "\u{e9}x.example");
-    assert_eq!(rt; port, Some("21"));
+    same(&rt, host, "\u{e9}x.example");
+    same(&rt, port, Some("21"));
     Ok(())
 }
 
@@ -38,7 +46,7 @@ fn a_text_is_taken_apart(rt: HostRuntime) -> Result<(), Fail> {
 fn a_link_is_resolved(rt: HostRuntime) -> Result<(), Fail> {
     let page = UriAbsoluteStr::new("http://a/b/c/d;p?q")?;
     let target = resolve::target(rt.alloc(), page, UriReferenceStr::new("../g?y#s")?)?;
-    assert_eq!(rt; target.as_str(), "http://a/b/g?y#s");
+    same(&rt, target.as_str(), "http://a/b/g?y#s");
     Ok(())
 }
 
@@ -46,7 +54,7 @@ fn a_link_is_resolved(rt: HostRuntime) -> Result<(), Fail> {
 fn a_text_is_normalized(rt: HostRuntime) -> Result<(), Fail> {
     let link = UriStr::new("eXAMPLE://a/./b/../b/%63/%7bfoo%7d")?;
     let normal = normalize::normal(rt.alloc(), link)?;
-    assert_eq!(rt; normal.as_str(), "example://a/b/c/%7Bfoo%7D");
+    same(&rt, normal.as_str(), "example://a/b/c/%7Bfoo%7D");
     Ok(())
 }
 
@@ -61,7 +69,7 @@ fn links_are_compared(rt: HostRuntime) -> Result<(), Fail> {
 #[test]
 fn a_contract_is_kept(rt: HostRuntime) -> Result<(), Fail> {
     let link = contract::link_of(b"urn:a").ok_or("a link")?;
-    assert_eq!(rt; link.as_str(), "urn:a");
+    same(&rt, link.as_str(), "urn:a");
     assert!(rt; contract::link_of(b"a").is_none());
     Ok(())
 }
@@ -69,9 +77,10 @@ fn a_contract_is_kept(rt: HostRuntime) -> Result<(), Fail> {
 #[test]
 fn a_value_is_encoded(rt: HostRuntime) -> Result<(), Fail> {
     let address = encode::search(rt.alloc(), "a&b=50%")?;
-    assert_eq!(rt;
+    same(
+        &rt,
         address.as_str(),
-        "https://example.com/search?q=a%26b%3D50%25"
+        "https://example.com/search?q=a%26b%3D50%25",
     );
     Ok(())
 }
@@ -79,7 +88,7 @@ fn a_value_is_encoded(rt: HostRuntime) -> Result<(), Fail> {
 #[test]
 fn an_iri_is_mapped(rt: HostRuntime) -> Result<(), Fail> {
     let uri = map::uri_of(rt.alloc(), IriStr::new("http://example.com/caf\u{e9}")?)?;
-    assert_eq!(rt; uri.as_str(), "http://example.com/caf%C3%A9");
+    same(&rt, uri.as_str(), "http://example.com/caf%C3%A9");
     Ok(())
 }
 
@@ -87,7 +96,7 @@ fn an_iri_is_mapped(rt: HostRuntime) -> Result<(), Fail> {
 fn a_host_is_changed(rt: HostRuntime) -> Result<(), Fail> {
     let mut link = UriString::try_from_str(rt.alloc(), "http://u@old.example:8080/a")?;
     assert!(rt; host::lead_to(&mut link, "[::1]")?);
-    assert_eq!(rt; link.as_str(), "http://u@[::1]:8080/a");
+    same(&rt, link.as_str(), "http://u@[::1]:8080/a");
     assert!(rt; !host::lead_to(&mut link, "a/b")?);
     Ok(())
 }
@@ -95,7 +104,7 @@ fn a_host_is_changed(rt: HostRuntime) -> Result<(), Fail> {
 #[test]
 fn a_password_is_masked(rt: HostRuntime) -> Result<(), Fail> {
     let line = mask::logged(rt.alloc(), UriReferenceStr::new("//u:p:q@h/")?)?;
-    assert_eq!(rt; line.as_str(), "fetching //u:@h/");
+    same(&rt, line.as_str(), "fetching //u:@h/");
     Ok(())
 }
 
@@ -103,7 +112,7 @@ fn a_password_is_masked(rt: HostRuntime) -> Result<(), Fail> {
 fn a_template_is_expanded(rt: HostRuntime) -> Result<(), Fail> {
     let words = String::from_str(rt.alloc(), "Hello World!")?;
     let address = expand::search(rt.alloc(), words).ok_or("memory")?;
-    assert_eq!(rt; address.as_str(), "/search?q=Hello%20World%21");
+    same(&rt, address.as_str(), "/search?q=Hello%20World%21");
     Ok(())
 }
 
@@ -167,7 +176,7 @@ fn a_struct_over_owned_types_is_printed(rt: HostRuntime) -> Result<(), Fail> {
         rules: Robots::new(rt.alloc(), "ExampleBot").ok().ok_or("rules")?,
     };
     let told = format!(in rt.alloc(); "{site:?}")?;
-    for part in [
+    for &part in &[
         "\"http://home.example/\"",
         "\"/x/../%7e\"",
         "Dots",

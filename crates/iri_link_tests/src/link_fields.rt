@@ -51,7 +51,7 @@ pub(crate) fn is_refused(
 #[test]
 fn an_api_with_pages(rt: HostRuntime) -> Result<(), Fail> {
     let base = "https://api.example.com/items?page=2";
-    let rows = [
+    for &(field, written) in &[
         (
             "<https://api.example.com/items?page=3>; rel=\"next\", <?page=1>; rel=prev",
             "<https://api.example.com/items?page=3>; rel=\"next\", \
@@ -61,8 +61,7 @@ fn an_api_with_pages(rt: HostRuntime) -> Result<(), Fail> {
             "</%7Eu/../x>;REL=up;title=\"a\\\"b\";",
             "<https://api.example.com/x>; rel=\"up\"; title=\"a\\\"b\"",
         ),
-    ];
-    for (field, written) in rows {
+    ] {
         assert!(rt;
             is_written::<UriSpec>(&rt, base, field, written)?,
             "{field}"
@@ -77,15 +76,14 @@ fn an_api_with_pages(rt: HostRuntime) -> Result<(), Fail> {
 
 #[test]
 fn faults_in_words(rt: HostRuntime) -> Result<(), Fail> {
-    let rows = [
+    for &(field, words) in &[
         ("a", "expected target at 0"),
         ("<a", "unclosed target at 0"),
         ("<%4>", "target invalid path at 1"),
         ("<a> b", "expected parameter at 4"),
         ("<a>;r=", "parameter value at 6"),
         ("<a>;r=\"x", "unclosed string at 6"),
-    ];
-    for (field, words) in rows {
+    ] {
         match read::<UriSpec>(&rt, "http://a/", field.as_bytes())? {
             Ok(_) => assert!(rt; false, "{field}"),
             Err(error) => {
@@ -107,7 +105,7 @@ fn faults_in_words(rt: HostRuntime) -> Result<(), Fail> {
 
 #[test]
 fn kinds_in_words(rt: HostRuntime) -> Result<(), Fail> {
-    let rows = [
+    for &(kind, words) in &[
         (LinkKind::NotUtf8, "invalid utf-8 bytes"),
         (LinkKind::NoTarget, "expected target"),
         (LinkKind::OpenTarget, "unclosed target"),
@@ -118,8 +116,7 @@ fn kinds_in_words(rt: HostRuntime) -> Result<(), Fail> {
         (LinkKind::NoParam, "expected parameter"),
         (LinkKind::NoValue, "parameter value"),
         (LinkKind::OpenString, "unclosed string"),
-    ];
-    for (kind, words) in rows {
+    ] {
         assert!(rt;
             kind.try_to_string(rt.alloc())?.as_str() == words,
             "{words}"
@@ -136,7 +133,7 @@ fn places_of_faults(rt: HostRuntime) -> Result<(), Fail> {
     let path = LinkKind::BadTarget(Error::new(ErrorKind::InvalidPath));
     let host = LinkKind::BadTarget(Error::new(ErrorKind::InvalidHost));
     let fragment = LinkKind::BadTarget(Error::new(ErrorKind::InvalidFragment));
-    let rows = [
+    for &(field, kind, place) in &[
         ("x", LinkKind::NoTarget, 0),
         (" \t, ;", LinkKind::NoTarget, 4),
         ("<a>,>", LinkKind::NoTarget, 4),
@@ -171,8 +168,7 @@ fn places_of_faults(rt: HostRuntime) -> Result<(), Fail> {
         ("<a>;r=\"x\\\u{7f}\"", LinkKind::OpenString, 6),
         ("<a>;r=\"x, <b c>", LinkKind::OpenString, 6),
         ("<a>;r=\"x\";s=\"y, z", LinkKind::OpenString, 12),
-    ];
-    for (field, kind, place) in rows {
+    ] {
         assert!(rt; is_refused(&rt, field.as_bytes(), kind, place)?, "{field}");
     }
     Ok(())
@@ -200,7 +196,7 @@ fn bytes_that_are_no_text(rt: HostRuntime) -> Result<(), Fail> {
 // Elements may be empty, and blanks and tabs stand round elements, semicolons and equals signs.
 #[test]
 fn blanks_and_empty_elements(rt: HostRuntime) -> Result<(), Fail> {
-    let rows = [
+    for &(field, written) in &[
         ("", ""),
         (" \t ", ""),
         (",", ""),
@@ -216,8 +212,7 @@ fn blanks_and_empty_elements(rt: HostRuntime) -> Result<(), Fail> {
         ("<x> ; r = \"n\" ;s;t", "<http://a/x>; r=\"n\"; s; t"),
         ("<x>;;r=n;;s=\"\";;", "<http://a/x>; r=\"n\"; s=\"\""),
         ("<x>;R=N;r=n;R", "<http://a/x>; r=\"N\"; r=\"n\"; r"),
-    ];
-    for (field, written) in rows {
+    ] {
         assert!(rt;
             is_written::<UriSpec>(&rt, "http://a/b", field, written)?,
             "{field}"
@@ -229,7 +224,7 @@ fn blanks_and_empty_elements(rt: HostRuntime) -> Result<(), Fail> {
 // What stands in a target or in a quoted string is part of it.
 #[test]
 fn delimiters_within_texts(rt: HostRuntime) -> Result<(), Fail> {
-    let rows = [
+    for &(field, written) in &[
         ("<x,y;z=w>", "<http://a/x,y;z=w>"),
         (
             "<x>;t=\"a,b;c=<d>, e\";u=v, <y>",
@@ -247,8 +242,7 @@ fn delimiters_within_texts(rt: HostRuntime) -> Result<(), Fail> {
             "<x>;t=\"\u{e9}\\\u{20ac}\"",
             "<http://a/x>; t=\"\u{e9}\u{20ac}\"",
         ),
-    ];
-    for (field, written) in rows {
+    ] {
         assert!(rt;
             is_written::<UriSpec>(&rt, "http://a/", field, written)?,
             "{field}"
@@ -325,20 +319,19 @@ fn a_set_shows_its_written_form(rt: HostRuntime) -> Result<(), Fail> {
 // The written form of each is read back to the same text, against other bases.
 #[test]
 fn written_forms_are_read_back(rt: HostRuntime) -> Result<(), Fail> {
-    let fields = [
+    for &field in &[
         "",
         "<>;rel=self",
         "<../x?q#f>;REL=\"a b\";t=\"\\\\\\\"\\,\";u, <//H/%7e>;*=%",
         "<mailto:a@b>;t=\"\u{e9}\\\u{20ac}\u{1f600}\"",
         "<a:/..//b>;x=\"<,>;=\"",
-    ];
-    for field in fields {
+    ] {
         let Ok(set) = read::<UriSpec>(&rt, "http://a/b/c", field.as_bytes())? else {
             assert!(rt; false, "{field}");
             return Ok(());
         };
         let written = set.try_to_string(rt.alloc())?;
-        for base in ["http://a/b/c", "urn:x:y", "ftp://other/"] {
+        for &base in &["http://a/b/c", "urn:x:y", "ftp://other/"] {
             let same = is_written::<UriSpec>(&rt, base, written.as_str(), written.as_str())?;
             assert!(rt; same, "{base} {field}");
         }
@@ -382,7 +375,7 @@ fn a_thousand_links(rt: HostRuntime) -> Result<(), Fail> {
 #[test]
 fn field_values_against_one_resolver(rt: HostRuntime) -> Result<(), Fail> {
     let page = FixedBaseResolver::new(RiAbsoluteStr::<UriSpec>::new("http://a/b/")?);
-    for (field, target) in [
+    for &(field, target) in &[
         ("<c>", "http://a/b/c"),
         ("</%7E>", "http://a/~"),
         ("<//h>", "http://h"),

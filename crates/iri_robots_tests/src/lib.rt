@@ -4,3 +4,5 @@
 
 #[cfg(test)]
 mod robots;
+#[cfg(test)]
+mod same;

@@ -1,3 +1,4 @@
+use crate::same::same;
 use iri_grammar::spec::{IriSpec, Spec, UriSpec};
 use iri_robots::laws::{
     empty_patterns_match_nothing, first_rules_are_of_no_group, question_marks_part_forms,
@@ -10,7 +11,7 @@ use std::test::Fail;
 
 #[test]
 fn patterns_match(rt: HostRuntime) {
-    for (pattern, text) in [
+    for &(pattern, text) in &[
         ("/", "/p/x"),
         ("/fish", "/fish.html"),
         ("/fish*", "/fishheads/yummy.html"),
@@ -44,7 +45,7 @@ fn patterns_match(rt: HostRuntime) {
 
 #[test]
 fn patterns_do_not_match(rt: HostRuntime) {
-    for (pattern, text) in [
+    for &(pattern, text) in &[
         ("", ""),
         ("", "/"),
         ("/fish", "/Fish.asp"),
@@ -120,7 +121,7 @@ const SIMPLE: [&str; 15] = [
 
 #[test]
 fn simple_example(rt: HostRuntime) -> Result<(), Fail> {
-    for (token, subject, allowed) in [
+    for &(token, subject, allowed) in &[
         ("foobot", "/example/page.html", true),
         ("foobot", "/example/allowed.gif", true),
         ("foobot", "/example/other.gif", false),
@@ -162,7 +163,7 @@ fn longest_match(rt: HostRuntime) -> Result<(), Fail> {
             "disallow:",
         ],
     )?;
-    for (subject, allowed) in [
+    for &(subject, allowed) in &[
         ("/example/page/disallowed.gif", false),
         ("/example/page/index.html", true),
         ("/o", true),
@@ -194,7 +195,7 @@ fn groups_of_one_token(rt: HostRuntime) -> Result<(), Fail> {
         "user-agent: BazBot",
         "disallow: /baz",
     ];
-    for (token, subject, by_merged, by_others) in [
+    for &(token, subject, by_merged, by_others) in &[
         ("examplebot", "/foo", false, false),
         ("EXAMPLEBOT", "/bar", false, false),
         ("ExampleBot", "/baz", false, true),
@@ -238,7 +239,7 @@ fn other_lines_of_a_file(rt: HostRuntime) -> Result<(), Fail> {
             "allow: /path/foo-%24",
         ],
     )?;
-    for (subject, allowed) in [
+    for &(subject, allowed) in &[
         ("/comment", false),
         ("/s", false),
         ("/this/path/exactly", true),
@@ -260,7 +261,7 @@ fn other_lines_of_a_file(rt: HostRuntime) -> Result<(), Fail> {
 // Each line is read alone, before a rule `Disallow: /` that it takes into its run, or not.
 #[test]
 fn lines_are_read(rt: HostRuntime) -> Result<(), Fail> {
-    for (line, named) in [
+    for &(line, named) in &[
         (b"user-agent:examplebot".as_slice(), true),
         (b" \tUSER-AGENT \t:\t EXAMPLEBOT \t".as_slice(), true),
         (b"\xEF\xBB\xBFUser-agent: ExampleBot/1.0".as_slice(), true),
@@ -290,7 +291,7 @@ fn lines_are_read(rt: HostRuntime) -> Result<(), Fail> {
 // Rules for one crawler and one subject.
 #[test]
 fn patterns_of_lines(rt: HostRuntime) -> Result<(), Fail> {
-    for (rule, subject, allowed) in [
+    for &(rule, subject, allowed) in &[
         ("disallow: /\u{e9}", "/%C3%A9", false),
         ("disallow: /%c3%a9", "/%C3%A9", false),
         ("disallow: /foo/bar/%62%61%7A", "/foo/bar/baz", false),
@@ -312,7 +313,7 @@ fn patterns_of_lines(rt: HostRuntime) -> Result<(), Fail> {
 
 #[test]
 fn tokens(rt: HostRuntime) -> Result<(), Fail> {
-    for (token, taken) in [
+    for &(token, taken) in &[
         ("a", true),
         ("Example_Bot-x", true),
         ("", false),
@@ -334,7 +335,7 @@ fn tokens(rt: HostRuntime) -> Result<(), Fail> {
 // `%2A`, `%24` and `$` count, in the form in which patterns are compared.
 #[test]
 fn rules_of_many_escapes(rt: HostRuntime) -> Result<(), Fail> {
-    for (rule, most, subject, stored) in [
+    for &(rule, most, subject, stored) in &[
         ("disallow: /*%2a%24$", 3, "/x*$", true),
         ("disallow: /*%2a%24$", 2, "/x*$", false),
         ("disallow: /$b%252a", 1, "/$b%252a", true),
@@ -356,24 +357,28 @@ fn rules_of_many_escapes(rt: HostRuntime) -> Result<(), Fail> {
 #[test]
 fn errors_in_words(rt: HostRuntime) -> Result<(), Fail> {
     let escapes = LineError::Escapes;
-    assert_eq!(rt;
+    same(
+        &rt,
         format!(in rt.alloc(); "{escapes}")?.as_str(),
-        "too many escapes"
+        "too many escapes",
     );
     let memory = LineError::Memory(AllocError);
-    assert_eq!(rt;
+    same(
+        &rt,
         format!(in rt.alloc(); "{memory}")?.as_str(),
-        "memory allocation failed"
+        "memory allocation failed",
     );
     let token = RobotsError::Token;
-    assert_eq!(rt;
+    same(
+        &rt,
         format!(in rt.alloc(); "{token}")?.as_str(),
-        "invalid token"
+        "invalid token",
     );
     let memory = RobotsError::Memory(AllocError);
-    assert_eq!(rt;
+    same(
+        &rt,
         format!(in rt.alloc(); "{memory}")?.as_str(),
-        "memory allocation failed"
+        "memory allocation failed",
     );
     Ok(())
 }
@@ -382,7 +387,7 @@ fn errors_in_words(rt: HostRuntime) -> Result<(), Fail> {
 #[test]
 fn kept_where_memory_is_refused(rt: HostRuntime) -> Result<(), Fail> {
     let mut robots = fed(rt.alloc(), "a", &["user-agent: a", "disallow: /"])?;
-    for rule in ["allow: /x", "allow: /y", "allow: /z"] {
+    for &rule in &["allow: /x", "allow: /y", "allow: /z"] {
         let subject = rule.strip_prefix("allow: ").ok_or("no rule")?;
         let stored = robots.feed_line(rule.as_bytes());
         assert!(rt; allows(&robots, subject) == stored.is_ok(), "{rule}");
@@ -408,7 +413,7 @@ fn subject<'a, S: Spec>(alloc: Global, target: &'a str) -> Result<String, Fail> 
 // The table of RFC 9309 section 2.2.2, and a path that is empty.
 #[test]
 fn subjects(rt: HostRuntime) -> Result<(), Fail> {
-    for (target, want) in [
+    for &(target, want) in &[
         ("http://a/foo/bar?baz=quz", "/foo/bar?baz=quz"),
         (
             "http://a/foo/bar?baz=https%3A%2F%2Ffoo.bar",
@@ -424,9 +429,10 @@ fn subjects(rt: HostRuntime) -> Result<(), Fail> {
         let iri = subject::<IriSpec>(rt.alloc(), target)?;
         assert_eq!(rt; iri.as_str(), want, "at {target}");
     }
-    assert_eq!(rt;
+    same(
+        &rt,
         subject::<UriSpec>(rt.alloc(), "http://a/%7e?%2a")?.as_str(),
-        "/~?%2A"
+        "/~?%2A",
     );
     Ok(())
 }
@@ -446,7 +452,7 @@ fn rows(rt: HostRuntime) -> Result<(), Fail> {
             "disallow: /\u{e9}",
         ],
     )?;
-    for (target, allowed) in [
+    for &(target, allowed) in &[
         ("http://a/p/x.html", true),
         ("http://a/p/x.html?y", false),
         ("http://a/q", true),
