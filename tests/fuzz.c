@@ -212,7 +212,7 @@ static void check_numbers(uint8_t number, struct text text)
 	if (number > IRIKIT_RELATIVE)
 		holds(is_answer(validated(0, number, text), IRIKIT_UNKNOWN, 0), "a kind that is none");
 	words = TESTED(irikit_is_normalized, 0, number, placed(BASE, text), text.len);
-	holds(number <= IRIKIT_NORMAL || is_answer(words, IRIKIT_UNKNOWN, 0), "a mode that is none");
+	holds(number <= IRIKIT_PRESERVING || is_answer(words, IRIKIT_UNKNOWN, 0), "a mode that is none");
 }
 
 static int has_text(int grammar, struct text base, struct text reference, struct text wanted)
