@@ -220,7 +220,7 @@ unfolding recompose
 scheme-given s t None a p q f h i e = cc
 scheme-given s t (Some x) a p q f h i e = scheme-before x _ t h e
 
-no_missing_scheme : (s : Tests) (t : List ℕ) (p : Parts) → Splits s t p → IsSome p.scheme → missing_scheme_fault t ≡ None
+pub no_missing_scheme : (s : Tests) (t : List ℕ) (p : Parts) → Splits s t p → IsSome p.scheme → missing_scheme_fault t ≡ None
 no_missing_scheme s t p h i = scheme-given s t p.scheme p.authority p.path p.query p.fragment h.fits.scheme i h.text
 
 -- ---- `URI`

@@ -17,7 +17,7 @@ ghost use Rattle.iri_grammar.specs.Split.{hier_of};
 ghost use Rattle.iri_grammar.specs.Seen.{Promises, is_plain_authority, is_small};
 ghost use Rattle.std.proofs.Props.{props};
 ghost use Rattle.iri_grammar.specs.OptionalSlices.{now_of};
-ghost use Rattle.iri_grammar.specs.WholeFault.{reference_fault, relative_fault};
+ghost use Rattle.iri_grammar.specs.WholeFault.{absolute_fault, reference_fault, relative_fault};
 
 use crate::authority::cut_plain;
 use crate::dots::may_have_dots;
@@ -25,7 +25,7 @@ use crate::error::{Error, ErrorKind};
 use crate::seen::Seen;
 use crate::spec::Spec;
 use crate::tail::Tail;
-use crate::validate::{fault_at, judge_scanned};
+use crate::validate::{fault_at, judge_scanned, scheme_in_place, without_fragment};
 use memchr::memchr3;
 use std::alloc::AllocError;
 use std::str;
@@ -297,6 +297,22 @@ impl<'a> Splitter<'a> {
     {
         let (scheme, rest) = cut_scheme(bytes);
         Splitter::after::<S>(scheme, rest)
+    }
+
+    /// The split of a text that is an absolute URI of `S`: the same as `validate::absolute_iri` and `of`, in one scan of
+    /// the text.
+    ///
+    /// # Errors
+    ///
+    /// Exactly where the text is none: the first fault from the left.
+    #[tactic(auto, unfolding(crate::specs::WholeFault::parts_fault))]
+    pub fn absolute<S: Spec>(text: &'a str) -> Result<Splitter<'a>, Error>
+        ensures fault { Answers result (absolute_fault S.tests text.now) }
+        ensures value { IfOk result (λ p. parts p ≡ split_of text.now) }
+    {
+        let cut = Splitter::new::<S>(text);
+        scheme_in_place::<S>(&cut, text)?;
+        without_fragment(cut)
     }
 
     // The split of a relative reference of `S`.

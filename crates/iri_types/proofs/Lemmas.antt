@@ -1,19 +1,12 @@
 -- Parts that stand.
 use Rattle.std.proofs.Common.{◌≡◌, ℕ, Bool, true, List, Option, Some, None, sym, subst}
-use Rattle.std.specs.Prelude.{is_some}
-use Rattle.iri_grammar.specs.Classes.{Tests, IsSpec}
+use Rattle.iri_grammar.specs.Classes.{Tests}
 use Rattle.iri_grammar.specs.Components.{if_there, is_userinfo, is_query, is_fragment}
 use Rattle.iri_grammar.specs.Host.{is_host}
 use Rattle.iri_grammar.specs.Authority.{authority_parts, is_authority}
 use Rattle.iri_grammar.proofs.CutLaws.{both}
 use Rattle.iri_grammar.specs.Fault.{query_fault, fragment_fault}
-use Rattle.iri_grammar.proofs.FaultLaws.{no_fault, splits_where_no_fault}
-use Rattle.iri_grammar.proofs.SplitLaws.{recompose_split}
-use Rattle.iri_grammar.specs.Parts.{Parts}
-use Rattle.iri_grammar.specs.Split.{split_of}
-use Rattle.iri_grammar.specs.WholeFault.{absolute_fault, reference_fault}
-use Rattle.iri_types.specs.Allowed.{allows_absolute}
-use Rattle.iri_types.specs.inside.AllowedLaws.{absolute-made}
+use Rattle.iri_grammar.proofs.FaultLaws.{no_fault}
 use Rattle.iri_grammar.specs.declared.error.ErrorKind.TheVariants.{InvalidQuery, InvalidFragment}
 pub use Rattle.iri_grammar.proofs.TextParts.{answers-of, no_text_fault, text_fault}
 
@@ -33,11 +26,3 @@ pub host-valid : (s : Tests) (x h : List ℕ) → is_authority s x ≡ true → 
 unfolding is_authority
 host-valid s x h k e = subst (λ z. is_host s z ≡ true) (sym e)
     (both (if_there (is_userinfo s) (authority_parts x).userinfo) (is_host s (authority_parts x).host) k).1
-
--- a reference of which a scheme stands and no fragment is an absolute URI
-pub absolute-where : (s : Tests) → IsSpec s → (t : List ℕ) → reference_fault s t ≡ None → (p : Parts) → p ≡ split_of t
-    → allows_absolute (is_some p.scheme) (is_some p.fragment) ≡ true → absolute_fault s t ≡ None
-absolute-where s k t none p e h =
-    subst (λ x. absolute_fault s x ≡ None) (recompose_split t)
-    (absolute-made s k (split_of t) (splits_where_no_fault s t none).fits
-    (subst (λ (q : Parts). allows_absolute (is_some q.scheme) (is_some q.fragment) ≡ true) e h))

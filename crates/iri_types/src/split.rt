@@ -1,12 +1,11 @@
 //! Views of whole texts together with their one split (RFC 3986 section 3).
-ghost use Rattle.std.specs.Prelude.{◌≡◌, IfOk, is_some};
+ghost use Rattle.std.specs.Prelude.{◌≡◌, IfOk};
 ghost use Rattle.std.proofs.Props.{props};
 ghost use Rattle.iri_grammar.specs.Fault.{Answers, bytes_fault};
 ghost use Rattle.iri_grammar.specs.Parts.{Fits};
 ghost use Rattle.iri_grammar.specs.Split.{split_of};
 ghost use Rattle.iri_grammar.specs.Splitters.{parts};
 ghost use Rattle.iri_grammar.specs.WholeFault.{absolute_fault, reference_fault};
-ghost use Rattle.iri_types.specs.Allowed.{allows_absolute};
 ghost use Rattle.iri_types.specs.Texts.{text};
 
 use crate::kind::{Absolute, Reference, WholeKind};
@@ -121,13 +120,6 @@ impl<'a, S: Spec> SplitView<'a, S, Reference> {
     }
 }
 
-// Whether the parts of a reference are those of an absolute URI.
-fn is_absolute(cut: &Splitter<'_>) -> bool
-    ensures { result ≡ allows_absolute (is_some (parts cut.now).scheme) (is_some (parts cut.now).fragment) }
-{
-    cut.scheme().is_some() && cut.fragment().is_none()
-}
-
 impl<'a, S: Spec> SplitView<'a, S, Absolute> {
     ghost use Rattle.iri_types.specs.SplitText.{split_text};
 
@@ -165,28 +157,11 @@ impl<'a, S: Spec> SplitView<'a, S, Absolute> {
         ensures fault { Answers result (absolute_fault S.tests s.now) }
         ensures text { IfOk result (λ v. split_text v ≡ s.now) }
     {
-        match Splitter::new::<S>(s) {
-            Ok(cut) => {
-                if is_absolute(&cut) {
-                    Ok(SplitView {
-                        view: View::from_valid(s),
-                        cut,
-                    })
-                } else {
-                    SplitView::judged(s)
-                }
-            }
-            Err(_) => SplitView::judged(s),
-        }
-    }
-
-    // The same part by part: it tells the fault of a text that is none.
-    fn judged(s: &'a str) -> Result<Self, Error>
-        ensures fault { Answers result (absolute_fault S.tests s.now) }
-        ensures text { IfOk result (λ v. split_text v ≡ s.now) }
-    {
-        match View::new(s) {
-            Ok(view) => Ok(SplitView::of(view)),
+        match Splitter::absolute::<S>(s) {
+            Ok(cut) => Ok(SplitView {
+                view: View::from_valid(s),
+                cut,
+            }),
             Err(error) => Err(error),
         }
     }

@@ -1,10 +1,11 @@
 // The validators of whole texts (RFC 3986 section 4).
-ghost use Rattle.std.specs.Prelude.{◌≡◌, IfOk, Some};
+ghost use Rattle.std.specs.Prelude.{◌≡◌, IfOk, Ok, Some};
 ghost use Rattle.iri_grammar.specs.Characters.{colon, slash};
 ghost use Rattle.iri_grammar.specs.Classes.{Tests};
 ghost use Rattle.iri_grammar.specs.Cut.{before, lacks};
 ghost use Rattle.iri_grammar.specs.Fault.{Answers, unless, authority_fault, bytes_fault, first, fragment_fault, part_fault};
 ghost use Rattle.iri_grammar.specs.Parts.{Parts};
+ghost use Rattle.iri_grammar.specs.Split.{split_of};
 ghost use Rattle.iri_grammar.specs.WholeFault.{colon_allowed, parts_fault, missing_scheme_fault};
 ghost use Rattle.iri_grammar.specs.WholeFault.{reference_fault, iri_fault, absolute_fault, relative_fault};
 ghost use Rattle.iri_grammar.specs.Splitters.{parts};
@@ -126,14 +127,15 @@ fn absolute_kind(kind: ErrorKind) -> ErrorKind
 }
 
 // A fragment is one too many, whatever it holds.
-fn without_fragment(cut: Result<Splitter<'_>, Error>) -> Result<(), Error>
-    ensures { (s : Tests) (p : Parts) → Answers cut.entry (parts_fault s (fragment_fault s) p)
+pub(crate) fn without_fragment(cut: Result<Splitter<'_>, Error>) -> Result<Splitter<'_>, Error>
+    ensures fault { (s : Tests) (p : Parts) → Answers cut.entry (parts_fault s (fragment_fault s) p)
         → IfOk cut.entry (λ c. parts c ≡ p) → Answers result (parts_fault s (λ _. Some UnexpectedFragment) p) }
+    ensures same { IfOk result (λ c. cut.entry ≡ Ok c) }
 {
     match cut {
         Ok(p) => match p.fragment() {
             Some(_) => Err(Error::new(ErrorKind::UnexpectedFragment)),
-            None => Ok(()),
+            None => Ok(p),
         },
         Err(fault) => Err(Error::new(absolute_kind(fault.kind()))),
     }
@@ -147,6 +149,23 @@ fn leading_scheme(s: &str) -> Result<(), Error>
         return Err(Error::new(ErrorKind::UnexpectedRelative));
     }
     scheme(cut_before(s, b':').0)
+}
+
+// The same, where no cut of the text has found them.
+pub(crate) fn scheme_in_place<S: Spec>(
+    cut: &Result<Splitter<'_>, Error>,
+    s: &str,
+) -> Result<(), Error>
+    requires fault { Answers cut.now (reference_fault S.tests s.now) }
+    requires value { IfOk cut.now (λ p. parts p ≡ split_of s.now) }
+    ensures { Answers result (missing_scheme_fault s.now) }
+{
+    if let Ok(p) = cut {
+        if p.scheme().is_some() {
+            return Ok(());
+        }
+    }
+    leading_scheme(s)
 }
 
 /// Whether the text is a `URI-reference` (RFC 3986 section 4.1; of IRIs RFC 3987 section 2.2).
@@ -204,12 +223,11 @@ pub fn iri<S: Spec>(s: &str) -> Result<(), Error>
 /// let error = validate::absolute_iri::<UriSpec>("http://a/b#c").err().ok_or("a fault")?;
 /// assert_eq!(rt; error.kind(), ErrorKind::UnexpectedFragment);
 /// ```
-#[tactic(auto, unfolding(crate::specs::WholeFault::parts_fault))]
 pub fn absolute_iri<S: Spec>(s: &str) -> Result<(), Error>
     ensures { Answers result (absolute_fault S.tests s.now) }
 {
-    leading_scheme(s)?;
-    without_fragment(Splitter::new::<S>(s))
+    Splitter::absolute::<S>(s)?;
+    Ok(())
 }
 
 /// Whether the text is a `relative-ref`, without a scheme (RFC 3986 section 4.2).
