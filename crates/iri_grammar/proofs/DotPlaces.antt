@@ -2,7 +2,7 @@
 use Rattle.std.proofs.Common.{◌≡◌, ℕ, zero, suc, ◌+◌, ◌-◌, ◌%◌, ◌^◌, ◌<◌, ◌≤◌, Bool, true, false, cond, not, eqb, ◌&&◌, ◌||◌, List, [], ◌∷◌, map, length, take, drop, get_or, replicate}
 use Rattle.std.proofs.Common.{◌≢◌, refl, sym, ◌∙◌, ap, ap₂, arith, drop-cons, inl, inr}
 use Rattle.std.specs.Prelude.{◌==◌, slice_index}
-use Rattle.std.proofs.lemmas.Bool.{cases_eq, cases_lt}
+use Rattle.std.proofs.lemmas.Bool.{cases_eq, cases_lt, or_parts}
 use Rattle.std.proofs.lemmas.Bool.Decides.{nat_tests}
 use Rattle.std.specs.List.{prefix_len}
 use Rattle.std.proofs.lemmas.List.Sums.{prefix_len-le-length, prefix_len_passes}
@@ -141,10 +141,6 @@ none-near t i r low n e k l =
     ap slash_and_dot (first ∙ ap (λ l. x ∷ l) second) ∙ plain_pair x y (drop (suc (suc at)) t) plain
 
 -- ---- none in the whole
-neither : (a b : Bool) → (a || b) ≡ false → (a ≡ false) × (b ≡ false)
-neither true b e = cc
-neither false b e = (refl, e)
-
 pub none-at : (t : List ℕ) → ((k : ℕ) → k < length t → slash_and_dot (drop k t) ≡ false) → has_slash_and_dot t ≡ false
 none-at [] h = refl
 none-at (x ∷ xs) h = rw (h 0 (omega arith)) (none-at xs (λ k l. h (suc k) (omega arith)))
@@ -152,8 +148,8 @@ none-at (x ∷ xs) h = rw (h 0 (omega arith)) (none-at xs (λ k l. h (suc k) (om
 -- and in each place of a part that has none
 lacking : (t : List ℕ) → has_slash_and_dot t ≡ false → (k : ℕ) → k < length t → slash_and_dot (drop k t) ≡ false
 lacking [] h k l = absurd (omega arith)
-lacking (x ∷ xs) h zero l = (neither (slash_and_dot (x ∷ xs)) (has_slash_and_dot xs) h).0
-lacking (x ∷ xs) h (suc k) l = lacking xs (neither (slash_and_dot (x ∷ xs)) (has_slash_and_dot xs) h).1 k (omega arith)
+lacking (x ∷ xs) h zero l = (or_parts (slash_and_dot (x ∷ xs)) (has_slash_and_dot xs) h).0
+lacking (x ∷ xs) h (suc k) l = lacking xs (or_parts (slash_and_dot (x ∷ xs)) (has_slash_and_dot xs) h).1 k (omega arith)
 
 pub none-onward : (t : List ℕ) (j k : ℕ) → has_slash_and_dot (drop j t) ≡ false → j ≤ k → k < length t → slash_and_dot (drop k t) ≡ false
 none-onward t j k h le l =

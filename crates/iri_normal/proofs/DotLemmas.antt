@@ -3,13 +3,13 @@ use Rattle.std.proofs.Common.{◌≡◌, ℕ, ◌≢◌, Bool, true, false, cond
 use Rattle.std.proofs.Common.{refl, sym, ◌∙◌, ap, subst, arith}
 use mathlib.Core.Bool.{and_assoc}
 use Rattle.std.specs.Prelude.{◌==◌}
+use Rattle.std.proofs.lemmas.Bool.{or_parts}
 use Rattle.iri_grammar.specs.Cut.{before, after}
 use Rattle.iri_grammar.proofs.CutLaws.{by_test}
 use Rattle.iri_grammar.specs.Parts.{is_empty}
 use Rattle.iri_grammar.specs.Seen.{begins_dot, has_slash_and_dot, may_have_dots, slash_and_dot}
 use Rattle.iri_grammar.specs.inside.PiecesLaws.{more_pieces}
 use Rattle.iri_grammar.proofs.PiecesLaws.{pieces_cut}
-use Rattle.iri_normal.proofs.EndedLemmas.{neither}
 use Rattle.iri_normal.specs.Dots.{after_dot, is_dot_segment, is_dot_segment_after, is_dot_or_nothing, any_dot_segment, has_dot_segment}
 use Rattle.iri_normal.specs.inside.DotSearch.{dots_before, slash_and_dots, dots_after}
 
@@ -106,10 +106,10 @@ no_dot_first t h = ap is_dot_segment_after (dot_cut t ∙ ap cut_rest (sym h))
 -- ---- no segment begins with what begins a dot
 none_there : (t : List ℕ) → begins_dot t ≡ false → after_dot t ≡ None
 none_there [] h = refl
-none_there (x ∷ []) h = rw (neither (x == 46) (x == 37 && false) h).0 refl
-none_there (x ∷ y ∷ []) h = rw (neither (x == 46) (x == 37 && false) h).0 refl
+none_there (x ∷ []) h = rw (or_parts (x == 46) (x == 37 && false) h).0 refl
+none_there (x ∷ y ∷ []) h = rw (or_parts (x == 46) (x == 37 && false) h).0 refl
 none_there (x ∷ y ∷ z ∷ xs) h =
-    let k = neither (x == 46) (x == 37 && (y == 50 && (z == 69 || z == 101))) h in
+    let k = or_parts (x == 46) (x == 37 && (y == 50 && (z == 69 || z == 101))) h in
     let miss = and_assoc (x == 37) (y == 50) (z == 69 || z == 101) ∙ k.1 in
     rw (k.0, miss) refl
 
@@ -119,7 +119,7 @@ begins_none t h = no_dot_first t (sym (none_there t h))
 none_after : (t : List ℕ) → has_slash_and_dot t ≡ false → dots_after t ≡ false
 none_after [] h = refl
 none_after (x ∷ xs) h =
-    let k = neither (slash_and_dot (x ∷ xs)) (has_slash_and_dot xs) h in
+    let k = or_parts (slash_and_dot (x ∷ xs)) (has_slash_and_dot xs) h in
     let first : slash_and_dots (x ∷ xs) ≡ false = elim (x == 47) as (λ b. (b && begins_dot xs) ≡ false → (b && dots_before xs) ≡ false) [
       | true ↦ λ e. begins_none xs e
       | false ↦ λ _. refl
@@ -127,7 +127,7 @@ none_after (x ∷ xs) h =
     one_step x xs ∙ rw first (none_after xs k.1)
 
 pub no_dots : (t : List ℕ) → may_have_dots t ≡ false → has_dot_segment t ≡ false
-no_dots t h = let k = neither (begins_dot t) (has_slash_and_dot t) h in first_or_after t ∙ rw (begins_none t k.0) (none_after t k.1)
+no_dots t h = let k = or_parts (begins_dot t) (has_slash_and_dot t) h in first_or_after t ∙ rw (begins_none t k.0) (none_after t k.1)
 
 -- ---- one dot or two
 dot_or_nothing : (xs : List ℕ) → is_empty xs ≡ true → is_dot_or_nothing xs ≡ true

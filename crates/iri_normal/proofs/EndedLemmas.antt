@@ -67,11 +67,6 @@ after_last t a b k h e n =
     let same : b ≡ last_segment t = sym (ap (drop (k + 1)) e ∙ drop_at a b (k + 1) n) ∙ after_slash t k h in
     ap (lacks 47) same ∙ (at_last_slash t).1
 
--- ---- segments without dots
-pub neither : (a b : Bool) → (a || b) ≡ false → (a ≡ false) × (b ≡ false)
-neither true b h = cc
-neither false b h = (refl, h)
-
 -- ---- the first segment
 
 -- what stands before it, and what follows

@@ -12,7 +12,7 @@ use Rattle.iri_grammar.specs.Components.{is_path}
 use Rattle.iri_grammar.specs.Cut.{before, after, lacks, delimited}
 use Rattle.iri_grammar.proofs.CutLaws.{both, joined}
 use Rattle.iri_grammar.proofs.CutLemmas.{found}
-use Rattle.std.proofs.lemmas.Bool.{eqb-true}
+use Rattle.std.proofs.lemmas.Bool.{eqb-true, or_parts}
 use Rattle.iri_grammar.specs.Parts.{is_empty}
 use Rattle.iri_grammar.specs.Pieces.{onto, pieces}
 use Rattle.iri_grammar.specs.Over.{text_over}
@@ -30,7 +30,7 @@ use Rattle.iri_normal.specs.Target.{ends_at_slash}
 use Rattle.iri_normal.specs.inside.CutText.{IsCut}
 use Rattle.iri_normal.specs.inside.NextDots.{IsNext}
 use Rattle.iri_normal.specs.inside.Written.{or_nothing, popped, popped_times, written, written_segments}
-use Rattle.iri_normal.proofs.EndedLemmas.{end_slash, first_whole, neither, rest-ends, slash-ends, take-ends}
+use Rattle.iri_normal.proofs.EndedLemmas.{end_slash, first_whole, rest-ends, slash-ends, take-ends}
 use Rattle.iri_normal.proofs.KeptLemmas.{bottom-times, kept-ends, kept-two, path-stays, taken-two}
 use Rattle.iri_normal.proofs.NormalLemmas.{pct_nil}
 use Rattle.iri_normal.proofs.PieceLaws.{all_lack, nothing-is_no_dot, pieces-lack, pieces-some}
@@ -83,9 +83,9 @@ pieces-count (x ∷ xs) =
     ]
 
 plain-taken : (s : List ℕ) (ss : List (List ℕ)) (n : ℕ) → any_dot_segment (s ∷ ss) ≡ false → taken (s ∷ ss) n ≡ n - length ss
-plain-taken s [] n h = let k = neither (is_dot_segment s) false h in let e : n ≡ n - 0 = omega arith in rw k.0 e
+plain-taken s [] n h = let k = or_parts (is_dot_segment s) false h in let e : n ≡ n - 0 = omega arith in rw k.0 e
 plain-taken s (t ∷ ts) n h =
-    let k = neither (is_dot_segment s) (any_dot_segment (t ∷ ts)) h in
+    let k = or_parts (is_dot_segment s) (any_dot_segment (t ∷ ts)) h in
     let r = plain-taken t ts n k.1 in
     rw k.0 (omega (arith, r))
 

@@ -10,6 +10,7 @@ use Rattle.std.proofs.Math.Seq.{drop-append_seam}
 use Rattle.std.proofs.lemmas.Bool.Decides.{nat_tests}
 use Rattle.std.specs.Prelude.{◌==◌, is_some, MatchOption}
 use Rattle.std.specs.List.{list_all}
+use Rattle.std.proofs.lemmas.Bool.{or_parts}
 use Rattle.iri_grammar.specs.Classes.{Tests, IsSpec}
 use Rattle.iri_grammar.specs.Components.{if_there, is_fragment, is_query, is_scheme, is_scheme_char}
 use Rattle.iri_grammar.specs.Cut.{lacks, delimited}
@@ -37,7 +38,6 @@ use Rattle.iri_normal.specs.Prefix.{IsPrefix, prefix_in}
 use Rattle.iri_normal.specs.Target.{ends_at_slash, merge_prefix, target, target_path}
 use Rattle.iri_normal.specs.declared.mode.Mode.TheVariants.{Normal}
 use Rattle.iri_normal.specs.inside.Unchanged.{EndsCanonical, IsLowered, KeepsPrefix, LacksTriplets, StandBefore, is_plain_prefix, lacks_triplets_and_dots}
-use Rattle.iri_normal.proofs.EndedLemmas.{neither}
 use Rattle.iri_normal.proofs.PieceLaws.{nothing-is_no_dot}
 use Rattle.iri_normal.proofs.PrefixLemmas.{prefix-form, rest, text-cut}
 use Rattle.iri_normal.proofs.SegmentLemmas.{dot_in_parts}
@@ -54,7 +54,7 @@ or-true true = refl
 or-true false = refl
 
 pub none-noted : (a b : Bool) → not (a || b) ≡ true → (a ≡ false) × (b ≡ false)
-none-noted a b h = neither a b (not-true (a || b) h)
+none-noted a b h = or_parts a b (not-true (a || b) h)
 
 -- ---- scheme and authority that stay
 scheme-percent : (o : Option (List ℕ)) → if_there is_scheme o ≡ true → lacks 37 (scheme_text o) ≡ true

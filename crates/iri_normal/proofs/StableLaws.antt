@@ -1,5 +1,6 @@
 -- Dot removal leaves no dot segment, and a path without one as it is.
 use Rattle.std.proofs.Common.{◌≡◌, ℕ, Bool, true, false, cond, not, ◌&&◌, List, [], ◌∷◌, ◌++◌, refl, sym, ◌∙◌, ap, append_assoc}
+use Rattle.std.proofs.lemmas.Bool.{or_parts}
 use Rattle.iri_grammar.specs.Cut.{lacks}
 use Rattle.iri_grammar.proofs.CutLaws.{by_test, both}
 use Rattle.iri_grammar.specs.Parts.{starts_with_slash}
@@ -9,13 +10,12 @@ use Rattle.iri_normal.specs.DotRemoval.{is_two_dots, closed, remove_after, remov
 use Rattle.iri_normal.specs.Guard.{guard}
 use Rattle.iri_normal.proofs.PieceLaws.{all_lack, pieces-some, pieces-append, pieces-whole, pieces-lack, nothing-is_no_dot}
 use Rattle.iri_normal.proofs.OutputLaws.{is_output, left, output-push, output-left, output-closed}
-use Rattle.iri_normal.proofs.EndedLemmas.{neither}
 
 -- ---- none is left
 plain-left : (two : Bool) (st : List (List ℕ)) → any_dot_segment st ≡ false → any_dot_segment (left two st) ≡ false
 plain-left true [] h = rw nothing-is_no_dot refl
 plain-left true (s ∷ []) h = rw nothing-is_no_dot refl
-plain-left true (s ∷ t ∷ ss) h = (neither (is_dot_segment s) (any_dot_segment (t ∷ ss)) h).1
+plain-left true (s ∷ t ∷ ss) h = (or_parts (is_dot_segment s) (any_dot_segment (t ∷ ss)) h).1
 plain-left false st h = h
 
 plain-closed : (ss st : List (List ℕ)) → any_dot_segment st ≡ false → any_dot_segment (closed ss st) ≡ false
@@ -62,14 +62,14 @@ output-removed (s ∷ ss) h =
 
 any-append : (xs ys : List (List ℕ)) → any_dot_segment xs ≡ false → any_dot_segment ys ≡ false → any_dot_segment (xs ++ ys) ≡ false
 any-append [] ys h k = k
-any-append (x ∷ xs) ys h k = let n = neither (is_dot_segment x) (any_dot_segment xs) h in rw n.0 (any-append xs ys n.1 k)
+any-append (x ∷ xs) ys h k = let n = or_parts (is_dot_segment x) (any_dot_segment xs) h in rw n.0 (any-append xs ys n.1 k)
 
 plain-text : (st : List (List ℕ)) → is_output st ≡ true → any_dot_segment st ≡ false → has_dot_segment (path_text st) ≡ false
 plain-text [] h k = rw nothing-is_no_dot refl
 plain-text (s ∷ []) h k = rw (pieces-whole s (both (lacks 47 s) true h).0) k
 plain-text (s ∷ t ∷ ss) h k =
     let parts = both (lacks 47 s) (all_lack (t ∷ ss)) h in
-    let n = neither (is_dot_segment s) (any_dot_segment (t ∷ ss)) k in
+    let n = or_parts (is_dot_segment s) (any_dot_segment (t ∷ ss)) k in
     ap any_dot_segment (pieces-append (path_text (t ∷ ss)) s)
     ∙ any-append (pieces 47 (path_text (t ∷ ss))) (pieces 47 s) (plain-text (t ∷ ss) parts.1 n.1) (rw (pieces-whole s parts.0, n.0) refl)
 
@@ -109,13 +109,13 @@ same-after t st [] h = sym (append-nothing (path_text (t ∷ st)))
     append-nothing [] = refl
     append-nothing (x ∷ xs) = ap (λ ys. x ∷ ys) (append-nothing xs)
 same-after t st (s ∷ ss) h =
-    let n = neither (is_dot_segment s) (any_dot_segment ss) h in
+    let n = or_parts (is_dot_segment s) (any_dot_segment ss) h in
     rw n.0 (same-after s (t ∷ st) ss n.1 ∙ append_assoc (path_text (t ∷ st)) (47 ∷ s) (slashed ss))
 
 same-removed : (ss : List (List ℕ)) → any_dot_segment ss ≡ false → path_text (remove_dots ss) ≡ unsplit ss
 same-removed [] h = refl
 same-removed (s ∷ ss) h =
-    let n = neither (is_dot_segment s) (any_dot_segment ss) h in rw n.0 (same-after s [] ss n.1)
+    let n = or_parts (is_dot_segment s) (any_dot_segment ss) h in rw n.0 (same-after s [] ss n.1)
 
 pub no_dots-same : (p : List ℕ) → has_dot_segment p ≡ false → dots p ≡ p
 unfolding dots

@@ -2,6 +2,7 @@
 use Rattle.std.proofs.Common.{◌≡◌, ℕ, Bool, true, false, cond, ◌||◌, List, [], ◌∷◌, ◌++◌, Option, Some, None, refl, sym, ◌∙◌, ap, subst}
 use Rattle.std.proofs.Common.{append_assoc}
 use Rattle.std.proofs.lemmas.List.{append-nil}
+use Rattle.std.proofs.lemmas.Bool.{or_parts}
 use Rattle.iri_grammar.specs.Cut.{before, after}
 use Rattle.iri_grammar.specs.Parts.{is_empty}
 use Rattle.iri_grammar.specs.Pieces.{pieces, joined}
@@ -11,7 +12,7 @@ use Rattle.iri_grammar.proofs.PiecesLaws.{pieces_cut}
 use Rattle.iri_normal.specs.DotRemoval.{is_two_dots, without_last, dots}
 use Rattle.iri_normal.specs.Dots.{is_dot_segment, any_dot_segment, has_dot_segment}
 use Rattle.iri_normal.specs.Target.{ends_at_slash}
-use Rattle.iri_normal.proofs.EndedLemmas.{both-end, neither, slash-ends}
+use Rattle.iri_normal.proofs.EndedLemmas.{both-end, slash-ends}
 use Rattle.iri_normal.proofs.SegmentLemmas.{alone, ended}
 use Rattle.iri_normal.proofs.OutputLaws.{text_after, text_from, dots-text}
 use Rattle.iri_normal.proofs.PieceLaws.{pieces-some, nothing-is_no_dot}
@@ -92,9 +93,9 @@ written-dot b m h = ap (written_segments b) (pieces_cut 47 m) ∙ rw h (by_rest 
 plain-joined : (b : List ℕ) (ss : List (List ℕ)) → any_dot_segment ss ≡ false → written_segments b ss ≡ b ++ joined 47 ss
 plain-joined b [] h = sym (append-nil b)
 plain-joined b (s ∷ []) h =
-    let n = neither (is_dot_segment s) false h in rw n.0 (ap (λ l. b ++ l) (append-nil s))
+    let n = or_parts (is_dot_segment s) false h in rw n.0 (ap (λ l. b ++ l) (append-nil s))
 plain-joined b (s ∷ t ∷ ts) h =
-    let n = neither (is_dot_segment s) (any_dot_segment (t ∷ ts)) h in
+    let n = or_parts (is_dot_segment s) (any_dot_segment (t ∷ ts)) h in
     rw n.0 (plain-joined (b ++ (s ++ 47 ∷ [])) (t ∷ ts) n.1
     ∙ (append_assoc b (s ++ 47 ∷ []) (joined 47 (t ∷ ts)) ∙ ap (λ l. b ++ l) (append_assoc s (47 ∷ []) (joined 47 (t ∷ ts)))))
 

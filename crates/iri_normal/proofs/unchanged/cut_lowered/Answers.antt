@@ -1,4 +1,5 @@
 use Rattle.std.proofs.Common.{◌∙◌, ap, arith, subst, sym}
+use Rattle.std.proofs.lemmas.Bool.{or_parts}
 use Rattle.iri_grammar.specs.Components.{if_there}
 use Rattle.iri_grammar.specs.OptionalSlices.{now_of}
 use Rattle.iri_grammar.specs.Parts.{Fits, Parts}
@@ -7,7 +8,6 @@ use Rattle.iri_grammar.specs.Split.{split_of}
 use Rattle.iri_types.specs.SplitText.{split_text}
 use Rattle.iri_normal.proofs.DotLemmas.{no_dots}
 use Rattle.iri_normal.proofs.PlainReferences.{lowered-before}
-use Rattle.iri_normal.proofs.EndedLemmas.{neither}
 use Rattle.iri_normal.proofs.unchanged.cut_lowered.Goals as goal
 
 pub returns : goal.returns
@@ -17,7 +17,7 @@ returns g c =
     let split = c.parts-parts.ensures.split in
     let n = c.seen-seen.result in
     let promised = c.seen-seen.ensures.promises in
-    let k = neither n.dots n.other_authority c.if-seen.false in
+    let k = or_parts n.dots n.other_authority c.if-seen.false in
     let scheme = sym (ap (λ (p : Parts). p.scheme) split) ∙ (sym c.scheme.ensures ∙ ap now_of c.in-Some.is) in
     let plain = ap (λ (p : Parts). if_there is_plain_authority p.authority) (sym split) ∙ promised.5 k.1 in
     let none = no_dots (split_of t).path (ap (λ (p : Parts). may_have_dots p.path) (sym split) ∙ promised.3 k.0) in
