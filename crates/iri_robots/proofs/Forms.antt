@@ -1,12 +1,14 @@
 -- The compared form, from the left.
-use Rattle.std.proofs.Common.{◌≡◌, ℕ, ◌<◌, ◌≤◌, Bool, true, false, ◌&&◌, ◌||◌, List, [], ◌∷◌, ◌++◌, Some, None, length, drop}
-use Rattle.std.proofs.Common.{get_or, map}
+use Rattle.std.proofs.Common.{◌≡◌, ℕ, ◌<◌, ◌≤◌, Bool, true, false, ◌&&◌, ◌||◌, List, [], ◌∷◌, ◌++◌, Option, Some, None, length, drop}
+use Rattle.std.proofs.Common.{get_or, map, take, suc, cond, Bor}
 use Rattle.std.proofs.Common.{refl, sym, ◌∙◌, ap, subst, arith, append-nil}
 use Rattle.std.specs.Prelude.{◌==◌, ◌/◌, ◌%◌, nat_lt}
 use Rattle.std.specs.Char.{is_ascii_hexdigit, to_ascii_uppercase, encode_utf8}
 use Rattle.std.proofs.lemmas.Str.{encode_ascii}
 use Rattle.std.proofs.lemmas.Bool.Decides.{nat_tests}
 use Rattle.iri_grammar.specs.Classes.{uri_tests, unreserved, is_ascii_unreserved}
+use Rattle.iri_grammar.specs.Runs.{run_of}
+use Rattle.iri_grammar.proofs.Units.{run_of_le}
 use Rattle.iri_percent.specs.Units.{octet, octets, two_digits}
 use Rattle.iri_percent.specs.Triplets.{normal, as_it_is}
 use Rattle.iri_percent.specs.ByteForm.{all_written}
@@ -20,9 +22,10 @@ use Rattle.iri_percent.proofs.MapTexts.{mapped-low, mapped-high, mapped-triplet,
 use Rattle.iri_percent.proofs.MapTexts.{octet_of}
 use Rattle.iri_percent.proofs.NormalLaws.{normal_nil, normal_plain, normal_decoded, normal_kept}
 use Rattle.iri_percent.proofs.UnitLaws.{Spells, none, more, octets_triplet}
-use Rattle.iri_robots.specs.Compared.{compared}
-use Rattle.iri_robots.specs.inside.Prefixes.{IsPrefix}
-use Rattle.iri_robots.specs.declared.compared.Written.TheVariants.{Char, Triplet}
+use Rattle.iri_robots.specs.Compared.{compared, query_text}
+use Rattle.iri_robots.proofs.FormLaws.{compared_delimiter}
+use Rattle.iri_robots.specs.inside.Prefixes.{IsPrefix, stays}
+use Rattle.iri_robots.specs.declared.compared.Written.TheVariants.{Run, Char, Triplet}
 
 -- ---- what is decoded: the first octet alone tells it
 or_false : (b : Bool) → (b || false) ≡ b
@@ -144,12 +147,34 @@ compared_stray xs h =
     ∙ ap (λ z. 37 ∷ z) (sym (normal-by_bytes uri_tests as_it_is t))
 
 -- ---- prefixes
-pub prefix_low : (t : List ℕ) → 0 < length t → get_or t 0 0 < 128 → (get_or t 0 0 == 37) ≡ false → IsPrefix t (Char (get_or t 0 0)) 1
-prefix_low [] s l n = absurd (omega arith)
-prefix_low (x ∷ xs) s l n = record {
-  text = compared_low x xs l n ∙ ap (λ z. z ++ compared xs) (sym (encode_ascii x l));
-  within = omega arith;
-  some = omega arith;
+pub stays_low : (x : ℕ) → stays x ≡ true → x < 128
+stays_low x h = grind (arith, nat_tests)
+
+stays_plain : (x : ℕ) → stays x ≡ true → (x == 37) ≡ false
+stays_plain x h = grind (arith, nat_tests)
+
+pub low_stays : (x : ℕ) → x < 128 → (x == 37) ≡ false → stays x ≡ true
+low_stays x l n = grind (arith, nat_tests)
+
+compared_run : (t : List ℕ) → compared t ≡ take (run_of stays t) t ++ compared (drop (run_of stays t) t)
+compared_run [] = refl
+compared_run (x ∷ xs) =
+    elim (stays x) as (λ b. stays x ≡ b → compared (x ∷ xs)
+    ≡ take (cond b (suc (run_of stays xs)) 0) (x ∷ xs) ++ compared (drop (cond b (suc (run_of stays xs)) 0) (x ∷ xs))) [
+      | true ↦ λ e. compared_low x xs (stays_low x e) (stays_plain x e) ∙ ap (λ l. x ∷ l) (compared_run xs)
+      | false ↦ λ e. refl
+    ] refl
+
+run_some : (t : List ℕ) → 0 < length t → stays (get_or t 0 0) ≡ true → 0 < run_of stays t
+run_some [] s h = absurd (omega arith)
+run_some (x ∷ xs) s h = rw h (omega arith)
+
+pub prefix_run : (t : List ℕ) (r : Bor (List ℕ)) → 0 < length t → stays (get_or t 0 0) ≡ true → r.now ≡ take (run_of stays t) t
+    → IsPrefix t (Run r) (run_of stays t)
+prefix_run t r s h e = record {
+  text = compared_run t ∙ ap (λ z. z ++ compared (drop (run_of stays t) t)) (sym e);
+  within = run_of_le stays t;
+  some = run_some t s h;
   digits = tt;
 }
 
@@ -231,6 +256,14 @@ stray_second (x ∷ a ∷ []) h = refl
 stray_second (x ∷ a ∷ b ∷ xs) h = second_other a b xs h
 
 -- ---- the text so far, and what is left
-pub form_ends : (t form rest : List ℕ) → compared t ≡ form ++ compared rest → length rest ≡ 0 → form ≡ compared t
-form_ends t form (x ∷ rest) h e = absurd (omega arith)
-form_ends t form [] h e = sym (h ∙ ap (λ z. form ++ z) compared_nil ∙ append-nil form)
+pub form_ends : (prior form t rest : List ℕ) → prior ++ compared t ≡ form ++ compared rest → length rest ≡ 0 → form ≡ prior ++ compared t
+form_ends prior form t (x ∷ rest) h e = absurd (omega arith)
+form_ends prior form t [] h e = sym (h ∙ ap (λ z. form ++ z) compared_nil ∙ append-nil form)
+
+-- ---- a path, and a query after it
+pub query_mark : (q : List ℕ) → compared (63 ∷ q) ≡ 63 ∷ compared q
+query_mark q = compared_low 63 q (omega arith) refl
+
+pub query_form : (p : List ℕ) (q : Option (List ℕ)) → compared p ++ compared (query_text q) ≡ compared (p ++ query_text q)
+query_form p None = ap (λ z. compared p ++ z) compared_nil ∙ append-nil (compared p) ∙ ap compared (sym (append-nil p))
+query_form p (Some q) = ap (λ z. compared p ++ z) (query_mark q) ∙ sym (compared_delimiter p q)

@@ -3,29 +3,64 @@ ghost use Rattle.std.specs.Prelude.{◌≡◌, ◌<◌, ◌≤◌, ◌++◌, tru
 ghost use Rattle.std.specs.Char.{is_ascii_hexdigit};
 ghost use Rattle.iri_grammar.specs.Characters.{percent_sign};
 ghost use Rattle.iri_robots.specs.Compared.{compared};
-ghost use Rattle.iri_robots.specs.inside.Prefixes.{IsPrefix, HasAsciiDigits, written_text};
+ghost use Rattle.iri_grammar.specs.Runs.{run_of};
+ghost use Rattle.iri_robots.specs.inside.Prefixes.{IsPrefix, HasAsciiDigits, stays, written_text};
 
 use iri_grammar::spec::UriSpec;
 use iri_percent::capital_digit;
 use iri_percent::character::decoded_char;
 use std::alloc::{AllocError, Global};
+use std::str;
 
-// A character, or a percent-encoded octet of these digits.
+// A run that stays, a character, or a percent-encoded octet of these digits.
 #[derive(Clone, Copy)]
-enum Written {
+enum Written<'a> {
+    Run(&'a str),
     Char(char),
     Triplet(u8, u8),
 }
 
 // What so many bytes at the start of a text are written as.
 #[derive(Clone, Copy)]
-struct Prefix {
-    written: Written,
+struct Prefix<'a> {
+    written: Written<'a>,
     taken: usize,
 }
 
+// An ASCII character but `%` stays as it is.
+fn stays(b: u8) -> bool
+    ensures { result ≡ stays b }
+{
+    b < 128 && b != b'%'
+}
+
+// How many bytes at the start stay.
+fn run_len(text: &[u8]) -> usize
+    ensures { result ≡ run_of stays text.now }
+{
+    for (i, b) in text.iter().enumerate() {
+        if !stays(*b) {
+            return i;
+        }
+    }
+    text.len()
+}
+
+// The start of a text that begins with a byte that stays.
+fn run_prefix(text: &[u8]) -> Prefix<'_>
+    requires { (0 < length text.now) × (stays (slice_index text.now 0) ≡ true) }
+    ensures { IsPrefix text.now result.written result.taken }
+{
+    let taken = run_len(text);
+    let run = unsafe { str::from_utf8_unchecked(&text[..taken]) };
+    Prefix {
+        written: Written::Run(run),
+        taken,
+    }
+}
+
 // The start of a text that begins with a percent-encoded octet.
-fn triplet_prefix(text: &[u8]) -> Prefix
+fn triplet_prefix(text: &[u8]) -> Prefix<'_>
     requires { (3 ≤ length text.now) × (slice_index text.now 0 ≡ percent_sign)
         × (is_ascii_hexdigit (slice_index text.now 1) ≡ true) × (is_ascii_hexdigit (slice_index text.now 2) ≡ true) }
     ensures { IsPrefix text.now result.written result.taken }
@@ -43,7 +78,7 @@ fn triplet_prefix(text: &[u8]) -> Prefix
 }
 
 // The start of a text that begins with a `%`.
-fn percent_prefix(text: &[u8]) -> Prefix
+fn percent_prefix(text: &[u8]) -> Prefix<'_>
     requires { (0 < length text.now) × (slice_index text.now 0 ≡ percent_sign) }
     ensures { IsPrefix text.now result.written result.taken }
 {
@@ -56,7 +91,7 @@ fn percent_prefix(text: &[u8]) -> Prefix
     triplet_prefix(text)
 }
 
-fn prefix_of(text: &[u8]) -> Prefix
+fn prefix_of(text: &[u8]) -> Prefix<'_>
     requires { 0 < length text.now }
     ensures { IsPrefix text.now result.written result.taken }
 {
@@ -70,17 +105,15 @@ fn prefix_of(text: &[u8]) -> Prefix
     if first == b'%' {
         return percent_prefix(text);
     }
-    Prefix {
-        written: Written::Char(char::from(first)),
-        taken: 1,
-    }
+    run_prefix(text)
 }
 
-fn append(form: &mut String, written: Written) -> Result<(), AllocError>
+fn append(form: &mut String, written: Written<'_>) -> Result<(), AllocError>
     requires { HasAsciiDigits written }
-    ensures { OnOk result (string_bytes form.new ≡ string_bytes form.old ++ written_text written) }
+    ensures { OnOk result (string_bytes form.new ≡ string_bytes form.old ++ written_text written.entry) }
 {
     match written {
+        Written::Run(run) => form.push_str(run),
         Written::Char(c) => form.push(c),
         Written::Triplet(high, low) => {
             form.push('%')?;
@@ -90,16 +123,24 @@ fn append(form: &mut String, written: Written) -> Result<(), AllocError>
     }
 }
 
+// Writes a text in the form in which it is compared.
+pub(crate) fn push_form(form: &mut String, text: &[u8]) -> Result<(), AllocError>
+    ensures { OnOk result (string_bytes form.new ≡ string_bytes form.old ++ compared text.now) }
+{
+    let mut rest = text;
+    while !rest.is_empty() {
+        let prefix = prefix_of(rest);
+        append(form, prefix.written)?;
+        rest = &rest[prefix.taken..];
+    }
+    Ok(())
+}
+
 // A text in the form in which it is compared.
 pub(crate) fn compared_form(alloc: Global, text: &[u8]) -> Result<String, AllocError>
     ensures { IfOk result (λ form. string_bytes form ≡ compared text.now) }
 {
     let mut form = String::with_capacity(alloc, text.len())?;
-    let mut rest = text;
-    while !rest.is_empty() {
-        let prefix = prefix_of(rest);
-        append(&mut form, prefix.written)?;
-        rest = &rest[prefix.taken..];
-    }
+    push_form(&mut form, text)?;
     Ok(form)
 }

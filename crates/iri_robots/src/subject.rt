@@ -4,9 +4,9 @@ ghost use Rattle.iri_grammar.specs.OptionalSlices.{now_of};
 ghost use Rattle.iri_grammar.specs.Split.{split_of};
 ghost use Rattle.iri_types.specs.SplitText.{split_text};
 ghost use Rattle.iri_types.specs.Texts.{text};
-ghost use Rattle.iri_robots.specs.Compared.{path_text, query_text, subject};
+ghost use Rattle.iri_robots.specs.Compared.{compared, path_text, query_text, subject};
 
-use crate::compared::compared_form;
+use crate::compared::push_form;
 use iri_grammar::spec::Spec;
 use iri_text::Text;
 use iri_types::kind::Iri;
@@ -14,23 +14,24 @@ use iri_types::split::SplitView;
 use iri_types::view::RiStr;
 use std::alloc::{AllocError, Global};
 
-fn push_path(whole: &mut String, path: &str) -> Result<(), AllocError>
-    ensures { OnOk result (string_bytes whole.new ≡ string_bytes whole.old ++ path_text path.now) }
+fn push_path(form: &mut String, path: &str) -> Result<(), AllocError>
+    ensures { OnOk result (string_bytes form.new ≡ string_bytes form.old ++ compared (path_text path.now)) }
 {
     if path.is_empty() {
-        whole.push('/')
+        push_form(form, b"/")
     } else {
-        whole.push_str(path)
+        push_form(form, path.as_bytes())
     }
 }
 
-fn push_query(whole: &mut String, query: Option<&str>) -> Result<(), AllocError>
-    ensures { OnOk result (string_bytes whole.new ≡ string_bytes whole.old ++ query_text (now_of query.entry)) }
+fn push_query(form: &mut String, query: Option<&str>) -> Result<(), AllocError>
+    ensures { OnOk result (string_bytes form.new
+        ≡ string_bytes form.old ++ compared (query_text (now_of query.entry))) }
 {
     match query {
         Some(query) => {
-            whole.push('?')?;
-            whole.push_str(query)
+            form.push('?')?;
+            push_form(form, query.as_bytes())
         }
         None => Ok(()),
     }
@@ -68,6 +69,7 @@ pub fn subject_of<S: Spec>(alloc: Global, target: RiStr<'_, S>) -> Result<Text, 
 /// let target = SplitView::of(UriStr::new("http://example.com?a#b")?);
 /// assert_eq!(rt; subject_of_split(rt.alloc(), &target)?.as_str(), "/?a");
 /// ```
+#[tactic(auto, using(crate::proofs::Forms::query_form))]
 pub fn subject_of_split<S: Spec>(
     alloc: Global,
     target: &SplitView<'_, S, Iri>,
@@ -75,9 +77,8 @@ pub fn subject_of_split<S: Spec>(
     ensures { IfOk result (λ t. t ≡ subject (split_of (split_text target.now))) }
 {
     let parts = target.parts();
-    let mut whole = String::with_capacity(alloc, target.view().len())?;
-    push_path(&mut whole, parts.path())?;
-    push_query(&mut whole, parts.query())?;
-    let form = compared_form(alloc, whole.as_bytes())?;
+    let mut form = String::with_capacity(alloc, target.view().len())?;
+    push_path(&mut form, parts.path())?;
+    push_query(&mut form, parts.query())?;
     Ok(Text::from_string(form))
 }

@@ -1,7 +1,6 @@
-use Rattle.std.proofs.Common.{rules, sym, arith, subst}
-use Rattle.iri_robots.specs.inside.Prefixes.{IsPrefix}
-use Rattle.iri_robots.specs.declared.compared.Written.TheVariants.{Char}
-use Rattle.iri_robots.proofs.Forms.{prefix_past, prefix_low}
+use Rattle.std.proofs.Common.{rules, arith}
+use Rattle.std.specs.Prelude.{slice_index}
+use Rattle.iri_robots.proofs.Forms.{prefix_past, low_stays}
 use Rattle.iri_robots.proofs.compared.prefix_of.Goals as goal
 
 pub returns-then-first-ge128 : goal.returns-then-first-ge128
@@ -10,7 +9,5 @@ returns-then-first-ge128 c =
     rules)
     c.capital_digit.ensures c.capital_digit-then-first-ge128.ensures
 
-pub returns : goal.returns
-returns c =
-    subst (λ x. IsPrefix c.args.text.now (Char x) 1) (sym c.from.ensures)
-    (prefix_low c.args.text.now c.requires (omega (arith, c.if-first-ge128.false)) (search rules))
+pub run_prefix-requires : goal.run_prefix-requires
+run_prefix-requires c = (c.requires, low_stays (slice_index c.args.text.now 0) (omega (arith, c.if-first-ge128.false)) (search rules))

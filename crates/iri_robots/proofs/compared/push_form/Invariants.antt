@@ -1,9 +1,10 @@
 use Rattle.std.proofs.Common.{◌≡◌, ◌++◌, length, string_bytes}
 use Rattle.iri_robots.specs.Compared.{compared}
-use Rattle.iri_robots.proofs.compared.compared_form.Given as goal
+use Rattle.iri_robots.proofs.compared.push_form.Given as goal
 
+-- what is written, and what is left
 abbrev pub invariant-loop-rest : goal.invariant-loop-rest
-invariant-loop-rest l = compared l.text ≡ string_bytes l.form ++ compared l.rest
+invariant-loop-rest l = string_bytes l.initial.form ++ compared l.text ≡ string_bytes l.form ++ compared l.rest
 
 abbrev pub decreases-loop-rest : goal.decreases-loop-rest
 decreases-loop-rest l = length l.rest
