@@ -1,3 +1,4 @@
+use crate::same::same_at;
 use iri_grammar::class::{
     is_any_char, is_fragment_char, is_path_char, is_pchar, is_query_char, is_reg_name_char,
     is_unreserved, is_userinfo_char,
@@ -39,8 +40,8 @@ fn delimiters_are_in_their_classes(rt: HostRuntime) {
         ("%\"<>\\^`{|} \u{0}\u{7F}", NONE),
     ] {
         for c in text.chars() {
-            assert!(rt; answers::<UriSpec>(c) == want, "at {c}");
-            assert!(rt; answers::<IriSpec>(c) == want, "at {c}");
+            same_at(&rt, c, answers::<UriSpec>(c), want);
+            same_at(&rt, c, answers::<IriSpec>(c), want);
         }
     }
 }
@@ -72,9 +73,9 @@ fn borders_of_ucschar(rt: HostRuntime) {
         ('\u{F0000}', false),
         ('\u{10FFFF}', false),
     ] {
-        assert!(rt; is_unreserved::<IriSpec>(c) == want, "at {c}");
-        assert!(rt; is_fragment_char::<IriSpec>(c) == want, "at {c}");
-        assert!(rt; !is_unreserved::<UriSpec>(c), "at {c}");
+        same_at(&rt, c, is_unreserved::<IriSpec>(c), want);
+        same_at(&rt, c, is_fragment_char::<IriSpec>(c), want);
+        same_at(&rt, c, is_unreserved::<UriSpec>(c), false);
     }
 }
 
@@ -85,8 +86,8 @@ fn borders_of_ucschar_in_each_plane(rt: HostRuntime) {
         for &(last, want) in &[(0, true), (0xFFFD, true), (0xFFFE, false), (0xFFFF, false)] {
             match char::from_u32((plane << 16) | last) {
                 Some(c) => {
-                    assert!(rt; is_unreserved::<IriSpec>(c) == want, "at {c}");
-                    assert!(rt; !is_unreserved::<UriSpec>(c), "at {c}");
+                    same_at(&rt, c, is_unreserved::<IriSpec>(c), want);
+                    same_at(&rt, c, is_unreserved::<UriSpec>(c), false);
                 }
                 None => assert!(rt; false),
             }
@@ -112,10 +113,10 @@ fn borders_of_iprivate(rt: HostRuntime) {
         ('\u{10FFFE}', false),
         ('\u{10FFFF}', false),
     ] {
-        assert!(rt; IriSpec::is_nonascii_char_private(c) == want, "at {c}");
-        assert!(rt; !want || is_query_char::<IriSpec>(c), "at {c}");
-        assert!(rt; !want || is_any_char::<IriSpec>(c), "at {c}");
-        assert!(rt; !want || !is_path_char::<IriSpec>(c), "at {c}");
-        assert!(rt; !is_query_char::<UriSpec>(c), "at {c}");
+        same_at(&rt, c, IriSpec::is_nonascii_char_private(c), want);
+        same_at(&rt, c, !want || is_query_char::<IriSpec>(c), true);
+        same_at(&rt, c, !want || is_any_char::<IriSpec>(c), true);
+        same_at(&rt, c, !want || !is_path_char::<IriSpec>(c), true);
+        same_at(&rt, c, is_query_char::<UriSpec>(c), false);
     }
 }

@@ -9,6 +9,8 @@ mod components;
 #[cfg(test)]
 mod notes;
 #[cfg(test)]
+mod same;
+#[cfg(test)]
 mod units;
 #[cfg(test)]
 mod wholes;

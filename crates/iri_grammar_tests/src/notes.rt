@@ -1,3 +1,4 @@
+use crate::same::{same, same_at};
 use iri_grammar::spec::{IriSpec, Spec, UriSpec};
 use iri_grammar::splitter::Splitter;
 
@@ -34,7 +35,7 @@ fn what_needs_no_note(rt: HostRuntime) {
         "urn:a:B",
         "/\u{3B1}/\u{3B2}.\u{3B3}?\u{3B1}",
     ] {
-        assert_eq!(rt; notes::<IriSpec>(text), Some(NOTHING), "{text}");
+        same_at(&rt, text, notes::<IriSpec>(text), Some(NOTHING));
     }
 }
 
@@ -60,14 +61,14 @@ fn what_is_noted(rt: HostRuntime) {
         ("//%41", [false, false, false, false, true, true]),
         ("//\u{3B1}", [false, false, false, false, true, true]),
     ] {
-        assert_eq!(rt; notes::<IriSpec>(text), Some(notes_of), "{text}");
+        same_at(&rt, text, notes::<IriSpec>(text), Some(notes_of));
     }
 }
 
 #[test]
 fn ports_and_faults(rt: HostRuntime) {
     for &text in &["//h:8a", "//h:80:90", "//h::", "//h:80@a:b:c"] {
-        assert!(rt; Splitter::new::<UriSpec>(text).is_err(), "{text}");
+        same_at(&rt, text, Splitter::new::<UriSpec>(text).is_err(), true);
     }
     for &(text, authority) in &[
         ("//h:80?q", "h:80"),
@@ -78,6 +79,6 @@ fn ports_and_faults(rt: HostRuntime) {
             Ok(parts) => parts.authority(),
             Err(_) => None,
         };
-        assert_eq!(rt; cut, Some(authority));
+        same(&rt, cut, Some(authority));
     }
 }

@@ -2,6 +2,7 @@ ghost use Rattle.iri_grammar.specs.Classes.{iri_tests};
 ghost use Rattle.iri_grammar.specs.inside.Laws.{iri_is_spec};
 
 use crate::notes::{NOTHING, notes};
+use crate::same::same_at;
 use iri_grammar::class::Class;
 use iri_grammar::over::is_over;
 use iri_grammar::spec::{IriSpec, Spec, UriSpec};
@@ -47,14 +48,11 @@ fn characters_by_their_first_bytes(rt: HostRuntime) {
     ] {
         let mut buf = [0u8; 4];
         let s: &str = c.encode_utf8(&mut buf);
-        assert!(rt; is_over::<IriSpec>(Class::Path, s) == want, "at {c}");
-        assert!(rt;
-            is_over::<TestsAlone>(Class::Path, s) == want,
-            "at {c}, by the tests alone"
-        );
-        assert!(rt; !is_over::<UriSpec>(Class::Path, s), "at {c}");
+        same_at(&rt, c, is_over::<IriSpec>(Class::Path, s), want);
+        same_at(&rt, c, is_over::<TestsAlone>(Class::Path, s), want);
+        same_at(&rt, c, is_over::<UriSpec>(Class::Path, s), false);
         let taken = if want { Some(NOTHING) } else { None };
-        assert_eq!(rt; notes::<IriSpec>(s), taken, "at {c}");
-        assert_eq!(rt; notes::<TestsAlone>(s), taken, "at {c}, by the tests alone");
+        same_at(&rt, c, notes::<IriSpec>(s), taken);
+        same_at(&rt, c, notes::<TestsAlone>(s), taken);
     }
 }

@@ -1,3 +1,4 @@
+use crate::same::{same, same_at};
 use iri_grammar::error::{Error, ErrorKind};
 use iri_grammar::spec::{IriSpec, Spec, UriSpec};
 use iri_grammar::splitter::Splitter;
@@ -13,7 +14,7 @@ fn fault(answer: Result<(), Error>) -> Option<ErrorKind> {
 }
 
 fn answers(rt: &impl Abort, answer: Result<(), Error>, want: Option<ErrorKind>) {
-    assert_eq!(rt; fault(answer), want);
+    same(rt, fault(answer), want);
 }
 
 // RFC 3986 section 1.1.2.
@@ -71,15 +72,15 @@ static RELATIVES: [&str; 36] = [
 #[test]
 fn takes_the_examples(rt: HostRuntime) {
     for &text in &URIS {
-        assert_eq!(rt; fault(iri_reference::<UriSpec>(text)), None, "{text}");
-        assert_eq!(rt; fault(iri::<UriSpec>(text)), None, "{text}");
-        assert_eq!(rt; fault(absolute_iri::<UriSpec>(text)), None, "{text}");
-        assert_eq!(rt; fault(iri::<IriSpec>(text)), None, "{text}");
+        same_at(&rt, text, fault(iri_reference::<UriSpec>(text)), None);
+        same_at(&rt, text, fault(iri::<UriSpec>(text)), None);
+        same_at(&rt, text, fault(absolute_iri::<UriSpec>(text)), None);
+        same_at(&rt, text, fault(iri::<IriSpec>(text)), None);
     }
     for &text in &RELATIVES {
-        assert_eq!(rt; fault(iri_reference::<UriSpec>(text)), None, "{text}");
-        assert_eq!(rt; fault(relative_ref::<UriSpec>(text)), None, "{text}");
-        assert_eq!(rt; fault(relative_ref::<IriSpec>(text)), None, "{text}");
+        same_at(&rt, text, fault(iri_reference::<UriSpec>(text)), None);
+        same_at(&rt, text, fault(relative_ref::<UriSpec>(text)), None);
+        same_at(&rt, text, fault(relative_ref::<IriSpec>(text)), None);
     }
 }
 
@@ -101,8 +102,8 @@ fn tells_the_first_fault_of_a_reference(rt: HostRuntime) {
         ("http://a/?%#%", Some(ErrorKind::InvalidQuery)),
         ("http://a/?b#%", Some(ErrorKind::InvalidFragment)),
     ] {
-        assert_eq!(rt; fault(iri_reference::<UriSpec>(text)), want, "{text}");
-        assert_eq!(rt; fault(iri_reference::<IriSpec>(text)), want, "{text}");
+        same_at(&rt, text, fault(iri_reference::<UriSpec>(text)), want);
+        same_at(&rt, text, fault(iri_reference::<IriSpec>(text)), want);
     }
 }
 
@@ -110,14 +111,15 @@ fn tells_the_first_fault_of_a_reference(rt: HostRuntime) {
 fn tells_what_the_kind_of_text_asks(rt: HostRuntime) {
     let relative = Some(ErrorKind::UnexpectedRelative);
     for &text in &["a/b", "", "//a/", "?y", "a%"] {
-        assert_eq!(rt; fault(iri::<UriSpec>(text)), relative, "{text}");
-        assert_eq!(rt; fault(absolute_iri::<UriSpec>(text)), relative, "{text}");
+        same_at(&rt, text, fault(iri::<UriSpec>(text)), relative);
+        same_at(&rt, text, fault(absolute_iri::<UriSpec>(text)), relative);
     }
     for &text in &["1a:b", ":", "//a?b:c", "./a:b"] {
-        assert_eq!(rt;
+        same_at(
+            &rt,
+            text,
             fault(iri::<UriSpec>(text)),
             Some(ErrorKind::InvalidScheme),
-            "{text}"
         );
     }
     let unexpected = Some(ErrorKind::UnexpectedFragment);
@@ -151,30 +153,26 @@ fn takes_characters_past_ascii_in_iris_alone(rt: HostRuntime) {
     );
 }
 
-fn is_part(rt: &impl Abort, part: Option<&str>, want: Option<&str>) {
-    assert_eq!(rt; part, want);
-}
-
 #[test]
 fn splits_what_was_validated(rt: HostRuntime) {
     let text = "foo://example.com:8042/over/there?name=ferret#nose";
     match iri_reference::<IriSpec>(text) {
         Ok(()) => {
             let parts = Splitter::of::<IriSpec>(text);
-            is_part(&rt, parts.scheme(), Some("foo"));
-            is_part(&rt, parts.authority(), Some("example.com:8042"));
-            is_part(&rt, Some(parts.path()), Some("/over/there"));
-            is_part(&rt, parts.query(), Some("name=ferret"));
-            is_part(&rt, parts.fragment(), Some("nose"));
+            same(&rt, parts.scheme(), Some("foo"));
+            same(&rt, parts.authority(), Some("example.com:8042"));
+            same(&rt, Some(parts.path()), Some("/over/there"));
+            same(&rt, parts.query(), Some("name=ferret"));
+            same(&rt, parts.fragment(), Some("nose"));
         }
-        Err(e) => assert_eq!(rt; Some(e.kind()), None),
+        Err(e) => same(&rt, Some(e.kind()), None),
     }
     match Splitter::new::<IriSpec>("a#b?c") {
         Ok(parts) => {
-            is_part(&rt, parts.query(), None);
-            is_part(&rt, parts.fragment(), Some("b?c"));
+            same(&rt, parts.query(), None);
+            same(&rt, parts.fragment(), Some("b?c"));
         }
-        Err(e) => assert_eq!(rt; Some(e.kind()), None),
+        Err(e) => same(&rt, Some(e.kind()), None),
     }
 }
 
@@ -198,7 +196,7 @@ fn what_the_laws_say(rt: HostRuntime) {
     laws::utf8_and_chars();
     authority_laws::ipv6_is_groups();
     for &text in &RELATIVES {
-        assert!(rt; iri::<UriSpec>(text).is_err(), "{text}");
-        assert!(rt; relative_ref::<IriSpec>(text).is_ok(), "{text}");
+        same_at(&rt, text, iri::<UriSpec>(text).is_err(), true);
+        same_at(&rt, text, relative_ref::<IriSpec>(text).is_ok(), true);
     }
 }
