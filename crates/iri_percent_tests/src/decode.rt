@@ -1,4 +1,4 @@
-use crate::same::same;
+use crate::same::{same, same_at};
 use iri_percent::{DecodeTextError, DecodedFragment, decode_whatwg_bytes, laws};
 use iri_text::Bytes;
 use std::alloc::{AllocError, Global};
@@ -43,11 +43,11 @@ static WHOLE: [(&[u8], &[u8]); 14] = [
 fn whole_texts(rt: HostRuntime) -> Result<(), Fail> {
     for &(text, want) in &WHOLE {
         let decoded = decode_whatwg_bytes(text);
-        assert_eq!(rt; decoded.not_yet_decoded(), text);
+        same(&rt, decoded.not_yet_decoded(), text);
         let bytes = decoded.into_bytes(rt.alloc())?;
-        assert_eq!(rt; bytes.as_slice(), want);
+        same(&rt, bytes.as_slice(), want);
         let borrowed = if text == want { Some(text) } else { None };
-        assert_eq!(rt; decoded.to_bytes(), borrowed);
+        same(&rt, decoded.to_bytes(), borrowed);
     }
     Ok(())
 }
@@ -71,7 +71,7 @@ static STRINGS: [(&[u8], &str); 2] = [
 fn strings(rt: HostRuntime) -> Result<(), Fail> {
     for &(text, want) in &STRINGS {
         let got = decoded(rt.alloc(), text)?;
-        assert_eq!(rt; got.as_str(), want, "{text:?}");
+        same_at(&rt, text, got.as_str(), want);
     }
     // Where there is nothing to decode no memory is wanted.
     let empty = decode_whatwg_bytes(b"").into_string(rt.alloc());
@@ -93,7 +93,7 @@ fn octets_that_are_no_text(rt: HostRuntime) -> Result<(), Fail> {
     for &(text, want) in &NO_TEXTS {
         let refused = decode_whatwg_bytes(text).into_string(rt.alloc());
         let bytes = not_utf8(refused.err().ok_or("taken")?).ok_or(AllocError)?;
-        assert_eq!(rt; bytes.as_slice(), want, "{text:?}");
+        same_at(&rt, text, bytes.as_slice(), want);
     }
     Ok(())
 }
@@ -133,8 +133,8 @@ fn fragments(rt: HostRuntime) {
     let mut left = decode_whatwg_bytes(b"a%41%").bytes_fragments();
     same(&rt, left.size_hint(), (1, Some(5)));
     for &(fragment, rest) in &FRAGMENTS {
-        assert_eq!(rt; left.next(), fragment, "before {rest:?}");
-        assert_eq!(rt; left.not_yet_decoded(), rest);
+        same_at(&rt, rest, left.next(), fragment);
+        same(&rt, left.not_yet_decoded(), rest);
     }
     same(&rt, left.size_hint(), (0, Some(0)));
 }
@@ -151,7 +151,7 @@ fn fragments_of_words(rt: HostRuntime) {
         Some(DecodedFragment::Direct(b"world")),
         None,
     ] {
-        assert_eq!(rt; left.next(), want);
+        same(&rt, left.next(), want);
     }
 }
 
@@ -164,7 +164,7 @@ fn all_pairs_of_digits(rt: HostRuntime) {
             let text = [b'%', high, low];
             let stays = decode_whatwg_bytes(&text).to_bytes().is_some();
             let spells = digits.contains(&high) && digits.contains(&low);
-            assert!(rt; stays != spells, "at {high} {low}");
+            same_at(&rt, (high, low), stays != spells, true);
         }
     }
 }

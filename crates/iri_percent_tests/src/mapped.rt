@@ -1,4 +1,4 @@
-use crate::same::same;
+use crate::same::{same, same_at};
 use iri_grammar::spec::{IriSpec, Spec, UriSpec};
 use iri_owned::owned::{IriFragmentString, IriQueryString, IriString, Owned};
 use iri_percent::{IntoUri, MappedKind, MappedToUri, ToUri, laws};
@@ -68,7 +68,7 @@ fn characters(rt: HostRuntime) {
         ("a:", "a:"),
     ] {
         let mut buf = [0u8; 128];
-        assert_eq!(rt; mapped::<IriSpec, Iri>(&mut buf, text), want, "at {text}");
+        same_at(&rt, text, mapped::<IriSpec, Iri>(&mut buf, text), want);
     }
 }
 
@@ -160,5 +160,5 @@ fn what_the_laws_of_mapping_say(rt: HostRuntime) {
     laws::mapped_texts_are_uris::<IriSpec>();
     let mut buf = [0u8; 64];
     let text = mapped::<IriSpec, Iri>(&mut buf, "a:\u{3b1}");
-    assert!(rt; UriStr::new(text).is_ok(), "{text}");
+    same_at(&rt, text, UriStr::new(text).is_ok(), true);
 }

@@ -1,4 +1,4 @@
-use crate::same::same;
+use crate::same::{same, same_at};
 use iri_grammar::spec::{IriSpec, Spec, UriSpec};
 use iri_grammar::validate::{authority, host, query};
 use iri_percent::canon_mode::{CanonMode, default_port};
@@ -72,8 +72,8 @@ fn parts_of_both_grammars(rt: HostRuntime) {
         ("%41%C3%28%5A", "A%C3%28Z"),
     ] {
         let mut buf = [0u8; 64];
-        assert_eq!(rt; part::<UriSpec>(&mut buf, text), want, "at {text}");
-        assert_eq!(rt; part::<IriSpec>(&mut buf, text), want, "at {text}");
+        same_at(&rt, text, part::<UriSpec>(&mut buf, text), want);
+        same_at(&rt, text, part::<IriSpec>(&mut buf, text), want);
     }
 }
 
@@ -99,8 +99,8 @@ fn characters_past_ascii(rt: HostRuntime) {
         ),
     ] {
         let mut buf = [0u8; 64];
-        assert_eq!(rt; part::<UriSpec>(&mut buf, text), uri, "at {text}");
-        assert_eq!(rt; part::<IriSpec>(&mut buf, text), iri, "at {text}");
+        same_at(&rt, text, part::<UriSpec>(&mut buf, text), uri);
+        same_at(&rt, text, part::<IriSpec>(&mut buf, text), iri);
     }
     let mut buf = [0u8; 64];
     same(
@@ -125,8 +125,8 @@ fn ill_formed_sequences(rt: HostRuntime) {
         ),
     ] {
         let mut buf = [0u8; 64];
-        assert_eq!(rt; part::<UriSpec>(&mut buf, text), want, "at {text}");
-        assert_eq!(rt; part::<IriSpec>(&mut buf, text), want, "at {text}");
+        same_at(&rt, text, part::<UriSpec>(&mut buf, text), want);
+        same_at(&rt, text, part::<IriSpec>(&mut buf, text), want);
     }
 }
 
@@ -151,16 +151,8 @@ fn all_triplets(rt: HostRuntime) {
             continue;
         };
         let mut buf = [0u8; 8];
-        assert_eq!(rt;
-            part::<UriSpec>(&mut buf, text).as_bytes(),
-            want,
-            "at {octet}"
-        );
-        assert_eq!(rt;
-            part::<IriSpec>(&mut buf, text).as_bytes(),
-            want,
-            "at {octet}"
-        );
+        same_at(&rt, octet, part::<UriSpec>(&mut buf, text).as_bytes(), want);
+        same_at(&rt, octet, part::<IriSpec>(&mut buf, text).as_bytes(), want);
     }
 }
 
@@ -175,8 +167,8 @@ fn long_rows(rt: HostRuntime) -> Result<(), Fail> {
         uri.push_str("A%CE%B1%2F")?;
         iri.push_str("A\u{3b1}%2F")?;
         let mut buf = [0u8; 512];
-        assert_eq!(rt; part::<UriSpec>(&mut buf, text.as_str()), uri.as_str());
-        assert_eq!(rt; part::<IriSpec>(&mut buf, text.as_str()), iri.as_str());
+        same(&rt, part::<UriSpec>(&mut buf, text.as_str()), uri.as_str());
+        same(&rt, part::<IriSpec>(&mut buf, text.as_str()), iri.as_str());
     }
     Ok(())
 }
@@ -198,8 +190,8 @@ fn hosts(rt: HostRuntime) {
         ("\u{c9}X.COM%41", "no host", "\u{c9}X.COMA"),
     ] {
         let mut buf = [0u8; 64];
-        assert_eq!(rt; normal_host::<UriSpec>(&mut buf, text), uri, "at {text}");
-        assert_eq!(rt; normal_host::<IriSpec>(&mut buf, text), iri, "at {text}");
+        same_at(&rt, text, normal_host::<UriSpec>(&mut buf, text), uri);
+        same_at(&rt, text, normal_host::<IriSpec>(&mut buf, text), iri);
     }
 }
 
@@ -229,12 +221,12 @@ fn authorities_of_both_grammars(rt: HostRuntime) {
         let mut buf = [0u8; 64];
         for &dropped in &[None, Some("443")] {
             let shown = normal_authority::<UriSpec>(&mut buf, text, dropped);
-            assert_eq!(rt; shown, normal, "at {text}");
+            same_at(&rt, text, shown, normal);
         }
         let shown = normal_authority::<UriSpec>(&mut buf, text, Some("80"));
-        assert_eq!(rt; shown, without, "at {text}");
+        same_at(&rt, text, shown, without);
         let shown = normal_authority::<IriSpec>(&mut buf, text, Some("80"));
-        assert_eq!(rt; shown, without, "at {text}");
+        same_at(&rt, text, shown, without);
     }
 }
 
@@ -270,14 +262,18 @@ fn default_ports(rt: HostRuntime) {
         ("ftps", None),
         ("gopher", None),
     ] {
-        assert!(rt; default_port(scheme) == port, "at {scheme}");
-        assert!(rt;
-            CanonMode::Scheme.dropped_port(Some(scheme)) == port,
-            "at {scheme}"
+        same_at(&rt, scheme, default_port(scheme), port);
+        same_at(
+            &rt,
+            scheme,
+            CanonMode::Scheme.dropped_port(Some(scheme)),
+            port,
         );
-        assert!(rt;
+        same_at(
+            &rt,
+            scheme,
             CanonMode::Default.dropped_port(Some(scheme)).is_none(),
-            "at {scheme}"
+            true,
         );
     }
     assert!(rt; CanonMode::Scheme.dropped_port(None).is_none());
