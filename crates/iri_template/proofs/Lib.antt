@@ -15,3 +15,4 @@ pub mod PortionWalk
 pub mod VarSpecPortions
 pub mod PartWalk
 pub mod FixedLemmas
+pub mod PlacedNames

@@ -15,7 +15,7 @@ use Rattle.iri_template.specs.declared.error.ErrorKind.TheVariants.{InvalidExpre
 use Rattle.iri_template.proofs.FaultLemmas.{moved_moved, unmoved, varspecs_moved, moved_none, first_first, first_none}
 use denote.Ref.{Bor}
 use Rattle.iri_grammar.specs.OptionalSlices.{now_of}
-use Rattle.iri_template.specs.Left.{varspecs_left, IsTaken}
+use Rattle.iri_template.specs.Left.{varspecs_left}
 use Rattle.iri_grammar.specs.Classes.{Tests}
 use Rattle.iri_template.specs.Template.{Piece, literal, triplet, expression, operator_text, varspec_text, piece_text}
 use Rattle.iri_template.specs.Expansion.{row_of, varspec_texts}
@@ -84,26 +84,9 @@ pub bad_varspec : (at : ℕ) (t : List ℕ) (e : Error) → moved at (varspec_fa
     → varspecs_fault at (pieces 44 t) ≡ Some e
 bad_varspec at t e h = step at t ∙ ap (λ f. first f (varspecs_fault (at + length (before 44 t) + 1) (more_pieces 44 (after 44 t)))) h
 
--- the first name, and the others
-pub names_cut : (t : List ℕ) → map name_of (pieces 44 t) ≡ name_of (before 44 t) ∷ map name_of (more_pieces 44 (after 44 t))
-names_cut t = ap (map name_of) (pieces_cut 44 t)
-
 pub varspecs_anywhere : (at : ℕ) (vs : List (List ℕ)) → varspecs_fault at vs ≡ None → varspecs_fault 0 vs ≡ None
 varspecs_anywhere at vs h = let z : at + 0 ≡ at = omega arith in
     unmoved at (varspecs_fault 0 vs) (sym (varspecs_moved at 0 vs) ∙ (ap (λ n. varspecs_fault n vs) z ∙ h))
-
--- ---- the first of the varspecs
-pub taken : (t name : List ℕ) (o : Option (Bor (List ℕ))) → now_of o ≡ after 44 t → name ≡ name_of (before 44 t)
-    → moved 0 (varspec_fault (before 44 t)) ≡ None → varspecs_fault 0 (pieces 44 t) ≡ None → IsTaken name (pieces 44 t) (varspecs_left o)
-taken t name None e n h k = record {
-  names = names_cut t ∙ (ap (λ r. name_of (before 44 t) ∷ map name_of (more_pieces 44 r)) (sym e) ∙ ap (λ x. x ∷ []) (sym n));
-  fine = refl;
-}
-taken t name (Some r) e n h k = record {
-  names = names_cut t ∙ (ap (λ q. name_of (before 44 t) ∷ map name_of (more_pieces 44 q)) (sym e)
-      ∙ ap (λ x. x ∷ map name_of (pieces 44 r.now)) (sym n));
-  fine = varspecs_anywhere (0 + (length t - length r.now)) (pieces 44 r.now) (sym (more_varspecs 0 t r.now e h) ∙ k);
-}
 
 -- ---- the first varspec
 pub cut_spec : (t : List ℕ) (o : Option (Bor (List ℕ))) → now_of o ≡ after 44 t → pieces 44 t ≡ before 44 t ∷ varspecs_left o
@@ -112,7 +95,8 @@ cut_spec t (Some r) e = pieces_cut 44 t ∙ ap (λ o. before 44 t ∷ more_piece
 
 pub fine_left : (t : List ℕ) (o : Option (Bor (List ℕ))) → now_of o ≡ after 44 t → moved 0 (varspec_fault (before 44 t)) ≡ None
     → varspecs_fault 0 (pieces 44 t) ≡ None → varspecs_fault 0 (varspecs_left o) ≡ None
-fine_left t o e h k = (taken t (name_of (before 44 t)) o e refl h k).fine
+fine_left t None e h k = refl
+fine_left t (Some r) e h k = varspecs_anywhere (0 + (length t - length r.now)) (pieces 44 r.now) (sym (more_varspecs 0 t r.now e h) ∙ k)
 
 -- ---- what is written
 pub held_spec : (s : Tests) (operator : Operator) (value : List ℕ → ShownValue) (v : VarSpec) (w : template.VarSpec) → IsHeld v w

@@ -10,6 +10,7 @@ pub mod Values
 pub mod ShownValues
 pub mod HeldValues
 pub mod Contexts
+pub mod Places
 pub mod Left
 pub mod Variables
 pub mod Examples

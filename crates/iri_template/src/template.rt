@@ -1,12 +1,13 @@
 //! Borrowed templates (RFC 6570 section 2).
 ghost use Rattle.std.specs.Prelude.{◌≡◌, ◌≤◌, ◌==◌, ◌+◌, ◌*◌, ⊤, length, IfErr, IfOk, OnOk, MatchResult, None, Some};
 ghost use Rattle.iri_template.specs.Fault.{Answers, text_fault, template_fault};
+ghost use Rattle.iri_template.specs.Places.{placed_names};
 ghost use Rattle.iri_template.specs.Portions.{portions};
 ghost use Rattle.iri_template.specs.Reading.{pieces_of};
 ghost use Rattle.iri_template.specs.Tells.{WhereTold, MovesBy, Raises, later};
 ghost use Rattle.iri_template.specs.Template.{names_of};
 ghost use Rattle.iri_template.specs.TypeFaults.{type_fault};
-ghost use Rattle.iri_template.specs.Variables.{names_left};
+ghost use Rattle.iri_template.specs.Variables.{names_left, places_left};
 ghost use Rattle.iri_template.specs.Writings.{EndsAs, HasCause, CallsUpTo, IsString, IsOfString};
 
 use crate::context::{Context, NoValues};
@@ -125,7 +126,8 @@ impl<'a> UriTemplateStr<'a> {
 
     /// The names of the variables, from left to right, each as often as it stands there.
     pub fn variables(self) -> UriTemplateVariables<'a>
-        ensures { names_left result ≡ names_of (pieces_of (text self.entry)) }
+        ensures names { names_left result ≡ names_of (pieces_of (text self.entry)) }
+        ensures places { places_left result ≡ placed_names 0 (pieces_of (text self.entry)) }
     {
         UriTemplateVariables::of(self.text)
     }

@@ -1,12 +1,12 @@
 //! The variables of a template.
-ghost use Rattle.std.specs.Prelude.{◌≡◌, [], length, MatchOption, None};
-ghost use Rattle.std.proofs.Props.{props};
+ghost use Rattle.std.specs.Prelude.{◌≡◌, ◌≤◌, ◌<◌, ◌-◌, ◌^◌, length, MatchOption, None, Some};
 ghost use Rattle.iri_template.specs.Template.{names_of};
+ghost use Rattle.iri_template.specs.Places.{placed_names};
 ghost use Rattle.iri_template.specs.Reading.{pieces_of};
-ghost use Rattle.iri_template.specs.Fault.{text_fault, varspecs_fault};
-ghost use Rattle.iri_template.specs.Left.{names_among, varspecs_left, IsTaken, AreFine, Has};
+ghost use Rattle.iri_template.specs.Fault.{text_fault};
+ghost use Rattle.iri_template.specs.Left.{names_among, expression_fault, end_of, IsTaken, AreFine, Has};
 
-use crate::part::{Part, read_part};
+use crate::part::{Expression, Part, read_part};
 use crate::var_name::VarName;
 use crate::varspec::read_first;
 use std::alloc::AllocError;
@@ -14,65 +14,112 @@ use std::alloc::AllocError;
 /// The names of a template's variables, from left to right, each as often as it stands there.
 #[derive(Debug, Drop)]
 pub struct UriTemplateVariables<'a> {
-    // The varspecs that are left of an expression.
-    varspecs: Option<&'a str>,
-    // What follows that expression.
+    // What is left of an expression.
+    expression: Option<Expression<'a>>,
+    // What follows that expression, in a template of this length.
     rest: &'a str,
-    pub ghost fine: { AreFine varspecs rest.now } by { Prim.hlevel props },
+    len: usize,
+    pub ghost fine: { ∥ AreFine expression rest.now len ∥₁ },
 }
 
 impl Clone for UriTemplateVariables<'_> {
-    ghost is_clone = { λ v w. (w.varspecs ≡ v.varspecs) × (w.rest ≡ v.rest) };
+    ghost is_clone = { λ v w. (w.expression ≡ v.expression) × (w.rest ≡ v.rest) × (w.len ≡ v.len) };
 
     ghost is_infallible = { λ _. Unit {0} };
 
     fn clone(&self) -> Result<Self, AllocError> {
         Ok(UriTemplateVariables {
-            varspecs: self.varspecs,
+            expression: self.expression,
             rest: self.rest,
+            len: self.len,
         })
     }
 }
 
 impl<'a> UriTemplateVariables<'a> {
-    ghost use Rattle.iri_template.specs.Variables.{names_left};
+    ghost use Rattle.std.specs.Iterator.{YieldsFirstBy};
+    ghost use Rattle.iri_template.specs.Variables.{names_left, places_left};
 
     // The variables of a template with this text.
+    #[tactic(auto, using(crate::proofs::PlacedNames::placed_are_names))]
     pub(crate) fn of(text: &'a str) -> Self
         requires { text_fault text.now ≡ None }
-        ensures { names_left result ≡ names_of (pieces_of text.now) }
+        ensures places { places_left result ≡ placed_names 0 (pieces_of text.now) }
+        ensures names { names_left result ≡ names_of (pieces_of text.now) }
     {
         UriTemplateVariables {
-            varspecs: None,
+            expression: None,
             rest: text,
+            len: text.len(),
+        }
+    }
+
+    // The expression that has the next name, and what follows it; none where no name is left.
+    fn current(&self) -> (Option<Expression<'a>>, &'a str)
+        ensures fine { AreFine result.0 result.1.now self.now.len }
+        ensures names { names_among result.0 result.1.now self.now.len ≡ places_left self.now }
+        ensures none { result.0 ≡ None → length result.1.now ≡ 0 }
+    {
+        match self.expression {
+            Some(expression) => (Some(expression), self.rest),
+            None => find_expression(self.rest, self.len),
+        }
+    }
+
+    /// The next name, and how many bytes of the template stand before it; `None` exactly where every name was given.
+    ///
+    /// ```
+    /// use iri::template::UriTemplateStr;
+    /// let mut variables = UriTemplateStr::new("/{?q*,lang}")?.variables();
+    /// let (place, name) = variables.next_with_place().ok_or("a name")?;
+    /// assert_eq!(rt; (place, name.as_str()), (3, "q"));
+    /// let (place, name) = variables.next_with_place().ok_or("a name")?;
+    /// assert_eq!(rt; (place, name.as_str()), (6, "lang"));
+    /// ```
+    pub fn next_with_place(&mut self) -> Option<(usize, VarName<'a>)>
+        ensures { YieldsFirstBy (λ p. (p.0, p.1.text.now)) places_left self.old result self.new }
+    {
+        let (expression, rest) = self.current();
+        match expression {
+            Some(expression) => {
+                let (name, others) = take_name(expression)?;
+                *self = UriTemplateVariables {
+                    expression: others,
+                    rest,
+                    len: self.len,
+                };
+                Some((expression.location, name))
+            }
+            None => None,
         }
     }
 }
 
-// The varspecs of an expression.
-fn varspecs_within(part: Part<'_>) -> Option<&str>
+// The expression that a part is.
+fn expression_within(part: Part<'_>) -> Option<Expression<'_>>
     ensures { Has part.entry result }
 {
     match part {
-        Part::Expression(expression) => Some(expression.varspecs),
+        Part::Expression(expression) => Some(expression),
         _ => None,
     }
 }
 
-// The varspecs of the first expression, and what follows it; none where there is no expression.
-fn find_varspecs(text: &str) -> (Option<&str>, &str)
-    requires { text_fault text.now ≡ None }
-    ensures fine { AreFine result.0 result.1.now }
-    ensures names { names_among result.0 result.1.now ≡ names_of (pieces_of text.now) }
+// The first expression of the rest of a template of so many bytes, and what follows it; none where there is no expression.
+fn find_expression(text: &str, len: usize) -> (Option<Expression<'_>>, &str)
+    requires fine { text_fault text.now ≡ None }
+    requires within { length text.now ≤ len }
+    ensures fine { AreFine result.0 result.1.now len }
+    ensures names { names_among result.0 result.1.now len ≡ placed_names (len - length text.now) (pieces_of text.now) }
     ensures none { result.0 ≡ None → length result.1.now ≡ 0 }
 {
     let mut rest = text;
     'parts: while !rest.is_empty() {
-        match read_part(rest, text.len() - rest.len()) {
+        match read_part(rest, len - rest.len()) {
             Ok((part, next)) => {
-                let varspecs = varspecs_within(part);
-                if varspecs.is_some() {
-                    return (varspecs, next);
+                let expression = expression_within(part);
+                if expression.is_some() {
+                    return (expression, next);
                 }
                 rest = next;
             }
@@ -82,14 +129,23 @@ fn find_varspecs(text: &str) -> (Option<&str>, &str)
     (None, "")
 }
 
-// The name in the first varspec, and the other varspecs, where there are some.
-fn take_name(varspecs: Option<&str>) -> Option<(VarName<'_>, Option<&str>)>
-    requires { varspecs_fault 0 (varspecs_left varspecs) ≡ None }
-    ensures { MatchOption result (varspecs_left varspecs.entry ≡ [])
-        (λ p. IsTaken p.0.text.now (varspecs_left varspecs.entry) (varspecs_left p.1)) }
+// The name in the first varspec of an expression, and what is left of the expression, where there are others.
+fn take_name(expression: Expression<'_>) -> Option<(VarName<'_>, Option<Expression<'_>>)>
+    requires fine { expression_fault (Some expression) ≡ None }
+    requires fits { end_of (Some expression) < 2 ^ 64 }
+    ensures { MatchOption result ⊥ (λ p. IsTaken p.0.text.now expression.entry p.1) }
 {
-    match read_first(varspecs?, 0) {
-        Ok((varspec, others)) => Some((varspec.name, others)),
+    match read_first(expression.varspecs, expression.location) {
+        Ok((varspec, Some(varspecs))) => {
+            let location = expression.location + (expression.varspecs.len() - varspecs.len());
+            let others = Expression {
+                operator: expression.operator,
+                varspecs,
+                location,
+            };
+            Some((varspec.name, Some(others)))
+        }
+        Ok((varspec, None)) => Some((varspec.name, None)),
         Err(_) => None,
     }
 }
@@ -106,25 +162,9 @@ impl<'a> Iterator for UriTemplateVariables<'a> {
 
     /// The next name; `None` exactly where every name was given.
     fn next(&mut self) -> Option<VarName<'a>> {
-        let (varspecs, rest) = match self.varspecs {
-            Some(varspecs) => (Some(varspecs), self.rest),
-            None => find_varspecs(self.rest),
-        };
-        match take_name(varspecs) {
-            Some((name, others)) => {
-                *self = UriTemplateVariables {
-                    varspecs: others,
-                    rest,
-                };
-                Some(name)
-            }
-            None => {
-                *self = UriTemplateVariables {
-                    varspecs: None,
-                    rest,
-                };
-                None
-            }
+        match self.next_with_place() {
+            Some((_, name)) => Some(name),
+            None => None,
         }
     }
 }

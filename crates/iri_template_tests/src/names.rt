@@ -1,6 +1,7 @@
 // The example templates of RFC 6570 and their variables.
 use crate::same::same;
 use iri_template::template::UriTemplateStr;
+use iri_template::variables::UriTemplateVariables;
 use std::alloc::Global;
 use std::test::Fail;
 
@@ -190,6 +191,30 @@ fn other_names(rt: HostRuntime) -> Result<(), Fail> {
         names(rt.alloc(), "{a,b}x%41{a}{%2Fc.:9999}")?.as_str(),
         "a b a %2Fc. ",
     );
+    Ok(())
+}
+
+// Whether the next name of a template stands at this place.
+fn stands_at(variables: &mut UriTemplateVariables<'_>, place: usize, name: &str) -> bool {
+    match variables.next_with_place() {
+        Some((at, next)) => at == place && next.as_str() == name,
+        None => false,
+    }
+}
+
+#[test]
+fn places(rt: HostRuntime) -> Result<(), Fail> {
+    match UriTemplateStr::new("\u{e9}%41{a,b:3}x{?c*,d}") {
+        Ok(template) => {
+            let mut variables = template.variables();
+            assert!(rt; stands_at(&mut variables, 6, "a"));
+            assert!(rt; stands_at(&mut variables, 8, "b"));
+            assert!(rt; stands_at(&mut variables, 15, "c"));
+            assert!(rt; stands_at(&mut variables, 18, "d"));
+            assert!(rt; variables.next_with_place().is_none());
+        }
+        Err(_) => assert!(rt; false),
+    }
     Ok(())
 }
 
