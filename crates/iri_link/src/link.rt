@@ -49,6 +49,9 @@ fn cut_target<'a, S: Spec>(
     }
 }
 
+// The room that a target is given for what the base puts before its reference: most prefixes are no longer.
+const PREFIX: usize = 64;
+
 // The canonical text of a target.
 fn canonical_target<'a, S: Spec>(
     alloc: Global,
@@ -58,7 +61,8 @@ fn canonical_target<'a, S: Spec>(
     ensures { IfOk result (λ t. string_bytes t
         ≡ canonical S.tests (base_text resolver.now) (split_text reference.now)) }
 {
-    let mut target = String::new(alloc);
+    let room = reference.view().len().saturating_add(PREFIX);
+    let mut target = String::with_capacity(alloc, room)?;
     resolver.canonical_into(&mut target, reference)?;
     Ok(target)
 }
