@@ -3,4 +3,3 @@ pub mod Placed
 pub mod BufferText
 pub mod PlacedLaws
 pub mod BufferLaws
-pub mod NameWalk

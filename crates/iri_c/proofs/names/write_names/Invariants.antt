@@ -1,8 +1,12 @@
-use Rattle.std.proofs.Common.{drop}
+use Rattle.std.proofs.Common.{length}
+use Rattle.iri_template.specs.Variables.{places_left}
 use Rattle.iri_c.proofs.NameLemmas.{Walked}
 use Rattle.iri_c.proofs.names.write_names.Given as goal
 
-abbrev pub invariant-loop-offset : goal.invariant-loop-offset
-invariant-loop-offset l = record {
-  walked : Walked l.template (drop l.offset l.template) l.walk l.offset l.count l.fn.slots l.slots;
+abbrev pub invariant-names : goal.invariant-names
+invariant-names l = record {
+  walked : Walked (places_left l.variables) (places_left l.left) l.count l.fn.slots l.slots;
 }
+
+abbrev pub decreases-names : goal.decreases-names
+decreases-names l = length (places_left l.left)
