@@ -146,6 +146,24 @@ uint8_t irikit_validate(uint8_t grammar, uint8_t kind, const char *text, size_t 
  *   irikit_fault_words(IRIKIT_INVALID_PATH, out, sizeof out, &told);  // "invalid path" */
 uint8_t irikit_fault_words(size_t fault, char *out, size_t size, size_t *told);
 
+/* Where the part of a text stands that has a kind of fault, as another call told it of that text: the part that the fault names, in
+ * the split of the text by its first delimiters (RFC 3986 appendix B), whatever stands in its parts.
+ *
+ *   IRIKIT_INVALID_SCHEME       what stands before the first `:`
+ *   IRIKIT_UNEXPECTED_RELATIVE  the start of the text, with length 0
+ *   IRIKIT_INVALID_UTF8         all that follows the longest front of the text that is UTF-8
+ *
+ * Takes: the number of the kind of text that was wanted: of IRIKIT_RELATIVE it is split without a scheme; the number of a kind of
+ * fault; the text.
+ * Writes: `part`, where the status is IRIKIT_OK; otherwise it stays as it was. Its offset is IRIKIT_NOWHERE where the text has no
+ * such part, and so hasn't this fault.
+ * Returns: IRIKIT_OK; IRIKIT_UNKNOWN: kind or fault.
+ *
+ *   const char *text = "//u@h h:8/p";
+ *   irikit_fault_part(IRIKIT_REFERENCE, IRIKIT_INVALID_HOST, text, 11, &part, &told);
+ *   fwrite(text + part.offset, 1, part.len, stdout);  // "h h" */
+uint8_t irikit_fault_part(uint8_t kind, size_t fault, const char *text, size_t len, struct irikit_slot *part, size_t *told);
+
 /* The parts of a reference.
  *
  * Takes: the number of a grammar; the text.

@@ -154,6 +154,13 @@ export class Kit {
   /** The kind of the first fault of a text that isn't of a kind; null where it is. */
   validate(text: Text, kind?: Kind, grammar?: Grammar): Fault | null;
 
+  /**
+   * The part of a text that has a fault, as `validate` or a refusal tells it of that text, and how many bytes of the text's UTF-8
+   * stand before it; null where the text has no such part. The kind is that of text which was wanted.
+   * @throws {Refused} where no fault or kind has the number
+   */
+  faultPart(text: Text, fault: Fault, kind?: Kind): { place: number; part: string } | null;
+
   // Parts, and edits of them.
 
   /**

@@ -240,6 +240,15 @@ class Kit {
     return this.#words[0];
   }
 
+  faultPart(text, fault, kind = REFERENCE) {
+    const len = this.#put(text);
+    const status = this.#calls.irikit_fault_part(kind, BigInt(fault), this.#textAt, len, this.#slots, this.#told);
+    if (status !== OK) throw this.#refusal(status);
+    const offset = this.#words[2];
+    if (offset === NOWHERE) return null;
+    return { place: offset, part: this.#read(this.#textBytes.byteOffset + offset, this.#words[4]) };
+  }
+
   split(text, grammar = URI) {
     const len = this.#put(text), status = this.#calls.irikit_split(grammar, this.#textAt, len, this.#slots, this.#told);
     if (status !== OK) throw this.#refusal(status);

@@ -142,6 +142,37 @@ static size_t check_parts(void) {
     return failed;
 }
 
+/* Texts whose first fault is in one part, which the grammar of RFC 3986 section 3 doesn't take. */
+static size_t check_faulty(void) {
+    static const struct {
+        uint8_t kind;
+        const char *text;
+        size_t fault, offset, len;
+    } texts[] = {
+        {IRIKIT_WITH_SCHEME, "1a:b", IRIKIT_INVALID_SCHEME, 0, 2},
+        {IRIKIT_WITH_SCHEME, "a/b", IRIKIT_UNEXPECTED_RELATIVE, 0, 0},
+        {IRIKIT_REFERENCE, "//u u@h/", IRIKIT_INVALID_USERINFO, 2, 3},
+        {IRIKIT_REFERENCE, "s://[::1:8/", IRIKIT_INVALID_HOST, 4, 4},
+        {IRIKIT_REFERENCE, "s:/a b?c", IRIKIT_INVALID_PATH, 2, 4},
+        {IRIKIT_RELATIVE, "a:b", IRIKIT_INVALID_PATH, 0, 3},
+        {IRIKIT_REFERENCE, "?%#", IRIKIT_INVALID_QUERY, 1, 1},
+        {IRIKIT_REFERENCE, "a#b#", IRIKIT_INVALID_FRAGMENT, 2, 2},
+        {IRIKIT_ABSOLUTE, "s:a#b", IRIKIT_UNEXPECTED_FRAGMENT, 4, 1},
+        {IRIKIT_REFERENCE, "a\xFF" "b", IRIKIT_INVALID_UTF8, 1, 2},
+    };
+    size_t failed = 0;
+    for (size_t i = 0; i < sizeof texts / sizeof *texts; i++) {
+        struct irikit_slot part = {9, 9};
+        size_t told = 99;
+        size_t len = strlen(texts[i].text);
+        uint8_t status = irikit_validate(IRIKIT_URI, texts[i].kind, texts[i].text, len, &told);
+        failed += wrong(status == IRIKIT_BAD_TEXT && told == texts[i].fault, texts[i].text);
+        status = irikit_fault_part(texts[i].kind, texts[i].fault, texts[i].text, len, &part, &told);
+        failed += wrong(status == IRIKIT_OK && !told && part.offset == texts[i].offset && part.len == texts[i].len, texts[i].text);
+    }
+    return failed;
+}
+
 int main(int argc, char **argv) {
     pthread_t threads[THREADS];
     size_t failed = 0;
@@ -149,7 +180,7 @@ int main(int argc, char **argv) {
         return 2;
     read_rows(argv[1]);
     turns = argc > 2 ? strtoul(argv[2], NULL, 10) : turns;
-    failed += check_rows() + check_empty() + check_parts();
+    failed += check_rows() + check_empty() + check_parts() + check_faulty();
     for (size_t i = 0; i < 3 * count; i++)
         failed += check_sizes(&rows[i / 3], i % 3);
     for (int i = 0; i < THREADS; i++)

@@ -119,8 +119,24 @@ static size_t check_structs(void) {
     return failed;
 }
 
+/* The part that has a fault, by each kind of text and each kind of fault, and by numbers that are none. */
+static size_t check_fault_parts(void) {
+    const size_t none[] = {11, 12, 255, 256, SIZE_MAX};
+    size_t failed = 0;
+    for (unsigned kind = 0; kind < 256; kind++)
+        for (size_t i = 0; i < 16; i++) {
+            struct irikit_slot part = {5, 5};
+            told = 9;
+            uint8_t status = irikit_fault_part((uint8_t)kind, i < 11 ? i : none[i - 11], "a:", 2, &part, &told);
+            int stays = part.offset == 5 && part.len == 5;
+            failed += wrong(status == (kind < 4 && i < 11 ? IRIKIT_OK : IRIKIT_UNKNOWN) && !told && stays == (status != IRIKIT_OK),
+                            "the part of a fault");
+        }
+    return failed;
+}
+
 int main(void) {
-    size_t failed = check_numbers() + check_faults() + check_structs();
+    size_t failed = check_numbers() + check_faults() + check_fault_parts() + check_structs();
     printf("C: numbers of %d calls, %zu failed\n", CALLS, failed);
     return failed != 0;
 }

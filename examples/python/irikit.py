@@ -81,6 +81,7 @@ _replace_host = _call("irikit_replace_host", _byte, _text, _size, _text, _size, 
 _replace_reg_name = _call("irikit_replace_reg_name", _byte, _text, _size, _text, _size, _text, _size, _told)
 _build = _call("irikit_build", _byte, _byte, ctypes.POINTER(_Given), _size, _text, _size, _told)
 _run = _call("irikit_run", _text, _size, _text, _size, _text, _size, _told)
+_fault_part = _call("irikit_fault_part", _byte, _size, _text, _size, ctypes.POINTER(_size * 2), _told)
 _fault_words = _call("irikit_fault_words", _size, _text, _size, _told)
 _template_fault_words = _call("irikit_template_fault_words", _size, _text, _size, _told)
 _expand = _call("irikit_expand", _byte, _text, _size, ctypes.POINTER(_Variable), _size, _text, _size, _told, _told)
@@ -402,19 +403,37 @@ def variables(template: Text) -> list[str]:
     return [template[offset : offset + size].decode() for offset, size in places]
 
 
+def _first_fault(text: bytes, kind: int, grammar: int) -> int | None:
+    told = _size()
+    status = _validate(grammar, kind, text, len(text), told)
+    if status not in (OK, BAD_TEXT):
+        raise Refused(status, told.value)
+    return told.value if status == BAD_TEXT else None
+
+
 def fault(text: Text, kind: int = REFERENCE, grammar: int = URI) -> str | None:
     """The words for a text's first fault, or None where it is of the kind.
 
     >>> fault("../g"), fault("../g", WITH_SCHEME), fault("//[::1")
     (None, 'expected an absolute IRI but got a relative IRI', 'invalid host')
     """
-    text, told = _bytes(text), _size()
-    status = _validate(grammar, kind, text, len(text), told)
-    if status == BAD_TEXT:
-        return _words(status, told.value, None)
-    if status != OK:
-        raise Refused(status, told.value)
-    return None
+    number = _first_fault(_bytes(text), kind, grammar)
+    return None if number is None else _words(BAD_TEXT, number, None)
+
+
+def faulty_part(text: Text, kind: int = REFERENCE, grammar: int = URI) -> slice | None:
+    """Where the part of a text stands that has its first fault, in bytes, or None where it is of the kind.
+
+    >>> text = b"http://me@h h:8/"
+    >>> text[faulty_part(text)]
+    b'h h'
+    """
+    text, part = _bytes(text), (_size * 2)()
+    number = _first_fault(text, kind, grammar)
+    if number is None:
+        return None
+    _fault_part(kind, number, text, len(text), part, _size())
+    return slice(part[0], part[0] + part[1])
 
 
 def map_to_uri(text: Text) -> str:

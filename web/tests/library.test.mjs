@@ -74,6 +74,12 @@ test("kinds of texts", () => {
   assert.deepEqual(kinds.map((kind) => kit.validate("/a", kind)), [null, 9, 9, null]);
   assert.deepEqual(kinds.map((kind) => kit.validate("x:\u00e9", kind, IRI)), [null, null, null, 5]);
   assert.equal(kit.validate("x:\u00e9", REFERENCE, URI), 5);
+  assert.deepEqual(kit.faultPart("\u00e9://a b/", 5), { place: 0, part: "\u00e9://a b/" });
+  assert.deepEqual(kit.faultPart("//\u00e9/\u00e9 b?", 5), { place: 4, part: "/\u00e9 b" });
+  assert.deepEqual(kit.faultPart("//u@[::1:8/", 2), { place: 4, part: "[::1" });
+  assert.deepEqual(kit.faultPart("g:h", 5, RELATIVE), { place: 0, part: "g:h" });
+  assert.equal(kit.faultPart("//u@h:8/", 6), null);
+  assert.deepEqual(refusal(() => kit.faultPart("%", 11)), ["call", null, "no such number"]);
   assert.equal(kit.validate("x:\ud800", REFERENCE, IRI), 5);
 });
 

@@ -5,3 +5,4 @@ pub mod EditLemmas
 pub mod DecodingLemmas
 pub mod BuildingLemmas
 pub mod NameLemmas
+mod FaultPartLemmas

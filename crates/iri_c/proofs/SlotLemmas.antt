@@ -1,12 +1,12 @@
 -- Parts and their delimiters together have as many bytes as their text.
-use Rattle.std.proofs.Common.{◌≡◌, ◌++◌, ◌∷◌, [], ℕ, List, length, refl, ap, ◌∙◌, arith, length-append, Option, Some, None}
+use Rattle.std.proofs.Common.{◌≡◌, ◌+◌, ◌++◌, ◌∷◌, [], ℕ, List, length, refl, ap, ◌∙◌, arith, length-append, Option, Some, None}
 use Rattle.iri_grammar.specs.Authority.{AuthorityParts, authority_parts, recompose_authority, userinfo_text}
 use Rattle.iri_grammar.specs.Characters.{at_sign, colon, number_sign, question_mark}
 use Rattle.iri_grammar.specs.Cut.{delimited}
 use Rattle.iri_grammar.specs.Parts.{Parts, recompose, scheme_text, authority_text}
-use Rattle.iri_grammar.specs.Split.{split_of}
+use Rattle.iri_grammar.specs.Split.{split_of, relative_split_of, parts_of}
 use Rattle.iri_grammar.proofs.AuthorityLaws.{authority_recomposed}
-use Rattle.iri_grammar.proofs.SplitLaws.{recompose_split}
+use Rattle.iri_grammar.proofs.SplitLaws.{recompose_split, recompose_relative_split}
 use Rattle.iri_c.specs.Slots.{width, total, authority_total}
 
 after-delimiter : (c : ℕ) (o : Option (List ℕ)) → width 1 o ≡ length (delimited c o)
@@ -57,3 +57,8 @@ total_split t = total-recompose (split_of t) ∙ ap length (recompose_split t)
 
 pub authority_total_parts : (t : List ℕ) → authority_total (authority_parts t) ≡ length t
 authority_total_parts t = authority_total-recompose (authority_parts t) ∙ ap length (authority_recomposed t)
+
+-- a scheme and what follows it
+pub total_after : (o : Option (List ℕ)) (r : List ℕ) → total (parts_of o r) ≡ width 1 o + length r
+unfolding relative_split_of
+total_after o r = omega (arith, total-recompose (parts_of None r), ap length (recompose_relative_split r))

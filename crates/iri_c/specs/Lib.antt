@@ -11,6 +11,7 @@ pub mod Outcome
 pub mod Outcomes
 pub mod Resolutions
 pub mod Slots
+pub mod FaultParts
 pub mod Templates
 pub mod Variables
 pub mod inside

@@ -3,3 +3,4 @@ pub mod Placed
 pub mod BufferText
 pub mod PlacedLaws
 pub mod BufferLaws
+pub mod Five

@@ -46,7 +46,7 @@ pub fn answer(status: u8, told: &mut usize) -> u8
 }
 
 // The kind of this number.
-fn kind_of(number: usize) -> Option<ErrorKind>
+pub(crate) fn kind_of(number: usize) -> Option<ErrorKind>
     ensures { result ≡ slice_get kinds number }
 {
     match number {

@@ -1,5 +1,5 @@
 //! The library for C and for what calls C: canonical texts of one reference or many lines, resolution, normal forms and the steps to
-//! them, tests, splits, mappings, encodings, edits and templates over slices, which cross as a pointer and a length.
+//! them, tests, splits, faulty parts, mappings, encodings, edits and templates over slices, which cross as a pointer and a length.
 //! `include/irikit.h` has the declarations and the numbers. Nothing here takes memory or keeps anything.
 //!
 //! Proved: each call answers by its outcome (`Answered`), which is a function of what is passed: an unknown number, the first fault
@@ -17,6 +17,7 @@ mod decoding;
 mod edits;
 mod encoding;
 mod fault;
+mod fault_part;
 mod grammar;
 mod hosts;
 mod lines;

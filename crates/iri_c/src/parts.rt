@@ -1,22 +1,21 @@
 // The split of a reference, by offsets (RFC 3986 sections 3 and 3.2).
-ghost use Rattle.std.specs.Prelude.{◌≡◌, ◌<◌, ◌+◌, ◌^◌};
-ghost use Rattle.iri_grammar.specs.Authority.{authority_parts};
+ghost use Rattle.std.specs.Prelude.{◌≡◌, ◌<◌, ◌+◌, ◌^◌, MatchOption};
+ghost use Rattle.iri_grammar.specs.Authority.{authority_parts, userinfo_of, after_userinfo, host_of, port_of};
 ghost use Rattle.iri_grammar.specs.OptionalSlices.{now_of};
-ghost use Rattle.iri_grammar.specs.Split.{split_of};
-ghost use Rattle.iri_grammar.specs.Splitters.{parts};
-ghost use Rattle.iri_types.specs.ComponentsText.{authority};
-ghost use Rattle.iri_types.specs.SplitText.{split_text};
-ghost use Rattle.iri_c.specs.Slots.{SplitToldIn, SplitTold, place, slots_in, width, total, authority_total};
+ghost use Rattle.iri_grammar.specs.inside.LastColon.{LastColon, NoColon};
+ghost use Rattle.iri_c.specs.Slots.{SplitToldIn, SplitTold, place, width, total, authority_total};
 ghost use Rattle.iri_c.specs.Slots.{authority_slots, slots_of, within_authority};
+ghost use Rattle.iri_c.specs.inside.Five.{five};
 
 use crate::fault::{answer, answer_fault};
 use crate::grammar::{IRI, URI};
 use crate::status::{BAD_TEXT, OK, UNKNOWN};
+use iri_grammar::cutting::cut;
 use iri_grammar::spec::{IriSpec, Spec, UriSpec};
-use iri_grammar::splitter::Splitter;
-use iri_types::authority::AuthorityComponents;
+use iri_grammar::validate;
 use iri_types::kind::Reference;
 use iri_types::split::SplitView;
+use memchr::memrchr;
 
 /// Where a part stands in its text, in bytes. A part that doesn't stand has the offset 2^64 - 1 and the length 0.
 #[repr(C)]
@@ -48,7 +47,7 @@ pub struct Slots {
 }
 
 // Where no part stands.
-const NOWHERE: Slot = Slot {
+pub(crate) const NOWHERE: Slot = Slot {
     offset: usize::MAX,
     len: 0,
 };
@@ -85,59 +84,103 @@ fn place(offset: usize, delimiters: usize, part: Option<&str>) -> Slot
     }
 }
 
-// Where the parts of an authority stand that begins at this offset.
-fn authority_slots(offset: usize, a: &AuthorityComponents<'_>) -> AuthoritySlots
-    requires { offset + authority_total (authority_parts (authority a.now)) < 2 ^ 64 }
-    ensures { result ≡ authority_slots offset (authority_parts (authority a.now)) }
+// The userinfo, where there is an `@`, and what follows that.
+fn cut_userinfo(authority: &str) -> (Option<&str>, &str)
+    ensures userinfo { now_of result.0 ≡ userinfo_of authority.now }
+    ensures rest { result.1.now ≡ after_userinfo authority.now }
 {
-    let userinfo = a.userinfo();
-    let host = a.host();
+    match cut(authority, b'@') {
+        (userinfo, Some(rest)) => (Some(userinfo), rest),
+        (_, None) => (None, authority),
+    }
+}
+
+// Where the last colon is.
+#[tactic(auto, using(iri_grammar::proofs::Ports::found))]
+fn last_colon(s: &str) -> Option<usize>
+    ensures { MatchOption result (NoColon s.now) (λ k. LastColon s.now k) }
+{
+    memrchr(b':', s.as_bytes())
+}
+
+// The host, and the port, where only digits follow the last colon.
+fn cut_port(s: &str) -> (&str, Option<&str>)
+    ensures host { result.0.now ≡ host_of s.now }
+    ensures port { now_of result.1 ≡ port_of s.now }
+{
+    match last_colon(s) {
+        Some(i) => {
+            let port = &s[i + 1..];
+            if validate::port(port).is_ok() {
+                (&s[..i], Some(port))
+            } else {
+                (s, None)
+            }
+        }
+        None => (s, None),
+    }
+}
+
+// Userinfo, host and port.
+#[tactic(auto, unfolding(iri_grammar::specs::Authority::authority_parts))]
+fn cut_authority(authority: &str) -> (Option<&str>, &str, Option<&str>)
+    ensures userinfo { now_of result.0 ≡ (authority_parts authority.now).userinfo }
+    ensures host { result.1.now ≡ (authority_parts authority.now).host }
+    ensures port { now_of result.2 ≡ (authority_parts authority.now).port }
+{
+    let (userinfo, rest) = cut_userinfo(authority);
+    let (host, port) = cut_port(rest);
+    (userinfo, host, port)
+}
+
+// Where the parts of an authority stand that begins at this offset.
+fn authority_slots(offset: usize, authority: &str) -> AuthoritySlots
+    requires { offset + authority_total (authority_parts authority.now) < 2 ^ 64 }
+    ensures { result ≡ authority_slots offset (authority_parts authority.now) }
+{
+    let (userinfo, host, port) = cut_authority(authority);
     let host_at = offset + width(1, userinfo);
     AuthoritySlots {
         userinfo: place(offset, 0, userinfo),
         host: place(host_at, 0, Some(host)),
-        port: place(host_at + host.len(), 1, a.port()),
-    }
-}
-
-// Where the five parts stand; those of the authority are given.
-fn five_slots(p: &Splitter<'_>, within: AuthoritySlots) -> Slots
-    requires { total (parts p.now) < 2 ^ 64 }
-    ensures { result ≡ slots_in (parts p.now) within }
-{
-    let scheme_end = width(1, p.scheme());
-    let path_at = scheme_end + width(2, p.authority());
-    let path_end = path_at + p.path().len();
-    let query_end = path_end + width(1, p.query());
-    Slots {
-        scheme: place(0, 0, p.scheme()),
-        authority: place(scheme_end, 2, p.authority()),
-        path: place(path_at, 0, Some(p.path())),
-        query: place(path_end, 1, p.query()),
-        fragment: place(query_end, 1, p.fragment()),
-        within,
+        port: place(host_at + host.len(), 1, port),
     }
 }
 
 // Where the parts of the authority stand whose slashes begin at this offset.
-fn within_authority<S: Spec>(offset: usize, view: &SplitView<'_, S, Reference>) -> AuthoritySlots
-    requires { offset + width 2 (split_of (split_text view.now)).authority < 2 ^ 64 }
-    ensures { result ≡ within_authority offset (split_of (split_text view.now)).authority }
+fn within_authority(offset: usize, authority: Option<&str>) -> AuthoritySlots
+    requires { offset + width 2 (now_of authority) < 2 ^ 64 }
+    ensures { result ≡ within_authority offset (now_of authority.entry) }
 {
-    match view.view().authority_components() {
-        Some(a) => authority_slots(offset + 2, &a),
+    match authority {
+        Some(authority) => authority_slots(offset + 2, authority),
         None => NO_AUTHORITY,
     }
 }
 
-// Where the parts of a reference stand.
-fn slots_of<S: Spec>(view: &SplitView<'_, S, Reference>) -> Slots
-    requires { total (split_of (split_text view.now)) < 2 ^ 64 }
-    ensures { result ≡ slots_of (split_of (split_text view.now)) }
+// Where these parts of a text stand.
+pub(crate) fn slots_of(
+    scheme: Option<&str>,
+    authority: Option<&str>,
+    path: &str,
+    query: Option<&str>,
+    fragment: Option<&str>,
+) -> Slots
+    requires { total (five scheme authority path query fragment) < 2 ^ 64 }
+    ensures { result ≡ slots_of (five scheme.entry authority.entry path.entry query.entry fragment.entry) }
 {
-    let p = view.parts();
-    let scheme_end = width(1, p.scheme());
-    five_slots(p, within_authority(scheme_end, view))
+    let scheme_end = width(1, scheme);
+    let path_at = scheme_end + width(2, authority);
+    let path_end = path_at + path.len();
+    let query_end = path_end + width(1, query);
+    Slots {
+        scheme: place(0, 0, scheme),
+        authority: place(scheme_end, 2, authority),
+        path: place(path_at, 0, Some(path)),
+        query: place(path_end, 1, query),
+        fragment: place(query_end, 1, fragment),
+        within: within_authority(scheme_end, authority),
+    }
 }
 
 // The split in one grammar.
@@ -148,7 +191,8 @@ fn split_in<S: Spec>(text: &[u8], parts: &mut Slots, told: &mut usize) -> u8
         Ok(view) => {
             // The proof takes from this that the length of a slice fits a `usize`.
             let _len = text.len();
-            *parts = slots_of(&view);
+            let p = view.parts();
+            *parts = slots_of(p.scheme(), p.authority(), p.path(), p.query(), p.fragment());
             answer(OK, told)
         }
         Err(error) => answer_fault(BAD_TEXT, error.kind(), told),

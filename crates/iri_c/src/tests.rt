@@ -8,6 +8,7 @@ use crate::edits::{
 };
 use crate::encoding::irikit_encode;
 use crate::fault::irikit_fault_words;
+use crate::fault_part::irikit_fault_part;
 use crate::hosts::{irikit_replace_host, irikit_replace_reg_name};
 use crate::lines::irikit_canonical_lines;
 use crate::mapping::irikit_map_to_uri;
@@ -126,6 +127,47 @@ fn parts_of_references(rt: HostRuntime) {
     );
     assert!(rt; irikit_split(1, b"%", &mut p, &mut told) == 3 && told == 5);
     assert!(rt; irikit_split(2, b"", &mut p, &mut told) == 6);
+}
+
+// Whether the first fault of a text of this kind has this number, and the part that has it stands there.
+fn has_fault(kind: u8, text: &[u8], fault: usize, offset: usize, len: usize) -> bool {
+    let (mut part, mut told) = (HERE, 99);
+    irikit_validate(0, kind, text, &mut told) == 3
+        && told == fault
+        && irikit_fault_part(kind, fault, text, &mut part, &mut told) == 0
+        && told == 0
+        && is_slot(part, offset, len)
+}
+
+#[test]
+fn faulty_parts(rt: HostRuntime) {
+    assert!(rt; has_fault(0, b"http://a/b c?q#f", 5, 8, 4));
+    assert!(rt; has_fault(0, b"http://u u@h:8/p", 1, 7, 3));
+    assert!(rt; has_fault(0, b"http://u@[::1:80/", 2, 9, 4));
+    assert!(rt; has_fault(0, b"//a:b:c/", 2, 2, 5));
+    assert!(rt; has_fault(0, b"a?{b}#", 6, 2, 3));
+    assert!(rt; has_fault(0, b"a?b#c#d", 7, 4, 3));
+    assert!(rt; has_fault(0, b"1a:b", 5, 0, 4));
+    assert!(rt; has_fault(1, b"1a:b", 0, 0, 2));
+    assert!(rt; has_fault(1, b"a/b", 9, 0, 0));
+    assert!(rt; has_fault(2, b"http://a/b#c", 8, 11, 1));
+    assert!(rt; has_fault(3, b"g://h/%", 5, 0, 7));
+    assert!(rt; has_fault(3, b"//h/%", 5, 3, 2));
+    assert!(rt; has_fault(0, b"a/\xffb", 10, 2, 2));
+    assert!(rt; has_fault(0, "/\u{e9}".as_bytes(), 5, 0, 3));
+}
+
+#[test]
+fn other_faults(rt: HostRuntime) {
+    let (mut part, mut told) = (Slot { offset: 7, len: 8 }, 9);
+    assert!(rt; irikit_fault_part(4, 5, b"%", &mut part, &mut told) == 6 && told == 0);
+    assert!(rt; irikit_fault_part(0, 11, b"%", &mut part, &mut told) == 6 && told == 0);
+    assert!(rt; is_slot(part, 7, 8));
+    assert!(rt; irikit_fault_part(0, 6, b"%", &mut part, &mut told) == 0);
+    assert!(rt; is_slot(part, usize::MAX, 0));
+    assert!(rt;
+        irikit_fault_part(0, 4, b"//h:8/", &mut part, &mut told) == 0 && is_slot(part, 4, 1)
+    );
 }
 
 #[test]

@@ -1,7 +1,9 @@
 //! Why a text is refused.
-use crate::ffi;
+use crate::grammar::at;
 use crate::written::words;
+use crate::{ffi, Kind};
 use std::fmt;
+use std::ops::Range;
 
 /// The first fault of a text, from the left. Its words are those of the program `irikit`.
 ///
@@ -77,6 +79,24 @@ numbers! { TemplateFault:
 impl Fault {
     pub(crate) fn of(number: usize) -> Self {
         Fault(number)
+    }
+
+    /// Where the part of a text stands that has this fault, in bytes; `None` where it has no such part. The kind is that of text
+    /// which was wanted.
+    ///
+    /// ```
+    /// use irikit::{Kind, Uri};
+    ///
+    /// let text = "http://me@h h:8/";
+    /// let fault = Uri.validate(Kind::Reference, text).unwrap_err();
+    /// assert_eq!(fault.part_of(text, Kind::Reference), Some(10..13));
+    /// ```
+    pub fn part_of(self, text: &str, kind: Kind) -> Option<Range<usize>> {
+        let ((bytes, len), mut part, mut told) = (at(text), ffi::Slot::default(), 0);
+        unsafe { ffi::irikit_fault_part(kind as u8, self.0, bytes, len, &mut part, &mut told) };
+        let end = part.offset.checked_add(part.len)?;
+        text.get(part.offset..end)?;
+        Some(part.offset..end)
     }
 }
 

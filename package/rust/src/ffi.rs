@@ -67,6 +67,7 @@ calls! {
     irikit_canonical_lines(grammar: u8, mode: u8, base: *const c_char, base_len: usize, lines: *const c_char, lines_len: usize,
         out: *mut c_char, size: usize, consumed: *mut usize, told: *mut usize);
     irikit_validate(grammar: u8, kind: u8, text: *const c_char, len: usize, told: *mut usize);
+    irikit_fault_part(kind: u8, fault: usize, text: *const c_char, len: usize, part: *mut Slot, told: *mut usize);
     irikit_split(grammar: u8, text: *const c_char, len: usize, parts: *mut Slots, told: *mut usize);
     irikit_is_normalized(grammar: u8, mode: u8, text: *const c_char, len: usize, told: *mut usize);
     irikit_map_to_uri(text: *const c_char, len: usize, out: *mut c_char, size: usize, told: *mut usize);
