@@ -1,8 +1,7 @@
 // The split of a reference, by offsets (RFC 3986 sections 3 and 3.2).
-ghost use Rattle.std.specs.Prelude.{◌≡◌, ◌<◌, ◌+◌, ◌^◌, MatchOption};
-ghost use Rattle.iri_grammar.specs.Authority.{authority_parts, userinfo_of, after_userinfo, host_of, port_of};
+ghost use Rattle.std.specs.Prelude.{◌≡◌, ◌<◌, ◌+◌, ◌^◌};
+ghost use Rattle.iri_grammar.specs.Authority.{authority_parts};
 ghost use Rattle.iri_grammar.specs.OptionalSlices.{now_of};
-ghost use Rattle.iri_grammar.specs.inside.LastColon.{LastColon, NoColon};
 ghost use Rattle.iri_c.specs.Slots.{SplitToldIn, SplitTold, place, width, total, authority_total};
 ghost use Rattle.iri_c.specs.Slots.{authority_slots, slots_of, within_authority};
 ghost use Rattle.iri_c.specs.inside.Five.{five};
@@ -10,12 +9,10 @@ ghost use Rattle.iri_c.specs.inside.Five.{five};
 use crate::fault::{answer, answer_fault};
 use crate::grammar::{IRI, URI};
 use crate::status::{BAD_TEXT, OK, UNKNOWN};
-use iri_grammar::cutting::cut;
+use iri_grammar::authority::AuthoritySpan;
 use iri_grammar::spec::{IriSpec, Spec, UriSpec};
-use iri_grammar::validate;
 use iri_types::kind::Reference;
 use iri_types::split::SplitView;
-use memchr::memrchr;
 
 /// Where a part stands in its text, in bytes. A part that doesn't stand has the offset 2^64 - 1 and the length 0.
 #[repr(C)]
@@ -84,66 +81,17 @@ fn place(offset: usize, delimiters: usize, part: Option<&str>) -> Slot
     }
 }
 
-// The userinfo, where there is an `@`, and what follows that.
-fn cut_userinfo(authority: &str) -> (Option<&str>, &str)
-    ensures userinfo { now_of result.0 ≡ userinfo_of authority.now }
-    ensures rest { result.1.now ≡ after_userinfo authority.now }
-{
-    match cut(authority, b'@') {
-        (userinfo, Some(rest)) => (Some(userinfo), rest),
-        (_, None) => (None, authority),
-    }
-}
-
-// Where the last colon is.
-#[tactic(auto, using(iri_grammar::proofs::Ports::found))]
-fn last_colon(s: &str) -> Option<usize>
-    ensures { MatchOption result (NoColon s.now) (λ k. LastColon s.now k) }
-{
-    memrchr(b':', s.as_bytes())
-}
-
-// The host, and the port, where only digits follow the last colon.
-fn cut_port(s: &str) -> (&str, Option<&str>)
-    ensures host { result.0.now ≡ host_of s.now }
-    ensures port { now_of result.1 ≡ port_of s.now }
-{
-    match last_colon(s) {
-        Some(i) => {
-            let port = &s[i + 1..];
-            if validate::port(port).is_ok() {
-                (&s[..i], Some(port))
-            } else {
-                (s, None)
-            }
-        }
-        None => (s, None),
-    }
-}
-
-// Userinfo, host and port.
-#[tactic(auto, unfolding(iri_grammar::specs::Authority::authority_parts))]
-fn cut_authority(authority: &str) -> (Option<&str>, &str, Option<&str>)
-    ensures userinfo { now_of result.0 ≡ (authority_parts authority.now).userinfo }
-    ensures host { result.1.now ≡ (authority_parts authority.now).host }
-    ensures port { now_of result.2 ≡ (authority_parts authority.now).port }
-{
-    let (userinfo, rest) = cut_userinfo(authority);
-    let (host, port) = cut_port(rest);
-    (userinfo, host, port)
-}
-
 // Where the parts of an authority stand that begins at this offset.
 fn authority_slots(offset: usize, authority: &str) -> AuthoritySlots
     requires { offset + authority_total (authority_parts authority.now) < 2 ^ 64 }
     ensures { result ≡ authority_slots offset (authority_parts authority.now) }
 {
-    let (userinfo, host, port) = cut_authority(authority);
-    let host_at = offset + width(1, userinfo);
+    let parts = AuthoritySpan::cut(authority);
+    let host_at = offset + width(1, parts.userinfo());
     AuthoritySlots {
-        userinfo: place(offset, 0, userinfo),
-        host: place(host_at, 0, Some(host)),
-        port: place(host_at + host.len(), 1, port),
+        userinfo: place(offset, 0, parts.userinfo()),
+        host: place(host_at, 0, Some(parts.host())),
+        port: place(host_at + parts.host().len(), 1, parts.port()),
     }
 }
 

@@ -174,9 +174,10 @@ impl<'a> AuthoritySpan<'a> {
         AuthoritySpan::cut(authority)
     }
 
-    // The parts of any text read as an authority.
+    /// The parts of any text, read as an authority: by its first `@`, and by its last `:` where only digits follow that.
+    /// Whether each is in its production isn't asked.
     #[tactic(auto, unfolding(crate::specs::Authority::authority_parts))]
-    pub(crate) fn cut(authority: &'a str) -> AuthoritySpan<'a>
+    pub fn cut(authority: &'a str) -> AuthoritySpan<'a>
         ensures { span_parts result ≡ authority_parts authority.now }
     {
         let (userinfo, rest) = cut_userinfo(authority);

@@ -1,8 +1,0 @@
-use Rattle.std.proofs.Common.{arith}
-use Rattle.std.proofs.lemmas.Str.{lead_after_ascii}
-use Rattle.iri_c.proofs.parts.cut_port.Goals as goal
-
-pub range_from-port-requires : goal.range_from-port-requires
-range_from-port-requires c _ =
-    let at = c.in-Some.ensures in
-    (omega (arith, at.inside), λ l h. lead_after_ascii c.args.s.now c.in-Some.i c.utf8.s (omega (arith, at.byte)) l h)
