@@ -145,6 +145,16 @@ static int is_slot(struct text text, struct irikit_slot slot, struct text part)
 	return slot.offset == offset && slot.len == part.len;
 }
 
+/* The part that has the fault of a text that is no reference. */
+static void check_fault_part(size_t fault, struct text text)
+{
+	struct irikit_slot *part = (struct irikit_slot *)place(PARTS, sizeof *part);
+	struct answer answer = TESTED(irikit_fault_part, IRIKIT_REFERENCE, fault, placed(REFERENCE, text), text.len, part);
+	holds(is_answer(answer, IRIKIT_OK, 0), "a fault has its part");
+	holds(part->offset <= text.len && part->len <= text.len - part->offset, "a part that has a fault stands in its text");
+	holds(part->len, "no empty part has a fault");
+}
+
 static void check_parts(int grammar, struct text text)
 {
 	struct irikit_parts *parts = (struct irikit_parts *)place(PARTS, sizeof *parts);
@@ -155,6 +165,7 @@ static void check_parts(int grammar, struct text text)
 	if (answer.status != IRIKIT_OK) {
 		for (size_t i = 0; i < sizeof *parts; i++)
 			holds(((uint8_t *)parts)[i] == '.', "the parts of what is no reference stay");
+		check_fault_part(answer.told, text);
 		return;
 	}
 	struct parts wanted = split(text);
