@@ -1,10 +1,12 @@
 -- The answers of `robots`.
-use Rattle.std.proofs.Common.{◌≡◌, ◌≢◌, ◌↔◌, ℕ, Bool, true, false, List, [], ◌∷◌, ◌++◌, Result, Ok, Err, refl, sym, ◌∙◌, ap}
+use Rattle.std.proofs.Common.{◌≡◌, ◌≢◌, ◌↔◌, ◌&&◌, ℕ, Bool, true, false, List, [], ◌∷◌, ◌++◌, Option, Result, Ok, Err, refl, sym, ◌∙◌, ap}
 use Rattle.std.proofs.Common.{subst}
 use Rattle.std.specs.Prelude.{OnOk}
 use Rattle.std.proofs.lemmas.Grind.{flat_map-append}
 use Rattle.std.proofs.lemmas.List.{append-nil}
 use Rattle.iri_grammar.specs.Classes.{Tests}
+use Rattle.iri_grammar.specs.Parts.{Parts}
+use Rattle.iri_grammar.specs.Split.{split_of}
 use Rattle.iri_robots.specs.Allowed.{IsAllowed}
 use Rattle.iri_robots.specs.Decided.{is_allowed}
 use Rattle.iri_robots.specs.Records.{FileRecord, FileRule}
@@ -18,13 +20,14 @@ use Rattle.iri_cli.specs.run.Answering.{Answering, AnswersLine, PutsAnswer}
 use Rattle.iri_cli.specs.canon.Puts.{told_of}
 use Rattle.iri_cli.specs.run.Ending.{Rules}
 use Rattle.iri_cli.specs.run.Refused.{is_not_bad}
-use Rattle.iri_cli.specs.robots.Answers.{answer_to, normal_base, verdict_word}
+use Rattle.iri_cli.specs.robots.Answers.{answer_to, normal_base, same_part, same_site, verdict_word}
 use Rattle.iri_cli.specs.robots.Lines.{RobotsLine, line_of, fed, records_after}
 use Rattle.iri_cli.specs.robots.Rules.{robots_rules}
 use Rattle.iri_cli.specs.declared.run.answers.AnswerError.{AnswerError}
 use Rattle.iri_cli.specs.declared.run.answers.AnswerError.TheVariants.{SinkFailed, Memory}
 use Rattle.iri_cli.specs.inside.Opening.{begun}
 use Rattle.iri_cli.specs.inside.RobotsAt.{IsRobotsAt, Replies, PutsReply}
+use Rattle.iri_cli.specs.inside.Sites.{IsSiteOf, is_of_site}
 use Rattle.iri_cli.proofs.CanonLemmas.{line_room}
 
 -- ---- what the rules say
@@ -43,6 +46,14 @@ disallow_told rules s v k is = disallow_by rules s v (is_allowed rules s) k is r
 
 pub word_is : (site allowed a b : Bool) → site ≡ a → allowed ≡ b → verdict_word a b ≡ verdict_word site allowed
 word_is site allowed a b e h = ap (λ x. verdict_word x b) (sym e) ∙ ap (verdict_word site) (sym h)
+
+-- a target is of the site of these parts exactly where it has their scheme and their authority
+pub same_site_by : (scheme authority : Option (List ℕ)) (p target : Parts) → IsSiteOf scheme authority p
+    → is_of_site scheme authority target ≡ same_site p target
+unfolding is_of_site same_site
+same_site_by scheme authority p target is =
+    ap (λ x. same_part x target.scheme && same_part authority target.authority) is.scheme_is
+    ∙ ap (λ x. same_part p.scheme target.scheme && same_part x target.authority) is.authority_is
 
 -- ---- replies
 
@@ -70,27 +81,27 @@ puts_by rules ko kn text (Ok good) e m p = (p.0, p.1, p.2 ∙ ap (λ f. f text) 
 puts_by rules ko kn text (Err SinkFailed) e m p = p
 puts_by rules ko kn text (Err Memory) e m p = (m, p.0, p.1)
 
-next_at : (s : Tests) (token base normal : List ℕ) (records new : List FileRecord) (at : Answering) (line : List ℕ)
-    → IsRobotsAt s token base normal records at → new ≡ records ++ fed (line_of line)
-    → IsRobotsAt s token base normal new (record at { between = at.between ++ line ∷ [] })
-next_at s token base normal records new at line is e = record {
+next_at : (s : Tests) (token base : List ℕ) (scheme authority : Option (List ℕ)) (records new : List FileRecord) (at : Answering) (line : List ℕ)
+    → IsRobotsAt s token base scheme authority records at → new ≡ records ++ fed (line_of line)
+    → IsRobotsAt s token base scheme authority new (record at { between = at.between ++ line ∷ [] })
+next_at s token base scheme authority records new at line is e = record {
   rules = is.rules;
   base_is = is.base_is;
-  normal_is = is.normal_is;
+  site_is = is.site_is;
   records_are = e ∙ ap (λ t. t ++ fed (line_of line)) is.records_are ∙ sym (records_more at.between line);
 }
 
-on_next : (s : Tests) (token base normal : List ℕ) (records new : List FileRecord) (at : Answering) (line : List ℕ)
-    (r : Result Bool AnswerError) → IsRobotsAt s token base normal records at → OnOk r (new ≡ records ++ fed (line_of line))
-    → OnOk r (IsRobotsAt s token base normal new (record at { between = at.between ++ line ∷ [] }))
-on_next s token base normal records new at line (Ok good) is e = next_at s token base normal records new at line is e
-on_next s token base normal records new at line (Err x) is e = tt
+on_next : (s : Tests) (token base : List ℕ) (scheme authority : Option (List ℕ)) (records new : List FileRecord) (at : Answering) (line : List ℕ)
+    (r : Result Bool AnswerError) → IsRobotsAt s token base scheme authority records at → OnOk r (new ≡ records ++ fed (line_of line))
+    → OnOk r (IsRobotsAt s token base scheme authority new (record at { between = at.between ++ line ∷ [] }))
+on_next s token base scheme authority records new at line (Ok good) is e = next_at s token base scheme authority records new at line is e
+on_next s token base scheme authority records new at line (Err x) is e = tt
 
-pub answers_line : (s : Tests) (token base normal : List ℕ) (records new : List FileRecord) (at : Answering) (line text : List ℕ)
-    (ko kn : SinkState) (r : Result Bool AnswerError) → IsRobotsAt s token base normal records at
+pub answers_line : (s : Tests) (token base : List ℕ) (scheme authority : Option (List ℕ)) (records new : List FileRecord) (at : Answering) (line text : List ℕ)
+    (ko kn : SinkState) (r : Result Bool AnswerError) → IsRobotsAt s token base scheme authority records at
     → text ≡ answer_to s token base records (line_of line) → OnOk r (new ≡ records ++ fed (line_of line))
-    → PutsReply ko kn text r → AnswersLine (IsRobotsAt s token base normal new) at line ko kn r
-answers_line s token base normal records new at line text ko kn r is answer e p =
+    → PutsReply ko kn text r → AnswersLine (IsRobotsAt s token base scheme authority new) at line ko kn r
+answers_line s token base scheme authority records new at line text ko kn r is answer e p =
     let whole : text ≡ at.rules.answer at.base at.between line =
     answer ∙ ap (λ b. answer_to s token b records (line_of line)) is.base_is
     ∙ ap (λ rs. answer_to s token at.base rs (line_of line)) is.records_are
@@ -99,7 +110,7 @@ answers_line s token base normal records new at line text ko kn r is answer e p 
       puts = subst (λ t. PutsAnswer at.rules ko kn t r) whole
           (puts_by at.rules ko kn text r (ap (λ (rules : Rules). rules.is_good) is.rules)
           (ap (λ (rules : Rules). rules.takes_memory) is.rules) p.puts);
-      next = on_next s token base normal records new at line r is e;
+      next = on_next s token base scheme authority records new at line r is e;
       room = subst (λ t. KeepsRoom ko.room_left kn.room_left t (r ≢ Err SinkFailed)) whole p.room;
     }
 
@@ -115,7 +126,8 @@ unfolding records_after
 records_none = refl
 
 -- a crawler that was fed no line stands after a base line
-pub robots_opened : (s : Tests) (token line normal : List ℕ) (records : List FileRecord) → records ≡ [] → normal ≡ normal_base s line
-    → IsRobotsAt s token line normal records (begun (robots_rules s token) line)
-robots_opened s token line normal records none normal_is =
-    record { rules = refl; base_is = refl; normal_is = normal_is; records_are = none ∙ sym records_none }
+pub robots_opened : (s : Tests) (token line : List ℕ) (scheme authority : Option (List ℕ)) (records : List FileRecord) → records ≡ []
+    → IsSiteOf scheme authority (split_of (normal_base s line))
+    → IsRobotsAt s token line scheme authority records (begun (robots_rules s token) line)
+robots_opened s token line scheme authority records none site =
+    record { rules = refl; base_is = refl; site_is = site; records_are = none ∙ sym records_none }

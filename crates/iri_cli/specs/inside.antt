@@ -4,6 +4,7 @@ pub mod DocsAt
 pub mod Opening
 pub mod Obeyed
 pub mod Said
+pub mod Sites
 pub mod Asked
 pub mod Replies
 pub mod RegisterAt

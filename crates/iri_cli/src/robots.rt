@@ -13,9 +13,10 @@ ghost use Rattle.iri_robots.specs.Compared.{subject};
 ghost use Rattle.iri_robots.specs.Decided.{is_allowed};
 ghost use Rattle.iri_robots.specs.Records.{rules_for};
 ghost use Rattle.iri_robots.specs.Stored.{record_texts};
-ghost use Rattle.iri_cli.specs.robots.Answers.{answer_to, normal_base, same_site, target_answer, verdict_word};
+ghost use Rattle.iri_cli.specs.robots.Answers.{answer_to, normal_base, verdict_word};
 ghost use Rattle.iri_cli.specs.robots.Lines.{asks};
 ghost use Rattle.iri_cli.specs.inside.RobotsAt.{PutsReply};
+ghost use Rattle.iri_cli.specs.inside.Sites.{IsSiteOf, is_of_site};
 ghost use Rattle.iri_cli.specs.robots.Rules.{robots_rules};
 ghost use Rattle.iri_cli.specs.run.Run.{RunsLines, outside_state};
 
@@ -24,7 +25,7 @@ pub(crate) mod sites;
 
 use crate::canon::base_of;
 use crate::robots::line::{Said, line_of};
-use crate::robots::sites::{is_of_site, normal_base};
+use crate::robots::sites::Site;
 use crate::run::MEMORY;
 use crate::run::answers::{AnswerError, Answers, BaseError};
 use crate::run::buffers::CanonBuffers;
@@ -32,12 +33,11 @@ use crate::run::opening::run_lines;
 use crate::run::puts::{put_bad, put_bad_line, told};
 use iri_grammar::spec::Spec;
 use iri_normal::resolver::FixedBaseResolver;
-use iri_owned::owned::RiAbsoluteString;
 use iri_robots::{Robots, RobotsError, Verdict, subject_of_split};
 use iri_text::{Failed, Sink, Source};
 use iri_types::kind::Reference;
 use iri_types::split::SplitView;
-use iri_types::view::{RiAbsoluteStr, RiStr};
+use iri_types::view::RiStr;
 use std::alloc::{AllocError, Global};
 
 /// The crawler of a product token, which was fed no line of a robots file.
@@ -62,25 +62,19 @@ impl Crawler {
     }
 }
 
-// The word before a target, by a base in normal form.
-fn verdict_word<S: Spec>(
-    alloc: Global,
-    normal: RiAbsoluteStr<'_, S>,
-    robots: &Robots,
-    target: RiStr<'_, S>,
-) -> Result<&'static str, AllocError>
+// The word before a target.
+fn verdict_word<S: Spec>(site: &Site, target: RiStr<'_, S>) -> Result<&'static str, AllocError>
     ensures { IfOk result (λ word. word.now ≡ verdict_word
-        (same_site (split_of (text normal.entry)) (split_of (text target.entry)))
-        (is_allowed (rules_for (string_bytes robots.now.token)
-        (record_texts robots.now.records.items)) (subject (split_of (text target.entry))))) }
+        (is_of_site site.now.scheme site.now.authority (split_of (text target.entry)))
+        (is_allowed (rules_for (string_bytes site.now.robots.token)
+        (record_texts site.now.robots.records.items)) (subject (split_of (text target.entry))))) }
 {
-    let site = SplitView::of(normal);
     let target = SplitView::of(target);
-    if !is_of_site(&site, &target) {
+    if !site.has(&target) {
         return Ok("other ");
     }
-    match subject_of_split(alloc, &target) {
-        Ok(subject) => match robots.verdict(subject.as_str()) {
+    match subject_of_split(site.alloc, &target) {
+        Ok(subject) => match site.robots.verdict(subject.as_str()) {
             Verdict::Allow => Ok("allow "),
             Verdict::Disallow => Ok("disallow "),
         },
@@ -102,17 +96,17 @@ fn put_target<O: Sink>(sink: &mut O, word: &str, target: &str) -> Result<(), Fai
 // Puts the answer to a target.
 fn put_verdict<S: Spec, O: Sink>(
     sink: &mut O,
-    alloc: Global,
-    normal: RiAbsoluteStr<'_, S>,
-    robots: &Robots,
+    site: &Site,
     target: RiStr<'_, S>,
 ) -> Result<bool, AnswerError>
     ensures { let state = sink_state O.written O.faults O.room_left in
-        PutsReply (state sink.old) (state sink.new)
-        (target_answer (string_bytes robots.now.token) (text normal.entry)
-        (record_texts robots.now.records.items) (text target.entry)) result }
+        PutsReply (state sink.old) (state sink.new) (verdict_word
+        (is_of_site site.now.scheme site.now.authority (split_of (text target.entry)))
+        (is_allowed (rules_for (string_bytes site.now.robots.token)
+        (record_texts site.now.robots.records.items)) (subject (split_of (text target.entry))))
+        ++ (text target.entry ++ line_feed ∷ [])) result }
 {
-    match verdict_word(alloc, normal, robots, target) {
+    match verdict_word(site, target) {
         Ok(word) => told(true, put_target(sink, word, target.as_str())),
         Err(_) => Err(AnswerError::Memory),
     }
@@ -133,14 +127,16 @@ fn write_target<'a, S: Spec>(
 }
 
 // Puts the answer to a reference, whose canonical text comes into the buffer.
+#[tactic(auto, using(crate::proofs::RobotsLemmas::same_site_by))]
 fn put_answer<S: Spec, O: Sink>(
     sink: &mut O,
     resolver: &FixedBaseResolver<'_, S>,
-    site: &Site<S>,
+    site: &Site,
     buffer: &mut String,
     reference: &[u8],
 ) -> Result<bool, AnswerError>
-    requires { site.now.normal.text ≡ normal_base S.tests (base_text resolver.now) }
+    requires { IsSiteOf site.now.scheme site.now.authority
+        (split_of (normal_base S.tests (base_text resolver.now))) }
     ensures { let state = sink_state O.written O.faults O.room_left in
         PutsReply (state sink.old) (state sink.new)
         (answer_to S.tests (string_bytes site.now.robots.token) (base_text resolver.now)
@@ -148,39 +144,22 @@ fn put_answer<S: Spec, O: Sink>(
 {
     match SplitView::<S, Reference>::try_from_bytes(reference) {
         Ok(reference) => match write_target(buffer, resolver, &reference) {
-            Ok(()) => {
-                let target = RiStr::<S>::from_valid(buffer);
-                put_verdict(
-                    sink,
-                    site.alloc,
-                    site.normal.as_slice(),
-                    &site.robots,
-                    target,
-                )
-            }
+            Ok(()) => put_verdict(sink, site, RiStr::<S>::from_valid(buffer)),
             Err(_) => Err(AnswerError::Memory),
         },
         Err(error) => told(false, put_bad(sink, error.kind().description())),
     }
 }
 
-/// What a crawler knows of a site: the base in normal form, and the rules of a robots file.
-#[derive(Drop)]
-pub struct Site<S: Spec> {
-    alloc: Global,
-    normal: RiAbsoluteString<S>,
-    robots: Robots,
-}
-
 /// Answers each line by the rules of a robots file for one crawler.
 #[derive(Drop)]
-pub struct Crawls<S: Spec> {
-    site: Site<S>,
+pub struct Crawls {
+    site: Site,
     // The canonical text of the last reference.
     target: String,
 }
 
-impl<S: Spec> Answers<S> for Crawls<S> {
+impl<S: Spec> Answers<S> for Crawls {
     type Start = Crawler;
 
     ghost use Rattle.std.specs.Prelude.{refl, string_bytes};
@@ -193,18 +172,14 @@ impl<S: Spec> Answers<S> for Crawls<S> {
     ghost begins = { λ crawler. record { line_limit = refl; input_limit = refl; refusal = refl } };
 
     ghost stands_at = { λ c base at. IsRobotsAt S.tests (string_bytes c.site.robots.token)
-        base c.site.normal.text (record_texts c.site.robots.records.items) at };
+        base c.site.scheme c.site.authority (record_texts c.site.robots.records.items) at };
 
     fn open(crawler: Crawler, base: &mut Vec<u8>, _output: Vec<u8>) -> Result<Self, BaseError> {
         let Crawler { alloc, robots } = crawler;
         match base_of::<S>(base) {
-            Ok(view) => match normal_base(alloc, view) {
-                Ok(normal) => Ok(Crawls {
-                    site: Site {
-                        alloc,
-                        normal,
-                        robots,
-                    },
+            Ok(view) => match Site::new(alloc, view, robots) {
+                Ok(site) => Ok(Crawls {
+                    site,
                     target: String::new(alloc),
                 }),
                 Err(_) => Err(BaseError::Memory),
@@ -250,7 +225,7 @@ pub(crate) fn robots_lines<S: Spec, I: Source, O: Sink>(
         (state source.old sink.old) (state source.new sink.new) result }
 {
     match Crawler::new(alloc, token) {
-        Ok(crawler) => run_lines::<S, Crawls<S>, I, O>(crawler, buffers, source, sink),
+        Ok(crawler) => run_lines::<S, Crawls, I, O>(crawler, buffers, source, sink),
         Err(_) => MEMORY,
     }
 }

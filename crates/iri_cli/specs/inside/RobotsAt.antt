@@ -1,6 +1,7 @@
 -- Where `robots` stands after lines, and what its answers do to a sink.
-use Rattle.std.specs.Prelude.{◌≡◌, ◌≢◌, ℕ, Bool, List, Result, Ok, Err}
+use Rattle.std.specs.Prelude.{◌≡◌, ◌≢◌, ℕ, Bool, List, Option, Result, Ok, Err}
 use Rattle.iri_grammar.specs.Classes.{Tests}
+use Rattle.iri_grammar.specs.Split.{split_of}
 use Rattle.iri_robots.specs.Records.{FileRecord}
 use Rattle.iri_text.specs.Sink.{Appends, KeepsRoom, SinkState}
 use Rattle.iri_cli.specs.run.Answering.{Answering, FailsWithin}
@@ -8,14 +9,16 @@ use Rattle.iri_cli.specs.run.Refused.{is_not_bad}
 use Rattle.iri_cli.specs.robots.Answers.{normal_base}
 use Rattle.iri_cli.specs.robots.Lines.{records_after}
 use Rattle.iri_cli.specs.robots.Rules.{robots_rules}
+use Rattle.iri_cli.specs.inside.Sites.{IsSiteOf}
 use Rattle.iri_cli.specs.declared.run.answers.AnswerError.{AnswerError}
 use Rattle.iri_cli.specs.declared.run.answers.AnswerError.TheVariants.{SinkFailed, Memory}
 
--- It has the token, the base as it stands and in normal form, and the records after the lines that were answered.
-pub record IsRobotsAt (s : Tests) (token base normal : List ℕ) (records : List FileRecord) (at : Answering) : Type 0 where
+-- It has the token, the base, the scheme and the authority of its normal form, and the records after the lines that were answered.
+pub record IsRobotsAt (s : Tests) (token base : List ℕ) (scheme authority : Option (List ℕ)) (records : List FileRecord) (at : Answering)
+    : Type 0 where
   pub rules : at.rules ≡ robots_rules s token
   pub base_is : base ≡ at.base
-  pub normal_is : normal ≡ normal_base s base
+  pub site_is : IsSiteOf scheme authority (split_of (normal_base s base))
   pub records_are : records ≡ records_after at.between
 
 -- The whole answer was put, and it is said whether it is refused; or the sink failed within it; or allocation failed, and nothing was put.

@@ -4,19 +4,30 @@ ghost use Rattle.iri_grammar.specs.OptionalSlices.{now_of};
 ghost use Rattle.iri_grammar.specs.Split.{split_of};
 ghost use Rattle.iri_types.specs.SplitText.{split_text};
 ghost use Rattle.iri_types.specs.Texts.{text};
-ghost use Rattle.iri_cli.specs.robots.Answers.{normal_base, same_part, same_site};
+ghost use Rattle.iri_cli.specs.robots.Answers.{normal_base, same_part};
+ghost use Rattle.iri_cli.specs.inside.Sites.{IsSiteOf, is_of_site};
 
 use iri_grammar::spec::Spec;
 use iri_normal::views::Normalize;
 use iri_owned::owned::RiAbsoluteString;
-use iri_text::ToDedicatedString;
-use iri_types::kind::{Absolute, Iri};
+use iri_robots::Robots;
+use iri_text::{Text, ToDedicatedString};
+use iri_types::kind::Iri;
 use iri_types::split::SplitView;
 use iri_types::view::RiAbsoluteStr;
 use std::alloc::{AllocError, Global};
 
-/// A base in normal form (RFC 3986 section 6.2.2).
-pub(crate) fn normal_base<S: Spec>(
+/// What a crawler knows of a site: its scheme and its authority in normal form, and the rules of a robots file.
+#[derive(Drop)]
+pub struct Site {
+    pub(crate) alloc: Global,
+    scheme: Option<Text>,
+    authority: Option<Text>,
+    pub(crate) robots: Robots,
+}
+
+// A base in normal form (RFC 3986 section 6.2.2).
+fn normal_base<S: Spec>(
     alloc: Global,
     base: RiAbsoluteStr<'_, S>,
 ) -> Result<RiAbsoluteString<S>, AllocError>
@@ -25,25 +36,56 @@ pub(crate) fn normal_base<S: Spec>(
     base.normalize().try_to_dedicated_string(alloc)
 }
 
-fn is_part(own: Option<&str>, part: Option<&str>) -> bool
-    ensures { result ≡ same_part (now_of own.entry) (now_of part.entry) }
+fn copy_of(alloc: Global, part: Option<&str>) -> Result<Option<Text>, AllocError>
+    ensures { IfOk result (λ own. own ≡ now_of part.entry) }
+{
+    match part {
+        Some(part) => Ok(Some(Text::from_string(String::from_str(alloc, part)?))),
+        None => Ok(None),
+    }
+}
+
+fn is_part(own: &Option<Text>, part: Option<&str>) -> bool
+    ensures { result ≡ same_part own.now (now_of part.entry) }
 {
     match (own, part) {
-        (Some(own), Some(part)) => own == part,
+        (Some(own), Some(part)) => own.as_str() == part,
         (None, None) => true,
         _ => false,
     }
 }
 
-/// Whether a target is of the site of a base.
-#[tactic(auto, unfolding(crate::specs::robots::Answers::same_site))]
-pub(crate) fn is_of_site<S: Spec>(
-    base: &SplitView<'_, S, Absolute>,
-    target: &SplitView<'_, S, Iri>,
-) -> bool
-    ensures { result
-        ≡ same_site (split_of (split_text base.now)) (split_of (split_text target.now)) }
-{
-    let (base, target) = (base.parts(), target.parts());
-    is_part(base.scheme(), target.scheme()) && is_part(base.authority(), target.authority())
+impl Site {
+    ghost use Rattle.iri_types.specs.SplitText.{split_text};
+
+    /// The site of a base. It fails on allocation failure alone.
+    pub(crate) fn new<S: Spec>(
+        alloc: Global,
+        base: RiAbsoluteStr<'_, S>,
+        robots: Robots,
+    ) -> Result<Self, AllocError>
+        ensures { IfOk result (λ site. (site.robots ≡ robots)
+            × IsSiteOf site.scheme site.authority (split_of (normal_base S.tests (text base.entry)))) }
+    {
+        let normal = normal_base(alloc, base)?;
+        let base = SplitView::of(normal.as_slice());
+        let scheme = copy_of(alloc, base.parts().scheme())?;
+        let authority = copy_of(alloc, base.parts().authority())?;
+        Ok(Site {
+            alloc,
+            scheme,
+            authority,
+            robots,
+        })
+    }
+
+    /// Whether a target is of it.
+    #[tactic(auto, unfolding(crate::specs::inside::Sites::is_of_site))]
+    pub(crate) fn has<S: Spec>(&self, target: &SplitView<'_, S, Iri>) -> bool
+        ensures { result
+            ≡ is_of_site self.now.scheme self.now.authority (split_of (split_text target.now)) }
+    {
+        let target = target.parts();
+        is_part(&self.scheme, target.scheme()) && is_part(&self.authority, target.authority())
+    }
 }

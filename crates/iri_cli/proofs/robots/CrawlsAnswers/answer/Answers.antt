@@ -21,9 +21,9 @@ returns-in-Ok g c = λ at is.
     let new = record_texts c.feed_line.new.self.records.items in
     let state = sink_state g.O.Sink.written g.O.Sink.faults g.O.Sink.room_left in
     let old = state c.args.sink.now in
-    subst (λ t. AnswersLine (IsRobotsAt s t base site.normal.text new) at c.args.line.now old old (Ok true))
+    subst (λ t. AnswersLine (IsRobotsAt s t base site.scheme site.authority new) at c.args.line.now old old (Ok true))
     (sym c.in-Ok.ensures.token)
-    (answers_line s token base site.normal.text records new at c.args.line.now [] old old (Ok true) is
+    (answers_line s token base site.scheme site.authority records new at c.args.line.now [] old old (Ok true) is
     (ap (answer_to s token base records) c.in-Feeds.ensures)
     (c.in-Ok.ensures.records ∙ ap (λ l. records ++ fed l) c.in-Feeds.ensures) (no_reply old))
 
@@ -35,7 +35,7 @@ returns-in-Asks g c = λ at is.
     let token = string_bytes site.robots.token in
     let records = record_texts site.robots.records.items in
     let reference = asks c.in-Asks.reference.now in
-    answers_line s token base site.normal.text records records at c.args.line.now (answer_to s token base records reference)
+    answers_line s token base site.scheme site.authority records records at c.args.line.now (answer_to s token base records reference)
     _ _ c.put_answer.result is (ap (answer_to s token base records) c.in-Asks.ensures)
     (unfed c.put_answer.result records reference c.args.line.now c.in-Asks.ensures refl) c.put_answer.ensures
 
@@ -50,7 +50,7 @@ returns-in-Bad g c = λ at is.
     let old = state c.args.sink.now in
     let new = state c.put_bad_line.new.sink in
     let told = told_of false c.put_bad_line.result in
-    subst (AnswersLine (IsRobotsAt s token base site.normal.text records) at c.args.line.now old new) (sym c.told.ensures)
-    (answers_line s token base site.normal.text records records at c.args.line.now bad_line old new told is
+    subst (AnswersLine (IsRobotsAt s token base site.scheme site.authority records) at c.args.line.now old new) (sym c.told.ensures)
+    (answers_line s token base site.scheme site.authority records records at c.args.line.now bad_line old new told is
     (ap (answer_to s token base records) c.in-Bad.ensures) (unfed told records bad c.args.line.now c.in-Bad.ensures refl)
     (replies false c.put_bad_line.result bad_line c.put_bad_line.ensures refl))

@@ -1,18 +1,31 @@
-use Rattle.std.proofs.Common.{◌≡◌, ◌∙◌, None, ap, string_bytes, subst}
+use Rattle.std.proofs.Common.{◌≡◌, ◌∙◌, None, ap, string_bytes, subst, sym}
+use Rattle.iri_grammar.specs.Split.{split_of}
 use Rattle.iri_robots.specs.Stored.{record_texts}
+use Rattle.iri_robots.specs.declared.robots.Robots.{Robots}
 use Rattle.iri_cli.specs.canon.Answers.{refusal}
 use Rattle.iri_cli.specs.robots.Answers.{normal_base}
+use Rattle.iri_cli.specs.robots.Rules.{robots_rules}
+use Rattle.iri_cli.specs.inside.Opening.{begun}
+use Rattle.iri_cli.specs.inside.RobotsAt.{IsRobotsAt}
+use Rattle.iri_cli.specs.inside.Sites.{IsSiteOf}
 use Rattle.iri_cli.proofs.RobotsLemmas.{robots_opened}
 use Rattle.iri_cli.proofs.robots.CrawlsAnswers.open.Goals as goal
 
-pub returns-in-Ok-normal_base : goal.returns-in-Ok-normal_base
-returns-in-Ok-normal_base g c =
+pub returns-in-Ok-new : goal.returns-in-Ok-new
+returns-in-Ok-new g c =
     let s = g.S.Spec.tests in
     let q = c.in-Ok.ensures in
+    let line = c.args.base.now.items in
     let robots = c.args.crawler.robots in
+    let site = c.in-Ok-new.site in
+    let known = c.in-Ok-new.ensures in
+    let rules = robots_rules s (string_bytes robots.token) in
     let taken = subst (λ t. refusal s t ≡ None) c.deref.ensures.value q.1 in (
       taken,
       taken,
-      robots_opened s (string_bytes robots.token) c.args.base.now.items c.in-Ok-normal_base.normal.text (record_texts robots.records.items)
-          (ap record_texts c.args.crawler.unfed) (c.in-Ok-normal_base.ensures ∙ ap (normal_base s) (q.0 ∙ c.deref.ensures.value)),
+      subst (λ (r : Robots). IsRobotsAt s (string_bytes r.token) line site.scheme site.authority (record_texts r.records.items)
+          (begun rules line)) (sym known.0)
+          (robots_opened s (string_bytes robots.token) line site.scheme site.authority (record_texts robots.records.items)
+          (ap record_texts c.args.crawler.unfed)
+          (subst (λ t. IsSiteOf site.scheme site.authority (split_of (normal_base s t))) (q.0 ∙ c.deref.ensures.value) known.1)),
     )
