@@ -7,7 +7,7 @@ use Rattle.iri_grammar.proofs.Ranges.{range_prefix}
 use Rattle.iri_template.proofs.VarSpecWalk.{good_name, bad_name}
 use Rattle.iri_template.proofs.varspec.read_varspec.Goals as goal
 
--- the name is good, and this is found behind it
+-- the name is good, and this follows it
 found : (at n : ℕ) (t bs name rest : List ℕ) (f : Option Error) → bs ≡ t → name ≡ take n t → length name ≡ n → take n bs ≡ name_of bs
     → name_fault name ≡ None → rest ≡ drop n t → drop n bs ≡ from_any ends_name bs → moved (at + n) (modifier_fault rest) ≡ f
     → moved at (varspec_fault t) ≡ f
