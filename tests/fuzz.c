@@ -411,8 +411,10 @@ static void check_command(const char *const *words, struct text given)
 	size_t lines = lines_of(given);
 	if (output.status == 3)
 		holds(output.count == 1 && output.lines[0].len > 5 && !memcmp(output.lines[0].at, "base ", 5), "a base that is refused");
-	else
-		holds(output.status < 2 && is_count(command, lines ? lines - 1 : 0, output.count), "status and number of answers");
+	else if (output.status >= 2 || !is_count(command, lines ? lines - 1 : 0, output.count)) {
+		fprintf(stderr, "FAILED status %d, %zu answers to %zu lines\n", output.status, output.count, lines);
+		abort();
+	}
 	if (output.status == 3)
 		tell(output.lines[0].len, output.lines[0]);
 	else
