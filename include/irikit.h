@@ -18,6 +18,8 @@
  *   IRIKIT_BAD_..             the kind of the first fault from the left, one of irikit_fault; of IRIKIT_BAD_VARIABLE 0
  *   IRIKIT_NOT_NORMAL, IRIKIT_UNKNOWN, IRIKIT_NO_HOST   0
  *
+ * IRIKIT_UNKNOWN comes before what is wrong with a text, unless a call's comment says otherwise.
+ *
  * A text that is written stands at the start of `out`, and what comes after it stays as it was. Where it is longer than
  * `size`, `out` holds its first `size` bytes, the status is IRIKIT_SHORT, and `told` is the size that is wanted: so a call
  * with size 0 measures. At every other status `out` stays as it was. Of many lines and of a run what is told is in their
@@ -232,7 +234,8 @@ uint8_t irikit_map_to_uri(const char *text, size_t len, char *out, size_t size, 
  *
  * Takes: the number of a grammar and of a place; the text, in UTF-8; a buffer.
  * Writes: the encoded text to `out`. It has at most 3 * len bytes.
- * Returns: IRIKIT_OK; IRIKIT_SHORT; IRIKIT_BAD_TEXT: it isn't UTF-8; IRIKIT_UNKNOWN: grammar or place.
+ * Returns: IRIKIT_OK; IRIKIT_SHORT; IRIKIT_BAD_TEXT: it isn't UTF-8, whatever the numbers are; IRIKIT_UNKNOWN: grammar or
+ * place.
  *
  *   irikit_encode(IRIKIT_URI, IRIKIT_IN_SEGMENT, "50% off/a", 9, out, sizeof out, &told);  // "50%25%20off%2Fa" */
 uint8_t irikit_encode(uint8_t grammar, uint8_t place, const char *text, size_t len, char *out, size_t size, size_t *told);
@@ -317,9 +320,9 @@ enum irikit_template_fault {
  *
  * Takes: the number of a grammar; the template; variables; a buffer.
  * Writes: the expansion to `out`; `*place`, which is 0 at every status but the two below.
- * Returns: IRIKIT_OK; IRIKIT_SHORT; IRIKIT_BAD_VARIABLE: `*place` is the index of the first such variable; IRIKIT_BAD_TEXT:
- * `*told` is the template's first fault, one of irikit_template_fault, and `*place` its place in bytes; IRIKIT_UNKNOWN:
- * grammar.
+ * Returns: IRIKIT_OK; IRIKIT_SHORT; IRIKIT_BAD_VARIABLE: `*place` is the index of the first such variable, whatever grammar
+ * and template are; IRIKIT_BAD_TEXT: `*told` is the template's first fault, one of irikit_template_fault, and `*place` its
+ * place in bytes; IRIKIT_UNKNOWN: grammar.
  *
  *   struct irikit_text word = {"two words", 9};
  *   struct irikit_variable q = {{"q", 1}, IRIKIT_STRING, &word, 1};
@@ -447,9 +450,9 @@ struct irikit_given {
  *
  * Takes: the number of a grammar and of a kind; parts, in any order; a buffer.
  * Writes: the text to `out`. It has at most 7 bytes more than the texts of the parts together.
- * Returns: IRIKIT_OK; IRIKIT_SHORT; IRIKIT_BAD_PART: the parts make no text of the kind: a text isn't UTF-8, then the first
- * faulty part in the order of irikit_part, then what the kind refuses, then IRIKIT_INVALID_PATH for a path that can't stand
- * there (section 3.3); IRIKIT_UNKNOWN: grammar, kind or part.
+ * Returns: IRIKIT_OK; IRIKIT_SHORT; IRIKIT_BAD_PART: the parts make no text of the kind: a text isn't UTF-8, whatever grammar
+ * and kind are, then the first faulty part in the order of irikit_part, then what the kind refuses, then IRIKIT_INVALID_PATH
+ * for a path that can't stand there (section 3.3); IRIKIT_UNKNOWN: grammar, kind or part.
  *
  *   struct irikit_given parts[] = {{IRIKIT_SCHEME, {"http", 4}}, {IRIKIT_HOST, {"a", 1}}, {IRIKIT_PATH, {"/b", 2}}};
  *   irikit_build(IRIKIT_URI, IRIKIT_WITH_SCHEME, parts, 3, out, sizeof out, &told);  // "http://a/b" */

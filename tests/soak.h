@@ -1,5 +1,5 @@
 /* tests/soak: its lines (tests/soak_lines.c), other spellings of them (tests/soak_spellings.c), how the program is asked
- * (tests/soak_asks.c), and what is asked (tests/soak.c, and of inputs from afl-fuzz tests/fuzz.c). */
+ * (tests/soak_asks.c), and what is asked (tests/soak.c, and of inputs from afl-fuzz tests/fuzz*.c). */
 #ifndef SOAK_H
 #define SOAK_H
 
@@ -53,6 +53,14 @@ int is_hex(uint8_t byte);
 int is_unreserved(uint8_t byte);
 int is_ucschar(uint32_t code);
 size_t character(struct text text, size_t at, uint32_t *code);
+int is_utf8(struct text text);
+
+/* The octet that is percent-encoded at a place. */
+uint8_t octet_at(struct text text, size_t at);
+
+/* Whether percent-encoded octets have capital digits, and none is an unreserved character's (RFC 3986 section 6.2.2). */
+int has_normal_octets(int iri, struct text text);
+
 struct parts split(struct text text);
 struct authority split_authority(struct text authority);
 int is_ascii(struct text host);
@@ -72,6 +80,9 @@ void put_spelling(struct numbers *numbers, const struct reading *reading, struct
 
 /* Puts octets past ASCII as percent-encoded octets (RFC 3987 section 3.1), over what was there. */
 struct text mapped(struct text text, struct bytes *to);
+
+/* Whether a path has segments that dot removal takes out, or that are such once decoded. */
+int has_dots(struct parts parts, int encoded);
 
 /* Whether a text with a scheme may be an answer: it has nothing that normal form takes out. */
 int is_normal(const struct reading *reading, struct text text);

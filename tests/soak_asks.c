@@ -155,15 +155,6 @@ void check(struct soak *soak, struct asked *asked, struct text base, const char 
 	free(asked->rows);
 }
 
-static int is_utf8(struct text text)
-{
-	uint32_t code;
-	for (size_t i = 0, len; i < text.len; i += len)
-		if ((len = character(text, i, &code)) == 0)
-			return 0;
-	return 1;
-}
-
 /* What an answer has to be, whatever the line means. */
 static void check_form(struct soak *soak, struct text line, struct text answer)
 {

@@ -8,8 +8,8 @@
 
 void put(struct bytes *to, const void *from, size_t len)
 {
-	if (to->room - to->len < len) {
-		to->room = 2 * to->room + len;
+	if (!to->at || to->room - to->len < len) {
+		to->room = 2 * to->room + len + 1;
 		to->at = realloc(to->at, to->room);
 		if (!to->at) {
 			perror("soak");

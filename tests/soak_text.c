@@ -44,6 +44,15 @@ size_t character(struct text text, size_t at, uint32_t *code)
 	return *code < least[len] || *code > 0x10ffff || (*code >= 0xd800 && *code < 0xe000) ? 0 : len;
 }
 
+int is_utf8(struct text text)
+{
+	uint32_t code;
+	for (size_t i = 0, len; i < text.len; i += len)
+		if ((len = character(text, i, &code)) == 0)
+			return 0;
+	return 1;
+}
+
 /* ucschar of RFC 3987 section 2.2. */
 int is_ucschar(uint32_t code)
 {
@@ -111,10 +120,12 @@ const char *default_port(const struct reading *reading, struct text scheme)
 	return NULL;
 }
 
-/* Section 3.2, of an authority that is in the grammar. */
+/* Section 3.2, of an authority that is in the grammar or absent. */
 struct authority split_authority(struct text authority)
 {
 	struct authority parts = {.host = authority};
+	if (!authority.at)
+		return parts;
 	const uint8_t *end = authority.at + authority.len, *at = authority.len ? memchr(authority.at, '@', authority.len) : NULL;
 	if (at) {
 		parts.userinfo = (struct text){authority.at, at - authority.at};
@@ -158,14 +169,13 @@ static int is_small(uint8_t byte)
 	return is_letter(byte) && byte & 32;
 }
 
-static uint8_t octet_at(struct text text, size_t at)
+uint8_t octet_at(struct text text, size_t at)
 {
 	uint8_t high = text.at[at + 1], low = text.at[at + 2];
 	return (high > '9' ? (high & 15) + 9 : high & 15) << 4 | (low > '9' ? (low & 15) + 9 : low & 15);
 }
 
-/* Whether percent-encoded octets have capital digits, and none is an unreserved character's (section 6.2.2). */
-static int has_normal_octets(int iri, struct text text)
+int has_normal_octets(int iri, struct text text)
 {
 	for (size_t i = 0; i < text.len; i++) {
 		uint8_t octets[4];
@@ -192,10 +202,25 @@ static int has_capitals(struct text text)
 	return 0;
 }
 
+int has_dots(struct parts parts, int encoded)
+{
+	struct text path = parts.path;
+	/* Without an authority `/.` is before a path that begins with two slashes, which would be read as an authority otherwise. */
+	size_t start = !parts.authority.at && path.len > 3 && memcmp(path.at, "/.//", 4) == 0 ? 2 : 0;
+	for (size_t end = start; end <= path.len; start = ++end) {
+		while (end < path.len && path.at[end] != '/')
+			end++;
+		struct text segment = {path.at + start, end - start};
+		if (is_dot(segment) && (encoded || !memchr(segment.at, '%', segment.len)))
+			return 1;
+	}
+	return 0;
+}
+
 int is_normal(const struct reading *reading, struct text text)
 {
 	struct parts parts = split(text);
-	struct authority authority = split_authority(parts.authority.at ? parts.authority : WORD(""));
+	struct authority authority = split_authority(parts.authority);
 	struct text path = parts.path;
 	const char *known = default_port(reading, parts.scheme);
 	if (!parts.scheme.at || has_capitals(parts.scheme) || !has_normal_octets(reading->iri, text))
@@ -204,13 +229,5 @@ int is_normal(const struct reading *reading, struct text text)
 		return 0;
 	if (known && parts.authority.at && (path.len == 0 || is_word(authority.port, known)))
 		return 0;
-	/* Without an authority `/.` is before a path that begins with two slashes, which would be read as an authority otherwise. */
-	size_t start = !parts.authority.at && path.len > 3 && memcmp(path.at, "/.//", 4) == 0 ? 2 : 0;
-	for (size_t end = start; end <= path.len; start = ++end) {
-		while (end < path.len && path.at[end] != '/')
-			end++;
-		if (is_dot((struct text){path.at + start, end - start}))
-			return 0;
-	}
-	return 1;
+	return !has_dots(parts, 1);
 }

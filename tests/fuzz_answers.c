@@ -1,0 +1,93 @@
+/* How tests/fuzz makes a call of the library for C, and what it answered. */
+#include "fuzz.h"
+#include <sys/mman.h>
+
+#define PAGE 4096
+/* How many bytes after a buffer are looked at where the memory goes on. */
+#define AFTER 64
+
+static int at_start;
+static uint64_t sizes;
+
+void begin_answers(int start, uint64_t seed)
+{
+	at_start = start;
+	sizes = seed;
+}
+
+uint8_t *place(enum slot slot, size_t len)
+{
+	static uint8_t *rooms;
+	size_t room = MOST + 2 * PAGE;
+	if (!rooms) {
+		rooms = mmap(NULL, SLOTS * room, PROT_NONE, MAP_PRIVATE | MAP_ANONYMOUS, -1, 0);
+		for (int i = 0; i < SLOTS; i++)
+			holds(!mprotect(rooms + i * room + PAGE, MOST, PROT_READ | PROT_WRITE), "mprotect");
+	}
+	holds(len <= MOST, "room for what is passed");
+	return rooms + slot * room + PAGE + (at_start ? 0 : MOST - len);
+}
+
+const char *placed(enum slot slot, struct text text)
+{
+	return memcpy(place(slot, text.len), text.at ? text.at : (const uint8_t *)"", text.len);
+}
+
+static size_t looked_at(size_t size)
+{
+	return at_start && size + AFTER <= MOST ? size + AFTER : size;
+}
+
+void fill(size_t size)
+{
+	memset(place(OUT, size), '.', looked_at(size));
+}
+
+struct answer answered(uint8_t status, size_t size)
+{
+	struct answer answer = {status, *TOLD_PLACE, {place(OUT, size), size}};
+	size_t written = status == IRIKIT_OK || status == IRIKIT_SHORT ? answer.told : 0;
+	holds((status == IRIKIT_SHORT) == (written > size), "a text is short where its buffer is");
+	for (size_t i = written; i < looked_at(size); i++)
+		holds(answer.out.at[i] == '.', "what is after a text stays");
+	answer.out.len = written < size ? written : size;
+	return answer;
+}
+
+size_t fewer(struct text text)
+{
+	return text.len ? mixed(sizes, text.len) % text.len : 0;
+}
+
+int is_answer(struct answer answer, uint8_t status, size_t told)
+{
+	return answer.status == status && answer.told == told;
+}
+
+int is_text(struct answer answer, struct text text)
+{
+	return is_answer(answer, IRIKIT_OK, text.len) && is_same(answer.out, text);
+}
+
+int is_beginning(struct answer answer, struct text text)
+{
+	return is_answer(answer, text.len ? IRIKIT_SHORT : IRIKIT_OK, text.len)
+	       && (answer.out.len == 0 || memcmp(answer.out.at, text.at, answer.out.len) == 0);
+}
+
+struct text kept(struct bytes *to, struct text text)
+{
+	to->len = 0;
+	put_text(to, text);
+	return (struct text){to->at, to->len};
+}
+
+struct answer validated(int grammar, int kind, struct text text)
+{
+	return TESTED(irikit_validate, grammar, kind, placed(REFERENCE, text), text.len);
+}
+
+struct answer canonical(int grammar, int mode, struct text base, struct text reference, size_t size)
+{
+	return ANSWERED(irikit_canonical, size, grammar, mode, placed(BASE, base), base.len, placed(REFERENCE, reference), reference.len);
+}
