@@ -1,6 +1,5 @@
 /* What tests/fuzz asks of the call that answers many lines. */
 #include "fuzz.h"
-#include <stdio.h>
 #include <stdlib.h>
 
 /* What is asked: a base, and lines against it. */
@@ -15,7 +14,7 @@ static uint8_t call(const struct question *asked, struct text lines, char *out, 
 	                              lines.len, out, size, TOLD_TOO_PLACE, told);
 }
 
-/* The answers to lines that an LF ends, by the call for one, and how many bytes the answers to each have. */
+/* The answers to lines that an LF ends, by the call for one. */
 static void put_answers(const struct question *asked, struct bytes *answers)
 {
 	const uint8_t *end = asked->lines.at + asked->lines.len;

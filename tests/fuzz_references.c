@@ -1,6 +1,5 @@
 /* What tests/fuzz asks of the calls that read a text, or a reference beside a base. */
 #include "fuzz.h"
-#include <stdio.h>
 #include <stdlib.h>
 
 #define FAULTS 11
