@@ -8,8 +8,8 @@ pub record ReadState (R : Type 0) : Type 0 where
   pub inner : R
   pub faults : ℕ
 
--- The writer, how often it failed, at most 2^64 - 1, and whether it may hold bytes back: at first, and where some were written since
--- the last flush that succeeded.
+-- The writer, how often it failed, at most 2^64 - 1, and whether it may hold bytes back: at first, and where a piece that isn't empty
+-- was put since the last flush that succeeded, also one at which the writer failed.
 pub record Writing (W : Type 0) : Type 0 where
   pub inner : W
   pub faults : ℕ

@@ -79,9 +79,9 @@ impl<W: Write> Sink for WriteSink<W> {
         Ok(())
     }
 
-    /// Flushes the writer, where bytes may be pending: at first, and where some were written since the last flush that
-    /// succeeded. A writer that tells its bytes keeps them. No clause says that the writer is called, since std's
-    /// contract of writers tells of no call; a test counts the calls.
+    /// Flushes the writer, where bytes may be pending: at first, and where a piece that isn't empty was put since the
+    /// last flush that succeeded, also one at which `put_all` failed. A writer that tells its bytes keeps them. No clause
+    /// says that the writer is called, since std's contract of writers tells of no call; a test counts the calls.
     ///
     /// # Errors
     ///
