@@ -13,11 +13,12 @@ pub record StringPuts (a : StringSink) (t : List ℕ) (b : StringSink) : Type 0 
   pub len : string_len b.dest.now ≡ string_len a.dest.now + length t
   pub room : string_capacity a.dest.now ≤ string_capacity b.dest.now
 
--- the same string, and a prefix of a text for which it had no room
+-- the same string with no less room, and a prefix of a text for which it had no room
 pub record StringHalts (a : StringSink) (t : List ℕ) (b : StringSink) : Type 0 where
   pub same : b.dest.ghost_name ≡ a.dest.ghost_name
   pub prefix : List ℕ
   pub rest : List ℕ
   pub split : prefix ++ rest ≡ t
   pub taken : string_taken b ≡ string_taken a ++ prefix
+  pub room : string_capacity a.dest.now ≤ string_capacity b.dest.now
   pub long : string_capacity a.dest.now < string_len a.dest.now + length t

@@ -23,6 +23,7 @@ string_until a b c t u p h = record {
   rest = h.rest;
   split = append_assoc t h.prefix h.rest ∙ ap (λ l. t ++ l) h.split;
   taken = h.taken ∙ ap (λ l. l ++ h.prefix) p.taken ∙ append_assoc (string_taken a) t h.prefix;
+  room = omega (arith, p.room, h.room);
   long = omega (arith, h.long, p.len, p.room, length-append t u);
 }
 
@@ -33,5 +34,6 @@ string_within a b t u h = record {
   rest = h.rest ++ u;
   split = sym (append_assoc h.prefix h.rest u) ∙ ap (λ l. l ++ u) h.split;
   taken = h.taken;
+  room = h.room;
   long = omega (arith, h.long, length-append t u);
 }

@@ -1,5 +1,5 @@
 // Text at the end of a string.
-ghost use Rattle.std.specs.Prelude.{◌≡◌, ◌<◌, ◌+◌, ◌++◌, length, OnOk, OnErr, string_bytes, string_len};
+ghost use Rattle.std.specs.Prelude.{◌≡◌, ◌≤◌, ◌<◌, ◌+◌, ◌++◌, length, OnOk, OnErr, string_bytes, string_len};
 ghost use Rattle.std.specs.Prelude.{string_capacity};
 ghost use Rattle.iri_text.specs.Shown.{Shows};
 ghost use Rattle.iri_text.specs.Prefix.{IsPrefixAfter};
@@ -70,8 +70,8 @@ impl<'b> TextSink for StringSink<'b> {
 ///
 /// # Errors
 ///
-/// Where allocation fails, only where the string has no room for the whole text; the string is the old text and a
-/// prefix of the new one then.
+/// Where allocation fails, and only where what comes out is longer than the capacity; the string is the old text and a
+/// prefix of the new one then. The capacity is never less than before.
 ///
 /// ```
 /// use iri::format::try_append_to_string;
@@ -84,6 +84,7 @@ pub fn try_append_to_string<T: Show>(dest: &mut String, value: &T) -> Result<(),
     ensures whole { OnOk result (string_bytes dest.new ≡ string_bytes dest.old ++ T.text value.now) }
     ensures prefix { OnErr result (IsPrefixAfter (string_bytes dest.old) (T.text value.now) (string_bytes dest.new)) }
     ensures long { OnErr result (string_capacity dest.old < string_len dest.old + length (T.text value.now)) }
+    ensures capacity { string_capacity dest.old ≤ string_capacity dest.new }
 {
     let mut sink = StringSink::new(dest);
     match value.show(&mut sink) {
