@@ -13,7 +13,6 @@ pub mod Reader
 pub mod Examples
 pub mod Shown
 pub mod SliceText
-pub mod SliceView
 pub mod StringText
 pub mod Prefix
 pub mod FormatText

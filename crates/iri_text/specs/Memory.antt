@@ -1,6 +1,7 @@
--- What the sources and the sink over memory are seen as. Lengths, cuts and room are counts of bytes.
-use Rattle.std.specs.Prelude.{◌≡◌, ℕ, ◌+◌, ◌-◌, ◌^◌, List, [], ◌∷◌, length, min, Option, None, Some, slice_get}
+-- What the sources over memory are seen as, and what the sink over memory tells. Lengths, cuts and room are counts of bytes.
+use Rattle.std.specs.Prelude.{◌≡◌, ℕ, ◌+◌, ◌-◌, ◌^◌, List, [], ◌∷◌, length, take, min, Option, None, Some, slice_get}
 use Rattle.iri_text.specs.Sink.{SinkState}
+use Rattle.iri_text.specs.declared.streams.memory_sink.MemorySink.{MemorySink}
 
 -- The bytes that are left, the most bytes that each call gives, the numbers of the calls that fail,
 -- the number of the last call, from 1 and at most 2^64 - 1, and how often it failed.
@@ -17,14 +18,9 @@ pub record IsNextCall (old new : SourceState) : Type 0 where
   pub cuts : new.cuts ≡ old.cuts
   pub fails : new.fails ≡ old.fails
 
--- The bytes that were written, how many there can be, the numbers of the calls that fail,
--- the number of the last call, from 1 and at most 2^64 - 1, and how often it failed.
-pub record MemorySinkState : Type 0 where
-  pub written : List ℕ
-  pub room : ℕ
-  pub fails : List ℕ
-  pub calls : ℕ
-  pub faults : ℕ
+-- the bytes that were written to the start of a slice
+abbrev pub memory_written : MemorySink → List ℕ
+memory_written s = take s.len s.buf.now
 
 -- so much, where no call fails
 abbrev pub unless_failing : List ℕ → ℕ → Option ℕ
@@ -32,12 +28,12 @@ unless_failing [] room = Some room
 unless_failing (number ∷ fails) room = None
 
 -- How many more bytes the sink takes without a fault. That is known where none of its calls is told to fail.
-abbrev pub room_left_of : MemorySinkState → Option ℕ
-room_left_of s = unless_failing s.fails (s.room - length s.written)
+abbrev pub room_left_of : MemorySink → Option ℕ
+room_left_of s = unless_failing s.fails.now (length s.buf.now - length (memory_written s))
 
 -- it tells its bytes
-abbrev pub state_of : MemorySinkState → SinkState
-state_of s = record { written = Some s.written; faults = s.faults; room_left = room_left_of s }
+abbrev pub state_of : MemorySink → SinkState
+state_of s = record { written = Some (memory_written s); faults = s.faults; room_left = room_left_of s }
 
 -- the most bytes that a call gives, by its number from 1: the last cut repeats, and with no cuts there is no bound
 abbrev pub cut_of : List ℕ → ℕ → Option ℕ

@@ -1,22 +1,38 @@
--- What a slice sink is seen as, and what a text does to it.
-use Rattle.std.specs.Prelude.{◌≡◌, ◌<◌, ℕ, ◌+◌, List, ◌++◌, length}
+-- What a slice sink holds, and what a text does to it.
+use Rattle.std.specs.Prelude.{◌≡◌, ◌<◌, ℕ, ◌+◌, List, ◌++◌, length, take, drop}
+use Rattle.iri_text.specs.declared.shown.slice_sink.SliceSink.{SliceSink}
 
--- the text that was taken, the length of the buffer in bytes, and the count of stops
-pub record SliceText : Type 0 where
-  pub taken : List ℕ
-  pub room : ℕ
-  pub stops : ℕ
+-- the text that was taken
+abbrev pub slice_taken : SliceSink → List ℕ
+slice_taken s = take s.len s.buf.now
 
--- the same buffer, and one text more
-pub record SlicePuts (a : SliceText) (t : List ℕ) (b : SliceText) : Type 0 where
-  pub taken : b.taken ≡ a.taken ++ t
-  pub room : b.room ≡ a.room
+-- the same slice, of which nothing is written behind what was taken
+pub record SameBehind (a b : SliceSink) : Type 0 where
+  pub same : b.buf.ghost_name ≡ a.buf.ghost_name
+  pub room : length b.buf.now ≡ length a.buf.now
+  pub behind : drop b.len b.buf.now ≡ drop b.len a.buf.now
 
--- the same buffer, and a prefix of a text that is longer than the rest of it
-pub record SliceHalts (a : SliceText) (t : List ℕ) (b : SliceText) : Type 0 where
+-- one text more
+pub record SlicePuts (a : SliceSink) (t : List ℕ) (b : SliceSink) : Type 0 where
+  pub taken : slice_taken b ≡ slice_taken a ++ t
+  pub slice : SameBehind a b
+
+-- a prefix of a text that is longer than the rest of the slice
+pub record SliceHalts (a : SliceSink) (t : List ℕ) (b : SliceSink) : Type 0 where
   pub prefix : List ℕ
   pub rest : List ℕ
   pub split : prefix ++ rest ≡ t
-  pub taken : b.taken ≡ a.taken ++ prefix
-  pub room : b.room ≡ a.room
-  pub long : a.room < length a.taken + length t
+  pub taken : slice_taken b ≡ slice_taken a ++ prefix
+  pub slice : SameBehind a b
+  pub long : length a.buf.now < length (slice_taken a) + length t
+
+-- bytes with a text over their start
+abbrev pub over_start : List ℕ → List ℕ → List ℕ
+over_start t bytes = t ++ drop (length t) bytes
+
+-- what was there, with a prefix of a text over its start
+pub record BeginsWithin (t old new : List ℕ) : Type 0 where
+  pub prefix : List ℕ
+  pub rest : List ℕ
+  pub split : prefix ++ rest ≡ t
+  pub bytes : new ≡ over_start prefix old

@@ -3,7 +3,8 @@ ghost use Rattle.std.specs.Prelude.{◌≡◌, ◌≢◌, ◌≤◌, ◌<◌, �
 ghost use Rattle.iri_text.specs.Lines.{NoLf, no_cr, lines};
 ghost use Rattle.iri_text.specs.Limits.{limit_fault};
 ghost use Rattle.iri_text.specs.Sink.{HasRoom};
-ghost use Rattle.iri_text.specs.Memory.{MemorySinkState, room_left_of};
+ghost use Rattle.iri_text.specs.Memory.{memory_written, room_left_of};
+ghost use Rattle.iri_text.specs.declared.streams.memory_sink.MemorySink.{MemorySink};
 ghost use Rattle.iri_text.specs.declared.streams.reader.LineFault.TheVariants.{LineTooLong, InputTooLong};
 ghost use Rattle.iri_text.specs.LineEnds.{carriage_return, line_feed};
 
@@ -48,6 +49,6 @@ pub fn line_within_its_limits()
 
 /// A sink over memory that is told no failing calls is known to have the room of its slice that isn't written yet.
 pub fn memory_sink_with_room()
-    ensures { (s : MemorySinkState) (count : ℕ) → s.fails ≡ [] → length s.written + count ≤ s.room
-        → HasRoom (room_left_of s) count }
+    ensures { (s : MemorySink) (count : ℕ) → s.fails.now ≡ []
+        → length (memory_written s) + count ≤ length s.buf.now → HasRoom (room_left_of s) count }
 {}

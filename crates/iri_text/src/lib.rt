@@ -22,6 +22,7 @@
 //! `show` appends exactly the text of its value, or the sink's count of stops rose and the sink stopped within that text
 //! (`Shows`). The text of an integer is std's decimal. A slice sink stops exactly where a piece is longer than the rest of its
 //! slice, and a string sink only where its string would have to grow; both take nothing of a piece at which they stop.
+//! What is behind the text in a slice stays as it was, and the capacity of a string is never less than before.
 //! `write_to_slice` refuses exactly where the text is longer than the slice. `display` fails only where the count of pieces that
 //! the formatter refused rises.
 //!
@@ -50,7 +51,8 @@ pub use shown::owned::{ToDedicatedString, ToStringFallible};
 pub use shown::owned_text::{Bytes, Text};
 pub use shown::sequence::{show_each, show_five, show_four, show_three, show_two};
 pub use shown::show::{Show, Stop, TextSink};
-pub use shown::slice_sink::{CapacityOverflowError, SliceSink, write_to_slice};
+pub use shown::slice::{CapacityOverflowError, write_at_start, write_to_slice};
+pub use shown::slice_sink::SliceSink;
 pub use shown::string_sink::{StringSink, try_append_to_string};
 pub use streams::memory_sink::MemorySink;
 pub use streams::memory_source::MemorySource;

@@ -7,5 +7,6 @@ pub(crate) mod owned;
 pub(crate) mod owned_text;
 pub(crate) mod sequence;
 pub(crate) mod show;
+pub(crate) mod slice;
 pub(crate) mod slice_sink;
 pub(crate) mod string_sink;

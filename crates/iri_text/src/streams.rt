@@ -1,5 +1,6 @@
 // Sources and sinks of bytes, and the lines of a source.
 
+pub(crate) mod memory;
 pub(crate) mod memory_sink;
 pub(crate) mod memory_source;
 pub(crate) mod plain_source;
