@@ -201,8 +201,8 @@ impl<S: Spec, K: Kind> Owned<S, K> {
         Ok(())
     }
 
-    /// Makes room for this many bytes more than the text has. Edits that fit within the capacity then never need
-    /// memory.
+    /// Makes room for this many bytes more than the text has. Edits whose text fits within the capacity then never
+    /// want memory.
     ///
     /// # Errors
     ///
@@ -221,6 +221,7 @@ impl<S: Spec, K: Kind> Owned<S, K> {
         ensures err { OnErr result (self.new ≡ self.old) }
         ensures full { OnErr result (self.old.capacity < length self.old.text + additional) }
         ensures capacity { self.old.capacity ≤ self.new.capacity }
+        ensures held { length self.new.text ≤ self.new.capacity }
     {
         self.text.try_reserve(additional)
     }
