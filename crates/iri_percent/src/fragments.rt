@@ -1,5 +1,7 @@
 // The fragments that a decoding is put together from.
-ghost use Rattle.std.specs.Prelude.{◌≡◌, ◌<◌, ◌∷◌, length, drop, slice_index};
+ghost use Rattle.std.specs.Iterator.{UpTo, at_most};
+ghost use Rattle.std.specs.Iterator.SizeHint.{IsWithinCount};
+ghost use Rattle.std.specs.Prelude.{◌≡◌, ◌<◌, ◌∷◌, IfSome, length, drop, min, slice_index};
 ghost use Rattle.iri_grammar.specs.Cut.{before, from};
 ghost use Rattle.iri_percent.specs.Decoding.{fragments};
 ghost use Rattle.iri_percent.specs.FragmentViews.{fragment, source_len};
@@ -99,7 +101,11 @@ impl<'a> Iterator for PercentDecodedBytesFragments<'a> {
     }
 
     /// From one fragment to as many as bytes are left, and none where none is.
-    fn size_hint(&self) -> (usize, Option<usize>) {
+    fn size_hint(&self) -> (usize, Option<usize>)
+        ensures lower { IsWithinCount result.0 (at_most (length (fragments self.now.rest.now))) }
+        ensures upper { IfSome result.1 (UpTo (at_most (length (fragments self.now.rest.now)))) }
+        ensures value { result ≡ (min (length self.now.rest.now) 1, Some (length self.now.rest.now)) }
+    {
         let bytes = self.rest.len();
         (bytes.min(1), Some(bytes))
     }

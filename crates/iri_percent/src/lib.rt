@@ -9,7 +9,7 @@
 //!
 //! Proved: each shows exactly its definition, and takes no memory. A percent-encoded octet is decoded, a stray `%` stays,
 //! and the fragments, joined, are the decoded bytes. A mapped text is a text of the same kind of URIs; a text that couldn't
-//! be mapped after an allocation failure is left as it was or handed back.
+//! be mapped after an allocation failure is left as it was or handed back, and one in ASCII keeps its capacity.
 //!
 //! Not proved: the words of `DecodeTextError`'s `Display`, which `thiserror` makes; that memory is allocated, which tests show.
 #![tactic(auto)]

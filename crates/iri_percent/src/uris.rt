@@ -1,5 +1,5 @@
 // IRIs as URIs.
-ghost use Rattle.std.specs.Prelude.{◌≡◌, MatchOption, MatchResult, OnErr, OnOk};
+ghost use Rattle.std.specs.Prelude.{◌≡◌, ℕ, IfOk, MatchOption, MatchResult, OnErr, OnOk};
 ghost use Rattle.std.specs.Str.{IsAscii, IsNotAscii};
 ghost use Rattle.iri_percent.specs.Mapping.{mapped};
 
@@ -68,7 +68,14 @@ pub trait IntoUri: Show + Sized {
     /// The owned text of URIs of the same kind.
     type Uri: Show;
 
-    /// Maps the text in place; it stays an IRI, and is in ASCII.
+    /// How many bytes the text can have before it needs more memory.
+    ghost capacity: { Self → ℕ };
+
+    /// The same of the URI.
+    ghost uri_capacity: { Self.Uri → ℕ };
+
+    /// Maps the text in place; it stays an IRI, and is in ASCII. Where it was in ASCII it stays as it is, with its
+    /// capacity.
     ///
     /// # Errors
     ///
@@ -84,9 +91,10 @@ pub trait IntoUri: Show + Sized {
     fn try_encode_to_uri_inline(&mut self, alloc: Global) -> Result<(), AllocError>
         ensures text { OnOk result (Self.text self.new ≡ mapped (Self.text self.old)) }
         ensures err { OnErr result (self.new ≡ self.old) }
-        ensures memory { OnErr result (IsNotAscii (Self.text self.old)) };
+        ensures memory { OnErr result (IsNotAscii (Self.text self.old)) }
+        ensures stays { IsAscii (Self.text self.old) → self.new ≡ self.old };
 
-    /// The mapped text, as a URI.
+    /// The mapped text, as a URI. A text in ASCII keeps its capacity.
     ///
     /// # Errors
     ///
@@ -100,10 +108,11 @@ pub trait IntoUri: Show + Sized {
     /// assert_eq!(rt; uri.as_str(), "http://a/ros%C3%A9");
     /// ```
     fn try_encode_into_uri(self, alloc: Global) -> Result<Self::Uri, Self>
-        ensures { MatchResult result (λ uri. Self.Uri.text uri ≡ mapped (Self.text self))
-            (λ iri. (iri ≡ self) × IsNotAscii (Self.text self)) };
+        ensures uri { MatchResult result (λ uri. Self.Uri.text uri ≡ mapped (Self.text self))
+            (λ iri. (iri ≡ self) × IsNotAscii (Self.text self)) }
+        ensures capacity { IfOk result (λ uri. IsAscii (Self.text self) → uri_capacity uri ≡ capacity self) };
 
-    /// The same text as a URI, where it is in ASCII. It takes no memory.
+    /// The same text as a URI, where it is in ASCII, with its capacity. It takes no memory.
     ///
     /// # Errors
     ///
@@ -116,12 +125,17 @@ pub trait IntoUri: Show + Sized {
     /// assert_eq!(rt; link.try_into_uri().err().ok_or("past ASCII")?.as_str(), "http://a/rosé");
     /// ```
     fn try_into_uri(self) -> Result<Self::Uri, Self>
-        ensures { MatchResult result (λ uri. IsAscii (Self.text self) × (Self.Uri.text uri ≡ Self.text self))
-            (λ iri. (iri ≡ self) × IsNotAscii (Self.text self)) };
+        ensures uri { MatchResult result (λ uri. IsAscii (Self.text self) × (Self.Uri.text uri ≡ Self.text self))
+            (λ iri. (iri ≡ self) × IsNotAscii (Self.text self)) }
+        ensures capacity { IfOk result (λ uri. uri_capacity uri ≡ capacity self) };
 }
 
 impl<K: MappedKind> IntoUri for Owned<IriSpec, K> {
     type Uri = Owned<UriSpec, K>;
+
+    ghost capacity = { λ t. t.capacity };
+
+    ghost uri_capacity = { λ t. t.capacity };
 
     fn try_encode_to_uri_inline(&mut self, alloc: Global) -> Result<(), AllocError> {
         if self.as_str().is_ascii() {
