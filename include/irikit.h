@@ -11,14 +11,18 @@
  * nothing, and returns. (irikit_run takes memory, and gives all of it back.) So calls may run in several threads at once,
  * each with its own `out` and `told`.
  *
- * Statuses: each call but irikit_run returns one of irikit_status, and always writes `told`:
+ * Numbers: those of the enums below but statuses differ from each other, so that one in the place of another, as a mode for a
+ * grammar, is answered as unknown. So is every other number.
+ *
+ * Statuses: each call but irikit_run and irikit_version returns one of irikit_status, and always writes `told`:
  *
  *   IRIKIT_OK, IRIKIT_SHORT   where a text is written: its length in bytes; of a template's variables: how many there are.
  *                             Otherwise 0
  *   IRIKIT_BAD_..             the kind of the first fault from the left, one of irikit_fault; of IRIKIT_BAD_VARIABLE 0
  *   IRIKIT_NOT_NORMAL, IRIKIT_UNKNOWN, IRIKIT_NO_HOST   0
  *
- * IRIKIT_UNKNOWN comes before what is wrong with a text, unless a call's comment says otherwise.
+ * Where more than one status would be right, the first of these is returned, unless a call's comment says otherwise: IRIKIT_UNKNOWN;
+ * IRIKIT_BAD_TEXT or IRIKIT_BAD_BASE; IRIKIT_BAD_REFERENCE; IRIKIT_BAD_PART; IRIKIT_NO_HOST; IRIKIT_SHORT.
  *
  * A text that is written stands at the start of `out`, and what comes after it stays as it was. Where it is longer than
  * `size`, `out` holds its first `size` bytes, the status is IRIKIT_SHORT, and `told` is the size that is wanted: so a call
@@ -35,6 +39,17 @@
 extern "C" {
 #endif
 
+/* The version of this header as one number: 10000 * MAJOR + 100 * MINOR + PATCH. */
+#define IRIKIT_VERSION 200
+
+/* The version of the library that runs, as one number. So a caller sees whether it is the one that he was compiled for.
+ *
+ * Takes, writes: nothing.
+ * Returns: 10000 * MAJOR + 100 * MINOR + PATCH.
+ *
+ *   irikit_version();  // IRIKIT_VERSION */
+uint32_t irikit_version(void);
+
 /* What a call returns. */
 enum irikit_status {
     IRIKIT_OK = 0,            /* done; of a test: yes */
@@ -43,7 +58,7 @@ enum irikit_status {
     IRIKIT_BAD_TEXT = 3,      /* the text is refused */
     IRIKIT_BAD_BASE = 4,      /* the base is refused */
     IRIKIT_BAD_REFERENCE = 5, /* the base is valid, and the reference is refused */
-    IRIKIT_UNKNOWN = 6,       /* a number for a grammar, a mode, a kind or a fault stands for none */
+    IRIKIT_UNKNOWN = 6,       /* a number for a grammar, a mode, a kind, a place, a fault or a part stands for none */
     IRIKIT_BAD_VARIABLE = 7,  /* a variable hasn't as many texts as its kind asks, or has one that isn't UTF-8 */
     IRIKIT_BAD_PART = 8,      /* the text is valid, or there is none yet, and what is to stand in it is refused */
     IRIKIT_NO_HOST = 9        /* the text has no host, or none of the kind that may be replaced */
@@ -51,52 +66,52 @@ enum irikit_status {
 
 /* The grammars. */
 enum irikit_grammar {
-    IRIKIT_URI = 0, /* RFC 3986: ASCII alone */
-    IRIKIT_IRI = 1  /* RFC 3987: characters past ASCII too, as UTF-8 */
+    IRIKIT_URI = 100, /* RFC 3986: ASCII alone */
+    IRIKIT_IRI = 101  /* RFC 3987: characters past ASCII too, as UTF-8 */
 };
 
 /* The modes of normal form. */
 enum irikit_mode {
-    IRIKIT_NORMAL = 0,    /* RFC 3986 section 6.2.2, and an empty port removed (section 6.2.3) */
-    IRIKIT_BY_SCHEME = 1, /* that, without the default port of http, https, ws, wss and ftp, and with `/` for an empty path
-                             beside an authority (section 6.2.3) */
-    IRIKIT_PRESERVING = 2 /* as IRIKIT_NORMAL, but a path without authority that doesn't begin with a slash keeps its dot
-                             segments; of irikit_normalize and irikit_is_normalized alone */
+    IRIKIT_NORMAL = 200,    /* RFC 3986 section 6.2.2, and an empty port removed (section 6.2.3) */
+    IRIKIT_BY_SCHEME = 201, /* that, without the default port of http, https, ws, wss and ftp, and with `/` for an empty path
+                               beside an authority (section 6.2.3) */
+    IRIKIT_PRESERVING = 202 /* as IRIKIT_NORMAL, but a path without authority that doesn't begin with a slash keeps its dot
+                               segments; of irikit_normalize and irikit_is_normalized alone */
 };
 
 /* The kinds of whole texts. */
 enum irikit_kind {
-    IRIKIT_REFERENCE = 0,   /* URI-reference (RFC 3986 section 4.1) */
-    IRIKIT_WITH_SCHEME = 1, /* URI (section 3) */
-    IRIKIT_ABSOLUTE = 2,    /* absolute-URI: with a scheme and without a fragment (section 4.3) */
-    IRIKIT_RELATIVE = 3     /* relative-ref: without a scheme (section 4.2) */
+    IRIKIT_REFERENCE = 300,   /* URI-reference (RFC 3986 section 4.1) */
+    IRIKIT_WITH_SCHEME = 301, /* URI (section 3) */
+    IRIKIT_ABSOLUTE = 302,    /* absolute-URI: with a scheme and without a fragment (section 4.3) */
+    IRIKIT_RELATIVE = 303     /* relative-ref: without a scheme (section 4.2) */
 };
 
 /* The places of a reference, by what stands as it is there beside `unreserved` and, in IRIs, characters past ASCII. */
 enum irikit_place {
-    IRIKIT_IN_REG_NAME = 0,   /* sub-delims (RFC 3986 section 3.2.2) */
-    IRIKIT_IN_USER = 1,       /* sub-delims: the user or the password (section 3.2.1) */
-    IRIKIT_IN_SEGMENT = 2,    /* sub-delims : @ (section 3.3) */
-    IRIKIT_IN_PATH = 3,       /* sub-delims : @ / (section 3.3) */
-    IRIKIT_IN_QUERY = 4,      /* sub-delims : @ / ? (section 3.4) */
-    IRIKIT_IN_FRAGMENT = 5,   /* sub-delims : @ / ? (section 3.5) */
-    IRIKIT_ANYWHERE = 6,      /* nothing (section 2.3) */
-    IRIKIT_IN_REFERENCE = 7   /* sub-delims and gen-delims (section 2.2) */
+    IRIKIT_IN_REG_NAME = 400,   /* sub-delims (RFC 3986 section 3.2.2) */
+    IRIKIT_IN_USER = 401,       /* sub-delims: the user or the password (section 3.2.1) */
+    IRIKIT_IN_SEGMENT = 402,    /* sub-delims : @ (section 3.3) */
+    IRIKIT_IN_PATH = 403,       /* sub-delims : @ / (section 3.3) */
+    IRIKIT_IN_QUERY = 404,      /* sub-delims : @ / ? (section 3.4) */
+    IRIKIT_IN_FRAGMENT = 405,   /* sub-delims : @ / ? (section 3.5) */
+    IRIKIT_ANYWHERE = 406,      /* nothing (section 2.3) */
+    IRIKIT_IN_REFERENCE = 407   /* sub-delims and gen-delims (section 2.2) */
 };
 
 /* The kinds of faults. irikit_fault_words gives the words for them. */
 enum irikit_fault {
-    IRIKIT_INVALID_SCHEME = 0,
-    IRIKIT_INVALID_USERINFO = 1,
-    IRIKIT_INVALID_HOST = 2,
-    IRIKIT_INVALID_REG_NAME = 3,
-    IRIKIT_INVALID_PORT = 4,
-    IRIKIT_INVALID_PATH = 5,
-    IRIKIT_INVALID_QUERY = 6,
-    IRIKIT_INVALID_FRAGMENT = 7,
-    IRIKIT_UNEXPECTED_FRAGMENT = 8, /* a fragment in an absolute URI */
-    IRIKIT_UNEXPECTED_RELATIVE = 9, /* no scheme where one must stand */
-    IRIKIT_INVALID_UTF8 = 10
+    IRIKIT_INVALID_SCHEME = 500,
+    IRIKIT_INVALID_USERINFO = 501,
+    IRIKIT_INVALID_HOST = 502,
+    IRIKIT_INVALID_REG_NAME = 503,
+    IRIKIT_INVALID_PORT = 504,
+    IRIKIT_INVALID_PATH = 505,
+    IRIKIT_INVALID_QUERY = 506,
+    IRIKIT_INVALID_FRAGMENT = 507,
+    IRIKIT_UNEXPECTED_FRAGMENT = 508, /* a fragment in an absolute URI */
+    IRIKIT_UNEXPECTED_RELATIVE = 509, /* no scheme where one must stand */
+    IRIKIT_INVALID_UTF8 = 510
 };
 
 /* The offset of a part that doesn't stand in the text. An empty part has an offset, and the length 0. */
@@ -137,7 +152,7 @@ struct irikit_text {
  *
  *   irikit_validate(IRIKIT_URI, IRIKIT_REFERENCE, "../b", 4, &told);    // IRIKIT_OK
  *   irikit_validate(IRIKIT_URI, IRIKIT_WITH_SCHEME, "../b", 4, &told);  // IRIKIT_BAD_TEXT, told IRIKIT_UNEXPECTED_RELATIVE */
-uint8_t irikit_validate(uint8_t grammar, uint8_t kind, const char *text, size_t len, size_t *told);
+uint8_t irikit_validate(uint32_t grammar, uint32_t kind, const char *text, size_t len, size_t *told);
 
 /* The words for a kind of fault, as `irikit canon` answers them, in ASCII.
  *
@@ -149,11 +164,16 @@ uint8_t irikit_validate(uint8_t grammar, uint8_t kind, const char *text, size_t 
 uint8_t irikit_fault_words(size_t fault, char *out, size_t size, size_t *told);
 
 /* Where the part of a text stands that has a kind of fault, as another call told it of that text: the part that the fault names, in
- * the split of the text by its first delimiters (RFC 3986 appendix B), whatever stands in its parts.
+ * the split of the text by its first delimiters, whatever stands in its parts. A scheme is cut off only where what stands before
+ * the first `:` is one; otherwise the whole is read as relative: as a reference `1a:b` has a faulty path, and no scheme.
  *
  *   IRIKIT_INVALID_SCHEME       what stands before the first `:`
  *   IRIKIT_UNEXPECTED_RELATIVE  the start of the text, with length 0
- *   IRIKIT_INVALID_UTF8         all that follows the longest front of the text that is UTF-8
+ *   IRIKIT_INVALID_UTF8         all that follows the longest front of the text that is UTF-8; so also of every other kind of
+ *                               fault, where the text isn't UTF-8
+ *
+ * The part of the fault that irikit_validate tells of a text as this kind stands in the text, and isn't in the production of its
+ * name.
  *
  * Takes: the number of the kind of text that was wanted: of IRIKIT_RELATIVE it is split without a scheme; the number of a kind of
  * fault; the text.
@@ -164,7 +184,7 @@ uint8_t irikit_fault_words(size_t fault, char *out, size_t size, size_t *told);
  *   const char *text = "//u@h h:8/p";
  *   irikit_fault_part(IRIKIT_REFERENCE, IRIKIT_INVALID_HOST, text, 11, &part, &told);
  *   fwrite(text + part.offset, 1, part.len, stdout);  // "h h" */
-uint8_t irikit_fault_part(uint8_t kind, size_t fault, const char *text, size_t len, struct irikit_slot *part, size_t *told);
+uint8_t irikit_fault_part(uint32_t kind, size_t fault, const char *text, size_t len, struct irikit_slot *part, size_t *told);
 
 /* The parts of a reference.
  *
@@ -175,7 +195,7 @@ uint8_t irikit_fault_part(uint8_t kind, size_t fault, const char *text, size_t l
  *   const char *text = "//u@h:8/p";
  *   irikit_split(IRIKIT_URI, text, 9, &parts, &told);
  *   fwrite(text + parts.host.offset, 1, parts.host.len, stdout);  // "h" */
-uint8_t irikit_split(uint8_t grammar, const char *text, size_t len, struct irikit_parts *parts, size_t *told);
+uint8_t irikit_split(uint32_t grammar, const char *text, size_t len, struct irikit_parts *parts, size_t *told);
 
 /* The normal form of a text with a scheme (RFC 3986 section 6.2.2; by scheme rules section 6.2.3).
  *
@@ -184,7 +204,7 @@ uint8_t irikit_split(uint8_t grammar, const char *text, size_t len, struct iriki
  * Returns: IRIKIT_OK; IRIKIT_SHORT; IRIKIT_BAD_TEXT: it is no URI; IRIKIT_UNKNOWN: grammar or mode.
  *
  *   irikit_normalize(IRIKIT_URI, IRIKIT_BY_SCHEME, "HTTP://a:80", 11, out, sizeof out, &told);  // "http://a/" */
-uint8_t irikit_normalize(uint8_t grammar, uint8_t mode, const char *text, size_t len, char *out, size_t size, size_t *told);
+uint8_t irikit_normalize(uint32_t grammar, uint32_t mode, const char *text, size_t len, char *out, size_t size, size_t *told);
 
 /* Whether a text with a scheme is its own normal form.
  *
@@ -194,7 +214,7 @@ uint8_t irikit_normalize(uint8_t grammar, uint8_t mode, const char *text, size_t
  *
  *   irikit_is_normalized(IRIKIT_URI, IRIKIT_NORMAL, "http://a:80/", 12, &told);     // IRIKIT_OK
  *   irikit_is_normalized(IRIKIT_URI, IRIKIT_BY_SCHEME, "http://a:80/", 12, &told);  // IRIKIT_NOT_NORMAL */
-uint8_t irikit_is_normalized(uint8_t grammar, uint8_t mode, const char *text, size_t len, size_t *told);
+uint8_t irikit_is_normalized(uint32_t grammar, uint32_t mode, const char *text, size_t len, size_t *told);
 
 /* The steps that lead a text with a scheme to its normal form (RFC 3986 section 6.2.2; by scheme rules section 6.2.3), from
  * left to right, in words:
@@ -217,7 +237,7 @@ uint8_t irikit_is_normalized(uint8_t grammar, uint8_t mode, const char *text, si
  *
  *   irikit_steps(IRIKIT_URI, IRIKIT_BY_SCHEME, "Http://a:80/%7e", 15, out, sizeof out, &told);
  *   fwrite(out, 1, told, stdout);  // "scheme letter 0\ndecode path 1\ndefault port\n" */
-uint8_t irikit_steps(uint8_t grammar, uint8_t mode, const char *text, size_t len, char *out, size_t size, size_t *told);
+uint8_t irikit_steps(uint32_t grammar, uint32_t mode, const char *text, size_t len, char *out, size_t size, size_t *told);
 
 /* A reference of IRIs, mapped to one of URIs (RFC 3987 section 3.1): each character past ASCII becomes the
  * percent-encoded octets of its UTF-8.
@@ -234,11 +254,11 @@ uint8_t irikit_map_to_uri(const char *text, size_t len, char *out, size_t size, 
  *
  * Takes: the number of a grammar and of a place; the text, in UTF-8; a buffer.
  * Writes: the encoded text to `out`. It has at most 3 * len bytes.
- * Returns: IRIKIT_OK; IRIKIT_SHORT; IRIKIT_BAD_TEXT: it isn't UTF-8, whatever the numbers are; IRIKIT_UNKNOWN: grammar or
- * place.
+ * Returns: IRIKIT_BAD_TEXT: it isn't UTF-8, whatever the numbers are; then IRIKIT_UNKNOWN: grammar or place; IRIKIT_SHORT;
+ * IRIKIT_OK.
  *
  *   irikit_encode(IRIKIT_URI, IRIKIT_IN_SEGMENT, "50% off/a", 9, out, sizeof out, &told);  // "50%25%20off%2Fa" */
-uint8_t irikit_encode(uint8_t grammar, uint8_t place, const char *text, size_t len, char *out, size_t size, size_t *told);
+uint8_t irikit_encode(uint32_t grammar, uint32_t place, const char *text, size_t len, char *out, size_t size, size_t *told);
 
 /* The bytes that a text decodes to (the URL Standard, section 1.3): each percent-encoded octet gives its byte, and
  * all else, a `%` that begins none among it, stays. They needn't be UTF-8.
@@ -262,7 +282,7 @@ uint8_t irikit_decode(const char *text, size_t len, char *out, size_t size, size
  *
  *   irikit_canonical(IRIKIT_URI, IRIKIT_NORMAL, "http://A/b", 10, "%7e", 3, out, sizeof out, &told);  // "http://a/~"
  *   irikit_canonical(IRIKIT_URI, IRIKIT_NORMAL, "http://A/b", 10, "%", 1, out, sizeof out, &told);  // IRIKIT_BAD_REFERENCE */
-uint8_t irikit_canonical(uint8_t grammar, uint8_t mode, const char *base, size_t base_len, const char *reference,
+uint8_t irikit_canonical(uint32_t grammar, uint32_t mode, const char *base, size_t base_len, const char *reference,
                          size_t reference_len, char *out, size_t size, size_t *told);
 
 /* A reference resolved against a base (RFC 3986 section 5.2), not in normal form.
@@ -273,7 +293,7 @@ uint8_t irikit_canonical(uint8_t grammar, uint8_t mode, const char *base, size_t
  * first; IRIKIT_UNKNOWN: grammar.
  *
  *   irikit_resolve(IRIKIT_URI, "http://A/b/c", 12, "../%7e", 6, out, sizeof out, &told);  // "http://A/%7e" */
-uint8_t irikit_resolve(uint8_t grammar, const char *base, size_t base_len, const char *reference, size_t reference_len,
+uint8_t irikit_resolve(uint32_t grammar, const char *base, size_t base_len, const char *reference, size_t reference_len,
                        char *out, size_t size, size_t *told);
 
 /* The target of a reference against a base (RFC 3986 section 5.2.2), with its dot segments.
@@ -284,17 +304,17 @@ uint8_t irikit_resolve(uint8_t grammar, const char *base, size_t base_len, const
  * first; IRIKIT_UNKNOWN: grammar.
  *
  *   irikit_target(IRIKIT_URI, "http://A/b/c", 12, "../%7e", 6, out, sizeof out, &told);  // "http://A/b/../%7e" */
-uint8_t irikit_target(uint8_t grammar, const char *base, size_t base_len, const char *reference, size_t reference_len,
+uint8_t irikit_target(uint32_t grammar, const char *base, size_t base_len, const char *reference, size_t reference_len,
                       char *out, size_t size, size_t *told);
 
 /* ---- Templates ---- */
 
 /* The kinds of values of variables (RFC 6570 section 2.3), and how many texts each has. */
 enum irikit_value {
-    IRIKIT_UNDEFINED = 0, /* 0 */
-    IRIKIT_STRING = 1,    /* 1 */
-    IRIKIT_LIST = 2,      /* one for each item */
-    IRIKIT_PAIRS = 3      /* two for each pair: its key, then its value */
+    IRIKIT_UNDEFINED = 600, /* 0 */
+    IRIKIT_STRING = 601,    /* 1 */
+    IRIKIT_LIST = 602,      /* one for each item */
+    IRIKIT_PAIRS = 603      /* two for each pair: its key, then its value */
 };
 
 /* A variable. Where `count` is 0, `values` may be NULL. Of two with one name the first counts. */
@@ -307,27 +327,27 @@ struct irikit_variable {
 
 /* The kinds of faults of templates (RFC 6570 section 2). */
 enum irikit_template_fault {
-    IRIKIT_EXPRESSION_NOT_CLOSED = 0,
-    IRIKIT_INVALID_CHARACTER = 1,
-    IRIKIT_INVALID_EXPRESSION = 2,
-    IRIKIT_INVALID_PERCENT_ENCODING = 3,
-    IRIKIT_TEMPLATE_INVALID_UTF8 = 4,
-    IRIKIT_UNEXPECTED_VALUE_TYPE = 5, /* a prefix modifier on a list, or on pairs, that isn't empty */
-    IRIKIT_UNSUPPORTED_OPERATOR = 6
+    IRIKIT_EXPRESSION_NOT_CLOSED = 700,
+    IRIKIT_INVALID_CHARACTER = 701,
+    IRIKIT_INVALID_EXPRESSION = 702,
+    IRIKIT_INVALID_PERCENT_ENCODING = 703,
+    IRIKIT_TEMPLATE_INVALID_UTF8 = 704,
+    IRIKIT_UNEXPECTED_VALUE_TYPE = 705, /* a prefix modifier on a list, or on pairs, that isn't empty */
+    IRIKIT_UNSUPPORTED_OPERATOR = 706
 };
 
 /* The expansion of a URI template (RFC 6570 section 3).
  *
  * Takes: the number of a grammar; the template; variables; a buffer.
  * Writes: the expansion to `out`; `*place`, which is 0 at every status but the two below.
- * Returns: IRIKIT_OK; IRIKIT_SHORT; IRIKIT_BAD_VARIABLE: `*place` is the index of the first such variable, whatever grammar
- * and template are; IRIKIT_BAD_TEXT: `*told` is the template's first fault, one of irikit_template_fault, and `*place` its
- * place in bytes; IRIKIT_UNKNOWN: grammar.
+ * Returns: IRIKIT_BAD_VARIABLE: `*place` is the index of the first such variable, whatever grammar and template are; then
+ * IRIKIT_UNKNOWN: grammar; IRIKIT_BAD_TEXT: `*told` is the template's first fault, one of irikit_template_fault, and `*place` its
+ * place in bytes; IRIKIT_SHORT; IRIKIT_OK.
  *
  *   struct irikit_text word = {"two words", 9};
  *   struct irikit_variable q = {{"q", 1}, IRIKIT_STRING, &word, 1};
  *   irikit_expand(IRIKIT_URI, "/s{?q}", 6, &q, 1, out, sizeof out, &told, &place);  // "/s?q=two%20words" */
-uint8_t irikit_expand(uint8_t grammar, const char *template_text, size_t template_len,
+uint8_t irikit_expand(uint32_t grammar, const char *template_text, size_t template_len,
                       const struct irikit_variable *variables, size_t count, char *out, size_t size, size_t *told,
                       size_t *place);
 
@@ -365,7 +385,7 @@ uint8_t irikit_template_fault_words(size_t fault, char *out, size_t size, size_t
  * Returns: IRIKIT_OK; IRIKIT_SHORT; IRIKIT_BAD_TEXT; IRIKIT_UNKNOWN: grammar.
  *
  *   irikit_mask_password(IRIKIT_URI, "http://u:pw@h/", 14, out, sizeof out, &told);  // "http://u:@h/" */
-uint8_t irikit_mask_password(uint8_t grammar, const char *text, size_t len, char *out, size_t size, size_t *told);
+uint8_t irikit_mask_password(uint32_t grammar, const char *text, size_t len, char *out, size_t size, size_t *told);
 
 /* A reference without its password and the `:` before it.
  *
@@ -374,7 +394,7 @@ uint8_t irikit_mask_password(uint8_t grammar, const char *text, size_t len, char
  * Returns: IRIKIT_OK; IRIKIT_SHORT; IRIKIT_BAD_TEXT; IRIKIT_UNKNOWN: grammar.
  *
  *   irikit_remove_password(IRIKIT_URI, "http://u:pw@h/", 14, out, sizeof out, &told);  // "http://u@h/" */
-uint8_t irikit_remove_password(uint8_t grammar, const char *text, size_t len, char *out, size_t size, size_t *told);
+uint8_t irikit_remove_password(uint32_t grammar, const char *text, size_t len, char *out, size_t size, size_t *told);
 
 /* A reference with another text in place of its password; one without a colon in its userinfo stays as it is. The new text
  * is written as it stands, so the whole is a reference again only where it may stand in a userinfo (IRIKIT_IN_USER encodes
@@ -385,7 +405,7 @@ uint8_t irikit_remove_password(uint8_t grammar, const char *text, size_t len, ch
  * Returns: IRIKIT_OK; IRIKIT_SHORT; IRIKIT_BAD_TEXT; IRIKIT_BAD_PART: the password isn't UTF-8; IRIKIT_UNKNOWN: grammar.
  *
  *   irikit_replace_password(IRIKIT_URI, "http://u:pw@h/", 14, "***", 3, out, sizeof out, &told);  // "http://u:***@h/" */
-uint8_t irikit_replace_password(uint8_t grammar, const char *text, size_t len, const char *password, size_t password_len,
+uint8_t irikit_replace_password(uint32_t grammar, const char *text, size_t len, const char *password, size_t password_len,
                                 char *out, size_t size, size_t *told);
 
 /* A reference without its fragment and the `#` before it (RFC 3986 section 3.5).
@@ -395,7 +415,7 @@ uint8_t irikit_replace_password(uint8_t grammar, const char *text, size_t len, c
  * Returns: IRIKIT_OK; IRIKIT_SHORT; IRIKIT_BAD_TEXT; IRIKIT_UNKNOWN: grammar.
  *
  *   irikit_remove_fragment(IRIKIT_URI, "a?b#c", 5, out, sizeof out, &told);  // "a?b" */
-uint8_t irikit_remove_fragment(uint8_t grammar, const char *text, size_t len, char *out, size_t size, size_t *told);
+uint8_t irikit_remove_fragment(uint32_t grammar, const char *text, size_t len, char *out, size_t size, size_t *told);
 
 /* A reference with a fragment in place of its own, or after a text that has none (RFC 3986 section 3.5).
  *
@@ -404,7 +424,7 @@ uint8_t irikit_remove_fragment(uint8_t grammar, const char *text, size_t len, ch
  * Returns: IRIKIT_OK; IRIKIT_SHORT; IRIKIT_BAD_TEXT; IRIKIT_BAD_PART: the fragment's first fault; IRIKIT_UNKNOWN: grammar.
  *
  *   irikit_set_fragment(IRIKIT_URI, "a?b#c", 5, "d", 1, out, sizeof out, &told);  // "a?b#d" */
-uint8_t irikit_set_fragment(uint8_t grammar, const char *text, size_t len, const char *fragment, size_t fragment_len,
+uint8_t irikit_set_fragment(uint32_t grammar, const char *text, size_t len, const char *fragment, size_t fragment_len,
                             char *out, size_t size, size_t *told);
 
 /* A reference with another host in place of its own (RFC 3986 section 3.2.2).
@@ -416,7 +436,7 @@ uint8_t irikit_set_fragment(uint8_t grammar, const char *text, size_t len, const
  * authority; IRIKIT_UNKNOWN: grammar.
  *
  *   irikit_replace_host(IRIKIT_URI, "http://a:80/", 12, "[::1]", 5, out, sizeof out, &told);  // "http://[::1]:80/" */
-uint8_t irikit_replace_host(uint8_t grammar, const char *text, size_t len, const char *host, size_t host_len, char *out,
+uint8_t irikit_replace_host(uint32_t grammar, const char *text, size_t len, const char *host, size_t host_len, char *out,
                             size_t size, size_t *told);
 
 /* A reference with another host in place of a registered name (RFC 3986 section 3.2.2).
@@ -425,18 +445,18 @@ uint8_t irikit_replace_host(uint8_t grammar, const char *text, size_t len, const
  * Returns: as irikit_replace_host; IRIKIT_NO_HOST also where the text's host is an IP literal or an IPv4 address.
  *
  *   irikit_replace_reg_name(IRIKIT_URI, "//192.0.2.16/", 13, "a", 1, out, sizeof out, &told);  // IRIKIT_NO_HOST */
-uint8_t irikit_replace_reg_name(uint8_t grammar, const char *text, size_t len, const char *host, size_t host_len, char *out,
+uint8_t irikit_replace_reg_name(uint32_t grammar, const char *text, size_t len, const char *host, size_t host_len, char *out,
                                 size_t size, size_t *told);
 
 /* The parts that a text is built from. */
 enum irikit_part {
-    IRIKIT_SCHEME = 0,
-    IRIKIT_USERINFO = 1,
-    IRIKIT_HOST = 2,
-    IRIKIT_PORT = 3,
-    IRIKIT_PATH = 4,
-    IRIKIT_QUERY = 5,
-    IRIKIT_FRAGMENT = 6
+    IRIKIT_SCHEME = 800,
+    IRIKIT_USERINFO = 801,
+    IRIKIT_HOST = 802,
+    IRIKIT_PORT = 803,
+    IRIKIT_PATH = 804,
+    IRIKIT_QUERY = 805,
+    IRIKIT_FRAGMENT = 806
 };
 
 /* A part that is given: its number, and its text without the delimiters around it (a host with its brackets). */
@@ -450,13 +470,14 @@ struct irikit_given {
  *
  * Takes: the number of a grammar and of a kind; parts, in any order; a buffer.
  * Writes: the text to `out`. It has at most 7 bytes more than the texts of the parts together.
- * Returns: IRIKIT_OK; IRIKIT_SHORT; IRIKIT_BAD_PART: the parts make no text of the kind: a text isn't UTF-8, whatever grammar
- * and kind are, then the first faulty part in the order of irikit_part, then what the kind refuses, then IRIKIT_INVALID_PATH
- * for a path that can't stand there (section 3.3); IRIKIT_UNKNOWN: grammar, kind or part.
+ * Returns: IRIKIT_UNKNOWN: a part; then IRIKIT_BAD_PART, told IRIKIT_INVALID_UTF8: a text isn't UTF-8, whatever grammar and kind
+ * are; then IRIKIT_UNKNOWN: grammar or kind; then IRIKIT_BAD_PART: the parts make no text of the kind: told is the first faulty part's
+ * kind of fault, in the order of irikit_part, then what the kind refuses, then IRIKIT_INVALID_PATH for a path that can't stand there
+ * (section 3.3); IRIKIT_SHORT; IRIKIT_OK.
  *
  *   struct irikit_given parts[] = {{IRIKIT_SCHEME, {"http", 4}}, {IRIKIT_HOST, {"a", 1}}, {IRIKIT_PATH, {"/b", 2}}};
  *   irikit_build(IRIKIT_URI, IRIKIT_WITH_SCHEME, parts, 3, out, sizeof out, &told);  // "http://a/b" */
-uint8_t irikit_build(uint8_t grammar, uint8_t kind, const struct irikit_given *parts, size_t count, char *out, size_t size,
+uint8_t irikit_build(uint32_t grammar, uint32_t kind, const struct irikit_given *parts, size_t count, char *out, size_t size,
                      size_t *told);
 
 /* ---- Many lines ---- */
@@ -474,7 +495,7 @@ uint8_t irikit_build(uint8_t grammar, uint8_t kind, const struct irikit_given *p
  *
  *   irikit_canonical_lines(IRIKIT_URI, IRIKIT_NORMAL, "http://a/b", 10, "c\n../d\n", 7, out, sizeof out, &consumed, &told);
  *   fwrite(out, 1, told, stdout);  // "ok http://a/c\nok http://a/d\n" */
-uint8_t irikit_canonical_lines(uint8_t grammar, uint8_t mode, const char *base, size_t base_len, const char *lines,
+uint8_t irikit_canonical_lines(uint32_t grammar, uint32_t mode, const char *base, size_t base_len, const char *lines,
                                size_t lines_len, char *out, size_t size, size_t *consumed, size_t *told);
 
 /* ---- Run ---- */

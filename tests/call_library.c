@@ -19,7 +19,8 @@ int main(int argc, char **argv)
 	size_t told = 0, len = fread(text, 1, MOST, stdin);
 	if (argc != 3)
 		return 2;
-	uint8_t grammar = strcmp(argv[2], "iri") == 0 ? IRIKIT_IRI : IRIKIT_URI, status = IRIKIT_UNKNOWN;
+	uint32_t grammar = strcmp(argv[2], "iri") == 0 ? IRIKIT_IRI : IRIKIT_URI;
+	uint8_t status = IRIKIT_UNKNOWN;
 	const char *call = argv[1];
 	if (strcmp(call, "canonical") == 0)
 		status = irikit_canonical(grammar, IRIKIT_NORMAL, BASE, strlen(BASE), text, len, out, sizeof out, &told);
@@ -31,8 +32,8 @@ int main(int argc, char **argv)
 		status = irikit_is_normalized(grammar, IRIKIT_NORMAL, text, len, &told);
 	else if (strcmp(call, "map") == 0)
 		status = irikit_map_to_uri(text, len, out, sizeof out, &told);
-	for (uint8_t kind = 0; kind < 4; kind++)
-		if (strcmp(call, KINDS[kind]) == 0)
+	for (uint32_t kind = IRIKIT_REFERENCE; kind <= IRIKIT_RELATIVE; kind++)
+		if (strcmp(call, KINDS[kind - IRIKIT_REFERENCE]) == 0)
 			status = irikit_validate(grammar, kind, text, len, &told);
 	if (status == IRIKIT_UNKNOWN || status == IRIKIT_SHORT)
 		return 2;

@@ -52,7 +52,7 @@ static void check_calls(const char *name, struct text given)
 	uint8_t first = given.at[0];
 	struct text whole = {given.at + 1, given.len - 1};
 	const uint8_t *lf = memchr(whole.at, '\n', whole.len);
-	struct input input = {first, first & 1, whole, {0}, whole};
+	struct input input = {first, first & 1 ? IRIKIT_IRI : IRIKIT_URI, whole, {0}, whole};
 	if (lf) {
 		input.one = (struct text){whole.at, lf - whole.at};
 		input.other = (struct text){lf + 1, whole.at + whole.len - lf - 1};

@@ -62,16 +62,25 @@ int is_beginning(struct answer answer, struct text text);
 /* A text that is kept where no call writes. */
 struct text kept(struct bytes *to, struct text text);
 
-struct answer validated(int grammar, int kind, struct text text);
-struct answer canonical(int grammar, int mode, struct text base, struct text reference, size_t size);
+struct answer validated(uint32_t grammar, uint32_t kind, struct text text);
+struct answer canonical(uint32_t grammar, uint32_t mode, struct text base, struct text reference, size_t size);
 
 /* An input of the calls: its first octet stands for the grammar, and for numbers that may be none. The whole of what is after it is two
  * texts with an LF between them; without an LF the first is absent: NULL. */
 struct input {
 	uint8_t first;
-	int grammar;
+	uint32_t grammar;
 	struct text whole, one, other;
 };
+
+/* A number that stands for no grammar: one near those that do, of another enum, or that fewer bits would take for one. */
+uint32_t no_grammar(uint8_t number);
+
+/* The grammar of an input, and for a few first octets a number that is none. */
+uint32_t grammar_of(struct input input);
+
+int is_one_of(size_t number, size_t first, size_t last);
+#define IS_GRAMMAR(number) is_one_of(number, IRIKIT_URI, IRIKIT_IRI)
 
 void check_references(struct input input);
 void check_forms(struct input input);

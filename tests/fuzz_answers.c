@@ -82,12 +82,30 @@ struct text kept(struct bytes *to, struct text text)
 	return (struct text){to->at, to->len};
 }
 
-struct answer validated(int grammar, int kind, struct text text)
+struct answer validated(uint32_t grammar, uint32_t kind, struct text text)
 {
 	return TESTED(irikit_validate, grammar, kind, placed(REFERENCE, text), text.len);
 }
 
-struct answer canonical(int grammar, int mode, struct text base, struct text reference, size_t size)
+struct answer canonical(uint32_t grammar, uint32_t mode, struct text base, struct text reference, size_t size)
 {
 	return ANSWERED(irikit_canonical, size, grammar, mode, placed(BASE, base), base.len, placed(REFERENCE, reference), reference.len);
+}
+
+uint32_t no_grammar(uint8_t number)
+{
+	static const uint32_t none[] = {0, 1, IRIKIT_URI - 1, IRIKIT_IRI + 1, IRIKIT_NORMAL, IRIKIT_URI + 256, IRIKIT_IRI + 65536,
+		UINT32_MAX};
+	return none[number % (sizeof none / sizeof *none)];
+}
+
+uint32_t grammar_of(struct input input)
+{
+	uint8_t number = input.first >> 2;
+	return number < 60 ? input.grammar : no_grammar(number);
+}
+
+int is_one_of(size_t number, size_t first, size_t last)
+{
+	return first <= number && number <= last;
 }

@@ -5,6 +5,8 @@
 
 #define PART_COUNT 7
 #define MOST_PARTS 32
+/* Where a part stands in the order of their numbers. */
+#define AT(part) ((part) - IRIKIT_SCHEME)
 
 /* How many parts are given, whether each is known and UTF-8, and the last text of each, or NULL. */
 struct given {
@@ -26,12 +28,13 @@ static struct given read_parts(struct text text)
 		next = lf ? lf + 1 : end;
 		if (at == lf)
 			continue;
-		size_t part = *at >= 'a' && *at < 'a' + PART_COUNT ? *at - 'a' : *at;
+		size_t part = *at >= 'a' && *at < 'a' + PART_COUNT ? IRIKIT_SCHEME + (*at - 'a') : *at;
 		parts[given.count++] = (struct irikit_given){part, {copy + (one.at - text.at), one.len}};
-		given.known &= part < PART_COUNT;
+		int known = is_one_of(part, IRIKIT_SCHEME, IRIKIT_FRAGMENT);
+		given.known &= known;
 		given.utf8 &= is_utf8(one);
-		if (part < PART_COUNT)
-			given.last[part] = one;
+		if (known)
+			given.last[AT(part)] = one;
 	}
 	memcpy(place(PARTS, given.count * sizeof *parts), parts, given.count * sizeof *parts);
 	return given;
@@ -41,10 +44,10 @@ static struct given read_parts(struct text text)
 static struct text recomposed(struct bytes *to, const struct text *last)
 {
 	static const char *const before[] = {"", "", "", ":", "", "?", "#"}, *const after[] = {":", "@", "", "", "", "", ""};
-	int has_authority = last[IRIKIT_USERINFO].at || last[IRIKIT_HOST].at || last[IRIKIT_PORT].at;
+	int has_authority = last[AT(IRIKIT_USERINFO)].at || last[AT(IRIKIT_HOST)].at || last[AT(IRIKIT_PORT)].at;
 	put_word(to, "");
 	for (int part = 0; part < PART_COUNT; part++) {
-		if (part == IRIKIT_USERINFO && has_authority)
+		if (part == AT(IRIKIT_USERINFO) && has_authority)
 			put_word(to, "//");
 		if (!last[part].at)
 			continue;
@@ -56,7 +59,7 @@ static struct text recomposed(struct bytes *to, const struct text *last)
 }
 
 /* Whether a text may be a part at all: it is that part of a reference in which it stands. */
-static int is_part(int grammar, int part, struct text text)
+static int is_part(uint32_t grammar, int part, struct text text)
 {
 	static const char *const before[] = {"", "//", "//", "//:", "//h/", "?", "#"}, *const after[] = {":", "@", "", "", "", "", ""};
 	struct bytes whole = {0};
@@ -77,17 +80,17 @@ static int is_part(int grammar, int part, struct text text)
 /* Whether a path can't stand there (section 3.3). */
 static int is_misplaced(const struct text *last)
 {
-	struct text path = last[IRIKIT_PATH];
+	struct text path = last[AT(IRIKIT_PATH)];
 	const uint8_t *slash = path.len ? memchr(path.at, '/', path.len) : NULL;
-	if (last[IRIKIT_USERINFO].at || last[IRIKIT_HOST].at || last[IRIKIT_PORT].at)
+	if (last[AT(IRIKIT_USERINFO)].at || last[AT(IRIKIT_HOST)].at || last[AT(IRIKIT_PORT)].at)
 		return path.len && path.at[0] != '/';
 	if (path.len > 1 && path.at[0] == '/' && path.at[1] == '/')
 		return 1;
-	return !last[IRIKIT_SCHEME].at && path.len && memchr(path.at, ':', slash ? (size_t)(slash - path.at) : path.len) != NULL;
+	return !last[AT(IRIKIT_SCHEME)].at && path.len && memchr(path.at, ':', slash ? (size_t)(slash - path.at) : path.len) != NULL;
 }
 
 /* The first fault of parts; IRIKIT_OK and 0 where they make a text. */
-static struct answer first_fault(int grammar, int kind, const struct given *given)
+static struct answer first_fault(uint32_t grammar, uint32_t kind, const struct given *given)
 {
 	static const size_t faults[] = {IRIKIT_INVALID_SCHEME, IRIKIT_INVALID_USERINFO, IRIKIT_INVALID_HOST, IRIKIT_INVALID_PORT,
 		IRIKIT_INVALID_PATH, IRIKIT_INVALID_QUERY, IRIKIT_INVALID_FRAGMENT};
@@ -96,16 +99,16 @@ static struct answer first_fault(int grammar, int kind, const struct given *give
 		return (struct answer){.status = IRIKIT_UNKNOWN};
 	if (!given->utf8)
 		return (struct answer){IRIKIT_BAD_PART, IRIKIT_INVALID_UTF8, {0}};
-	if (grammar > IRIKIT_IRI || kind > IRIKIT_RELATIVE)
+	if (!IS_GRAMMAR(grammar) || !is_one_of(kind, IRIKIT_REFERENCE, IRIKIT_RELATIVE))
 		return (struct answer){.status = IRIKIT_UNKNOWN};
 	for (int part = 0; part < PART_COUNT; part++)
 		if (last[part].at && !is_part(grammar, part, last[part]))
 			return (struct answer){IRIKIT_BAD_PART, faults[part], {0}};
-	if ((kind == IRIKIT_WITH_SCHEME || kind == IRIKIT_ABSOLUTE) && !last[IRIKIT_SCHEME].at)
+	if ((kind == IRIKIT_WITH_SCHEME || kind == IRIKIT_ABSOLUTE) && !last[AT(IRIKIT_SCHEME)].at)
 		return (struct answer){IRIKIT_BAD_PART, IRIKIT_UNEXPECTED_RELATIVE, {0}};
-	if (kind == IRIKIT_ABSOLUTE && last[IRIKIT_FRAGMENT].at)
+	if (kind == IRIKIT_ABSOLUTE && last[AT(IRIKIT_FRAGMENT)].at)
 		return (struct answer){IRIKIT_BAD_PART, IRIKIT_UNEXPECTED_FRAGMENT, {0}};
-	if (kind == IRIKIT_RELATIVE && last[IRIKIT_SCHEME].at)
+	if (kind == IRIKIT_RELATIVE && last[AT(IRIKIT_SCHEME)].at)
 		return (struct answer){IRIKIT_BAD_PART, IRIKIT_INVALID_SCHEME, {0}};
 	if (is_misplaced(last))
 		return (struct answer){IRIKIT_BAD_PART, IRIKIT_INVALID_PATH, {0}};
@@ -115,7 +118,7 @@ static struct answer first_fault(int grammar, int kind, const struct given *give
 void check_building(struct input input)
 {
 	uint8_t number = input.first >> 2;
-	int grammar = number < 60 ? input.grammar : number, kind = number % (IRIKIT_RELATIVE + 2);
+	uint32_t grammar = grammar_of(input), kind = IRIKIT_REFERENCE + number % (IRIKIT_RELATIVE - IRIKIT_REFERENCE + 2);
 	struct bytes to = {0}, copy = {0};
 	struct text text = kept(&copy, input.whole);
 	struct given given = read_parts(text);

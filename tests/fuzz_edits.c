@@ -24,11 +24,11 @@ struct edited {
 };
 
 /* Whether an edit with a text for a part, or without one, answers so, in buffers of any size. */
-typedef uint8_t edit(uint8_t grammar, const char *text, size_t len, char *out, size_t size, size_t *told);
-typedef uint8_t edit_by(uint8_t grammar, const char *text, size_t len, const char *part, size_t part_len, char *out, size_t size,
+typedef uint8_t edit(uint32_t grammar, const char *text, size_t len, char *out, size_t size, size_t *told);
+typedef uint8_t edit_by(uint32_t grammar, const char *text, size_t len, const char *part, size_t part_len, char *out, size_t size,
                         size_t *told);
 
-static void check_edit(edit *call, int grammar, struct text text, struct edited wanted, const char *property)
+static void check_edit(edit *call, uint32_t grammar, struct text text, struct edited wanted, const char *property)
 {
 	if (wanted.status == IRIKIT_OK)
 		holds(WRITES(wanted.text, call, grammar, placed(REFERENCE, text), text.len), property);
@@ -36,7 +36,7 @@ static void check_edit(edit *call, int grammar, struct text text, struct edited 
 		holds(is_answer(EDITED(call, text.len, grammar, text), wanted.status, wanted.told), property);
 }
 
-static void check_edit_by(edit_by *call, int grammar, struct text text, struct text part, struct edited wanted,
+static void check_edit_by(edit_by *call, uint32_t grammar, struct text text, struct text part, struct edited wanted,
                           const char *property)
 {
 	if (wanted.status == IRIKIT_OK)
@@ -51,14 +51,14 @@ static struct edited refused(uint8_t status, size_t told)
 }
 
 /* What a text is refused with by each edit; the status is IRIKIT_OK where it isn't. */
-static struct edited of_text(int grammar, struct text text)
+static struct edited of_text(uint32_t grammar, struct text text)
 {
 	struct answer answer = validated(grammar, IRIKIT_REFERENCE, text);
 	return refused(answer.status, answer.told);
 }
 
 /* The edits of the password: what is after the first colon of the userinfo. */
-static void check_password(int grammar, struct text text, struct text part)
+static void check_password(uint32_t grammar, struct text text, struct text part)
 {
 	struct bytes to = {0};
 	struct edited wanted = of_text(grammar, text), by = wanted;
@@ -76,7 +76,7 @@ static void check_password(int grammar, struct text text, struct text part)
 	free(to.at);
 }
 
-static void check_fragment(int grammar, struct text text, struct text part)
+static void check_fragment(uint32_t grammar, struct text text, struct text part)
 {
 	struct bytes to = {0}, whole = {0};
 	struct edited wanted = of_text(grammar, text);
@@ -112,7 +112,7 @@ static int is_address(struct text host)
 }
 
 /* Whether a text is a host: it is that of a reference which begins with it as an authority. */
-static int is_host(int grammar, struct text part)
+static int is_host(uint32_t grammar, struct text part)
 {
 	struct bytes whole = {0};
 	put_word(&whole, "//");
@@ -124,7 +124,7 @@ static int is_host(int grammar, struct text part)
 	return is;
 }
 
-static void check_host(int grammar, struct text text, struct text part)
+static void check_host(uint32_t grammar, struct text text, struct text part)
 {
 	struct bytes to = {0};
 	struct edited wanted = of_text(grammar, text);
@@ -147,7 +147,7 @@ void check_edits(struct input input)
 {
 	uint8_t number = input.first >> 2;
 	struct text part = input.one.at ? input.one : WORD("a:b");
-	int grammar = number < 60 ? input.grammar : number;
+	uint32_t grammar = grammar_of(input);
 	tell(number % 2, part);
 	check_password(grammar, input.other, part);
 	check_fragment(grammar, input.other, part);

@@ -82,7 +82,7 @@ static void do_step(struct bytes *text, const char *step, struct text form)
 }
 
 /* The steps that are told lead to the normal form. */
-static void check_steps(int grammar, int mode, struct text text, struct text form)
+static void check_steps(uint32_t grammar, uint32_t mode, struct text text, struct text form)
 {
 	struct bytes done = {0}, to = {0};
 	struct text steps = kept(&to, FORM(irikit_steps, STEP * (text.len + BESIDES), grammar, mode, text).out);
@@ -101,7 +101,7 @@ static void check_steps(int grammar, int mode, struct text text, struct text for
 }
 
 /* The normal form of a text that is a URI. */
-static void check_form(int grammar, int mode, struct text text)
+static void check_form(uint32_t grammar, uint32_t mode, struct text text)
 {
 	struct bytes to = {0};
 	struct answer answer = FORM(irikit_normalize, text.len + 3, grammar, mode, text);
@@ -119,7 +119,7 @@ static void check_form(int grammar, int mode, struct text text)
 		holds(is_text(FORM(irikit_normalize, wanted.len, grammar, IRIKIT_NORMAL, form), wanted), "what keeps dots has the normal form");
 		free(normal.at);
 	} else {
-		struct reading reading = {grammar, mode == IRIKIT_BY_SCHEME, {0}};
+		struct reading reading = {grammar == IRIKIT_IRI, mode == IRIKIT_BY_SCHEME, {0}};
 		holds(is_normal(&reading, form), "a normal form has nothing that goes");
 		holds(is_text(canonical(grammar, mode, WORD("x:"), text, form.len), form), "the canonical text of a URI is its normal form");
 		check_steps(grammar, mode, text, form);
@@ -127,10 +127,10 @@ static void check_form(int grammar, int mode, struct text text)
 	free(to.at);
 }
 
-static void check_mode(int grammar, int mode, struct text text)
+static void check_mode(uint32_t grammar, uint32_t mode, struct text text)
 {
 	struct answer uri = validated(grammar, IRIKIT_WITH_SCHEME, text);
-	int known = grammar <= IRIKIT_IRI && mode <= IRIKIT_PRESERVING;
+	int known = IS_GRAMMAR(grammar) && is_one_of(mode, IRIKIT_NORMAL, IRIKIT_PRESERVING);
 	if (known && uri.status == IRIKIT_OK) {
 		check_form(grammar, mode, text);
 		return;
@@ -145,33 +145,35 @@ static void check_mode(int grammar, int mode, struct text text)
 	holds(is_answer(FORM(irikit_steps, text.len, grammar, mode, text), status, told), "what has no steps");
 }
 
+#define PLACES (IRIKIT_IN_REFERENCE - IRIKIT_IN_REG_NAME + 1)
+
 /* A place in a reference: what is before and after a text that stands there. */
 static const struct {
 	const char *before, *after;
-} places[] = {{"//", ""}, {"//", "@"}, {"/a", ""}, {"/a", ""}, {"?", ""}, {"#", ""}, {"#", ""}, {"", ""}};
+} places[PLACES] = {{"//", ""}, {"//", "@"}, {"/a", ""}, {"/a", ""}, {"?", ""}, {"#", ""}, {"#", ""}, {"", ""}};
 
-static void check_encoded(int grammar, uint8_t number, struct text text, struct text encoded)
+static void check_encoded(uint32_t grammar, uint32_t number, struct text text, struct text encoded)
 {
 	struct bytes whole = {0};
-	put_word(&whole, places[number].before);
+	put_word(&whole, places[number - IRIKIT_IN_REG_NAME].before);
 	put_text(&whole, encoded);
-	put_word(&whole, places[number].after);
+	put_word(&whole, places[number - IRIKIT_IN_REG_NAME].after);
 	struct answer answer = validated(grammar, IRIKIT_REFERENCE, (struct text){whole.at, whole.len});
 	holds(number == IRIKIT_IN_REFERENCE || answer.status == IRIKIT_OK, "what is encoded stands in its place");
-	holds(has_normal_octets(grammar, encoded), "what is encoded has capital digits, and no unreserved character is");
+	holds(has_normal_octets(grammar == IRIKIT_IRI, encoded), "what is encoded has capital digits, and no unreserved character is");
 	holds(WRITES(encoded, irikit_encode, grammar, number, placed(REFERENCE, text), text.len), "what is encoded in buffers");
 	holds(WRITES(text, irikit_decode, placed(REFERENCE, encoded), encoded.len), "what is encoded is decoded");
 	free(whole.at);
 }
 
-static void check_encoding(int grammar, uint8_t number, struct text text)
+static void check_encoding(uint32_t grammar, uint32_t number, struct text text)
 {
 	struct bytes to = {0};
 	struct answer answer = FORM(irikit_encode, 3 * text.len, grammar, number, text);
 	tell(number, answer.out);
 	if (!is_utf8(text)) {
 		holds(is_answer(answer, IRIKIT_BAD_TEXT, IRIKIT_INVALID_UTF8), "what isn't UTF-8 isn't encoded");
-	} else if (grammar > IRIKIT_IRI || number > IRIKIT_IN_REFERENCE) {
+	} else if (!IS_GRAMMAR(grammar) || !is_one_of(number, IRIKIT_IN_REG_NAME, IRIKIT_IN_REFERENCE)) {
 		holds(is_answer(answer, IRIKIT_UNKNOWN, 0), "a place that is none");
 	} else {
 		holds(answer.status == IRIKIT_OK, "what is encoded has at most three times the bytes");
@@ -197,9 +199,9 @@ static void check_decoding(struct text text)
 void check_forms(struct input input)
 {
 	uint8_t number = input.first >> 2;
-	int grammar = number < 60 ? input.grammar : number;
-	for (int mode = 0; mode <= IRIKIT_PRESERVING + 1; mode++)
+	uint32_t grammar = grammar_of(input);
+	for (uint32_t mode = IRIKIT_NORMAL - 1; mode <= IRIKIT_PRESERVING + 1; mode++)
 		check_mode(grammar, mode, input.other);
-	check_encoding(grammar, number % (IRIKIT_IN_REFERENCE + 2), input.other);
+	check_encoding(grammar, IRIKIT_IN_REG_NAME - 1 + number % (PLACES + 2), input.other);
 	check_decoding(input.other);
 }

@@ -4,7 +4,7 @@
 
 /* What is asked: a base, and lines against it. */
 struct question {
-	int grammar, mode;
+	uint32_t grammar, mode;
 	struct text base, lines;
 };
 
@@ -84,9 +84,9 @@ static void check_calls(const struct question *asked, struct text answers)
 void check_lines(struct input input)
 {
 	uint8_t number = input.first >> 2;
-	int known = number < 60 && number % 3 <= IRIKIT_BY_SCHEME;
 	struct text given = input.one.at ? input.one : WORD("http://a/b");
-	struct question asked = {number < 60 ? input.grammar : number, number % 3, given, input.other};
+	struct question asked = {grammar_of(input), IRIKIT_NORMAL + number % 3, given, input.other};
+	int known = IS_GRAMMAR(asked.grammar) && asked.mode <= IRIKIT_BY_SCHEME;
 	struct answer base = validated(input.grammar, IRIKIT_ABSOLUTE, asked.base);
 	struct bytes to = {0};
 	if (known && base.status == IRIKIT_OK) {

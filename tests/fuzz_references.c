@@ -2,13 +2,11 @@
 #include "fuzz.h"
 #include <stdlib.h>
 
-#define FAULTS 11
-
 /* A reference resolved against a base, in one way or another. */
 #define RESOLVED(call, grammar, base, reference, size) \
 	ANSWERED(call, size, grammar, placed(BASE, base), (base).len, placed(REFERENCE, reference), (reference).len)
 
-static void check_kinds(int grammar, struct text text)
+static void check_kinds(uint32_t grammar, struct text text)
 {
 	struct answer reference = validated(grammar, IRIKIT_REFERENCE, text), uri = validated(grammar, IRIKIT_WITH_SCHEME, text);
 	struct answer absolute = validated(grammar, IRIKIT_ABSOLUTE, text), relative = validated(grammar, IRIKIT_RELATIVE, text);
@@ -44,7 +42,7 @@ static void check_fault_part(size_t fault, struct text text)
 	holds(part->len, "no empty part has a fault");
 }
 
-static void check_parts(int grammar, struct text text)
+static void check_parts(uint32_t grammar, struct text text)
 {
 	struct irikit_parts *parts = (struct irikit_parts *)place(PARTS, sizeof *parts);
 	memset(parts, '.', sizeof *parts);
@@ -83,26 +81,25 @@ static void check_mapping(struct text text)
 
 static void check_numbers(uint8_t number, struct text text)
 {
-	struct answer words = ANSWERED(irikit_fault_words, 64, number);
-	if (number >= FAULTS) {
+	size_t fault = IRIKIT_INVALID_SCHEME - 1 + number;
+	uint32_t none = no_grammar(number), no_kind = IRIKIT_RELATIVE + 1 + number;
+	struct answer words = ANSWERED(irikit_fault_words, 64, fault);
+	if (!is_one_of(fault, IRIKIT_INVALID_SCHEME, IRIKIT_INVALID_UTF8)) {
 		holds(is_answer(words, IRIKIT_UNKNOWN, 0), "the words of a fault that is none");
 	} else {
 		holds(words.status == IRIKIT_OK && words.told, "the words of a fault");
 		size_t told = words.told, size = text.len % told;
-		words = ANSWERED(irikit_fault_words, size, number);
+		words = ANSWERED(irikit_fault_words, size, fault);
 		holds(is_answer(words, IRIKIT_SHORT, told), "the words of a fault in a shorter buffer");
 	}
-	if (number > IRIKIT_IRI) {
-		holds(is_answer(canonical(number, IRIKIT_NORMAL, text, text, 9), IRIKIT_UNKNOWN, 0), "a grammar that is none");
-		holds(is_answer(validated(number, 0, text), IRIKIT_UNKNOWN, 0), "a grammar of a test that is none");
-		holds(is_answer(RESOLVED(irikit_resolve, number, text, text, 9), IRIKIT_UNKNOWN, 0), "a grammar of a resolution that is none");
-		holds(is_answer(RESOLVED(irikit_target, number, text, text, 9), IRIKIT_UNKNOWN, 0), "a grammar of a target that is none");
-	}
-	if (number > IRIKIT_RELATIVE)
-		holds(is_answer(validated(0, number, text), IRIKIT_UNKNOWN, 0), "a kind that is none");
+	holds(is_answer(canonical(none, IRIKIT_NORMAL, text, text, 9), IRIKIT_UNKNOWN, 0), "a grammar that is none");
+	holds(is_answer(validated(none, IRIKIT_REFERENCE, text), IRIKIT_UNKNOWN, 0), "a grammar of a test that is none");
+	holds(is_answer(RESOLVED(irikit_resolve, none, text, text, 9), IRIKIT_UNKNOWN, 0), "a grammar of a resolution that is none");
+	holds(is_answer(RESOLVED(irikit_target, none, text, text, 9), IRIKIT_UNKNOWN, 0), "a grammar of a target that is none");
+	holds(is_answer(validated(IRIKIT_URI, no_kind, text), IRIKIT_UNKNOWN, 0), "a kind that is none");
 }
 
-static int has_text(int grammar, struct text base, struct text reference, struct text wanted)
+static int has_text(uint32_t grammar, struct text base, struct text reference, struct text wanted)
 {
 	return is_text(canonical(grammar, IRIKIT_NORMAL, base, reference, wanted.len), wanted);
 }
@@ -110,7 +107,7 @@ static int has_text(int grammar, struct text base, struct text reference, struct
 /* The canonical text of a good reference against a good base, and of other spellings of it. */
 static void check_text(const struct reading *reading, struct text reference, struct text text, struct numbers *numbers)
 {
-	int grammar = reading->iri;
+	uint32_t grammar = GRAMMAR(*reading);
 	struct bytes other = {0}, base = {0}, wanted = {0};
 	holds(is_beginning(canonical(grammar, IRIKIT_NORMAL, reading->base, reference, fewer(text)), text), "a text in a shorter buffer");
 	holds(is_normal(reading, text), "a text has nothing that normal form takes out");
@@ -130,9 +127,9 @@ static void check_text(const struct reading *reading, struct text reference, str
 
 static void check_canonical(const struct reading *reading, struct text reference, struct numbers *numbers)
 {
-	struct answer base = validated(reading->iri, IRIKIT_ABSOLUTE, reading->base);
-	struct answer of = validated(reading->iri, IRIKIT_REFERENCE, reference);
-	struct answer answer = canonical(reading->iri, IRIKIT_NORMAL, reading->base, reference, reading->base.len + reference.len + 3);
+	struct answer base = validated(GRAMMAR(*reading), IRIKIT_ABSOLUTE, reading->base);
+	struct answer of = validated(GRAMMAR(*reading), IRIKIT_REFERENCE, reference);
+	struct answer answer = canonical(GRAMMAR(*reading), IRIKIT_NORMAL, reading->base, reference, reading->base.len + reference.len + 3);
 	struct bytes text = {0};
 	tell(answer.status, answer.out);
 	if (base.status != IRIKIT_OK) {
@@ -178,7 +175,7 @@ static struct text target_of(struct bytes *to, struct text base, struct text ref
 }
 
 /* What is resolved, and the target: the normal form of both is the canonical text. */
-static void check_resolved(int grammar, struct text base, struct text reference, struct text resolved)
+static void check_resolved(uint32_t grammar, struct text base, struct text reference, struct text resolved)
 {
 	struct bytes to = {0}, targets = {0};
 	struct text text = kept(&to, canonical(grammar, IRIKIT_NORMAL, base, reference, base.len + reference.len + 3).out);
@@ -197,7 +194,7 @@ static void check_resolved(int grammar, struct text base, struct text reference,
 	free(targets.at);
 }
 
-static void check_resolution(int grammar, struct text base, struct text reference)
+static void check_resolution(uint32_t grammar, struct text base, struct text reference)
 {
 	struct answer of_base = validated(grammar, IRIKIT_ABSOLUTE, base), of = validated(grammar, IRIKIT_REFERENCE, reference);
 	size_t most = base.len + reference.len + 3;
@@ -218,7 +215,7 @@ static void check_resolution(int grammar, struct text base, struct text referenc
 
 void check_references(struct input input)
 {
-	struct reading reading = {input.grammar, 0, input.one.at ? input.one : WORD("http://a/b/c/d;p?q")};
+	struct reading reading = {input.grammar == IRIKIT_IRI, 0, input.one.at ? input.one : WORD("http://a/b/c/d;p?q")};
 	struct numbers numbers = {mixed(input.other.len, input.first)};
 	check_canonical(&reading, input.other, &numbers);
 	check_resolution(input.grammar, reading.base, input.other);

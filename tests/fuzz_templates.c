@@ -3,7 +3,7 @@
 #include "fuzz.h"
 #include <stdlib.h>
 
-#define FAULTS 7
+#define IS_FAULT(number) is_one_of(number, IRIKIT_EXPRESSION_NOT_CLOSED, IRIKIT_UNSUPPORTED_OPERATOR)
 #define MOST_VARIABLES 32
 #define MOST_VALUES 256
 
@@ -33,7 +33,7 @@ static int read_variable(struct text line, struct text all, const char *copy, st
 	const uint8_t *end = line.at + line.len, *equals = memchr(line.at, '=', line.len);
 	struct text name = {line.at + 1, (equals ? equals : end) - line.at - 1};
 	int sound = 1;
-	*to = (struct irikit_variable){as_passed(name, all.at, copy), kind ? (size_t)(kind - kinds) : line.at[0], values, 0};
+	*to = (struct irikit_variable){as_passed(name, all.at, copy), kind ? IRIKIT_UNDEFINED + (size_t)(kind - kinds) : line.at[0], values, 0};
 	for (const uint8_t *at = equals; at && at < end && to->count < MOST_VALUES / MOST_VARIABLES;) {
 		const uint8_t *comma = memchr(at + 1, ',', end - at - 1);
 		struct text value = {at + 1, (comma ? comma : end) - at - 1};
@@ -69,7 +69,7 @@ static struct variables read_variables(struct text text)
 	return is;
 }
 
-static uint8_t expand(uint8_t grammar, struct text text, const struct variables *variables, char *out, size_t size, size_t *told)
+static uint8_t expand(uint32_t grammar, struct text text, const struct variables *variables, char *out, size_t size, size_t *told)
 {
 	const struct irikit_variable *passed = (const struct irikit_variable *)place(PARTS, variables->count * sizeof *passed);
 	return irikit_expand(grammar, placed(REFERENCE, text), text.len, passed, variables->count, out, size, told, TOLD_TOO_PLACE);
@@ -97,7 +97,7 @@ static struct answer check_variables(struct text text)
 	size_t told = *TOLD_PLACE, where = *TOLD_TOO_PLACE, written = status == IRIKIT_OK ? told * sizeof *names : 0;
 	struct answer fault = {status, status == IRIKIT_OK ? 0 : told, {text.at, status == IRIKIT_OK ? 0 : where}};
 	struct bytes kept = {0};
-	int refused = status == IRIKIT_BAD_TEXT && told < FAULTS && where <= text.len;
+	int refused = status == IRIKIT_BAD_TEXT && IS_FAULT(told) && where <= text.len;
 	holds(status == IRIKIT_OK ? told <= most && !where : refused, "how names are told");
 	for (size_t i = written; i < size; i++)
 		holds(((uint8_t *)names)[i] == '.', "slots after the names stay");
@@ -114,7 +114,7 @@ static struct answer check_variables(struct text text)
 }
 
 /* Of reserved and unreserved characters and percent-encoded octets, of IRIs characters past ASCII too. */
-static int is_expansion(int grammar, struct text text)
+static int is_expansion(uint32_t grammar, struct text text)
 {
 	for (size_t i = 0; i < text.len; i++) {
 		uint8_t byte = text.at[i];
@@ -150,11 +150,12 @@ static void check_expansion(struct text text, const struct variables *variables)
 
 static void check_words(uint8_t number, struct text text)
 {
-	struct answer words = ANSWERED(irikit_template_fault_words, 64, number);
-	holds(number < FAULTS ? words.status == IRIKIT_OK && words.told : is_answer(words, IRIKIT_UNKNOWN, 0), "the words of a fault");
-	if (number < FAULTS) {
+	size_t fault = IRIKIT_EXPRESSION_NOT_CLOSED - 1 + number;
+	struct answer words = ANSWERED(irikit_template_fault_words, 64, fault);
+	holds(IS_FAULT(fault) ? words.status == IRIKIT_OK && words.told : is_answer(words, IRIKIT_UNKNOWN, 0), "the words of a fault");
+	if (IS_FAULT(fault)) {
 		size_t told = words.told;
-		words = ANSWERED(irikit_template_fault_words, text.len % told, number);
+		words = ANSWERED(irikit_template_fault_words, text.len % told, fault);
 		holds(is_answer(words, IRIKIT_SHORT, told), "the words of a fault in a shorter buffer");
 	}
 }
@@ -162,16 +163,17 @@ static void check_words(uint8_t number, struct text text)
 void check_templates(struct input input)
 {
 	uint8_t number = input.first >> 2;
+	uint32_t grammar = grammar_of(input);
 	struct text text = input.one.at ? input.one : input.other, lines = input.one.at ? input.other : WORD("");
 	struct answer fault = check_variables(text), answer;
 	struct variables variables = read_variables(lines);
 	tell(mixed(fault.status, fault.told), text);
 	check_words(number, text);
-	answer = ANSWERED(expand, ROOM, number < 60 ? input.grammar : number, text, &variables);
+	answer = ANSWERED(expand, ROOM, grammar, text, &variables);
 	size_t where = *TOLD_TOO_PLACE;
 	if (variables.unsound != SIZE_MAX)
 		holds(is_answer(answer, IRIKIT_BAD_VARIABLE, 0) && where == variables.unsound, "a variable that isn't as its kind asks");
-	else if (number >= 60)
+	else if (!IS_GRAMMAR(grammar))
 		holds(is_answer(answer, IRIKIT_UNKNOWN, 0) && !where, "a grammar that is none");
 	else if (fault.status == IRIKIT_BAD_TEXT)
 		holds(is_answer(answer, IRIKIT_BAD_TEXT, fault.told) && where == fault.out.len, "a template that is refused");

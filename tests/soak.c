@@ -170,7 +170,7 @@ static void check_register(struct soak *soak)
 static uint8_t called(const struct soak *soak, struct text line, uint8_t *out, size_t size, size_t *told)
 {
 	struct text base = soak->reading.base;
-	return irikit_canonical(soak->reading.iri, IRIKIT_NORMAL, (const char *)base.at, base.len, (const char *)line.at, line.len,
+	return irikit_canonical(GRAMMAR(soak->reading), IRIKIT_NORMAL, (const char *)base.at, base.len, (const char *)line.at, line.len,
 	                        (char *)out, size, told);
 }
 
@@ -187,7 +187,7 @@ static void check_library(struct soak *soak)
 				fault(soak, "the library's text", soak->reading.base, line, text, (struct text){out, told < text.len ? told : text.len});
 			if (called(soak, line, few, size, &told) != IRIKIT_SHORT || told != text.len || memcmp(few, out, size))
 				fault(soak, "the library's text in a shorter buffer", soak->reading.base, line, text, (struct text){few, size});
-			if (irikit_is_normalized(soak->reading.iri, IRIKIT_NORMAL, (const char *)text.at, text.len, &told) != IRIKIT_OK)
+			if (irikit_is_normalized(GRAMMAR(soak->reading), IRIKIT_NORMAL, (const char *)text.at, text.len, &told) != IRIKIT_OK)
 				fault(soak, "an answer is in normal form by the library", soak->reading.base, line, text, text);
 		} else {
 			irikit_fault_words(told, (char *)fault_words + 4, sizeof fault_words - 4, &words);

@@ -27,6 +27,8 @@ struct reading {
 	int iri, by_scheme;
 	struct text base;
 };
+/* The number of its grammar in irikit.h. */
+#define GRAMMAR(reading) ((reading).iri ? IRIKIT_IRI : IRIKIT_URI)
 
 /* A reference in its parts, of which each but the path may be absent: NULL. */
 struct parts {

@@ -11,7 +11,7 @@ static char *base, *lines, *out;
 static size_t base_length, length, room = 2 * READ, out_room;
 
 /* Answers the lines that are whole, and keeps what follows them. */
-static int answer_lines(uint8_t grammar)
+static int answer_lines(uint32_t grammar)
 {
 	size_t at = 0, consumed, told;
 	uint8_t status;
@@ -63,7 +63,7 @@ static int make_room(void)
 
 int main(int argc, char **argv)
 {
-	uint8_t grammar = argc > 1 && !strcmp(argv[1], "iri") ? IRIKIT_IRI : IRIKIT_URI;
+	uint32_t grammar = argc > 1 && !strcmp(argv[1], "iri") ? IRIKIT_IRI : IRIKIT_URI;
 	for (;;) {
 		int failed = make_room();
 		ssize_t got = failed ? 0 : read(0, lines + length, READ);

@@ -3,7 +3,7 @@
 
 #include <irikit.h>
 
-static uint8_t grammar;
+static uint32_t grammar;
 static char *base, *out;
 static size_t base_length, room, told;
 

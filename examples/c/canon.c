@@ -28,7 +28,7 @@ static void refuse(const char *what, size_t fault) {
 int main(int argc, char **argv) {
     if (argc != 2 || (strcmp(argv[1], "uri") && strcmp(argv[1], "iri")))
         return 2;
-    uint8_t grammar = strcmp(argv[1], "iri") ? IRIKIT_URI : IRIKIT_IRI;
+    uint32_t grammar = strcmp(argv[1], "iri") ? IRIKIT_URI : IRIKIT_IRI;
     char *base = NULL, *line = NULL, *out = NULL;
     size_t base_room = 0, room = 0, size = 0, base_len = 0, len, told;
     int bad = 0;

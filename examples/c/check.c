@@ -8,7 +8,7 @@
 #define MOST_ROWS 1000
 
 struct row {
-    uint8_t grammar;
+    uint32_t grammar;
     const char *base, *reference, *answer;
 };
 
@@ -77,7 +77,7 @@ static uint8_t write_text(int call, const struct row *row, char *out, size_t siz
                                 size, told);
     if (call == 1)
         return irikit_map_to_uri(reference, strlen(reference), out, size, told);
-    return irikit_fault_words(row - rows, out, size, told);
+    return irikit_fault_words(IRIKIT_INVALID_SCHEME + (row - rows), out, size, told);
 }
 
 /* A buffer of each size up to two more than is wanted, which the text fills as far as it goes; the bytes after it stay. */
@@ -106,23 +106,23 @@ static size_t check_empty(void) {
     size_t failed = 0, told = 9;
     char out[16];
     struct irikit_parts parts;
-    failed += wrong(irikit_canonical(0, 0, "a:", 2, NULL, 0, out, sizeof out, &told) == IRIKIT_OK && told == 2,
+    failed += wrong(irikit_canonical(IRIKIT_URI, IRIKIT_NORMAL, "a:", 2, NULL, 0, out, sizeof out, &told) == IRIKIT_OK && told == 2,
                         "NULL as a reference");
-    failed += wrong(irikit_canonical(0, 0, "a:", 2, "", 0, NULL, 0, &told) == IRIKIT_SHORT && told == 2,
+    failed += wrong(irikit_canonical(IRIKIT_URI, IRIKIT_NORMAL, "a:", 2, "", 0, NULL, 0, &told) == IRIKIT_SHORT && told == 2,
                         "NULL as a buffer");
-    failed += wrong(irikit_canonical(0, 0, NULL, 0, "", 0, out, sizeof out, &told) == IRIKIT_BAD_BASE
+    failed += wrong(irikit_canonical(IRIKIT_URI, IRIKIT_NORMAL, NULL, 0, "", 0, out, sizeof out, &told) == IRIKIT_BAD_BASE
                         && told == IRIKIT_UNEXPECTED_RELATIVE, "NULL as a base");
-    failed += wrong(irikit_canonical(0, 2, "a:", 2, "", 0, out, sizeof out, &told) == IRIKIT_UNKNOWN && told == 0,
-                        "a mode that is none");
-    failed += wrong(irikit_canonical(0, IRIKIT_BY_SCHEME, "ws://a:80", 9,
+    failed += wrong(irikit_canonical(IRIKIT_URI, IRIKIT_PRESERVING, "a:", 2, "", 0, out, sizeof out, &told) == IRIKIT_UNKNOWN && told == 0,
+                        "a mode that no canonical text has");
+    failed += wrong(irikit_canonical(IRIKIT_URI, IRIKIT_BY_SCHEME, "ws://a:80", 9,
                         "", 0, out, sizeof out, &told) == IRIKIT_OK && told == 7
                         && !memcmp(out, "ws://a/", 7), "a default port");
-    failed += wrong(irikit_validate(1, IRIKIT_REFERENCE, NULL, 0, &told) == IRIKIT_OK && told == 0, "NULL is a reference");
-    failed += wrong(irikit_validate(1, IRIKIT_WITH_SCHEME, "", 0, &told) == IRIKIT_BAD_TEXT, "an empty text is no URI");
-    failed += wrong(irikit_is_normalized(0, 0, NULL, 0, &told) == IRIKIT_BAD_TEXT, "NULL is no URI");
+    failed += wrong(irikit_validate(IRIKIT_IRI, IRIKIT_REFERENCE, NULL, 0, &told) == IRIKIT_OK && told == 0, "NULL is a reference");
+    failed += wrong(irikit_validate(IRIKIT_IRI, IRIKIT_WITH_SCHEME, "", 0, &told) == IRIKIT_BAD_TEXT, "an empty text is no URI");
+    failed += wrong(irikit_is_normalized(IRIKIT_URI, IRIKIT_NORMAL, NULL, 0, &told) == IRIKIT_BAD_TEXT, "NULL is no URI");
     failed += wrong(irikit_map_to_uri(NULL, 0, NULL, 0, &told) == IRIKIT_OK && told == 0, "NULL is mapped to nothing");
-    failed += wrong(irikit_fault_words(11, out, sizeof out, &told) == IRIKIT_UNKNOWN && told == 0, "a fault that is none");
-    failed += wrong(irikit_split(0, NULL, 0, &parts, &told) == IRIKIT_OK && parts.path.offset == 0 && parts.path.len == 0
+    failed += wrong(irikit_fault_words(IRIKIT_INVALID_UTF8 + 1, out, sizeof out, &told) == IRIKIT_UNKNOWN && told == 0, "a fault that is none");
+    failed += wrong(irikit_split(IRIKIT_URI, NULL, 0, &parts, &told) == IRIKIT_OK && parts.path.offset == 0 && parts.path.len == 0
                         && parts.scheme.offset == IRIKIT_NOWHERE && parts.host.offset == IRIKIT_NOWHERE,
                                             "the parts of NULL");
     return failed;
@@ -145,7 +145,7 @@ static size_t check_parts(void) {
 /* Texts whose first fault is in one part, which the grammar of RFC 3986 section 3 doesn't take. */
 static size_t check_faulty(void) {
     static const struct {
-        uint8_t kind;
+        uint32_t kind;
         const char *text;
         size_t fault, offset, len;
     } texts[] = {

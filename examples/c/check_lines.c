@@ -11,7 +11,7 @@ static const char *answers[] = {"ok http://a/b/g\n", "bad invalid path\n", "ok h
 static const size_t ends[] = {5, 9, 10, 15, 22};
 #define LINES 5
 
-static uint8_t call(uint8_t grammar, uint8_t mode, const char *text, char *out, size_t size, size_t *consumed,
+static uint8_t call(uint32_t grammar, uint32_t mode, const char *text, char *out, size_t size, size_t *consumed,
                     size_t *told) {
     return irikit_canonical_lines(grammar, mode, base, strlen(base), text, strlen(text), out, size, consumed, told);
 }
@@ -57,23 +57,23 @@ static size_t check_others(void) {
     char out[64];
     size_t failed = 0, consumed = 9, told = 9;
     memset(out, '.', sizeof out);
-    failed += wrong(call(2, 0, lines, out, 64, &consumed, &told) == IRIKIT_UNKNOWN && !consumed && !told,
+    failed += wrong(call(IRIKIT_NORMAL, IRIKIT_NORMAL, lines, out, 64, &consumed, &told) == IRIKIT_UNKNOWN && !consumed && !told,
                         "a grammar that is none");
     consumed = told = 9;
-    failed += wrong(call(0, 2, lines, out, 64, &consumed, &told) == IRIKIT_UNKNOWN && !consumed && !told,
-                        "a mode that is none");
+    failed += wrong(call(IRIKIT_URI, IRIKIT_PRESERVING, lines, out, 64, &consumed, &told) == IRIKIT_UNKNOWN && !consumed && !told,
+                        "a mode that no canonical text has");
     consumed = 9;
-    failed += wrong(irikit_canonical_lines(0, 0, "a", 1, lines, 5, out, 64, &consumed, &told) == IRIKIT_BAD_BASE
+    failed += wrong(irikit_canonical_lines(IRIKIT_URI, IRIKIT_NORMAL, "a", 1, lines, 5, out, 64, &consumed, &told) == IRIKIT_BAD_BASE
                         && !consumed
                         && told == IRIKIT_UNEXPECTED_RELATIVE, "a base that is none");
     failed += wrong(is_over(out, 0, "", 0, sizeof out), "a buffer that stays");
-    failed += wrong(irikit_canonical_lines(0, 0, "a:", 2, NULL, 0, NULL, 0, &consumed, &told) == IRIKIT_OK
+    failed += wrong(irikit_canonical_lines(IRIKIT_URI, IRIKIT_NORMAL, "a:", 2, NULL, 0, NULL, 0, &consumed, &told) == IRIKIT_OK
                         && !consumed && !told,
                     "NULL as lines");
-    failed += wrong(irikit_canonical_lines(0, 0, "a:", 2, "\n", 1, NULL, 0, &consumed, &told) == IRIKIT_SHORT
+    failed += wrong(irikit_canonical_lines(IRIKIT_URI, IRIKIT_NORMAL, "a:", 2, "\n", 1, NULL, 0, &consumed, &told) == IRIKIT_SHORT
                         && !consumed && !told,
                     "NULL as a buffer");
-    failed += wrong(call(0, IRIKIT_BY_SCHEME, "//a:80\n//a:81\n", out, 64, &consumed, &told) == IRIKIT_OK && told == 29
+    failed += wrong(call(IRIKIT_URI, IRIKIT_BY_SCHEME, "//a:80\n//a:81\n", out, 64, &consumed, &told) == IRIKIT_OK && told == 29
                         && !memcmp(out, "ok http://a/\nok http://a:81/\n", 29), "scheme rules");
     return failed;
 }

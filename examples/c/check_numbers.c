@@ -1,5 +1,5 @@
-/* check_numbers: each call with each number that stands for nothing, which writes nothing but what is told; and the words for each
- * kind of fault in a buffer of each size. Names each that fails. */
+/* check_numbers: each call with each number up to 1,000, and with numbers that 8, 16 or 31 bits would take for others; those that stand
+ * for nothing write nothing but what is told; and the words for each kind of fault in a buffer of each size. Names each that fails. */
 #include "check.h"
 
 #define ROOM 64
@@ -14,7 +14,7 @@ static size_t told, place, consumed;
 static struct irikit_parts parts, before;
 
 /* A call that takes these numbers besides its texts; a call that has no mode, kind or place takes the first alone. */
-static uint8_t call(int number, uint8_t grammar, uint8_t other) {
+static uint8_t call(int number, uint32_t grammar, uint32_t other) {
     const struct irikit_given part = {IRIKIT_PATH, {"b", 1}};
     switch (number) {
     case 0: return irikit_canonical(grammar, other, "a:", 2, "b", 1, out, ROOM, &told);
@@ -38,31 +38,54 @@ static uint8_t call(int number, uint8_t grammar, uint8_t other) {
     default: return irikit_expand(grammar, "a", 1, NULL, 0, out, ROOM, &told, &place);
     }
 }
-/* How many modes, kinds or places stand for something; a call without any takes what it is given. */
-static const unsigned others[CALLS] = {2, 2, 2, 3, 3, 4, 4, 8, 256, 256, 256, 256, 256, 256, 256, 256, 256, 256, 256};
 
-static size_t check_call(int number, unsigned grammar, unsigned other, const char *what) {
-    char name[48];
+/* The first and the last mode, kind or place of each call; a call without any takes what it is given. */
+static const struct {
+    uint32_t first, last;
+} others[CALLS] = {
+    {IRIKIT_NORMAL, IRIKIT_BY_SCHEME}, {IRIKIT_NORMAL, IRIKIT_BY_SCHEME}, {IRIKIT_NORMAL, IRIKIT_BY_SCHEME},
+    {IRIKIT_NORMAL, IRIKIT_PRESERVING}, {IRIKIT_NORMAL, IRIKIT_PRESERVING}, {IRIKIT_REFERENCE, IRIKIT_RELATIVE},
+    {IRIKIT_REFERENCE, IRIKIT_RELATIVE}, {IRIKIT_IN_REG_NAME, IRIKIT_IN_REFERENCE}, {0, UINT32_MAX}, {0, UINT32_MAX}, {0, UINT32_MAX},
+    {0, UINT32_MAX}, {0, UINT32_MAX}, {0, UINT32_MAX}, {0, UINT32_MAX}, {0, UINT32_MAX}, {0, UINT32_MAX}, {0, UINT32_MAX},
+    {0, UINT32_MAX},
+};
+
+static int is_one_of(uint32_t number, uint32_t first, uint32_t last) {
+    return first <= number && number <= last;
+}
+
+static size_t check_call(int number, uint32_t grammar, uint32_t other, const char *what) {
+    char name[64];
     memset(out, '.', ROOM);
     memset(&parts, 0x55, sizeof parts);
     told = place = consumed = 9;
-    uint8_t status = call(number, (uint8_t)grammar, (uint8_t)other);
-    snprintf(name, sizeof name, "%s, call %d: %u %u", what, number, grammar, other);
-    if (grammar < 2 && other < others[number])
+    uint8_t status = call(number, grammar, other);
+    snprintf(name, sizeof name, "%s, call %d: %lu %lu", what, number, (unsigned long)grammar, (unsigned long)other);
+    if (is_one_of(grammar, IRIKIT_URI, IRIKIT_IRI) && is_one_of(other, others[number].first, others[number].last))
         return wrong(status != IRIKIT_UNKNOWN, name);
     int stays = is_over(out, 0, "", 0, ROOM) && !memcmp(&parts, &before, sizeof parts);
     return wrong(status == IRIKIT_UNKNOWN && !told && consumed == (number == LINES ? 0 : 9) && place == (number == EXPAND ? 0 : 9)
                      && stays, name);
 }
 
+/* A number in the grammar's place, and in that of the mode, kind or place. */
+static size_t check_number(int call, uint32_t number) {
+    return check_call(call, number, others[call].first, "a grammar") + check_call(call, IRIKIT_URI, number, "a mode, kind or place")
+           + check_call(call, IRIKIT_IRI, number, "a mode, kind or place");
+}
+
 static size_t check_numbers(void) {
+    const uint32_t past[] = {1u << 8, 1u << 16, 1u << 31, 1u << 8 | 1u << 16};
     size_t failed = 0;
     memset(&before, 0x55, sizeof before);
-    for (int number = 0; number < CALLS; number++)
-        for (unsigned n = 0; n < 256; n++) {
-            failed += check_call(number, n, 0, "a grammar");
-            failed += check_call(number, 0, n, "a mode, kind or place") + check_call(number, 1, n, "a mode, kind or place");
-        }
+    for (int call = 0; call < CALLS; call++) {
+        for (uint32_t number = 0; number < 1000; number++)
+            failed += check_number(call, number);
+        for (int i = 0; i < 4; i++)
+            for (uint32_t number = 0; number < 1000; number++)
+                failed += check_number(call, number + past[i]);
+        failed += check_number(call, UINT32_MAX);
+    }
     return failed;
 }
 
@@ -85,34 +108,42 @@ static size_t check_words(int which, size_t fault) {
     return failed;
 }
 
+/* The first and the last kind of fault, and of a template's. */
+static const size_t faults[][2] = {
+    {IRIKIT_INVALID_SCHEME, IRIKIT_INVALID_UTF8}, {IRIKIT_EXPRESSION_NOT_CLOSED, IRIKIT_UNSUPPORTED_OPERATOR}};
+
+static size_t check_no_words(int which, size_t fault) {
+    memset(out, '.', ROOM);
+    told = 9;
+    uint8_t status = words(which, fault, out, ROOM);
+    return wrong(status == IRIKIT_UNKNOWN && !told && is_over(out, 0, "", 0, ROOM), "a fault that is none");
+}
+
 static size_t check_faults(void) {
-    const size_t none[][5] = {{11, 12, 255, 256, SIZE_MAX}, {7, 8, 255, 256, SIZE_MAX}};
     size_t failed = 0;
     for (int which = 0; which < 2; which++) {
-        for (size_t fault = 0; fault < none[which][0]; fault++)
-            failed += check_words(which, fault);
-        for (int i = 0; i < 5; i++) {
-            memset(out, '.', ROOM);
-            told = 9;
-            uint8_t status = words(which, none[which][i], out, ROOM);
-            failed += wrong(status == IRIKIT_UNKNOWN && !told && is_over(out, 0, "", 0, ROOM), "a fault that is none");
-        }
+        for (size_t fault = 0; fault < 1000; fault++)
+            failed += fault < faults[which][0] || fault > faults[which][1] ? check_no_words(which, fault) : check_words(which, fault);
+        failed += check_no_words(which, faults[which][0] + 256) + check_no_words(which, faults[which][0] + 65536);
+        failed += check_no_words(which, SIZE_MAX);
     }
     return failed;
 }
 
-/* Parts and kinds of values that are none, by the least, the next and the greatest such number. */
+/* Parts and kinds of values that are none, by the numbers around those that are, and the greatest. */
 static size_t check_structs(void) {
-    const size_t no_part[] = {7, 8, 256, SIZE_MAX}, no_kind[] = {4, 5, 256, SIZE_MAX};
+    const size_t no_part[] = {0, IRIKIT_SCHEME - 1, IRIKIT_FRAGMENT + 1, IRIKIT_SCHEME + 256, SIZE_MAX};
+    const size_t no_kind[] = {0, IRIKIT_UNDEFINED - 1, IRIKIT_PAIRS + 1, IRIKIT_UNDEFINED + 256, SIZE_MAX};
     size_t failed = 0;
-    for (int i = 0; i < 4; i++) {
+    for (int i = 0; i < 5; i++) {
         struct irikit_given part = {no_part[i], {NULL, 0}};
         struct irikit_variable variable = {{NULL, 0}, no_kind[i], NULL, 0};
         memset(out, '.', ROOM);
         told = place = 9;
-        failed += wrong(irikit_build(0, 0, &part, 1, out, ROOM, &told) == IRIKIT_UNKNOWN && !told, "a part that is none");
+        uint8_t status = irikit_build(IRIKIT_URI, IRIKIT_REFERENCE, &part, 1, out, ROOM, &told);
+        failed += wrong(status == IRIKIT_UNKNOWN && !told, "a part that is none");
         told = 9;
-        uint8_t status = irikit_expand(0, "a", 1, &variable, 1, out, ROOM, &told, &place);
+        status = irikit_expand(IRIKIT_URI, "a", 1, &variable, 1, out, ROOM, &told, &place);
         failed += wrong(status == IRIKIT_BAD_VARIABLE && !told && !place, "a kind of value that is none");
         failed += wrong(is_over(out, 0, "", 0, ROOM), "a buffer that stays");
     }
@@ -120,23 +151,32 @@ static size_t check_structs(void) {
 }
 
 /* The part that has a fault, by each kind of text and each kind of fault, and by numbers that are none. */
+static size_t check_fault_part(uint32_t kind, size_t fault) {
+    struct irikit_slot part = {5, 5};
+    told = 9;
+    uint8_t status = irikit_fault_part(kind, fault, "a:", 2, &part, &told);
+    int stays = part.offset == 5 && part.len == 5, known = is_one_of(kind, IRIKIT_REFERENCE, IRIKIT_RELATIVE)
+                                                           && fault >= IRIKIT_INVALID_SCHEME && fault <= IRIKIT_INVALID_UTF8;
+    return wrong(status == (known ? IRIKIT_OK : IRIKIT_UNKNOWN) && !told && stays == !known, "the part of a fault");
+}
+
 static size_t check_fault_parts(void) {
-    const size_t none[] = {11, 12, 255, 256, SIZE_MAX};
     size_t failed = 0;
-    for (unsigned kind = 0; kind < 256; kind++)
-        for (size_t i = 0; i < 16; i++) {
-            struct irikit_slot part = {5, 5};
-            told = 9;
-            uint8_t status = irikit_fault_part((uint8_t)kind, i < 11 ? i : none[i - 11], "a:", 2, &part, &told);
-            int stays = part.offset == 5 && part.len == 5;
-            failed += wrong(status == (kind < 4 && i < 11 ? IRIKIT_OK : IRIKIT_UNKNOWN) && !told && stays == (status != IRIKIT_OK),
-                            "the part of a fault");
-        }
-    return failed;
+    for (uint32_t kind = 0; kind < 1000; kind++)
+        failed += check_fault_part(kind, IRIKIT_INVALID_PATH) + check_fault_part(kind + 256, IRIKIT_INVALID_PATH);
+    for (uint32_t kind = IRIKIT_REFERENCE; kind <= IRIKIT_RELATIVE; kind++)
+        for (size_t fault = 0; fault < 1000; fault++)
+            failed += check_fault_part(kind, fault) + check_fault_part(kind, fault + 65536);
+    return failed + check_fault_part(IRIKIT_REFERENCE, SIZE_MAX);
+}
+
+/* The library that runs is the one that this was compiled for. */
+static size_t check_version(void) {
+    return wrong(irikit_version() == IRIKIT_VERSION, "the version");
 }
 
 int main(void) {
-    size_t failed = check_numbers() + check_faults() + check_fault_parts() + check_structs();
+    size_t failed = check_numbers() + check_faults() + check_fault_parts() + check_structs() + check_version();
     printf("C: numbers of %d calls, %zu failed\n", CALLS, failed);
     return failed != 0;
 }

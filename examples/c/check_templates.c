@@ -92,7 +92,7 @@ static size_t check_variables(void) {
                         "a string of none");
     failed += check_variable((struct irikit_variable){TEXT("w"), IRIKIT_PAIRS, both, 1}, IRIKIT_BAD_VARIABLE,
                         "half a pair");
-    failed += check_variable((struct irikit_variable){TEXT("w"), 4, NULL, 0}, IRIKIT_BAD_VARIABLE, "a kind that is none");
+    failed += check_variable((struct irikit_variable){TEXT("w"), IRIKIT_PAIRS + 1, NULL, 0}, IRIKIT_BAD_VARIABLE, "a kind that is none");
     failed += check_variable((struct irikit_variable){TEXT("w"), IRIKIT_STRING, &no_utf8, 1}, IRIKIT_BAD_VARIABLE,
                         "no UTF-8");
     failed += check_variable((struct irikit_variable){TEXT("w"), IRIKIT_LIST, both, 2}, IRIKIT_BAD_VARIABLE,
@@ -105,15 +105,15 @@ static size_t check_others(void) {
     const struct irikit_variable empty = {TEXT("e"), IRIKIT_STRING, &word, 1};
     char out[8];
     size_t failed = 0, told = 9, place = 9;
-    failed += wrong(irikit_expand(2, "", 0, NULL, 0, out, 8, &told, &place) == IRIKIT_UNKNOWN && !told && !place,
+    failed += wrong(irikit_expand(IRIKIT_NORMAL, "", 0, NULL, 0, out, 8, &told, &place) == IRIKIT_UNKNOWN && !told && !place,
                         "a grammar that is none");
-    failed += wrong(irikit_expand(0, NULL, 0, NULL, 0, NULL, 0, &told, &place) == IRIKIT_OK && !told && !place,
+    failed += wrong(irikit_expand(IRIKIT_URI, NULL, 0, NULL, 0, NULL, 0, &told, &place) == IRIKIT_OK && !told && !place,
                         "NULL as a template");
-    failed += wrong(irikit_expand(0, "{e}a{?e}", 8, &empty, 1, out, 8, &told, &place) == IRIKIT_OK && told == 4
+    failed += wrong(irikit_expand(IRIKIT_URI, "{e}a{?e}", 8, &empty, 1, out, 8, &told, &place) == IRIKIT_OK && told == 4
                         && !memcmp(out, "a?e=", 4), "a value that is NULL");
-    failed += wrong(irikit_expand(1, "\xc3\xa9", 2, NULL, 0, out, 8, &told, &place) == IRIKIT_OK && told == 2,
+    failed += wrong(irikit_expand(IRIKIT_IRI, "\xc3\xa9", 2, NULL, 0, out, 8, &told, &place) == IRIKIT_OK && told == 2,
                         "an IRI's literal");
-    failed += wrong(irikit_expand(0, "\xc3\xa9", 2, NULL, 0, out, 8, &told, &place) == IRIKIT_OK && told == 6,
+    failed += wrong(irikit_expand(IRIKIT_URI, "\xc3\xa9", 2, NULL, 0, out, 8, &told, &place) == IRIKIT_OK && told == 6,
                         "a URI's literal");
     return failed;
 }

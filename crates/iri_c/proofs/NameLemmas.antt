@@ -11,7 +11,8 @@ use Rattle.iri_template.specs.Template.{VarSpec, Piece, literal, triplet, expres
 use Rattle.iri_template.specs.Template.{modifier_text, varspec_text, operator_text}
 use Rattle.iri_template.proofs.Grammar.{no_fault_is_template}
 use Rattle.iri_c.specs.Buffers.{over}
-use Rattle.iri_c.specs.Names.{bytes_at, slot_of, HoldsNames}
+use Rattle.iri_c.specs.Names.{slot_of, HoldsNames}
+use Rattle.iri_c.specs.Slots.{bytes_at}
 use Rattle.iri_c.specs.inside.Placed.{over_at}
 use Rattle.iri_c.specs.inside.PlacedLaws.{over-both}
 use Rattle.iri_c.specs.declared.parts.Slot.{Slot}

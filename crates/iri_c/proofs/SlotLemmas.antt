@@ -9,19 +9,19 @@ use Rattle.iri_grammar.proofs.AuthorityLaws.{authority_recomposed}
 use Rattle.iri_grammar.proofs.SplitLaws.{recompose_split, recompose_relative_split}
 use Rattle.iri_c.specs.Slots.{width, total, authority_total}
 
-after-delimiter : (c : ℕ) (o : Option (List ℕ)) → width 1 o ≡ length (delimited c o)
+pub after-delimiter : (c : ℕ) (o : Option (List ℕ)) → width 1 o ≡ length (delimited c o)
 after-delimiter c None = refl
 after-delimiter c (Some x) = omega arith
 
-of-scheme : (o : Option (List ℕ)) → width 1 o ≡ length (scheme_text o)
+pub of-scheme : (o : Option (List ℕ)) → width 1 o ≡ length (scheme_text o)
 of-scheme None = refl
 of-scheme (Some x) = omega (arith, length-append x (colon ∷ []))
 
-of-userinfo : (o : Option (List ℕ)) → width 1 o ≡ length (userinfo_text o)
+pub of-userinfo : (o : Option (List ℕ)) → width 1 o ≡ length (userinfo_text o)
 of-userinfo None = refl
 of-userinfo (Some x) = omega (arith, length-append x (at_sign ∷ []))
 
-of-authority : (o : Option (List ℕ)) → width 2 o ≡ length (authority_text o)
+pub of-authority : (o : Option (List ℕ)) → width 2 o ≡ length (authority_text o)
 of-authority None = refl
 of-authority (Some x) = omega arith
 

@@ -1,5 +1,5 @@
 -- What a text built from parts comes to (RFC 3986 section 5.3).
-use Rattle.std.specs.Prelude.{ℕ, Bool, cond, nat_eq, nat_le, ◌==◌, List, [], ◌∷◌, Option, Some}
+use Rattle.std.specs.Prelude.{ℕ, Bool, cond, nat_eq, nat_le, ◌==◌, ◌&&◌, List, [], ◌∷◌, Option, Some}
 use Rattle.std.specs.List.{list_all}
 use Rattle.std.specs.Str.{is_utf8}
 use Rattle.iri_edit.specs.Built.{Given, absolute_refusal, built_fault, given_parts, iri_refusal, nothing_given, reference_refusal}
@@ -14,11 +14,13 @@ use Rattle.iri_c.specs.Outcome.{Outcome}
 use Rattle.iri_c.specs.Outcome.Outcome.{text, plain}
 use Rattle.iri_c.specs.Outcomes.{unless_fault, in_grammar}
 use Rattle.iri_c.specs.Variables.{shown}
+use Rattle.iri_c.specs.declared.building.TheConstants.{SCHEME, USERINFO, HOST, PORT, PATH, QUERY, FRAGMENT}
 use Rattle.iri_c.specs.declared.building.Part.{Part}
+use Rattle.iri_c.specs.declared.validation.TheConstants.{REFERENCE, WITH_SCHEME, ABSOLUTE, RELATIVE}
 
 -- the numbers of the parts
 abbrev pub is_part : Part → Bool
-is_part p = nat_le p.part 6
+is_part p = nat_le SCHEME p.part && nat_le p.part FRAGMENT
 
 abbrev pub is_text : Part → Bool
 is_text p = is_utf8 p.text.bytes.now
@@ -26,13 +28,13 @@ is_text p = is_utf8 p.text.bytes.now
 -- what is given with a part more; of two of one number the later counts
 unfoldable pub set : Given → Part → Given
 set g p =
-    cond (p.part == 0) (record g { scheme = Some (shown p.text) })
-    (cond (p.part == 1) (record g { userinfo = Some (shown p.text) })
-    (cond (p.part == 2) (record g { host = Some (shown p.text) })
-    (cond (p.part == 3) (record g { port = Some (shown p.text) })
-    (cond (p.part == 4) (record g { path = shown p.text })
-    (cond (p.part == 5) (record g { query = Some (shown p.text) })
-    (cond (p.part == 6) (record g { fragment = Some (shown p.text) }) g))))))
+    cond (p.part == SCHEME) (record g { scheme = Some (shown p.text) })
+    (cond (p.part == USERINFO) (record g { userinfo = Some (shown p.text) })
+    (cond (p.part == HOST) (record g { host = Some (shown p.text) })
+    (cond (p.part == PORT) (record g { port = Some (shown p.text) })
+    (cond (p.part == PATH) (record g { path = shown p.text })
+    (cond (p.part == QUERY) (record g { query = Some (shown p.text) })
+    (cond (p.part == FRAGMENT) (record g { fragment = Some (shown p.text) }) g))))))
 
 unfoldable pub given_from : Given → List Part → Given
 given_from g [] = g
@@ -49,9 +51,10 @@ built_by s refusal g = unless_fault bad_part (built_fault s refusal g) (text (re
 -- by the numbers of the kinds: a `URI-reference`, a `URI`, an `absolute-URI` or a `relative-ref`
 abbrev pub built_in : ℕ → Given → Tests → Outcome
 built_in kind g s =
-    cond (nat_eq kind 0) (built_by s reference_refusal g)
-    (cond (nat_eq kind 1) (built_by s iri_refusal g)
-    (cond (nat_eq kind 2) (built_by s absolute_refusal g) (cond (nat_eq kind 3) (built_by s relative_refusal g) (plain unknown))))
+    cond (nat_eq kind REFERENCE) (built_by s reference_refusal g)
+    (cond (nat_eq kind WITH_SCHEME) (built_by s iri_refusal g)
+    (cond (nat_eq kind ABSOLUTE) (built_by s absolute_refusal g)
+    (cond (nat_eq kind RELATIVE) (built_by s relative_refusal g) (plain unknown))))
 
 abbrev pub built_as : ℕ → ℕ → List Part → Outcome
 built_as grammar kind ps = in_grammar (grammar_of grammar) (built_in kind (given_by ps))

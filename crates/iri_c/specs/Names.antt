@@ -1,5 +1,5 @@
 -- Where the variables of a template stand, in bytes.
-use Rattle.std.specs.Prelude.{◌≡◌, ℕ, cond, nat_lt, List, length, map, take, drop, Option, Some, None}
+use Rattle.std.specs.Prelude.{◌≡◌, ℕ, cond, nat_lt, List, length, map, Option, Some, None}
 use Rattle.iri_template.specs.Fault.{template_fault}
 use Rattle.iri_template.specs.Places.{placed_names}
 use Rattle.iri_template.specs.Reading.{pieces_of}
@@ -7,6 +7,7 @@ use Rattle.iri_template.specs.Template.{names_of}
 use Rattle.iri_template.specs.declared.error.Error.{Error}
 use Rattle.iri_c.specs.Buffers.{over}
 use Rattle.iri_c.specs.Numbers.{ok, short}
+use Rattle.iri_c.specs.Slots.{bytes_at}
 use Rattle.iri_c.specs.Templates.{Refused}
 use Rattle.iri_c.specs.declared.parts.Slot.{Slot}
 
@@ -28,10 +29,6 @@ NamesToldBy None t old new told place status =
 -- The slots of the names stand over the start of the caller's, as far as there is room; or the template is refused, and they stay.
 abbrev pub NamesTold : List ℕ → List Slot → List Slot → ℕ → ℕ → ℕ → Type 0
 NamesTold t old new told place status = NamesToldBy (template_fault t) t old new told place status
-
--- what stands in a slot of a text
-abbrev pub bytes_at : List ℕ → Slot → List ℕ
-bytes_at t s = take s.len (drop s.offset t)
 
 -- in the slots of a template its names stand
 abbrev pub HoldsNames : List ℕ → Type 0

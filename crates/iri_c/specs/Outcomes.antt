@@ -1,5 +1,5 @@
 -- What each call comes to.
-use Rattle.std.specs.Prelude.{◌≡◌, ◌⊎◌, ℕ, cond, nat_eq, List, Option, Some, None, slice_get}
+use Rattle.std.specs.Prelude.{◌≡◌, ◌⊎◌, ℕ, cond, nat_eq, List, Option, Some, None}
 use Rattle.iri_grammar.specs.Classes.{Tests, iri_tests}
 use Rattle.iri_grammar.specs.ErrorTexts.{description}
 use Rattle.iri_grammar.specs.Fault.{bytes_fault}
@@ -10,9 +10,10 @@ use Rattle.iri_percent.specs.declared.canon_mode.CanonMode.{CanonMode}
 use Rattle.iri_normal.specs.IsNormalized.{IsInMode}
 use Rattle.iri_normal.specs.NormalForm.{canonical_in}
 use Rattle.iri_normal.specs.declared.mode.Mode.{Mode}
-use Rattle.iri_c.specs.Numbers.{ok, not_normal, bad_text, bad_base, bad_reference, unknown, grammar_of, kinds, form_numbered, mode_numbered}
+use Rattle.iri_c.specs.Numbers.{ok, not_normal, bad_text, bad_base, bad_reference, unknown, grammar_of, fault_numbered, form_numbered, mode_numbered}
 use Rattle.iri_c.specs.Outcome.{Outcome, Told}
 use Rattle.iri_c.specs.Outcome.Outcome.{text, fault, plain}
+use Rattle.iri_c.specs.declared.validation.TheConstants.{REFERENCE, WITH_SCHEME, ABSOLUTE, RELATIVE}
 
 -- the fault where there is one, otherwise what follows
 abbrev pub unless_fault : ℕ → Option ErrorKind → Outcome → Outcome
@@ -50,10 +51,10 @@ validated judged = unless_fault bad_text judged (plain ok)
 -- whether a text is a `URI-reference`, a `URI`, an `absolute-URI` or a `relative-ref`, by the numbers of the kinds
 abbrev pub validated_in : ℕ → List ℕ → Tests → Outcome
 validated_in kind t s =
-    cond (nat_eq kind 0) (validated (bytes_fault (reference_fault s) t))
-    (cond (nat_eq kind 1) (validated (bytes_fault (iri_fault s) t))
-    (cond (nat_eq kind 2) (validated (bytes_fault (absolute_fault s) t))
-    (cond (nat_eq kind 3) (validated (bytes_fault (relative_fault s) t)) (plain unknown))))
+    cond (nat_eq kind REFERENCE) (validated (bytes_fault (reference_fault s) t))
+    (cond (nat_eq kind WITH_SCHEME) (validated (bytes_fault (iri_fault s) t))
+    (cond (nat_eq kind ABSOLUTE) (validated (bytes_fault (absolute_fault s) t))
+    (cond (nat_eq kind RELATIVE) (validated (bytes_fault (relative_fault s) t)) (plain unknown))))
 
 abbrev pub validated_outcome : ℕ → ℕ → List ℕ → Outcome
 validated_outcome grammar kind t = in_grammar (grammar_of grammar) (validated_in kind t)
@@ -64,7 +65,7 @@ words_of None = plain unknown
 words_of (Some kind) = text (description kind)
 
 abbrev pub fault_words : ℕ → Outcome
-fault_words number = words_of (slice_get kinds number)
+fault_words number = words_of (fault_numbered number)
 
 -- whether a `URI` is its own normal form, by the number of that form
 abbrev pub OwnForm : Option ErrorKind → Tests → Mode → List ℕ → ℕ → ℕ → Type 0

@@ -1,5 +1,5 @@
 -- Where the parts of a text stand, in bytes.
-use Rattle.std.specs.Prelude.{◌≡◌, ◌+◌, ◌^◌, ◌-◌, ℕ, List, length, Option, Some, None}
+use Rattle.std.specs.Prelude.{◌≡◌, ◌+◌, ◌^◌, ◌-◌, ℕ, List, length, take, drop, Option, Some, None}
 use Rattle.iri_grammar.specs.Authority.{AuthorityParts, authority_parts}
 use Rattle.iri_grammar.specs.Classes.{Tests}
 use Rattle.iri_grammar.specs.Fault.{bytes_fault}
@@ -22,6 +22,10 @@ width delimiters (Some x) = length x + delimiters
 -- no part stands
 abbrev pub nowhere : Slot
 nowhere = record { offset = 2 ^ 64 - 1; len = 0 }
+
+-- what stands in a slot of a text
+abbrev pub bytes_at : List ℕ → Slot → List ℕ
+bytes_at t s = take s.len (drop s.offset t)
 
 -- a part that begins so many delimiters after an offset
 abbrev pub place : ℕ → ℕ → Option (List ℕ) → Slot

@@ -1,5 +1,6 @@
 -- What an expansion comes to.
-use Rattle.std.specs.Prelude.{◌≡◌, ℕ, not, List, [], ◌∷◌, Option, Some, None, position, slice_get}
+use Rattle.std.specs.Prelude.{◌≡◌, ℕ, not, List, [], ◌∷◌, Option, Some, None, position, nat_eq}
+use Rattle.std.specs.List.{find}
 use Rattle.iri_grammar.specs.Classes.{Tests}
 use Rattle.iri_template.specs.ErrorTexts.{description}
 use Rattle.iri_template.specs.Expansion.{expansion}
@@ -15,25 +16,31 @@ use Rattle.iri_c.specs.Numbers.{bad_text, bad_variable, unknown, grammar_of}
 use Rattle.iri_c.specs.Outcome.{Outcome, Answered}
 use Rattle.iri_c.specs.Outcome.Outcome.{text, plain}
 use Rattle.iri_c.specs.Variables.{value_in, is_sound}
+use Rattle.iri_c.specs.declared.template.TheConstants.{EXPRESSION_NOT_CLOSED, INVALID_CHARACTER, INVALID_EXPRESSION, INVALID_PERCENT_ENCODING}
+use Rattle.iri_c.specs.declared.template.TheConstants.{INVALID_UTF8, UNEXPECTED_VALUE_TYPE, UNSUPPORTED_OPERATOR, WRITE_FAILED, MEMORY}
 use Rattle.iri_c.specs.declared.variables.Variable.{Variable}
 
--- the kinds of faults, in the order of their numbers; the last two of `template_fault_number` don't come where no text is written
--- to a sink that stops and no memory is taken
+-- the kinds of faults that are told; the last two of `template_fault_number` don't come where no text is written to a sink that
+-- stops and no memory is taken
 abbrev pub template_kinds : List ErrorKind
 template_kinds =
     ExpressionNotClosed ∷ InvalidCharacter ∷ InvalidExpression ∷ InvalidPercentEncoding ∷ InvalidUtf8 ∷ UnexpectedValueType
     ∷ UnsupportedOperator ∷ []
 
 abbrev pub template_fault_number : ErrorKind → ℕ
-template_fault_number ExpressionNotClosed = 0
-template_fault_number InvalidCharacter = 1
-template_fault_number InvalidExpression = 2
-template_fault_number InvalidPercentEncoding = 3
-template_fault_number InvalidUtf8 = 4
-template_fault_number UnexpectedValueType = 5
-template_fault_number UnsupportedOperator = 6
-template_fault_number WriteFailed = 7
-template_fault_number Memory = 8
+template_fault_number ExpressionNotClosed = EXPRESSION_NOT_CLOSED
+template_fault_number InvalidCharacter = INVALID_CHARACTER
+template_fault_number InvalidExpression = INVALID_EXPRESSION
+template_fault_number InvalidPercentEncoding = INVALID_PERCENT_ENCODING
+template_fault_number InvalidUtf8 = INVALID_UTF8
+template_fault_number UnexpectedValueType = UNEXPECTED_VALUE_TYPE
+template_fault_number UnsupportedOperator = UNSUPPORTED_OPERATOR
+template_fault_number WriteFailed = WRITE_FAILED
+template_fault_number Memory = MEMORY
+
+-- the kind of fault that has this number
+abbrev pub template_fault_numbered : ℕ → Option ErrorKind
+template_fault_numbered n = find (λ kind. nat_eq n (template_fault_number kind)) template_kinds
 
 -- the words for the kind of this number
 abbrev pub words_of : Option ErrorKind → Outcome
@@ -41,7 +48,7 @@ words_of None = plain unknown
 words_of (Some kind) = text (description kind)
 
 abbrev pub template_fault_words : ℕ → Outcome
-template_fault_words number = words_of (slice_get template_kinds number)
+template_fault_words number = words_of (template_fault_numbered number)
 
 -- the kind of a fault and its place in bytes
 abbrev pub Refused : Error → ℕ → ℕ → ℕ → Type 0

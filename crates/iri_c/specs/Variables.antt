@@ -4,6 +4,7 @@ use Rattle.std.specs.List.{list_all}
 use Rattle.std.specs.Str.{is_utf8, bytes_eq}
 use Rattle.iri_template.specs.Events.{pair_text}
 use Rattle.iri_template.specs.ShownValues.{ShownValue, undefined, string, list, pairs, optional}
+use Rattle.iri_c.specs.declared.variables.TheConstants.{UNDEFINED, STRING, LIST, PAIRS}
 use Rattle.iri_c.specs.declared.variables.Text.{Text}
 use Rattle.iri_c.specs.declared.variables.Variable.{Variable}
 
@@ -24,9 +25,9 @@ first_text (t ∷ ts) = string (shown t)
 -- the value of a variable, by the number of its kind
 unfoldable pub value_of : Variable → ShownValue
 value_of v =
-    cond (v.kind == 1) (first_text v.values.now)
-    (cond (v.kind == 2) (list (map shown v.values.now))
-    (cond (v.kind == 3) (pairs (map (pair_text shown shown) (paired v.values.now))) undefined))
+    cond (v.kind == STRING) (first_text v.values.now)
+    (cond (v.kind == LIST) (list (map shown v.values.now))
+    (cond (v.kind == PAIRS) (pairs (map (pair_text shown shown) (paired v.values.now))) undefined))
 
 -- the first variable of a name
 abbrev pub named : List Variable → List ℕ → Option Variable
@@ -39,7 +40,8 @@ value_in vs name = optional value_of (named vs name)
 -- whether a kind has so many texts
 abbrev pub fits_kind : ℕ → ℕ → Bool
 fits_kind kind count =
-    cond (kind == 0) (count == 0) (cond (kind == 1) (count == 1) (cond (kind == 2) true (cond (kind == 3) (count % 2 == 0) false)))
+    cond (kind == UNDEFINED) (count == 0)
+    (cond (kind == STRING) (count == 1) (cond (kind == LIST) true (cond (kind == PAIRS) (count % 2 == 0) false)))
 
 abbrev pub all_utf8 : List Text → Bool
 all_utf8 ts = list_all (λ t. is_utf8 t.bytes.now) ts

@@ -25,19 +25,19 @@ pub struct Part<'a> {
     pub text: Text<'a>,
 }
 
-const SCHEME: usize = 0;
+pub(crate) const SCHEME: usize = 800;
 
-const USERINFO: usize = 1;
+pub(crate) const USERINFO: usize = 801;
 
-const HOST: usize = 2;
+pub(crate) const HOST: usize = 802;
 
-const PORT: usize = 3;
+pub(crate) const PORT: usize = 803;
 
-const PATH: usize = 4;
+pub(crate) const PATH: usize = 804;
 
-const QUERY: usize = 5;
+pub(crate) const QUERY: usize = 805;
 
-const FRAGMENT: usize = 6;
+pub(crate) const FRAGMENT: usize = 806;
 
 // Gives a builder a part.
 #[tactic(auto, unfolding(crate::specs::Building::set))]
@@ -68,11 +68,18 @@ fn builder_of<'a>(parts: &[Part<'a>]) -> Builder<'a>
     builder
 }
 
+// Whether a number stands for a part.
+fn is_part(part: &Part<'_>) -> bool
+    ensures { result ≡ is_part part.now }
+{
+    SCHEME <= part.part && part.part <= FRAGMENT
+}
+
 // Whether each number stands for a part.
 fn are_parts(parts: &[Part<'_>]) -> bool
     ensures { result ≡ list_all is_part parts.now }
 {
-    parts.iter().all(|part| part.part <= FRAGMENT)
+    parts.iter().all(|part| is_part(part))
 }
 
 // Whether each text is UTF-8.
@@ -93,7 +100,7 @@ fn build_as<S: Spec, K: BuildKind>(builder: &Builder<'_>, out: &mut [u8], told: 
 }
 
 // The same of the kind of this number.
-fn build_in<S: Spec>(kind: u8, builder: &Builder<'_>, out: &mut [u8], told: &mut usize) -> u8
+fn build_in<S: Spec>(kind: u32, builder: &Builder<'_>, out: &mut [u8], told: &mut usize) -> u8
     ensures { Answered (built_in kind (given builder.now) S.tests) out.old out.new told.new result }
 {
     match kind {
@@ -106,7 +113,7 @@ fn build_in<S: Spec>(kind: u8, builder: &Builder<'_>, out: &mut [u8], told: &mut
 }
 
 // The text that parts make.
-fn build_text(grammar: u8, kind: u8, parts: &[Part<'_>], out: &mut [u8], told: &mut usize) -> u8
+fn build_text(grammar: u32, kind: u32, parts: &[Part<'_>], out: &mut [u8], told: &mut usize) -> u8
     ensures { Answered (built_as grammar kind parts.now) out.old out.new told.new result }
 {
     let builder = builder_of(parts);
@@ -120,8 +127,8 @@ fn build_text(grammar: u8, kind: u8, parts: &[Part<'_>], out: &mut [u8], told: &
 /// A text built from its parts.
 #[unsafe(no_mangle)]
 pub extern "C" fn irikit_build(
-    grammar: u8,
-    kind: u8,
+    grammar: u32,
+    kind: u32,
     parts: &[Part<'_>],
     out: &mut [u8],
     told: &mut usize,

@@ -64,8 +64,8 @@ fn canonical_as<S: Spec>(
 /// The canonical text of a reference against a base.
 #[unsafe(no_mangle)]
 pub extern "C" fn irikit_canonical(
-    grammar: u8,
-    mode: u8,
+    grammar: u32,
+    mode: u32,
     base: &[u8],
     reference: &[u8],
     out: &mut [u8],

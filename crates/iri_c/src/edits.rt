@@ -31,7 +31,7 @@ fn mask_in<S: Spec>(text: &[u8], out: &mut [u8], told: &mut usize) -> u8
 /// A reference without its password.
 #[unsafe(no_mangle)]
 pub extern "C" fn irikit_mask_password(
-    grammar: u8,
+    grammar: u32,
     text: &[u8],
     out: &mut [u8],
     told: &mut usize,
@@ -58,7 +58,7 @@ fn remove_password_in<S: Spec>(text: &[u8], out: &mut [u8], told: &mut usize) ->
 /// A reference without its password and the colon before it.
 #[unsafe(no_mangle)]
 pub extern "C" fn irikit_remove_password(
-    grammar: u8,
+    grammar: u32,
     text: &[u8],
     out: &mut [u8],
     told: &mut usize,
@@ -94,7 +94,7 @@ fn replace_password_in<S: Spec>(
 /// A reference with another text in place of its password.
 #[unsafe(no_mangle)]
 pub extern "C" fn irikit_replace_password(
-    grammar: u8,
+    grammar: u32,
     text: &[u8],
     password: &[u8],
     out: &mut [u8],
@@ -129,7 +129,7 @@ fn remove_fragment_in<S: Spec>(text: &[u8], out: &mut [u8], told: &mut usize) ->
 /// A reference without its fragment.
 #[unsafe(no_mangle)]
 pub extern "C" fn irikit_remove_fragment(
-    grammar: u8,
+    grammar: u32,
     text: &[u8],
     out: &mut [u8],
     told: &mut usize,
@@ -181,7 +181,7 @@ fn set_fragment_in<S: Spec>(text: &[u8], fragment: &[u8], out: &mut [u8], told: 
 /// A reference with a fragment in place of its own, or after one that has none.
 #[unsafe(no_mangle)]
 pub extern "C" fn irikit_set_fragment(
-    grammar: u8,
+    grammar: u32,
     text: &[u8],
     fragment: &[u8],
     out: &mut [u8],

@@ -11,31 +11,31 @@ use iri_grammar::spec::{IriSpec, Spec, UriSpec};
 use iri_percent::PercentEncoded;
 
 /// A registered name (section 3.2.2).
-const REG_NAME: u8 = 0;
+const REG_NAME: u32 = 400;
 
 /// The user or the password of a userinfo (section 3.2.1).
-const USER: u8 = 1;
+const USER: u32 = 401;
 
 /// One segment of a path (section 3.3).
-const SEGMENT: u8 = 2;
+pub(crate) const SEGMENT: u32 = 402;
 
 /// A path, whose slashes stay (section 3.3).
-const PATH: u8 = 3;
+const PATH: u32 = 403;
 
 /// A query (section 3.4).
-const QUERY: u8 = 4;
+const QUERY: u32 = 404;
 
 /// A fragment (section 3.5).
-const FRAGMENT: u8 = 5;
+const FRAGMENT: u32 = 405;
 
 /// Any place: `unreserved` alone stays (section 2.3).
-const UNRESERVED: u8 = 6;
+const UNRESERVED: u32 = 406;
 
 /// A whole reference: `unreserved` and `reserved` stay (section 2.2).
-const WHOLE: u8 = 7;
+const WHOLE: u32 = 407;
 
 // A text encoded in one grammar for the place of this number.
-fn encode_in<S: Spec>(place: u8, raw: &str, out: &mut [u8], told: &mut usize) -> u8
+fn encode_in<S: Spec>(place: u32, raw: &str, out: &mut [u8], told: &mut usize) -> u8
     ensures { Answered (encoded_as place raw.now S.tests) out.old out.new told.new result }
 {
     let encoded = match place {
@@ -53,7 +53,7 @@ fn encode_in<S: Spec>(place: u8, raw: &str, out: &mut [u8], told: &mut usize) ->
 }
 
 // A text encoded by these numbers.
-fn encode_text(grammar: u8, place: u8, raw: &str, out: &mut [u8], told: &mut usize) -> u8
+fn encode_text(grammar: u32, place: u32, raw: &str, out: &mut [u8], told: &mut usize) -> u8
     ensures { Answered (encoded_by grammar place raw.now) out.old out.new told.new result }
 {
     match grammar {
@@ -66,8 +66,8 @@ fn encode_text(grammar: u8, place: u8, raw: &str, out: &mut [u8], told: &mut usi
 /// A raw text, percent-encoded for its place in a reference.
 #[unsafe(no_mangle)]
 pub extern "C" fn irikit_encode(
-    grammar: u8,
-    place: u8,
+    grammar: u32,
+    place: u32,
     raw: &[u8],
     out: &mut [u8],
     told: &mut usize,

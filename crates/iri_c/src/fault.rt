@@ -1,6 +1,6 @@
 // Kinds of faults as numbers, and in words.
-ghost use Rattle.std.specs.Prelude.{◌≡◌, slice_get};
-ghost use Rattle.iri_c.specs.Numbers.{fault_number, kinds};
+ghost use Rattle.std.specs.Prelude.{◌≡◌};
+ghost use Rattle.iri_c.specs.Numbers.{fault_number, fault_numbered};
 ghost use Rattle.iri_c.specs.Outcome.{Answered};
 ghost use Rattle.iri_c.specs.Outcomes.{fault_words};
 
@@ -8,22 +8,45 @@ use crate::buffer::answer_text;
 use crate::status::UNKNOWN;
 use iri_grammar::error::ErrorKind;
 
+// The numbers of the kinds of faults.
+pub(crate) const INVALID_SCHEME: usize = 500;
+
+pub(crate) const INVALID_USERINFO: usize = 501;
+
+pub(crate) const INVALID_HOST: usize = 502;
+
+pub(crate) const INVALID_REG_NAME: usize = 503;
+
+pub(crate) const INVALID_PORT: usize = 504;
+
+pub(crate) const INVALID_PATH: usize = 505;
+
+pub(crate) const INVALID_QUERY: usize = 506;
+
+pub(crate) const INVALID_FRAGMENT: usize = 507;
+
+pub(crate) const UNEXPECTED_FRAGMENT: usize = 508;
+
+pub(crate) const UNEXPECTED_RELATIVE: usize = 509;
+
+pub(crate) const INVALID_UTF8: usize = 510;
+
 /// The number of a kind of fault.
 fn number_of(kind: ErrorKind) -> usize
     ensures { result ≡ fault_number kind }
 {
     match kind {
-        ErrorKind::InvalidScheme => 0,
-        ErrorKind::InvalidUserInfo => 1,
-        ErrorKind::InvalidHost => 2,
-        ErrorKind::InvalidRegName => 3,
-        ErrorKind::InvalidPort => 4,
-        ErrorKind::InvalidPath => 5,
-        ErrorKind::InvalidQuery => 6,
-        ErrorKind::InvalidFragment => 7,
-        ErrorKind::UnexpectedFragment => 8,
-        ErrorKind::UnexpectedRelative => 9,
-        ErrorKind::InvalidUtf8 => 10,
+        ErrorKind::InvalidScheme => INVALID_SCHEME,
+        ErrorKind::InvalidUserInfo => INVALID_USERINFO,
+        ErrorKind::InvalidHost => INVALID_HOST,
+        ErrorKind::InvalidRegName => INVALID_REG_NAME,
+        ErrorKind::InvalidPort => INVALID_PORT,
+        ErrorKind::InvalidPath => INVALID_PATH,
+        ErrorKind::InvalidQuery => INVALID_QUERY,
+        ErrorKind::InvalidFragment => INVALID_FRAGMENT,
+        ErrorKind::UnexpectedFragment => UNEXPECTED_FRAGMENT,
+        ErrorKind::UnexpectedRelative => UNEXPECTED_RELATIVE,
+        ErrorKind::InvalidUtf8 => INVALID_UTF8,
     }
 }
 
@@ -47,20 +70,20 @@ pub fn answer(status: u8, told: &mut usize) -> u8
 
 // The kind of this number.
 pub(crate) fn kind_of(number: usize) -> Option<ErrorKind>
-    ensures { result ≡ slice_get kinds number }
+    ensures { result ≡ fault_numbered number }
 {
     match number {
-        0 => Some(ErrorKind::InvalidScheme),
-        1 => Some(ErrorKind::InvalidUserInfo),
-        2 => Some(ErrorKind::InvalidHost),
-        3 => Some(ErrorKind::InvalidRegName),
-        4 => Some(ErrorKind::InvalidPort),
-        5 => Some(ErrorKind::InvalidPath),
-        6 => Some(ErrorKind::InvalidQuery),
-        7 => Some(ErrorKind::InvalidFragment),
-        8 => Some(ErrorKind::UnexpectedFragment),
-        9 => Some(ErrorKind::UnexpectedRelative),
-        10 => Some(ErrorKind::InvalidUtf8),
+        INVALID_SCHEME => Some(ErrorKind::InvalidScheme),
+        INVALID_USERINFO => Some(ErrorKind::InvalidUserInfo),
+        INVALID_HOST => Some(ErrorKind::InvalidHost),
+        INVALID_REG_NAME => Some(ErrorKind::InvalidRegName),
+        INVALID_PORT => Some(ErrorKind::InvalidPort),
+        INVALID_PATH => Some(ErrorKind::InvalidPath),
+        INVALID_QUERY => Some(ErrorKind::InvalidQuery),
+        INVALID_FRAGMENT => Some(ErrorKind::InvalidFragment),
+        UNEXPECTED_FRAGMENT => Some(ErrorKind::UnexpectedFragment),
+        UNEXPECTED_RELATIVE => Some(ErrorKind::UnexpectedRelative),
+        INVALID_UTF8 => Some(ErrorKind::InvalidUtf8),
         _ => None,
     }
 }

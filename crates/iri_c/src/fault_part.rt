@@ -5,14 +5,14 @@ ghost use Rattle.iri_grammar.specs.OptionalSlices.{now_of};
 ghost use Rattle.iri_grammar.specs.Parts.{starts_with_slashes};
 ghost use Rattle.iri_grammar.specs.Split.{scheme_of, after_scheme, authority_of, path_of, parts_of};
 ghost use Rattle.iri_grammar.specs.Split.{split_of, relative_split_of};
-ghost use Rattle.iri_c.specs.FaultParts.{PartTold, faulty_slot, named_slot};
-ghost use Rattle.iri_c.specs.Slots.{slots_of, width};
+ghost use Rattle.iri_c.specs.FaultParts.{PartTold, before_colon, faulty_slot, named_slot};
+ghost use Rattle.iri_c.specs.Slots.{place, slots_of, width};
 
 use crate::fault::{answer, kind_of};
 use crate::parts::{NOWHERE, Slot, Slots, slots_of};
 use crate::status::{OK, UNKNOWN};
 use crate::validation::{ABSOLUTE, REFERENCE, RELATIVE, WITH_SCHEME};
-use iri_grammar::cutting::{cut, cut_before};
+use iri_grammar::cutting::{cut, cut_before, lacks};
 use iri_grammar::error::ErrorKind;
 use iri_grammar::validate;
 use std::str;
@@ -66,15 +66,26 @@ fn slots_after(scheme: Option<&str>, rest: &str) -> Slots
     slots_of(scheme, authority, path, query, fragment)
 }
 
+// Where what comes before the first colon stands, where there is one.
+fn slot_before_colon(text: &str) -> Slot
+    ensures { result ≡ place 0 0 (before_colon text.now) }
+{
+    if lacks(text, b':') {
+        return NOWHERE;
+    }
+    let (before, _) = cut_before(text, b':');
+    Slot {
+        offset: 0,
+        len: before.len(),
+    }
+}
+
 // Where the part stands that a kind of fault names.
 fn named_slot(kind: ErrorKind, text: &str, slots: &Slots) -> Slot
     ensures { result ≡ named_slot kind text.now slots.now }
 {
     match kind {
-        ErrorKind::InvalidScheme => Slot {
-            offset: 0,
-            len: cut_before(text, b':').0.len(),
-        },
+        ErrorKind::InvalidScheme => slot_before_colon(text),
         ErrorKind::InvalidUserInfo => slots.within.userinfo,
         ErrorKind::InvalidHost => slots.within.host,
         ErrorKind::InvalidRegName => slots.within.host,
@@ -125,7 +136,7 @@ fn slot_in_relative(kind: ErrorKind, text: &[u8]) -> Slot
 /// Where the part of a text stands that has a kind of fault.
 #[unsafe(no_mangle)]
 pub extern "C" fn irikit_fault_part(
-    kind: u8,
+    kind: u32,
     fault: usize,
     text: &[u8],
     part: &mut Slot,

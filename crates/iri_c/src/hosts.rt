@@ -72,7 +72,7 @@ fn replace_host_in<S: Spec>(
 /// A reference with another host in place of its own.
 #[unsafe(no_mangle)]
 pub extern "C" fn irikit_replace_host(
-    grammar: u8,
+    grammar: u32,
     text: &[u8],
     host: &[u8],
     out: &mut [u8],
@@ -90,7 +90,7 @@ pub extern "C" fn irikit_replace_host(
 /// The same where the host is a registered name.
 #[unsafe(no_mangle)]
 pub extern "C" fn irikit_replace_reg_name(
-    grammar: u8,
+    grammar: u32,
     text: &[u8],
     host: &[u8],
     out: &mut [u8],

@@ -32,6 +32,7 @@ mod target;
 mod template;
 mod validation;
 mod variables;
+mod version;
 
 pub use building::Part;
 pub use parts::{AuthoritySlots, Slot, Slots};

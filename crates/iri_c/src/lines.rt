@@ -172,8 +172,8 @@ fn batch_in<S: Spec>(
 /// The answers to the lines of a text, as `irikit canon` writes them.
 #[unsafe(no_mangle)]
 pub extern "C" fn irikit_canonical_lines(
-    grammar: u8,
-    mode: u8,
+    grammar: u32,
+    mode: u32,
     base: &[u8],
     lines: &[u8],
     out: &mut [u8],

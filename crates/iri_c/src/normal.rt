@@ -28,7 +28,7 @@ pub(crate) enum Form {
 }
 
 // The form of this number.
-fn form_of(form: u8) -> Option<Form>
+fn form_of(form: u32) -> Option<Form>
     ensures { option_map form_mode result ≡ form_numbered form }
 {
     match form {
@@ -68,7 +68,7 @@ fn is_normalized_as<S: Spec>(form: Form, text: &[u8], told: &mut usize) -> u8
 
 /// Whether a text with a scheme is its own normal form.
 #[unsafe(no_mangle)]
-pub extern "C" fn irikit_is_normalized(grammar: u8, form: u8, text: &[u8], told: &mut usize) -> u8
+pub extern "C" fn irikit_is_normalized(grammar: u32, form: u32, text: &[u8], told: &mut usize) -> u8
     ensures { NormalTold grammar form text.now told.new result }
 {
     match (grammar, form_of(form)) {
@@ -99,8 +99,8 @@ fn normalize_as<S: Spec>(form: Form, text: &[u8], out: &mut [u8], told: &mut usi
 /// The normal form of a text with a scheme.
 #[unsafe(no_mangle)]
 pub extern "C" fn irikit_normalize(
-    grammar: u8,
-    form: u8,
+    grammar: u32,
+    form: u32,
     text: &[u8],
     out: &mut [u8],
     told: &mut usize,

@@ -149,7 +149,7 @@ fn split_in<S: Spec>(text: &[u8], parts: &mut Slots, told: &mut usize) -> u8
 
 /// The split of a reference.
 #[unsafe(no_mangle)]
-pub extern "C" fn irikit_split(grammar: u8, text: &[u8], parts: &mut Slots, told: &mut usize) -> u8
+pub extern "C" fn irikit_split(grammar: u32, text: &[u8], parts: &mut Slots, told: &mut usize) -> u8
     ensures { SplitTold grammar text.now parts.old parts.new told.new result }
 {
     match grammar {

@@ -31,7 +31,7 @@ fn resolve_in<S: Spec>(base: &[u8], reference: &[u8], out: &mut [u8], told: &mut
 /// A reference resolved against a base.
 #[unsafe(no_mangle)]
 pub extern "C" fn irikit_resolve(
-    grammar: u8,
+    grammar: u32,
     base: &[u8],
     reference: &[u8],
     out: &mut [u8],

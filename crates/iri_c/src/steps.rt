@@ -45,8 +45,8 @@ fn write_steps<S: Spec>(mode: CanonMode, text: &[u8], out: &mut [u8], told: &mut
 /// The steps that lead a text with a scheme to its normal form.
 #[unsafe(no_mangle)]
 pub extern "C" fn irikit_steps(
-    grammar: u8,
-    mode: u8,
+    grammar: u32,
+    mode: u32,
     text: &[u8],
     out: &mut [u8],
     told: &mut usize,

@@ -56,7 +56,7 @@ fn write_target<S: Spec>(base: &[u8], reference: &[u8], out: &mut [u8], told: &m
 /// The target of a reference against a base, with its dot segments.
 #[unsafe(no_mangle)]
 pub extern "C" fn irikit_target(
-    grammar: u8,
+    grammar: u32,
     base: &[u8],
     reference: &[u8],
     out: &mut [u8],

@@ -1,7 +1,7 @@
 // Templates, expanded (RFC 6570).
-ghost use Rattle.std.specs.Prelude.{◌≡◌, slice_get};
+ghost use Rattle.std.specs.Prelude.{◌≡◌};
 ghost use Rattle.iri_c.specs.Outcome.{Answered};
-ghost use Rattle.iri_c.specs.Templates.{Expanded, ExpandedIn, Refused, template_fault_number, template_fault_words, template_kinds};
+ghost use Rattle.iri_c.specs.Templates.{Expanded, ExpandedIn, Refused, template_fault_number, template_fault_numbered, template_fault_words};
 
 use crate::buffer::answer_text;
 use crate::fault::answer;
@@ -12,20 +12,40 @@ use iri_grammar::spec::{IriSpec, Spec, UriSpec};
 use iri_template::error::{Error, ErrorKind};
 use iri_template::template::UriTemplateStr;
 
+// The numbers of the kinds of faults of templates.
+pub(crate) const EXPRESSION_NOT_CLOSED: usize = 700;
+
+pub(crate) const INVALID_CHARACTER: usize = 701;
+
+pub(crate) const INVALID_EXPRESSION: usize = 702;
+
+pub(crate) const INVALID_PERCENT_ENCODING: usize = 703;
+
+pub(crate) const INVALID_UTF8: usize = 704;
+
+pub(crate) const UNEXPECTED_VALUE_TYPE: usize = 705;
+
+pub(crate) const UNSUPPORTED_OPERATOR: usize = 706;
+
+// Two kinds that no call for C tells, since none writes to a sink that stops, or takes memory.
+pub(crate) const WRITE_FAILED: usize = 707;
+
+pub(crate) const MEMORY: usize = 708;
+
 // The number of a kind of fault of a template.
 fn number_of(kind: ErrorKind) -> usize
     ensures { result ≡ template_fault_number kind }
 {
     match kind {
-        ErrorKind::ExpressionNotClosed => 0,
-        ErrorKind::InvalidCharacter => 1,
-        ErrorKind::InvalidExpression => 2,
-        ErrorKind::InvalidPercentEncoding => 3,
-        ErrorKind::InvalidUtf8 => 4,
-        ErrorKind::UnexpectedValueType => 5,
-        ErrorKind::UnsupportedOperator => 6,
-        ErrorKind::WriteFailed => 7,
-        ErrorKind::Memory => 8,
+        ErrorKind::ExpressionNotClosed => EXPRESSION_NOT_CLOSED,
+        ErrorKind::InvalidCharacter => INVALID_CHARACTER,
+        ErrorKind::InvalidExpression => INVALID_EXPRESSION,
+        ErrorKind::InvalidPercentEncoding => INVALID_PERCENT_ENCODING,
+        ErrorKind::InvalidUtf8 => INVALID_UTF8,
+        ErrorKind::UnexpectedValueType => UNEXPECTED_VALUE_TYPE,
+        ErrorKind::UnsupportedOperator => UNSUPPORTED_OPERATOR,
+        ErrorKind::WriteFailed => WRITE_FAILED,
+        ErrorKind::Memory => MEMORY,
     }
 }
 
@@ -65,7 +85,7 @@ fn expand_with<S: Spec>(
 /// The expansion of a template with the values of variables.
 #[unsafe(no_mangle)]
 pub extern "C" fn irikit_expand(
-    grammar: u8,
+    grammar: u32,
     template: &[u8],
     variables: &[Variable<'_>],
     out: &mut [u8],
@@ -91,16 +111,16 @@ pub extern "C" fn irikit_expand(
 
 // The kind of this number.
 fn kind_of(number: usize) -> Option<ErrorKind>
-    ensures { result ≡ slice_get template_kinds number }
+    ensures { result ≡ template_fault_numbered number }
 {
     match number {
-        0 => Some(ErrorKind::ExpressionNotClosed),
-        1 => Some(ErrorKind::InvalidCharacter),
-        2 => Some(ErrorKind::InvalidExpression),
-        3 => Some(ErrorKind::InvalidPercentEncoding),
-        4 => Some(ErrorKind::InvalidUtf8),
-        5 => Some(ErrorKind::UnexpectedValueType),
-        6 => Some(ErrorKind::UnsupportedOperator),
+        EXPRESSION_NOT_CLOSED => Some(ErrorKind::ExpressionNotClosed),
+        INVALID_CHARACTER => Some(ErrorKind::InvalidCharacter),
+        INVALID_EXPRESSION => Some(ErrorKind::InvalidExpression),
+        INVALID_PERCENT_ENCODING => Some(ErrorKind::InvalidPercentEncoding),
+        INVALID_UTF8 => Some(ErrorKind::InvalidUtf8),
+        UNEXPECTED_VALUE_TYPE => Some(ErrorKind::UnexpectedValueType),
+        UNSUPPORTED_OPERATOR => Some(ErrorKind::UnsupportedOperator),
         _ => None,
     }
 }

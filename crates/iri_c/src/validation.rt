@@ -11,16 +11,16 @@ use iri_types::kind::{Absolute, Iri, Kind, Reference, Relative};
 use iri_types::view::View;
 
 /// `URI-reference` (RFC 3986 section 4.1).
-pub(crate) const REFERENCE: u8 = 0;
+pub(crate) const REFERENCE: u32 = 300;
 
 /// `URI`, with a scheme (section 3).
-pub(crate) const WITH_SCHEME: u8 = 1;
+pub(crate) const WITH_SCHEME: u32 = 301;
 
 /// `absolute-URI`, with a scheme and without a fragment (section 4.3).
-pub(crate) const ABSOLUTE: u8 = 2;
+pub(crate) const ABSOLUTE: u32 = 302;
 
 /// `relative-ref`, without a scheme (section 4.2).
-pub(crate) const RELATIVE: u8 = 3;
+pub(crate) const RELATIVE: u32 = 303;
 
 // Whether a text is of a kind.
 fn validate_as<S: Spec, K: Kind>(text: &[u8], told: &mut usize) -> u8
@@ -33,7 +33,7 @@ fn validate_as<S: Spec, K: Kind>(text: &[u8], told: &mut usize) -> u8
 }
 
 // Whether a text of one grammar is of the kind of this number.
-fn validate_in<S: Spec>(kind: u8, text: &[u8], told: &mut usize) -> u8
+fn validate_in<S: Spec>(kind: u32, text: &[u8], told: &mut usize) -> u8
     ensures { Told (validated_in kind text.now S.tests) told.new result }
 {
     match kind {
@@ -47,7 +47,7 @@ fn validate_in<S: Spec>(kind: u8, text: &[u8], told: &mut usize) -> u8
 
 /// Whether a whole text is of a kind.
 #[unsafe(no_mangle)]
-pub extern "C" fn irikit_validate(grammar: u8, kind: u8, text: &[u8], told: &mut usize) -> u8
+pub extern "C" fn irikit_validate(grammar: u32, kind: u32, text: &[u8], told: &mut usize) -> u8
     ensures { Told (validated_outcome grammar kind text.now) told.new result }
 {
     match grammar {

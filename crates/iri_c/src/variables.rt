@@ -49,13 +49,13 @@ pub struct Variable<'a> {
     pub values: &'a [Text<'a>],
 }
 
-const UNDEFINED: usize = 0;
+pub(crate) const UNDEFINED: usize = 600;
 
-const STRING: usize = 1;
+pub(crate) const STRING: usize = 601;
 
-const LIST: usize = 2;
+pub(crate) const LIST: usize = 602;
 
-const PAIRS: usize = 3;
+pub(crate) const PAIRS: usize = 603;
 
 // Tells a visitor pairs of texts.
 fn visit_pairs<V: Visitor>(values: &[Text<'_>], visitor: &mut V) -> Result<(), Stop>
