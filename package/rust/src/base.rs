@@ -138,26 +138,23 @@ impl<'a> Base<'a> {
         }
     }
 
-    /// The canonical texts of references, each on a line that an LF ends, with or without a CR before it, in as few calls as the
-    /// buffer lets. They stand in the buffer, which grows where an answer has no room.
+    /// The canonical texts of references, each on a line that an LF ends, with or without a CR before it; what follows the last LF is
+    /// a line where it isn't empty. They are asked for in as few calls as the buffer lets, and stand in the buffer, which grows where
+    /// an answer has no room.
     ///
     /// ```
     /// let base = irikit::Uri.base("http://a/b/c")?;
     /// let mut buffer = Vec::new();
-    /// let texts: Vec<_> = base.canonical_lines("d\n%4\n/e\n", &mut buffer).collect();
+    /// let texts: Vec<_> = base.canonical_lines("d\n%4\n/e", &mut buffer).collect();
     /// assert_eq!(texts, [Ok("http://a/b/d"), Err("invalid path"), Ok("http://a/e")]);
     /// # Ok::<(), irikit::Error>(())
     /// ```
     pub fn canonical_lines<'b>(&self, lines: &str, buffer: &'b mut Vec<u8>) -> Lines<'b> {
-        let (mut at, mut len) = (0, 0);
+        let (ended, last) = lines.split_at(lines.rfind('\n').map_or(0, |lf| lf + 1));
         buffer.resize(buffer.capacity().max(4096), 0);
-        while lines[at..].contains('\n') {
-            let (consumed, told, short) = self.answer(&lines[at..], &mut buffer[len..]);
-            (at, len) = (at + consumed, len + told);
-            if !short {
-                break;
-            }
-            buffer.resize(2 * buffer.len() + self.text.len() + lines.len() - at, 0);
+        let mut len = self.answer_ended(ended, 0, buffer);
+        if !last.is_empty() {
+            len = self.answer_ended(&format!("{last}\n"), len, buffer);
         }
         Lines {
             answers: str::from_utf8(&buffer[..len])
@@ -166,8 +163,24 @@ impl<'a> Base<'a> {
         }
     }
 
-    /// How many bytes of lines are answered, how many bytes the answers have, and whether the next has no room.
-    fn answer(&self, lines: &str, out: &mut [u8]) -> (usize, usize, bool) {
+    /// Writes the answers to lines, each ended by an LF, after the first `len` bytes of the buffer, and gives the length of all.
+    fn answer_ended(&self, lines: &str, mut len: usize, buffer: &mut Vec<u8>) -> usize {
+        let mut at = 0;
+        loop {
+            let (status, consumed, told) = self.answer(&lines[at..], &mut buffer[len..]);
+            (at, len) = (at + consumed, len + told);
+            match status {
+                ffi::IRIKIT_OK => return len,
+                ffi::IRIKIT_SHORT => {
+                    buffer.resize(2 * buffer.len() + self.text.len() + lines.len() - at, 0);
+                }
+                _ => unreachable!("the base is valid: {status}"),
+            }
+        }
+    }
+
+    /// The status of answering lines, how many bytes of them are answered, and how many bytes the answers have.
+    fn answer(&self, lines: &str, out: &mut [u8]) -> (u8, usize, usize) {
         let ((base, base_len), (lines, len)) = (at(self.text), at(lines));
         let (mut consumed, mut told, size, out) = (0, 0, out.len(), out.as_mut_ptr().cast());
         let (grammar, mode) = (self.grammar as u8, self.mode as u8);
@@ -185,7 +198,7 @@ impl<'a> Base<'a> {
                 &mut told,
             )
         };
-        (consumed, told, status == ffi::IRIKIT_SHORT)
+        (status, consumed, told)
     }
 
     fn room(&self, reference: &str) -> usize {

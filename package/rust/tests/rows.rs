@@ -71,12 +71,46 @@ fn lines_in_one_call_and_in_many() {
             .take(33 * 500)));
     }
     let mut buffer = Vec::new();
-    assert_eq!(base.canonical_lines("", &mut buffer).count(), 0);
-    assert_eq!(base.canonical_lines("no end", &mut buffer).count(), 0);
     let long = "x".repeat(100_000);
     assert!(base
         .canonical_lines(&format!("{long}\n%\n"), &mut buffer)
         .eq([Ok(&*format!("http://a/b/c/{long}")), Err("invalid path")]));
+}
+
+/// docs/COMMANDS.md, Input: an LF ends a line, what follows the last LF is one where it has at least a byte, and one CR before the end
+/// of a line isn't part of it.
+#[test]
+fn the_last_line() {
+    let base = Uri.base("http://a/b/c/d;p?q").unwrap();
+    let (g, own) = (Ok("http://a/b/c/g"), Ok("http://a/b/c/d;p?q"));
+    let bad = Err("invalid path");
+    let rows = [
+        ("", vec![]),
+        ("\n", vec![own]),
+        ("\r", vec![own]),
+        ("g", vec![g]),
+        ("g\r", vec![g]),
+        ("g\r\r", vec![bad]),
+        ("g\n", vec![g]),
+        ("g\n\n", vec![g, own]),
+        ("g\ng", vec![g, g]),
+        ("g\r\n%4", vec![g, bad]),
+        ("%\ng\r", vec![bad, g]),
+    ];
+    for (lines, wanted) in rows {
+        for mut buffer in [Vec::new(), Vec::with_capacity(1 << 20)] {
+            assert!(
+                base.canonical_lines(lines, &mut buffer)
+                    .eq(wanted.iter().copied()),
+                "{lines:?}"
+            );
+        }
+    }
+    for len in [4090, 4096, 1 << 20] {
+        let lines = format!("g\n{}", "x".repeat(len));
+        let wanted = [g, Ok(&*format!("http://a/b/c/{}", &lines[2..]))];
+        assert!(base.canonical_lines(&lines, &mut Vec::new()).eq(wanted));
+    }
 }
 
 #[test]
