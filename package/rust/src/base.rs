@@ -5,19 +5,20 @@ use crate::{ffi, Error, Grammar, Mode};
 use std::os::raw::c_char;
 use std::str;
 
-/// A base, against which references are resolved. [`Grammar::base`] makes it.
-#[derive(Debug, Clone, Copy, PartialEq, Eq, Hash)]
-pub struct Base<'a> {
-    pub(crate) text: &'a str,
+/// A base, against which references are resolved: an absolute-URI (RFC 3986 section 4.3). [`Grammar::base`] makes it of a text,
+/// [`Uri::base`](crate::Uri::base) of a URI.
+#[derive(Debug, Clone, PartialEq, Eq, Hash)]
+pub struct Base {
+    pub(crate) text: String,
     pub(crate) grammar: Grammar,
     pub(crate) mode: Mode,
 }
 
-impl<'a> Base<'a> {
+impl Base {
     /// The same base, whose canonical texts follow the rules of http, https, ws, wss and ftp too (RFC 3986 section 6.2.3).
     ///
     /// ```
-    /// let base = irikit::Uri.base("http://a/")?.by_scheme();
+    /// let base = Grammar::Uri.base("http://a/")?.by_scheme();
     /// assert_eq!(base.canonical("//b:80")?, "http://b/");
     /// # Ok::<(), irikit::Error>(())
     /// ```
@@ -30,8 +31,8 @@ impl<'a> Base<'a> {
     }
 
     /// The text of the base.
-    pub fn as_str(&self) -> &'a str {
-        self.text
+    pub fn as_str(&self) -> &str {
+        &self.text
     }
 
     /// The canonical text of a reference: resolved (RFC 3986 section 5.2), in normal form (section 6.2.2).
@@ -41,15 +42,15 @@ impl<'a> Base<'a> {
     /// [`Error::Reference`] where it is no reference.
     ///
     /// ```
-    /// use irikit::{Error, Fault, Uri};
+    /// use irikit::{Error, Fault, Grammar};
     ///
-    /// let base = Uri.base("http://a/b/c")?;
+    /// let base = Grammar::Uri.base("http://a/b/c")?;
     /// assert_eq!(base.canonical("../%7Ed")?, "http://a/~d");
     /// assert_eq!(base.canonical("%4"), Err(Error::Reference(Fault::INVALID_PATH)));
     /// # Ok::<(), irikit::Error>(())
     /// ```
     pub fn canonical(&self, reference: &str) -> Result<String, Error> {
-        owned(self.room(reference), canonicalizing(*self, reference))
+        owned(self.room(reference), canonicalizing(self, reference))
     }
 
     /// [`canonical`](Self::canonical) into a buffer, of which three bytes more than base and reference have suffice.
@@ -59,15 +60,15 @@ impl<'a> Base<'a> {
     /// [`Error::Reference`] where it is no reference, [`Error::Short`] where the buffer is too short.
     ///
     /// ```
-    /// use irikit::{Error, Uri};
+    /// use irikit::{Error, Grammar};
     ///
-    /// let base = Uri.base("http://a/b/c")?;
+    /// let base = Grammar::Uri.base("http://a/b/c")?;
     /// assert_eq!(base.canonical_into("d", &mut [0; 64])?, "http://a/b/d");
     /// assert_eq!(base.canonical_into("d", &mut [0; 8]), Err(Error::Short(12)));
     /// # Ok::<(), irikit::Error>(())
     /// ```
     pub fn canonical_into<'b>(&self, reference: &str, out: &'b mut [u8]) -> Result<&'b str, Error> {
-        into(out, canonicalizing(*self, reference))
+        into(out, canonicalizing(self, reference))
     }
 
     /// A reference resolved, and not in normal form.
@@ -77,11 +78,11 @@ impl<'a> Base<'a> {
     /// [`Error::Reference`] where it is no reference.
     ///
     /// ```
-    /// assert_eq!(irikit::Uri.base("http://A/b/c")?.resolve("../%7e")?, "http://A/%7e");
+    /// assert_eq!(Grammar::Uri.base("http://A/b/c")?.resolve("../%7e")?, "http://A/%7e");
     /// # Ok::<(), irikit::Error>(())
     /// ```
     pub fn resolve(&self, reference: &str) -> Result<String, Error> {
-        owned(self.room(reference), resolving(*self, reference))
+        owned(self.room(reference), resolving(self, reference))
     }
 
     /// [`resolve`](Self::resolve) into a buffer, of which three bytes more than base and reference have suffice.
@@ -90,7 +91,7 @@ impl<'a> Base<'a> {
     ///
     /// [`Error::Reference`] where it is no reference, [`Error::Short`] where the buffer is too short.
     pub fn resolve_into<'b>(&self, reference: &str, out: &'b mut [u8]) -> Result<&'b str, Error> {
-        into(out, resolving(*self, reference))
+        into(out, resolving(self, reference))
     }
 
     /// The target of a reference: resolved, with its dot segments (RFC 3986 section 5.2.2).
@@ -100,14 +101,14 @@ impl<'a> Base<'a> {
     /// [`Error::Reference`] where it is no reference.
     ///
     /// ```
-    /// assert_eq!(irikit::Uri.base("http://A/b/c")?.target("../%7e")?, "http://A/b/../%7e");
+    /// assert_eq!(Grammar::Uri.base("http://A/b/c")?.target("../%7e")?, "http://A/b/../%7e");
     /// # Ok::<(), irikit::Error>(())
     /// ```
     pub fn target(&self, reference: &str) -> Result<String, Error> {
-        let ((base, base_len), (text, len)) = (at(self.text), at(reference));
+        let ((base, base_len), (text, len)) = (at(&self.text), at(reference));
         owned(self.room(reference), |out, size, told| unsafe {
             ffi::irikit_target(
-                self.grammar as u8,
+                self.grammar as u32,
                 base,
                 base_len,
                 text,
@@ -122,12 +123,12 @@ impl<'a> Base<'a> {
     /// The canonical texts of references, one after the other.
     ///
     /// ```
-    /// let base = irikit::Uri.base("http://a/b/c")?;
+    /// let base = Grammar::Uri.base("http://a/b/c")?;
     /// let good: Vec<String> = base.canonical_each(["d", "%4", "/e"]).filter_map(Result::ok).collect();
     /// assert_eq!(good, ["http://a/b/d", "http://a/e"]);
     /// # Ok::<(), irikit::Error>(())
     /// ```
-    pub fn canonical_each<I>(self, references: I) -> CanonicalEach<'a, I::IntoIter>
+    pub fn canonical_each<I>(&self, references: I) -> CanonicalEach<'_, I::IntoIter>
     where
         I: IntoIterator,
         I::Item: AsRef<str>,
@@ -143,7 +144,7 @@ impl<'a> Base<'a> {
     /// an answer has no room.
     ///
     /// ```
-    /// let base = irikit::Uri.base("http://a/b/c")?;
+    /// let base = Grammar::Uri.base("http://a/b/c")?;
     /// let mut buffer = Vec::new();
     /// let texts: Vec<_> = base.canonical_lines("d\n%4\n/e", &mut buffer).collect();
     /// assert_eq!(texts, [Ok("http://a/b/d"), Err("invalid path"), Ok("http://a/e")]);
@@ -181,9 +182,9 @@ impl<'a> Base<'a> {
 
     /// The status of answering lines, how many bytes of them are answered, and how many bytes the answers have.
     fn answer(&self, lines: &str, out: &mut [u8]) -> (u8, usize, usize) {
-        let ((base, base_len), (lines, len)) = (at(self.text), at(lines));
+        let ((base, base_len), (lines, len)) = (at(&self.text), at(lines));
         let (mut consumed, mut told, size, out) = (0, 0, out.len(), out.as_mut_ptr().cast());
-        let (grammar, mode) = (self.grammar as u8, self.mode as u8);
+        let (grammar, mode) = (self.grammar as u32, self.mode as u32);
         let status = unsafe {
             ffi::irikit_canonical_lines(
                 grammar,
@@ -207,12 +208,12 @@ impl<'a> Base<'a> {
 }
 
 fn canonicalizing<'t>(
-    by: Base<'t>,
+    by: &'t Base,
     reference: &'t str,
 ) -> impl FnOnce(*mut c_char, usize, *mut usize) -> u8 + 't {
     move |out, size, told| {
-        let ((base, base_len), (reference, len)) = (at(by.text), at(reference));
-        let (grammar, mode) = (by.grammar as u8, by.mode as u8);
+        let ((base, base_len), (reference, len)) = (at(&by.text), at(reference));
+        let (grammar, mode) = (by.grammar as u32, by.mode as u32);
         unsafe {
             ffi::irikit_canonical(
                 grammar, mode, base, base_len, reference, len, out, size, told,
@@ -222,14 +223,14 @@ fn canonicalizing<'t>(
 }
 
 fn resolving<'t>(
-    by: Base<'t>,
+    by: &'t Base,
     reference: &'t str,
 ) -> impl FnOnce(*mut c_char, usize, *mut usize) -> u8 + 't {
     move |out, size, told| {
-        let ((base, base_len), (reference, len)) = (at(by.text), at(reference));
+        let ((base, base_len), (reference, len)) = (at(&by.text), at(reference));
         unsafe {
             ffi::irikit_resolve(
-                by.grammar as u8,
+                by.grammar as u32,
                 base,
                 base_len,
                 reference,
@@ -245,7 +246,7 @@ fn resolving<'t>(
 /// The iterator of [`Base::canonical_each`].
 #[derive(Debug, Clone)]
 pub struct CanonicalEach<'a, I> {
-    base: Base<'a>,
+    base: &'a Base,
     references: I,
 }
 

@@ -8,17 +8,18 @@ use std::ops::Range;
 /// The first fault of a text, from the left. Its words are those of the program `irikit`.
 ///
 /// ```
-/// use irikit::{Error, Fault, Uri};
+/// use irikit::{Error, Fault, Grammar};
 ///
-/// let error = Uri.split("http://a b/").unwrap_err();
+/// let error = Grammar::Uri.split("http://a b/").unwrap_err();
 /// assert_eq!(error, Error::Text(Fault::INVALID_HOST));
 /// assert_eq!(Fault::INVALID_HOST.to_string(), "invalid host");
+/// assert_eq!(format!("{error:?}"), "Text(invalid host)");
 /// ```
-#[derive(Debug, Clone, Copy, PartialEq, Eq, Hash)]
+#[derive(Clone, Copy, PartialEq, Eq, Hash)]
 pub struct Fault(usize);
 
 /// The first fault of a template, from the left (RFC 6570 section 2).
-#[derive(Debug, Clone, Copy, PartialEq, Eq, Hash)]
+#[derive(Clone, Copy, PartialEq, Eq, Hash)]
 pub struct TemplateFault(usize);
 
 /// What a call refuses.
@@ -51,29 +52,29 @@ macro_rules! numbers {
 }
 
 numbers! { Fault:
-    INVALID_SCHEME = 0;
-    INVALID_USERINFO = 1;
-    INVALID_HOST = 2;
-    INVALID_REG_NAME = 3;
-    INVALID_PORT = 4;
-    INVALID_PATH = 5;
-    INVALID_QUERY = 6;
-    INVALID_FRAGMENT = 7;
+    INVALID_SCHEME = 500;
+    INVALID_USERINFO = 501;
+    INVALID_HOST = 502;
+    INVALID_REG_NAME = 503;
+    INVALID_PORT = 504;
+    INVALID_PATH = 505;
+    INVALID_QUERY = 506;
+    INVALID_FRAGMENT = 507;
     /// A fragment in an absolute URI.
-    UNEXPECTED_FRAGMENT = 8;
+    UNEXPECTED_FRAGMENT = 508;
     /// No scheme where one must stand.
-    UNEXPECTED_RELATIVE = 9;
-    INVALID_UTF8 = 10;
+    UNEXPECTED_RELATIVE = 509;
+    INVALID_UTF8 = 510;
 }
 
 numbers! { TemplateFault:
-    EXPRESSION_NOT_CLOSED = 0;
-    INVALID_CHARACTER = 1;
-    INVALID_EXPRESSION = 2;
-    INVALID_PERCENT_ENCODING = 3;
+    EXPRESSION_NOT_CLOSED = 700;
+    INVALID_CHARACTER = 701;
+    INVALID_EXPRESSION = 702;
+    INVALID_PERCENT_ENCODING = 703;
     /// A prefix length on a list, or on pairs, that isn't empty.
-    UNEXPECTED_VALUE_TYPE = 5;
-    UNSUPPORTED_OPERATOR = 6;
+    UNEXPECTED_VALUE_TYPE = 705;
+    UNSUPPORTED_OPERATOR = 706;
 }
 
 impl Fault {
@@ -85,15 +86,15 @@ impl Fault {
     /// which was wanted.
     ///
     /// ```
-    /// use irikit::{Kind, Uri};
+    /// use irikit::{Grammar, Kind};
     ///
     /// let text = "http://me@h h:8/";
-    /// let fault = Uri.validate(Kind::Reference, text).unwrap_err();
+    /// let fault = Grammar::Uri.validate(Kind::Reference, text).unwrap_err();
     /// assert_eq!(fault.part_of(text, Kind::Reference), Some(10..13));
     /// ```
     pub fn part_of(self, text: &str, kind: Kind) -> Option<Range<usize>> {
         let ((bytes, len), mut part, mut told) = (at(text), ffi::Slot::default(), 0);
-        unsafe { ffi::irikit_fault_part(kind as u8, self.0, bytes, len, &mut part, &mut told) };
+        unsafe { ffi::irikit_fault_part(kind as u32, self.0, bytes, len, &mut part, &mut told) };
         let end = part.offset.checked_add(part.len)?;
         text.get(part.offset..end)?;
         Some(part.offset..end)
@@ -136,6 +137,18 @@ impl fmt::Display for TemplateFault {
         f.write_str(words(&mut [0; 64], |out, size, told| unsafe {
             ffi::irikit_template_fault_words(self.0, out, size, told)
         }))
+    }
+}
+
+impl fmt::Debug for Fault {
+    fn fmt(&self, f: &mut fmt::Formatter<'_>) -> fmt::Result {
+        fmt::Display::fmt(self, f)
+    }
+}
+
+impl fmt::Debug for TemplateFault {
+    fn fmt(&self, f: &mut fmt::Formatter<'_>) -> fmt::Result {
+        fmt::Display::fmt(self, f)
     }
 }
 

@@ -12,6 +12,11 @@ pub const IRIKIT_NO_HOST: u8 = 9;
 
 pub const IRIKIT_RUN_SHORT: u8 = 5;
 
+pub const IRIKIT_UNDEFINED: usize = 600;
+pub const IRIKIT_STRING: usize = 601;
+pub const IRIKIT_LIST: usize = 602;
+pub const IRIKIT_PAIRS: usize = 603;
+
 pub const IRIKIT_NOWHERE: usize = usize::MAX;
 
 #[repr(C)]
@@ -54,46 +59,49 @@ pub struct Variable {
     pub count: usize,
 }
 
-/// A text, its length, a buffer, its size, and what is told.
 macro_rules! calls {
     ($($name:ident($($argument:ident: $kind:ty),* $(,)?);)*) => {
         extern "C" { $(pub fn $name($($argument: $kind),*) -> u8;)* }
     };
 }
 
+extern "C" {
+    pub fn irikit_version() -> u32;
+}
+
 calls! {
-    irikit_canonical(grammar: u8, mode: u8, base: *const c_char, base_len: usize, reference: *const c_char, reference_len: usize,
+    irikit_canonical(grammar: u32, mode: u32, base: *const c_char, base_len: usize, reference: *const c_char, reference_len: usize,
         out: *mut c_char, size: usize, told: *mut usize);
-    irikit_canonical_lines(grammar: u8, mode: u8, base: *const c_char, base_len: usize, lines: *const c_char, lines_len: usize,
+    irikit_canonical_lines(grammar: u32, mode: u32, base: *const c_char, base_len: usize, lines: *const c_char, lines_len: usize,
         out: *mut c_char, size: usize, consumed: *mut usize, told: *mut usize);
-    irikit_validate(grammar: u8, kind: u8, text: *const c_char, len: usize, told: *mut usize);
-    irikit_fault_part(kind: u8, fault: usize, text: *const c_char, len: usize, part: *mut Slot, told: *mut usize);
-    irikit_split(grammar: u8, text: *const c_char, len: usize, parts: *mut Slots, told: *mut usize);
-    irikit_is_normalized(grammar: u8, mode: u8, text: *const c_char, len: usize, told: *mut usize);
+    irikit_validate(grammar: u32, kind: u32, text: *const c_char, len: usize, told: *mut usize);
+    irikit_fault_part(kind: u32, fault: usize, text: *const c_char, len: usize, part: *mut Slot, told: *mut usize);
+    irikit_split(grammar: u32, text: *const c_char, len: usize, parts: *mut Slots, told: *mut usize);
+    irikit_is_normalized(grammar: u32, mode: u32, text: *const c_char, len: usize, told: *mut usize);
     irikit_map_to_uri(text: *const c_char, len: usize, out: *mut c_char, size: usize, told: *mut usize);
-    irikit_resolve(grammar: u8, base: *const c_char, base_len: usize, reference: *const c_char, reference_len: usize,
+    irikit_resolve(grammar: u32, base: *const c_char, base_len: usize, reference: *const c_char, reference_len: usize,
         out: *mut c_char, size: usize, told: *mut usize);
-    irikit_target(grammar: u8, base: *const c_char, base_len: usize, reference: *const c_char, reference_len: usize,
+    irikit_target(grammar: u32, base: *const c_char, base_len: usize, reference: *const c_char, reference_len: usize,
         out: *mut c_char, size: usize, told: *mut usize);
-    irikit_steps(grammar: u8, mode: u8, text: *const c_char, len: usize, out: *mut c_char, size: usize, told: *mut usize);
-    irikit_normalize(grammar: u8, mode: u8, text: *const c_char, len: usize, out: *mut c_char, size: usize, told: *mut usize);
-    irikit_encode(grammar: u8, place: u8, text: *const c_char, len: usize, out: *mut c_char, size: usize, told: *mut usize);
+    irikit_steps(grammar: u32, mode: u32, text: *const c_char, len: usize, out: *mut c_char, size: usize, told: *mut usize);
+    irikit_normalize(grammar: u32, mode: u32, text: *const c_char, len: usize, out: *mut c_char, size: usize, told: *mut usize);
+    irikit_encode(grammar: u32, place: u32, text: *const c_char, len: usize, out: *mut c_char, size: usize, told: *mut usize);
     irikit_decode(text: *const c_char, len: usize, out: *mut c_char, size: usize, told: *mut usize);
-    irikit_mask_password(grammar: u8, text: *const c_char, len: usize, out: *mut c_char, size: usize, told: *mut usize);
-    irikit_replace_password(grammar: u8, text: *const c_char, len: usize, password: *const c_char, password_len: usize,
+    irikit_mask_password(grammar: u32, text: *const c_char, len: usize, out: *mut c_char, size: usize, told: *mut usize);
+    irikit_replace_password(grammar: u32, text: *const c_char, len: usize, password: *const c_char, password_len: usize,
         out: *mut c_char, size: usize, told: *mut usize);
-    irikit_remove_fragment(grammar: u8, text: *const c_char, len: usize, out: *mut c_char, size: usize, told: *mut usize);
-    irikit_set_fragment(grammar: u8, text: *const c_char, len: usize, fragment: *const c_char, fragment_len: usize,
+    irikit_remove_fragment(grammar: u32, text: *const c_char, len: usize, out: *mut c_char, size: usize, told: *mut usize);
+    irikit_set_fragment(grammar: u32, text: *const c_char, len: usize, fragment: *const c_char, fragment_len: usize,
         out: *mut c_char, size: usize, told: *mut usize);
-    irikit_remove_password(grammar: u8, text: *const c_char, len: usize, out: *mut c_char, size: usize, told: *mut usize);
-    irikit_replace_host(grammar: u8, text: *const c_char, len: usize, host: *const c_char, host_len: usize, out: *mut c_char,
+    irikit_remove_password(grammar: u32, text: *const c_char, len: usize, out: *mut c_char, size: usize, told: *mut usize);
+    irikit_replace_host(grammar: u32, text: *const c_char, len: usize, host: *const c_char, host_len: usize, out: *mut c_char,
         size: usize, told: *mut usize);
-    irikit_replace_reg_name(grammar: u8, text: *const c_char, len: usize, host: *const c_char, host_len: usize,
+    irikit_replace_reg_name(grammar: u32, text: *const c_char, len: usize, host: *const c_char, host_len: usize,
         out: *mut c_char, size: usize, told: *mut usize);
-    irikit_build(grammar: u8, kind: u8, parts: *const Given, count: usize, out: *mut c_char, size: usize, told: *mut usize);
+    irikit_build(grammar: u32, kind: u32, parts: *const Given, count: usize, out: *mut c_char, size: usize, told: *mut usize);
     irikit_template_variables(template: *const c_char, len: usize, names: *mut Slot, count: usize, told: *mut usize,
         place: *mut usize);
-    irikit_expand(grammar: u8, template: *const c_char, template_len: usize, variables: *const Variable, count: usize,
+    irikit_expand(grammar: u32, template: *const c_char, template_len: usize, variables: *const Variable, count: usize,
         out: *mut c_char, size: usize, told: *mut usize, place: *mut usize);
     irikit_fault_words(fault: usize, out: *mut c_char, size: usize, told: *mut usize);
     irikit_template_fault_words(fault: usize, out: *mut c_char, size: usize, told: *mut usize);

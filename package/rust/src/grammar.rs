@@ -8,68 +8,68 @@ use std::os::raw::c_char;
 #[derive(Debug, Clone, Copy, PartialEq, Eq, Hash)]
 pub enum Grammar {
     /// RFC 3986: ASCII alone.
-    Uri = 0,
+    Uri = 100,
     /// RFC 3987: characters past ASCII too.
-    Iri = 1,
+    Iri = 101,
 }
 
 /// A mode of normal form.
 #[derive(Debug, Clone, Copy, PartialEq, Eq, Hash)]
 pub enum Mode {
     /// RFC 3986 section 6.2.2, and an empty port removed (section 6.2.3).
-    Normal = 0,
+    Normal = 200,
     /// That, without the default port of http, https, ws, wss and ftp, and with `/` for an empty path beside an authority (section
     /// 6.2.3).
-    ByScheme = 1,
+    ByScheme = 201,
     /// As `Normal`, but a path without authority that doesn't begin with a slash keeps its dot segments.
-    Preserving = 2,
+    Preserving = 202,
 }
 
 /// A kind of whole text.
 #[derive(Debug, Clone, Copy, PartialEq, Eq, Hash)]
 pub enum Kind {
     /// URI-reference (RFC 3986 section 4.1).
-    Reference = 0,
+    Reference = 300,
     /// URI (section 3).
-    WithScheme = 1,
+    WithScheme = 301,
     /// absolute-URI: with a scheme and without a fragment (section 4.3).
-    Absolute = 2,
+    Absolute = 302,
     /// relative-ref: without a scheme (section 4.2).
-    Relative = 3,
+    Relative = 303,
 }
 
 /// A place of a reference, by what stands as it is there beside `unreserved` and, in IRIs, characters past ASCII.
 #[derive(Debug, Clone, Copy, PartialEq, Eq, Hash)]
 pub enum Place {
     /// sub-delims (RFC 3986 section 3.2.2).
-    RegName = 0,
+    RegName = 400,
     /// sub-delims: the user or the password (section 3.2.1).
-    User = 1,
+    User = 401,
     /// sub-delims `:` `@` (section 3.3).
-    Segment = 2,
+    Segment = 402,
     /// sub-delims `:` `@` `/` (section 3.3).
-    Path = 3,
+    Path = 403,
     /// sub-delims `:` `@` `/` `?` (section 3.4).
-    Query = 4,
+    Query = 404,
     /// sub-delims `:` `@` `/` `?` (section 3.5).
-    Fragment = 5,
+    Fragment = 405,
     /// Nothing (section 2.3).
-    Anywhere = 6,
+    Anywhere = 406,
     /// sub-delims and gen-delims (section 2.2).
-    Reference = 7,
+    Reference = 407,
 }
 
 /// A part that a text is built from, without the delimiters around it.
 #[derive(Debug, Clone, Copy, PartialEq, Eq, Hash)]
 #[allow(missing_docs)]
 pub enum Part {
-    Scheme = 0,
-    Userinfo = 1,
-    Host = 2,
-    Port = 3,
-    Path = 4,
-    Query = 5,
-    Fragment = 6,
+    Scheme = 800,
+    Userinfo = 801,
+    Host = 802,
+    Port = 803,
+    Path = 804,
+    Query = 805,
+    Fragment = 806,
 }
 
 /// A text as its pointer and its length.
@@ -85,14 +85,14 @@ impl Grammar {
     /// [`Error::Base`] where it is no absolute-URI (RFC 3986 section 4.3: a scheme, and no fragment).
     ///
     /// ```
-    /// let base = irikit::Uri.base("http://a/b/c/d;p?q")?;
+    /// let base = irikit::Grammar::Uri.base("http://a/b/c/d;p?q")?;
     /// assert_eq!(base.canonical("../g")?, "http://a/b/g");
     /// # Ok::<(), irikit::Error>(())
     /// ```
-    pub fn base(self, text: &str) -> Result<Base<'_>, Error> {
+    pub fn base(self, text: &str) -> Result<Base, Error> {
         self.validate(Kind::Absolute, text).map_err(Error::Base)?;
         Ok(Base {
-            text,
+            text: text.into(),
             grammar: self,
             mode: Mode::Normal,
         })
@@ -105,7 +105,8 @@ impl Grammar {
     /// Its first fault where it isn't.
     ///
     /// ```
-    /// use irikit::{Fault, Iri, Kind, Uri};
+    /// use irikit::Grammar::{Iri, Uri};
+    /// use irikit::{Fault, Kind};
     ///
     /// assert_eq!(Uri.validate(Kind::Reference, "/caf%C3%A9"), Ok(()));
     /// assert_eq!(Uri.validate(Kind::Reference, "/café"), Err(Fault::INVALID_PATH));
@@ -113,7 +114,7 @@ impl Grammar {
     /// ```
     pub fn validate(self, kind: Kind, text: &str) -> Result<(), Fault> {
         let ((text, len), mut told) = (at(text), 0);
-        match unsafe { ffi::irikit_validate(self as u8, kind as u8, text, len, &mut told) } {
+        match unsafe { ffi::irikit_validate(self as u32, kind as u32, text, len, &mut told) } {
             ffi::IRIKIT_OK => Ok(()),
             _ => Err(Fault::of(told)),
         }
@@ -126,13 +127,13 @@ impl Grammar {
     /// [`Error::Text`] where it is none.
     ///
     /// ```
-    /// let parts = irikit::Uri.split("//h:8/p?q")?;
+    /// let parts = irikit::Grammar::Uri.split("//h:8/p?q")?;
     /// assert_eq!((parts.host, parts.port, parts.path, parts.query), (Some("h"), Some("8"), "/p", Some("q")));
     /// # Ok::<(), irikit::Error>(())
     /// ```
     pub fn split(self, text: &str) -> Result<Parts<'_>, Error> {
         let ((bytes, len), mut slots, mut told) = (at(text), ffi::Slots::default(), 0);
-        match unsafe { ffi::irikit_split(self as u8, bytes, len, &mut slots, &mut told) } {
+        match unsafe { ffi::irikit_split(self as u32, bytes, len, &mut slots, &mut told) } {
             ffi::IRIKIT_OK => Ok(Parts::of(text, &slots)),
             status => Err(Error::of(status, told)),
         }
@@ -145,12 +146,12 @@ impl Grammar {
     /// [`Error::Text`] where it is no URI.
     ///
     /// ```
-    /// assert!(!irikit::Uri.is_normalized("HTTP://a/", irikit::Mode::Normal)?);
+    /// assert!(!irikit::Grammar::Uri.is_normalized("HTTP://a/", irikit::Mode::Normal)?);
     /// # Ok::<(), irikit::Error>(())
     /// ```
     pub fn is_normalized(self, text: &str, mode: Mode) -> Result<bool, Error> {
         let ((text, len), mut told) = (at(text), 0);
-        match unsafe { ffi::irikit_is_normalized(self as u8, mode as u8, text, len, &mut told) } {
+        match unsafe { ffi::irikit_is_normalized(self as u32, mode as u32, text, len, &mut told) } {
             ffi::IRIKIT_OK => Ok(true),
             ffi::IRIKIT_NOT_NORMAL => Ok(false),
             status => Err(Error::of(status, told)),
@@ -164,7 +165,7 @@ impl Grammar {
     /// [`Error::Text`] where it is no URI.
     ///
     /// ```
-    /// assert_eq!(irikit::Uri.normalize("HTTP://a:80/%7e", irikit::Mode::ByScheme)?, "http://a/~");
+    /// assert_eq!(irikit::Grammar::Uri.normalize("HTTP://a:80/%7e", irikit::Mode::ByScheme)?, "http://a/~");
     /// # Ok::<(), irikit::Error>(())
     /// ```
     pub fn normalize(self, text: &str, mode: Mode) -> Result<String, Error> {
@@ -192,7 +193,7 @@ impl Grammar {
     ) -> impl FnOnce(*mut c_char, usize, *mut usize) -> u8 + '_ {
         move |out, size, told| {
             let (text, len) = at(text);
-            unsafe { ffi::irikit_normalize(self as u8, mode as u8, text, len, out, size, told) }
+            unsafe { ffi::irikit_normalize(self as u32, mode as u32, text, len, out, size, told) }
         }
     }
 
@@ -204,7 +205,7 @@ impl Grammar {
     /// [`Error::Text`] where it is no URI.
     ///
     /// ```
-    /// assert_eq!(irikit::Uri.steps("Http://a/%7eb/../c")?, ["scheme letter 0", "decode path 1", "dot segments"]);
+    /// assert_eq!(irikit::Grammar::Uri.steps("Http://a/%7eb/../c")?, ["scheme letter 0", "decode path 1", "dot segments"]);
     /// # Ok::<(), irikit::Error>(())
     /// ```
     pub fn steps(self, text: &str) -> Result<Vec<String>, Error> {
@@ -218,7 +219,7 @@ impl Grammar {
     /// [`Error::Text`] where it is no URI.
     ///
     /// ```
-    /// assert_eq!(irikit::Uri.steps_by_scheme("http://a:80")?, ["default port", "empty path"]);
+    /// assert_eq!(irikit::Grammar::Uri.steps_by_scheme("http://a:80")?, ["default port", "empty path"]);
     /// # Ok::<(), irikit::Error>(())
     /// ```
     pub fn steps_by_scheme(self, text: &str) -> Result<Vec<String>, Error> {
@@ -228,7 +229,7 @@ impl Grammar {
     fn steps_in(self, text: &str, mode: Mode) -> Result<Vec<String>, Error> {
         let (text, len) = at(text);
         let call = move |out: *mut c_char, size: usize, told: *mut usize| unsafe {
-            ffi::irikit_steps(self as u8, mode as u8, text, len, out, size, told)
+            ffi::irikit_steps(self as u32, mode as u32, text, len, out, size, told)
         };
         let lines = match owned(0, call) {
             Err(Error::Short(needed)) => owned(needed, call),
@@ -240,9 +241,9 @@ impl Grammar {
     /// A raw text, percent-encoded for its place in a reference (RFC 3986 sections 2.1 and 2.4).
     ///
     /// ```
-    /// use irikit::{Place, Uri};
+    /// use irikit::{Grammar, Place};
     ///
-    /// assert_eq!(Uri.encode("50% off/a", Place::Segment), "50%25%20off%2Fa");
+    /// assert_eq!(Grammar::Uri.encode("50% off/a", Place::Segment), "50%25%20off%2Fa");
     /// ```
     pub fn encode(self, text: &str, place: Place) -> String {
         owned(3 * text.len(), self.encoding(text, place))
@@ -270,7 +271,7 @@ impl Grammar {
     ) -> impl FnOnce(*mut c_char, usize, *mut usize) -> u8 + '_ {
         move |out, size, told| {
             let (text, len) = at(text);
-            unsafe { ffi::irikit_encode(self as u8, place as u8, text, len, out, size, told) }
+            unsafe { ffi::irikit_encode(self as u32, place as u32, text, len, out, size, told) }
         }
     }
 
@@ -281,13 +282,13 @@ impl Grammar {
     /// [`Error::Text`] where it is no reference.
     ///
     /// ```
-    /// assert_eq!(irikit::Uri.mask_password("http://u:pw@h/")?, "http://u:@h/");
+    /// assert_eq!(irikit::Grammar::Uri.mask_password("http://u:pw@h/")?, "http://u:@h/");
     /// # Ok::<(), irikit::Error>(())
     /// ```
     pub fn mask_password(self, text: &str) -> Result<String, Error> {
         let (text, len) = at(text);
         owned(len, |out, size, told| unsafe {
-            ffi::irikit_mask_password(self as u8, text, len, out, size, told)
+            ffi::irikit_mask_password(self as u32, text, len, out, size, told)
         })
     }
 
@@ -298,13 +299,13 @@ impl Grammar {
     /// [`Error::Text`] where it is no reference.
     ///
     /// ```
-    /// assert_eq!(irikit::Uri.without_password("http://u:pw@h/")?, "http://u@h/");
+    /// assert_eq!(irikit::Grammar::Uri.without_password("http://u:pw@h/")?, "http://u@h/");
     /// # Ok::<(), irikit::Error>(())
     /// ```
     pub fn without_password(self, text: &str) -> Result<String, Error> {
         let (text, len) = at(text);
         owned(len, |out, size, told| unsafe {
-            ffi::irikit_remove_password(self as u8, text, len, out, size, told)
+            ffi::irikit_remove_password(self as u32, text, len, out, size, told)
         })
     }
 
@@ -316,13 +317,13 @@ impl Grammar {
     /// authority.
     ///
     /// ```
-    /// assert_eq!(irikit::Uri.with_host("http://a:80/", "[::1]")?, "http://[::1]:80/");
+    /// assert_eq!(irikit::Grammar::Uri.with_host("http://a:80/", "[::1]")?, "http://[::1]:80/");
     /// # Ok::<(), irikit::Error>(())
     /// ```
     pub fn with_host(self, text: &str, host: &str) -> Result<String, Error> {
         let ((text, len), (host, host_len)) = (at(text), at(host));
         owned(len + host_len, |out, size, told| unsafe {
-            ffi::irikit_replace_host(self as u8, text, len, host, host_len, out, size, told)
+            ffi::irikit_replace_host(self as u32, text, len, host, host_len, out, size, told)
         })
     }
 
@@ -334,7 +335,7 @@ impl Grammar {
     pub fn with_reg_name(self, text: &str, name: &str) -> Result<String, Error> {
         let ((text, len), (host, host_len)) = (at(text), at(name));
         owned(len + host_len, |out, size, told| unsafe {
-            ffi::irikit_replace_reg_name(self as u8, text, len, host, host_len, out, size, told)
+            ffi::irikit_replace_reg_name(self as u32, text, len, host, host_len, out, size, told)
         })
     }
 
@@ -345,10 +346,10 @@ impl Grammar {
     /// [`Error::Part`]: the first fault of the parts, or what the kind refuses of them.
     ///
     /// ```
-    /// use irikit::{Kind, Part, Uri};
+    /// use irikit::{Grammar, Kind, Part};
     ///
     /// let parts = [(Part::Scheme, "http"), (Part::Host, "a"), (Part::Path, "/b")];
-    /// assert_eq!(Uri.build(Kind::WithScheme, &parts)?, "http://a/b");
+    /// assert_eq!(Grammar::Uri.build(Kind::WithScheme, &parts)?, "http://a/b");
     /// # Ok::<(), irikit::Error>(())
     /// ```
     pub fn build(self, kind: Kind, parts: &[(Part, &str)]) -> Result<String, Error> {
@@ -363,8 +364,8 @@ impl Grammar {
         let room = parts.iter().map(|(_, text)| text.len()).sum::<usize>() + 7;
         owned(room, |out, size, told| unsafe {
             ffi::irikit_build(
-                self as u8,
-                kind as u8,
+                self as u32,
+                kind as u32,
                 given.as_ptr(),
                 given.len(),
                 out,
@@ -382,14 +383,14 @@ impl Grammar {
     /// [`Error::Text`] where it is no reference.
     ///
     /// ```
-    /// assert_eq!(irikit::Uri.replace_password("http://u:pw@h/", "***")?, "http://u:***@h/");
+    /// assert_eq!(irikit::Grammar::Uri.replace_password("http://u:pw@h/", "***")?, "http://u:***@h/");
     /// # Ok::<(), irikit::Error>(())
     /// ```
     pub fn replace_password(self, text: &str, password: &str) -> Result<String, Error> {
         let ((text, len), (password, password_len)) = (at(text), at(password));
         owned(len + password_len, |out, size, told| unsafe {
             ffi::irikit_replace_password(
-                self as u8,
+                self as u32,
                 text,
                 len,
                 password,
@@ -408,20 +409,20 @@ impl Grammar {
     /// [`Error::Text`] where it is no reference, [`Error::Part`] where the fragment is none.
     ///
     /// ```
-    /// assert_eq!(irikit::Uri.with_fragment("a?b#c", Some("d"))?, "a?b#d");
-    /// assert_eq!(irikit::Uri.with_fragment("a?b#c", None)?, "a?b");
+    /// assert_eq!(irikit::Grammar::Uri.with_fragment("a?b#c", Some("d"))?, "a?b#d");
+    /// assert_eq!(irikit::Grammar::Uri.with_fragment("a?b#c", None)?, "a?b");
     /// # Ok::<(), irikit::Error>(())
     /// ```
     pub fn with_fragment(self, text: &str, fragment: Option<&str>) -> Result<String, Error> {
         let (text, len) = at(text);
         match fragment.map(at) {
             None => owned(len, |out, size, told| unsafe {
-                ffi::irikit_remove_fragment(self as u8, text, len, out, size, told)
+                ffi::irikit_remove_fragment(self as u32, text, len, out, size, told)
             }),
             Some((fragment, fragment_len)) => {
                 owned(len + fragment_len + 1, |out, size, told| unsafe {
                     ffi::irikit_set_fragment(
-                        self as u8,
+                        self as u32,
                         text,
                         len,
                         fragment,
@@ -442,10 +443,10 @@ impl Grammar {
     /// [`Error::Template`] where it has a fault.
     ///
     /// ```
-    /// use irikit::{Uri, Value};
+    /// use irikit::{Grammar, Value};
     ///
     /// let variables = [("q", Value::Text("two words")), ("labels", Value::List(&["a", "b"]))];
-    /// assert_eq!(Uri.expand("/search{?q}{&labels*}", &variables)?, "/search?q=two%20words&labels=a&labels=b");
+    /// assert_eq!(Grammar::Uri.expand("/search{?q}{&labels*}", &variables)?, "/search?q=two%20words&labels=a&labels=b");
     /// # Ok::<(), irikit::Error>(())
     /// ```
     pub fn expand(self, template: &str, variables: &[(&str, Value<'_>)]) -> Result<String, Error> {
@@ -488,7 +489,7 @@ impl Grammar {
         let (size, out, mut told, mut place) = (out.len(), out.as_mut_ptr().cast(), 0, 0);
         let status = unsafe {
             ffi::irikit_expand(
-                self as u8,
+                self as u32,
                 template,
                 template_len,
                 variables,

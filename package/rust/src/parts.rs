@@ -38,7 +38,7 @@ impl<'a> Parts<'a> {
     /// The segments of the path (RFC 3986 section 3.3): what stands between its slashes.
     ///
     /// ```
-    /// let parts = irikit::Uri.split("http://a/b//c")?;
+    /// let parts = irikit::Grammar::Uri.split("http://a/b//c")?;
     /// assert!(parts.segments().eq(["b", "", "c"]));
     /// # Ok::<(), irikit::Error>(())
     /// ```

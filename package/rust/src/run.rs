@@ -31,9 +31,10 @@ fn status(number: u8) -> Status {
         2 => Status::NoCommand,
         3 => Status::BadBase,
         ffi::IRIKIT_RUN_SHORT => Status::Short,
+        6 => Status::Memory,
         7 => Status::LongLine,
         8 => Status::LongInput,
-        _ => Status::Memory,
+        _ => unreachable!("irikit.h has no run's status {number}"),
     }
 }
 

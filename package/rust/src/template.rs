@@ -73,10 +73,10 @@ fn text(text: &str) -> ffi::Text {
 /// The number of a value's kind in `irikit.h`.
 fn kind(value: &Value<'_>) -> usize {
     match value {
-        Value::Undefined => 0,
-        Value::Text(_) => 1,
-        Value::List(_) => 2,
-        Value::Pairs(_) => 3,
+        Value::Undefined => ffi::IRIKIT_UNDEFINED,
+        Value::Text(_) => ffi::IRIKIT_STRING,
+        Value::List(_) => ffi::IRIKIT_LIST,
+        Value::Pairs(_) => ffi::IRIKIT_PAIRS,
     }
 }
 

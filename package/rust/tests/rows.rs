@@ -1,5 +1,6 @@
 //! Rows of the standards, whose sections are named.
-use irikit::{Error, Fault, Iri, Mode, Status, TemplateFault, Uri, Value};
+use irikit::Grammar::{Iri, Uri};
+use irikit::{Error, Fault, Mode, Status, TemplateFault, Value};
 
 /// RFC 3986 section 5.4.1, and 5.4.2 as a strict reader has it.
 const RESOLVED: [(&str, &str); 33] = [
@@ -307,7 +308,7 @@ fn refusals() {
 
 #[test]
 fn the_program() {
-    let version = format!("irikit {}\n", env!("CARGO_PKG_VERSION"));
+    let version = format!("irikit {}\n", env!("CARGO_PKG_VERSION").replace('-', "~"));
     assert_eq!(irikit::run("--version", ""), (Status::Done, version));
     // docs/COMMANDS.md, gen.
     assert_eq!(
