@@ -18,7 +18,7 @@ impl Base {
     /// The same base, whose canonical texts follow the rules of http, https, ws, wss and ftp too (RFC 3986 section 6.2.3).
     ///
     /// ```
-    /// let base = Grammar::Uri.base("http://a/")?.by_scheme();
+    /// let base = irikit::Grammar::Uri.base("http://a/")?.by_scheme();
     /// assert_eq!(base.canonical("//b:80")?, "http://b/");
     /// # Ok::<(), irikit::Error>(())
     /// ```
@@ -78,7 +78,7 @@ impl Base {
     /// [`Error::Reference`] where it is no reference.
     ///
     /// ```
-    /// assert_eq!(Grammar::Uri.base("http://A/b/c")?.resolve("../%7e")?, "http://A/%7e");
+    /// assert_eq!(irikit::Grammar::Uri.base("http://A/b/c")?.resolve("../%7e")?, "http://A/%7e");
     /// # Ok::<(), irikit::Error>(())
     /// ```
     pub fn resolve(&self, reference: &str) -> Result<String, Error> {
@@ -101,7 +101,7 @@ impl Base {
     /// [`Error::Reference`] where it is no reference.
     ///
     /// ```
-    /// assert_eq!(Grammar::Uri.base("http://A/b/c")?.target("../%7e")?, "http://A/b/../%7e");
+    /// assert_eq!(irikit::Grammar::Uri.base("http://A/b/c")?.target("../%7e")?, "http://A/b/../%7e");
     /// # Ok::<(), irikit::Error>(())
     /// ```
     pub fn target(&self, reference: &str) -> Result<String, Error> {
@@ -123,7 +123,7 @@ impl Base {
     /// The canonical texts of references, one after the other.
     ///
     /// ```
-    /// let base = Grammar::Uri.base("http://a/b/c")?;
+    /// let base = irikit::Grammar::Uri.base("http://a/b/c")?;
     /// let good: Vec<String> = base.canonical_each(["d", "%4", "/e"]).filter_map(Result::ok).collect();
     /// assert_eq!(good, ["http://a/b/d", "http://a/e"]);
     /// # Ok::<(), irikit::Error>(())
@@ -144,7 +144,7 @@ impl Base {
     /// an answer has no room.
     ///
     /// ```
-    /// let base = Grammar::Uri.base("http://a/b/c")?;
+    /// let base = irikit::Grammar::Uri.base("http://a/b/c")?;
     /// let mut buffer = Vec::new();
     /// let texts: Vec<_> = base.canonical_lines("d\n%4\n/e", &mut buffer).collect();
     /// assert_eq!(texts, [Ok("http://a/b/d"), Err("invalid path"), Ok("http://a/e")]);

@@ -328,3 +328,80 @@ fn the_program() {
         Status::Short
     );
 }
+
+#[test]
+fn values() {
+    use irikit::{Iri, IriReference, Uri, UriReference};
+    use std::collections::{BTreeSet, HashMap};
+
+    // RFC 3986 section 4.1, RFC 3987 section 2.2.
+    let reference: UriReference = "a/b?q".parse().unwrap();
+    assert_eq!(
+        Uri::try_from(reference.clone()),
+        Err(Error::Text(Fault::UNEXPECTED_RELATIVE))
+    );
+    assert_eq!(
+        "/é".parse::<UriReference>(),
+        Err(Error::Text(Fault::INVALID_PATH))
+    );
+    let iri: IriReference = reference.clone().into();
+    assert_eq!((iri.as_str(), iri.to_uri()), ("a/b?q", reference));
+    let name: Iri = "http://a/é".parse().unwrap();
+    assert_eq!(name.to_uri().as_str(), "http://a/%C3%A9");
+
+    // Ordered and hashed as their texts, and looked up by these.
+    let uris = ["http://b/", "HTTP://b/", "http://a/"].map(|text| text.parse::<Uri>().unwrap());
+    let ordered: BTreeSet<&Uri> = uris.iter().collect();
+    assert!(ordered
+        .iter()
+        .map(|uri| uri.as_str())
+        .eq(["HTTP://b/", "http://a/", "http://b/"]));
+    let places: HashMap<Uri, usize> = uris.iter().cloned().zip(0..).collect();
+    assert_eq!(places.get("http://a/"), Some(&2));
+    assert_eq!(
+        format!("{} {:?}", uris[0], uris[1]),
+        "http://b/ Uri(\"HTTP://b/\")"
+    );
+    assert_eq!(String::from(uris[0].clone()), "http://b/");
+
+    // RFC 3986 section 5.1: the base is without its fragment. Section 3.2.2: a host, and none.
+    let page: Uri = "http://a/b?q#f".parse().unwrap();
+    assert_eq!(page.base().as_str(), "http://a/b?q");
+    assert_eq!(
+        page.join("").map(String::from).as_deref(),
+        Ok("http://a/b?q")
+    );
+    assert_eq!(page.join("%"), Err(Error::Reference(Fault::INVALID_PATH)));
+    assert_eq!(page.with_host("a b"), Err(Error::Part(Fault::INVALID_HOST)));
+    assert_eq!(
+        "urn:a".parse::<Uri>().unwrap().with_host("b"),
+        Err(Error::NoHost)
+    );
+    assert_eq!(page.with_fragment(None).unwrap().as_str(), "http://a/b?q");
+    assert_eq!(
+        format!("{:?}", page.with_fragment(Some("#"))),
+        "Err(Part(invalid fragment))"
+    );
+}
+
+/// RFC 3986 section 5.4, by eight threads over one base, each with a buffer of its own.
+#[test]
+fn threads() {
+    let base = Uri.base("http://a/b/c/d;p?q").unwrap();
+    std::thread::scope(|scope| {
+        for _ in 0..8 {
+            scope.spawn(|| {
+                let mut buffer = Vec::new();
+                for (reference, wanted) in RESOLVED.repeat(200) {
+                    assert_eq!(base.canonical(reference).as_deref(), Ok(wanted));
+                    assert!(base
+                        .canonical_lines(reference, &mut buffer)
+                        .eq(match reference {
+                            "" => vec![],
+                            _ => vec![Ok(wanted)],
+                        }));
+                }
+            });
+        }
+    });
+}
