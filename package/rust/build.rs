@@ -3,13 +3,22 @@
 use std::env;
 use std::process::Command;
 
+const WANTED: &str = "install libirikit-dev, or name the library's folder in IRIKIT_LIB_DIR";
+/// The versions of the library that the crate is for.
+const SERIES: &str = concat!(
+    env!("CARGO_PKG_VERSION_MAJOR"),
+    ".",
+    env!("CARGO_PKG_VERSION_MINOR"),
+    "."
+);
+
 fn main() {
     for name in ["IRIKIT_LIB_DIR", "PKG_CONFIG", "PKG_CONFIG_PATH"] {
         println!("cargo:rerun-if-env-changed={name}");
     }
     match env::var("IRIKIT_LIB_DIR").or_else(|_| found()) {
         Ok(folder) => println!("cargo:rustc-link-search=native={folder}"),
-        Err(why) => println!("cargo:warning={why}"),
+        Err(why) => println!("cargo:warning=no library irikit: {WANTED} ({why})"),
     }
     let kind = if env::var_os("CARGO_FEATURE_STATIC").is_some() {
         "static"
@@ -19,22 +28,20 @@ fn main() {
     println!("cargo:rustc-link-lib={kind}=irikit");
 }
 
-/// The folder of the library that pkg-config finds, which has to be of the crate's own version.
+/// The folder of the library that pkg-config finds.
 fn found() -> Result<String, String> {
     let tool = env::var("PKG_CONFIG").unwrap_or_else(|_| "pkg-config".into());
-    let wanted = "install libirikit-dev, or name the library's folder in IRIKIT_LIB_DIR";
     let ask = |what: &str| match Command::new(&tool).args([what, "irikit"]).output() {
         Ok(said) if said.status.success() => {
             Ok(String::from_utf8_lossy(&said.stdout).trim().to_string())
         }
-        said => Err(format!("no library irikit: {wanted} ({tool}: {said:?})")),
+        Ok(said) => Err(format!("{tool}: {}", said.status)),
+        Err(error) => Err(format!("{tool}: {error}")),
     };
-    let (version, own) = (ask("--modversion")?, env!("CARGO_PKG_VERSION_MINOR"));
-    if version.split('.').nth(1) == Some(own) {
-        ask("--variable=libdir")
-    } else {
-        Err(format!(
-            "the library irikit is {version}, and the crate wants 0.{own}: {wanted}"
-        ))
-    }
+    let version = ask("--modversion")?;
+    assert!(
+        version.starts_with(SERIES),
+        "the library irikit is {version}, and the crate is for {SERIES}*: {WANTED}"
+    );
+    ask("--variable=libdir")
 }
