@@ -107,7 +107,7 @@ texts! {
     /// assert_eq!((page.parts().host, page.parts().fragment), (Some("Example.COM"), Some("top")));
     /// assert_eq!(page.normalized(Mode::Normal).as_str(), "http://example.com/docs/guide#top");
     /// assert_eq!(page.join("../%7Ebob")?.to_string(), "HTTP://Example.COM/%7Ebob");
-    /// assert_eq!("docs/guide".parse::<Uri>(), Err(Error::Text(Fault::UNEXPECTED_RELATIVE)));
+    /// assert_eq!("over/there".parse::<Uri>(), Err(Error::Text(Fault::UNEXPECTED_RELATIVE)));
     /// # Ok::<(), irikit::Error>(())
     /// ```
     Uri, Grammar::Uri, Kind::WithScheme;
