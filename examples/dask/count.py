@@ -9,7 +9,9 @@ Workers need the files and OUT at the same paths, and the library that ./install
 import heapq
 import os
 import pathlib
+import shutil
 import sys
+import tempfile
 import uuid
 import zlib
 from collections import Counter
@@ -39,7 +41,7 @@ def answer_part(file, start, size, grammar, path):
         try:
             return b"ok " + links_of(page).canonical_bytes(link) if tab else b"bad line"
         except irikit.Refused as error:
-            return (b"base " if error.status == irikit.BAD_BASE else b"bad ") + str(error).encode()
+            return (b"base " if error.status == irikit.Status.BAD_BASE else b"bad ") + str(error).encode()
 
     with open(file, "rb") as opened:
         answers = [answer(*line.partition(b"\t")) for line in canon.lines_of(read_block(opened, start, size, b"\n"))]
@@ -64,8 +66,10 @@ def main(scheduler, grammar, size, out, *files):
     parts = [delayed(answer_part)(*place, size, grammar, out / f"answers/{number:06}") for number, place in enumerate(places)]
     merged = [out / f"share{share}" for share in range(SHARES)]
     with Client(scheduler) as client:
-        for name in ("irikit.py", "canon.py"):
-            client.upload_file(str(pathlib.Path(__file__).resolve().parents[1] / "python" / name))
+        top = pathlib.Path(__file__).resolve().parents[2]
+        client.upload_file(str(top / "examples/python/canon.py"))
+        with tempfile.TemporaryDirectory() as folder:
+            client.upload_file(shutil.make_archive(f"{folder}/irikit", "zip", top / "package/python", "irikit"))
         client.compute([delayed(merge_share)([part[share] for part in parts], path) for share, path in enumerate(merged)], sync=True)
     with open(out / "counts", "wb") as counts:
         counts.writelines(heapq.merge(*[open(path, "rb") for path in merged]))

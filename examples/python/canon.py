@@ -1,4 +1,5 @@
-"""canon.py uri|iri: reads a base line and reference lines, and answers each reference line as `irikit canon` does."""
+"""canon.py uri|iri: reads a base line and reference lines, and answers each reference line as `irikit canon` does. It needs the package
+for Python, or package/python in PYTHONPATH and in IRIKIT_LIBRARY the library that ./install builds."""
 import sys
 
 from irikit import IRI, URI, Links, Refused

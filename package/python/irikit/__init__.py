@@ -7,8 +7,8 @@
     >>> irikit.canonical_many("http://a/b/c/d;p?q", ["../g", "%4", "HTTP://B/%7Eu"])
     ['http://a/b/g', None, 'http://b/~u']
 
-A text is passed as `str` or as `bytes` in UTF-8. What is refused raises `Refused`, a `ValueError` whose words name the first fault
-from the left:
+A text is passed as `str`, as bytes in UTF-8, or as a `Uri` or `Iri`. What is refused raises `Refused`, a `ValueError` whose words name the
+first fault from the left; what is no text, or a number of another enum than the one that is wanted, is a `TypeError`:
 
     >>> links.canonical("%4")
     Traceback (most recent call last):
@@ -16,22 +16,41 @@ from the left:
 
 `grammar` is `URI` (RFC 3986, ASCII alone) or `IRI` (RFC 3987); `mode` is `NORMAL`, or `BY_SCHEME` for the rules of http, https, ws,
 wss and ftp too: the default port goes, and an empty path beside an authority becomes `/`.
+
+No call and no object keeps anything that another one writes, so any number of threads may share any of them.
 """
-from .calls import (
+from ._edits import mask_password, with_fragment, with_host, with_password, without_password
+from ._fields import links
+from ._forms import decode, encode, fault, faulty_part, is_normalized, map_to_uri, normalize, steps
+from ._links import Links, canonical_many, resolve
+from ._numbers import (
     ABSOLUTE, ANYWHERE, BY_SCHEME, IN_FRAGMENT, IN_PATH, IN_QUERY, IN_REFERENCE, IN_REG_NAME, IN_SEGMENT, IN_USER, IRI, NORMAL,
-    PRESERVING, REFERENCE, RELATIVE, URI, WITH_SCHEME, Links, Refused, build, decode, encode, map_to_uri,
-    run, variables,
+    PRESERVING, REFERENCE, RELATIVE, URI, WITH_SCHEME, Fault, Grammar, Kind, Mode, Place, Status, TemplateFault,
 )
-from .fields import FieldRefused, links
-from .robots import Robots
-from .texts import SplitResult, canonical_many, expand, split
-from .version import __version__
+from ._parts import SplitResult, build, split
+from ._refused import Refused
+from ._robots import Robots
+from ._run import run
+from ._templates import Template, expand, variables
+from ._uris import Iri, Uri
 
 __all__ = [
-    "ABSOLUTE", "ANYWHERE", "BY_SCHEME", "IN_FRAGMENT", "IN_PATH", "IN_QUERY", "IN_REFERENCE", "IN_REG_NAME", "IN_SEGMENT", "IN_USER",
-    "IRI", "NORMAL", "PRESERVING", "REFERENCE", "RELATIVE", "URI", "WITH_SCHEME", "FieldRefused", "Links", "Refused", "Robots", "SplitResult",
-    "__version__", "build", "canonical_many", "decode", "encode", "expand", "links", "map_to_uri", "run", "split", "variables",
+    "ABSOLUTE", "ANYWHERE", "BY_SCHEME", "Fault", "Grammar", "IN_FRAGMENT", "IN_PATH", "IN_QUERY", "IN_REFERENCE", "IN_REG_NAME",
+    "IN_SEGMENT", "IN_USER", "IRI", "Iri", "Kind", "Links", "Mode", "NORMAL", "PRESERVING", "Place", "REFERENCE", "RELATIVE", "Refused",
+    "Robots", "SplitResult", "Status", "Template", "TemplateFault", "URI", "Uri", "WITH_SCHEME", "__version__", "build", "canonical_many",
+    "decode", "encode", "expand", "fault", "faulty_part", "is_normalized", "links", "map_to_uri", "mask_password", "normalize", "resolve",
+    "run", "split", "steps", "variables", "with_fragment", "with_host", "with_password", "without_password",
 ]
 
-# So are they named where they end a program.
-Refused.__module__ = FieldRefused.__module__ = __name__
+# So are they named where they are shown, and where they end a program.
+for _name in __all__:
+    if isinstance(globals().get(_name), type):
+        globals()[_name].__module__ = __name__
+
+
+def __getattr__(name: str) -> str:
+    if name != "__version__":
+        raise AttributeError(f"module {__name__!r} has no attribute {name!r}")
+    from importlib.metadata import version
+
+    return version(__name__)

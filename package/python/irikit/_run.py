@@ -1,0 +1,27 @@
+"""The program, in memory."""
+from __future__ import annotations
+
+from ._library import declared, room, size_t
+from ._texts import Text, bytes_of
+
+# What a run comes to where an answer isn't `ok`, and where the output has no room; and the limits of a line and of the input.
+BAD_ANSWER, SHORT = 1, 5
+LINE, INPUT = 1_048_576, 1_073_741_824
+
+_run = declared("run", "text text text sizes")
+
+
+def run(words: Text, lines: Text) -> tuple[bytes, int]:
+    """The output, in UTF-8, and the status of the program `irikit` with these words and this input.
+
+    >>> run("canon uri", "http://a/b\\n../c\\n")
+    (b'ok http://a/c\\n', 0)
+    """
+    words, lines, told = bytes_of(words), bytes_of(lines), size_t()
+    size = 4 * len(lines) + 4096
+    while True:
+        out = room(size)
+        status = _run(words, len(words), lines, len(lines), out, len(out), told)
+        if status != SHORT:
+            return out[: told.value], status
+        size *= 4

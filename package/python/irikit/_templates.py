@@ -1,0 +1,137 @@
+"""URI templates (RFC 6570)."""
+from __future__ import annotations
+
+import ctypes
+import math
+from decimal import Decimal
+from itertools import accumulate, chain
+from typing import Any, Mapping, Sequence
+
+from ._library import address, declared, room, size_t, structs
+from ._numbers import BAD_TEXT, LIST, OK, PAIRS, SHORT, STRING, UNDEFINED, URI, Grammar, Status, TemplateFault, Value
+from ._refused import Refused
+from ._texts import Identifier, Immutable, Text, bytes_of, of_kind
+
+_expand = declared("expand", "number text many text sizes sizes")
+_template_variables = declared("template_variables", "text sizes size sizes sizes")
+
+
+class Template(Immutable):
+    """A URI template (RFC 6570, level 4), as `uritemplate.URITemplate` is one. Any number of threads may use one object.
+
+    >>> search = Template("/search{?q,page}{&labels*}")
+    >>> search.variables
+    ('q', 'page', 'labels')
+    >>> search.expand({"q": "two words", "labels": ["a", "b"]}, page=2)
+    '/search?q=two%20words&page=2&labels=a&labels=b'
+
+    Raises `Refused` where the text has a fault, whose `place` is its place in bytes.
+    """
+
+    __slots__ = ("_variables",)
+
+    def __init__(self, text: Text, grammar: Grammar = URI) -> None:
+        self._made_of = bytes_of(text), of_kind(grammar, Grammar)
+        self._variables = tuple(variables(text))
+
+    @property
+    def variables(self) -> tuple[str, ...]:
+        """The names of the variables, from left to right, each as often as it stands there."""
+        return self._variables
+
+    def expand(self, values: Mapping[Any, Any] | None = None, /, **more: Any) -> str:
+        """The expansion by values of variables: as the function `expand`."""
+        text, grammar = self._made_of
+        return _expanded(text, grammar, values, more)
+
+
+def variables(template: Text) -> list[str]:
+    """The names of a template's variables, from left to right, each as often as it stands there.
+
+    >>> variables("/search{?q,n*}")
+    ['q', 'n']
+
+    Raises `Refused` where the template has a fault, whose `place` is its place in bytes.
+    """
+    text = bytes_of(template)
+    most = len(text) // 2
+    slots, told, place = (size_t * (2 * most))(), size_t(), size_t()
+    status = _template_variables(text, len(text), slots, most, told, place)
+    if status != OK:
+        raise Refused(BAD_TEXT, TemplateFault(told.value), place.value)
+    places = zip(slots[: 2 * told.value : 2], slots[1 : 2 * told.value : 2])
+    return [text[offset : offset + size].decode() for offset, size in places]
+
+
+def expand(
+    template: Text, values: Mapping[Any, Any] | None = None, /, *, grammar: Grammar = URI, **more: Any
+) -> str:
+    """The expansion of a URI template (RFC 6570, level 4), as the package `uritemplate` has it.
+
+    >>> expand("/search{?q,page}{&labels*}", {"q": "two words", "labels": ["a", "b"]}, page=2)
+    '/search?q=two%20words&page=2&labels=a&labels=b'
+
+    A value is a text, a number, a list or tuple of these, a mapping or a list of pairs of these, or None, which stands for no value. A
+    number is its decimal text. Of two with one name that among `more` counts.
+
+    Raises `Refused` where the template has a fault, whose `place` is its place in bytes, or a text isn't UTF-8; `TypeError` where a
+    value is of another type.
+    """
+    return _expanded(bytes_of(template), of_kind(grammar, Grammar), values, more)
+
+
+def _expanded(text: bytes, grammar: Grammar, values: Mapping[Any, Any] | None, more: dict[str, Any]) -> str:
+    given = {bytes_of(name): value for name, value in [*(values or {}).items(), *more.items()]}
+    texts, kinds = [*given], []
+    for name, value in given.items():
+        kind, some = _kind_and_texts(name, value)
+        kinds.append((kind, len(texts), len(some)))
+        texts += some
+    # All texts in one piece, each as an irikit_text of the header; then each variable, with where its own texts begin.
+    piece = b"".join(texts)
+    pairs = [*zip(accumulate(map(len, texts), initial=address(piece)), map(len, texts))]
+    items = structs(chain.from_iterable(pairs))
+    start, wide = address(items), 2 * ctypes.sizeof(size_t)
+    array = structs(chain.from_iterable((*pair, kind, start + at * wide, count) for pair, (kind, at, count) in zip(pairs, kinds)))
+    told, place, size = size_t(), size_t(), len(text) + 256
+    while True:
+        out = room(size)
+        status = _expand(grammar, text, len(text), array, len(given), out, size, told, place)
+        if status == OK:
+            return str(out[: told.value], "utf-8")
+        if status == BAD_TEXT:
+            raise Refused(BAD_TEXT, TemplateFault(told.value), place.value)
+        if status != SHORT:
+            raise Refused(Status(status), None, place.value)
+        size = told.value
+
+
+def _kind_and_texts(name: bytes, value: Any) -> tuple[Value, list[bytes]]:
+    """A value, as the library takes it."""
+    if value is None:
+        return UNDEFINED, []
+    if isinstance(value, (str, bytes, bytearray, memoryview, Identifier)):
+        return STRING, [bytes_of(value)]
+    if isinstance(value, (int, float, Decimal)):
+        return STRING, [_one(name, value)]
+    if isinstance(value, (list, tuple, Sequence)):
+        pairs = [item for item in value if isinstance(item, tuple) and len(item) == 2]
+        if not pairs or len(pairs) < len(value):
+            return LIST, [_one(name, item) for item in value if item is not None]
+    elif isinstance(value, (dict, Mapping)):
+        pairs = [*value.items()]
+    else:
+        return STRING, [_one(name, value)]
+    return PAIRS, [_one(name, text) for pair in pairs if pair[1] is not None for text in pair]
+
+
+def _one(name: bytes, value: Any) -> bytes:
+    """A text, or the decimal text of a number."""
+    try:
+        if isinstance(value, int) and not isinstance(value, bool):
+            return b"%d" % value
+        if isinstance(value, (float, Decimal)) and math.isfinite(value):
+            value = str(value)
+        return bytes_of(value)
+    except TypeError:
+        raise TypeError(f"the variable {name.decode(errors='replace')!r} has a {type(value).__name__}, which is no text and no number") from None

@@ -1,0 +1,98 @@
+"""Texts, as they are passed to the library and come back from it."""
+from __future__ import annotations
+
+from typing import Any, Callable, Iterable, Union
+
+from ._library import declared, room, size_t
+from ._numbers import OK, SHORT
+from ._refused import refusal
+
+
+class Immutable:
+    """What is equal, hashed, shown, copied and pickled by what it was made of, which never changes."""
+
+    __slots__ = ("_made_of",)
+    _made_of: tuple[Any, ...]
+
+    def __eq__(self, other: object) -> bool:
+        return isinstance(other, Immutable) and type(other) is type(self) and other._made_of == self._made_of
+
+    def __hash__(self) -> int:
+        return hash(self._made_of)
+
+    def __reduce__(self) -> tuple[Any, ...]:
+        return type(self), self._made_of
+
+    def __repr__(self) -> str:
+        shown = [repr(one.decode("utf-8", "backslashreplace") if isinstance(one, bytes) else one) for one in self._made_of]
+        return f"{type(self).__name__}({', '.join(shown)})"
+
+
+class Identifier(Immutable):
+    """A text that is one of a grammar, whatever grammar that is."""
+
+    __slots__ = ()
+
+    def __bytes__(self) -> bytes:
+        return self._made_of[0]  # type: ignore[no-any-return]
+
+    def __str__(self) -> str:
+        return bytes(self).decode()
+
+    def __lt__(self, other: Any) -> bool:
+        if type(other) is not type(self):
+            return NotImplemented
+        return bytes(self) < bytes(other)
+
+
+Text = Union[str, bytes, bytearray, memoryview, Identifier]
+
+
+def bytes_of(text: Text) -> bytes:
+    """A text in UTF-8. A lone surrogate becomes bytes that aren't UTF-8, and so the library refuses it."""
+    if isinstance(text, str):
+        return text.encode("utf-8", "surrogatepass")
+    if isinstance(text, (bytes, bytearray, memoryview, Identifier)):
+        return bytes(text)
+    raise TypeError(f"a text is wanted, as str or as bytes, and not {type(text).__name__}")
+
+
+def several(texts: Iterable[Text]) -> list[Text]:
+    """Texts, and not the characters of one."""
+    if isinstance(texts, (str, bytes, bytearray, memoryview)):
+        raise TypeError(f"a list of texts is wanted, and not {type(texts).__name__}")
+    return list(texts)
+
+
+def of_kind(number: Any, kind: type) -> Any:
+    """A number, where it is of the kind of numbers that is wanted."""
+    if type(number) is not kind:
+        raise TypeError(f"a {kind.__name__} is wanted, and not {number!r}")
+    return number
+
+
+def written(size: int, call: Callable[..., int], *given: Any) -> bytes:
+    """What a call writes, in so much room, or in as much as it asks for."""
+    while True:
+        out, told = room(size), size_t()
+        status = call(*given, out, size, told)
+        if status == OK:
+            return out[: told.value]  # type: ignore[no-any-return]
+        if status != SHORT:
+            raise refusal(status, told.value)
+        size = told.value
+
+
+def writing(name: str, numbers: int, texts: int = 1) -> Callable[..., bytes]:
+    """A call that takes so many numbers and then so many texts, and writes a text."""
+    call = declared(name, "number " * numbers + "text " * texts + "text sizes")
+
+    def write(*given: Any) -> bytes:
+        passed, size = [*given[:numbers]], 8
+        for text in given[numbers:]:
+            text = bytes_of(text)
+            size += len(text)
+            passed += (text, len(text))
+        return written(size, call, *passed)
+
+    return write

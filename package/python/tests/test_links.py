@@ -1,0 +1,162 @@
+"""References against one base: by the examples of RFC 3986, by the repository's rows, many at once."""
+import unittest
+
+import irikit
+from examples import rows
+from irikit import BY_SCHEME, IRI, NORMAL, PRESERVING, URI, Fault, Links, Refused, Status
+
+BASE = "http://a/b/c/d;p?q"
+# RFC 3986 section 5.4.1, and 5.4.2 as a strict reader has it.
+RESOLVED = [
+    ("g:h", "g:h"), ("g", "http://a/b/c/g"), ("./g", "http://a/b/c/g"), ("g/", "http://a/b/c/g/"), ("/g", "http://a/g"),
+    ("//g", "http://g"), ("?y", "http://a/b/c/d;p?y"), ("g?y", "http://a/b/c/g?y"), ("#s", "http://a/b/c/d;p?q#s"),
+    ("g#s", "http://a/b/c/g#s"), ("g?y#s", "http://a/b/c/g?y#s"), (";x", "http://a/b/c/;x"), ("g;x", "http://a/b/c/g;x"),
+    ("g;x?y#s", "http://a/b/c/g;x?y#s"), ("", "http://a/b/c/d;p?q"), (".", "http://a/b/c/"), ("./", "http://a/b/c/"),
+    ("..", "http://a/b/"), ("../", "http://a/b/"), ("../g", "http://a/b/g"), ("../..", "http://a/"), ("../../", "http://a/"),
+    ("../../g", "http://a/g"), ("../../../g", "http://a/g"), ("/./g", "http://a/g"), ("/../g", "http://a/g"),
+    ("g.", "http://a/b/c/g."), ("..g", "http://a/b/c/..g"), ("./../g", "http://a/b/g"), ("g/./h", "http://a/b/c/g/h"),
+    ("g;x=1/../y", "http://a/b/c/y"), ("g?y/../x", "http://a/b/c/g?y/../x"), ("http:g", "http:g"),
+]
+# RFC 3986 sections 6.2.2 and 6.2.3; RFC 3987 sections 3.2 and 5.3.2.3.
+NORMAL_FORMS = [
+    ("eXAMPLE://a/./b/../b/%63/%7bfoo%7d", URI, NORMAL, "example://a/b/c/%7Bfoo%7D"),
+    ("HTTP://www.EXAMPLE.com/", URI, NORMAL, "http://www.example.com/"),
+    ("http://example.com:80/", URI, BY_SCHEME, "http://example.com/"),
+    ("http://example.com", URI, BY_SCHEME, "http://example.com/"),
+    ("http://www.example.org/D%C3%BCrst", IRI, NORMAL, "http://www.example.org/D\u00fcrst"),
+    ("http://www.example.org/D%FCrst", IRI, NORMAL, "http://www.example.org/D%FCrst"),
+    ("http://example.org/%7euser", IRI, NORMAL, "http://example.org/~user"),
+]
+MEBIBYTE = 1 << 20
+
+
+def answer(base, reference, grammar):
+    """The answer of the program."""
+    try:
+        links = Links(base, grammar)
+    except Refused as error:
+        return f"base {error}"
+    try:
+        return f"ok {links.canonical(reference)}"
+    except Refused as error:
+        return f"bad {error}"
+
+
+class One(unittest.TestCase):
+    def test_resolved(self):
+        links = Links(BASE)
+        for reference, wanted in RESOLVED:
+            self.assertEqual(links.canonical(reference), wanted)
+            self.assertEqual([links.resolve(reference), irikit.resolve(BASE, reference)], [wanted] * 2)
+
+    def test_target(self):
+        self.assertEqual(Links("http://A/b/c").target("../%7e"), "http://A/b/../%7e")
+
+    def test_normal_form(self):
+        for text, grammar, mode, wanted in NORMAL_FORMS:
+            self.assertEqual(Links(BASE, grammar).canonical(text, mode), wanted)
+            self.assertEqual(irikit.normalize(text, mode, grammar), wanted)
+
+    def test_rows(self):
+        found = rows("rows.txt")
+        self.assertGreater(len(found), 100)
+        for grammar, base, reference, wanted in found:
+            self.assertEqual(answer(base, reference, irikit.Grammar[grammar.upper()]), wanted, (base, reference))
+
+    def test_each_kind_of_text(self):
+        links = Links(b"http://a/b")
+        for text in ("%7e", b"%7e", bytearray(b"%7e"), memoryview(b"%7e")):
+            self.assertEqual((links.canonical(text), links.canonical_bytes(text)), ("http://a/~", b"http://a/~"))
+
+    def test_base(self):
+        links = Links(memoryview(b"http://a/b"), IRI)
+        self.assertEqual((links.base, links.grammar), (b"http://a/b", IRI))
+        for base, fault in (("", Fault.UNEXPECTED_RELATIVE), ("http://a/#f", Fault.UNEXPECTED_FRAGMENT), ("//a b@c", Fault.UNEXPECTED_RELATIVE),
+                            ("\ud800", Fault.INVALID_UTF8)):
+            with self.assertRaises(Refused) as refused:
+                Links(base)
+            self.assertEqual((refused.exception.status, refused.exception.fault), (Status.BAD_BASE, fault))
+
+    def test_refused(self):
+        # docs/COMMANDS.md: the words for faults, each with what has it.
+        for reference, fault, words in (
+            ("%4", Fault.INVALID_PATH, "invalid path"), ("//a b@c", Fault.INVALID_USERINFO, "invalid userinfo"),
+            ("//a@b@c", Fault.INVALID_HOST, "invalid host"), (b"\xff", Fault.INVALID_UTF8, "invalid utf-8 bytes"),
+            ("\udcff", Fault.INVALID_UTF8, "invalid utf-8 bytes"), ("\ud83d\ude00", Fault.INVALID_UTF8, "invalid utf-8 bytes"),
+            ("?%", Fault.INVALID_QUERY, "invalid query"), ("##", Fault.INVALID_FRAGMENT, "invalid fragment"),
+            ("\ufeffg", Fault.INVALID_PATH, "invalid path"), ("\0", Fault.INVALID_PATH, "invalid path"),
+        ):
+            with self.assertRaises(Refused) as refused:
+                Links(BASE).canonical(reference)
+            error = refused.exception
+            self.assertEqual((error.status, error.fault, error.place, str(error)), (Status.BAD_REFERENCE, fault, None, words))
+
+    def test_preserving_is_no_mode_of_canonical(self):
+        for call in (Links(BASE).canonical, Links(BASE).answers, irikit.steps):
+            with self.assertRaisesRegex(Refused, "PRESERVING"):
+                call("a:b", PRESERVING)
+
+    def test_whole_texts(self):
+        """What stands at the start and the end of a text stays, and a text of a mebibyte is one text."""
+        links = Links("http://a/", IRI)
+        for text in ("\ufeffa", "a\ufeff", "\ufeff", "\u2028", "\u0301", "\U0001f600", "a" * MEBIBYTE, "\u00e9" * MEBIBYTE):
+            self.assertEqual(links.canonical(text), "http://a/" + text)
+            self.assertEqual(links.canonical_many(["b", text, "c"]), ["http://a/b", "http://a/" + text, "http://a/c"])
+            self.assertEqual(irikit.split(text, IRI).path, text)
+        self.assertEqual(Links("http://a/" + "b" * MEBIBYTE).canonical("?c"), "http://a/" + "b" * MEBIBYTE + "?c")
+
+
+class Many(unittest.TestCase):
+    def test_resolved(self):
+        references, wanted = map(list, zip(*RESOLVED))
+        self.assertEqual(Links(BASE).canonical_many(references), wanted)
+        self.assertEqual(irikit.canonical_many(BASE, iter(references)), wanted)
+
+    def test_rows(self):
+        wanted = {}
+        for grammar, base, reference, text in rows("rows.txt"):
+            wanted.setdefault((grammar, base), []).append((reference, text))
+        for (grammar, base), found in wanted.items():
+            if not found[0][1].startswith("base"):
+                texts = [text[3:] if text.startswith("ok") else None for _, text in found]
+                links = Links(base, irikit.Grammar[grammar.upper()])
+                self.assertEqual(links.canonical_many([reference for reference, _ in found]), texts, base)
+
+    def test_what_is_no_line(self):
+        links = Links("http://a/b")
+        self.assertEqual(links.canonical_many([]), [])
+        texts = ["c\nd", "c\r", "c", "\r", "\n", "", b"\r\n", "c\r\nd", "\0"]
+        self.assertEqual(links.canonical_many(texts), [None, None, "http://a/c", None, None, "http://a/b", None, None, None])
+
+    def test_what_is_not_unicode(self):
+        texts = ["c", "\ud800", b"d", "\udcff", b"\xff", "\ud83d\ude00", "e"]
+        wanted = ["http://a/c", None, "http://a/d", None, None, None, "http://a/e"]
+        for grammar in (URI, IRI):
+            self.assertEqual(irikit.canonical_many("http://a/b", texts, grammar), wanted)
+
+    def test_lengths(self):
+        links = Links("http://a/b")
+        self.assertEqual(links.canonical_many(["d" * 999] * 5000), ["http://a/" + "d" * 999] * 5000)
+        for length in (1 << 16, 1 << 19, MEBIBYTE, MEBIBYTE + 1):
+            self.assertEqual(links.canonical_many(["d" * length, "%", "e"]), ["http://a/" + "d" * length, None, "http://a/e"])
+        texts = ["%" if n % 3 else str(n) for n in range(10000)]
+        self.assertEqual(links.canonical_many(texts), [None if n % 3 else f"http://a/{n}" for n in range(10000)])
+        self.assertEqual(links.canonical_many(["%"] * 3), [None] * 3)
+
+    def test_lines(self):
+        """docs/COMMANDS.md, canon: what a line is."""
+        links = Links("http://a/b")
+        for lines, wanted in (
+            (b"c\r\n\n%\n", b"ok http://a/c\nok http://a/b\nbad invalid path\n"), (b"", b""), (b"\n", b"ok http://a/b\n"),
+            (b"c", b"ok http://a/c\n"), (b"c\nd", b"ok http://a/c\nok http://a/d\n"), (b"c\r", b"ok http://a/c\n"), (b"\r", b"ok http://a/b\n"),
+            (b"c\r\r", b"bad invalid path\n"), ("c\nd", b"ok http://a/c\nok http://a/d\n"), (b"%", b"bad invalid path\n"),
+        ):
+            self.assertEqual(links.answers(lines), wanted, lines)
+            program = b"http://a/b\n" + (lines.encode() if isinstance(lines, str) else lines)
+            self.assertEqual(irikit.run("canon uri", program)[0], wanted, lines)
+        self.assertEqual(links.answers(b"//c:80\n//d:81", BY_SCHEME), b"ok http://c/\nok http://d:81/\n")
+        self.assertEqual(links.answers(b"e" * MEBIBYTE), b"ok http://a/" + b"e" * MEBIBYTE + b"\n")
+
+
+if __name__ == "__main__":
+    unittest.main()

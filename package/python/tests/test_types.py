@@ -1,0 +1,78 @@
+"""What is of the wrong type is a TypeError, and never read as something else."""
+import array
+import pathlib
+import unittest
+
+import irikit
+from irikit import ABSOLUTE, BY_SCHEME, IN_PATH, IRI, NORMAL, REFERENCE, Links, Robots, Status, Uri
+
+LINKS = Links("http://a/b")
+# Calls by a text.
+TEXTS = [
+    Links, LINKS.canonical, LINKS.canonical_bytes, LINKS.resolve, LINKS.target, LINKS.answers, lambda text: LINKS.canonical_many([text]),
+    irikit.fault, irikit.faulty_part, irikit.normalize, irikit.is_normalized, irikit.steps, irikit.map_to_uri, irikit.encode, irikit.decode,
+    irikit.mask_password, irikit.without_password, lambda text: irikit.with_password("a", text), irikit.split, irikit.variables,
+    lambda text: irikit.with_fragment(text, None), lambda text: irikit.with_fragment("a", text) if text is not None else irikit.split(None),
+    lambda text: irikit.with_host(text, "a"), lambda text: irikit.with_host("//a", text), irikit.expand, irikit.Template, irikit.Uri, irikit.Iri,
+    Uri("a:").join, Uri("a:").with_host, lambda text: irikit.resolve(text, "a"), lambda text: irikit.resolve("a:", text),
+    lambda text: irikit.links(text, "a:"), lambda text: irikit.links("", text), lambda text: Robots(text, "bot"), lambda text: Robots("", text),
+    Robots("", "bot").allows, lambda text: Robots("", "bot").allows_many([text]), lambda text: irikit.run(text, b""),
+    lambda text: irikit.run("canon uri", text), lambda text: irikit.build(path=text) if text is not None else irikit.split(None),
+    lambda text: irikit.build(host=text) if text is not None else irikit.split(None),
+]
+NO_TEXTS = [5, 0, 10**9, 1.5, True, None, ["a"], ("a",), {"a"}, {"a": "b"}, object(), pathlib.Path("a"), array.array("B", b"a"), iter("a"), IRI, LINKS]
+GRAMMARS = [
+    lambda number: Links("a:", number), lambda number: irikit.canonical_many("a:", [], number), lambda number: irikit.resolve("a:", "", number),
+    lambda number: irikit.fault("a:", grammar=number), lambda number: irikit.faulty_part("a:", grammar=number),
+    lambda number: irikit.normalize("a:", grammar=number), lambda number: irikit.is_normalized("a:", grammar=number),
+    lambda number: irikit.steps("a:", grammar=number), lambda number: irikit.encode("a", grammar=number), lambda number: irikit.split("a", number),
+    lambda number: irikit.build(grammar=number), lambda number: irikit.expand("a", grammar=number), lambda number: irikit.Template("a", number),
+    lambda number: irikit.mask_password("a", number), lambda number: irikit.without_password("a", number),
+    lambda number: irikit.with_password("a", "b", number), lambda number: irikit.with_fragment("a", "b", number),
+    lambda number: irikit.with_fragment("a", None, number), lambda number: irikit.with_host("//a", "b", grammar=number),
+    lambda number: irikit.links("", "a:", number), lambda number: Robots("", "bot", None, number),
+]
+MODES = [
+    lambda number: LINKS.canonical("a", number), lambda number: LINKS.canonical_bytes(b"a", number), lambda number: LINKS.answers(b"a\n", number),
+    lambda number: LINKS.answers(b"", number), lambda number: LINKS.canonical_many(["a"], number), lambda number: irikit.normalize("a:", number),
+    lambda number: LINKS.canonical_many([], number), lambda number: irikit.canonical_many("a:", [], mode=number),
+    lambda number: irikit.is_normalized("a:", number), lambda number: irikit.steps("a:", number), lambda number: Uri("a:").canonical(number),
+]
+KINDS = [lambda number: irikit.fault("a", number), lambda number: irikit.faulty_part("a", number), lambda number: irikit.build(kind=number)]
+PLACES = [lambda number: irikit.encode("a", number)]
+
+
+class Types(unittest.TestCase):
+    def test_texts(self):
+        for at, call in enumerate(TEXTS):
+            for text in NO_TEXTS:
+                with self.subTest(call=at, text=text), self.assertRaises(TypeError):
+                    call(text)
+
+    def test_numbers(self):
+        every = [IRI, NORMAL, BY_SCHEME, REFERENCE, ABSOLUTE, IN_PATH, Status.OK, 0, 1, 2, 100, 201, 257, -1, 2**32 + 100, "uri", "iri", True, None]
+        for calls, kind in ((GRAMMARS, irikit.Grammar), (MODES, irikit.Mode), (KINDS, irikit.Kind), (PLACES, irikit.Place)):
+            for at, call in enumerate(calls):
+                for number in every:
+                    if type(number) is not kind:
+                        with self.subTest(kind=kind.__name__, call=at, number=number), self.assertRaises(TypeError):
+                            call(number)
+
+    def test_no_lists(self):
+        for texts in ("abc", b"abc", bytearray(b"abc"), memoryview(b"abc"), 5, None):
+            for call in (LINKS.canonical_many, lambda many: irikit.canonical_many("a:", many), Robots("", "bot").allows_many):
+                with self.assertRaises(TypeError):
+                    call(texts)
+
+    def test_named_parts(self):
+        for call in (lambda: irikit.build(authority="a"), lambda: irikit.build("http"), lambda: irikit.build(port=True), lambda: irikit.build(port=1.5)):
+            with self.assertRaises(TypeError):
+                call()
+
+    def test_numbers_are_apart(self):
+        numbers = [int(one) for kind in (irikit.Grammar, irikit.Mode, irikit.Kind, irikit.Place, irikit.Fault, irikit.TemplateFault, Status) for one in kind]
+        self.assertEqual(len(set(numbers)), len(numbers))
+
+
+if __name__ == "__main__":
+    unittest.main()
