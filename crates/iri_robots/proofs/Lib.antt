@@ -9,3 +9,4 @@ pub mod Forms
 pub mod Agents
 pub mod FormLaws
 pub mod Decisions
+pub mod EscapeLemmas

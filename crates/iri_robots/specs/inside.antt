@@ -5,3 +5,4 @@ pub mod Plain
 pub mod ReadLines
 pub mod BestRule
 pub mod Prefixes
+pub mod EscapeScans

@@ -14,7 +14,7 @@ use std::str;
 
 // A run that stays, a character, or a percent-encoded octet of these digits.
 #[derive(Clone, Copy)]
-enum Written<'a> {
+pub(crate) enum Written<'a> {
     Run(&'a str),
     Char(char),
     Triplet(u8, u8),
@@ -22,9 +22,9 @@ enum Written<'a> {
 
 // What so many bytes at the start of a text are written as.
 #[derive(Clone, Copy)]
-struct Prefix<'a> {
-    written: Written<'a>,
-    taken: usize,
+pub(crate) struct Prefix<'a> {
+    pub(crate) written: Written<'a>,
+    pub(crate) taken: usize,
 }
 
 // An ASCII character but `%` stays as it is.
@@ -91,7 +91,8 @@ fn percent_prefix(text: &[u8]) -> Prefix<'_>
     triplet_prefix(text)
 }
 
-fn prefix_of(text: &[u8]) -> Prefix<'_>
+// What the start of a text is written as.
+pub(crate) fn prefix_of(text: &[u8]) -> Prefix<'_>
     requires { 0 < length text.now }
     ensures { IsPrefix text.now result.written result.taken }
 {

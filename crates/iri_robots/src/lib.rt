@@ -14,7 +14,8 @@
 //!
 //! Proved: each call means its definition. `new` refuses exactly what is no product token. `feed_line` adds exactly the
 //! record of its line, and nothing after an allocation failure, which comes only where the line has a record.
-//! `feed_line_within` adds the same, but no rule with more escapes than the caller takes. A pattern matches exactly
+//! `feed_line_within` adds the same, but no rule with more escapes than the caller takes, which it tells whatever memory
+//! there is. A pattern matches exactly
 //! where the text, or without a `$` at its end a prefix of it, is a filling of the pattern. The verdict is allow
 //! exactly where the text is `/robots.txt`, where no rule for the token matches, or where an allow rule is among the
 //! longest that match; it takes no memory.
@@ -29,6 +30,7 @@
 #![tactic(auto)]
 
 mod compared;
+mod escape;
 pub mod laws;
 mod line;
 mod pattern;

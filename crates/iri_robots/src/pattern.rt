@@ -1,8 +1,8 @@
 // Patterns of rules. What stands between two `*` is found at its leftmost place by a search for its prefix up to the
 // first escape, and for that escape. Where it has no escape, the search goes through pattern and text once.
-ghost use Rattle.std.specs.Prelude.{◌≡◌, ◌≢◌, ◌↔◌, ◌<◌, ◌≤◌, ◌∷◌, true, cond, MatchOption, length, drop, slice_index};
+ghost use Rattle.std.specs.Prelude.{◌≡◌, ◌≢◌, ◌↔◌, ◌<◌, ◌≤◌, ◌∷◌, true, MatchOption, length, drop, slice_index};
 ghost use Rattle.iri_grammar.specs.Characters.{asterisk};
-ghost use Rattle.iri_robots.specs.Patterns.{Matches, begins_escape, escapes};
+ghost use Rattle.iri_robots.specs.Patterns.{Matches};
 ghost use Rattle.iri_robots.specs.inside.Reaching.{HasReached};
 ghost use Rattle.iri_robots.specs.inside.Fits.{EscapeOf, NoEscape, Fits, FitsNot, Sticks, Takes};
 ghost use Rattle.iri_robots.specs.inside.Plain.{HasPlainPrefix, KeepsFits, Keeps, StandsNot, SticksBefore};
@@ -246,32 +246,4 @@ pub fn matches(pattern: &[u8], text: &[u8]) -> bool
             }
         }
     }
-}
-
-// An escape, or a `$`, stands at the start of the pattern.
-fn begins_escape(pattern: &[u8]) -> bool
-    ensures { result ≡ begins_escape pattern.now }
-{
-    pattern.starts_with(b"%2A") || pattern.starts_with(b"%24") || pattern.starts_with(b"$")
-}
-
-// One, where an escape or a `$` stands at the start of the pattern.
-fn escapes_at(pattern: &[u8]) -> usize
-    ensures { result ≡ cond (begins_escape pattern.now) 1 0 }
-{
-    if begins_escape(pattern) { 1 } else { 0 }
-}
-
-// How many escapes and `$` the pattern has: a search takes no more time than the lengths of pattern and text so many
-// times, and once more.
-pub(crate) fn escapes(pattern: &[u8]) -> usize
-    ensures { result ≡ escapes pattern.now }
-{
-    let mut count = 0;
-    let mut place = 0;
-    while place < pattern.len() {
-        count += escapes_at(&pattern[place..]);
-        place += 1;
-    }
-    count
 }

@@ -1,5 +1,5 @@
 // The records of a robots file, and the rules of its groups.
-ghost use Rattle.std.specs.Prelude.{◌≡◌, ◌↔◌, IfOk, true, []};
+ghost use Rattle.std.specs.Prelude.{◌≡◌, ◌↔◌, nat_lt, IfOk, true, []};
 ghost use Rattle.std.specs.Str.{IsAscii, str_eq_ignore_ascii_case};
 ghost use Rattle.iri_robots.specs.Compared.{compared};
 ghost use Rattle.iri_robots.specs.FileLines.{line_of};
@@ -10,8 +10,8 @@ ghost use Rattle.iri_robots.specs.inside.BestRule.{IsBestOf};
 ghost use Rattle.iri_robots.specs.Stored.{record_text, record_texts, optional_record};
 
 use crate::compared::compared_form;
+use crate::escape::has_more_escapes;
 use crate::line::{Said, read_line};
-use crate::pattern::escapes;
 use crate::rule::{Best, Rule, decides, judge};
 use std::alloc::{AllocError, Global};
 
@@ -54,13 +54,13 @@ pub(crate) fn line_record(alloc: Global, line: &[u8]) -> Result<Option<Record>, 
     }
 }
 
-// How many escapes the pattern of a record has, where there is one.
-pub(crate) fn escapes_of(record: &Option<Record>) -> usize
-    ensures { result ≡ records_escapes (optional_record record.now) }
+// Whether the pattern of a line's rule has more escapes than so many.
+pub(crate) fn line_has_more_escapes(line: &[u8], most: usize) -> bool
+    ensures { result ≡ nat_lt most (records_escapes (line_records (line_of line.now))) }
 {
-    match record {
-        Some(Record::Judged(rule)) => escapes(rule.pattern.as_bytes()),
-        _ => 0,
+    match read_line(line) {
+        Said::Allow(pattern) | Said::Disallow(pattern) => has_more_escapes(pattern, most),
+        Said::UserAgent(_) | Said::Nothing => false,
     }
 }
 

@@ -6,7 +6,7 @@ ghost use Rattle.iri_robots.specs.Allowed.{IsAllowed};
 ghost use Rattle.iri_robots.specs.Stored.{record_texts, optional_record};
 
 use crate::line::token_len;
-use crate::record::{Record, escapes_of, is_allowed, line_record};
+use crate::record::{Record, is_allowed, line_has_more_escapes, line_record};
 use std::alloc::{AllocError, Global};
 use thiserror::Error;
 
@@ -143,7 +143,7 @@ impl Robots {
     ///
     /// Nothing has changed then.
     ///
-    /// - `Escapes` exactly where the rule has more escapes.
+    /// - `Escapes` exactly where the rule has more escapes, whatever memory there is.
     /// - `Memory` where allocation fails, only where the line has a record.
     ///
     /// ```
@@ -160,16 +160,13 @@ impl Robots {
             (λ _. record_texts self.new.records.items ≡ record_texts self.old.records.items) }
         ensures escapes { MatchResult result (λ _. records_escapes (line_records (line_of line.now)) ≤ most)
             (λ e. e ≡ LineError.Escapes → most < records_escapes (line_records (line_of line.now))) }
+        ensures refused { most < records_escapes (line_records (line_of line.now)) → result ≡ Err LineError.Escapes }
         ensures none { line_records (line_of line.now) ≡ [] → result ≡ Ok tt }
     {
-        let record = match line_record(self.alloc, line) {
-            Ok(record) => record,
-            Err(e) => return Err(LineError::Memory(e)),
-        };
-        if most < escapes_of(&record) {
+        if line_has_more_escapes(line, most) {
             return Err(LineError::Escapes);
         }
-        match self.store(record) {
+        match self.feed_line(line) {
             Ok(()) => Ok(()),
             Err(e) => Err(LineError::Memory(e)),
         }

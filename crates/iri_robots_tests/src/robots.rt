@@ -341,6 +341,10 @@ fn rules_of_many_escapes(rt: HostRuntime) -> Result<(), Fail> {
         ("disallow: /$b%252a", 1, "/$b%252a", true),
         ("disallow: /$b%252a", 0, "/$b%252a", false),
         ("disallow: /*a*b", 0, "/xaxb", true),
+        ("disallow: /%%32A", 1, "/%2A", true),
+        ("disallow: /%%32A", 0, "/%2A", false),
+        ("disallow: /\u{e9}%2%41$", 2, "/%C3%A9%2A", true),
+        ("disallow: /\u{e9}%2%41$", 1, "/%C3%A9%2A", false),
     ] {
         let mut robots = fed(rt.alloc(), "a", &["user-agent: a"])?;
         match robots.feed_line_within(rule.as_bytes(), most) {
@@ -397,13 +401,34 @@ fn kept_where_memory_is_refused(rt: HostRuntime) -> Result<(), Fail> {
     Ok(())
 }
 
+// By the laws: rules before the first user-agent line are of no group, the robots file and what no rule speaks of are
+// allowed, and an empty pattern matches nothing.
 #[test]
-fn laws_hold() {
-    question_marks_part_forms();
+fn laws_of_rules(rt: HostRuntime) -> Result<(), Fail> {
     first_rules_are_of_no_group();
     what_is_allowed_always();
     empty_patterns_match_nothing();
     rules_are_decided();
+    let none = fed(rt.alloc(), "a", &[])?;
+    let first = fed(rt.alloc(), "a", &["disallow: /x", "user-agent: a"])?;
+    let all = fed(rt.alloc(), "a", &["user-agent: a", "disallow: /"])?;
+    assert!(rt; allows(&none, "/x"));
+    assert!(rt; allows(&first, "/x"));
+    assert!(rt; !allows(&all, "/x"));
+    assert!(rt; allows(&all, "/robots.txt"));
+    assert!(rt; !matches(b"", b"/x"));
+    Ok(())
+}
+
+// By the law of question marks, the subject of a path and a query is that of the path, a `?`, and the query's form.
+#[test]
+fn question_marks(rt: HostRuntime) -> Result<(), Fail> {
+    question_marks_part_forms();
+    let path = subject::<UriSpec>(rt.alloc(), "http://a/%7e%3f")?;
+    let whole = subject::<UriSpec>(rt.alloc(), "http://a/%7e%3f?%7e%3f")?;
+    same(&rt, path.as_str(), "/~%3F");
+    same(&rt, whole.as_str(), "/~%3F?~%3F");
+    Ok(())
 }
 
 fn subject<'a, S: Spec>(alloc: Global, target: &'a str) -> Result<String, Fail> {

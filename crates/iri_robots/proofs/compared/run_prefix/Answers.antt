@@ -1,4 +1,4 @@
-use Rattle.std.proofs.Common.{◌≡◌, ◌≤◌, length, take, sym, subst, ap, ◌∙◌, length-take-le}
+use Rattle.std.proofs.Common.{◌≤◌, length, take, sym, subst, ap, ◌∙◌, length-take-le}
 use Rattle.std.specs.Str.{IsUtf8}
 use Rattle.std.proofs.lemmas.Str.{IsUtf8-from_ascii}
 use Rattle.iri_grammar.specs.Runs.{run_of}

@@ -1,0 +1,152 @@
+-- Escapes, counted byte by byte.
+use Rattle.std.proofs.Common.{◌≡◌, ℕ, ◌+◌, ◌-◌, ◌<◌, ◌||◌, Bool, true, false, cond, List, [], ◌∷◌, ◌++◌, length, drop, get_or, Some, None}
+use Rattle.std.proofs.Common.{refl, sym, ◌∙◌, ap, subst, arith, zero-add, add-one, drop-cons}
+use Rattle.std.specs.Prelude.{◌==◌, nat_lt}
+use Rattle.std.proofs.lemmas.Bool.Decides.{nat_tests}
+use Rattle.iri_robots.specs.Compared.{compared}
+use Rattle.iri_robots.specs.Patterns.{begins_escape, escapes}
+use Rattle.iri_robots.specs.inside.EscapeScans.{begun_then, begun_after, ends_escape, Counts}
+use Rattle.iri_robots.specs.declared.escape.Begun.{Begun}
+use Rattle.iri_robots.specs.declared.escape.Begun.TheVariants.{Nothing, Percent, PercentTwo}
+use Rattle.iri_robots.specs.declared.escape.Scan.{Scan}
+use Rattle.iri_robots.proofs.Forms.{compared_nil}
+
+-- ---- one byte
+same_byte : (b k : ℕ) → (b == k) ≡ true → b ≡ k
+same_byte b k e = grind (arith, nat_tests)
+
+other_way : (b k : ℕ) → (b == k) ≡ false → (k == b) ≡ false
+other_way b k e = grind (arith, nat_tests)
+
+-- a byte is this one, or another
+by_byte : (b k : ℕ) (P : ℕ → Type 0) → P k → ((b == k) ≡ false → P b) → P b
+by_byte b k P at other =
+    elim (b == k) as (λ v. (b == k) ≡ v → P b) [
+      | true ↦ λ e. subst P (sym (same_byte b k e)) at
+      | false ↦ λ e. other e
+    ] refl
+
+-- a byte that begins no triplet
+plain : (b : ℕ) (rest : List ℕ) → (b == 37) ≡ false → escapes (b ∷ rest) ≡ cond (b == 36) 1 0 + escapes rest
+unfolding escapes
+plain b rest e =
+    by_byte b 36 (λ b. (37 == b) ≡ false → cond (begins_escape (b ∷ rest)) 1 0 + escapes rest ≡ cond (b == 36) 1 0 + escapes rest) (λ h. refl)
+    (λ f h. rw (h, other_way b 36 f, f) refl) (other_way b 37 e)
+
+-- what follows a `%` or `%2` and ends no triplet
+past_percent : (b : ℕ) (rest : List ℕ) → (b == 50) ≡ false → escapes (37 ∷ b ∷ rest) ≡ escapes (b ∷ rest)
+unfolding escapes
+past_percent b rest e = rw (other_way b 50 e) (zero-add _)
+
+past_two : (b : ℕ) (rest : List ℕ) → (b == 65) ≡ false → (b == 52) ≡ false → escapes (37 ∷ 50 ∷ b ∷ rest) ≡ escapes (b ∷ rest)
+unfolding escapes
+past_two b rest e f = rw (other_way b 65 e, other_way b 52 f) (zero-add _ ∙ zero-add _)
+
+-- a byte that ends an escape counts, and what is begun then goes on
+abbrev GoesOn : Begun → List ℕ → ℕ → Type 0
+GoesOn begun rest b =
+    escapes (begun_then begun (b ∷ rest)) ≡ cond (ends_escape begun b) 1 0 + escapes (begun_then (begun_after begun b) rest)
+
+after_percent : (rest : List ℕ) → GoesOn Percent rest 37
+unfolding escapes
+after_percent rest = refl
+
+at_star : (rest : List ℕ) → GoesOn PercentTwo rest 65
+unfolding escapes
+at_star rest = ap (λ n. 1 + n) (zero-add _ ∙ zero-add _)
+
+at_dollar : (rest : List ℕ) → GoesOn PercentTwo rest 52
+unfolding escapes
+at_dollar rest = ap (λ n. 1 + n) (zero-add _ ∙ zero-add _)
+
+or_none : (v : Bool) → ◌≡◌ {A = ℕ} (cond v 1 0) (cond (v || (false || false)) 1 0)
+or_none true = refl
+or_none false = refl
+
+other_third : (b : ℕ) (rest : List ℕ) → (b == 65) ≡ false → (b == 52) ≡ false → (b == 37) ≡ false → GoesOn PercentTwo rest b
+other_third b rest e f h = rw (e, f, h) (past_two b rest e f ∙ plain b rest h ∙ ap (λ n. n + escapes rest) (or_none (b == 36)))
+
+goes_on : (begun : Begun) (b : ℕ) (rest : List ℕ) → GoesOn begun rest b
+goes_on Nothing b rest = by_byte b 37 (GoesOn Nothing rest) (sym (zero-add _)) (λ e. rw e (plain b rest e))
+goes_on Percent b rest =
+    by_byte b 37 (GoesOn Percent rest) (after_percent rest)
+    (λ e. by_byte b 50 (λ b. (b == 37) ≡ false → GoesOn Percent rest b) (λ h. sym (zero-add _))
+    (λ f h. rw (h, f) (past_percent b rest f ∙ plain b rest h)) e)
+goes_on PercentTwo b rest =
+    by_byte b 65 (GoesOn PercentTwo rest) (at_star rest)
+    (λ e. by_byte b 52 (λ b. (b == 65) ≡ false → GoesOn PercentTwo rest b) (λ _. at_dollar rest)
+    (λ f e. by_byte b 37 (λ b. (b == 65) ≡ false → (b == 52) ≡ false → GoesOn PercentTwo rest b)
+    (λ _ _. past_two 37 rest refl refl ∙ sym (zero-add _)) (λ h e f. other_third b rest e f h) e f) e)
+
+-- ---- one byte, of a scan
+pub reads_plain : (a : Scan) (b : ℕ) → ends_escape a.begun b ≡ false
+    → Counts a (b ∷ []) (Some (record { room = a.room; begun = begun_after a.begun b }))
+reads_plain a b e rest =
+    let one = goes_on a.begun b rest ∙ ap (λ v. cond v 1 0 + escapes (begun_then (begun_after a.begun b) rest)) e in
+    omega (arith, one)
+
+pub reads_escape : (a : Scan) (b : ℕ) → ends_escape a.begun b ≡ true → 0 < a.room
+    → Counts a (b ∷ []) (Some (record { room = a.room - 1; begun = begun_after a.begun b }))
+reads_escape a b e some rest =
+    let one = goes_on a.begun b rest ∙ ap (λ v. cond v 1 0 + escapes (begun_then (begun_after a.begun b) rest)) e in
+    omega (arith, one, some)
+
+pub reads_too_many : (a : Scan) (b : ℕ) → ends_escape a.begun b ≡ true → a.room ≡ 0 → Counts a (b ∷ []) None
+reads_too_many a b e none rest =
+    let one = goes_on a.begun b rest ∙ ap (λ v. cond v 1 0 + escapes (begun_then (begun_after a.begun b) rest)) e in
+    omega (arith, one, none)
+
+-- ---- bytes from a place on
+abbrev pub AreCounted : Scan → List ℕ → Scan → ℕ → Type 0
+AreCounted a bytes b i = (rest : List ℕ)
+    → a.room + escapes (begun_then b.begun (drop i bytes ++ rest)) ≡ b.room + escapes (begun_then a.begun (bytes ++ rest))
+
+from_place : (bytes : List ℕ) (i : ℕ) (rest : List ℕ) → i < length bytes
+    → drop i bytes ++ rest ≡ get_or bytes i 0 ∷ (drop (i + 1) bytes ++ rest)
+from_place bytes i rest h = rw (add-one, drop-cons bytes i 0) refl
+
+pub counted_more : (a b c : Scan) (bytes : List ℕ) (i : ℕ) → i < length bytes → AreCounted a bytes b i
+    → Counts b (get_or bytes i 0 ∷ []) (Some c) → AreCounted a bytes c (i + 1)
+counted_more a b c bytes i h so_far one rest =
+    let here = so_far rest in
+    let there = one (drop (i + 1) bytes ++ rest) in
+    let same = ap (λ t. escapes (begun_then b.begun t)) (from_place bytes i rest h) in
+    omega (arith, here, there, same)
+
+pub counted_too_many : (a b : Scan) (bytes : List ℕ) (i : ℕ) → i < length bytes → AreCounted a bytes b i
+    → Counts b (get_or bytes i 0 ∷ []) None → Counts a bytes None
+counted_too_many a b bytes i h so_far one rest =
+    let here = so_far rest in
+    let there = one (drop (i + 1) bytes ++ rest) in
+    let same = ap (λ t. escapes (begun_then b.begun t)) (from_place bytes i rest h) in
+    omega (arith, here, there, same)
+
+-- ---- the end of a pattern
+nothing_left : (begun : Begun) → escapes (begun_then begun (compared [])) ≡ 0
+unfolding escapes
+nothing_left Nothing = rw compared_nil refl
+nothing_left Percent = rw compared_nil refl
+nothing_left PercentTwo = rw compared_nil refl
+
+pub no_more : (most room : ℕ) (begun : Begun) (left pattern : List ℕ) → left ≡ []
+    → most + escapes (begun_then begun (compared left)) ≡ room + escapes (compared pattern)
+    → false ≡ nat_lt most (escapes (compared pattern))
+no_more most room begun left pattern end counted =
+    let none = ap (λ t. escapes (begun_then begun (compared t))) end ∙ nothing_left begun in
+    grind (arith, nat_tests)
+
+pub too_many : (most : ℕ) (scan : Scan) (left written after pattern : List ℕ) → compared left ≡ written ++ after
+    → most + escapes (begun_then scan.begun (compared left)) ≡ scan.room + escapes (compared pattern) → Counts scan written None
+    → true ≡ nat_lt most (escapes (compared pattern))
+too_many most scan left written after pattern text counted more =
+    let here = more after in
+    let same = ap (λ t. escapes (begun_then scan.begun t)) text in
+    grind (arith, nat_tests)
+
+pub counted_on : (most : ℕ) (scan next : Scan) (left written rest pattern : List ℕ) → compared left ≡ written ++ compared rest
+    → most + escapes (begun_then scan.begun (compared left)) ≡ scan.room + escapes (compared pattern) → Counts scan written (Some next)
+    → most + escapes (begun_then next.begun (compared rest)) ≡ next.room + escapes (compared pattern)
+counted_on most scan next left written rest pattern text counted more =
+    let here = more (compared rest) in
+    let same = ap (λ t. escapes (begun_then scan.begun t)) text in
+    omega (arith, here, same, counted)
