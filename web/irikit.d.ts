@@ -1,56 +1,39 @@
 /** Canonical texts of URI and IRI references (RFC 3986, RFC 3987), by a proved library as WebAssembly. */
 
-/** A text; bytes are read as UTF-8. A lone surrogate of a string is read as U+FFFD, which no grammar takes. */
+/** A text; bytes are read as UTF-8. A string with a lone surrogate is refused, as bytes are that aren't UTF-8. */
 export type Text = string | Uint8Array;
 
-/** The grammars: RFC 3986, ASCII alone; RFC 3987, characters past ASCII too. */
-export type Grammar = 0 | 1;
-export const URI: 0;
-export const IRI: 1;
+// A name that is none of those below, or a value of another type than is said, is a `TypeError` of each call.
 
-/**
- * The modes of normal form: by RFC 3986 section 6.2.2, without an empty port; by rules of http, https, ws, wss and ftp too
- * (section 6.2.3). `PRESERVING` is as the first, but that a path without authority which doesn't begin with a slash keeps its
- * dot segments; it is of `normalize` and `isNormalized` alone.
- */
-export type Mode = 0 | 1;
-export const NORMAL: 0;
-export const BY_SCHEME: 1;
-export const PRESERVING: 2;
+/** The grammars: RFC 3986, ASCII alone; RFC 3987, characters past ASCII too. */
+export type Grammar = "uri" | "iri";
+
+/** The modes of normal form: by RFC 3986 section 6.2.2, without an empty port; by rules of http, https, ws, wss and ftp too
+ * (section 6.2.3). */
+export type Mode = "normal" | "scheme";
+
+/** As `"normal"`, but that a path without authority which doesn't begin with a slash keeps its dot segments. */
+export type Preserving = "preserving";
 
 /** The kinds of texts (RFC 3986): URI-reference, URI, absolute-URI (a scheme, no fragment), relative-ref. */
-export type Kind = 0 | 1 | 2 | 3;
-export const REFERENCE: 0;
-export const WITH_SCHEME: 1;
-export const ABSOLUTE: 2;
-export const RELATIVE: 3;
+export type Kind = "reference" | "with-scheme" | "absolute" | "relative";
 
 /**
  * The places of a reference, by what stands as it is there beside unreserved characters: `sub-delims` in a reg-name and in a user;
  * those, `:` and `@` in a segment; `/` too in a path; `?` too in a query and a fragment; nothing else anywhere; every reserved
  * character in a reference.
  */
-export type Place = 0 | 1 | 2 | 3 | 4 | 5 | 6 | 7;
-export const IN_REG_NAME: 0;
-export const IN_USER: 1;
-export const IN_SEGMENT: 2;
-export const IN_PATH: 3;
-export const IN_QUERY: 4;
-export const IN_FRAGMENT: 5;
-export const ANYWHERE: 6;
-export const IN_REFERENCE: 7;
+export type Place = "reg-name" | "user" | "segment" | "path" | "query" | "fragment" | "anywhere" | "reference";
 
-/**
- * The kinds of faults: an invalid scheme 0, userinfo 1, host 2, reg-name 3, port 4, path 5, query 6 or fragment 7; an
- * unexpected fragment 8; no scheme where one must stand 9; bytes that are no UTF-8 10.
- */
-export type Fault = 0 | 1 | 2 | 3 | 4 | 5 | 6 | 7 | 8 | 9 | 10;
+/** The kinds of faults: of a part; a fragment in an absolute URI; no scheme where one must stand; bytes that are no UTF-8. */
+export type Fault =
+  | "invalid-scheme" | "invalid-userinfo" | "invalid-host" | "invalid-reg-name" | "invalid-port" | "invalid-path"
+  | "invalid-query" | "invalid-fragment" | "unexpected-fragment" | "unexpected-relative" | "invalid-utf8";
 
-/**
- * The kinds of faults of templates: an expression that isn't closed 0; an invalid character 1, expression 2 or percent-encoding
- * 3; bytes that are no UTF-8 4; a prefix modifier on a list, or on pairs, that isn't empty 5; an unsupported operator 6.
- */
-export type TemplateFault = 0 | 1 | 2 | 3 | 4 | 5 | 6;
+/** The kinds of faults of templates; an unexpected type of value is a list, or pairs, under a prefix modifier. */
+export type TemplateFault =
+  | "expression-not-closed" | "invalid-character" | "invalid-expression" | "invalid-percent-encoding" | "invalid-utf8"
+  | "unexpected-value-type" | "unsupported-operator";
 
 /** The parts that stand in a reference, without the delimiters around them; the last three are those of the authority. */
 export interface Parts {
@@ -77,29 +60,29 @@ export interface GivenParts {
 }
 
 /**
- * The value of a variable (RFC 6570 section 2.3): none, a text, a list, or pairs of keys and values in their order. A number
- * stands for its decimal digits, and what isn't there in a list or a pair is passed over.
+ * The value of a variable (RFC 6570 section 2.3): none, a text, a list, or pairs of keys and values in their order, which a plain
+ * object has or a `Map`. A finite number stands for its digits, and what isn't there in a list or a pair is passed over.
  */
-export type Value = Item | readonly Item[] | { readonly [key: string]: Item } | ReadonlyMap<Text, Item>;
-export type Item = Text | number | null | undefined;
+export type Value = Item | readonly Item[] | { readonly [key: string]: Item } | ReadonlyMap<Text | number | bigint, Item>;
+export type Item = Text | number | bigint | null | undefined;
 
 /** The variables of a template by their names. Of two with one name the first counts. */
 export type Variables = { readonly [name: string]: Value } | ReadonlyMap<Text, Value>;
 
 /** A text is refused; the message has the words for its first fault from the left. */
 export class Refused extends Error {
-  /**
-   * Which text: `part` what is to stand in it, `variable` one of a template's, `call` where a number stands for no grammar, mode,
-   * kind, place or fault.
-   */
-  readonly whose: "base" | "reference" | "text" | "part" | "template" | "variable" | "call";
+  /** Which text: `part` what is to stand in it, `variable` one of a template's. */
+  readonly whose: "base" | "reference" | "text" | "part" | "template" | "variable";
   /** The kind of the fault, that of a template where `whose` is `template`; null where a text has none, but isn't as asked. */
   readonly fault: Fault | TemplateFault | null;
   /** Of a template the place of its fault, in bytes; of a variable its index; null of others. */
   readonly place: number | null;
 }
 
-/** The library. A kit serves one call after the other, and keeps nothing but the last base or what else came first. */
+/**
+ * The library. A kit serves one call after the other, and keeps nothing but the last base or what else came first. A text for which
+ * the engine gives no memory is a `RangeError`, and the next call is served as before.
+ */
 export class Kit {
   private constructor();
 
@@ -113,8 +96,14 @@ export class Kit {
   canonical(base: Text, reference: Text, grammar?: Grammar, mode?: Mode): string;
 
   /**
-   * What `canonical` gives for each of many lines, in one call: `ok TEXT` or `bad WORDS` and an LF for each line that an LF ends.
-   * One CR before the LF isn't part of the line, and what follows the last LF is left alone.
+   * What `canonical` gives for each of many references; null for one that is refused, or has no room in the memory.
+   * @throws {Refused} for the first fault of the base
+   */
+  canonicalMany(base: Text, references: Iterable<Text>, grammar?: Grammar, mode?: Mode): (string | null)[];
+
+  /**
+   * What `canonical` gives for each of many lines, in one call: `ok TEXT` or `bad WORDS` and an LF for each line. An LF ends a
+   * line, and so does the end where a byte stands before it; one CR before either isn't part of the line.
    * @throws {Refused} for the first fault of the base
    */
   canonicalLines(base: Text, lines: Text, grammar?: Grammar, mode?: Mode): string;
@@ -135,7 +124,7 @@ export class Kit {
    * The normal form of a text with a scheme.
    * @throws {Refused} where it isn't one with a scheme
    */
-  normalize(text: Text, grammar?: Grammar, mode?: Mode | typeof PRESERVING): string;
+  normalize(text: Text, grammar?: Grammar, mode?: Mode | Preserving): string;
 
   /**
    * The steps that lead a text with a scheme to its normal form, from left to right and in words: `scheme letter N`, `host letter
@@ -149,7 +138,7 @@ export class Kit {
    * Whether a text with a scheme is its own normal form.
    * @throws {Refused} where it isn't one with a scheme
    */
-  isNormalized(text: Text, grammar?: Grammar, mode?: Mode | typeof PRESERVING): boolean;
+  isNormalized(text: Text, grammar?: Grammar, mode?: Mode | Preserving): boolean;
 
   /** The kind of the first fault of a text that isn't of a kind; null where it is. */
   validate(text: Text, kind?: Kind, grammar?: Grammar): Fault | null;
@@ -157,7 +146,6 @@ export class Kit {
   /**
    * The part of a text that has a fault, as `validate` or a refusal tells it of that text, and how many bytes of the text's UTF-8
    * stand before it; null where the text has no such part. The kind is that of text which was wanted.
-   * @throws {Refused} where no fault or kind has the number
    */
   faultPart(text: Text, fault: Fault, kind?: Kind): { place: number; part: string } | null;
 
@@ -231,7 +219,10 @@ export class Kit {
    */
   encode(text: Text, place: Place, grammar?: Grammar): string;
 
-  /** The bytes that a text decodes to; a `%` that begins no percent-encoded octet stays. */
+  /**
+   * The bytes that a text decodes to; a `%` that begins no percent-encoded octet stays.
+   * @throws {Refused} where a string has a lone surrogate, which has no bytes
+   */
   decode(text: Text): Uint8Array;
 
   // Templates.
@@ -250,18 +241,19 @@ export class Kit {
 
   // Words.
 
-  /**
-   * The words for a kind of fault.
-   * @throws {Refused} where no kind has this number
-   */
+  /** The words for a kind of fault. */
   faultWords(fault: Fault): string;
 
-  /**
-   * The words for a kind of fault of a template.
-   * @throws {Refused} where no kind has this number
-   */
+  /** The words for a kind of fault of a template. */
   templateFaultWords(fault: TemplateFault): string;
 }
 
-/** Opens the library: from `irikit.wasm` beside this file, or from its bytes or a response that has them. */
-export function open(source?: BufferSource | Response | Promise<BufferSource | Response>): Promise<Kit>;
+/** What has the module's bytes, as a `Response` and a `Blob` have them. */
+export interface HasBytes {
+  arrayBuffer(): Promise<ArrayBuffer>;
+}
+
+export type Source = ArrayBuffer | ArrayBufferView | HasBytes;
+
+/** Opens the library: from `irikit.wasm` beside this file, or from its bytes or what has them. */
+export function open(source?: Source | Promise<Source>): Promise<Kit>;

@@ -3,29 +3,50 @@
 //
 // A text crosses as UTF-8 in the module's own memory, after what the module itself uses there: first come `told` (8 bytes) and
 // the parts of a split (128), whose first 8 bytes are also what some calls tell besides; then the base, or another text that comes
-// first, which stays for the next call; then another text, or structs and their texts; and last what is written. Each has its
-// place, which moves only where one needs more room.
+// first, which stays for the next call; then another text, or structs and their texts; and last, up to the memory's end, what is
+// written. Each has its place, which moves only where one needs more room.
 
-const URI = 0, IRI = 1;
-const NORMAL = 0, BY_SCHEME = 1, PRESERVING = 2;
-const REFERENCE = 0, WITH_SCHEME = 1, ABSOLUTE = 2, RELATIVE = 3;
-const IN_REG_NAME = 0, IN_USER = 1, IN_SEGMENT = 2, IN_PATH = 3, IN_QUERY = 4, IN_FRAGMENT = 5, ANYWHERE = 6, IN_REFERENCE = 7;
+// Names for numbers of include/irikit.h, which count on from the first one.
+class Names {
+  #what; #first; #names; #numbers;
 
-const OK = 0, SHORT = 1, NOT_NORMAL = 2, BAD_TEXT = 3, BAD_BASE = 4, BAD_REFERENCE = 5, UNKNOWN = 6, BAD_VARIABLE = 7, BAD_PART = 8;
-const NO_HOST = 9;
+  constructor(what, first, names) {
+    [this.#what, this.#first, this.#names] = [what, first, names.split(" ")];
+    this.#numbers = new Map(this.#names.map((name, i) => [name, first + i]));
+  }
+
+  numberOf(name) {
+    const number = this.#numbers.get(name);
+    if (number !== undefined) return number;
+    const given = typeof name === "string" ? JSON.stringify(name) : typeOf(name);
+    throw new TypeError(`${given} is no ${this.#what}, which is one of ${this.#names.join(", ")}`);
+  }
+
+  nameOf(number) {
+    return this.#names[number - this.#first];
+  }
+}
+
+const VERSION = 200;
+const GRAMMARS = new Names("grammar", 100, "uri iri");
+const MODES = new Names("mode", 200, "normal scheme preserving"), RESOLVING = new Names("mode", 200, "normal scheme");
+const KINDS = new Names("kind of text", 300, "reference with-scheme absolute relative");
+const PLACES = new Names("place", 400, "reg-name user segment path query fragment anywhere reference");
+const FAULTS = new Names("fault", 500, "invalid-scheme invalid-userinfo invalid-host invalid-reg-name invalid-port invalid-path " +
+  "invalid-query invalid-fragment unexpected-fragment unexpected-relative invalid-utf8");
+const VALUES = new Names("kind of value", 600, "undefined string list pairs");
+const TEMPLATE_FAULTS = new Names("fault of a template", 700, "expression-not-closed invalid-character invalid-expression " +
+  "invalid-percent-encoding invalid-utf8 unexpected-value-type unsupported-operator");
+const GIVEN = new Names("part", 800, "scheme userinfo host port path query fragment");
+const OK = 0, SHORT = 1, NOT_NORMAL = 2, BAD_TEXT = 3, BAD_BASE = 4, BAD_REFERENCE = 5, BAD_VARIABLE = 7, BAD_PART = 8, NO_HOST = 9;
+
 const WHOSE = { [BAD_TEXT]: "text", [BAD_BASE]: "base", [BAD_REFERENCE]: "reference", [BAD_PART]: "part" };
-const WITHOUT_FAULT = {
-  [UNKNOWN]: ["call", "no such number"], [BAD_VARIABLE]: ["variable", "a text that isn't UTF-8"],
-  [NO_HOST]: ["text", "no host to replace"],
-};
 const PARTS = ["scheme", "authority", "path", "query", "fragment", "userinfo", "host", "port"];
-const GIVEN = ["scheme", "userinfo", "host", "port", "path", "query", "fragment"];
-const UNDEFINED = 0, STRING = 1, LIST = 2, PAIRS = 3;
 // The offset of a part that doesn't stand has ones alone; its lower half does for a memory below 4 GiB.
 const NOWHERE = 2 ** 32 - 1;
-const PAGE = 65536, WORDS = 2 + 4 * PARTS.length;
+const PAGE = 65536, WORDS = 2 + 4 * PARTS.length, LF = 10;
 
-const encoder = new TextEncoder(), decoder = new TextDecoder();
+const encoder = new TextEncoder(), decoder = new TextDecoder("utf-8", { ignoreBOM: true });
 
 class Refused extends Error {
   constructor(whose, fault, words, place = null) {
@@ -46,45 +67,72 @@ async function bytesBeside() {
 
 async function open(source = bytesBeside()) {
   const given = await source;
-  const bytes = given instanceof Response ? await given.arrayBuffer() : given;
-  return new Kit((await WebAssembly.instantiate(bytes, {})).instance.exports);
+  const bytes = typeof given?.arrayBuffer === "function" ? await given.arrayBuffer() : given;
+  const calls = (await WebAssembly.instantiate(bytes, {})).instance.exports;
+  if (calls.irikit_version?.() !== VERSION) throw new Error("the module is that of another version of irikit");
+  return new Kit(calls);
 }
 
-// At most how many bytes a text has as UTF-8.
-function most(text) {
-  if (typeof text === "string") return 3 * text.length;
+const typeOf = (value) => (value === null ? "null" : typeof value);
+
+// For how many bytes a text asks: three for each unit of a string, or as many as it has where these have no room.
+function bytesOf(text, room) {
+  if (typeof text === "string") return 3 * text.length <= room ? 3 * text.length : encoder.encode(text).length;
   if (text instanceof Uint8Array) return text.length;
-  throw new TypeError(`${text === null ? "null" : typeof text} is no text: a string or a Uint8Array`);
+  throw new TypeError(`${typeOf(text)} is no text: a string or a Uint8Array`);
 }
 
 // Puts a text into bytes that have room for it, and returns its length there.
 function put(text, bytes) {
-  if (typeof text === "string") return encoder.encodeInto(text, bytes).written;
-  bytes.set(text);
-  return text.length;
+  if (typeof text !== "string") {
+    bytes.set(text);
+    return text.length;
+  }
+  const { read, written } = encoder.encodeInto(text, bytes);
+  if (read < text.length) throw new RangeError("a text has no room in the module's memory");
+  if (written > text.length && !text.isWellFormed()) spoil(text, bytes);
+  return written;
+}
+
+// Puts bytes that no UTF-8 has where the encoder put U+FFFD for a lone surrogate, so that the module refuses them.
+function spoil(text, bytes) {
+  let at = 0;
+  for (const character of text) {
+    const code = character.codePointAt(0), end = at + 1 + (code > 0x7f) + (code > 0x7ff) + (code > 0xffff);
+    if (code >= 0xd800 && code <= 0xdfff) bytes.fill(0xff, at, end);
+    at = end;
+  }
 }
 
 const isGiven = (value) => value !== undefined && value !== null;
-const entriesOf = (pairs) => (pairs instanceof Map ? [...pairs] : Object.entries(pairs));
-const asText = (value) => (typeof value === "number" ? String(value) : value);
+
+// Whether a value is an object of names alone, and none of a class.
+function isPlain(value) {
+  if (Object.prototype.toString.call(value) !== "[object Object]") return false;
+  const above = Object.getPrototypeOf(value);
+  return above === null || Object.getPrototypeOf(above) === null;
+}
+
+function entriesOf(pairs) {
+  if (pairs instanceof Map) return [...pairs];
+  if (isPlain(pairs)) return Object.entries(pairs);
+  throw new TypeError(`${typeOf(pairs)} has no names: a plain object or a Map has`);
+}
+
+const asText = (value) => (typeof value === "bigint" || Number.isFinite(value) ? String(value) : value);
 
 // The kind of a variable's value and its texts, a key before what belongs to it.
 function kindAndTexts(value) {
-  if (!isGiven(value)) return [UNDEFINED, []];
-  if (typeof value !== "object" || value instanceof Uint8Array) return [STRING, [asText(value)]];
-  if (Array.isArray(value)) return [LIST, value.filter(isGiven).map(asText)];
-  return [PAIRS, entriesOf(value).filter(([, item]) => isGiven(item)).flat().map(asText)];
-}
-
-// The number of a part from which a text is built.
-function partNumber(name) {
-  const number = GIVEN.indexOf(name);
-  if (number < 0) throw new TypeError(`${name} is no part`);
-  return BigInt(number);
+  if (!isGiven(value)) return ["undefined", []];
+  if (Array.isArray(value)) return ["list", value.filter(isGiven).map(asText)];
+  if (!(value instanceof Map) && !isPlain(value)) return ["string", [asText(value)]];
+  return ["pairs", entriesOf(value).filter(([, item]) => isGiven(item)).flat().map(asText)];
 }
 
 // Lines without the LF that ends each.
 const linesOf = (text) => text.split("\n").slice(0, -1);
+
+const eights = (bytes) => 8 * Math.ceil(bytes / 8);
 
 class Kit {
   #calls; #memory; #pages; #start; #told; #slots;
@@ -96,47 +144,59 @@ class Kit {
     this.#memory = calls.memory;
     // A memory of 64-bit addresses counts its pages by BigInts.
     try { this.#memory.grow(0n); this.#pages = BigInt; } catch { this.#pages = Number; }
-    this.#start = Math.ceil(Number(calls.__heap_base.value) / 8) * 8;
+    this.#start = eights(Number(calls.__heap_base.value));
     this.#told = BigInt(this.#start);
     this.#slots = this.#told + 8n;
-    this.#room(4096, 4096);
+    this.#room(4096, 12288);
   }
 
   // Sees that so many bytes have room as a base, as another text, and as what is written: most calls write at most the bytes of
-  // the base, three for each of the text, and 64.
-  #room(base, text, out = 0) {
+  // both, and 64. Where the engine refuses the memory, all stays as it was.
+  #room(base, text, out = base + text + 64) {
     if (base <= this.#baseRoom && text <= this.#textRoom && out <= this.#outRoom) return;
-    if (base > this.#baseRoom) this.#baseRoom = 8 * Math.ceil(Math.max(base, 2 * this.#baseRoom) / 8);
-    if (text > this.#textRoom) this.#textRoom = 8 * Math.ceil(Math.max(text, 2 * this.#textRoom) / 8);
-    this.#outRoom = Math.max(out, this.#outRoom, this.#baseRoom + 3 * this.#textRoom + 64);
-    const baseAt = this.#start + 4 * WORDS, textAt = baseAt + this.#baseRoom, outAt = textAt + this.#textRoom;
-    const lacking = outAt + this.#outRoom - this.#memory.buffer.byteLength;
-    if (lacking > 0) this.#memory.grow(this.#pages(Math.ceil(lacking / PAGE)));
-    this.#bytes = new Uint8Array(this.#memory.buffer);
-    this.#words = new Uint32Array(this.#memory.buffer, this.#start, WORDS);
-    this.#cells = new BigUint64Array(this.#memory.buffer, textAt, this.#textRoom / 8);
+    const baseRoom = eights(Math.max(base, this.#baseRoom)), textRoom = eights(Math.max(text, this.#textRoom));
+    const baseAt = this.#start + 4 * WORDS, textAt = baseAt + baseRoom, outAt = textAt + textRoom;
+    this.#grow(outAt + out);
+    const { buffer } = this.#memory;
+    [this.#baseRoom, this.#textRoom, this.#outRoom] = [baseRoom, textRoom, buffer.byteLength - outAt];
+    this.#bytes = new Uint8Array(buffer);
+    this.#words = new Uint32Array(buffer, this.#start, WORDS);
+    this.#cells = new BigUint64Array(buffer, textAt, textRoom / 8);
     this.#baseBytes = this.#bytes.subarray(baseAt, textAt);
     this.#textBytes = this.#bytes.subarray(textAt, outAt);
     [this.#baseAt, this.#textAt, this.#outAt, this.#outSize] = [baseAt, textAt, outAt, this.#outRoom].map(BigInt);
     this.#out = outAt;
   }
 
+  #grow(size) {
+    const lacking = Math.ceil((size - this.#memory.buffer.byteLength) / PAGE);
+    if (lacking <= 0) return;
+    try {
+      this.#memory.grow(this.#pages(lacking));
+    } catch (cause) {
+      throw new RangeError(`the module's memory has no room: ${size} bytes are wanted`, { cause });
+    }
+  }
+
   // Puts the base, unless it is there from an earlier call. The caller may write into an array, so only a string is known again.
   #keep(base) {
     if (base === this.#base) return;
+    this.#base = undefined;
     this.#baseLen = BigInt(put(base, this.#baseBytes));
-    this.#base = typeof base === "string" ? base : undefined;
+    if (typeof base === "string") this.#base = base;
   }
 
   // Puts a text, and returns its length in bytes.
   #put(text) {
-    this.#room(0, most(text));
+    this.#room(0, bytesOf(text, this.#textRoom));
     return BigInt(put(text, this.#textBytes));
   }
 
   // Puts texts where a text is, after so many cells of 8 bytes for structs, and returns the cells of each: its address, its length.
   #putAll(cells, texts) {
-    this.#room(0, texts.reduce((sum, text) => sum + most(text), 8 * cells));
+    const wanted = (room) => texts.reduce((sum, text) => sum + bytesOf(text, room), 8 * cells);
+    const most = wanted(Infinity);
+    this.#room(0, most <= this.#textRoom ? most : wanted(0));
     let at = 8 * cells;
     return texts.map((text) => {
       const begin = at;
@@ -150,9 +210,11 @@ class Kit {
   }
 
   #refusal(status) {
-    const fault = this.#words[0], place = this.#words[2];
-    if (WHOSE[status]) return new Refused(WHOSE[status], fault, this.faultWords(fault));
-    return new Refused(WITHOUT_FAULT[status][0], null, WITHOUT_FAULT[status][1], status === BAD_VARIABLE ? place : null);
+    const number = this.#words[0], place = this.#words[2];
+    if (status === BAD_VARIABLE) return new Refused("variable", null, "a text that isn't UTF-8", place);
+    if (status === NO_HOST) return new Refused("text", null, "no host to replace");
+    const fault = FAULTS.nameOf(number);
+    return new Refused(WHOSE[status], fault, this.faultWords(fault));
   }
 
   // Runs a call that writes a text, and where it wants more room runs it again: what stands before the buffer comes first. The
@@ -174,7 +236,7 @@ class Kit {
   #judge(status) {
     if (status === OK) return;
     if (status !== BAD_TEXT) throw this.#refusal(status);
-    const fault = this.#words[0], place = this.#words[2];
+    const fault = TEMPLATE_FAULTS.nameOf(this.#words[0]), place = this.#words[2];
     throw new Refused("template", fault, this.templateFaultWords(fault), place);
   }
 
@@ -186,23 +248,40 @@ class Kit {
 
   // Calls what writes a text made of two: the first one is put where a base is.
   #madeOfTwo(call, base, text, ...before) {
-    this.#room(most(base), most(text));
+    this.#room(bytesOf(base, this.#baseRoom), bytesOf(text, this.#textRoom));
     this.#keep(base);
     const len = BigInt(put(text, this.#textBytes));
     return this.#written(this.#run(call, ...before, this.#baseAt, this.#baseLen, this.#textAt, len));
   }
 
-  canonical(base, reference, grammar = URI, mode = NORMAL) {
-    return this.#madeOfTwo(this.#calls.irikit_canonical, base, reference, grammar, mode);
+  canonical(base, reference, grammar = "uri", mode = "normal") {
+    const call = this.#calls.irikit_canonical;
+    return this.#madeOfTwo(call, base, reference, GRAMMARS.numberOf(grammar), RESOLVING.numberOf(mode));
   }
 
-  canonicalLines(base, lines, grammar = URI, mode = NORMAL) {
-    this.#room(most(base) + 64, most(lines));
+  canonicalMany(base, references, grammar = "uri", mode = "normal") {
+    if (typeof references === "string") throw new TypeError("a string is no list of references");
+    this.canonical(base, "", grammar, mode);
+    return [...references].map((reference) => {
+      try {
+        return this.canonical(base, reference, grammar, mode);
+      } catch (error) {
+        if (error instanceof Refused || error instanceof RangeError) return null;
+        throw error;
+      }
+    });
+  }
+
+  canonicalLines(base, lines, grammar = "uri", mode = "normal") {
+    const numbers = [GRAMMARS.numberOf(grammar), RESOLVING.numberOf(mode)];
+    this.#room(bytesOf(base, this.#baseRoom), bytesOf(lines, this.#textRoom - 1) + 1);
     this.#keep(base);
-    let left = BigInt(put(lines, this.#textBytes)), at = this.#textAt, answers = "";
+    let len = put(lines, this.#textBytes);
+    if (len > 0 && this.#textBytes[len - 1] !== LF) this.#textBytes[len++] = LF;
+    let left = BigInt(len), at = this.#textAt, answers = "";
     for (;;) {
       const status = this.#calls.irikit_canonical_lines(
-        grammar, mode, this.#baseAt, this.#baseLen, at, left, this.#outAt, this.#outSize, this.#slots, this.#told);
+        ...numbers, this.#baseAt, this.#baseLen, at, left, this.#outAt, this.#outSize, this.#slots, this.#told);
       if (status !== OK && status !== SHORT) throw this.#refusal(status);
       answers += this.#read(this.#out, this.#words[0]);
       if (status === OK) return answers;
@@ -211,46 +290,47 @@ class Kit {
     }
   }
 
-  target(base, reference, grammar = URI) {
-    return this.#madeOfTwo(this.#calls.irikit_target, base, reference, grammar);
+  target(base, reference, grammar = "uri") {
+    return this.#madeOfTwo(this.#calls.irikit_target, base, reference, GRAMMARS.numberOf(grammar));
   }
 
-  resolve(base, reference, grammar = URI) {
-    return this.#madeOfTwo(this.#calls.irikit_resolve, base, reference, grammar);
+  resolve(base, reference, grammar = "uri") {
+    return this.#madeOfTwo(this.#calls.irikit_resolve, base, reference, GRAMMARS.numberOf(grammar));
   }
 
-  normalize(text, grammar = URI, mode = NORMAL) {
-    return this.#made(this.#calls.irikit_normalize, text, grammar, mode);
+  normalize(text, grammar = "uri", mode = "normal") {
+    return this.#made(this.#calls.irikit_normalize, text, GRAMMARS.numberOf(grammar), MODES.numberOf(mode));
   }
 
-  steps(text, grammar = URI, mode = NORMAL) {
-    return linesOf(this.#made(this.#calls.irikit_steps, text, grammar, mode));
+  steps(text, grammar = "uri", mode = "normal") {
+    return linesOf(this.#made(this.#calls.irikit_steps, text, GRAMMARS.numberOf(grammar), RESOLVING.numberOf(mode)));
   }
 
-  isNormalized(text, grammar = URI, mode = NORMAL) {
-    const len = this.#put(text), status = this.#calls.irikit_is_normalized(grammar, mode, this.#textAt, len, this.#told);
+  isNormalized(text, grammar = "uri", mode = "normal") {
+    const numbers = [GRAMMARS.numberOf(grammar), MODES.numberOf(mode)];
+    const len = this.#put(text), status = this.#calls.irikit_is_normalized(...numbers, this.#textAt, len, this.#told);
     if (status !== OK && status !== NOT_NORMAL) throw this.#refusal(status);
     return status === OK;
   }
 
-  validate(text, kind = REFERENCE, grammar = URI) {
-    const len = this.#put(text), status = this.#calls.irikit_validate(grammar, kind, this.#textAt, len, this.#told);
-    if (status === OK) return null;
-    if (status !== BAD_TEXT) throw this.#refusal(status);
-    return this.#words[0];
+  validate(text, kind = "reference", grammar = "uri") {
+    const numbers = [GRAMMARS.numberOf(grammar), KINDS.numberOf(kind)];
+    const len = this.#put(text), status = this.#calls.irikit_validate(...numbers, this.#textAt, len, this.#told);
+    return status === OK ? null : FAULTS.nameOf(this.#words[0]);
   }
 
-  faultPart(text, fault, kind = REFERENCE) {
+  faultPart(text, fault, kind = "reference") {
+    const numbers = [KINDS.numberOf(kind), BigInt(FAULTS.numberOf(fault))];
     const len = this.#put(text);
-    const status = this.#calls.irikit_fault_part(kind, BigInt(fault), this.#textAt, len, this.#slots, this.#told);
-    if (status !== OK) throw this.#refusal(status);
+    this.#calls.irikit_fault_part(...numbers, this.#textAt, len, this.#slots, this.#told);
     const offset = this.#words[2];
     if (offset === NOWHERE) return null;
     return { place: offset, part: this.#read(this.#textBytes.byteOffset + offset, this.#words[4]) };
   }
 
-  split(text, grammar = URI) {
-    const len = this.#put(text), status = this.#calls.irikit_split(grammar, this.#textAt, len, this.#slots, this.#told);
+  split(text, grammar = "uri") {
+    const number = GRAMMARS.numberOf(grammar), len = this.#put(text);
+    const status = this.#calls.irikit_split(number, this.#textAt, len, this.#slots, this.#told);
     if (status !== OK) throw this.#refusal(status);
     const parts = {};
     PARTS.forEach((name, i) => {
@@ -260,69 +340,76 @@ class Kit {
     return parts;
   }
 
-  build(parts, kind = REFERENCE, grammar = URI) {
-    const given = Object.entries(parts).filter(([name, text]) => name !== "authority" && isGiven(text));
+  build(parts, kind = "reference", grammar = "uri") {
+    const numbers = [GRAMMARS.numberOf(grammar), KINDS.numberOf(kind)];
+    const given = entriesOf(parts).filter(([name, text]) => name !== "authority" && isGiven(text));
+    const names = given.map(([name]) => BigInt(GIVEN.numberOf(name)));
     const texts = this.#putAll(3 * given.length, given.map(([, text]) => text));
-    this.#cells.set(given.flatMap(([name], i) => [partNumber(name), ...texts[i]]));
-    return this.#written(this.#run(this.#calls.irikit_build, grammar, kind, this.#textAt, BigInt(given.length)));
+    this.#cells.set(names.flatMap((name, i) => [name, ...texts[i]]));
+    return this.#written(this.#run(this.#calls.irikit_build, ...numbers, this.#textAt, BigInt(given.length)));
   }
 
-  maskPassword(text, grammar = URI) {
-    return this.#made(this.#calls.irikit_mask_password, text, grammar);
+  maskPassword(text, grammar = "uri") {
+    return this.#made(this.#calls.irikit_mask_password, text, GRAMMARS.numberOf(grammar));
   }
 
-  removePassword(text, grammar = URI) {
-    return this.#made(this.#calls.irikit_remove_password, text, grammar);
+  removePassword(text, grammar = "uri") {
+    return this.#made(this.#calls.irikit_remove_password, text, GRAMMARS.numberOf(grammar));
   }
 
-  replacePassword(text, password, grammar = URI) {
-    return this.#madeOfTwo(this.#calls.irikit_replace_password, text, password, grammar);
+  replacePassword(text, password, grammar = "uri") {
+    return this.#madeOfTwo(this.#calls.irikit_replace_password, text, password, GRAMMARS.numberOf(grammar));
   }
 
-  removeFragment(text, grammar = URI) {
-    return this.#made(this.#calls.irikit_remove_fragment, text, grammar);
+  removeFragment(text, grammar = "uri") {
+    return this.#made(this.#calls.irikit_remove_fragment, text, GRAMMARS.numberOf(grammar));
   }
 
-  setFragment(text, fragment, grammar = URI) {
-    return this.#madeOfTwo(this.#calls.irikit_set_fragment, text, fragment, grammar);
+  setFragment(text, fragment, grammar = "uri") {
+    return this.#madeOfTwo(this.#calls.irikit_set_fragment, text, fragment, GRAMMARS.numberOf(grammar));
   }
 
-  replaceHost(text, host, grammar = URI) {
-    return this.#madeOfTwo(this.#calls.irikit_replace_host, text, host, grammar);
+  replaceHost(text, host, grammar = "uri") {
+    return this.#madeOfTwo(this.#calls.irikit_replace_host, text, host, GRAMMARS.numberOf(grammar));
   }
 
-  replaceRegName(text, host, grammar = URI) {
-    return this.#madeOfTwo(this.#calls.irikit_replace_reg_name, text, host, grammar);
+  replaceRegName(text, host, grammar = "uri") {
+    return this.#madeOfTwo(this.#calls.irikit_replace_reg_name, text, host, GRAMMARS.numberOf(grammar));
   }
 
   mapToUri(text) {
     return this.#made(this.#calls.irikit_map_to_uri, text);
   }
 
-  encode(text, place, grammar = URI) {
-    return this.#made(this.#calls.irikit_encode, text, grammar, place);
+  encode(text, place, grammar = "uri") {
+    return this.#made(this.#calls.irikit_encode, text, GRAMMARS.numberOf(grammar), PLACES.numberOf(place));
   }
 
   decode(text) {
+    // A lone surrogate has no bytes.
+    if (typeof text === "string" && !text.isWellFormed()) {
+      throw new Refused("text", "invalid-utf8", this.faultWords("invalid-utf8"));
+    }
     const len = this.#put(text);
     this.#run(this.#calls.irikit_decode, this.#textAt, len);
     return this.#bytes.slice(this.#out, this.#out + this.#words[0]);
   }
 
-  expand(template, variables = {}, grammar = URI) {
-    const given = entriesOf(variables), values = given.map(([, value]) => kindAndTexts(value)), count = given.length;
+  expand(template, variables = {}, grammar = "uri") {
+    const number = GRAMMARS.numberOf(grammar), given = entriesOf(variables), count = given.length;
+    const values = given.map(([, value]) => kindAndTexts(value));
     const texts = values.flatMap(([, found]) => found), front = 5 * count;
-    this.#room(most(template), 0);
+    this.#room(bytesOf(template, this.#baseRoom), 0);
     this.#keep(template);
     const all = this.#putAll(front + 2 * texts.length, [...given.map(([name]) => name), ...texts]);
     let next = this.#textAt + BigInt(8 * front);
     const structs = values.flatMap(([kind, found], i) => {
       const at = next;
       next += BigInt(16 * found.length);
-      return [...all[i], BigInt(kind), at, BigInt(found.length)];
+      return [...all[i], BigInt(VALUES.numberOf(kind)), at, BigInt(found.length)];
     });
     this.#cells.set([...structs, ...all.slice(count).flat()]);
-    this.#judge(this.#run(this.#calls.irikit_expand, grammar, this.#baseAt, this.#baseLen, this.#textAt, BigInt(count)));
+    this.#judge(this.#run(this.#calls.irikit_expand, number, this.#baseAt, this.#baseLen, this.#textAt, BigInt(count)));
     return this.#read(this.#out, this.#words[0]);
   }
 
@@ -337,15 +424,12 @@ class Kit {
   }
 
   faultWords(fault) {
-    return this.#written(this.#run(this.#calls.irikit_fault_words, BigInt(fault)));
+    return this.#written(this.#run(this.#calls.irikit_fault_words, BigInt(FAULTS.numberOf(fault))));
   }
 
   templateFaultWords(fault) {
-    return this.#written(this.#run(this.#calls.irikit_template_fault_words, BigInt(fault)));
+    return this.#written(this.#run(this.#calls.irikit_template_fault_words, BigInt(TEMPLATE_FAULTS.numberOf(fault))));
   }
 }
 
-export {
-  open, Kit, Refused, URI, IRI, NORMAL, BY_SCHEME, PRESERVING, REFERENCE, WITH_SCHEME, ABSOLUTE, RELATIVE,
-  IN_REG_NAME, IN_USER, IN_SEGMENT, IN_PATH, IN_QUERY, IN_FRAGMENT, ANYWHERE, IN_REFERENCE,
-};
+export { open, Kit, Refused };

@@ -1,7 +1,16 @@
 // The links of a page and what they come to.
-import { answer, baseRefusal, split } from "./reading.mjs";
-import { coloured, element, phrases, refused } from "./shown.mjs";
+import { browserAnswer } from "./browser.mjs";
+import { copyButton } from "./copy.mjs";
+import { foldedParts } from "./parts.mjs";
+import { answer, baseRefusal, octetsOf, split } from "./reading.mjs";
+import { besides, coloured, element, phrases, refused, shownText } from "./shown.mjs";
 import { replay } from "./steps.mjs";
+
+// How long a slice of a list may take, in milliseconds; between two the browser shows and hears.
+const SLICE = 20;
+const pause = () => new Promise((done) => setTimeout(done));
+// How many answers are shown at once: each costs the browser time whenever it shows the page.
+const PART = 500;
 
 // The parts of a target that a link doesn't write itself.
 function inherited(link) {
@@ -16,59 +25,107 @@ function inherited(link) {
 }
 
 // The page's address: its canonical text where that is another one, or why it is refused. Says whether it is a base.
-function showBase(field, place) {
+function showBase(field, place, write) {
   const base = field.value, refusal = baseRefusal(base);
   field.setAttribute("aria-invalid", String(refusal !== null));
   place.replaceChildren();
   if (refusal !== null) {
-    place.append(...refused(base, refusal));
+    place.append(...refused(base, refusal, write));
     return false;
   }
-  const { parts, from, steps } = answer(base, base), { told, places } = replay(from, steps);
+  const { parts, from, steps } = answer(base, base), { told, places } = replay(from, steps ?? []);
   if (told.size) place.append(coloured(parts, places), phrases(told));
   return true;
 }
 
-// What a link comes to, and which earlier line comes to the same.
-function item({ link, text, parts, from, steps, refusal }, number, same) {
-  const made = element("li", refusal ? "refused" : "");
-  made.value = number;
-  if (refusal) {
-    made.append(...refused(link, refusal));
-    return made;
-  }
-  const { told, places } = replay(from, steps, inherited(link)), notes = phrases(told);
-  if (link !== text) made.append(element("div", "given", link));
-  made.append(coloured(parts, places));
+// What is shown of a link that isn't refused, and which earlier line comes to the same.
+function good(answered, same) {
+  const { link, text, parts, from, steps } = answered, { told, places } = replay(from, steps ?? [], inherited(link)), notes = phrases(told);
+  if (steps === null) notes.append(element("li", "", "too long to be explained"));
   if (same !== undefined) notes.prepend(element("li", "same", `same as line ${same}`));
-  if (notes.firstChild) made.append(notes);
+  const shown = [coloured(parts, places), element("div", "more", notes, copyButton("Copy", () => text), foldedParts(text))];
+  return link === text ? shown : [element("div", "given", ...shownText(link)), ...shown];
+}
+
+function item(base, answered, number, same, write) {
+  const { link, refusal } = answered, made = element("li", refusal ? "refused" : ""), other = browserAnswer(base, answered, octetsOf);
+  made.value = number;
+  made.append(...(refusal ? refused(link, refusal, write) : good(answered, same)));
+  if (other !== null) made.append(besides(other));
   return made;
 }
 
-// The items that stand, by all that they were made from: of many links only those that change are made again.
-let standing = new Map();
+// The items that stand, each with all that it was made from: of many links only those that change are made again.
+let standing = [], texts = [];
+let most = PART, last = 0;
 
-// Shows the answers to lines, under what names base, grammar and mode; and counts them.
-function showAnswers(base, under, lines, list, tally) {
-  const links = lines.split("\n"), first = new Map(), made = new Map();
-  if (links.at(-1) === "") links.pop();
-  let refusals = 0;
-  links.forEach((link, i) => {
-    const answered = answer(base, link), same = first.get(answered.text), key = JSON.stringify([under, i, same, link]);
-    if (answered.refusal) refusals += 1;
-    else if (same === undefined) first.set(answered.text, i + 1);
-    made.set(key, standing.get(key) ?? item(answered, i + 1, same));
-  });
-  standing = made;
-  list.replaceChildren(...made.values());
-  const good = links.length - refusals, refusedToo = refusals ? `, ${refusals} refused` : "";
-  tally.textContent = `${good} link${good === 1 ? "" : "s"}, ${first.size} different${refusedToo}`;
+// Drops the items from a place on.
+function shorten(count) {
+  const gone = standing.splice(count);
+  if (!gone.length) return;
+  const range = document.createRange();
+  range.setStartBefore(gone[0].made);
+  range.setEndAfter(gone.at(-1).made);
+  range.deleteContents();
 }
 
-function clearAnswers(list, tally) {
-  standing = new Map();
-  list.replaceChildren();
+// Puts an item to its place, unless it stands there.
+function stand(list, i, key, make) {
+  if (standing[i]?.key === key) return;
+  const made = make();
+  if (standing[i] === undefined) list.append(made);
+  else standing[i].made.replaceWith(made);
+  standing[i] = { key, made };
+}
+
+// What a list comes to, in words.
+function tallied(count, different, refusals) {
+  const links = count - refusals, refusedToo = refusals ? `, ${refusals} refused` : "";
+  return `${links} link${links === 1 ? "" : "s"}, ${different} different${refusedToo}`;
+}
+
+// Shows the answers to lines, or the first of very many, under what names base, grammar and mode, and counts all of them: in slices,
+// until other lines are shown. `write` puts a text in place of a line.
+async function showAnswers(base, under, lines, { list, tally, more, write }) {
+  const links = lines.split("\n"), first = new Map(), found = [], mine = last += 1;
+  if (links.at(-1) === "") links.pop();
+  shorten(Math.min(links.length, most));
+  more.hidden = links.length <= most;
+  more.textContent = `Show more of ${(links.length - most).toLocaleString("en")} links`;
+  list.setAttribute("aria-busy", "true");
+  let until = performance.now() + SLICE;
+  for (const [i, link] of links.entries()) {
+    if (performance.now() > until) {
+      await pause();
+      if (mine !== last) return;
+      until = performance.now() + SLICE;
+    }
+    const answered = answer(base, link), same = first.get(answered.text);
+    if (!answered.refusal) found.push(answered.text);
+    if (!answered.refusal && same === undefined) first.set(answered.text, i + 1);
+    if (i >= most) continue;
+    stand(list, i, JSON.stringify([under, same, link]), () => item(base, answered, i + 1, same, (text) => write(i, text)));
+  }
+  list.setAttribute("aria-busy", "false");
+  texts = found;
+  tally.textContent = tallied(links.length, first.size, links.length - found.length);
+}
+
+// Lets more answers be shown, or the first alone.
+function showMore(isMore) {
+  most = isMore ? most + PART : PART;
+}
+
+// The canonical texts of all links, a line each.
+const allTexts = () => texts.map((text) => `${text}\n`).join("");
+
+function clearAnswers({ list, tally, more }) {
+  last += 1;
+  texts = [];
+  shorten(0);
+  more.hidden = true;
+  list.setAttribute("aria-busy", "false");
   tally.textContent = "";
 }
 
-export { showBase, showAnswers, clearAnswers };
+export { showBase, showAnswers, showMore, allTexts, clearAnswers };

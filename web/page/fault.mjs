@@ -4,8 +4,10 @@ const SCHEME = /^[A-Za-z][A-Za-z0-9+.-]*/;
 const AUTHORITY = /\/\/(?:(?<userinfo>[^/?#@]*)@)?(?<host>[^/?#]*)/;
 const AFTER = /(?<path>[^?#]*)(?:\?(?<query>[^#]*))?(?:#(?<fragment>.*))?$/;
 const PARTS = new RegExp(`^(?:${SCHEME.source.slice(1)}:)?(?:${AUTHORITY.source})?${AFTER.source}`, "ds");
-const PART_OF = { 1: "userinfo", 2: "host", 3: "host", 4: "host", 5: "path", 6: "query", 7: "fragment" };
-const INVALID_SCHEME = 0, UNEXPECTED_FRAGMENT = 8;
+const PART_OF = {
+  "invalid-userinfo": "userinfo", "invalid-host": "host", "invalid-reg-name": "host", "invalid-port": "host", "invalid-path": "path",
+  "invalid-query": "query", "invalid-fragment": "fragment",
+};
 
 // The last place up to which a part is as it should be: `holds` says so of a place, and of none after one where it doesn't.
 function lastPlace(start, end, holds) {
@@ -30,11 +32,12 @@ function oneAfter(text, place, end) {
   return [place, Math.min(place + len, end)];
 }
 
-// The range that the first fault of a text, which is of this kind, begins with: a character, a percent-encoded octet, a fragment,
-// or a host in brackets. Null where what is wrong is that something lacks. `isReference` says whether a text is a reference.
+// The range that the first fault of a text, which is of this kind, begins with: a character, a lone surrogate, a percent-encoded octet, a
+// fragment, or a host in brackets. Null where what is wrong is that something lacks. `isReference` says whether a text is a reference.
 function faultRange(text, kind, isReference) {
-  if (kind === INVALID_SCHEME) return oneAfter(text, SCHEME.exec(text)?.[0].length ?? 0, text.length);
-  if (kind === UNEXPECTED_FRAGMENT) return [text.indexOf("#"), text.length];
+  if (kind === "invalid-scheme") return oneAfter(text, SCHEME.exec(text)?.[0].length ?? 0, text.length);
+  if (kind === "unexpected-fragment") return [text.indexOf("#"), text.length];
+  if (kind === "invalid-utf8") return oneAfter(text, text.search(/\p{Surrogate}/u), text.length);
   const part = PART_OF[kind];
   if (part === undefined) return null;
   const [start, end] = PARTS.exec(text).indices.groups[part];

@@ -1,7 +1,10 @@
 // The page: its fields, what they are read by, and where what they come to is shown.
-import { clearAnswers, showAnswers, showBase } from "./answers.mjs";
-import { showPair, showVerdict } from "./pair.mjs";
+import { allTexts, clearAnswers, showAnswers, showBase, showMore } from "./answers.mjs";
+import { copyBy } from "./copy.mjs";
+import { NAMES, START, exampleOf } from "./examples.mjs";
+import { clearPair, showPair, showVerdict } from "./pair.mjs";
 import { choose, load } from "./reading.mjs";
+import { button, element } from "./shown.mjs";
 import { fromFragment, toFragment } from "./state.mjs";
 import { showTemplate } from "./template.mjs";
 
@@ -21,30 +24,71 @@ function setValues(state) {
   for (const name of CHOICES) radio(name, `[value=${state[name]}]`).checked = true;
 }
 
-function show() {
-  const { base, links, grammar, mode } = values();
-  choose({ grammar, mode });
-  const isBase = showBase(at("base"), at("base-answer"));
-  if (isBase) {
-    showAnswers(base, [base, grammar, mode], links, at("answers"), at("tally"));
-    showPair(base, [at("one"), at("other")], at("verdict"), at("ways"));
-  } else {
-    clearAnswers(at("answers"), at("tally"));
-    showVerdict(at("verdict"), ["refused", "The page’s address is refused"]);
-    at("ways").replaceChildren();
-  }
-  showTemplate(isBase ? base : null, [at("template"), at("variables")], at("expansion"));
+// Writes a text into a field, as if it were typed.
+function write(field, text) {
+  field.value = text;
+  field.focus();
+  show();
+  keep();
 }
 
-// Puts the state into the fragment, once nothing was typed for a while.
+// Writes a text in place of a line of the links.
+function writeLine(i, text) {
+  const lines = at("links").value.split("\n");
+  write(at("links"), lines.with(i, text).join("\n"));
+}
+
+// A field, where it is told why it is refused, and how its text is mended.
+const told = (id) => ({ field: at(id), told: at(`${id}-answer`), write: (text) => write(at(id), text) });
+
+function show() {
+  const { base, links, grammar, mode } = values(), pair = [told("one"), told("other")];
+  const places = { list: at("answers"), tally: at("tally"), more: at("more"), write: writeLine };
+  choose({ grammar, mode });
+  const isBase = showBase(at("base"), at("base-answer"), told("base").write);
+  if (isBase) {
+    showAnswers(base, [base, grammar, mode], links, places);
+    showPair(base, pair, at("verdict"), at("ways"));
+  } else {
+    clearAnswers(places);
+    clearPair(pair, at("verdict"), at("ways"));
+  }
+  showTemplate(isBase ? base : null, [told("template"), told("variables")], at("expansion"));
+}
+
+// Puts the state into the fragment. Says whether it isn't too long for that.
+function keepNow() {
+  const fragment = toFragment(values());
+  at("unkept").hidden = fragment !== null;
+  history.replaceState(null, "", fragment ?? "#");
+  return fragment !== null;
+}
+
+// Does so once nothing was typed for a while.
 let pending;
 function keep() {
   clearTimeout(pending);
-  pending = setTimeout(() => {
-    const fragment = toFragment(values());
-    at("unkept").hidden = fragment !== null;
-    history.replaceState(null, "", fragment ?? "#");
-  }, PAUSE);
+  pending = setTimeout(keepNow, PAUSE);
+}
+
+function take(state) {
+  showMore(false);
+  setValues(state);
+  show();
+}
+
+function press(id, act) {
+  at(id).addEventListener("click", act);
+}
+
+// Examples, reset, copies, and the way past many answers.
+function startButtons() {
+  at("examples").append(...NAMES.map((name) => element("li", "", button(name, () => { take(exampleOf(name)); keep(); }))));
+  press("reset", () => { take(START); keep(); });
+  press("permalink", () => { if (keepNow()) copyBy(at("permalink"), location.href); });
+  press("copy-all", () => copyBy(at("copy-all"), allTexts()));
+  press("past", () => at("one").focus());
+  press("more", () => { showMore(true); show(); });
 }
 
 // The module is in the page where the page is one file.
@@ -55,11 +99,11 @@ function inside() {
 
 async function start() {
   await load(inside());
-  const take = (fragment) => { setValues(fromFragment(fragment)); show(); };
-  take(location.hash);
+  take(fromFragment(location.hash));
   // What was typed just before is kept no more, also where it took the place of the address that was gone to.
-  addEventListener("hashchange", ({ newURL }) => { take(new URL(newURL).hash); keep(); });
+  addEventListener("hashchange", ({ newURL }) => { take(fromFragment(new URL(newURL).hash)); keep(); });
   document.querySelector("main").addEventListener("input", () => { show(); keep(); });
+  startButtons();
 }
 
 start().catch((error) => {

@@ -1,22 +1,26 @@
 // The library as the page reads by it: in one grammar and one mode, which its fields choose.
-import { open, Refused, ABSOLUTE, REFERENCE, URI, IRI, NORMAL, BY_SCHEME } from "../irikit.mjs";
+import { open, Refused } from "../irikit.mjs";
 import { characterAt, faultRange } from "./fault.mjs";
+import { explain } from "./rules.mjs";
 
-const NO_SCHEME = 9;
+// Of a longer target the steps aren't asked for.
+const LONGEST_EXPLAINED = 20000;
 
-let kit, grammar = URI, mode = NORMAL;
+let kit, grammar = "uri", mode = "normal";
 
 async function load(module) {
   kit = await open(module);
 }
 
 function choose(words) {
-  grammar = words.grammar === "iri" ? IRI : URI;
-  mode = words.mode === "scheme" ? BY_SCHEME : NORMAL;
+  ({ grammar, mode } = words);
 }
 
 const split = (text) => kit.split(text, grammar);
-const isReference = (text) => kit.validate(text, REFERENCE, grammar) === null;
+const decode = (text) => kit.decode(text);
+// What a text decodes to, a character for each octet.
+const octetsOf = (text) => new TextDecoder("latin1").decode(decode(text));
+const isReference = (text) => kit.validate(text, "reference", grammar) === null;
 
 // What a call gives; where it refuses, what is made of the refusal.
 function unlessRefused(call, refused) {
@@ -33,26 +37,29 @@ function withPlace(text, range, words) {
   return { range, words: range === null ? words : `${words}, at character ${[...text.slice(0, range[0])].length + 1}` };
 }
 
-// Why a text isn't what it should be.
+// Why a text isn't what it should be, by which rule, and what may stand in its place.
 function refusal(text, fault, wanted) {
-  const words = fault === NO_SCHEME ? "no scheme" : kit.faultWords(fault);
-  return withPlace(text, faultRange(text, fault, isReference), `Not ${wanted}: ${words}`);
+  const words = fault === "unexpected-relative" ? "no scheme" : kit.faultWords(fault), range = faultRange(text, fault, isReference);
+  return { ...withPlace(text, range, `Not ${wanted}: ${words}`), ...explain(text, fault, range, { grammar, encode, isOfIris }) };
 }
 
-const notReference = (text, fault) => refusal(text, fault, grammar === IRI ? "an IRI reference" : "a URI reference");
+const encode = (piece) => kit.encode(piece, "anywhere");
+const isOfIris = (text) => kit.validate(text, "reference", "iri") === null;
+const notReference = (text, fault) => refusal(text, fault, grammar === "iri" ? "an IRI reference" : "a URI reference");
 
 // Why a text is no base; null where it is one.
 function baseRefusal(text) {
-  const fault = kit.validate(text, ABSOLUTE, grammar);
-  return fault === null ? null : refusal(text, fault, grammar === IRI ? "an absolute IRI" : "an absolute URI");
+  const fault = kit.validate(text, "absolute", grammar);
+  return fault === null ? null : refusal(text, fault, grammar === "iri" ? "an absolute IRI" : "an absolute URI");
 }
 
-// What a link comes to: its canonical text, its target and the steps from that to it, all of them in parts too; or why it is
-// refused. The base is one.
+// What a link comes to: its canonical text, its target and the steps from that to it, null where there are too many, all of them in
+// parts too; or why it is refused. The base is one.
 function answer(base, link) {
   return unlessRefused(() => {
     const text = kit.canonical(base, link, grammar, mode), target = kit.target(base, link, grammar);
-    return { link, text, parts: split(text), target, from: split(target), steps: kit.steps(target, grammar, mode) };
+    const steps = target.length > LONGEST_EXPLAINED ? null : kit.steps(target, grammar, mode);
+    return { link, text, parts: split(text), target, from: split(target), steps };
   }, ({ fault }) => ({ link, refusal: notReference(link, fault) }));
 }
 
@@ -61,7 +68,10 @@ function expand(template, values) {
   return unlessRefused(() => {
     const names = [...new Set(kit.templateVariables(template))];
     return { text: kit.expand(template, values, grammar), lacking: names.filter((name) => !values.has(name)) };
-  }, ({ place, message }) => ({ refusal: withPlace(template, characterAt(template, place), `Not a template: ${message}`) }));
+  }, ({ whose, place, message }) => {
+    if (whose === "variable") return { refusal: { range: null, words: `Not a variable: ${message}` } };
+    return { refusal: withPlace(template, characterAt(template, place), `Not a template: ${message}`) };
+  });
 }
 
-export { load, choose, split, baseRefusal, answer, expand };
+export { load, choose, split, decode, octetsOf, baseRefusal, answer, expand };

@@ -1,6 +1,6 @@
 // A template and its variables, and what it expands to.
 import { answer, expand } from "./reading.mjs";
-import { coloured, element, refused, way } from "./shown.mjs";
+import { coloured, element, refused, shownText, way } from "./shown.mjs";
 
 // A line of variables: a name, in brackets what makes it a list or gives a key, and a text.
 const LINE = /^\s*([^=[\]]+?)\s*(?:\[([^\]]*)\]\s*)?=(.*)$/s;
@@ -24,7 +24,7 @@ function readVariables(text) {
 
 // What a template comes to: its expansion and, on a page whose address is a base, the canonical text of that.
 function shown(base, { text, lacking }) {
-  const stations = [["expanded", element("div", "text", text)]];
+  const stations = [["expanded", element("div", "text", ...shownText(text))]];
   if (base !== null) {
     const { parts, refusal } = answer(base, text);
     stations.push(["as a link of the page", ...(refusal ? refused(text, refusal) : [coloured(parts)])]);
@@ -34,12 +34,14 @@ function shown(base, { text, lacking }) {
 
 // Shows what the template and the variables of two fields come to; the base is null where the page's address is none.
 function showTemplate(base, [template, variables], place) {
-  const { values, badLine } = readVariables(variables.value), expanded = values && expand(template.value, values);
-  variables.setAttribute("aria-invalid", String(badLine !== undefined));
-  template.setAttribute("aria-invalid", String(expanded?.refusal !== undefined));
-  if (badLine !== undefined) place.replaceChildren(element("p", "why", `Line ${badLine} has no “name=” in front`));
-  else if (expanded.refusal) place.replaceChildren(...refused(template.value, expanded.refusal));
-  else place.replaceChildren(...shown(base, expanded));
+  const { values, badLine } = readVariables(variables.field.value), expanded = values && expand(template.field.value, values);
+  const badTemplate = expanded?.refusal && refused(template.field.value, expanded.refusal);
+  const badVariables = badLine && [element("p", "why", `Line ${badLine} has no “name=” in front`)];
+  for (const [{ field, told }, bad] of [[template, badTemplate], [variables, badVariables]]) {
+    field.setAttribute("aria-invalid", String(bad !== undefined));
+    told.replaceChildren(...(bad ?? []));
+  }
+  place.replaceChildren(...(badTemplate || badVariables ? [] : shown(base, expanded)));
 }
 
 export { readVariables, showTemplate };

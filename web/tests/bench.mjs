@@ -3,10 +3,10 @@
 //
 // usage: IRIKIT=FOLDER node bench.mjs uri|iri FILE
 import { readFileSync } from "node:fs";
-import { kit, library } from "./kit.mjs";
+import { kit } from "./kit.mjs";
 
-const grammar = process.argv[2] === "iri" ? library.IRI : library.URI;
-const [base, ...links] = readFileSync(process.argv[3], "utf8").trimEnd().split("\n");
+const [, , grammar, file] = process.argv;
+const [base, ...links] = readFileSync(file, "utf8").trimEnd().split("\n");
 const lines = `${links.join("\n")}\n`;
 
 // Measures rounds, each of which says how many links it took.

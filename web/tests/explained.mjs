@@ -4,10 +4,9 @@
 // usage: IRIKIT=FOLDER node explained.mjs uri|iri [scheme]
 import { readFileSync } from "node:fs";
 import { replay } from "../page/steps.mjs";
-import { kit, library } from "./kit.mjs";
+import { kit } from "./kit.mjs";
 
-const { URI, IRI, NORMAL, BY_SCHEME, REFERENCE } = library;
-const grammar = process.argv[2] === "iri" ? IRI : URI, mode = process.argv[3] === "scheme" ? BY_SCHEME : NORMAL;
+const [, , grammar, mode = "normal"] = process.argv;
 const [base, ...links] = readFileSync(0, "utf8").trimEnd().split("\n");
 let good = 0, failed = 0;
 
@@ -17,7 +16,7 @@ function recomposed({ scheme, authority, path, query, fragment }) {
   return front + path + (query === undefined ? "" : `?${query}`) + (fragment === undefined ? "" : `#${fragment}`);
 }
 
-for (const link of links.filter((line) => kit.validate(line, REFERENCE, grammar) === null)) {
+for (const link of links.filter((line) => kit.validate(line, "reference", grammar) === null)) {
   const target = kit.target(base, link, grammar), text = kit.canonical(base, link, grammar, mode);
   const steps = kit.steps(target, grammar, mode), { to } = replay(kit.split(target, grammar), steps);
   if (recomposed(to) === text) good += 1;

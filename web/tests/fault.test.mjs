@@ -2,13 +2,11 @@
 import assert from "node:assert/strict";
 import { test } from "node:test";
 import { faultRange } from "../page/fault.mjs";
-import { kit, library } from "./kit.mjs";
-
-const { URI, IRI, REFERENCE, ABSOLUTE } = library;
+import { kit } from "./kit.mjs";
 
 // The text with what its fault begins with in brackets.
-function marked(text, kind = REFERENCE, grammar = URI) {
-  const isReference = (prefix) => kit.validate(prefix, REFERENCE, grammar) === null;
+function marked(text, kind = "reference", grammar = "uri") {
+  const isReference = (prefix) => kit.validate(prefix, "reference", grammar) === null;
   const range = faultRange(text, kit.validate(text, kind, grammar), isReference);
   return range && `${text.slice(0, range[0])}<${text.slice(...range)}>${text.slice(range[1])}`;
 }
@@ -24,15 +22,15 @@ test("references", () => {
 });
 
 test("in IRIs", () => {
-  assert.equal(marked("\u00e9\u{1f600}/ x", REFERENCE, IRI), "\u00e9\u{1f600}/< >x");
-  assert.equal(marked("caf\u00e9#\u{1f600}\ue000", REFERENCE, IRI), "caf\u00e9#\u{1f600}<\ue000>");
+  assert.equal(marked("\u00e9\u{1f600}/ x", "reference", "iri"), "\u00e9\u{1f600}/< >x");
+  assert.equal(marked("caf\u00e9#\u{1f600}\ue000", "reference", "iri"), "caf\u00e9#\u{1f600}<\ue000>");
 });
 
 test("bases", () => {
-  assert.equal(marked("1a:b", ABSOLUTE), "<1>a:b");
-  assert.equal(marked(":b", ABSOLUTE), "<:>b");
-  assert.equal(marked("h ttp://a", ABSOLUTE), "h< >ttp://a");
-  assert.equal(marked("http://a/#f", ABSOLUTE), "http://a/<#f>");
-  assert.equal(marked("http://a b/", ABSOLUTE), "http://a< >b/");
-  assert.equal(marked("a/b", ABSOLUTE), null);
+  assert.equal(marked("1a:b", "absolute"), "<1>a:b");
+  assert.equal(marked(":b", "absolute"), "<:>b");
+  assert.equal(marked("h ttp://a", "absolute"), "h< >ttp://a");
+  assert.equal(marked("http://a/#f", "absolute"), "http://a/<#f>");
+  assert.equal(marked("http://a b/", "absolute"), "http://a< >b/");
+  assert.equal(marked("a/b", "absolute"), null);
 });

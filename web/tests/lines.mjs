@@ -5,8 +5,6 @@ import { isUtf8 } from "node:buffer";
 import { readFileSync } from "node:fs";
 import { kit, library } from "./kit.mjs";
 
-const { Refused, URI, IRI, NORMAL, BY_SCHEME } = library;
-
 // The lines: an LF ends one, and one CR before it is no part of it. A line is a string where it can be.
 function lines(input) {
   const found = [];
@@ -23,11 +21,11 @@ function answer(base, reference, grammar, mode) {
   try {
     return `ok ${kit.canonical(base, reference, grammar, mode)}\n`;
   } catch (error) {
-    if (!(error instanceof Refused)) throw error;
+    if (!(error instanceof library.Refused)) throw error;
     return `${error.whose === "base" ? "base" : "bad"} ${error.message}\n`;
   }
 }
 
-const grammar = process.argv[2] === "iri" ? IRI : URI, mode = process.argv[3] === "scheme" ? BY_SCHEME : NORMAL;
+const [, , grammar, mode = "normal"] = process.argv;
 const [base, ...references] = lines(readFileSync(0));
 process.stdout.write(references.map((reference) => answer(base, reference, grammar, mode)).join(""));

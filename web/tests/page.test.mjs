@@ -1,14 +1,16 @@
-// The page in headless Chromium: typed links, both grammars and modes, a bad base, two links, a template, many links, its state,
-// the keyboard, labels, contrast, widths; no request and no error. The folder that PICTURES names gets pictures of it.
+// The page in headless Chromium: typed links, both grammars and modes, a bad base, two links, a template, refused fields, rules and
+// mending, what the browser makes of links, parts, many links, its state, examples and copies, the keyboard, labels, contrast, widths;
+// no request and no error. The folder that PICTURES names gets pictures of it.
 import assert from "node:assert/strict";
 import { mkdirSync, readFileSync, writeFileSync } from "node:fs";
 import { after, before, test } from "node:test";
 import { pathToFileURL } from "node:url";
+import { exampleOf } from "../page/examples.mjs";
 import { fromFragment, toFragment } from "../page/state.mjs";
 import { openPage } from "./chromium.mjs";
 import { folder, kit, library, rows } from "./kit.mjs";
 
-const { URI, IRI, NORMAL, BY_SCHEME, Refused } = library;
+const { Refused } = library;
 const address = pathToFileURL(`${folder}/irikit.html`).href;
 const [base, ...links] = rows("links.txt").flat();
 const state = (...pairs) => `#${new URLSearchParams(pairs)}`;
@@ -45,11 +47,19 @@ const choose = (name, value) => page.evaluate(`document.querySelector("input[nam
 const all = (selector) => `[...document.querySelectorAll(${JSON.stringify(selector)})]`;
 const textsOf = (selector) => page.evaluate(`${all(selector)}.map((found) => found.textContent)`);
 const textOf = async (selector) => (await textsOf(selector)).join();
+const invalid = (...ids) => page.evaluate(`[${ids.map((id) => `document.getElementById("${id}").getAttribute("aria-invalid")`)}]`);
+const click = (selector) => page.evaluate(`document.querySelector(${JSON.stringify(selector)}).click()`);
+
+// Waits until all links are answered.
+const shownAll = `new Promise((done) => {
+  const look = () => (document.getElementById("answers").getAttribute("aria-busy") === "false" ? done() : setTimeout(look, 5));
+  look();
+})`;
 
 // The answers that the page shows, as `irikit canon` has them, but for the place of a fault.
-const answers = () => page.evaluate(`${all("#answers > li")}.map((item) => item.className === "refused"
+const answers = () => page.evaluate(`${shownAll}.then(() => ${all("#answers > li")}.map((item) => item.className === "refused"
   ? "bad " + item.querySelector(".why").textContent.replace(/.*: |, at character.*/g, "")
-  : "ok " + item.querySelector(".text").textContent)`);
+  : "ok " + item.querySelector(".text").textContent))`);
 
 function answer(link, grammar, mode, from = base) {
   try {
@@ -73,10 +83,10 @@ test("both grammars and modes", async () => {
   const from = "http://a/b/c/d;p?q", more = ["http://h:80", "HTTPS://h:443/", "caf\u00e9/%C3%A9", "x:/a/..//b", "a\u3000"];
   const typed = [...new Set(rows("rows.txt").map((row) => row[2])), ...more];
   await visit(state(["base", from], ...typed.map((link) => ["link", link])));
-  for (const mode of [NORMAL, BY_SCHEME]) {
-    for (const grammar of [URI, IRI]) {
-      await choose("mode", mode === BY_SCHEME ? "scheme" : "normal");
-      await choose("grammar", grammar === IRI ? "iri" : "uri");
+  for (const mode of ["normal", "scheme"]) {
+    for (const grammar of ["uri", "iri"]) {
+      await choose("mode", mode);
+      await choose("grammar", grammar);
       assert.deepEqual(await answers(), typed.map((link) => answer(link, grammar, mode, from)));
     }
   }
@@ -112,13 +122,13 @@ test("a bad base", async () => {
   for (const [text, words] of Object.entries(bad)) {
     await type("base", text);
     assert.equal(await textOf("#base-answer .why"), `Not an absolute URI: ${words}`);
-    assert.equal(await page.evaluate("document.getElementById('base').getAttribute('aria-invalid')"), "true");
+    assert.deepEqual(await invalid("base"), ["true"]);
     assert.deepEqual(await answers(), []);
     assert.equal(await textOf("#verdict"), "The page’s address is refused");
     assert.deepEqual(await textsOf("#expansion .name"), ["expanded"]);
   }
   await type("base", "http://h/");
-  assert.equal(await page.evaluate("document.getElementById('base').getAttribute('aria-invalid')"), "false");
+  assert.deepEqual(await invalid("base"), ["false"]);
   assert.equal((await answers()).length, 2);
 });
 
@@ -128,7 +138,7 @@ test("two links", async () => {
   const stations = ["as it stands", "resolved against the page’s address", "in normal form"];
   assert.deepEqual(await textsOf("#ways .name"), [...stations, stations[0], stations[2]]);
   assert.deepEqual(await textsOf("#ways .text"), ["../%62", "http://h/a/../%62", "http://h/b", "HTTP://h/b", "http://h/b"]);
-  assert.deepEqual(await textsOf("#ways summary"), ["2 steps", "4 steps"]);
+  assert.deepEqual(await textsOf("#ways .stepwise summary"), ["2 steps", "4 steps"]);
   assert.deepEqual(await textsOf("#ways .steps li"), [
     "decode path 6", "dot segments", ...[0, 1, 2, 3].map((at) => `scheme letter ${at}`)]);
   await type("other", "http://u@h/c#f");
@@ -136,9 +146,23 @@ test("two links", async () => {
   await type("other", "http://h/c");
   assert.equal(await textOf("#verdict"), "No, they are two: their path differs");
   await type("other", "##");
-  assert.equal(await textOf("#verdict"), "The other is refused##Not a URI reference: invalid fragment, at character 2");
-  const invalid = ["one", "other"].map((id) => `document.getElementById("${id}").getAttribute("aria-invalid")`);
-  assert.deepEqual(await page.evaluate(`[${invalid}]`), ["false", "true"]);
+  assert.equal(await textOf("#verdict"), "The other is refused");
+  assert.equal(await textOf("#other-answer .why"), "Not a URI reference: invalid fragment, at character 2");
+  assert.deepEqual(await invalid("one", "other"), ["false", "true"]);
+  await type("one", "");
+  await type("other", "");
+  assert.equal(await textOf("#verdict"), "No links yet: both are empty");
+  assert.deepEqual(await textsOf("#ways *"), []);
+  await type("other", "../a/");
+  assert.equal(await textOf("#verdict"), "Yes, they are onehttp://h/a/");
+});
+
+test("links that read alike", async () => {
+  await visit(state(["base", "http://h/"], ["one", "\ufeffa"], ["other", "a"], ["grammar", "iri"]));
+  assert.equal(await textOf("#verdict"), "No, they are two: their path differs");
+  assert.deepEqual(await page.evaluate(`${all("#ways .unseen")}.map(({ dataset }) => dataset.code)`), ["U+FEFF", "U+FEFF"]);
+  await visit(state(["base", "http://h/"], ["one", "?"], ["other", ""], ["grammar", "iri"]));
+  assert.equal(await textOf("#verdict"), "No, they are two: their query differs");
 });
 
 // The variables of RFC 6570 section 3.2, and the expansions of section 3.2.8.
@@ -156,17 +180,92 @@ test("a template", async () => {
     assert.equal(await textOf("#expansion .lacking"), template.includes("undef") ? "Without a value: undef" : "");
   }
   await type("template", "\u00e9{x");
-  assert.equal(await textOf("#expansion .why"), "Not a template: expression not closed, at character 2");
-  assert.deepEqual(await textsOf("#expansion mark"), ["{"]);
+  assert.equal(await textOf("#template-answer .why"), "Not a template: expression not closed, at character 2");
+  assert.deepEqual(await textsOf("#template-answer mark"), ["{"]);
   await type("template", "{list:3}");
-  assert.equal(await textOf("#expansion .why"), "Not a template: unexpected value type for the variable, at character 2");
+  assert.equal(await textOf("#template-answer .why"), "Not a template: unexpected value type for the variable, at character 2");
   await type("template", "#{+keys}#");
   assert.equal(await textOf("#expansion .why"), "Not a URI reference: invalid fragment, at character 22");
   await type("variables", "x=1\n[y]=2");
-  assert.equal(await textOf("#expansion"), "Line 2 has no “name=” in front");
-  const invalid = ["template", "variables"].map((id) => `document.getElementById("${id}").getAttribute("aria-invalid")`);
-  assert.deepEqual(await page.evaluate(`[${invalid}]`), ["false", "true"]);
+  assert.equal(await textOf("#variables-answer"), "Line 2 has no “name=” in front");
+  assert.deepEqual(await invalid("template", "variables"), ["false", "true"]);
 });
+
+// A refused field is red, and what is wrong with it is what describes it (WCAG 2.1, 3.3.1 and 1.3.1).
+test("refused fields are red and described", async () => {
+  const bad = { base: "a", one: "a b", other: "%", template: "{", variables: "x" };
+  const look = (id) => page.evaluate(`(() => {
+    const field = document.getElementById("${id}"), { borderTopColor, backgroundColor } = getComputedStyle(field);
+    return { colours: [borderTopColor, backgroundColor], told: document.getElementById(field.getAttribute("aria-describedby")).textContent };
+  })()`);
+  for (const [id, text] of Object.entries(bad)) {
+    await visit(state(["base", "http://h/"]));
+    const before = await look(id);
+    await type(id, text);
+    const after = await look(id), [red, green, blue] = after.colours[0].match(/\d+/g).map(Number);
+    assert.notDeepEqual(after.colours, before.colours, id);
+    assert.ok(red > 2 * green && red > 2 * blue, `${id}: ${after.colours}`);
+    assert.notEqual(after.told, before.told, id);
+    assert.match(after.told, /^.*(Not an? |Line 1 has no )/, id);
+  }
+});
+
+test("rules, and buttons that write what may stand", async () => {
+  await visit(state(["base", "http://h/"], ["link", "b"], ["link", "a|b c"], ["link", "\u00e9"]));
+  const rule = (line) => textsOf(`#answers > li:nth-child(${line}) .rule`);
+  assert.deepEqual(await rule(2), ["“|” may not stand in a path (RFC 3986 section 3.3). Write %7C"]);
+  await click("#answers > li:nth-child(2) .rule button");
+  assert.equal(await page.evaluate("document.getElementById('links').value"), "b\na%7Cb c\n\u00e9");
+  assert.deepEqual(await rule(2), ["A space may not stand in a path (RFC 3986 section 3.3). Write %20"]);
+  await click("#answers > li:nth-child(2) .rule button");
+  await click("#answers > li:nth-child(3) .rule button");
+  assert.deepEqual(await answers(), ["ok http://h/b", "ok http://h/a%7Cb%20c", "ok http://h/%C3%A9"]);
+  await type("one", "1a:b");
+  await click("#one-answer .rule button");
+  assert.equal(await page.evaluate("document.getElementById('one').value"), "./1a:b");
+  await type("base", "http://h/#f");
+  await click("#base-answer .rule button");
+  assert.equal(await page.evaluate("document.getElementById('base').value"), "http://h/");
+});
+
+test("what this browser makes of a link", async () => {
+  await visit(state(["base", "http://h/a/"], ["link", "b"], ["link", "%7e"], ["link", "a b"], ["link", "//h:99999/"], ["one", "http:g"]));
+  assert.deepEqual(await textsOf("#answers .browser"), [
+    "http://h/a/%7e. It leaves percent-encoded octets as the link has them.",
+    "http://h/a/a%20b. It writes %20 for what may not stand there.",
+    "nothing: it refuses the link. It has no ports above 65,535.",
+  ].map((words) => `This browser’s new URL, by the URL Standard, makes of it ${words}`));
+  assert.deepEqual(await textsOf("#ways .browser .href"), ["http://h/a/g"]);
+});
+
+test("parts in a table, with their octets decoded", async () => {
+  await visit(state(["base", "http://h/"], ["link", "//u%20v@H:8/%ff?q=%E2%82%AC#%EF%BB%BF"]));
+  await click("#answers summary");
+  await page.evaluate(ready);
+  const cells = await page.evaluate(`${all("#answers table tr")}.map((row) => [...row.cells].map(({ textContent }) => textContent))`);
+  assert.deepEqual(cells, [
+    ["Part", "Text", "Decoded"], ["scheme", "http", ""], ["userinfo", "u%20v", "u v"], ["host", "h", ""], ["port", "8", ""],
+    ["path", "/%FF", "not UTF-8: 2F FF"], ["query", "q=%E2%82%AC", "q=\u20ac"], ["fragment", "%EF%BB%BF", "\ufeff"]]);
+  assert.equal(await page.evaluate(`document.querySelector("#answers table .unseen").dataset.code`), "U+FEFF");
+});
+
+const fronts = ["a", "../x", "//H", "https://www.example.org/docs", "%7e"];
+const manyLinks = (count) => Array.from({ length: count }, (_, i) => `${fronts[i % 5]}/./page-${i % 700}.html?q=${i}`);
+
+// Puts links into the field as a paste does, waits for the answers, and tells how long the longest task of the page took, in
+// milliseconds (those under 50 aren't told).
+const paste = (links) => page.evaluate(`(async () => {
+  const field = document.getElementById("links"), tasks = [0];
+  const observer = new PerformanceObserver((list) => tasks.push(...list.getEntries().map(({ duration }) => duration)));
+  observer.observe({ entryTypes: ["longtask"] });
+  field.value = ${JSON.stringify(links.join("\n"))};
+  field.dispatchEvent(new Event("input", { bubbles: true }));
+  await ${shownAll};
+  await ${ready};
+  await new Promise((done) => setTimeout(done, 100));
+  observer.disconnect();
+  return Math.max(...tasks);
+})()`);
 
 // How long the page's own thread has worked, in milliseconds: on a machine with other work that isn't the clock.
 async function worked() {
@@ -174,23 +273,62 @@ async function worked() {
   return 1000 * metrics.find(({ name }) => name === "TaskDuration").value;
 }
 
-test("two thousand links are answered within a second", async () => {
-  const fronts = ["a", "../x", "//H", "https://www.example.org/docs", "%7e"];
-  const many = Array.from({ length: 2000 }, (_, i) => `${fronts[i % 5]}/./page-${i % 700}.html?q=${i}`);
+test("two thousand links are answered within a second of work", async () => {
+  const many = manyLinks(2000);
   await page.call("Performance.enable", { timeDomain: "threadTicks" });
   await visit(state(["base", base]));
   const before = await worked();
-  const clock = await page.evaluate(`(async () => {
-    const field = document.getElementById("links"), start = performance.now();
-    field.value = ${JSON.stringify(many.join("\n"))};
-    field.dispatchEvent(new Event("input", { bubbles: true }));
-    await ${ready};
-    return performance.now() - start;
-  })()`);
+  await paste(many);
   const took = await worked() - before;
-  assert.deepEqual(await answers(), many.map((link) => answer(link, URI, NORMAL)));
-  console.log(`2,000 links answered and shown by ${Math.round(took)} ms of work, ${Math.round(clock)} by the clock`);
+  console.log(`2,000 links answered and 500 shown by ${Math.round(took)} ms of work`);
+  const wanted = many.map((link) => answer(link, "uri", "normal"));
+  assert.deepEqual(await answers(), wanted.slice(0, 500));
+  assert.equal(await textOf("#tally"), "2000 links, 2000 different");
+  assert.equal(await textOf("#more"), "Show more of 1,500 links");
+  for (const left of [1000, 500, 0]) {
+    await click("#more");
+    assert.equal((await answers()).length, 2000 - left);
+  }
+  assert.deepEqual(await answers(), wanted);
+  assert.equal(await page.evaluate("document.getElementById('more').hidden"), true);
   assert.ok(took < 1000);
+});
+
+test("the page isn't blocked by many links for 100 ms", async () => {
+  let least = Infinity;
+  for (let round = 0; round < 4 && least >= 100; round += 1) {
+    await visit(state(["base", base]));
+    least = Math.min(least, await paste(manyLinks(20000)));
+  }
+  console.log(`of 20,000 links the longest task took ${Math.round(least)} ms`);
+  assert.ok(least < 100);
+  assert.equal(await textOf("#tally"), "20000 links, 20000 different");
+  await type("links", "a");
+  await page.evaluate(shownAll);
+  assert.deepEqual(await answers(), [answer("a", "uri", "normal")]);
+});
+
+test("lines that are typed while others are answered take their place", async () => {
+  await visit(state(["base", base]));
+  await page.evaluate(`(() => {
+    const field = document.getElementById("links");
+    for (const text of [${JSON.stringify(manyLinks(3000).join("\n"))}, "b\\nc"]) {
+      field.value = text;
+      field.dispatchEvent(new Event("input", { bubbles: true }));
+    }
+  })()`);
+  await page.evaluate(`new Promise((done) => setTimeout(done, 300)).then(() => ${shownAll})`);
+  assert.deepEqual(await answers(), ["b", "c"].map((link) => answer(link, "uri", "normal")));
+  assert.equal(await textOf("#tally"), "2 links, 2 different");
+});
+
+test("of a long text the ends are shown", async () => {
+  const long = "x".repeat(5000);
+  await visit(state(["base", "http://h/"]));
+  await type("links", `${long}\n${"%7e".repeat(10000)}`);
+  assert.equal(await textOf("#answers > li:nth-child(1) .given .cut"), " … 3,400 characters more … ");
+  assert.deepEqual(await textsOf("#answers > li:nth-child(2) .phrases li"), ["too long to be explained"]);
+  assert.equal(await textOf("#tally"), "2 links, 2 different");
 });
 
 test("the state is in the fragment, and is taken from it", async () => {
@@ -208,24 +346,66 @@ test("the state is in the fragment, and is taken from it", async () => {
   (await all()).forEach((one, i) => assert.notDeepEqual(one, shown[i]));
   await visit(hash);
   assert.deepEqual(await all(), shown);
-  const wanted = ["a&b#", "", "c+d%2B\u65e5"].map((link) => answer(link, IRI, NORMAL, "http://h/\u00e9"));
+  const wanted = ["a&b#", "", "c+d%2B\u65e5"].map((link) => answer(link, "iri", "normal", "http://h/\u00e9"));
   assert.deepEqual(await answers(), wanted);
 });
 
+test("examples, and back to the first", async () => {
+  const names = await textsOf("#examples button");
+  assert.ok(names.length > 4);
+  for (const [i, name] of names.entries()) {
+    await click(`#examples li:nth-child(${i + 1}) button`);
+    await page.evaluate(shownAll);
+    const example = exampleOf(name), links = example.links.split("\n"), { grammar, mode } = example;
+    const wanted = links.map((link) => answer(link, grammar, mode, example.base));
+    assert.deepEqual(await answers(), wanted);
+    assert.equal(await textOf("#verdict strong").then((words) => /^(Yes|No|One link is refused)/.test(words)), true);
+    assert.notEqual(await textOf("#expansion .text"), "");
+  }
+  await click("#reset");
+  assert.equal(await page.evaluate("document.getElementById('links').value"), exampleOf(names[0]).links);
+});
+
+test("what is copied", async () => {
+  await page.call("Browser.grantPermissions", { permissions: ["clipboardReadWrite", "clipboardSanitizedWrite"] });
+  await page.call("Page.bringToFront");
+  const copied = async (selector) => {
+    await click(selector);
+    await page.evaluate("new Promise((done) => setTimeout(done, 100))");
+    assert.equal(await textOf("#said"), "Copied");
+    return page.evaluate("navigator.clipboard.readText()");
+  };
+  await visit(state(["base", "http://h/"], ["link", "%7e"], ["link", "a b"], ["link", "c"]));
+  assert.equal(await copied("#answers .more button"), "http://h/~");
+  assert.equal(await copied("#copy-all"), "http://h/~\nhttp://h/c\n");
+  await type("links", "d");
+  const link = await copied("#permalink");
+  assert.equal(link.split("#")[0], address);
+  assert.deepEqual(new URLSearchParams(link.split("#")[1]).getAll("link"), ["d"]);
+  await visit("#");
+  await visit(new URL(link).hash);
+  assert.deepEqual(await answers(), ["ok http://h/d"]);
+});
+
 test("by the keyboard alone", async () => {
-  await visit(state(["base", "http://h/"], ["link", "\u00e9"]));
+  await visit(state(["base", "http://h/"], ["link", "\u00e9"], ["link", "a"]));
   await page.evaluate("document.activeElement.blur()");
   const passed = [];
-  for (let i = 0; i < 11; i += 1) {
+  for (let i = 0; i < 29; i += 1) {
     await press("Tab", 9);
-    passed.push(await page.evaluate("document.activeElement.id || document.activeElement.name || document.activeElement.localName"));
+    passed.push(await page.evaluate("document.activeElement.id || document.activeElement.name || document.activeElement.textContent"));
   }
-  const wanted = ["base", "grammar", "mode", "links", "one", "other", "summary", "summary", "template", "variables"];
-  assert.deepEqual(passed.slice(0, wanted.length), wanted);
-  assert.deepEqual(await answers(), ["bad invalid path"]);
+  const examples = await textsOf("#examples button");
+  assert.deepEqual(passed.slice(0, passed.indexOf("variables") + 1), [
+    ...examples, "reset", "permalink", "base", "grammar", "mode", "links", "copy-all", "past", "Write %C3%A9", "Copy", "Parts",
+    "one", "other", "4 steps", "Parts", "7 steps", "Parts", "template", "variables"]);
+  assert.deepEqual(await answers(), ["bad invalid path", "ok http://h/a"]);
   await page.evaluate("document.querySelector('input[name=grammar]:checked').focus()");
   await press("ArrowRight", 39);
-  assert.deepEqual(await answers(), ["ok http://h/\u00e9"]);
+  assert.deepEqual(await answers(), ["ok http://h/\u00e9", "ok http://h/a"]);
+  await page.evaluate("document.getElementById('past').focus()");
+  await page.call("Input.dispatchKeyEvent", { type: "keyDown", key: "Enter", code: "Enter", windowsVirtualKeyCode: 13, text: "\r" });
+  assert.equal(await page.evaluate("document.activeElement.id"), "one");
 });
 
 test("each field has a name for a screen reader", async () => {

@@ -2,9 +2,7 @@
 import assert from "node:assert/strict";
 import { test } from "node:test";
 import { inWords, replay } from "../page/steps.mjs";
-import { kit, library, rows } from "./kit.mjs";
-
-const { URI, IRI, NORMAL, BY_SCHEME } = library;
+import { kit, rows } from "./kit.mjs";
 
 // A text with the characters at these places in brackets.
 function bracketed(text, places) {
@@ -22,7 +20,7 @@ function fiveParts(text, grammar) {
 }
 
 // What is told of the steps from a text to its normal form, and the parts with changed letters.
-function told(from, wanted, { grammar = URI, mode = NORMAL, skipped = [] } = {}) {
+function told(from, wanted, { grammar = "uri", mode = "normal", skipped = [] } = {}) {
   const { told: all, places, to } = replay(kit.split(from, grammar), kit.steps(from, grammar, mode), skipped);
   const parts = kit.split(wanted, grammar);
   assert.deepEqual(to, fiveParts(wanted, grammar));
@@ -33,9 +31,9 @@ function told(from, wanted, { grammar = URI, mode = NORMAL, skipped = [] } = {})
 test("the rows of examples/rows.txt", () => {
   const all = rows("rows.txt").filter((row) => row[3].startsWith("ok "));
   assert.ok(all.length > 80);
-  for (const [name, base, reference] of all) {
-    const grammar = name === "iri" ? IRI : URI, target = kit.target(base, reference, grammar), from = kit.split(target, grammar);
-    for (const mode of [NORMAL, BY_SCHEME]) {
+  for (const [grammar, base, reference] of all) {
+    const target = kit.target(base, reference, grammar), from = kit.split(target, grammar);
+    for (const mode of ["normal", "scheme"]) {
       const wanted = fiveParts(kit.canonical(base, reference, grammar, mode), grammar);
       assert.deepEqual(replay(from, kit.steps(target, grammar, mode)).to, wanted, `${base} ${reference}`);
     }
@@ -47,17 +45,17 @@ test("each change", () => {
   const lowered = ["scheme and host in lower case", "[h][t][t]p", "[e]x.[c][o][m]"];
   assert.deepEqual(told("HTTp://Ex.COM/", "http://ex.com/"), lowered);
   assert.deepEqual(told("http://h:/", "http://h/"), ["empty port removed"]);
-  assert.deepEqual(told("http://h:80/", "http://h/", { mode: BY_SCHEME }), ["default port removed"]);
-  assert.deepEqual(told("http://h", "http://h/", { mode: BY_SCHEME }), ["empty path made “/”", "[/]"]);
+  assert.deepEqual(told("http://h:80/", "http://h/", { mode: "scheme" }), ["default port removed"]);
+  assert.deepEqual(told("http://h", "http://h/", { mode: "scheme" }), ["empty path made “/”", "[/]"]);
   assert.deepEqual(told("http://h/%7ea/%c3%a9?%41#%2f", "http://h/~a/%C3%A9?A#%2F"), [
     "needless percent-encoding decoded in path and query", "hex digits in upper case in path and fragment",
     "/[~]a/%[C]3%[A]9", "[A]", "%2[F]"]);
   assert.deepEqual(told("http://%7e%3a@%45xY:/", "http://~%3A@exy/"), [
     "needless percent-encoding decoded in userinfo and host", "hex digits in upper case in userinfo", "host in lower case",
     "empty port removed", "[~]%3[A]", "[e]x[y]"]);
-  assert.deepEqual(told("x:/a%F0%9F%98%80%ce\u00e9%7e", "x:/a\u{1f600}%CE\u00e9~", { grammar: IRI }), [
+  assert.deepEqual(told("x:/a%F0%9F%98%80%ce\u00e9%7e", "x:/a\u{1f600}%CE\u00e9~", { grammar: "iri" }), [
     "needless percent-encoding decoded in path", "hex digits in upper case in path", "/a[\u{1f600}]%[C][E]\u00e9[~]"]);
-  assert.deepEqual(told("x://A\u00e9%41/", "x://A\u00e9A/", { grammar: IRI }), [
+  assert.deepEqual(told("x://A\u00e9%41/", "x://A\u00e9A/", { grammar: "iri" }), [
     "needless percent-encoding decoded in host", "A\u00e9[A]"]);
 });
 
