@@ -2,7 +2,7 @@ use crate::same::same;
 use iri_text::{
     Bytes, CapacityOverflowError, Show, SliceSink, Stop, StringSink, Text, TextSink,
     ToDedicatedString, ToStringFallible, show_each, show_five, show_four, show_three, show_two,
-    try_append_to_string, write_to_slice,
+    try_append_to_string, write_at_start, write_to_slice,
 };
 use std::alloc::{AllocError, Global};
 use std::fmt;
@@ -48,6 +48,14 @@ fn slices(rt: HostRuntime) -> Result<(), Fail> {
             same(&rt, told.as_str(), "buffer capacity overflow");
         }
     }
+    let mut six = [b'.'; 6];
+    match write_at_start(&mut six, &"hello") {
+        Ok(len) => assert!(rt; len == 5),
+        Err(_) => assert!(rt; false),
+    }
+    same(&rt, six.as_slice(), b"hello.".as_slice());
+    assert!(rt; write_at_start(&mut six, &"goodbye").is_err());
+    same(&rt, six.as_slice(), b"hello.".as_slice());
     let copy = CapacityOverflowError.clone()?;
     let told = format!(in rt.alloc(); "{copy:?}")?;
     same(&rt, told.as_str(), "CapacityOverflowError");
@@ -62,6 +70,9 @@ fn a_slice_stops_where_no_room_is_left(rt: HostRuntime) {
     same(&rt, sink.as_str(), "ab");
     assert!(rt; sink.put("\u{e9}").is_ok());
     same(&rt, sink.as_str(), "ab\u{e9}");
+    same(&rt, buf.as_slice(), "ab\u{e9}".as_bytes());
+    assert!(rt; SliceSink::new(&mut buf).put("abcde").is_err());
+    same(&rt, buf.as_slice(), "ab\u{e9}".as_bytes());
 }
 
 #[test]
@@ -101,9 +112,18 @@ fn held(rt: HostRuntime) -> Result<(), Fail> {
     same(&rt, text.as_str(), "word");
     let printed = format!(in rt.alloc(); "<{text}>")?;
     same(&rt, printed.as_str(), "<word>");
+    // No text here is padded, as in the Rust crate.
+    let wide = format!(in rt.alloc(); "<{text:>8}>")?;
+    same(&rt, wide.as_str(), "<word>");
     let shown = text.try_to_string(rt.alloc())?;
     same(&rt, shown.as_str(), "word");
     same(&rt, text.into_string().as_str(), "word");
+    let mut roomy = String::with_capacity(rt.alloc(), 40)?;
+    try_append_to_string(&mut roomy, &"word")?;
+    assert!(rt; roomy.capacity() >= 40);
+    assert!(rt; Text::from_string(roomy).into_string().capacity() >= 40);
+    let list: Vec<u8> = Vec::with_capacity(rt.alloc(), 40)?;
+    assert!(rt; Bytes::from_vec(list).into_vec().capacity() >= 40);
     let bytes = Bytes::from_vec(vec![in rt.alloc(); 1, 2]?);
     same(&rt, bytes.as_slice(), [1, 2].as_slice());
     same(&rt, bytes.into_vec().as_slice(), [1, 2].as_slice());

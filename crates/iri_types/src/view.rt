@@ -152,6 +152,8 @@ impl<S: Spec, K: Kind> fmt::Display for View<'_, S, K> {
 
     ghost output = { λ v. Some (text v) };
 
+    ghost styled_output = { λ v _. Some (text v) };
+
     fn fmt<W: fmt::Write>(&self, f: &mut fmt::Formatter<W>) -> fmt::Result {
         FormatSink::new(f).display(self)
     }

@@ -59,6 +59,8 @@ impl Show for Text {
 impl fmt::Display for Text {
     ghost output = { λ t. Some t };
 
+    ghost styled_output = { λ t _. Some t };
+
     fn fmt<W: fmt::Write>(&self, f: &mut fmt::Formatter<W>) -> fmt::Result {
         FormatSink::new(f).display(self)
     }

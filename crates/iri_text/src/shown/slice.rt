@@ -58,6 +58,8 @@ pub struct CapacityOverflowError;
 impl fmt::Display for CapacityOverflowError {
     ghost output = { λ _. Some (codes "buffer capacity overflow") };
 
+    ghost styled_output = { λ _ _. Some (codes "buffer capacity overflow") };
+
     fn fmt<W: fmt::Write>(&self, f: &mut fmt::Formatter<W>) -> fmt::Result {
         f.write_str("buffer capacity overflow")
     }
