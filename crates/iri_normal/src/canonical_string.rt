@@ -1,5 +1,6 @@
 // Canonical texts at the end of strings (RFC 3986 sections 5.2, 6.2.2 and 6.2.3).
-ghost use Rattle.std.specs.Prelude.{◌≡◌, ◌++◌, None, OnErr, OnOk, string_bytes};
+ghost use Rattle.std.specs.Prelude.{◌≡◌, ◌++◌, ◌+◌, ◌<◌, ◌≤◌, None, OnErr, OnOk, length, string_bytes};
+ghost use Rattle.std.specs.Prelude.{string_capacity, string_len};
 ghost use Rattle.iri_grammar.specs.WholeFault.{iri_fault};
 ghost use Rattle.iri_text.specs.Prefix.{IsPrefixAfter};
 ghost use Rattle.iri_types.specs.SplitText.{split_text};
@@ -26,6 +27,9 @@ fn append<'a, S: Spec>(
         ++ canonical_in S.tests mode (base_text resolver.now) (split_text reference.now)) }
     ensures prefix { OnErr result (IsPrefixAfter (string_bytes dest.old)
         (canonical_in S.tests mode (base_text resolver.now) (split_text reference.now)) (string_bytes dest.new)) }
+    ensures full { OnErr result (string_capacity dest.old < string_len dest.old
+        + length (canonical_in S.tests mode (base_text resolver.now) (split_text reference.now))) }
+    ensures room { OnOk result (string_capacity dest.old ≤ string_capacity dest.new) }
 {
     let mut sink = StringSink::new(dest);
     match show_canonical_in(&mut sink, mode, resolver, reference) {
@@ -36,10 +40,12 @@ fn append<'a, S: Spec>(
 
 impl<'a, S: Spec> FixedBaseResolver<'a, S> {
     /// Puts the canonical text of a reference against the base (RFC 3986 sections 5.2 and 6.2.2) to the end of a string.
+    /// The string's capacity is no less than before.
     ///
     /// # Errors
     ///
-    /// Where allocation fails; the string is unchanged then.
+    /// Where allocation fails, and only where what comes out is longer than the string's capacity; its text is unchanged
+    /// then.
     ///
     /// ```
     /// use iri::resolve::FixedBaseResolver;
@@ -58,6 +64,9 @@ impl<'a, S: Spec> FixedBaseResolver<'a, S> {
             ++ canonical S.tests (base_text self.now) (split_text reference.now)) }
         ensures valid { iri_fault S.tests (canonical S.tests (base_text self.now) (split_text reference.now)) ≡ None }
         ensures unchanged { OnErr result (string_bytes dest.new ≡ string_bytes dest.old) }
+        ensures full { OnErr result (string_capacity dest.old < string_len dest.old
+            + length (canonical S.tests (base_text self.now) (split_text reference.now))) }
+        ensures room { OnOk result (string_capacity dest.old ≤ string_capacity dest.new) }
     {
         self.canonical_into_in(dest, CanonMode::Default, reference)
     }
@@ -78,6 +87,9 @@ impl<'a, S: Spec> FixedBaseResolver<'a, S> {
         ensures valid { iri_fault S.tests (canonical_in S.tests mode (base_text self.now) (split_text reference.now))
             ≡ None }
         ensures unchanged { OnErr result (string_bytes dest.new ≡ string_bytes dest.old) }
+        ensures full { OnErr result (string_capacity dest.old < string_len dest.old
+            + length (canonical_in S.tests mode (base_text self.now) (split_text reference.now))) }
+        ensures room { OnOk result (string_capacity dest.old ≤ string_capacity dest.new) }
     {
         let len = dest.as_str().len();
         match append(dest, mode, self, reference) {

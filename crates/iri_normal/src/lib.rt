@@ -22,7 +22,7 @@
 //! 5.2.4, and is stable; each form fits the grammar again, and the normal ones and the preserving one are stable; a
 //! canonical text has at most three bytes more than base and reference together. A text is found to be in normal form
 //! exactly where it is, without memory. What is said of shown texts and canonical texts holds of the mode by scheme rules
-//! too, and `is_normalized_in` tests it.
+//! too, and `is_normalized_in` tests it. `canonical_into` wants memory only where the string has no room, and keeps that room.
 //!
 //! Not proved: that memory is allocated, so that a call that always answered `Memory` would keep its contract; tests show
 //! that each succeeds with ample memory. The words of `Display` of `CanonError`, which `thiserror` makes. Any bound on time:
