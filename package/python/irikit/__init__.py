@@ -42,15 +42,10 @@ __all__ = [
     "run", "split", "steps", "variables", "with_fragment", "with_host", "with_password", "without_password",
 ]
 
+# The package has its version from the program in the library, and Python's form of one that isn't released.
+__version__ = run("--version", b"")[0].decode().split()[1].replace("~dev", ".dev0")
+
 # So are they named where they are shown, and where they end a program.
 for _name in __all__:
     if isinstance(globals().get(_name), type):
         globals()[_name].__module__ = __name__
-
-
-def __getattr__(name: str) -> str:
-    if name != "__version__":
-        raise AttributeError(f"module {__name__!r} has no attribute {name!r}")
-    from importlib.metadata import version
-
-    return version(__name__)

@@ -125,6 +125,7 @@ class Many(unittest.TestCase):
     def test_what_is_no_line(self):
         links = Links("http://a/b")
         self.assertEqual(links.canonical_many([]), [])
+        self.assertEqual([links.canonical_many(["c\r", "d"]), links.canonical_many(["c\n", "d"])], [[None, "http://a/d"]] * 2)
         texts = ["c\nd", "c\r", "c", "\r", "\n", "", b"\r\n", "c\r\nd", "\0"]
         self.assertEqual(links.canonical_many(texts), [None, None, "http://a/c", None, None, "http://a/b", None, None, None])
 
