@@ -4,8 +4,9 @@ from __future__ import annotations
 from typing import Any, NamedTuple
 
 from ._library import address, declared, size_t, structs
-from ._numbers import IRI, OK, REFERENCE, URI, Grammar, Kind, Part
-from ._refused import refusal
+from ._forms import fault
+from ._numbers import BAD_TEXT, IRI, OK, REFERENCE, URI, Grammar, Kind, Part
+from ._refused import Refused
 from ._texts import Text, bytes_of, of_kind, written
 
 _split = declared("split", "number text sizes sizes")
@@ -17,12 +18,9 @@ SCHEME, AUTHORITY, PATH, QUERY, FRAGMENT, USERINFO, HOST, PORT = range(0, 16, 2)
 
 
 def slots_of(text: bytes, grammar: Grammar) -> Any:
-    """Where the parts of a reference stand."""
-    slots, told = _SLOTS(), size_t()
-    status = _split(grammar, text, len(text), slots, told)
-    if status != OK:
-        raise refusal(status, told.value)
-    return slots
+    """Where the parts of a reference stand, or None where it is none."""
+    slots = _SLOTS()
+    return slots if _split(grammar, text, len(text), slots, size_t()) == OK else None
 
 
 def part_of(text: bytes, slots: Any, part: int) -> str | None:
@@ -106,6 +104,8 @@ def split(text: Text, grammar: Grammar = URI) -> SplitResult:
     """
     passed = bytes_of(text)
     slots = slots_of(passed, of_kind(grammar, Grammar))
+    if slots is None:
+        raise Refused(BAD_TEXT, fault(passed, REFERENCE, grammar))
     scheme, netloc, path, query, fragment = [part_of(passed, slots, part) for part in (SCHEME, AUTHORITY, PATH, QUERY, FRAGMENT)]
     return SplitResult(scheme, netloc, path or "", query, fragment)
 

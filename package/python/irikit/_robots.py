@@ -53,9 +53,8 @@ class Robots(Immutable):
         """A link as a line that asks for it. A percent sign alone is no reference, as what has a CR or an LF, or is too long."""
         asked = bytes_of(link)
         if self._made_of[2] is None:
-            try:
-                slots = slots_of(asked, self._made_of[3])
-            except Refused:
+            slots = slots_of(asked, self._made_of[3])
+            if slots is None:
                 return b"u %\n"
             if part_of(asked, slots, AUTHORITY) is not None:
                 asked = b"http://localhost" + asked[slots[PATH]:]

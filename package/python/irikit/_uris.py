@@ -23,10 +23,10 @@ class _Parted(Identifier):
 
     def __init__(self, text: Text) -> None:
         passed = bytes_of(text)
-        wrong = fault(passed, WITH_SCHEME, self._grammar)
-        if wrong is not None:
-            raise Refused(BAD_TEXT, wrong)
-        self._made_of, self._slots = (passed,), slots_of(passed, self._grammar)
+        slots = slots_of(passed, self._grammar)
+        if slots is None or part_of(passed, slots, SCHEME) is None:
+            raise Refused(BAD_TEXT, fault(passed, WITH_SCHEME, self._grammar))
+        self._made_of, self._slots = (passed,), slots
 
     def _part(self, part: int) -> str | None:
         return part_of(self._made_of[0], self._slots, part)
@@ -75,7 +75,8 @@ class _Parted(Identifier):
     def join(self: _Same, link: Text) -> _Same:
         """Where a link leads that stands in what this one, but for its fragment, names (sections 5.1 and 5.2). Raises `Refused` where the
         link is no reference."""
-        return type(self)(resolve(with_fragment(self, None, self._grammar), link, self._grammar))
+        base, _, _ = self._made_of[0].partition(b"#")
+        return type(self)(resolve(base, link, self._grammar))
 
     def canonical(self: _Same, mode: Mode = NORMAL) -> _Same:
         """The normal form (section 6.2.2; by scheme rules section 6.2.3). Two links are one where their normal forms are."""
