@@ -10,7 +10,8 @@ ghost use Rattle.iri_cli.specs.canon.Prepared.{prepared};
 ghost use Rattle.iri_cli.specs.generator.References.{gen_base, gen_reference};
 ghost use Rattle.iri_cli.specs.links.FieldValues.{AnswersAreLinks};
 ghost use Rattle.iri_cli.specs.register.Shared.{LiveLinesShareEntries};
-ghost use Rattle.iri_text.specs.Memory.{MemorySinkState, state_of};
+ghost use Rattle.iri_text.specs.Memory.{memory_written, state_of};
+ghost use Rattle.iri_text.specs.declared.streams.memory_sink.MemorySink.{MemorySink};
 ghost use Rattle.iri_cli.specs.run.Ending.{Rules, ending};
 ghost use Rattle.iri_cli.specs.run.Run.{outside, Runs};
 
@@ -21,12 +22,13 @@ use iri_normal::mode::CanonMode;
 /// output of their ending, a run has that ending's status and writes its output, or allocation
 /// failed at a line.
 pub fn run_over_memory()
-    ensures { (rules : Rules) (input left : List ℕ) (old new : MemorySinkState) (status : ℕ)
+    ensures { (rules : Rules) (input left : List ℕ) (old new : MemorySink) (status : ℕ)
         → Runs rules (outside (Some input) 0 (state_of old)) (outside (Some left) 0 (state_of new))
         status
-        → old.fails ≡ [] → length old.written + length (ending rules input).output ≤ old.room →
+        → old.fails.now ≡ [] → length (memory_written old) + length (ending rules input).output
+        ≤ length old.buf.now →
         ((status ≡ (ending rules input).status)
-        × (new.written ≡ old.written ++ (ending rules input).output))
+        × (memory_written new ≡ memory_written old ++ (ending rules input).output))
         ⊎ ((status ≡ 6) × (rules.takes_memory ≡ true)) }
 {}
 

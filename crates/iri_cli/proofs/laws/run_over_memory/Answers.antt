@@ -1,12 +1,12 @@
 use Rattle.std.proofs.Common.{arith, refl, subst, sym}
 use Rattle.std.specs.Prelude.{◌-◌, length}
 use Rattle.iri_text.specs.Sink.{HasRoom}
-use Rattle.iri_text.specs.Memory.{unless_failing}
+use Rattle.iri_text.specs.Memory.{memory_written, unless_failing}
 use Rattle.iri_cli.specs.run.Ending.{ending}
 use Rattle.iri_cli.proofs.laws.run_over_memory.Goals as goal
 
 pub returns : goal.returns
 returns c rules input left old new status runs none room =
     runs.completes_in_room input refl (λ rose. absurd (omega (arith, rose)))
-    (subst (λ f. HasRoom (unless_failing f (old.room - length old.written)) (length (ending rules input).output)) (sym none)
+    (subst (λ f. HasRoom (unless_failing f (length old.buf.now - length (memory_written old))) (length (ending rules input).output)) (sym none)
     (omega (arith, room)))
