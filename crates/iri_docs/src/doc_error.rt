@@ -65,6 +65,8 @@ impl Show for DocError {
 impl fmt::Display for DocError {
     ghost output = { λ e. Some (description e) };
 
+    ghost styled_output = { λ e _. Some (description e) };
+
     fn fmt<W: fmt::Write>(&self, f: &mut fmt::Formatter<W>) -> fmt::Result {
         FormatSink::new(f).display(self)
     }

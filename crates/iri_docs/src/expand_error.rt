@@ -63,6 +63,8 @@ impl Show for DocExpandError {
 impl fmt::Display for DocExpandError {
     ghost output = { λ e. Some (expand_description e) };
 
+    ghost styled_output = { λ e _. Some (expand_description e) };
+
     fn fmt<W: fmt::Write>(&self, f: &mut fmt::Formatter<W>) -> fmt::Result {
         FormatSink::new(f).display(self)
     }

@@ -178,6 +178,8 @@ impl<'a, S: Spec, K: WholeKind> fmt::Display for PasswordMasked<'a, View<'a, S, 
 
     ghost output = { λ m. Some (masked (text (masked_view m))) };
 
+    ghost styled_output = { λ m _. Some (masked (text (masked_view m))) };
+
     fn fmt<W: fmt::Write>(&self, f: &mut fmt::Formatter<W>) -> fmt::Result {
         FormatSink::new(f).display(self)
     }
@@ -200,6 +202,8 @@ impl<'a, S: Spec, K: WholeKind, D: Show> fmt::Display for PasswordReplaced<'a, V
     ghost use Rattle.iri_edit.specs.Shown.{replaced_view, alternative, text_replaced};
 
     ghost output = { λ r. Some (text_replaced D.text (text (replaced_view r)) (alternative r)) };
+
+    ghost styled_output = { λ r _. Some (text_replaced D.text (text (replaced_view r)) (alternative r)) };
 
     fn fmt<W: fmt::Write>(&self, f: &mut fmt::Formatter<W>) -> fmt::Result {
         FormatSink::new(f).display(self)

@@ -48,6 +48,8 @@ impl fmt::Display for LinkKind {
 
     ghost output = { λ k. Some (words k) };
 
+    ghost styled_output = { λ k _. Some (words k) };
+
     fn fmt<W: fmt::Write>(&self, f: &mut fmt::Formatter<W>) -> fmt::Result {
         FormatSink::new(f).display(self)
     }
@@ -79,6 +81,8 @@ impl fmt::Display for LinkError {
     ghost use Rattle.iri_link.specs.ErrorTexts.{displayed};
 
     ghost output = { λ e. Some (displayed e) };
+
+    ghost styled_output = { λ e _. Some (displayed e) };
 
     fn fmt<W: fmt::Write>(&self, f: &mut fmt::Formatter<W>) -> fmt::Result {
         FormatSink::new(f).display(self)

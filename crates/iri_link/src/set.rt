@@ -201,6 +201,8 @@ impl<S: Spec> fmt::Display for LinkSet<S> {
 
     ghost output = { λ l. Some (written l) };
 
+    ghost styled_output = { λ l _. Some (written l) };
+
     fn fmt<W: fmt::Write>(&self, f: &mut fmt::Formatter<W>) -> fmt::Result {
         FormatSink::new(f).display(self)
     }

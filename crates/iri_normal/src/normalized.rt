@@ -203,6 +203,8 @@ impl<S: Spec, K: NormalKind> fmt::Display for NormalizedText<'_, S, K> {
 
     ghost output = { λ n. Some (written_text S.tests (written n)) };
 
+    ghost styled_output = { λ n _. Some (written_text S.tests (written n)) };
+
     fn fmt<W: fmt::Write>(&self, f: &mut fmt::Formatter<W>) -> fmt::Result {
         FormatSink::new(f).display(self)
     }

@@ -12,6 +12,8 @@ pub struct Unresolvable;
 impl fmt::Display for Unresolvable {
     ghost output = { λ _. Some (codes "unresolvable IRI") };
 
+    ghost styled_output = { λ _ _. Some (codes "unresolvable IRI") };
+
     fn fmt<W: fmt::Write>(&self, f: &mut fmt::Formatter<W>) -> fmt::Result {
         f.write_str("unresolvable IRI")
     }

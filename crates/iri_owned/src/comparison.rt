@@ -74,6 +74,8 @@ impl<S: Spec, K: Kind> Show for Owned<S, K> {
 impl<S: Spec, K: Kind> fmt::Display for Owned<S, K> {
     ghost output = { λ t. Some t.text };
 
+    ghost styled_output = { λ t _. Some t.text };
+
     fn fmt<W: fmt::Write>(&self, f: &mut fmt::Formatter<W>) -> fmt::Result {
         FormatSink::new(f).display(self)
     }

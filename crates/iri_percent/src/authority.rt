@@ -157,6 +157,8 @@ impl<S: Spec> Show for NormalizedAuthority<'_, S> {
 impl<S: Spec> fmt::Display for NormalizedAuthority<'_, S> {
     ghost output = { λ a. Some (normal_authority_in S.tests (now_of a.dropped_port) a.authority.now) };
 
+    ghost styled_output = { λ a _. Some (normal_authority_in S.tests (now_of a.dropped_port) a.authority.now) };
+
     fn fmt<W: fmt::Write>(&self, f: &mut fmt::Formatter<W>) -> fmt::Result {
         FormatSink::new(f).display(self)
     }

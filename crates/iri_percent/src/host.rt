@@ -157,6 +157,8 @@ impl<S: Spec> Show for NormalizedHost<'_, S> {
 impl<S: Spec> fmt::Display for NormalizedHost<'_, S> {
     ghost output = { λ h. Some (normal_host S.tests h.host.now) };
 
+    ghost styled_output = { λ h _. Some (normal_host S.tests h.host.now) };
+
     fn fmt<W: fmt::Write>(&self, f: &mut fmt::Formatter<W>) -> fmt::Result {
         FormatSink::new(f).display(self)
     }

@@ -107,6 +107,8 @@ impl<'a, S: Spec, K: MappedKind> fmt::Display for MappedToUri<'a, View<'a, S, K>
 
     ghost output = { λ m. Some (mapped (text m.view)) };
 
+    ghost styled_output = { λ m _. Some (mapped (text m.view)) };
+
     fn fmt<W: fmt::Write>(&self, f: &mut fmt::Formatter<W>) -> fmt::Result {
         FormatSink::new(f).display(self)
     }

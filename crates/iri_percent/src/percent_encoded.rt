@@ -190,6 +190,8 @@ impl<T: Show, S: Spec> Show for PercentEncoded<T, S> {
 impl<T: Show, S: Spec> fmt::Display for PercentEncoded<T, S> {
     ghost output = { λ e. Some (encoded (keeps S.tests e.context) (T.text e.raw)) };
 
+    ghost styled_output = { λ e _. Some (encoded (keeps S.tests e.context) (T.text e.raw)) };
+
     fn fmt<W: fmt::Write>(&self, f: &mut fmt::Formatter<W>) -> fmt::Result {
         FormatSink::new(f).display(self)
     }

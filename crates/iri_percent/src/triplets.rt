@@ -67,6 +67,8 @@ impl<S: Spec> Show for PctCaseNormalized<'_, S> {
 impl<S: Spec> fmt::Display for PctCaseNormalized<'_, S> {
     ghost output = { λ p. Some (pct S.tests p.part.now) };
 
+    ghost styled_output = { λ p _. Some (pct S.tests p.part.now) };
+
     fn fmt<W: fmt::Write>(&self, f: &mut fmt::Formatter<W>) -> fmt::Result {
         FormatSink::new(f).display(self)
     }

@@ -71,6 +71,8 @@ impl fmt::Display for Part {
 
     ghost output = { λ part. Some (part_name part) };
 
+    ghost styled_output = { λ part _. Some (part_name part) };
+
     fn fmt<W: fmt::Write>(&self, f: &mut fmt::Formatter<W>) -> fmt::Result {
         FormatSink::new(f).display(self)
     }
@@ -80,6 +82,8 @@ impl fmt::Display for Step {
     ghost use Rattle.iri_resolve.specs.StepTexts.{step_text};
 
     ghost output = { λ step. Some (step_text step) };
+
+    ghost styled_output = { λ step _. Some (step_text step) };
 
     fn fmt<W: fmt::Write>(&self, f: &mut fmt::Formatter<W>) -> fmt::Result {
         FormatSink::new(f).display(self)

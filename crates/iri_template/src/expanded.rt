@@ -90,6 +90,8 @@ impl<'a, S: Spec, C: Context> fmt::Display for Expanded<'a, S, C> {
 
     ghost output = { λ e. Some (expanded_text S.tests C.value_of e) };
 
+    ghost styled_output = { λ e _. Some (expanded_text S.tests C.value_of e) };
+
     fn fmt<W: fmt::Write>(&self, f: &mut fmt::Formatter<W>) -> fmt::Result {
         FormatSink::new(f).display(self)
     }

@@ -247,6 +247,8 @@ impl Show for UriTemplateString {
 impl fmt::Display for UriTemplateString {
     ghost output = { λ t. Some t.text };
 
+    ghost styled_output = { λ t _. Some t.text };
+
     fn fmt<W: fmt::Write>(&self, f: &mut fmt::Formatter<W>) -> fmt::Result {
         FormatSink::new(f).display(self)
     }

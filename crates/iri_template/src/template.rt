@@ -262,6 +262,8 @@ impl fmt::Display for UriTemplateStr<'_> {
 
     ghost output = { λ v. Some (text v) };
 
+    ghost styled_output = { λ v _. Some (text v) };
+
     fn fmt<W: fmt::Write>(&self, f: &mut fmt::Formatter<W>) -> fmt::Result {
         FormatSink::new(f).display(self)
     }
