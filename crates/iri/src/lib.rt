@@ -2,8 +2,8 @@
 //! the one crate that a program names. Each item is that of the crate below that has it, with its contract; the modules
 //! are named as those of the Rust crate `iri-string`.
 //!
-//! - [`types`] has the views and the owned texts, [`components`] the parts of an authority, [`validate`] the test of
-//!   each production, [`spec`] the two grammars.
+//! - [`types`] has the views and the owned texts, [`components`] the parts of a text and of an authority, [`validate`] the
+//!   test of each production, [`class`] the classes of characters, [`spec`] the two grammars.
 //! - [`resolve`] resolves references, [`normalize`] puts texts into normal form and compares them, [`steps`] tells why
 //!   two are one.
 //! - [`percent_encode`] encodes and decodes values, [`convert`] maps IRIs to URIs, [`build`] makes a text from its
@@ -13,6 +13,7 @@
 //!   [`docs`] expands template documents in JSON.
 //! - [`format`](mod@format) shows values to sinks, [`streams`] reads lines and writes bytes.
 //! - [`prelude`] has the traits whose methods these give: `use iri::prelude::*;`.
+//! - [`laws`] has what holds of all of this, for a program's own proofs.
 //!
 //! What a call may answer besides what was asked for stands in its docs with the cause, under `# Errors` where it is an
 //! error. *Exactly where* says that it comes there and nowhere else, but that it yields to an allocation that fails;
@@ -38,6 +39,7 @@ pub mod convert;
 pub mod docs;
 pub mod edit;
 pub mod format;
+pub mod laws;
 pub mod normalize;
 pub mod percent_encode;
 pub mod prelude;
@@ -48,6 +50,6 @@ pub mod streams;
 pub mod template;
 pub mod types;
 
-pub use iri_grammar::{spec, validate};
+pub use iri_grammar::{class, spec, validate};
 pub use iri_link as link;
 pub use iri_robots as robots;

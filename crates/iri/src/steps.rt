@@ -1,5 +1,6 @@
 //! The steps that lead a target to its normal form.
 
+pub use iri_normal::{MergedPath, TargetSlices};
 pub use iri_normal::owned_target::Target;
 pub use iri_resolve::join::{join_steps, join_steps_in};
 pub use iri_resolve::normal_steps::{
