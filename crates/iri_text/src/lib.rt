@@ -7,8 +7,8 @@
 //! - [`LineReader`] gives the lines of any source, with a limit for the bytes of a line and one for those of the whole input.
 //! - [`Show`] is a value with a text, and [`TextSink`] takes text in pieces and needn't keep it. [`SliceSink`] keeps it in a
 //!   slice, [`StringSink`] at the end of a string.
-//! - [`write_to_slice`], [`try_append_to_string`], [`ToStringFallible`] and [`ToDedicatedString`] take the text of a value, and
-//!   [`FormatSink::display`] makes a `Display` of a `Show`.
+//! - [`write_to_slice`], [`write_at_start`], [`try_append_to_string`], [`ToStringFallible`] and [`ToDedicatedString`] take the
+//!   text of a value, and [`FormatSink::display`] makes a `Display` of a `Show`.
 //! - [`show_two`] to [`show_five`] and [`show_each`] show values in a row: a `show` of several pieces is one call of these.
 //! - [`Text`] and [`Bytes`] own a text and bytes.
 //!

@@ -10,6 +10,7 @@ struct ShortWriter {
     got: Vec<u8>,
     failing: Option<usize>,
     full: usize,
+    flushes: u8,
 }
 
 impl Write for ShortWriter {
@@ -28,6 +29,7 @@ impl Write for ShortWriter {
     }
 
     fn flush(&mut self) -> io::Result<()> {
+        self.flushes = self.flushes.saturating_add(1);
         Ok(())
     }
 }
@@ -38,6 +40,7 @@ fn writes_until_all_is_taken(rt: HostRuntime) -> Result<(), Fail> {
         got: Vec::with_capacity(rt.alloc(), 10)?,
         failing: Some(7),
         full: 10,
+        flushes: 0,
     });
     assert!(rt; sink.put_all(b"abcdefg").is_ok());
     assert!(rt; tells(rt.alloc(), &sink, &["faults: 0,"])?);
@@ -118,5 +121,24 @@ fn flushes_a_writer_before_any_put(rt: HostRuntime) -> Result<(), Fail> {
     });
     assert!(rt; sink.flush().is_ok());
     assert!(rt; tells(rt.alloc(), &sink, &["flushes: 1 ", "out: [97]"])?);
+    Ok(())
+}
+
+// A piece that isn't empty may leave bytes pending, also where the writer took none of it.
+#[test]
+fn flushes_after_a_piece_that_failed(rt: HostRuntime) -> Result<(), Fail> {
+    let mut sink = WriteSink::new(ShortWriter {
+        got: Vec::new(rt.alloc()),
+        failing: None,
+        full: 0,
+        flushes: 0,
+    });
+    assert!(rt; sink.flush().is_ok());
+    assert!(rt; sink.put_all(b"").is_ok());
+    assert!(rt; sink.flush().is_ok());
+    assert!(rt; tells(rt.alloc(), &sink, &["flushes: 1 "])?);
+    assert!(rt; sink.put_all(b"a").is_err());
+    assert!(rt; sink.flush().is_ok());
+    assert!(rt; tells(rt.alloc(), &sink, &["flushes: 2 "])?);
     Ok(())
 }
