@@ -1,4 +1,5 @@
 pub mod Buffers
+pub mod Bounds
 pub mod Building
 pub mod Edits
 pub mod Encodings

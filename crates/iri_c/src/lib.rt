@@ -20,6 +20,7 @@ mod fault;
 mod fault_part;
 mod grammar;
 mod hosts;
+pub mod laws;
 mod lines;
 mod mapping;
 mod names;

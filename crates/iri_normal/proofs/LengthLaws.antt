@@ -1,4 +1,4 @@
--- The canonical text has at most 3 bytes more than base and reference together.
+-- How many bytes a form, a target and a canonical text have at most.
 use Rattle.std.proofs.Common.{◌≡◌, ℕ, ◌+◌, ◌≤◌, Bool, true, false, cond, ◌&&◌, ◌||◌, not, List, [], ◌∷◌, ◌++◌, Option, Some, None, length}
 use Rattle.std.proofs.Common.{map, refl, sym, ap, subst, arith, length-append}
 use Rattle.std.specs.Prelude.{is_some}
@@ -18,6 +18,7 @@ use Rattle.iri_percent.specs.NormalHost.{is_ascii_host, is_dropped, normal_host,
 use Rattle.iri_percent.specs.NormalHost.{normal_authority, normal_authority_in}
 use Rattle.iri_percent.specs.SchemeRules.{dropped_port}
 use Rattle.iri_percent.specs.declared.canon_mode.CanonMode.{CanonMode}
+use Rattle.iri_percent.specs.declared.canon_mode.CanonMode.TheVariants.{Scheme}
 use Rattle.iri_percent.proofs.Authorities.{authority_in}
 use Rattle.iri_percent.proofs.UnitLaws.{length-spelled}
 use Rattle.iri_percent.proofs.NormalLaws.{normal_nil, normal_plain, normal_lone, normal_char}
@@ -26,7 +27,10 @@ use Rattle.iri_normal.specs.LowerCase.{lowered, where_there}
 use Rattle.iri_normal.specs.Dots.{is_dot_segment}
 use Rattle.iri_normal.specs.DotRemoval.{is_two_dots, without_last, dots}
 use Rattle.iri_normal.specs.Target.{target, target_under, target_path, target_query, merged, merge_prefix, to_last_slash, or_base}
-use Rattle.iri_normal.specs.NormalForm.{becomes_slash, canonical_in, canonical_parts_in, normal_parts, normal_path, slash_or}
+use Rattle.iri_normal.specs.NormalForm.{becomes_slash, canonical_in, canonical_parts_in, form, normal_parts, normal_path, parts_with, plain_path, preserved_path}
+use Rattle.iri_normal.specs.NormalForm.{slash_or}
+use Rattle.iri_normal.specs.declared.mode.Mode.{Mode}
+use Rattle.iri_normal.specs.declared.mode.Mode.TheVariants.{Plain, Normal, Preserving, ByScheme}
 use Rattle.iri_normal.proofs.CanonLaws.{canonical_in-text}
 use Rattle.iri_normal.proofs.SchemeForm.{normal-is}
 use Rattle.iri_normal.proofs.OutputLaws.{closed_text, text_after, text_from, dots-text}
@@ -191,22 +195,59 @@ length-fragment : (s : Tests) (o : Option (List ℕ)) → IsSpec s → if_there 
 length-fragment s None k h = omega arith
 length-fragment s (Some x) k h = let l = length-pct s x (fragment-whole s x k h) in omega arith
 
-length-slashed : (s : Tests) (b : Bool) (a : Option (List ℕ)) (p : List ℕ) → IsSpec s → is_path s p ≡ true
-    → length (slash_or b (normal_path s a p)) ≤ length p + 2
-length-slashed s true a p k h = omega arith
-length-slashed s false a p k h = length-path s a p k h
+length-slashed : (b : Bool) (p path : List ℕ) → length path ≤ length p + 2 → length (slash_or b path) ≤ length p + 2
+length-slashed true p path h = omega arith
+length-slashed false p path h = h
+
+length-with : (s : Tests) (d : Option (List ℕ)) (path : List ℕ) (t : Parts) → IsSpec s → Fits s t → length path ≤ length t.path + 2
+    → length (recompose (parts_with s true d path t)) ≤ length (recompose t) + 2
+length-with s d path t k f h =
+    let a = length-scheme t.scheme in
+    let b = length-authorities_in s d t.authority k f.authority in
+    let c = length-slashed (becomes_slash d t.authority t.path) t.path path h in
+    let q = length-query s t.query k f.query in
+    let e = length-fragment s t.fragment k f.fragment in
+    let left = length-parts (parts_with s true d path t) in
+    let right = length-parts t in
+    omega arith
 
 length-normal : (s : Tests) (d : Option (List ℕ)) (t : Parts) → IsSpec s → Fits s t
     → length (recompose (normal_parts s d t)) ≤ length (recompose t) + 2
-length-normal s d t k f =
-    let a = length-scheme t.scheme in
-    let b = length-authorities_in s d t.authority k f.authority in
-    let c = length-slashed s (becomes_slash d t.authority t.path) t.authority t.path k f.path in
-    let q = length-query s t.query k f.query in
-    let e = length-fragment s t.fragment k f.fragment in
-    let left = length-parts (normal_parts s d t) in
+length-normal s d t k f = length-with s d (normal_path s t.authority t.path) t k f (length-path s t.authority t.path k f.path)
+
+-- ---- the forms
+length-preserved : (s : Tests) (a : Option (List ℕ)) (p : List ℕ) → IsSpec s → is_path s p ≡ true
+    → length (preserved_path s a p) ≤ length p + 2
+length-preserved s a p k h =
+    let l = length-pct s p (path-whole s p k h) in
+    let n = length-path s a p k h in
+    elim (is_some a || starts_with_slash p) as (λ b. length (cond b (normal_path s a p) (pct s p)) ≤ length p + 2)
+    [ true ↦ n | false ↦ omega arith ]
+
+length-plain : (whole : Bool) (a : Option (List ℕ)) (p : List ℕ) → length (plain_path whole a p) ≤ length p + 2
+length-plain true a p = omega arith
+length-plain false a p =
+    let l = length-dots p in
+    elim (is_some a || not (starts_with_slashes (dots p))) as (λ b. length (cond b (dots p) (47 ∷ 46 ∷ dots p)) ≤ length p + 2)
+    [ true ↦ omega arith | false ↦ omega arith ]
+
+pub length-plain_form : (s : Tests) (whole : Bool) (t : Parts) → length (recompose (form s Plain whole t)) ≤ length (recompose t) + 2
+unfolding form
+length-plain_form s whole t =
+    let path = plain_path whole t.authority t.path in
+    let l = length-plain whole t.authority t.path in
+    let left = length-parts (parts_with s false None path t) in
     let right = length-parts t in
     omega arith
+
+pub length-form : (s : Tests) (mode : Mode) (whole : Bool) (t : Parts) → IsSpec s → Fits s t
+    → length (recompose (form s mode whole t)) ≤ length (recompose t) + 2
+unfolding form
+length-form s Plain whole t k f = length-plain_form s whole t
+length-form s Normal whole t k f = length-normal s None t k f
+length-form s Preserving whole t k f =
+    length-with s None (preserved_path s t.authority t.path) t k f (length-preserved s t.authority t.path k f.path)
+length-form s ByScheme whole t k f = length-normal s (dropped_port Scheme t.scheme) t k f
 
 -- ---- the target
 length-to_last_slash : (xs : List ℕ) → length (to_last_slash xs) ≤ length xs

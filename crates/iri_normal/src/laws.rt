@@ -2,7 +2,7 @@
 //! normal form by the rules of every scheme, and of that by scheme rules.
 ghost use Rattle.std.specs.Prelude.{◌≡◌, ◌↔◌, ℕ, ◌+◌, ◌≤◌, Bool, List, IsSome, true, false, length};
 ghost use Rattle.iri_grammar.specs.Classes.{uri_tests};
-ghost use Rattle.iri_grammar.specs.Parts.{Parts, Fits, Splits, IsReference, IsIri, IsAbsolute};
+ghost use Rattle.iri_grammar.specs.Parts.{Parts, Fits, Splits, IsReference, IsIri, IsAbsolute, recompose};
 ghost use Rattle.iri_grammar.specs.Split.{split_of};
 ghost use Rattle.iri_percent.specs.Units.{whole_triplets};
 ghost use Rattle.iri_percent.specs.Triplets.{pct};
@@ -23,6 +23,12 @@ use iri_grammar::spec::Spec;
 pub fn target_fits<S: Spec>()
     ensures { (base reference : Parts) → Fits S.tests base → IsSome base.scheme → Fits S.tests reference
         → Fits S.tests (target base reference) × IsSome (target base reference).scheme }
+{}
+
+/// The target has at most one byte more than base and reference together.
+pub fn target_is_short()
+    ensures { (base reference : Parts)
+        → length (recompose (target base reference)) ≤ length (recompose base) + length (recompose reference) + 1 }
 {}
 
 /// The steps of dot removal lead from each path to one result, and `dots` is that result.
@@ -62,6 +68,12 @@ pub fn normal_form_is_stable<S: Spec>()
 pub fn every_form_fits<S: Spec>()
     ensures { (mode : Mode) (whole : Bool) (parts : Parts) → Fits S.tests parts → IsSome parts.scheme
         → Fits S.tests (form S.tests mode whole parts) × IsSome (form S.tests mode whole parts).scheme }
+{}
+
+/// Parts that fit, written in any mode, have at most 2 bytes more than as they stand.
+pub fn every_form_is_short<S: Spec>()
+    ensures { (mode : Mode) (whole : Bool) (parts : Parts) → Fits S.tests parts
+        → length (recompose (form S.tests mode whole parts)) ≤ length (recompose parts) + 2 }
 {}
 
 /// The preserving form of parts that fit is its own preserving form.

@@ -1,0 +1,5 @@
+use Rattle.iri_normal.proofs.LengthLaws.{length-target}
+use Rattle.iri_normal.proofs.laws.target_is_short.Goals as goal
+
+pub returns : goal.returns
+returns c = length-target
