@@ -94,7 +94,10 @@ function startButtons() {
 // The module is in the page where the page is one file.
 function inside() {
   const coded = at("module")?.textContent;
-  return coded && Uint8Array.from(atob(coded), (letter) => letter.charCodeAt(0));
+  if (coded === undefined) return undefined;
+  const letters = atob(coded), bytes = new Uint8Array(letters.length);
+  for (let i = 0; i < letters.length; i += 1) bytes[i] = letters.charCodeAt(i);
+  return bytes;
 }
 
 async function start() {

@@ -6,6 +6,8 @@ const RULES = {
   "invalid-reg-name": ["a registered name", "3.2.2"], "invalid-port": ["a port", "3.2.3"], "invalid-path": ["a path", "3.3"],
   "invalid-query": ["a query", "3.4"], "invalid-fragment": ["a fragment", "3.5"],
 };
+// What stands before a port, and a host in brackets with one.
+const BEFORE_PORT = /\/\/(?:[^/?#]*@)?[^/?#@:[]*:[^/?#@]*$/, LITERAL_WITH_PORT = /^(\[[^\]]*\]):(.*)$/s;
 const NAMES = { " ": "A space", "\t": "A tab", "\u00a0": "A no-break space", "\ufeff": "U+FEFF" };
 
 const section = (number) => `RFC 3986 section ${number}`;
@@ -31,6 +33,15 @@ function ruleOf(text, fault, [start, end], { grammar, isOfIris }) {
   return `${cannot} (${grammar === "iri" && piece > "\u007f" ? "RFC 3987 section 2.2" : section(number)})`;
 }
 
+// What is told of a host in brackets, which is marked with its port.
+function literalRule(piece, isOfIris) {
+  const [, literal, port] = LITERAL_WITH_PORT.exec(piece) ?? [];
+  if (literal !== undefined && isOfIris(`//${literal}`)) return portRule(port);
+  return `“${piece}” is no IP literal (${section("3.2.2")})`;
+}
+
+const portRule = (piece) => `${named(piece)} may not stand in a port, which has digits alone (${section("3.2.3")})`;
+
 // The rule by which a scheme is refused.
 function schemeRule(text, [start, end]) {
   const piece = text.slice(start, end);
@@ -49,19 +60,18 @@ function explain(text, fault, range, { grammar, encode, isOfIris }) {
   if (fault === "invalid-scheme") return { rule: schemeRule(text, range) };
   if (range === null || range[0] === range[1]) return {};
   const [start, end] = range, piece = text.slice(start, end);
-  if (fault === "invalid-utf8") return { rule: `U+${piece.charCodeAt(0).toString(16).toUpperCase()} alone is half of a surrogate pair, and no character` };
+  if (fault === "invalid-utf8") return { rule: `${named(piece)} alone is half of a surrogate pair, and no character` };
   if (piece.startsWith("%")) {
     const rule = `“${piece}” isn’t “%” and two hex digits (${section("2.1")})`;
     return { rule, mend: mended(text, [start, start + 1], "%25", "Write %25 for “%”") };
   }
-  if (piece.startsWith("[") && RULES[fault][0] === "a host") return { rule: `“${piece}” is no IP literal (${section("3.2.2")})` };
+  if (fault === "invalid-host" && piece.startsWith("[")) return { rule: literalRule(piece, isOfIris) };
+  if (fault === "invalid-port" || fault === "invalid-host" && BEFORE_PORT.test(text.slice(0, start))) return { rule: portRule(piece) };
   if (piece === ":" && fault === "invalid-path" && !/[/?#]/.test(text.slice(0, start))) {
     const rule = `“:” may not stand in the first segment of a relative path (${section("4.2")})`;
     return { rule, mend: mended(text, [0, 0], "./", "Write ./ in front") };
   }
-  const rule = ruleOf(text, fault, range, { grammar, isOfIris });
-  if (fault === "invalid-port") return { rule };
-  return { rule, mend: mended(text, range, encode(piece), `Write ${encode(piece)}`) };
+  return { rule: ruleOf(text, fault, range, { grammar, isOfIris }), mend: mended(text, range, encode(piece), `Write ${encode(piece)}`) };
 }
 
 export { explain };

@@ -52,6 +52,24 @@ async function openPage(url) {
     if (method === "Page.loadEventFired") loaded?.();
   });
   const call = (method, params) => send(method, params, sessionId);
+  // How long the page's thread worked in its longest task while something ran, in milliseconds: on a machine with other work that
+  // isn't the clock.
+  const longestTask = async (during) => {
+    const events = [];
+    let ended;
+    on(({ method, params }) => {
+      if (method === "Tracing.dataCollected") events.push(...params.value);
+      if (method === "Tracing.tracingComplete") ended();
+    });
+    await send("Tracing.start", { transferMode: "ReportEvents", traceConfig: { includedCategories: ["toplevel"] } });
+    await during();
+    await new Promise((done) => { ended = done; send("Tracing.end"); });
+    const threads = events.filter(({ name, args }) => name === "thread_name" && args.name === "CrRendererMain");
+    const isOfPage = ({ pid, tid }) => threads.some((thread) => thread.pid === pid && thread.tid === tid);
+    const tasks = events.filter((event) => event.name.endsWith("RunTask") && event.tdur !== undefined && isOfPage(event));
+    if (!tasks.length) throw new Error("no task was seen");
+    return Math.max(...tasks.map(({ tdur }) => tdur / 1000));
+  };
   for (const domain of ["Network", "Runtime", "Log", "Page"]) await call(`${domain}.enable`);
   const go = async (to) => {
     const done = new Promise((resolve) => { loaded = resolve; });
@@ -66,7 +84,7 @@ async function openPage(url) {
     return result.value;
   };
   await go(url);
-  return { call, evaluate, requests, errors, close };
+  return { call, longestTask, evaluate, requests, errors, close };
 }
 
 export { openPage };
