@@ -23,6 +23,13 @@ def slots_of(text: bytes, grammar: Grammar) -> Any:
     return slots if _split(grammar, text, len(text), slots, size_t()) == OK else None
 
 
+def _slots_of_reference(text: bytes, grammar: Grammar) -> Any:
+    slots = slots_of(text, grammar)
+    if slots is None:
+        raise Refused(BAD_TEXT, fault(text, REFERENCE, grammar))
+    return slots
+
+
 def part_of(text: bytes, slots: Any, part: int) -> str | None:
     """A part of a reference, or None where it isn't there."""
     start = slots[part]
@@ -42,7 +49,7 @@ class SplitResult(NamedTuple):
         if self.netloc is None:
             return None
         text = bytes_of("//" + self.netloc)
-        return part_of(text, slots_of(text, IRI), part)
+        return part_of(text, _slots_of_reference(text, IRI), part)
 
     @property
     def userinfo(self) -> str | None:
@@ -103,9 +110,7 @@ def split(text: Text, grammar: Grammar = URI) -> SplitResult:
     Raises `Refused` where the text is no reference.
     """
     passed = bytes_of(text)
-    slots = slots_of(passed, of_kind(grammar, Grammar))
-    if slots is None:
-        raise Refused(BAD_TEXT, fault(passed, REFERENCE, grammar))
+    slots = _slots_of_reference(passed, of_kind(grammar, Grammar))
     scheme, netloc, path, query, fragment = [part_of(passed, slots, part) for part in (SCHEME, AUTHORITY, PATH, QUERY, FRAGMENT)]
     return SplitResult(scheme, netloc, path or "", query, fragment)
 

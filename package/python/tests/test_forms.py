@@ -130,6 +130,12 @@ class Parts(Refusals):
         empty = irikit.split("//@:/")
         self.assertEqual((*empty, empty.port), (None, "@:", "/", None, None, None))
 
+    def test_another_authority(self):
+        parts = irikit.split("//h:1")._replace(netloc="a b")
+        with self.assertRaisesRegex(Refused, "invalid host"):
+            parts.hostname
+        self.assertEqual(parts._replace(netloc="[::1]:2").port, 2)
+
     def test_build(self):
         foo = dict(scheme="foo", host="example.com", port="8042", path="/over/there", query="name=ferret", fragment="nose")
         self.assertEqual(irikit.build(kind=WITH_SCHEME, **foo), "foo://example.com:8042/over/there?name=ferret#nose")
