@@ -67,9 +67,9 @@ def main(scheduler, grammar, size, out, *files):
     merged = [out / f"share{share}" for share in range(SHARES)]
     with Client(scheduler) as client:
         top = pathlib.Path(__file__).resolve().parents[2]
-        client.upload_file(str(top / "examples/python/canon.py"))
         with tempfile.TemporaryDirectory() as folder:
             client.upload_file(shutil.make_archive(f"{folder}/irikit", "zip", top / "package/python", "irikit"))
+        client.upload_file(str(top / "examples/python/canon.py"))
         client.compute([delayed(merge_share)([part[share] for part in parts], path) for share, path in enumerate(merged)], sync=True)
     with open(out / "counts", "wb") as counts:
         counts.writelines(heapq.merge(*[open(path, "rb") for path in merged]))
