@@ -94,6 +94,20 @@ class Forms(Refusals):
         self.refused(Status.BAD_TEXT, Fault.INVALID_UTF8, irikit.encode, "\ud800")
 
 
+class Empty(Refusals):
+    def test_empty(self):
+        for text in ("", b"", bytearray(), memoryview(b"")):
+            self.assertEqual((irikit.map_to_uri(text), irikit.encode(text), irikit.decode(text), irikit.fault(text)), ("", "", b"", None))
+            self.assertEqual((irikit.split(text), irikit.expand(text), irikit.variables(text)), ((None, None, "", None, None), "", []))
+            self.assertEqual((irikit.mask_password(text), irikit.with_fragment(text, text), irikit.without_password(text)), ("", "#", ""))
+            self.assertEqual((irikit.links(text, "a:"), irikit.Robots(text, "bot").allows(text)), ([], True))
+            self.assertEqual(irikit.run("canon uri", text), (b"base expected an absolute IRI but got a relative IRI\n", 3))
+            for call in (irikit.normalize, irikit.is_normalized, irikit.steps, irikit.Uri):
+                self.refused(Status.BAD_TEXT, Fault.UNEXPECTED_RELATIVE, call, text)
+            self.refused(Status.BAD_BASE, Fault.UNEXPECTED_RELATIVE, irikit.Links, text)
+            self.refused(Status.NO_HOST, None, irikit.with_host, text, text)
+
+
 class Edits(Refusals):
     def test_passwords(self):
         self.assertEqual(irikit.mask_password("http://u:pw@h/"), "http://u:@h/")

@@ -77,15 +77,20 @@ class Sharing(unittest.TestCase):
 
     def test_handler(self):
         """A handler that calls what it interrupted, in the same thread."""
-        handled = []
-        before = signal.signal(signal.SIGALRM, lambda *_: handled.append(ask("h", 2)))
-        signal.setitimer(signal.ITIMER_REAL, 0.001, 0.001)
+        handled, wrong = [], []
+
+        def handle(*_):
+            handled.append(ask("h", 2))
+            signal.setitimer(signal.ITIMER_REAL, 0.0005)
+
+        before = signal.signal(signal.SIGALRM, handle)
+        signal.setitimer(signal.ITIMER_REAL, 0.0005)
         try:
-            wrong = [one for _ in range(300) for one in ask("m", 20)]
+            while len(handled) < 400:
+                wrong += ask("m", 20)
         finally:
             signal.setitimer(signal.ITIMER_REAL, 0)
             signal.signal(signal.SIGALRM, before)
-        self.assertGreater(len(handled), 10)
         self.assertEqual((wrong[:3], [one for found in handled for one in found][:3]), ([], []))
 
     def test_processes(self):
