@@ -4,5 +4,6 @@ program=/usr/libexec/irikit/irikit
 statuses=/usr/share/irikit/statuses
 "$program" "$@"
 status=$?
+# shellcheck source=package/statuses
 [ "$status" -lt 2 ] || [ ! -r "$statuses" ] || . "$statuses"
 exit "$status"
