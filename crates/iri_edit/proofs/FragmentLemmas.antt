@@ -1,8 +1,8 @@
 -- Where a fragment stands in a text.
-use Rattle.std.proofs.Common.{◌≡◌, ℕ, ◌+◌, true, List, [], ◌∷◌, ◌++◌, length, Option, Some, None, refl, sym, ◌∙◌, ap, subst, arith}
-use Rattle.std.proofs.Common.{append_assoc, length-append}
+use Rattle.std.proofs.Common.{◌≡◌, ℕ, ◌+◌, ◌-◌, ◌≤◌, true, List, [], ◌∷◌, ◌++◌, length, take, drop, Option, Some, None, refl, sym, ◌∙◌, ap, subst}
+use Rattle.std.proofs.Common.{append_assoc, length-append, arith}
 use Rattle.std.specs.Str.{IsCharBoundary, chars, is_utf8}
-use Rattle.std.proofs.lemmas.List.{append-nil}
+use Rattle.std.proofs.lemmas.List.{append-nil, length-drop, length-take-le}
 use Rattle.std.proofs.lemmas.Str.{IsCharBoundary-end}
 use Rattle.iri_grammar.specs.Classes.{Tests, IsSpec}
 use Rattle.iri_grammar.specs.Components.{is_fragment}
@@ -69,6 +69,19 @@ pub put-after : (s : Tests) → IsSpec s → (t : List ℕ) → reference_fault 
     → signed ≡ before 35 t ++ 35 ∷ [] → n ≡ length signed → spliced signed n n f ≡ with_fragment t (Some f)
 put-after s k t h signed f n e l = spliced-end signed f n l
     ∙ (ap (λ z. z ++ f) e ∙ (append_assoc (before 35 t) (35 ∷ []) f ∙ sym (fragment-put s k t h f)))
+
+-- how long a text is with a fragment
+pub put-length : (s : Tests) → IsSpec s → (t : List ℕ) → reference_fault s t ≡ None → (start end : ℕ) → IsFragmentAt t start end
+    → (f : List ℕ) → length (with_fragment t (Some f)) ≡ start + 1 + length f
+put-length s k t h start end at f =
+    let within : start ≤ length t = omega (arith, at.ordered, at.at_end) in
+    let low : length (take start t) ≡ start = length-take-le start t within in
+    let rest : length (drop end t) ≡ length t - end = length-drop end t in
+    let all : length (with_fragment t (Some f)) ≡ length (spliced t start end (35 ∷ f)) =
+    ap length (fragment-put s k t h f ∙ sym (at.replaces (35 ∷ f))) in
+    let ahead = length-append (take start t) ((35 ∷ f) ++ drop end t) in
+    let back = length-append (35 ∷ f) (drop end t) in
+    omega (arith, low, rest, all, ahead, back, at.at_end)
 
 pub empty_fragment : (s : Tests) → is_fragment s [] ≡ true
 unfolding over_from chars is_utf8

@@ -1,5 +1,5 @@
 //! Fragments of owned texts changed in place (RFC 3986 section 3.5).
-ghost use Rattle.std.specs.Prelude.{◌≡◌, ℕ, IsSome, None, OnErr, OnOk, Some, option_map};
+ghost use Rattle.std.specs.Prelude.{◌≡◌, ℕ, ◌<◌, ◌≤◌, IsSome, None, OnErr, OnOk, Some, length, option_map};
 ghost use Rattle.iri_edit.specs.Fragment.{with_fragment};
 ghost use Rattle.iri_edit.specs.inside.Places.{IsFragmentAt};
 ghost use Rattle.iri_types.specs.Texts.{text};
@@ -12,35 +12,6 @@ use iri_text::Show;
 use iri_types::kind::FragmentKind;
 use iri_types::view::{RiFragmentStr, RiReferenceStr};
 use std::alloc::AllocError;
-
-/// Owned texts that may have a fragment (RFC 3986 section 3.5).
-pub trait SetFragment<F: Show>: Show {
-    /// How many bytes the text can have before it needs more memory.
-    ghost capacity: { Self → ℕ };
-
-    /// Puts a fragment in place of the text's, or after a text that has none; `None` takes out the fragment and its
-    /// `#`, and takes no memory.
-    ///
-    /// # Errors
-    ///
-    /// Where allocation fails, and only where a fragment is given; the text is as it was then.
-    ///
-    /// ```
-    /// use iri::edit::SetFragment;
-    /// use iri::types::{UriFragmentStr, UriString};
-    /// let mut link = UriString::try_from_str(rt.alloc(), "http://a/b")?;
-    /// link.set_fragment(Some(UriFragmentStr::new("s")?))?;
-    /// assert_eq!(rt; link.as_str(), "http://a/b#s");
-    /// link.set_fragment(None::<UriFragmentStr<'_>>)?;
-    /// assert_eq!(rt; link.as_str(), "http://a/b");
-    /// ```
-    fn set_fragment(&mut self, fragment: Option<F>) -> Result<(), AllocError>
-        ensures ok { OnOk result (Self.text self.new
-            ≡ with_fragment (Self.text self.old) (option_map F.text fragment)) }
-        ensures err { OnErr result (self.new ≡ self.old) }
-        ensures some { OnErr result (IsSome fragment) }
-        ensures capacity { fragment ≡ None → capacity self.new ≡ capacity self.old };
-}
 
 // Where the fragment's `#` is, or the end of the text where there is none; and the end.
 fn fragment_at<S: Spec>(reference: RiReferenceStr<'_, S>) -> (usize, usize)
@@ -66,6 +37,9 @@ fn put_fragment<S: Spec, K: FragmentKind>(
 ) -> Result<(), AllocError>
     ensures ok { OnOk result (owned.new.text ≡ with_fragment owned.old.text (Some (text fragment.entry))) }
     ensures err { OnErr result (owned.new ≡ owned.old) }
+    ensures full { OnErr result (owned.old.capacity
+        < length (with_fragment owned.old.text (Some (text fragment.entry)))) }
+    ensures room { owned.old.capacity ≤ owned.new.capacity }
 {
     let (start, end) = fragment_at(reference_of(owned));
     owned.try_reserve(fragment.len().saturating_add(1).saturating_sub(end - start))?;
@@ -73,6 +47,39 @@ fn put_fragment<S: Spec, K: FragmentKind>(
     let end = owned.as_str().len();
     put_in_room(owned, end, end, fragment.as_str());
     Ok(())
+}
+
+/// Owned texts that may have a fragment (RFC 3986 section 3.5).
+pub trait SetFragment<F: Show>: Show {
+    /// How many bytes the text can have before it needs more memory.
+    ghost capacity: { Self → ℕ };
+
+    /// Puts a fragment in place of the text's, or after a text that has none; `None` takes out the fragment and its
+    /// `#`, and takes no memory. The capacity never becomes less.
+    ///
+    /// # Errors
+    ///
+    /// Where allocation fails, and only where a fragment is given and what comes out is longer than the capacity; the
+    /// text is as it was then.
+    ///
+    /// ```
+    /// use iri::edit::SetFragment;
+    /// use iri::types::{UriFragmentStr, UriString};
+    /// let mut link = UriString::try_from_str(rt.alloc(), "http://a/b")?;
+    /// link.set_fragment(Some(UriFragmentStr::new("s")?))?;
+    /// assert_eq!(rt; link.as_str(), "http://a/b#s");
+    /// link.set_fragment(None::<UriFragmentStr<'_>>)?;
+    /// assert_eq!(rt; link.as_str(), "http://a/b");
+    /// ```
+    fn set_fragment(&mut self, fragment: Option<F>) -> Result<(), AllocError>
+        ensures ok { OnOk result (Self.text self.new
+            ≡ with_fragment (Self.text self.old) (option_map F.text fragment)) }
+        ensures err { OnErr result (self.new ≡ self.old) }
+        ensures some { OnErr result (IsSome fragment) }
+        ensures full { OnErr result (capacity self.old
+            < length (with_fragment (Self.text self.old) (option_map F.text fragment))) }
+        ensures capacity { fragment ≡ None → capacity self.new ≡ capacity self.old }
+        ensures room { capacity self.old ≤ capacity self.new };
 }
 
 impl<'f, S: Spec, K: FragmentKind> SetFragment<RiFragmentStr<'f, S>> for Owned<S, K> {
@@ -83,7 +90,10 @@ impl<'f, S: Spec, K: FragmentKind> SetFragment<RiFragmentStr<'f, S>> for Owned<S
             ≡ with_fragment self.old.text (option_map (λ f. text f) fragment.entry)) }
         ensures err { OnErr result (self.new ≡ self.old) }
         ensures some { OnErr result (IsSome fragment.entry) }
+        ensures full { OnErr result (self.old.capacity
+            < length (with_fragment self.old.text (option_map (λ f. text f) fragment.entry))) }
         ensures capacity { fragment.entry ≡ None → self.new.capacity ≡ self.old.capacity }
+        ensures room { self.old.capacity ≤ self.new.capacity }
     {
         match fragment {
             Some(fragment) => put_fragment(self, fragment),

@@ -1,6 +1,6 @@
 //! Hosts of owned texts replaced in place (RFC 3986 section 3.2.2).
 ghost use Rattle.std.specs.Borrow.{sem, follows_so};
-ghost use Rattle.std.specs.Prelude.{◌≡◌, ◌&&◌, ◌||◌, not, true, false, ⊤};
+ghost use Rattle.std.specs.Prelude.{◌≡◌, ℕ, ◌&&◌, ◌||◌, not, true, false, ⊤};
 ghost use mathlib.Core.Option.{none};
 ghost use Rattle.iri_edit.specs.Host.{HostChange, HostReplaced};
 ghost use Rattle.iri_owned.specs.contracts.owned.Owned.{the_row};
@@ -23,12 +23,16 @@ pub trait ReplaceHost: Show {
     /// The classes of its characters.
     ghost tests: { Tests };
 
+    /// How many bytes the text can have before it needs more memory.
+    ghost capacity: { Self → ℕ };
+
     /// Puts another host in place of the text's, and answers the new host's slice. `None`, with no change, exactly
-    /// where there is no authority or the new host is no host.
+    /// where there is no authority or the new host is no host. The capacity never becomes less.
     ///
     /// # Errors
     ///
-    /// Where allocation fails, and only where the host would be replaced; the text is as it was then.
+    /// Where allocation fails, and only where the host would be replaced and what comes out is longer than the capacity;
+    /// the text is as it was then.
     ///
     /// ```
     /// use iri::edit::ReplaceHost;
@@ -39,13 +43,14 @@ pub trait ReplaceHost: Show {
     /// ```
     fn try_replace_host(&mut self, new_host: &str) -> Result<Option<&str>, AllocError>
         ensures* host { sem 𝓛 (follows_so Self.row Self.row self.entry.ghost_name none (λ _ _. ⊤)
-            (λ after. HostChange tests false Self.text self.old after new_host.now result)) };
+            (λ after. HostChange tests false Self.text capacity self.old after new_host.now result)) };
 
     /// The same where the old host is a registered name; `None` also where it is an IP literal or an IPv4 address.
     ///
     /// # Errors
     ///
-    /// Where allocation fails, and only where the host would be replaced; the text is as it was then.
+    /// Where allocation fails, and only where the host would be replaced and what comes out is longer than the capacity;
+    /// the text is as it was then.
     ///
     /// ```
     /// use iri::edit::ReplaceHost;
@@ -55,7 +60,7 @@ pub trait ReplaceHost: Show {
     /// ```
     fn try_replace_host_reg_name(&mut self, new_host: &str) -> Result<Option<&str>, AllocError>
         ensures* host { sem 𝓛 (follows_so Self.row Self.row self.entry.ghost_name none (λ _ _. ⊤)
-            (λ after. HostChange tests true Self.text self.old after new_host.now result)) };
+            (λ after. HostChange tests true Self.text capacity self.old after new_host.now result)) };
 }
 
 // Whether the host may be replaced by the new one.
@@ -96,7 +101,7 @@ fn replace_host<'a, S: Spec, K: WholeKind>(
 ) -> Result<Option<&'a str>, AllocError>
     ensures* { sem 𝓛 (follows_so (the_row S.row K.row S.Spec K.Kind)
         (the_row S.row K.row S.Spec K.Kind) owned.entry.ghost_name none (λ _ _. ⊤)
-        (λ after. HostChange S.tests names_only (λ t. t.text) owned.old after new_host.now result)) }
+        (λ after. HostChange S.tests names_only (λ t. t.text) (λ t. t.capacity) owned.old after new_host.now result)) }
 {
     match put_host(owned, new_host, names_only) {
         Ok(Some(start)) => Ok(Some(&owned.as_str()[start..start + new_host.len()])),
@@ -108,10 +113,12 @@ fn replace_host<'a, S: Spec, K: WholeKind>(
 impl<S: Spec, K: WholeKind> ReplaceHost for Owned<S, K> {
     ghost tests = { S.tests };
 
+    ghost capacity = { λ t. t.capacity };
+
     fn try_replace_host(&mut self, new_host: &str) -> Result<Option<&str>, AllocError>
         ensures* host { sem 𝓛 (follows_so (the_row S.row K.row S.Spec K.Kind)
             (the_row S.row K.row S.Spec K.Kind) self.entry.ghost_name none (λ _ _. ⊤)
-            (λ after. HostChange S.tests false (λ t. t.text) self.old after new_host.now result)) }
+            (λ after. HostChange S.tests false (λ t. t.text) (λ t. t.capacity) self.old after new_host.now result)) }
     {
         replace_host(self, new_host, false)
     }
@@ -119,7 +126,7 @@ impl<S: Spec, K: WholeKind> ReplaceHost for Owned<S, K> {
     fn try_replace_host_reg_name(&mut self, new_host: &str) -> Result<Option<&str>, AllocError>
         ensures* host { sem 𝓛 (follows_so (the_row S.row K.row S.Spec K.Kind)
             (the_row S.row K.row S.Spec K.Kind) self.entry.ghost_name none (λ _ _. ⊤)
-            (λ after. HostChange S.tests true (λ t. t.text) self.old after new_host.now result)) }
+            (λ after. HostChange S.tests true (λ t. t.text) (λ t. t.capacity) self.old after new_host.now result)) }
     {
         replace_host(self, new_host, true)
     }

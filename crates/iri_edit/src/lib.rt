@@ -10,7 +10,8 @@
 //! Proved: what is shown, and what an owned text becomes, is the text with that one part changed; a text without password, or
 //! without authority, stays. An edited text stays in the production of its kind. A host is replaced exactly where an authority
 //! stands, the new host is one of the grammar, and, for registered names, the old host is a name; otherwise nothing changes.
-//! After allocation failure the text and its capacity are as they were. Passwords and fragments are taken out without memory. A
+//! After allocation failure the text and its capacity are as they were; it comes only where what comes out is longer than the
+//! capacity, which never becomes less. Passwords and fragments are taken out without memory. A
 //! builder refuses exactly parts that make no text of the kind, with the first fault in the order of `build`, and otherwise
 //! gives their recomposition, or that of their normal form where it is asked for and a scheme is set.
 //!

@@ -1,4 +1,6 @@
-use Rattle.std.proofs.Common.{◌≡◌, ◌∙◌, ◌++◌, ℕ, true, List, [], ◌∷◌, length, None, Some, ap, subst, sym}
+use Rattle.std.proofs.Common.{◌≡◌, ◌∙◌, ◌++◌, ℕ, ◌+◌, ◌<◌, ◌≤◌, true, List, [], ◌∷◌, length, None, Some, Result, Ok, Err, ap, arith, subst, sym}
+use Rattle.std.proofs.Common.{◌-◌, ◌^◌, OnErr}
+use Rattle.std.proofs.Math.Nat.{min-le_left}
 use Rattle.std.specs.Str.{IsCharBoundary}
 use Rattle.std.proofs.lemmas.Str.{IsCharBoundary-end}
 use Rattle.iri_grammar.specs.Components.{is_fragment}
@@ -6,10 +8,12 @@ use Rattle.iri_grammar.specs.Cut.{before}
 use Rattle.iri_grammar.proofs.FaultLaws.{passed}
 use Rattle.iri_grammar.specs.WholeFault.{reference_fault}
 use Rattle.iri_grammar.specs.declared.error.ErrorKind.TheVariants.{InvalidFragment}
+use Rattle.iri_owned.specs.OwnedText.{OwnedText}
 use Rattle.iri_owned.specs.Spliced.{spliced}
+use Rattle.iri_types.specs.Texts.{text}
 use Rattle.iri_edit.specs.Fragment.{with_fragment}
 use Rattle.iri_edit.specs.inside.Places.{IsFragmentAt}
-use Rattle.iri_edit.proofs.FragmentLemmas.{fragment-put, put-after, empty_fragment}
+use Rattle.iri_edit.proofs.FragmentLemmas.{fragment-put, put-after, put-length, empty_fragment}
 use Rattle.iri_edit.proofs.KindLemmas.{IsWhole, fragment-valid}
 use Rattle.iri_edit.proofs.fragment.put_fragment.Given as given
 use Rattle.iri_edit.proofs.fragment.put_fragment.Goals as goal
@@ -44,6 +48,25 @@ signed : (g : given.Over) (c : After-try_reserve g)
     → spliced c.try_reserve.new.self.text c.fragment_at-start.result.0 c.fragment_at-start.result.1 (35 ∷ [])
     ≡ before 35 c.try_reserve.new.self.text ++ 35 ∷ []
 signed g c = (at g c).replaces (35 ∷ [])
+
+on_err : {T E P : Type 0} (r : Result T E) → P → OnErr r P
+on_err (Ok x) p = tt
+on_err (Err e) p = p
+
+pub returns-in_err-try_reserve-clause-full : goal.returns-in_err-try_reserve-clause-full
+returns-in_err-try_reserve-clause-full g c =
+    let old = c.args.owned.now in
+    let f = text c.args.fragment in
+    let start = c.fragment_at-start.result.0 in
+    let end = c.fragment_at-start.result.1 in
+    let place = subst (λ z. IsFragmentAt z start end) c.reference_of.ensures.text c.fragment_at-start.ensures in
+    let long = put-length g.S.Spec.tests g.met.S.Spec.lawful old.text ((kind g).whole old.text c.reference_of.ensures.valid) start end place f in
+    let more : c.saturating_add.result ≤ c.len.result + 1 =
+    subst (λ n. n ≤ c.len.result + 1) (sym c.saturating_add.ensures) (min-le_left (c.len.result + 1) (2 ^ 64 - 1)) in
+    let held : length old.text ≤ old.capacity =
+    subst (λ (t : OwnedText). length t.text ≤ t.capacity) c.in_err-try_reserve.ensures.err c.try_reserve.ensures.held in
+    on_err c.from_residual.result (subst (λ n. old.capacity < n) (sym long)
+    (omega (arith, more, held, place.ordered, place.at_end, c.len.ensures, c.saturating_sub.ensures, c.in_err-try_reserve.ensures.full)))
 
 pub put_in_room-requires-clause-ordered : goal.put_in_room-requires-clause-ordered
 put_in_room-requires-clause-ordered g c = (at g (goal.at.put_in_room-requires-clause-ordered g c).After-try_reserve).ordered

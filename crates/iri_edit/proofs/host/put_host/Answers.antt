@@ -47,4 +47,5 @@ returns g c =
       ap (λ z. slice_range z start (start + length new)) same ∙ slice-there at.prefix new at.back start at.at,
       low,
       high,
+      c.splice.ensures.capacity,
     )
