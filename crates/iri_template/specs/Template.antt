@@ -30,7 +30,8 @@ pub data Piece : Type 0 where
   expression : (operator : Operator) → (varspecs : List VarSpec) → Piece
 
 -- ---- which of them are well-formed
--- `literals` (section 2.1), triplets apart: the characters of references, and past ASCII those of IRIs, `ucschar` and `iprivate`
+-- `literals` (section 2.1), triplets apart: the characters of references, `'` among them (erratum 6937), and past ASCII those of IRIs, `ucschar`
+-- and `iprivate`
 abbrev pub literal_char : ℕ → Bool
 literal_char c = any_char iri_tests c
 

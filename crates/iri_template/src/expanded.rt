@@ -1,5 +1,5 @@
 //! Templates that are expanded (RFC 6570 section 3).
-ghost use Rattle.std.specs.Prelude.{◌≡◌, IfOk, MatchResult, None, Some};
+ghost use Rattle.std.specs.Prelude.{◌≡◌, ◌≤◌, length, IfOk, MatchResult, None, Some};
 ghost use Rattle.iri_grammar.specs.WholeFault.{reference_fault, iri_fault, absolute_fault, relative_fault};
 ghost use Rattle.iri_template.specs.Fault.{Answers};
 ghost use Rattle.iri_template.specs.Reading.{pieces_of};
@@ -215,13 +215,14 @@ impl<'a, S: Spec, C: Context> Expanded<'a, S, C> {
     ///
     /// # Errors
     ///
-    /// Where allocation fails.
+    /// Where allocation fails, only where it has at most `limit` bytes.
     pub fn try_into_text_within(
         &self,
         alloc: Global,
         limit: usize,
     ) -> Result<Option<String>, AllocError>
-        ensures { IfOk result (λ o. IsWithin limit (expanded_text S.tests C.value_of self.now) o) }
+        ensures { MatchResult result (λ o. IsWithin limit (expanded_text S.tests C.value_of self.now) o)
+            (λ _. length (expanded_text S.tests C.value_of self.now) ≤ limit) }
     {
         if !is_within(self, limit) {
             return Ok(None);

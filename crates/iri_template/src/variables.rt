@@ -153,14 +153,14 @@ fn take_name(expression: Expression<'_>) -> Option<(VarName<'_>, Option<Expressi
 impl<'a> Iterator for UriTemplateVariables<'a> {
     type Item = VarName<'a>;
 
-    ghost use Rattle.std.specs.Iterator.{YieldsFirstBy, item_count};
-    ghost use Rattle.iri_template.specs.Variables.{names_left};
+    ghost use Rattle.std.specs.Iterator.{item_count};
+    ghost use Rattle.iri_template.specs.Variables.{names_left, GivesName};
 
-    ghost next_gives = { YieldsFirstBy (λ n. n.text.now) names_left };
+    ghost next_gives = { GivesName };
 
     ghost remaining = { item_count names_left };
 
-    /// The next name; `None` exactly where every name was given.
+    /// The next name, which goes with its place; `None` exactly where every name was given.
     fn next(&mut self) -> Option<VarName<'a>> {
         match self.next_with_place() {
             Some((_, name)) => Some(name),

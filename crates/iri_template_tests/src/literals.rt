@@ -9,9 +9,10 @@ use std::alloc::{AllocError, Global};
 use std::test::Fail;
 
 // The characters on both sides of borders of `ucschar` and `iprivate` (RFC 3987 section 2.2), by whether they are literals.
-static BORDERS: [(&str, bool); 16] = [
+static BORDERS: [(&str, bool); 17] = [
     ("\u{9F}", false),
     ("\u{A0}", true),
+    ("α", true),
     ("\u{D7FF}", true),
     ("\u{E000}", true),
     ("\u{F8FF}", true),
@@ -59,7 +60,8 @@ fn expanded<S: Spec>(alloc: Global, template: &str) -> Result<String, Fail> {
 }
 
 // Under the grammar of URIs literals past ASCII become triplets; under that of IRIs they stand.
-static EXPANSIONS: [(&str, &str, &str); 5] = [
+static EXPANSIONS: [(&str, &str, &str); 6] = [
+    ("α", "%CE%B1", "α"),
     ("é{v}", "%C3%A96", "é6"),
     ("{v}é", "6%C3%A9", "6é"),
     ("a{v}αβ{v}", "a6%CE%B1%CE%B26", "a6αβ6"),
