@@ -40,7 +40,8 @@ function showBase(field, place, write) {
 
 // What is shown of a link that isn't refused, and which earlier line comes to the same.
 function good(answered, same) {
-  const { link, text, parts, from, steps } = answered, { told, places } = replay(from, steps ?? [], inherited(link)), notes = phrases(told);
+  const { link, text, parts, from, steps } = answered, { told, places } = replay(from, steps ?? [], inherited(link));
+  const notes = phrases(told);
   if (steps === null) notes.append(element("li", "", "too long to be explained"));
   if (same !== undefined) notes.prepend(element("li", "same", `same as line ${same}`));
   const shown = [coloured(parts, places), element("div", "more", notes, copyButton("Copy", () => text), foldedParts(text))];
@@ -48,7 +49,8 @@ function good(answered, same) {
 }
 
 function item(base, answered, number, same, write) {
-  const { link, refusal } = answered, made = element("li", refusal ? "refused" : ""), other = browserAnswer(base, answered, octetsOf);
+  const { link, refusal } = answered, made = element("li", refusal ? "refused" : "");
+  const other = browserAnswer(base, answered, octetsOf);
   made.value = number;
   made.append(...(refusal ? refused(link, refusal, write) : good(answered, same)));
   if (other !== null) made.append(besides(other));

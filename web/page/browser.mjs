@@ -3,7 +3,9 @@
 const SPECIAL = /^(?:https?|wss?|ftp|file)$/i;
 const PORTS = { http: "80", ws: "80", https: "443", wss: "443", ftp: "21" };
 // RFC 3986 appendix B, and the parts of an authority.
-const PARTS = /^(?:(?<scheme>[^:/?#]+):)?(?:\/\/(?:(?<userinfo>[^/?#]*)@)?(?<host>\[[^\]/?#]*\]|[^:/?#]*)(?::(?<port>[^/?#]*))?)?(?<path>[^?#]*)(?:\?(?<query>[^#]*))?(?:#(?<fragment>.*))?$/s;
+const AUTHORITY = /\/\/(?:(?<userinfo>[^/?#]*)@)?(?<host>\[[^\]/?#]*\]|[^:/?#]*)(?::(?<port>[^/?#]*))?/;
+const AFTER = /(?<path>[^?#]*)(?:\?(?<query>[^#]*))?(?:#(?<fragment>.*))?/;
+const PARTS = new RegExp(`^(?:(?<scheme>[^:/?#]+):)?(?:${AUTHORITY.source})?${AFTER.source}$`, "s");
 const PAST_ASCII = /[^\0-\x7f]/;
 
 const partsOf = (text) => ({ ...PARTS.exec(text)?.groups });
@@ -42,7 +44,9 @@ function refusedFor({ target, from }, base) {
   if (Number(port) > 65535) return "has no ports above 65,535";
   if (SPECIAL.test(scheme) && !host) return `wants a host after “${scheme}:”`;
   if (/^\[v/i.test(host)) return "knows no IP literals but IPv6 addresses";
-  if (SPECIAL.test(scheme) && /^(?:\d+|0x[\da-f]*)$/i.test(name)) return "reads a host whose last label is a number as an IPv4 address, and this is none";
+  if (SPECIAL.test(scheme) && /^(?:\d+|0x[\da-f]*)$/i.test(name)) {
+    return "reads a host whose last label is a number as an IPv4 address, and this is none";
+  }
   return host === undefined ? `refuses the path “${path}”` : "refuses this host, whose octets it decodes";
 }
 
@@ -58,7 +62,8 @@ function octetsReason(name, ours, theirs, from) {
   if (PAST_ASCII.test(ours)) return "writes percent-encoded octets for characters past ASCII";
   const written = theirs.match(/%[0-9A-F]{2}/g)?.find((octet) => !from.toUpperCase().includes(octet));
   if (written === undefined) return "leaves percent-encoded octets as the link has them";
-  return `writes ${written} for “${String.fromCharCode(parseInt(written.slice(1), 16))}” in ${name === "userinfo" ? name : `a ${name}`}`;
+  const character = String.fromCharCode(parseInt(written.slice(1), 16));
+  return `writes ${written} for “${character}” in ${name === "userinfo" ? name : `a ${name}`}`;
 }
 
 // How a part comes to be another than that of the canonical text.
@@ -71,7 +76,8 @@ function reasonOf(name, { parts, from }, { [name]: theirs = "" }, octetsOf) {
   if (name === "path" && ours === "" && theirs === "/") return "writes “/” for an empty path";
   const octets = (text) => (name === "host" ? octetsOf(text).toLowerCase() : octetsOf(text));
   if (octets(ours) === octets(theirs)) return octetsReason(name, ours, theirs, from[name] ?? "");
-  if (name === "path" && parts.host === undefined && !theirs.startsWith("/")) return "removes no dot segments from a path without a slash in front";
+  const isOpaque = name === "path" && parts.host === undefined && !theirs.startsWith("/");
+  if (isOpaque) return "removes no dot segments from a path without a slash in front";
   return `reads the ${name} otherwise`;
 }
 
@@ -80,7 +86,9 @@ function wholeReason(link, base, ours, theirs) {
   if (ours.scheme === "file") return "has rules of its own for “file:”";
   if (!SPECIAL.test(ours.scheme) || ours.host) return null;
   const { scheme } = partsOf(link), isOfBase = scheme?.toLowerCase() === partsOf(base).scheme?.toLowerCase();
-  if (isOfBase && !link.startsWith("//", scheme.length + 1)) return "reads a link that has the page’s scheme and no “//” as a relative one";
+  if (isOfBase && !link.startsWith("//", scheme.length + 1)) {
+    return "reads a link that has the page’s scheme and no “//” as a relative one";
+  }
   return theirs.host ? `takes what follows “${ours.scheme}:” for a host, after any slashes` : null;
 }
 
@@ -90,8 +98,8 @@ function sentence(reasons) {
   return `It ${all.length ? `${all.join(", ")} and ${last}` : last}.`;
 }
 
-// What the browser makes of a link, null where it refuses it, and the reason, in a sentence; null where that is what the link comes to
-// here. `octetsOf` gives the octets that a text decodes to.
+// What the browser makes of a link, null where it refuses it, and the reason, in a sentence; null where that is what the link comes
+// to here. `octetsOf` gives the octets that a text decodes to.
 function browserAnswer(base, answered, octetsOf) {
   const { link, text, parts, refusal } = answered, href = hrefOf(link, base);
   if (href === (text ?? null)) return null;

@@ -37,14 +37,17 @@ const EXAMPLES = {
   "Where a browser differs": {
     base: "http://example.com/docs/",
     links: [
-      "http:g", "http:///g", "//EX%41mple.com:80", "//127.1/", "//[0:0:0::1]/", "//u:@h/", "//h:99999/", "//1.2.3.4.5/", "%7e/%c3%a9",
-      "?it's", "\\a\\b", " a ", "a\tb", "foo://EXAMPLE/", "mailto:a/../b", "a|b",
+      "http:g", "http:///g", "//EX%41mple.com:80", "//127.1/", "//[0:0:0::1]/", "//u:@h/", "//h:99999/", "//1.2.3.4.5/",
+      "%7e/%c3%a9", "?it's", "\\a\\b", " a ", "a\tb", "foo://EXAMPLE/", "mailto:a/../b", "a|b",
     ].join("\n"),
     one: "//127.1/", other: "//127.0.0.1/",
   },
   "Past ASCII": {
     base: "http://example.com/",
-    links: ["caf\u00e9", "caf%C3%A9", "cafe\u0301", "\u65e5\u672c\u8a9e?\u03b1=\u03b2", "//\u00c9xample.org/", "\ufeffa", "a", "?\ue000", "\ue000"].join("\n"),
+    links: [
+      "caf\u00e9", "caf%C3%A9", "cafe\u0301", "\u65e5\u672c\u8a9e?\u03b1=\u03b2", "//\u00c9xample.org/", "\ufeffa", "a", "?\ue000",
+      "\ue000",
+    ].join("\n"),
     one: "caf\u00e9", other: "caf%c3%a9", grammar: "iri",
   },
   "Templates of RFC 6570": {

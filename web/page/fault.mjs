@@ -32,8 +32,9 @@ function oneAfter(text, place, end) {
   return [place, Math.min(place + len, end)];
 }
 
-// The range that the first fault of a text, which is of this kind, begins with: a character, a lone surrogate, a percent-encoded octet, a
-// fragment, or a host in brackets. Null where what is wrong is that something lacks. `isReference` says whether a text is a reference.
+// The range that the first fault of a text, which is of this kind, begins with: a character, a lone surrogate, a percent-encoded
+// octet, a fragment, or a host in brackets. Null where what is wrong is that something lacks. `isReference` says whether a text is a
+// reference.
 function faultRange(text, kind, isReference) {
   if (kind === "invalid-scheme") return oneAfter(text, SCHEME.exec(text)?.[0].length ?? 0, text.length);
   if (kind === "unexpected-fragment") return [text.indexOf("#"), text.length];

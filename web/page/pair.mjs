@@ -23,7 +23,8 @@ function wayOf(base, answered, isOpen) {
   const { link, text, parts, target, from, steps } = answered, { told, places } = replay(from, steps ?? []);
   const stations = [["as it stands", element("div", "text", ...shownText(link))]], other = browserAnswer(base, answered, octetsOf);
   if (target !== link) stations.push(["resolved against the page’s address", coloured(from)]);
-  if (text !== target) stations.push(["in normal form", coloured(parts, places), phrases(told), ...(steps === null ? [] : [stepList(steps, isOpen)])]);
+  const stepwise = steps === null ? [] : [stepList(steps, isOpen)];
+  if (text !== target) stations.push(["in normal form", coloured(parts, places), phrases(told), ...stepwise]);
   return [way(stations), foldedParts(text), ...(other === null ? [] : [besides(other)])];
 }
 

@@ -18,7 +18,8 @@ function table(text) {
   const rows = PARTS.filter((name) => parts[name] !== undefined).map((name) => {
     const first = element("th", name, name);
     first.scope = "row";
-    return element("tr", "", first, element("td", "", ...shownText(parts[name])), element("td", "", ...shownText(decoded(parts[name]))));
+    const cells = [parts[name], decoded(parts[name])].map((text) => element("td", "", ...shownText(text)));
+    return element("tr", "", first, ...cells);
   });
   head.forEach((cell) => { cell.scope = "col"; });
   return element("table", "parts", element("thead", "", element("tr", "", ...head)), element("tbody", "", ...rows));

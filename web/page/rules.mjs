@@ -27,8 +27,8 @@ function ruleOf(text, fault, [start, end], { grammar, isOfIris }) {
   const piece = text.slice(start, end), [part, number] = RULES[fault];
   const cannot = `${named(piece)} may not stand in ${part}`;
   if (grammar === "uri" && piece > "\u007f" && isOfIris(`?${piece}`)) {
-    const where = isOfIris(piece) || part === "a query" ? `in ${part} of an IRI it may (RFC 3987 section 2.2)` : "in a query of an IRI it may";
-    return `${cannot}: a URI is ASCII (${section("2")}); ${where}`;
+    const there = isOfIris(piece) ? part : "a query";
+    return `${cannot}: a URI is ASCII (${section("2")}); in ${there} of an IRI it may (RFC 3987 section 2.2)`;
   }
   return `${cannot} (${grammar === "iri" && piece > "\u007f" ? "RFC 3987 section 2.2" : section(number)})`;
 }
@@ -49,9 +49,9 @@ function schemeRule(text, [start, end]) {
   return piece === ":" ? `No scheme stands before “:” (${section("3.1")})` : `A scheme begins with a letter (${section("3.1")})`;
 }
 
-// The rule that a fault of this kind breaks, which begins with a range of the text or with nothing; and the text with that mended, where
-// percent-encoding or less may do it. `encode` writes a piece as percent-encoded octets; `isOfIris` says whether a text is an IRI
-// reference.
+// The rule that a fault of this kind breaks, which begins with a range of the text or with nothing; and the text with that mended,
+// where percent-encoding or less may do it. `encode` writes a piece as percent-encoded octets; `isOfIris` says whether a text is an
+// IRI reference.
 function explain(text, fault, range, { grammar, encode, isOfIris }) {
   if (fault === "unexpected-relative") return { rule: `A base begins with a scheme (${section("4.3")})` };
   if (fault === "unexpected-fragment") {
@@ -66,12 +66,14 @@ function explain(text, fault, range, { grammar, encode, isOfIris }) {
     return { rule, mend: mended(text, [start, start + 1], "%25", "Write %25 for “%”") };
   }
   if (fault === "invalid-host" && piece.startsWith("[")) return { rule: literalRule(piece, isOfIris) };
-  if (fault === "invalid-port" || fault === "invalid-host" && BEFORE_PORT.test(text.slice(0, start))) return { rule: portRule(piece) };
+  const isOfPort = fault === "invalid-port" || (fault === "invalid-host" && BEFORE_PORT.test(text.slice(0, start)));
+  if (isOfPort) return { rule: portRule(piece) };
   if (piece === ":" && fault === "invalid-path" && !/[/?#]/.test(text.slice(0, start))) {
     const rule = `“:” may not stand in the first segment of a relative path (${section("4.2")})`;
     return { rule, mend: mended(text, [0, 0], "./", "Write ./ in front") };
   }
-  return { rule: ruleOf(text, fault, range, { grammar, isOfIris }), mend: mended(text, range, encode(piece), `Write ${encode(piece)}`) };
+  const rule = ruleOf(text, fault, range, { grammar, isOfIris });
+  return { rule, mend: mended(text, range, encode(piece), `Write ${encode(piece)}`) };
 }
 
 export { explain };

@@ -72,16 +72,15 @@ function button(label, act) {
   return made;
 }
 
-// A refused text, where its fault is in a place, and the words for it; the rule that it breaks, and a button that lets `write` put the
-// mended text in its place.
+// A refused text, where its fault is in a place, and the words for it; the rule that it breaks, and a button that lets `write` put
+// the mended text in its place.
 function refused(text, { range, words, rule, mend }, write) {
   const why = [element("p", "why", words)];
   if (rule !== undefined) why.push(element("p", "rule", rule, "."));
   if (mend !== undefined && write !== undefined) why.at(-1).append(" ", button(mend.label, () => write(mend.text)));
   if (range === null) return why;
-  const [start, end] = range, line = element("div", "given");
-  line.append(...shownText(text.slice(0, start)), element("mark", "", ...shownText(text.slice(start, end))), ...shownText(text.slice(end)));
-  return [line, ...why];
+  const [before, marked, after] = [[0, range[0]], range, [range[1]]].map((ends) => shownText(text.slice(...ends)));
+  return [element("div", "given", ...before, element("mark", "", ...marked), ...after), ...why];
 }
 
 // What this browser makes of a link, and why.

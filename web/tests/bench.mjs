@@ -30,5 +30,6 @@ const each = (call) => () => {
 };
 
 measure("kit.canonical", each((link) => kit.canonical(base, link, grammar)));
-measure("kit.canonicalLines", () => kit.canonicalLines(base, lines, grammar).split("\n").filter((line) => line.startsWith("ok ")).length);
+const isGood = (line) => line.startsWith("ok ");
+measure("kit.canonicalLines", () => kit.canonicalLines(base, lines, grammar).split("\n").filter(isGood).length);
 measure("new URL", each((link) => new URL(link, base).href));

@@ -1,5 +1,5 @@
-// A memory that the engine lets grow no further: each call gives what it gives in a large one, or a RangeError, and the calls after it
-// give what they did before.
+// A memory that the engine lets grow no further: each call gives what it gives in a large one, or a RangeError, and the calls after
+// it give what they did before.
 import assert from "node:assert/strict";
 import { readFileSync } from "node:fs";
 import { test } from "node:test";
@@ -23,8 +23,9 @@ function limited(bytes, more) {
   for (let at = 8; at < bytes.length;) {
     const [size, begin] = number(bytes, at + 1);
     if (bytes[at] === MEMORY) {
-      const [least] = number(bytes, begin + 2), section = [1, bytes[begin + 1] | 1, ...leb(least), ...leb(least + more)];
-      return Buffer.concat([bytes.subarray(0, at), Buffer.from([MEMORY, ...leb(section.length), ...section]), bytes.subarray(begin + size)]);
+      const [least] = number(bytes, begin + 2), limits = [1, bytes[begin + 1] | 1, ...leb(least), ...leb(least + more)];
+      const section = Buffer.from([MEMORY, ...leb(limits.length), ...limits]);
+      return Buffer.concat([bytes.subarray(0, at), section, bytes.subarray(begin + size)]);
     }
     at = begin + size;
   }
@@ -43,7 +44,7 @@ test("of texts of all sizes each is answered as in a large memory, or has no roo
     decode: (one, text) => one.decode(text).length,
     expand: (one, text) => one.expand("{v}{+v}", { v: [text, text.replaceAll("a", "%")] }),
     variables: (one, text) => one.templateVariables(text.replaceAll("aaaa", "{ab}")).length,
-    steps: (one, text) => one.steps(`http://h/${text.replaceAll("a", "%7e")}`).length,
+    steps: (one, text) => one.steps(`http://h/${text.replaceAll("aaaaaaaaaa", "%7eaaaaaaa")}`).length,
     split: (one, text) => one.split(text).path,
     build: (one, text) => one.build({ path: text, query: text }),
     lines: (one, text) => one.canonicalLines("http://h/", text.replaceAll("aaaaaaaa", "aaaaaaa\n")),

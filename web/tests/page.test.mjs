@@ -1,6 +1,6 @@
 // The page in headless Chromium: typed links, both grammars and modes, a bad base, two links, a template, refused fields, rules and
-// mending, what the browser makes of links, parts, many links, its state, examples and copies, the keyboard, labels, contrast, widths;
-// no request and no error. The folder that PICTURES names gets pictures of it.
+// mending, what the browser makes of links, parts, many links, its state, examples and copies, the keyboard, labels, contrast,
+// widths; no request and no error. The folder that PICTURES names gets pictures of it.
 import assert from "node:assert/strict";
 import { mkdirSync, readFileSync, writeFileSync } from "node:fs";
 import { after, before, test } from "node:test";
@@ -16,7 +16,13 @@ const [base, ...links] = rows("links.txt").flat();
 const state = (...pairs) => `#${new URLSearchParams(pairs)}`;
 let page;
 
-before(async () => { page = await openPage(address); });
+before(async () => {
+  page = await openPage(address);
+  await page.evaluate(`new Promise((done) => {
+    const look = () => (document.getElementById("tally").textContent === "" ? setTimeout(look, 5) : done());
+    look();
+  })`);
+});
 after(() => page.close());
 
 const ready = "new Promise((done) => requestAnimationFrame(() => setTimeout(done)))";
@@ -196,7 +202,8 @@ test("refused fields are red and described", async () => {
   const bad = { base: "a", one: "a b", other: "%", template: "{", variables: "x" };
   const look = (id) => page.evaluate(`(() => {
     const field = document.getElementById("${id}"), { borderTopColor, backgroundColor } = getComputedStyle(field);
-    return { colours: [borderTopColor, backgroundColor], told: document.getElementById(field.getAttribute("aria-describedby")).textContent };
+    const { textContent: told } = document.getElementById(field.getAttribute("aria-describedby"));
+    return { colours: [borderTopColor, backgroundColor], told };
   })()`);
   for (const [id, text] of Object.entries(bad)) {
     await visit(state(["base", "http://h/"]));
@@ -229,7 +236,8 @@ test("rules, and buttons that write what may stand", async () => {
 });
 
 test("what this browser makes of a link", async () => {
-  await visit(state(["base", "http://h/a/"], ["link", "b"], ["link", "%7e"], ["link", "a b"], ["link", "//h:99999/"], ["one", "http:g"]));
+  const links = ["b", "%7e", "a b", "//h:99999/"].map((link) => ["link", link]);
+  await visit(state(["base", "http://h/a/"], ...links, ["one", "http:g"]));
   assert.deepEqual(await textsOf("#answers .browser"), [
     "http://h/a/%7e. It leaves percent-encoded octets as the link has them.",
     "http://h/a/a%20b. It writes %20 for what may not stand there.",
@@ -242,7 +250,8 @@ test("parts in a table, with their octets decoded", async () => {
   await visit(state(["base", "http://h/"], ["link", "//u%20v@H:8/%ff?q=%E2%82%AC#%EF%BB%BF"]));
   await click("#answers summary");
   await page.evaluate(ready);
-  const cells = await page.evaluate(`${all("#answers table tr")}.map((row) => [...row.cells].map(({ textContent }) => textContent))`);
+  const textsOfRows = `${all("#answers table tr")}.map((row) => [...row.cells].map(({ textContent }) => textContent))`;
+  const cells = await page.evaluate(textsOfRows);
   assert.deepEqual(cells, [
     ["Part", "Text", "Decoded"], ["scheme", "http", ""], ["userinfo", "u%20v", "u v"], ["host", "h", ""], ["port", "8", ""],
     ["path", "/%FF", "not UTF-8: 2F FF"], ["query", "q=%E2%82%AC", "q=\u20ac"], ["fragment", "%EF%BB%BF", "\ufeff"]]);
@@ -252,11 +261,13 @@ test("parts in a table, with their octets decoded", async () => {
 const fronts = ["a", "../x", "//H", "https://www.example.org/docs", "%7e"];
 const manyLinks = (count) => Array.from({ length: count }, (_, i) => `${fronts[i % 5]}/./page-${i % 700}.html?q=${i}`);
 
-// Puts links into the field, which the browser itself lays out; then tells the page of them as a paste does, and waits for the answers.
+// Puts links into the field, which the browser itself lays out.
 async function put(links) {
   await page.evaluate(`{ document.getElementById("links").value = ${JSON.stringify(links.join("\n"))}; }`);
   await page.evaluate(`${ready}.then(() => ${ready})`);
 }
+
+// Tells the page of them as a paste does, and waits for the answers.
 const tell = () => page.evaluate(`(async () => {
   document.getElementById("links").dispatchEvent(new Event("input", { bubbles: true }));
   await ${shownAll};
@@ -388,7 +399,7 @@ test("by the keyboard alone", async () => {
   const passed = [];
   for (let i = 0; i < 29; i += 1) {
     await press("Tab", 9);
-    passed.push(await page.evaluate("document.activeElement.id || document.activeElement.name || document.activeElement.textContent"));
+    passed.push(await page.evaluate("(({ id, name, textContent }) => id || name || textContent)(document.activeElement)"));
   }
   const examples = await textsOf("#examples button");
   assert.deepEqual(passed.slice(0, passed.indexOf("variables") + 1), [

@@ -1,5 +1,5 @@
-// By which rule a link is refused, as the RFCs have it, and what its button writes; then what `new URL` makes of links, which is by the
-// URL Standard here as in a browser.
+// By which rule a link is refused, as the RFCs have it, and what its button writes; then what `new URL` makes of links, which is by
+// the URL Standard here as in a browser.
 import assert from "node:assert/strict";
 import { readFileSync } from "node:fs";
 import { before, test } from "node:test";
@@ -38,7 +38,8 @@ test("rules, and what is written instead", () => {
     ["\ud800", "U+D800 alone is half of a surrogate pair, and no character"],
     ["caf\u00e9", "“\u00e9” may not stand in a path: a URI is ASCII (RFC 3986 section 2); in a path of an IRI it may (RFC 3987 section 2.2)",
       "Write %C3%A9", "caf%C3%A9"],
-    ["\ue000", "U+E000 may not stand in a path: a URI is ASCII (RFC 3986 section 2); in a query of an IRI it may", "Write %EE%80%80", "%EE%80%80"],
+    ["\ue000", "U+E000 may not stand in a path: a URI is ASCII (RFC 3986 section 2); in a query of an IRI it may (RFC 3987 section 2.2)",
+      "Write %EE%80%80", "%EE%80%80"],
     ["\uffff", "U+FFFF may not stand in a path (RFC 3986 section 3.3)", "Write %EF%BF%BF", "%EF%BF%BF"],
   ];
   for (const [link, ...wanted] of rows) assert.deepEqual(told(link), wanted, link);
@@ -115,7 +116,8 @@ test("what a browser makes of a link where that is another text, and why", () =>
   assert.deepEqual(opaque, {
     href: null, why: "It resolves nothing but a fragment against an address whose path has no slash in front." });
   choose({ grammar: "iri", mode: "scheme" });
-  assert.equal(browserAnswer(BASE, answer(BASE, "\u00e9"), octetsOf).why, "It writes percent-encoded octets for characters past ASCII.");
+  const { why } = browserAnswer(BASE, answer(BASE, "\u00e9"), octetsOf);
+  assert.equal(why, "It writes percent-encoded octets for characters past ASCII.");
   assert.equal(browserAnswer(BASE, answer(BASE, "//h:80"), octetsOf), null);
 });
 

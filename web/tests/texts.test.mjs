@@ -36,7 +36,8 @@ test("U+FEFF stays at the start of each text and part", () => {
 
 // RFC 3987 section 2.2: `ucschar`, the characters past ASCII of IRIs, and `iprivate`, those which a query alone may have.
 const isUcschar = (code) => (code >= 0xa0 && code <= 0xd7ff) || (code >= 0xf900 && code <= 0xfdcf) ||
-  (code >= 0xfdf0 && code <= 0xffef) || (code >= 0x10000 && code <= 0xefffd && (code & 0xffff) <= 0xfffd && !(code >= 0xe0000 && code < 0xe1000));
+  (code >= 0xfdf0 && code <= 0xffef) ||
+  (code >= 0x10000 && code <= 0xefffd && (code & 0xffff) <= 0xfffd && !(code >= 0xe0000 && code < 0xe1000));
 const isPrivate = (code) => (code >= 0xe000 && code <= 0xf8ff) || (code >= 0xf0000 && (code & 0xffff) <= 0xfffd);
 
 test("each code point past ASCII, at the start, in the middle and at the end of a part", () => {
@@ -113,15 +114,16 @@ test("many references, each by itself", () => {
 
 const WRONG = [
   true, Symbol("a"), () => "a", new Date(0), new String("a"), new Set(["a"]), new URL("a:"), /a/, new Error("a"), Math,
-  new (class { a = "b"; })(), new Uint16Array(2), new ArrayBuffer(2), new DataView(new ArrayBuffer(2)), new WeakMap(), Promise.resolve("a"),
-  NaN, Infinity, -Infinity, (function () { return arguments; })("a"), [["a"]], { a: {} }, new Map([["a", new Map()]]), new Map([[null, "a"]]),
+  new (class { a = "b"; })(), new Uint16Array(2), new ArrayBuffer(2), new DataView(new ArrayBuffer(2)), new WeakMap(),
+  Promise.resolve("a"), NaN, Infinity, -Infinity, (function () { return arguments; })("a"), [["a"]], { a: {} },
+  new Map([["a", new Map()]]), new Map([[null, "a"]]),
 ];
 
 test("what is no text, and no value of a variable", () => {
   for (const text of [undefined, null, 7, 7n, {}, ["a"], ...WRONG]) {
     for (const call of [kit.split, kit.decode, kit.mapToUri]) assert.throws(() => call.call(kit, text), TypeError);
     for (const [one, other] of [[text, "a"], ["http://a/", text]]) assert.throws(() => kit.canonical(one, other), TypeError);
-    for (const path of [text].filter((one) => one !== undefined && one !== null)) assert.throws(() => kit.build({ path }), TypeError);
+    if (text !== undefined && text !== null) assert.throws(() => kit.build({ path: text }), TypeError);
   }
   for (const v of WRONG) {
     assert.throws(() => kit.expand("{v}", { v }), TypeError);
@@ -138,23 +140,28 @@ test("what is no text, and no value of a variable", () => {
 });
 
 test("names of grammars, modes, kinds, places and faults", () => {
-  const others = [0, 1, 100, 200, 257, null, true, "", "URI", "uri ", "constructor", "__proto__", ["uri"], new String("uri"), {}, Symbol("uri")];
+  const others = [
+    0, 1, 100, 200, 257, null, true, "", "URI", "uri ", "constructor", "__proto__", ["uri"], new String("uri"), {}, Symbol("uri")];
   const calls = {
     uri: [
-      (name) => kit.canonical("a:", "", name), (name) => kit.canonicalLines("a:", "", name), (name) => kit.canonicalMany("a:", [], name),
-      (name) => kit.target("a:", "", name), (name) => kit.resolve("a:", "", name), (name) => kit.normalize("a:", name),
+      (name) => kit.canonical("a:", "", name), (name) => kit.canonicalLines("a:", "", name),
+      (name) => kit.canonicalMany("a:", [], name), (name) => kit.target("a:", "", name), (name) => kit.resolve("a:", "", name),
+      (name) => kit.normalize("a:", name),
       (name) => kit.steps("a:", name), (name) => kit.isNormalized("a:", name), (name) => kit.validate("a:", "reference", name),
       (name) => kit.split("a:", name), (name) => kit.build({}, "reference", name), (name) => kit.maskPassword("", name),
       (name) => kit.removePassword("", name), (name) => kit.replacePassword("", "", name), (name) => kit.removeFragment("", name),
-      (name) => kit.setFragment("", "", name), (name) => kit.replaceHost("//a", "b", name), (name) => kit.replaceRegName("//a", "b", name),
-      (name) => kit.encode("", "path", name), (name) => kit.expand("", {}, name),
+      (name) => kit.setFragment("", "", name), (name) => kit.replaceHost("//a", "b", name),
+      (name) => kit.replaceRegName("//a", "b", name), (name) => kit.encode("", "path", name), (name) => kit.expand("", {}, name),
     ],
     scheme: [
       (name) => kit.canonical("a:", "", "uri", name), (name) => kit.canonicalLines("a:", "", "uri", name),
       (name) => kit.canonicalMany("a:", [], "uri", name), (name) => kit.normalize("a:", "uri", name),
       (name) => kit.steps("a:", "uri", name), (name) => kit.isNormalized("a:", "uri", name),
     ],
-    absolute: [(name) => kit.validate("a:", name), (name) => kit.build({ scheme: "a" }, name), (name) => kit.faultPart("", "invalid-path", name)],
+    absolute: [
+      (name) => kit.validate("a:", name), (name) => kit.build({ scheme: "a" }, name),
+      (name) => kit.faultPart("", "invalid-path", name),
+    ],
     segment: [(name) => kit.encode("", name)],
     "invalid-host": [(name) => kit.faultPart("", name), (name) => kit.faultWords(name)],
     "invalid-expression": [(name) => kit.templateFaultWords(name)],
@@ -163,7 +170,8 @@ test("names of grammars, modes, kinds, places and faults", () => {
   for (const [name, own] of Object.entries(calls)) {
     for (const call of own) {
       assert.doesNotThrow(() => call(name), `${call}`);
-      for (const other of [...others, ...names.filter((one) => one !== name)]) assert.throws(() => call(other), TypeError, `${call}`);
+      const wrong = [...others, ...names.filter((one) => one !== name)];
+      for (const other of wrong) assert.throws(() => call(other), TypeError, `${call}`);
     }
   }
   for (const call of ["canonical", "canonicalLines"]) assert.throws(() => kit[call]("a:", "", "uri", "preserving"), TypeError);
