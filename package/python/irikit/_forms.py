@@ -6,7 +6,7 @@ from ._numbers import (
     BAD_TEXT, IN_SEGMENT, NORMAL, NOT_NORMAL, OK, REFERENCE, URI, Fault, Grammar, Kind, Mode, Place,
 )
 from ._refused import refusal
-from ._texts import Text, bytes_of, of_kind, writing
+from ._texts import Identifier, Text, bytes_of, of_kind, writing
 
 _validate = declared("validate", "number number text sizes")
 _fault_part = declared("fault_part", "number size text sizes sizes")
@@ -45,7 +45,7 @@ def faulty_part(text: Text, kind: Kind = REFERENCE, grammar: Grammar = URI) -> s
         return None
     _fault_part(kind, number, passed, len(passed), part, size_t())
     ends = part[0], part[0] + part[1]
-    if isinstance(text, str):
+    if isinstance(text, (str, Identifier)):
         return slice(*[len(passed[:end].decode("utf-8", "surrogatepass")) for end in ends])
     return slice(*ends)
 

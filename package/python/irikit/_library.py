@@ -14,9 +14,8 @@ def _loaded() -> ctypes.CDLL:
     beside = os.path.join(os.path.dirname(os.path.abspath(__file__)), SONAME)
     name = os.environ.get("IRIKIT_LIBRARY") or (beside if os.path.exists(beside) else SONAME)
     library = ctypes.CDLL(name)
-    version = library.irikit_version() if hasattr(library, "irikit_version") else 100
-    if version // 100 != 2:
-        raise ImportError(f"{name} is of version {version // 10000}.{version // 100 % 100}, and irikit for Python wants 0.2")
+    if not hasattr(library, "irikit_version") or library.irikit_version() // 100 != 2:
+        raise ImportError(f"{name} is no libirikit of version 0.2")
     return library
 
 

@@ -1,10 +1,9 @@
 """References against one base."""
 from __future__ import annotations
 
-import ctypes
 from typing import Iterable
 
-from ._library import declared, room, size_t
+from ._library import address, declared, room, size_t
 from ._numbers import ABSOLUTE, BAD_BASE, NORMAL, OK, SHORT, URI, Grammar, Mode
 from ._forms import fault
 from ._refused import Refused, refusal
@@ -52,6 +51,8 @@ class Links(Immutable):
 
         >>> Links("http://a/b/c").canonical_bytes(b"%7e")
         b'http://a/b/~'
+
+        Raises `Refused` where it is none.
         """
         base, grammar = self._made_of
         reference = bytes_of(reference)
@@ -74,6 +75,8 @@ class Links(Immutable):
         >>> Links("http://a/").canonical("%4")
         Traceback (most recent call last):
         irikit.Refused: invalid path
+
+        Raises `Refused` where it is none.
         """
         return self.canonical_bytes(reference, mode).decode()
 
@@ -82,6 +85,8 @@ class Links(Immutable):
 
         >>> Links("http://A/b/c").resolve("../%7e")
         'http://A/%7e'
+
+        Raises `Refused` where it is none.
         """
         base, grammar = self._made_of
         return _resolve(grammar, base, reference).decode()
@@ -91,6 +96,8 @@ class Links(Immutable):
 
         >>> Links("http://A/b/c").target("../%7e")
         'http://A/b/../%7e'
+
+        Raises `Refused` where it is none.
         """
         base, grammar = self._made_of
         return _target(grammar, base, reference).decode()
@@ -106,8 +113,8 @@ class Links(Immutable):
         lines, mode = bytes_of(lines), of_kind(mode, Mode)
         if lines and not lines.endswith(b"\n"):
             lines += b"\n"
-        start, end = ctypes.cast(ctypes.c_char_p(lines), ctypes.c_void_p).value or 0, len(lines)
-        at, pieces, out, used, told, status = 0, [], room(min(_ANSWERS, 4 * end)), size_t(), size_t(), int(SHORT)
+        start, end = address(lines), len(lines)
+        at, pieces, out, used, told, status = 0, [], room(min(_ANSWERS, 64 + 4 * (len(base) + end))), size_t(), size_t(), int(SHORT)
         while status == SHORT:
             status = _canonical_lines(
                 grammar, mode, base, len(base), start + at, end - at, out, len(out), used, told

@@ -49,6 +49,8 @@ class Faults(Refusals):
             self.assertEqual(text[irikit.faulty_part(text, grammar=grammar)], wanted)
             self.assertEqual(text.encode()[irikit.faulty_part(text.encode(), grammar=grammar)], wanted.encode())
         self.assertEqual("ab\ud800c"[irikit.faulty_part("ab\ud800c")], "\ud800c")
+        iri = irikit.Iri("a:\u00e9?\u00e9")
+        self.assertEqual(str(iri)[irikit.faulty_part(iri)], "\u00e9")
         self.assertIsNone(irikit.faulty_part("a"))
 
 

@@ -1,4 +1,7 @@
 """References against one base: by the examples of RFC 3986, by the repository's rows, many at once."""
+import os
+import subprocess
+import sys
 import unittest
 
 import irikit
@@ -104,6 +107,12 @@ class One(unittest.TestCase):
             self.assertEqual(links.canonical_many(["b", text, "c"]), ["http://a/b", "http://a/" + text, "http://a/c"])
             self.assertEqual(irikit.split(text, IRI).path, text)
         self.assertEqual(Links("http://a/" + "b" * MEBIBYTE).canonical("?c"), "http://a/" + "b" * MEBIBYTE + "?c")
+
+
+class Library(unittest.TestCase):
+    def test_another_library(self):
+        done = subprocess.run([sys.executable, "-c", "import irikit"], env={**os.environ, "IRIKIT_LIBRARY": "libc.so.6"}, stderr=subprocess.PIPE)
+        self.assertEqual((done.returncode, done.stderr.split(b"\n")[-2]), (1, b"ImportError: libc.so.6 is no libirikit of version 0.2"))
 
 
 class Many(unittest.TestCase):
