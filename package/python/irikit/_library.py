@@ -3,8 +3,7 @@ from __future__ import annotations
 
 import ctypes
 import os
-import struct
-from typing import Any, Callable, Iterable
+from typing import Any, Callable
 
 SONAME = "libirikit.so.0.2"
 
@@ -47,12 +46,6 @@ def room(size: int) -> Any:
 def address(data: bytes) -> int:
     """Where bytes are, as long as they are kept."""
     return size_t.from_buffer(ctypes.c_char_p(data)).value
-
-
-def structs(words: Iterable[int]) -> bytes:
-    """Structs of C whose members are addresses and sizes, one after the other."""
-    packed = tuple(words)
-    return struct.pack(f"{len(packed)}N", *packed)
 
 
 def words(call: Callable[..., int], number: int) -> str:

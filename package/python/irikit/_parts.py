@@ -1,9 +1,10 @@
 """References taken apart, and put together."""
 from __future__ import annotations
 
+import struct
 from typing import Any, NamedTuple
 
-from ._library import address, declared, size_t, structs
+from ._library import address, declared, size_t
 from ._forms import fault
 from ._numbers import BAD_TEXT, IRI, OK, REFERENCE, URI, Grammar, Kind, Part
 from ._refused import Refused
@@ -138,6 +139,7 @@ def build(
     digits = b"%d" % port if isinstance(port, int) and not isinstance(port, bool) else port
     parts = (scheme, userinfo, host, digits, path, query, fragment)
     given = [(part, bytes_of(text)) for part, text in zip(Part, parts) if text is not None]  # type: ignore[arg-type]
-    array = structs(word for part, text in given for word in (part, address(text), len(text)))
+    words = [word for part, text in given for word in (part, address(text), len(text))]
+    array = struct.pack(f"{len(words)}N", *words)
     size = sum(len(text) for _, text in given) + 8
     return written(size, _build, of_kind(grammar, Grammar), of_kind(kind, Kind), array, len(given)).decode()

@@ -3,11 +3,12 @@ from __future__ import annotations
 
 import ctypes
 import math
+import struct
 from decimal import Decimal
 from itertools import accumulate, chain
 from typing import Any, Mapping, Sequence
 
-from ._library import address, declared, room, size_t, structs
+from ._library import declared, room, size_t
 from ._numbers import BAD_TEXT, LIST, OK, PAIRS, SHORT, STRING, UNDEFINED, URI, Grammar, Status, TemplateFault, Value
 from ._refused import Refused
 from ._texts import Identifier, Immutable, Text, bytes_of, of_kind
@@ -82,18 +83,7 @@ def expand(
 
 def _expanded(text: bytes, grammar: Grammar, values: Mapping[Any, Any] | None, more: dict[str, Any]) -> str:
     given = {bytes_of(name): value for name, value in [*(values or {}).items(), *more.items()]}
-    texts, kinds = [*given], []
-    for name, value in given.items():
-        kind, some = _kind_and_texts(name, value)
-        kinds.append((kind, len(texts), len(some)))
-        texts += some
-    # All texts in one piece, each as an irikit_text of the header; then each variable, with where its own texts begin.
-    piece = b"".join(texts)
-    pairs = [*zip(accumulate(map(len, texts), initial=address(piece)), map(len, texts))]
-    items = structs(chain.from_iterable(pairs))
-    start, wide = address(items), 2 * ctypes.sizeof(size_t)
-    array = structs(chain.from_iterable((*pair, kind, start + at * wide, count) for pair, (kind, at, count) in zip(pairs, kinds)))
-    told, place, size = size_t(), size_t(), len(text) + 256
+    array, told, place, size = _variables(given), size_t(), size_t(), len(text) + 256
     while True:
         out = room(size)
         status = _expand(grammar, text, len(text), array, len(given), out, size, told, place)
@@ -104,6 +94,25 @@ def _expanded(text: bytes, grammar: Grammar, values: Mapping[Any, Any] | None, m
         if status != SHORT:
             raise Refused(Status(status), None, place.value)
         size = told.value
+
+
+def _variables(given: dict[bytes, Any]) -> Any:
+    """In one buffer: an irikit_variable of the header for each variable, an irikit_text for each text, and the texts themselves, names
+    first."""
+    texts, kinds = [*given], []
+    for name, value in given.items():
+        kind, some = _kind_and_texts(name, value)
+        kinds.append((kind, len(texts), len(some)))
+        texts += some
+    wide, piece = ctypes.sizeof(size_t), b"".join(texts)
+    variables_size, texts_size = wide * 5 * len(given), wide * 2 * len(texts)
+    held = room(variables_size + texts_size + len(piece))
+    items = ctypes.addressof(held) + variables_size
+    slots = [*zip(accumulate(map(len, texts), initial=items + texts_size), map(len, texts))]
+    words = [word for slot, (kind, at, count) in zip(slots, kinds) for word in (*slot, kind, items + wide * 2 * at, count)]
+    words += chain.from_iterable(slots)
+    struct.pack_into(f"{len(words)}N{len(piece)}s", held, 0, *words, piece)
+    return held
 
 
 def _kind_and_texts(name: bytes, value: Any) -> tuple[Value, list[bytes]]:
