@@ -94,7 +94,12 @@ impl Fault {
     /// ```
     pub fn part_of(self, text: &str, kind: Kind) -> Option<Range<usize>> {
         let ((bytes, len), mut part, mut told) = (at(text), ffi::Slot::default(), 0);
-        unsafe { ffi::irikit_fault_part(kind as u32, self.0, bytes, len, &mut part, &mut told) };
+        let status = unsafe {
+            ffi::irikit_fault_part(kind as u32, self.0, bytes, len, &mut part, &mut told)
+        };
+        if status != ffi::IRIKIT_OK {
+            return None;
+        }
         let end = part.offset.checked_add(part.len)?;
         text.get(part.offset..end)?;
         Some(part.offset..end)

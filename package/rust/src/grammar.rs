@@ -116,7 +116,8 @@ impl Grammar {
         let ((text, len), mut told) = (at(text), 0);
         match unsafe { ffi::irikit_validate(self as u32, kind as u32, text, len, &mut told) } {
             ffi::IRIKIT_OK => Ok(()),
-            _ => Err(Fault::of(told)),
+            ffi::IRIKIT_BAD_TEXT => Err(Fault::of(told)),
+            status => unreachable!("irikit.h has no status {status} for this call"),
         }
     }
 
