@@ -1,4 +1,13 @@
 //! The steps that lead a target to its normal form.
+//!
+//! ```
+//! use iri::components::Splitter;
+//! use iri::spec::UriSpec;
+//! use iri::steps::{Target, TargetSlices};
+//! let parts = Splitter::new::<UriSpec>("http://a/b?c")?;
+//! let target: Target<UriSpec> = Target::of(rt.alloc(), &TargetSlices::of(&parts))?;
+//! assert_eq!(rt; target.path(), "/b");
+//! ```
 
 pub use iri_normal::{MergedPath, TargetSlices};
 pub use iri_normal::owned_target::Target;
