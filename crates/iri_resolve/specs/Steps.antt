@@ -11,7 +11,7 @@ use Rattle.iri_percent.specs.declared.canon_mode.CanonMode.TheVariants.{Default}
 use Rattle.iri_grammar.specs.Characters.{slash}
 use Rattle.iri_normal.specs.DotRemoval.{dots}
 use Rattle.iri_normal.specs.Guard.{guard}
-use Rattle.iri_normal.specs.NormalForm.{becomes_slash}
+use Rattle.iri_normal.specs.NormalForm.{becomes_slash, normal_form_in}
 use Rattle.iri_resolve.specs.Changes.{with_small_letter, with_small_host_letter, with_capital_digit, with_decoded}
 use Rattle.iri_resolve.specs.declared.step.Part.{Part}
 use Rattle.iri_resolve.specs.declared.step.Part.TheVariants.{Authority, Path, Query, Fragment}
@@ -108,6 +108,11 @@ AreApartIn s mode t u = JoinedIn s mode t u → ⊥
 abbrev pub LeadToOneIn : Tests → CanonMode → Parts → Parts → List Step → List Step → Type 0
 LeadToOneIn s mode t u l m = (v : Parts) × (replayed_in s mode t l ≡ Some v) × (replayed_in s mode u m ≡ Some v)
 
+-- they lead to the one normal form of both
+abbrev pub LeadToNormalIn : Tests → CanonMode → Parts → Parts → List Step → List Step → Type 0
+LeadToNormalIn s mode t u l m =
+    (replayed_in s mode t l ≡ Some (normal_form_in s mode t)) × (replayed_in s mode u m ≡ Some (normal_form_in s mode t))
+
 -- the same by the rules of every scheme
 abbrev pub step : Tests → Parts → Step → Option Parts
 step s t x = step_in s Default t x
@@ -123,3 +128,6 @@ AreApart s t u = AreApartIn s Default t u
 
 abbrev pub LeadToOne : Tests → Parts → Parts → List Step → List Step → Type 0
 LeadToOne s t u l m = LeadToOneIn s Default t u l m
+
+abbrev pub LeadToNormal : Tests → Parts → Parts → List Step → List Step → Type 0
+LeadToNormal s t u l m = LeadToNormalIn s Default t u l m

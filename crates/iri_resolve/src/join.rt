@@ -5,6 +5,7 @@ ghost use Rattle.iri_normal.specs.NormalForm.{form};
 ghost use Rattle.std.specs.Str.{bytes_eq};
 ghost use Rattle.iri_normal.specs.Modes.{mode_of};
 ghost use Rattle.iri_resolve.specs.Steps.{AreApart, AreApartIn, LeadToOne, LeadToOneIn};
+ghost use Rattle.iri_resolve.specs.Steps.{LeadToNormal, LeadToNormalIn};
 
 use crate::normal_steps::steps_to_normal_in;
 use crate::step_list::StepList;
@@ -71,7 +72,7 @@ pub fn join_steps<S: Spec>(
     b: &Target<S>,
 ) -> Result<Option<(StepList, StepList)>, AllocError>
     ensures { IfOk result (λ lists. MatchOption lists (AreApart S.tests a.now b.now)
-        (λ l. LeadToOne S.tests a.now b.now l.0 l.1)) }
+        (λ l. LeadToOne S.tests a.now b.now l.0 l.1 × LeadToNormal S.tests a.now b.now l.0 l.1)) }
 {
     join_steps_in(alloc, CanonMode::Default, a, b)
 }
@@ -88,7 +89,7 @@ pub fn join_steps_in<S: Spec>(
     b: &Target<S>,
 ) -> Result<Option<(StepList, StepList)>, AllocError>
     ensures { IfOk result (λ lists. MatchOption lists (AreApartIn S.tests mode a.now b.now)
-        (λ l. LeadToOneIn S.tests mode a.now b.now l.0 l.1)) }
+        (λ l. LeadToOneIn S.tests mode a.now b.now l.0 l.1 × LeadToNormalIn S.tests mode a.now b.now l.0 l.1)) }
 {
     let _first = a.slices();
     let _second = b.slices();

@@ -37,7 +37,8 @@ pub trait StepSink {
     ghost rules: { AreSinkLaws puts halts };
 }
 
-/// The steps stand at the end of the list. It stops only where allocation fails, and doesn't count how often.
+/// The steps stand at the end of the list. It stops only where allocation fails, without the step that was refused, and
+/// doesn't count how often.
 impl StepSink for StepList {
     ghost use Rattle.iri_resolve.specs.StepSinks.{ListPuts, ListHalts, uncounted};
     ghost use Rattle.iri_resolve.specs.inside.StepSinkLaws.{list_none, list_both, list_until, list_within};

@@ -1,6 +1,6 @@
 -- The laws of a list of steps, and of lines, as sinks of steps.
 use Rattle.std.specs.Prelude.{◌≡◌, ℕ, List, [], ◌∷◌, ◌++◌, Result, Ok, Err, refl}
-use Rattle.std.proofs.Common.{sym, ◌∙◌, ap, subst, append_assoc, append-nil}
+use Rattle.std.proofs.Common.{sym, ◌∙◌, ap, subst, arith, append_assoc, append-nil, length-append}
 use Rattle.std.proofs.lemmas.Grind.{flat_map-append}
 use Rattle.iri_text.specs.Shown.{AreSinkLaws, Shows}
 use Rattle.iri_text.specs.declared.shown.show.Stop.{Stop}
@@ -20,6 +20,7 @@ list_until a b c t u p h = record {
   prefix = t ++ h.prefix;
   rest = h.rest;
   split = append_assoc t h.prefix h.rest ∙ ap (λ l. t ++ l) h.split;
+  refused = h.refused;
   taken = h.taken ∙ ap (λ l. l ++ h.prefix) p ∙ append_assoc a t h.prefix;
 }
 
@@ -28,6 +29,7 @@ list_within a b t u h = record {
   prefix = h.prefix;
   rest = h.rest ++ u;
   split = sym (append_assoc h.prefix h.rest u) ∙ ap (λ l. l ++ u) h.split;
+  refused = omega (arith, length-append h.rest u, h.refused);
   taken = h.taken;
 }
 
