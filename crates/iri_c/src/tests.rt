@@ -71,11 +71,11 @@ fn canonical_texts(rt: HostRuntime) {
 fn other_numbers(rt: HostRuntime) {
     let mut out = [b'.'; 32];
     let mut told = 9;
-    for number in [0, 1, URI + 256, IRI + 65_536, NORMAL, REFERENCE] {
+    for &number in &[0, 1, URI + 256, IRI + 65_536, NORMAL, REFERENCE] {
         assert!(rt; irikit_canonical(number, NORMAL, b"a:", b"b", &mut out, &mut told) == 6);
         assert!(rt; told == 0 && out == [b'.'; 32]);
     }
-    for number in [0, 1, NORMAL + 256, BY_SCHEME + 65_536, URI, REFERENCE] {
+    for &number in &[0, 1, NORMAL + 256, BY_SCHEME + 65_536, URI, REFERENCE] {
         assert!(rt; irikit_canonical(URI, number, b"a:", b"b", &mut out, &mut told) == 6);
         assert!(rt; told == 0 && out == [b'.'; 32]);
     }
