@@ -1,5 +1,5 @@
-// Links a second of processor time, for the lines of a file against its first line: a call for each, all in one call, and `new URL`;
-// the best of five rounds.
+// Links a second of processor time, for the lines of a file against its first line: a call for each, all in one call, as a list and
+// as lines, and `new URL`; the best of five rounds.
 //
 // usage: IRIKIT=FOLDER node bench.mjs uri|iri FILE
 import { readFileSync } from "node:fs";
@@ -30,6 +30,7 @@ const each = (call) => () => {
 };
 
 measure("kit.canonical", each((link) => kit.canonical(base, link, grammar)));
+measure("kit.canonicalMany", () => kit.canonicalMany(base, links, grammar).filter((text) => text !== null).length);
 const isGood = (line) => line.startsWith("ok ");
 measure("kit.canonicalLines", () => kit.canonicalLines(base, lines, grammar).split("\n").filter(isGood).length);
 measure("new URL", each((link) => new URL(link, base).href));

@@ -177,3 +177,49 @@ test("names of grammars, modes, kinds, places and faults", () => {
   for (const call of ["canonical", "canonicalLines"]) assert.throws(() => kit[call]("a:", "", "uri", "preserving"), TypeError);
   assert.throws(() => kit.steps("a:", "uri", "preserving"), TypeError);
 });
+
+// Numbers that seem random, the same at each run (xorshift, G. Marsaglia 2003).
+function numbers(seed) {
+  let state = seed;
+  return (below) => {
+    state ^= state << 13;
+    state ^= state >>> 17;
+    state ^= state << 5;
+    return (state >>> 0) % below;
+  };
+}
+
+test("a string is answered as the bytes of its UTF-8 are, and by a kit that was asked much before as by a new one", async () => {
+  const pieces = [
+    ..."abA:/?#[]@!$&'()*+,;=%-._~ |^`{}<>\\\0\t\n\r", "\ufeff", "\u00e9", "\u65e5", "\u{1f600}", "\ue000", "\ufffd", "%2f", "%c3%A9",
+    "%FF", "//", "/../", "http:", "[::1]", "x".repeat(300), "{a}", "{?a*}",
+  ];
+  const calls = [
+    (one, s, t, g) => one.canonical(s, t, g), (one, s, t, g) => one.canonicalLines("a:/b", t, g, "scheme"),
+    (one, s, t, g) => one.canonicalMany("x:/y", [s, t], g), (one, s, t, g) => one.target("http://a/b", t, g),
+    (one, s, t, g) => one.split(t, g), (one, s, t, g) => one.steps(t, g), (one, s, t, g) => one.validate(t, "relative", g),
+    (one, s, t) => one.faultPart(t, "invalid-path"), (one, s, t, g) => one.build({ host: s, path: t }, "reference", g),
+    (one, s, t, g) => one.setFragment(s, t, g), (one, s, t, g) => one.replacePassword(s, t, g),
+    (one, s, t, g) => one.replaceHost(s, t, g), (one, s, t, g) => one.encode(t, "query", g), (one, s, t) => one.decode(t),
+    (one, s, t) => one.mapToUri(t), (one, s, t, g) => one.expand(t, new Map([["a", s], ["b", [s, t]]]), g),
+    (one, s, t) => one.templateVariables(t),
+  ];
+  const next = numbers(2463534242), text = () => Array.from({ length: next(7) }, () => pieces[next(pieces.length)]).join("");
+  let fresh = await library.open(), good = 0;
+  for (let i = 0; i < 20000; i += 1) {
+    if (i % 500 === 0) fresh = await library.open();
+    const call = calls[i % calls.length], given = [text(), text()], grammar = next(2) ? "uri" : "iri";
+    const answers = [[kit, given], [fresh, given], [kit, given.map((one) => new TextEncoder().encode(one))]].map(([one, [s, t]]) => {
+      try {
+        return { answer: call(one, s, t, grammar) };
+      } catch (error) {
+        if (!(error instanceof Refused)) throw error;
+        return { whose: error.whose, fault: error.fault, place: error.place, message: error.message };
+      }
+    });
+    good += "answer" in answers[0];
+    assert.deepEqual(answers[1], answers[0], `${call} ${JSON.stringify(given)}`);
+    assert.deepEqual(answers[2], answers[0], `${call} ${JSON.stringify(given)}`);
+  }
+  assert.ok(good > 5000 && good < 15000, good);
+});
