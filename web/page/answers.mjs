@@ -40,7 +40,7 @@ function showBase(field, place, write) {
 
 // What is shown of a link that isn't refused, and which earlier line comes to the same.
 function good(answered, same) {
-  const { link, text, parts, from, steps } = answered, { told, places } = replay(from, steps ?? [], inherited(link));
+  const { link, text, parts, from, steps } = answered, { told, places } = replay(from, steps ?? [], steps ? inherited(link) : []);
   const notes = phrases(told);
   if (steps === null) notes.append(element("li", "", "too long to be explained"));
   if (same !== undefined) notes.prepend(element("li", "same", `same as line ${same}`));

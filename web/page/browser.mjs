@@ -6,6 +6,7 @@ const PORTS = { http: "80", ws: "80", https: "443", wss: "443", ftp: "21" };
 const AUTHORITY = /\/\/(?:(?<userinfo>[^/?#]*)@)?(?<host>\[[^\]/?#]*\]|[^:/?#]*)(?::(?<port>[^/?#]*))?/;
 const AFTER = /(?<path>[^?#]*)(?:\?(?<query>[^#]*))?(?:#(?<fragment>.*))?/;
 const PARTS = new RegExp(`^(?:(?<scheme>[^:/?#]+):)?(?:${AUTHORITY.source})?${AFTER.source}$`, "s");
+const FILE = "has rules of its own for “file:”";
 const PAST_ASCII = /[^\0-\x7f]/;
 
 const partsOf = (text) => ({ ...PARTS.exec(text)?.groups });
@@ -33,21 +34,31 @@ function mendedBy(link, refusal, href) {
   if (!piece.isWellFormed()) return "takes U+FFFD for half of a surrogate pair";
   const encoded = encodeURIComponent(piece);
   if (encoded !== piece && href.includes(encoded)) return `writes ${encoded} for what may not stand there`;
-  return piece && href.includes(piece) ? `lets “${piece}” stand there` : "mends a link where it can";
+  if (piece && href.includes(piece)) return `lets “${piece}” stand there`;
+  return /\.\.|%2e/i.test(link) ? "takes it, in a segment that “..” removes" : "mends a link where it can";
 }
 
-// Why a link is none.
-function refusedFor({ target, from }, base) {
-  const { scheme, host, port, path } = from, name = host?.replace(/\.$/, "").split(".").at(-1);
-  if (hrefOf(base) === null) return "doesn’t take the page’s address";
-  if (hrefOf(target) !== null) return "resolves nothing but a fragment against an address whose path has no slash in front";
-  if (Number(port) > 65535) return "has no ports above 65,535";
-  if (SPECIAL.test(scheme) && !host) return `wants a host after “${scheme}:”`;
+// Why a host is none.
+function refusedHost({ scheme, host, port, userinfo }) {
+  const name = host.replace(/\.$/, "").split(".").at(-1);
+  if (host === "" && (userinfo !== undefined || port !== undefined)) return "wants a host beside userinfo and a port";
+  if (SPECIAL.test(scheme) && host === "") return `wants a host after “${scheme}:”`;
+  if (/^file$/i.test(scheme) && port !== undefined) return "has no ports for “file:”";
   if (/^\[v/i.test(host)) return "knows no IP literals but IPv6 addresses";
   if (SPECIAL.test(scheme) && /^(?:\d+|0x[\da-f]*)$/i.test(name)) {
     return "reads a host whose last label is a number as an IPv4 address, and this is none";
   }
-  return host === undefined ? `refuses the path “${path}”` : "refuses this host, whose octets it decodes";
+  if (/xn--/i.test(host)) return "refuses this host, whose “xn--” is no Punycode";
+  return host.includes("%") ? "refuses this host, whose octets it decodes" : "refuses this host";
+}
+
+// Why a link is none.
+function refusedFor({ target, from }, base) {
+  if (hrefOf(base) === null) return "doesn’t take the page’s address";
+  if (hrefOf(target) !== null) return "resolves nothing but a fragment against an address whose path has no slash in front";
+  if (Number(from.port) > 65535) return "has no ports above 65,535";
+  if (from.host !== undefined) return refusedHost(from);
+  return SPECIAL.test(from.scheme) ? `wants a host after “${from.scheme}:”` : "refuses it";
 }
 
 // How another host of a scheme with rules of its own comes about.
@@ -70,20 +81,24 @@ function octetsReason(name, ours, theirs, from) {
 function reasonOf(name, { parts, from }, { [name]: theirs = "" }, octetsOf) {
   const ours = parts[name] ?? "", isSpecial = SPECIAL.test(parts.scheme);
   if (name === "port") return PORTS[parts.scheme] === ours ? "drops the scheme’s default port" : "reads the port as a number";
+  if (name === "host" && parts.scheme === "file") return FILE;
   if (name === "host" && (isSpecial || theirs.startsWith("["))) return hostReason(theirs);
   if (name === "host" && ours === theirs.toLowerCase()) return "leaves the host of a scheme that it doesn’t know as it is";
-  if (name === "userinfo" && theirs === ours.replace(/:$/, "")) return "drops an empty user and an empty password";
+  const withPassword = ours.replace(/:$/, "");
+  if (name === "userinfo" && theirs === withPassword) return "drops an empty user and an empty password";
+  if (name === "userinfo" && octetsOf(theirs) === octetsOf(withPassword) && withPassword !== ours) {
+    return `drops an empty password and ${octetsReason(name, ours, theirs, from[name] ?? "")}`;
+  }
   if (name === "path" && ours === "" && theirs === "/") return "writes “/” for an empty path";
   const octets = (text) => (name === "host" ? octetsOf(text).toLowerCase() : octetsOf(text));
   if (octets(ours) === octets(theirs)) return octetsReason(name, ours, theirs, from[name] ?? "");
   const isOpaque = name === "path" && parts.host === undefined && !theirs.startsWith("/");
   if (isOpaque) return "removes no dot segments from a path without a slash in front";
-  return `reads the ${name} otherwise`;
+  return parts.scheme === "file" ? FILE : `reads the ${name} otherwise`;
 }
 
 // Whether the whole was read otherwise, and how.
 function wholeReason(link, base, ours, theirs) {
-  if (ours.scheme === "file") return "has rules of its own for “file:”";
   if (!SPECIAL.test(ours.scheme) || ours.host) return null;
   const { scheme } = partsOf(link), isOfBase = scheme?.toLowerCase() === partsOf(base).scheme?.toLowerCase();
   if (isOfBase && !link.startsWith("//", scheme.length + 1)) {

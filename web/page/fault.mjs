@@ -1,4 +1,5 @@
 // Where the first fault of a text is.
+import { bytesOf } from "./steps.mjs";
 
 const SCHEME = /^[A-Za-z][A-Za-z0-9+.-]*/;
 const AUTHORITY = /\/\/(?:(?<userinfo>[^/?#@]*)@)?(?<host>[^/?#]*)/;
@@ -52,7 +53,7 @@ function faultRange(text, kind, isReference) {
 function characterAt(text, place) {
   let at = 0;
   for (let bytes = 0; bytes < place && at < text.length; at += text.codePointAt(at) > 0xffff ? 2 : 1) {
-    bytes += new TextEncoder().encode(String.fromCodePoint(text.codePointAt(at))).length;
+    bytes += bytesOf(text.codePointAt(at));
   }
   return oneAfter(text, at, text.length);
 }

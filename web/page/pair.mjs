@@ -22,9 +22,9 @@ function stepList(steps, isOpen) {
 function wayOf(base, answered, isOpen) {
   const { link, text, parts, target, from, steps } = answered, { told, places } = replay(from, steps ?? []);
   const stations = [["as it stands", element("div", "text", ...shownText(link))]], other = browserAnswer(base, answered, octetsOf);
-  if (target !== link) stations.push(["resolved against the page’s address", coloured(from)]);
+  if (target !== link && steps !== null) stations.push(["resolved against the page’s address", coloured(from)]);
   const stepwise = steps === null ? [] : [stepList(steps, isOpen)];
-  if (text !== target) stations.push(["in normal form", coloured(parts, places), phrases(told), ...stepwise]);
+  if (text !== target || steps === null) stations.push(["in normal form", coloured(parts, places), phrases(told), ...stepwise]);
   return [way(stations), foldedParts(text), ...(other === null ? [] : [besides(other)])];
 }
 

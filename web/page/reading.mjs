@@ -3,7 +3,7 @@ import { open, Refused } from "../irikit.mjs";
 import { characterAt, faultRange } from "./fault.mjs";
 import { explain } from "./rules.mjs";
 
-// Of a longer target the steps aren't asked for.
+// Of a longer text the steps aren't asked for, and the place of its fault isn't either, which takes some twenty calls.
 const LONGEST_EXPLAINED = 20000;
 
 let kit, grammar = "uri", mode = "normal";
@@ -39,7 +39,9 @@ function withPlace(text, range, words) {
 
 // Why a text isn't what it should be, by which rule, and what may stand in its place.
 function refusal(text, fault, wanted) {
-  const words = fault === "unexpected-relative" ? "no scheme" : kit.faultWords(fault), range = faultRange(text, fault, isReference);
+  const words = fault === "unexpected-relative" ? "no scheme" : kit.faultWords(fault);
+  if (text.length > LONGEST_EXPLAINED) return { range: null, words: `Not ${wanted}: ${words}` };
+  const range = faultRange(text, fault, isReference);
   return { ...withPlace(text, range, `Not ${wanted}: ${words}`), ...explain(text, fault, range, { grammar, encode, isOfIris }) };
 }
 
@@ -53,13 +55,14 @@ function baseRefusal(text) {
   return fault === null ? null : refusal(text, fault, grammar === "iri" ? "an absolute IRI" : "an absolute URI");
 }
 
-// What a link comes to: its canonical text, its target and the steps from that to it, null where there are too many, all of them in
-// parts too; or why it is refused. The base is one.
+// What a link comes to: its canonical text, its target and the steps from that to it, all of them in parts too; or why it is refused.
+// Of a very long one the text stands for the target too, and the steps are null. The base is one.
 function answer(base, link) {
   return unlessRefused(() => {
-    const text = kit.canonical(base, link, grammar, mode), target = kit.target(base, link, grammar);
-    const steps = target.length > LONGEST_EXPLAINED ? null : kit.steps(target, grammar, mode);
-    return { link, text, parts: split(text), target, from: split(target), steps };
+    const text = kit.canonical(base, link, grammar, mode), parts = split(text);
+    if (base.length + link.length > LONGEST_EXPLAINED) return { link, text, parts, target: text, from: parts, steps: null };
+    const target = kit.target(base, link, grammar);
+    return { link, text, parts, target, from: split(target), steps: kit.steps(target, grammar, mode) };
   }, ({ fault }) => ({ link, refusal: notReference(link, fault) }));
 }
 

@@ -157,4 +157,4 @@ const WORDS = {
 // Changes in words, a phrase each.
 const inWords = (told) => [...told].map(([phrase, parts]) => WORDS[phrase](parts));
 
-export { replay, inWords };
+export { bytesOf, replay, inWords };

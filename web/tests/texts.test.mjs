@@ -174,8 +174,9 @@ test("names of grammars, modes, kinds, places and faults", () => {
       for (const other of wrong) assert.throws(() => call(other), TypeError, `${call}`);
     }
   }
-  for (const call of ["canonical", "canonicalLines"]) assert.throws(() => kit[call]("a:", "", "uri", "preserving"), TypeError);
-  assert.throws(() => kit.steps("a:", "uri", "preserving"), TypeError);
+  const refused = { name: "TypeError", message: '"preserving" is no mode, which is one of normal, scheme' };
+  for (const call of ["canonical", "canonicalLines"]) assert.throws(() => kit[call]("a:", "", "uri", "preserving"), refused);
+  assert.throws(() => kit.steps("a:", "uri", "preserving"), refused);
 });
 
 // Numbers that seem random, the same at each run (xorshift, G. Marsaglia 2003).
