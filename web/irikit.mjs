@@ -262,14 +262,46 @@ class Kit {
   canonicalMany(base, references, grammar = "uri", mode = "normal") {
     if (typeof references === "string") throw new TypeError("a string is no list of references");
     this.canonical(base, "", grammar, mode);
-    return [...references].map((reference) => {
-      try {
-        return this.canonical(base, reference, grammar, mode);
-      } catch (error) {
-        if (error instanceof Refused || error instanceof RangeError) return null;
-        throw error;
+    const answers = [];
+    let lines = [], units = 0;
+    const answerLines = () => {
+      answers.push(...this.#answers(base, lines, grammar, mode));
+      [lines, units] = [[], 0];
+    };
+    for (const reference of references) {
+      const isLine = typeof reference === "string" && !/[\r\n]/.test(reference);
+      if (!isLine || 3 * (units + reference.length + 1) > Math.min(this.#textRoom, PAGE)) answerLines();
+      if (!isLine) {
+        answers.push(this.#answer(base, reference, grammar, mode));
+        continue;
       }
-    });
+      lines.push(reference);
+      units += reference.length + 1;
+    }
+    answerLines();
+    return answers;
+  }
+
+  // The canonical text of a reference, or null.
+  #answer(base, reference, grammar, mode) {
+    try {
+      return this.canonical(base, reference, grammar, mode);
+    } catch (error) {
+      if (error instanceof Refused || error instanceof RangeError) return null;
+      throw error;
+    }
+  }
+
+  // That of each of some lines, in one call where there is memory for it.
+  #answers(base, lines, grammar, mode) {
+    if (lines.length < 2) return lines.map((line) => this.#answer(base, line, grammar, mode));
+    try {
+      const answers = linesOf(this.canonicalLines(base, `${lines.join("\n")}\n`, grammar, mode));
+      return answers.map((answer) => (answer.startsWith("ok ") ? answer.slice(3) : null));
+    } catch (error) {
+      if (!(error instanceof RangeError)) throw error;
+      return lines.map((line) => this.#answer(base, line, grammar, mode));
+    }
   }
 
   canonicalLines(base, lines, grammar = "uri", mode = "normal") {

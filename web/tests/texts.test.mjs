@@ -106,6 +106,13 @@ test("many references, each by itself", () => {
     "http://a/c", null, "http://a/b", null, "http://d"]);
   assert.deepEqual(kit.canonicalMany("http://a/b", new Set(["\u00e9"]), "iri"), ["http://a/\u00e9"]);
   assert.deepEqual(kit.canonicalMany("http://a/b", []), []);
+  assert.deepEqual(kit.canonicalMany("http://a/b", ["c\r", "c\n", "c\nd", "c\r\n", "\n", "", "e"]), [
+    null, null, null, null, null, "http://a/b", "http://a/e"]);
+  const many = Array.from({ length: 20000 }, (_, i) => (i % 7 ? `${i}/../${"\u00e9".repeat(i % 50)}` : `${i} `));
+  const wanted = many.map((reference, i) => (i % 7 ? `http://a/${"\u00e9".repeat(i % 50)}` : null));
+  assert.deepEqual(kit.canonicalMany("http://a/b", many, "iri"), wanted);
+  kit.split("a".repeat(1 << 22));
+  assert.deepEqual(kit.canonicalMany("http://a/b", Array.from({ length: 500000 }, () => "c")).length, 500000);
   assert.deepEqual(fault(() => kit.canonicalMany("/a", [])), ["base", "unexpected-relative"]);
   for (const list of ["ab", 7, null, undefined, {}, [7], [null], [["a"]]]) {
     assert.throws(() => kit.canonicalMany("http://a/b", list), TypeError);
