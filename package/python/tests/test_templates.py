@@ -43,9 +43,10 @@ class Expansions(unittest.TestCase):
                       {"a": [1]}, {"v"}):
             with self.assertRaisesRegex(TypeError, "'v'"):
                 irikit.expand("{v}", v=value)
-        for values in ({1: "a"}, {None: "a"}):
-            with self.assertRaises(TypeError):
-                irikit.expand("{v}", values)
+        for values in ({1: "a"}, {None: "a"}, [("v", "a")], [], "v", "", 0, 5, {"v"}, b""):
+            for call in (irikit.expand, lambda _, given: Template("{v}").expand(given)):
+                with self.assertRaises(TypeError):
+                    call("{v}", values)
 
     def test_names(self):
         for values in (types.MappingProxyType({"q": "1"}), collections.ChainMap({"q": "1"}), {b"q": 1}):
