@@ -72,8 +72,8 @@ def expand(
     >>> expand("/search{?q,page}{&labels*}", {"q": "two words", "labels": ["a", "b"]}, page=2)
     '/search?q=two%20words&page=2&labels=a&labels=b'
 
-    A value is a text, a number, a list or tuple of these, a mapping or a list of pairs of these, or None, which stands for no value. A
-    number is its decimal text. Of two with one name that among `more` counts.
+    A value is a text, a number, a sequence of these, a mapping or a list of pairs of these, or None, which stands for no value. A number
+    is its decimal text, as `str` writes it. Of two with one name that among `more` counts.
 
     Raises `Refused` where the template has a fault, whose `place` is its place in bytes, or a text isn't UTF-8; `TypeError` where a
     value is of another type.
