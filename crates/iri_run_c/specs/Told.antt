@@ -1,15 +1,22 @@
 -- What a run over memory comes to.
 use Rattle.std.specs.Str.{IsUtf8}
 use Rattle.iri_grammar.specs.Pieces.{pieces}
-use Rattle.std.specs.Prelude.{◌≡◌, ◌⊎◌, ℕ, length, take, drop, List, [], ◌++◌, Some}
+use Rattle.std.specs.Prelude.{◌≡◌, ◌⊎◌, ◌≤◌, ℕ, length, take, drop, codes, List, [], ◌∷◌, ◌++◌, Some}
+use Rattle.iri_percent.specs.declared.canon_mode.CanonMode.{CanonMode}
+use Rattle.iri_cli.specs.canon.Answers.{AnswersAreCanonicalIn}
+use Rattle.iri_cli.specs.docs.Expansions.{AnswersAreExpansions}
 use Rattle.iri_cli.specs.generator.References.{gen_text}
 use Rattle.iri_cli.specs.help.Notices.{MakesText, Tells, notice_text}
+use Rattle.iri_cli.specs.links.FieldValues.{AnswersAreLinks}
+use Rattle.iri_cli.specs.register.Shared.{LiveLinesShareEntries}
+use Rattle.iri_cli.specs.robots.Verdicts.{AnswersAreVerdicts}
 use Rattle.iri_cli.specs.run.Run.{Outside, outside, RunsLines}
-use Rattle.iri_cli.specs.run.Words.{IsCommand, rules_of, tests_of}
+use Rattle.iri_cli.specs.run.Words.{IsCommand, rules_of, tests_of, word_of}
 use Rattle.iri_cli.specs.declared.run.words.Command.{Command}
 use Rattle.iri_cli.specs.declared.run.words.Command.TheVariants.{Lines, Gen, Tell}
 use Rattle.iri_cli.specs.declared.run.words.Grammar.{Grammar}
 use Rattle.iri_cli.specs.declared.run.words.LineCommand.{LineCommand}
+use Rattle.iri_cli.specs.declared.run.words.LineCommand.TheVariants.{Canon, Register, Links, Docs}
 use Rattle.iri_cli.specs.declared.help.Notice.{Notice}
 
 abbrev pub space : ℕ
@@ -27,12 +34,20 @@ pub record RunsWords (words : List (List ℕ)) (old new : Outside) (status : ℕ
       → RunsLines (rules_of command (tests_of grammar)) old new status
   pub gens : (grammar : Grammar) (count : ℕ) → IsCommand words (Gen grammar count)
       → MakesText (gen_text (tests_of grammar) count) old new status
+  pub canonical : (mode : CanonMode) (grammar : Grammar) → IsCommand words (Lines (Canon mode) grammar)
+      → AnswersAreCanonicalIn (tests_of grammar) mode
+  pub register : (grammar : Grammar) → IsCommand words (Lines Register grammar) → LiveLinesShareEntries (tests_of grammar)
+  pub links : (grammar : Grammar) → IsCommand words (Lines Links grammar) → AnswersAreLinks (tests_of grammar)
+  pub docs : (grammar : Grammar) → IsCommand words (Lines Docs grammar) → AnswersAreExpansions (tests_of grammar)
+  pub robots : (grammar : Grammar) (token : List ℕ) → words ≡ codes "robots" ∷ word_of grammar ∷ token ∷ []
+      → AnswersAreVerdicts (tests_of grammar) token
 
 -- nothing was read or written, and there is so much room
 abbrev pub begun : List ℕ → ℕ → Outside
 begun input room = outside (Some input) 0 (record { written = Some []; faults = 0; room_left = Some room })
 
--- The output stands over the start of the buffer; a sink with room for as many bytes as the buffer has would have taken it.
+-- The output fits the buffer, and stands over its start; a sink with room for as many bytes as the buffer has would have taken it, and the source
+-- never failed.
 pub record Ran (words : List (List ℕ)) (input old new : List ℕ) (told status : ℕ) : Type 0 where
   pub end : Outside
   pub output : List ℕ
@@ -40,6 +55,8 @@ pub record Ran (words : List (List ℕ)) (input old new : List ℕ) (told status
   pub runs : RunsWords words (begun input (length old)) end status
   pub out : new ≡ over output old
   pub len : told ≡ length output
+  pub within : length output ≤ length old
+  pub source : end.source_faults ≡ 0
 
 -- That, or allocation failed before anything was read.
 abbrev pub Told : List (List ℕ) → List ℕ → List ℕ → List ℕ → ℕ → ℕ → Type 0

@@ -64,6 +64,11 @@ fn run_words(alloc: Global, words: &[String], input: &[u8], out: &mut [u8], told
     let mut sink = MemorySink::new(&mut buffer, &[]);
     let status = run(alloc, words, &mut source, &mut sink);
     let written = sink.written();
+    // The sink has just that room. No contract of a run says so, since it speaks of every sink.
+    if written.len() > out.len() {
+        *told = 0;
+        return MEMORY;
+    }
     copy_over(out, written);
     *told = written.len();
     status

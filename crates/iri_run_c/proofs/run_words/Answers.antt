@@ -29,7 +29,14 @@ returns c =
             tells = run.tells;
             lines = run.lines;
             gens = run.gens;
+            canonical = run.canonical;
+            register = run.register;
+            links = run.links;
+            docs = run.docs;
+            robots = run.robots;
           });
       out = c.copy_over.ensures;
       len = refl;
+      within = c.if-written-out.false;
+      source = refl;
     })
