@@ -20,6 +20,7 @@ pub mod ExpandLemmas
 pub mod DocsLemmas
 pub mod PutLemmas
 pub mod RegisterLemmas
+pub mod SharedEntries
 pub mod RegisterLaws
 pub mod RobotsLemmas
 pub mod ToolLaws

@@ -11,12 +11,13 @@ use Rattle.iri_normal.specs.NormalForm.{canonical}
 use Rattle.iri_register.specs.Commands.{Command, Add, Remove, Line, live, stays}
 use Rattle.iri_register.specs.Shared as shared
 use Rattle.iri_register.proofs.GroupLemmas.{is_same}
-use Rattle.iri_register.proofs.ShareLemmas.{share_exactly, share_joined}
+use Rattle.iri_register.proofs.ShareLemmas.{joined_texts}
 use Rattle.iri_cli.specs.canon.Answers.{refusal}
 use Rattle.iri_cli.specs.register.Lines.{RegisterLine, adds, removes, finds, bad, line_of, command_of, commands_from, entries_after, unless_fault}
 use Rattle.iri_cli.specs.register.Shared.{TakesOut, IsLiveLine, ShareEntry}
 use Rattle.iri_cli.proofs.BytesLemmas.{base_absolute, line_reference}
 use Rattle.iri_cli.proofs.RegisterLemmas.{commands_append}
+use Rattle.iri_cli.proofs.SharedEntries.{got, together_exactly}
 
 -- ---- live lines of commands
 
@@ -83,15 +84,19 @@ module _ (s : Tests) (base : List ℕ) where
       subst (λ cs. shared.IsLive cs (shared.line_of s base r number)) (sym whole)
       (live_after (commands_from s base 2 h.before) (Add t number ∷ rest) (shared.line_of s base r number) (live_first t number rest stay))
 
-  pub shared_by_targets : (q r : List ℕ) (lines : List (List ℕ)) (m n : ℕ) → IsLiveLine s base lines m q
-      → ShareEntry s base lines q r ↔ (canonical s base q ≡ canonical s base r)
+  pub shared_by_targets : (q r : List ℕ) (lines : List (List ℕ)) (m n : ℕ) → IsLiveLine s base lines m q → IsLiveLine s base lines n r
+      → ShareEntry s base lines m n ↔ (canonical s base q ≡ canonical s base r)
   unfolding entries_after
-  shared_by_targets q r lines m n h =
-      share_exactly (commands_from s base 2 lines) (shared.line_of s base q m) (shared.line_of s base r n) (is_live lines m q h)
+  shared_by_targets q r lines m n h i =
+      let a = is_live lines m q h in
+      let b = is_live lines n r i in
+      let ls = live (commands_from s base 2 lines) in
+      together_exactly s base lines (shared.line_of s base q m) (shared.line_of s base r n) (got ls a.0 (shared.line_of s base q m) a.1)
+      (got ls b.0 (shared.line_of s base r n) b.1)
 
   pub shared_by_steps : IsSpec s → (q r : List ℕ) (lines : List (List ℕ)) (m n : ℕ) → refusal s base ≡ None
-      → IsLiveLine s base lines m q → IsLiveLine s base lines n r → ShareEntry s base lines q r ↔ shared.TargetsJoin s base q r
-  unfolding entries_after
+      → IsLiveLine s base lines m q → IsLiveLine s base lines n r → ShareEntry s base lines m n ↔ shared.TargetsJoin s base q r
   shared_by_steps k q r lines m n taken h i =
-      share_joined s (commands_from s base 2 lines) base q r m n k (base_absolute s k base taken) (line_reference s k q h.faultless)
-      (line_reference s k r i.faultless) (is_live lines m q h)
+      let texts = joined_texts s base q r k (base_absolute s k base taken) (line_reference s k q h.faultless) (line_reference s k r i.faultless) in
+      let same = shared_by_targets q r lines m n h i in
+      (λ e. texts.0 (same.0 e), λ j. same.1 (texts.1 j))

@@ -23,12 +23,15 @@ use Rattle.iri_robots.specs.Decided.{is_allowed}
 use Rattle.iri_robots.specs.Records.{FileRule, rules_for}
 use Rattle.iri_template.specs.Expansion.{expansion}
 use Rattle.iri_template.specs.Reading.{pieces_of}
-use Rattle.iri_template.specs.TypeFaults.{expansion_fault}
+use Rattle.iri_template.specs.Fault.{first, template_fault}
+use Rattle.iri_template.specs.Template.{Spells}
+use Rattle.iri_template.specs.TypeFaults.{type_fault}
+use Rattle.iri_template.proofs.Grammar.{no_fault_is_template, template_has_no_fault}
 use Rattle.iri_template.specs.declared.error.Error.{Error}
 use Rattle.iri_cli.specs.canon.Answers.{answer}
 use Rattle.iri_normal.specs.Answers.{answer_by, answer_in}
 use Rattle.iri_cli.specs.docs.Answers.{docs_answer, read_answer}
-use Rattle.iri_cli.specs.docs.Expansions.{AnswersAreExpansions, HasExpansion, IsDocumentAnswer, no_document, faulty, longer}
+use Rattle.iri_cli.specs.docs.Expansions.{AnswersAreExpansions, HasExpansion, IsDocumentAnswer, no_document, no_template, faulty, longer}
 use Rattle.iri_cli.specs.docs.Expansions.{no_reference, expanded}
 use Rattle.iri_cli.specs.expand.Answers.{expansion_answer, template_answer, too_long, unless_fault}
 use Rattle.iri_cli.specs.links.FieldValues.{AnswersAreLinks}
@@ -52,7 +55,7 @@ answers_are_links s k = record {
 -- ---- `register`
 pub live_lines_share_entries : (s : Tests) → IsSpec s → LiveLinesShareEntries s
 live_lines_share_entries s k = record {
-  targets = λ base q r lines m n h _. shared_by_targets s base q r lines m n h;
+  targets = λ base. shared_by_targets s base;
   steps = λ base. shared_by_steps s base k;
 }
 
@@ -77,18 +80,26 @@ module _ (s : Tests) (base line : List ℕ) where
   unfolding expansion_answer
   by_expansion text h = by_length text h (nat_lt expansion_limit (length text)) refl
 
-  by_fault : (d : Held) → line_document line ≡ Ok d → (f : Option Error) → expansion_fault d.value_of d.template ≡ f
-      → IsDocumentAnswer s base line
-      (unless_fault f (expansion_answer s base (expansion s d.value_of (pieces_of d.template))))
-  by_fault d read (Some e) is = faulty d e read is
-  by_fault d read None is =
+  abbrev Answered : Held → Option Error → Type 0
+  Answered d f = IsDocumentAnswer s base line (unless_fault f (expansion_answer s base (expansion s d.value_of (pieces_of d.template))))
+
+  by_type : (d : Held) → line_document line ≡ Ok d → Spells (pieces_of d.template) d.template → (f : Option Error)
+      → type_fault d.value_of (pieces_of d.template) ≡ f → Answered d f
+  by_type d read spelled (Some e) is = faulty d (pieces_of d.template) e read spelled is
+  by_type d read spelled None is =
       by_expansion (expansion s d.value_of (pieces_of d.template))
-      (record { document = d; read = read; faultless = is; expands = refl })
+      (record { document = d; read = read; pieces = pieces_of d.template; spelled = spelled; typed = is; expands = refl })
+
+  by_fault : (d : Held) → line_document line ≡ Ok d → (f : Option Error) → template_fault d.template ≡ f
+      → Answered d (first f (type_fault d.value_of (pieces_of d.template)))
+  by_fault d read (Some e) is =
+      no_template d e read (λ t. let none = template_has_no_fault t.0 d.template t.1 in cc (none, is)) is
+  by_fault d read None is = by_type d read (no_fault_is_template d.template is) (type_fault d.value_of (pieces_of d.template)) refl
 
   by_template : (d : Held) → line_document line ≡ Ok d
       → IsDocumentAnswer s base line (template_answer s base d.value_of d.template)
   unfolding template_answer
-  by_template d is = by_fault d is (expansion_fault d.value_of d.template) refl
+  by_template d is = by_fault d is (template_fault d.template) refl
 
   by_document : (r : Result Held DocError) → line_document line ≡ r → IsDocumentAnswer s base line (read_answer s base r)
   by_document (Ok d) is = by_template d is

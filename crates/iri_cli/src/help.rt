@@ -43,7 +43,7 @@ Statuses: 0 every answer is good, 1 some answer is bad, 2 the words are no comma
 ";
 
 /// The text of `--version`.
-pub const VERSION: &str = "irikit 0.1.0\n";
+pub const VERSION: &str = "irikit 0.2.0~dev\n";
 
 // The text of a notice.
 fn text(notice: Notice) -> &'static str

@@ -11,27 +11,34 @@ use Rattle.iri_grammar.specs.WholeFault.{reference_fault}
 use Rattle.iri_grammar.specs.declared.error.ErrorKind.{ErrorKind}
 use Rattle.iri_normal.specs.NormalForm.{canonical}
 use Rattle.iri_template.specs.Expansion.{expansion}
-use Rattle.iri_template.specs.Reading.{pieces_of}
-use Rattle.iri_template.specs.TypeFaults.{expansion_fault}
+use Rattle.iri_template.specs.Fault.{template_fault}
+use Rattle.iri_template.specs.Template.{Piece, Spells, IsTemplate}
+use Rattle.iri_template.specs.TypeFaults.{type_fault}
 use Rattle.iri_template.specs.declared.error.Error.{Error}
 use Rattle.iri_text.specs.LineEnds.{line_feed}
 use Rattle.iri_normal.specs.Answers.{bad_answer, good_answer}
 use Rattle.iri_cli.specs.docs.Answers.{docs_answer}
 use Rattle.iri_cli.specs.expand.Answers.{template_refusal, too_long}
 
--- The line is a document whose template has no fault with the values of its variables, and this is its expansion with them, and no other.
+-- The line is a document whose template these pieces spell, each variable has a value of a type that is taken, and this is the expansion with
+-- these values, and no other.
 pub record HasExpansion (s : Tests) (line text : List ℕ) : Type 0 where
   pub document : Held
   pub read : line_document line ≡ Ok document
-  pub faultless : expansion_fault document.value_of document.template ≡ None
-  pub expands : text ≡ expansion s document.value_of (pieces_of document.template)
+  pub pieces : List Piece
+  pub spelled : Spells pieces document.template
+  pub typed : type_fault document.value_of pieces ≡ None
+  pub expands : text ≡ expansion s document.value_of pieces
 
 -- the answer to a line against a base
 pub data IsDocumentAnswer (s : Tests) (base line : List ℕ) : List ℕ → Type 0 where
   -- it is no document, for this fault
   no_document : (e : DocError) → line_document line ≡ Err e → IsDocumentAnswer s base line (description e ++ line_feed ∷ [])
-  -- its template has this fault, or the value of a variable has
-  faulty : (d : Held) (e : Error) → line_document line ≡ Ok d → expansion_fault d.value_of d.template ≡ Some e
+  -- no pieces spell its template, of which this is the first fault
+  no_template : (d : Held) (e : Error) → line_document line ≡ Ok d → ¬ (IsTemplate d.template) → template_fault d.template ≡ Some e
+      → IsDocumentAnswer s base line (template_refusal e)
+  -- pieces spell it, and this is the first fault of a value's type
+  faulty : (d : Held) (ps : List Piece) (e : Error) → line_document line ≡ Ok d → Spells ps d.template → type_fault d.value_of ps ≡ Some e
       → IsDocumentAnswer s base line (template_refusal e)
   -- its expansion has too many bytes
   longer : (text : List ℕ) → HasExpansion s line text → expansion_limit < length text → IsDocumentAnswer s base line too_long

@@ -1,11 +1,11 @@
 -- The command `register`: lines that are live, and share an entry.
-use Rattle.std.specs.Prelude.{◌≡◌, ◌↔◌, ℕ, ◌+◌, List, ◌∷◌, ◌++◌, length, None, Some}
+use Rattle.std.specs.Prelude.{◌≡◌, ◌↔◌, ℕ, ◌+◌, List, ◌∷◌, ◌++◌, length, None, Contains}
 use Rattle.std.specs.List.{All}
 use Rattle.iri_grammar.specs.Classes.{Tests}
 use Rattle.iri_grammar.specs.Fault.{bytes_fault}
 use Rattle.iri_grammar.specs.WholeFault.{reference_fault}
 use Rattle.iri_normal.specs.NormalForm.{canonical}
-use Rattle.iri_register.specs.Entries.{place}
+use Rattle.iri_register.specs.Entries.{Entry}
 use Rattle.iri_register.specs.Shared.{TargetsJoin}
 use Rattle.iri_cli.specs.canon.Answers.{refusal}
 use Rattle.iri_cli.specs.register.Lines.{RegisterLine, adds, removes, finds, bad, line_of, entries_after}
@@ -30,15 +30,14 @@ module _ (s : Tests) (base : List ℕ) where
     pub faultless : bytes_fault (reference_fault s) reference ≡ None
     pub stays : All (λ l. ¬ (TakesOut (canonical s base reference) (line_of l))) after
 
-  -- after these lines one entry has the targets of both references
-  abbrev pub ShareEntry : List (List ℕ) → List ℕ → List ℕ → Type 0
-  ShareEntry lines q r = (k : ℕ) × (place (entries_after s base lines) (canonical s base q) ≡ Some k)
-      × (place (entries_after s base lines) (canonical s base r) ≡ Some k)
+  -- after these lines both numbers stand in the lines of one entry
+  abbrev pub ShareEntry : List (List ℕ) → (m n : ℕ) → Type 0
+  ShareEntry lines m n = (e : Entry) × Contains (entries_after s base lines) e × Contains e.lines m × Contains e.lines n
 
 -- Two live lines share an entry exactly where their canonical targets are equal, and that is exactly where steps join the targets of their
 -- references (RFC 3986 sections 5.2 and 6.2.2).
 pub record LiveLinesShareEntries (s : Tests) : Type 0 where
   pub targets : (base q r : List ℕ) (lines : List (List ℕ)) (m n : ℕ) → IsLiveLine s base lines m q → IsLiveLine s base lines n r
-      → ShareEntry s base lines q r ↔ (canonical s base q ≡ canonical s base r)
+      → ShareEntry s base lines m n ↔ (canonical s base q ≡ canonical s base r)
   pub steps : (base q r : List ℕ) (lines : List (List ℕ)) (m n : ℕ) → refusal s base ≡ None → IsLiveLine s base lines m q
-      → IsLiveLine s base lines n r → ShareEntry s base lines q r ↔ TargetsJoin s base q r
+      → IsLiveLine s base lines n r → ShareEntry s base lines m n ↔ TargetsJoin s base q r
