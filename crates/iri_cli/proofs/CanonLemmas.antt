@@ -54,8 +54,8 @@ line_room good (Err f) text p = room-so (λ h. absurd (cc h)) p.room
 
 -- the buffer has room for an answer
 pub has_room : (s : Tests) (m : CanonMode) (base line text output : List ℕ) → IsSpec s → refusal s base ≡ None → bytes_fault (reference_fault s) line ≡ None
-    → text ≡ line → length base + length line + 7 ≤ length output
-    → length (canonical_in s m base text) + 4 ≤ length output
+    → text ≡ line → length base + length line + 4 ≤ length output
+    → length (canonical_in s m base text) + 1 ≤ length output
 has_room s m base line text output l taken none is room =
     let h = length-canonical_in s m base line l (base_absolute s l base taken) (line_reference s l line none) in
     let e : length (canonical_in s m base text) ≡ length (canonical_in s m base line) = ap (λ (t : List ℕ). length (canonical_in s m base t)) is in

@@ -2,7 +2,6 @@
 ghost use Rattle.std.specs.Prelude.{◌≡◌, ◌≢◌, ◌≤◌, ◌+◌, [], ◌∷◌, ◌++◌, None, Some, Err, codes, length, MatchResult};
 ghost use Rattle.std.specs.Vec.{vec_capacity};
 ghost use Rattle.iri_text.specs.Sink.{PutsAll, KeepsRoom, sink_state};
-ghost use Rattle.iri_text.specs.SliceText.{slice_taken};
 ghost use Rattle.iri_types.specs.SplitText.{split_text};
 ghost use Rattle.iri_types.specs.Texts.{text};
 ghost use Rattle.iri_normal.specs.NormalForm.{canonical_in};
@@ -19,7 +18,7 @@ pub(crate) mod prepared;
 use crate::canon::prepared::prepare_base;
 use crate::run::answers::{AnswerError, Answers, BaseError};
 use crate::run::buffers::room_for;
-use crate::run::puts::{put_bad, told};
+use crate::run::puts::{put_bad, put_good_text, told};
 use iri_grammar::spec::Spec;
 use iri_normal::canonical::show_canonical_in;
 use iri_normal::mode::CanonMode;
@@ -53,26 +52,25 @@ pub fn resolver_of<S: Spec>(line: &[u8]) -> FixedBaseResolver<'_, S>
     }
 }
 
-// The answer to an accepted reference by the rules of a mode, in a buffer with room for it.
+// The canonical text of an accepted reference by the rules of a mode, and an LF, in a buffer with room for them.
 fn fill<'a, S: Spec>(
     line: &mut SliceSink<'_>,
     mode: CanonMode,
     resolver: &FixedBaseResolver<'a, S>,
     reference: &SplitView<'a, S, Reference>,
 )
-    requires empty { line.old.len ≡ 0 }
+    requires empty { line.old.taken ≡ [] }
     requires room { length (canonical_in S.tests mode (base_text resolver.now)
-        (split_text reference.now)) + 4 ≤ length line.old.buf.now }
-    ensures { slice_taken line.new ≡ codes "ok " ++ (canonical_in S.tests mode
-        (base_text resolver.now) (split_text reference.now) ++ line_feed ∷ []) }
+        (split_text reference.now)) + 1 ≤ line.old.room }
+    ensures { line.new.taken ≡ canonical_in S.tests mode (base_text resolver.now)
+        (split_text reference.now) ++ line_feed ∷ [] }
 {
-    let _ = line.put("ok ");
     if let Ok(()) = show_canonical_in(line, mode, resolver, reference) {
         let _ = line.put("\n");
     }
 }
 
-// The answer to an accepted reference, in one piece: a put costs more than the copy of it.
+// Puts the answer to an accepted reference: the mark, then its text with an LF.
 fn put_good<'a, S: Spec, O: Sink>(
     sink: &mut O,
     output: &mut [u8],
@@ -81,7 +79,7 @@ fn put_good<'a, S: Spec, O: Sink>(
     reference: &SplitView<'a, S, Reference>,
 ) -> Result<(), Failed>
     requires { length (canonical_in S.tests mode (base_text resolver.now)
-        (split_text reference.now)) + 4 ≤ length output.old }
+        (split_text reference.now)) + 1 ≤ length output.old }
     ensures { let state = sink_state O.written O.faults O.room_left in
         PutsAll (state sink.old) (state sink.new) result
         (codes "ok " ++ (canonical_in S.tests mode (base_text resolver.now)
@@ -89,7 +87,7 @@ fn put_good<'a, S: Spec, O: Sink>(
 {
     let mut line = SliceSink::new(output);
     fill(&mut line, mode, resolver, reference);
-    sink.put_all(line.as_str().as_bytes())
+    put_good_text(sink, line.as_str())
 }
 
 /// Puts the answer to a line by the rules of a mode, and says whether it is good.
@@ -101,7 +99,7 @@ pub(crate) fn put_answer<S: Spec, O: Sink>(
     line: &[u8],
 ) -> Result<bool, AnswerError>
     requires base { refusal S.tests (base_text resolver.now) ≡ None }
-    requires room { length (base_text resolver.now) + length line.now + 7
+    requires room { length (base_text resolver.now) + length line.now + 4
         ≤ vec_capacity output.old }
     ensures puts { let state = sink_state O.written O.faults O.room_left in
         PutsLine (state sink.old) (state sink.new)
@@ -112,7 +110,7 @@ pub(crate) fn put_answer<S: Spec, O: Sink>(
 {
     match SplitView::<S, Reference>::try_from_bytes(line) {
         Ok(reference) => {
-            room_for(output, resolver.base().len() + line.len() + 7);
+            room_for(output, resolver.base().len() + line.len() + 4);
             told(true, put_good(sink, output, mode, resolver, &reference))
         }
         Err(error) => told(false, put_bad(sink, error.kind().description())),

@@ -114,7 +114,7 @@ fn words_that_are_no_command(rt: HostRuntime) -> Result<(), Fail> {
         &["gen", "url", "1"],
         &["canon", "url"],
         &["Canon", "uri"],
-        &["canon", "uri", "x"],
+        &["canon", "uri", "extra"],
         &["canon", "uri", "Scheme"],
         &["canon", "uri", ""],
         &["canon", "scheme", "uri"],
@@ -153,7 +153,7 @@ fn failing_devices(rt: HostRuntime) -> Result<(), Fail> {
             &rt,
             &["canon", "uri"],
             &mut source,
-            &[2],
+            &[3],
             5,
             b"ok http://a/b\n"
         )?
@@ -178,7 +178,7 @@ fn room_for_the_output(rt: HostRuntime) -> Result<(), Fail> {
             3,
             b"base unexpected fragment\n",
         ),
-        (&["--version"], b"", 0, b"irikit 0.1.0\n"),
+        (&["--version"], b"", 0, b"irikit 0.2.0~dev\n"),
     ];
     for &(words, input, status, output) in &ROWS {
         let mut list = Vec::new(rt.alloc());
@@ -202,7 +202,7 @@ fn room_for_the_output(rt: HostRuntime) -> Result<(), Fail> {
 
 #[test]
 fn notices(rt: HostRuntime) -> Result<(), Fail> {
-    for &(word, text) in &[("--help", HELP), ("--version", "irikit 0.1.0\n")] {
+    for &(word, text) in &[("--help", HELP), ("--version", "irikit 0.2.0~dev\n")] {
         let mut source = PlainSource::new(b"a");
         assert!(rt; answers(&rt, &[word], &mut source, &[], 0, text.as_bytes())?);
         assert!(rt; matches!(source.take(&mut [0; 2]), Ok(1)));

@@ -9,6 +9,6 @@ longest_line = 1048576
 abbrev pub longest_input : ℕ
 longest_input = 1073741824
 
--- the room for an answer: `ok `, a text with at most three bytes more than a base and a reference, and its LF
+-- the room for what comes after the mark of a good answer: a text with at most three bytes more than a base and a reference, and its LF
 abbrev pub answer_room : ℕ
-answer_room = 2097159
+answer_room = 2097156

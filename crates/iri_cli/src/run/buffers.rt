@@ -12,9 +12,9 @@ pub const LINE: usize = 1048576;
 /// How many bytes the input may have.
 pub const INPUT: u64 = 1073741824;
 
-/// How many bytes an answer may have: three, then a text with at most as many as its base and its
-/// reference together and three more, and an LF.
-pub const OUTPUT: usize = 2 * LINE + 7;
+/// How many bytes a good answer may have after its mark: a text with at most as many as its base and its reference
+/// together and three more, and an LF.
+pub const OUTPUT: usize = 2 * LINE + 4;
 
 /// The memory that every command over lines takes before it reads, and all that `canon` needs: for a
 /// reader of lines, the base line, and an answer. Of the last two a run uses only as much as its
@@ -29,7 +29,7 @@ pub struct CanonBuffers {
 
 impl CanonBuffers {
     /// Takes the memory: 65,536 bytes and a line for a reader that took nothing yet, a line for the
-    /// base, and two lines and seven bytes for an answer.
+    /// base, and two lines and four bytes for an answer after its mark.
     ///
     /// # Errors
     ///

@@ -20,6 +20,15 @@ pub(crate) fn put_number<O: Sink>(sink: &mut O, number: usize) -> Result<(), Fai
     }
 }
 
+/// Puts a good answer: the mark `ok ` as a piece of its own, then its text, which ends in an LF.
+pub(crate) fn put_good_text<O: Sink>(sink: &mut O, text: &str) -> Result<(), Failed>
+    ensures { let state = sink_state O.written O.faults O.room_left in
+        PutsAll (state sink.old) (state sink.new) result (codes "ok " ++ text.now) }
+{
+    sink.put_all(b"ok ")?;
+    sink.put_all(text.as_bytes())
+}
+
 /// Puts the answer to a refused reference: `bad `, the words for its fault and an LF.
 pub(crate) fn put_bad<O: Sink>(sink: &mut O, words: &str) -> Result<(), Failed>
     ensures { let state = sink_state O.written O.faults O.room_left in

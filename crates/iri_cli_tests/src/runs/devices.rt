@@ -40,10 +40,15 @@ fn failing_sources(rt: HostRuntime) -> Result<(), Fail> {
     Ok(())
 }
 
-// Each answer is one put, which fails once: the answers before it are written.
+// Each answer takes two puts, its mark and then its text with an LF, and each of them fails once: what was put before it is written.
 #[test]
 fn failing_sinks(rt: HostRuntime) -> Result<(), Fail> {
-    static ROWS: [(u64, &[u8]); 2] = [(1, b""), (2, b"ok http://a/b\n")];
+    static ROWS: [(u64, &[u8]); 4] = [
+        (1, b""),
+        (2, b"ok "),
+        (3, b"ok http://a/b\n"),
+        (4, b"ok http://a/b\nok "),
+    ];
     for &(put, written) in &ROWS {
         let fails = [put];
         let mut source = PlainSource::new(LINES);

@@ -128,7 +128,7 @@ fn runs_that_are_cut_off(rt: HostRuntime) -> Result<(), Fail> {
     let mut source = MemorySource::new(lines, &[27, 4], &[2]);
     assert!(rt; answers(&rt, &words, &mut source, &[], 4, b"ok http://a/b\n")?);
     let mut source = PlainSource::new(lines);
-    assert!(rt; answers(&rt, &words, &mut source, &[2], 5, b"ok http://a/b\n")?);
+    assert!(rt; answers(&rt, &words, &mut source, &[3], 5, b"ok http://a/b\n")?);
     Ok(())
 }
 

@@ -352,6 +352,6 @@ fn endings(rt: HostRuntime) -> Result<(), Fail> {
     let mut source = MemorySource::new(input, &[25, 1], &[2]);
     assert!(rt; answers(&rt, &words, &mut source, &[], 4, b"ok http://a/6\n")?);
     let mut source = PlainSource::new(input);
-    assert!(rt; answers(&rt, &words, &mut source, &[2], 5, b"ok http://a/6\n")?);
+    assert!(rt; answers(&rt, &words, &mut source, &[3], 5, b"ok http://a/6\n")?);
     Ok(())
 }

@@ -122,7 +122,7 @@ fn ends_of_a_run(rt: HostRuntime) -> Result<(), Fail> {
     );
     let input = b"http://h\n\nx\n";
     let mut source = PlainSource::new(input);
-    assert!(rt; answers(&rt, &words, &mut source, &[2], 5, b"ok http://h/\n")?);
+    assert!(rt; answers(&rt, &words, &mut source, &[3], 5, b"ok http://h/\n")?);
     Ok(())
 }
 

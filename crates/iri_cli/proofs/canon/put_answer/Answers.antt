@@ -16,7 +16,7 @@ put_good-requires g c =
     let h = c.in-Ok.ensures in
     let base = base_text c.args.resolver.now in
     let output = c.deref_mut.result.now in
-    let room : length base + length c.args.line.now + 7 ≤ length output = omega (
+    let room : length base + length c.args.line.now + 4 ≤ length output = omega (
       arith,
       c.room_for.ensures.room,
       c.len.ensures,

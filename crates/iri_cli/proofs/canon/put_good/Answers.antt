@@ -1,11 +1,7 @@
-use Rattle.std.proofs.Common.{◌∙◌, subst}
-use Rattle.iri_text.specs.Sink.{PutsAll, sink_state}
+use Rattle.std.proofs.Common.{◌∙◌, ◌++◌, ap}
+use Rattle.std.specs.Prelude.{codes}
+use Rattle.iri_cli.proofs.PutLemmas.{puts_so}
 use Rattle.iri_cli.proofs.canon.put_good.Goals as goal
 
 pub returns : goal.returns
-returns g c =
-    let is = c.as_bytes.ensures.value ∙ c.as_str.ensures ∙ c.fill.ensures in
-    let state = sink_state g.O.Sink.written g.O.Sink.faults g.O.Sink.room_left in
-    let old = state c.args.sink.now in
-    let new = state c.put_all.new.self in
-    subst (λ t. PutsAll old new c.put_all.result t) is c.put_all.ensures
+returns g c = puts_so (ap (λ t. codes "ok " ++ t) (c.as_str.ensures ∙ c.fill.ensures)) c.put_good_text.ensures
