@@ -5,30 +5,40 @@ const TOLD = 1500;
 
 // Copies by a selection, where the page may not write to the clipboard.
 function copySelected(text) {
-  const field = document.createElement("textarea");
+  const field = document.createElement("textarea"), focused = document.activeElement;
   field.value = text;
   document.body.append(field);
   field.select();
   const isDone = document.execCommand("copy");
   field.remove();
+  focused?.focus();
   return isDone;
+}
+
+async function copy(text) {
+  try {
+    await navigator.clipboard.writeText(text);
+    return true;
+  } catch {
+    return copySelected(text);
+  }
 }
 
 // Copies a text, and says so on the button for a while, and to a screen reader.
 async function copyBy(made, text) {
-  const isDone = await navigator.clipboard.writeText(text).then(() => true, () => copySelected(text)), label = made.textContent;
-  if (made.dataset.label === undefined) made.dataset.label = label;
-  made.textContent = document.getElementById("said").textContent = isDone ? "Copied" : "This browser lets nothing be copied";
+  const said = document.getElementById("said");
+  made.dataset.label ??= made.textContent;
+  made.textContent = said.textContent = await copy(text) ? "Copied" : "This browser lets nothing be copied";
   setTimeout(() => {
     made.textContent = made.dataset.label;
-    document.getElementById("said").textContent = "";
+    said.textContent = "";
   }, TOLD);
 }
 
 // A button that copies what a text is when it is pressed.
-function copyButton(label, textOf) {
+const copyButton = (label, textOf) => {
   const made = button(label, () => copyBy(made, textOf()));
   return made;
-}
+};
 
 export { copyBy, copyButton };

@@ -384,6 +384,17 @@ test("what is copied", async () => {
   await visit(state(["base", "http://h/"], ["link", "%7e"], ["link", "a b"], ["link", "c"]));
   assert.equal(await copied("#answers .more button"), "http://h/~");
   assert.equal(await copied("#copy-all"), "http://h/~\nhttp://h/c\n");
+  // Where the page has no clipboard, by a selection.
+  const noClipboard = `Object.defineProperty(navigator, "clipboard", { value: undefined, configurable: true })`;
+  await page.evaluate(`navigator.clipboard.writeText("before").then(() => { window.board = navigator.clipboard; ${noClipboard}; })`);
+  await page.evaluate(`document.getElementById("said").textContent = ""; document.querySelector("#copy-all").scrollIntoView()`);
+  const { x, y } = await page.evaluate(`document.querySelector("#copy-all").getBoundingClientRect().toJSON()`);
+  for (const type of ["mousePressed", "mouseReleased"]) {
+    await page.call("Input.dispatchMouseEvent", { type, x: x + 5, y: y + 5, button: "left", clickCount: 1 });
+  }
+  await page.evaluate("new Promise((done) => setTimeout(done, 100))");
+  assert.equal(await textOf("#said"), "Copied");
+  assert.equal(await page.evaluate("delete navigator.clipboard && window.board.readText()"), "http://h/~\nhttp://h/c\n");
   await type("links", "d");
   const link = await copied("#permalink");
   assert.equal(link.split("#")[0], address);
