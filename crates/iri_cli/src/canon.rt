@@ -2,6 +2,7 @@
 ghost use Rattle.std.specs.Prelude.{◌≡◌, ◌≢◌, ◌≤◌, ◌+◌, [], ◌∷◌, ◌++◌, None, Some, Err, codes, length, MatchResult};
 ghost use Rattle.std.specs.Vec.{vec_capacity};
 ghost use Rattle.iri_text.specs.Sink.{PutsAll, KeepsRoom, sink_state};
+ghost use Rattle.iri_text.specs.SliceText.{slice_taken};
 ghost use Rattle.iri_types.specs.SplitText.{split_text};
 ghost use Rattle.iri_types.specs.Texts.{text};
 ghost use Rattle.iri_normal.specs.NormalForm.{canonical_in};
@@ -59,10 +60,10 @@ fn fill<'a, S: Spec>(
     resolver: &FixedBaseResolver<'a, S>,
     reference: &SplitView<'a, S, Reference>,
 )
-    requires empty { line.old.taken ≡ [] }
+    requires empty { line.old.len ≡ 0 }
     requires room { length (canonical_in S.tests mode (base_text resolver.now)
-        (split_text reference.now)) + 1 ≤ line.old.room }
-    ensures { line.new.taken ≡ canonical_in S.tests mode (base_text resolver.now)
+        (split_text reference.now)) + 1 ≤ length line.old.buf.now }
+    ensures { slice_taken line.new ≡ canonical_in S.tests mode (base_text resolver.now)
         (split_text reference.now) ++ line_feed ∷ [] }
 {
     if let Ok(()) = show_canonical_in(line, mode, resolver, reference) {
