@@ -94,6 +94,8 @@ def answer(line):
         return "ok " + coded(CALLS[call](texts, option, grammar))
     except Refused as refused:
         whose = WHOSE[refused.status]
+        if whose == "base" and words[1][0] == "!":
+            return "type"  # `Links` judges its base before there is a reference.
         if call in ("expand", "names"):
             words = [coded(str(refused.fault))] * (refused.fault is not None)
             return " ".join(["no", "template" if whose == "text" else whose, str(refused.place or 0), *words])
