@@ -1,16 +1,17 @@
 -- The fault of variables.
-use Rattle.std.proofs.Common.{◌≡◌, ℕ, List, Result, Ok, Err, refl, ap, ◌∙◌, inl, inr, true≢false}
-use Rattle.std.specs.Result.{is_ok}
+use Rattle.std.proofs.Common.{◌≡◌, ℕ, List, ◌∷◌, Option, Some, None, Result, Ok, Err, refl, sym, ap, ◌∙◌, inl, inr, true≢false}
+use Rattle.std.specs.Result.{is_ok, result_err}
 use Rattle.serde_json.specs.Data.{Data, Members, no_members, member}
 use Rattle.iri_template.specs.ShownValues.{ShownValue}
-use Rattle.iri_docs.specs.Documents.{followed, variable, variables}
+use Rattle.iri_docs.specs.Documents.{followed, result_map, variable, variables}
+use Rattle.iri_docs.specs.Answered.{TellsFault}
 use Rattle.iri_docs.specs.FirstFault.{HasFirstFault}
 use Rattle.iri_docs.specs.declared.doc_error.DocError.{DocError}
 
 abbrev Entries : Type 0
 Entries = Result (List (List ℕ × ShownValue)) DocError
 
-abbrev error_or : {A : Type 0} → DocError → Result A DocError → DocError
+abbrev pub error_or : {A E : Type 0} → E → Result A E → E
 error_or e (Ok x) = e
 error_or e (Err f) = f
 
@@ -26,3 +27,47 @@ at_first (Err f) k d ms e variable_is is later = inl (variable_is ∙ ap Err (ap
 pub first_fault_of : (ms : Members) (e : DocError) → variables ms ≡ Err e → HasFirstFault ms e
 first_fault_of no_members e is = true≢false (ap is_ok is)
 first_fault_of (member k d ms) e is = at_first _ k d ms e refl is (first_fault_of ms e)
+
+-- ---- the fault alone of an answer
+pub fault_is : {A E : Type 0} (r : Result A E) (e : E) → Some e ≡ result_err r → r ≡ Err e
+fault_is (Ok x) e h = cc
+fault_is (Err f) e h = let k : Some e ≡ Some f = h in cc
+
+pub no_fault : {A E : Type 0} (r : Result A E) (e : E) → None ≡ result_err r → r ≡ Err e → ⊥
+no_fault (Ok x) e h is = true≢false (ap is_ok is)
+no_fault (Err f) e h is = let k : None ≡ Some f = h in cc
+
+pub fault_mapped : {A B : Type 0} (f : A → B) (r : Result A DocError) → result_err (result_map f r) ≡ result_err r
+fault_mapped f (Ok x) = refl
+fault_mapped f (Err e) = refl
+
+-- of an answer and those after it
+pub fault_first : {A : Type 0} (x : Result A DocError) (rest : Result (List A) DocError) (e : DocError) → Some e ≡ result_err x
+    → Some e ≡ result_err (followed x rest)
+fault_first (Ok v) rest e h = cc
+fault_first (Err f) rest e h = h
+
+pub fault_later : {A : Type 0} (x : Result A DocError) (rest : Result (List A) DocError) → None ≡ result_err x
+    → result_err (followed x rest) ≡ result_err rest
+fault_later (Ok v) rest h = fault_mapped (λ vs. v ∷ vs) rest
+fault_later (Err f) rest h = cc
+
+-- ---- what is told of it
+pub tells_err : {A B E : Type 0} (r : Result B E) (e : E) → r ≡ Err e → TellsFault {A = A} (Err e) r
+tells_err r e is f also =
+    ap Err (ap (error_or e) (sym is ∙ also))
+
+pub tells_ok : {A B E : Type 0} (x : Result A E) (r : Result B E) (v : B) → r ≡ Ok v → TellsFault x r
+tells_ok x r v is f also = absurd (true≢false (ap is_ok (sym is ∙ also)))
+
+pub tells_none : {A B : Type 0} (x : Result A DocError) (r : Result B DocError) → None ≡ result_err r → TellsFault x r
+tells_none x r h f is = absurd (no_fault r f h is)
+
+-- what is told of a value is told of what is made of it
+pub mapped_err : {A B : Type 0} (f : A → B) (r : Result A DocError) (e : DocError) → result_map f r ≡ Err e → r ≡ Err e
+mapped_err f (Ok x) e is = absurd (true≢false (ap is_ok is))
+mapped_err f (Err g) e is = ap Err (ap (error_or g) is)
+
+pub retold : {A B C D : Type 0} (f : C → D) (r : Result C DocError) (e : DocError) → TellsFault {A = A} (Err e) r
+    → TellsFault {A = B} (Err e) (result_map f r)
+retold f r e told g is = ap Err (ap (error_or e) (told g (mapped_err f r g is)))

@@ -1,14 +1,17 @@
 -- The canonical text of a template's expansion, or why there is none.
-use Rattle.std.specs.Prelude.{ℕ, nat_lt, List, length, if◌then◌else◌, Option, Some, None, Result, Ok, Err}
+use Rattle.std.specs.Prelude.{◌≡◌, ◌≤◌, ℕ, nat_lt, List, length, if◌then◌else◌, Option, Some, None, Result, Ok, Err}
 use Rattle.iri_grammar.specs.Classes.{Tests}
+use Rattle.iri_grammar.specs.Parts.{IsReference}
 use Rattle.iri_grammar.specs.WholeFault.{reference_fault}
 use Rattle.iri_grammar.specs.declared.error.ErrorKind.{ErrorKind}
 use Rattle.iri_template.specs.Expansion.{expansion}
 use Rattle.iri_template.specs.Reading.{pieces_of}
 use Rattle.iri_template.specs.ShownValues.{ShownValue}
-use Rattle.iri_template.specs.TypeFaults.{expansion_fault}
+use Rattle.iri_template.specs.Template.{Piece, Spells}
+use Rattle.iri_template.specs.TypeFaults.{expansion_fault, type_fault}
 use Rattle.iri_template.specs.declared.error.Error.{Error}
 use Rattle.iri_normal.specs.NormalForm.{canonical}
+use Rattle.iri_docs.specs.Held.{Held}
 use Rattle.iri_docs.specs.declared.expand_error.DocExpandError.{DocExpandError}
 use Rattle.iri_docs.specs.declared.expand_error.DocExpandError.TheVariants.{Template, TooLong, Invalid}
 
@@ -43,3 +46,13 @@ canonical_of s base (Err e) = Err e
 -- the canonical text of a template's expansion against a base, or why there is none
 abbrev pub expanded : Tests → List ℕ → (List ℕ → ShownValue) → List ℕ → Result (List ℕ) DocExpandError
 expanded s base value template = canonical_of s base (expansion_within s value template)
+
+-- The text is that of a document against a base: these pieces spell its template, no varspec has a value that it has no use for, and the
+-- expansion of the pieces with its values is within the limit and a `URI-reference`, whose canonical text this is.
+pub record IsExpanded (s : Tests) (base : List ℕ) (document : Held) (text : List ℕ) : Type 0 where
+  pub pieces : List Piece
+  pub spelled : Spells pieces document.template
+  pub typed : type_fault document.value_of pieces ≡ None
+  pub within : length (expansion s document.value_of pieces) ≤ expansion_limit
+  pub reference : IsReference s (expansion s document.value_of pieces)
+  pub canonical_is : text ≡ canonical s base (expansion s document.value_of pieces)

@@ -1,10 +1,10 @@
 //! The canonical texts of documents.
-ghost use Rattle.std.specs.Prelude.{◌≡◌, string_bytes};
+ghost use Rattle.std.specs.Prelude.{◌≡◌, IfOk, string_bytes};
 ghost use Rattle.iri_normal.specs.Resolver.{base_text};
 ghost use Rattle.iri_types.specs.Texts.{text as text_of};
 ghost use Rattle.iri_template.specs.Contexts.{value_in};
-ghost use Rattle.iri_docs.specs.Answered.{AnswersBut};
-ghost use Rattle.iri_docs.specs.Expanded.{canonical_or_fault, expansion_within, expanded};
+ghost use Rattle.iri_docs.specs.Answered.{AnswersBut, TellsFault};
+ghost use Rattle.iri_docs.specs.Expanded.{canonical_or_fault, expansion_within, expanded, IsExpanded};
 ghost use Rattle.iri_docs.specs.Held.{held};
 
 use crate::document::Document;
@@ -28,8 +28,9 @@ fn expand<S: Spec>(
     template: &str,
     context: &SimpleContext,
 ) -> Result<String, DocExpandError>
-    ensures { AnswersBut DocExpandError.Memory string_bytes result
+    ensures answer { AnswersBut DocExpandError.Memory string_bytes result
         (expansion_within S.tests (value_in context.now) template.now) }
+    ensures fault { TellsFault result (expansion_within S.tests (value_in context.now) template.now) }
 {
     match Expanded::<'_, S, SimpleContext>::try_from_bytes(template.as_bytes(), context) {
         Ok(expanded) => match expanded.try_into_text_within(alloc, EXPANSION_LIMIT) {
@@ -73,7 +74,8 @@ fn canonicalize<S: Spec>(
 ///   empty.
 /// - `TooLong` where the expansion has more than [`EXPANSION_LIMIT`] bytes.
 /// - `Invalid` where it is no reference.
-/// - `Memory` where allocation fails, which may come at any place, and says nothing of the document.
+/// - `Memory` where allocation fails, only where the template has no fault and the expansion isn't too long; it says
+///   nothing of what that expansion is.
 ///
 /// ```
 /// use iri::docs::{expand_document, read_document};
@@ -87,8 +89,11 @@ pub fn expand_document<S: Spec>(
     base: RiAbsoluteStr<'_, S>,
     document: &Document,
 ) -> Result<RiString<S>, DocExpandError>
-    ensures { AnswersBut DocExpandError.Memory (λ t. t.text) result
+    ensures expanded { IfOk result (λ t. IsExpanded S.tests (text_of base.entry) (held document.now) t.text) }
+    ensures answer { AnswersBut DocExpandError.Memory (λ t. t.text) result
         (expanded S.tests (text_of base.entry) (held document.now).value_of (held document.now).template) }
+    ensures fault { TellsFault result
+        (expansion_within S.tests (held document.now).value_of (held document.now).template) }
 {
     expand_document_against(alloc, &FixedBaseResolver::new(base), document)
 }
@@ -114,9 +119,14 @@ pub fn expand_document_against<S: Spec>(
     resolver: &FixedBaseResolver<'_, S>,
     document: &Document,
 ) -> Result<RiString<S>, DocExpandError>
-    ensures { AnswersBut DocExpandError.Memory (λ t. t.text) result
+    ensures expanded { IfOk result (λ t. IsExpanded S.tests (base_text resolver.now) (held document.now) t.text) }
+    ensures answer { AnswersBut DocExpandError.Memory (λ t. t.text) result
         (expanded S.tests (base_text resolver.now) (held document.now).value_of (held document.now).template) }
+    ensures fault { TellsFault result
+        (expansion_within S.tests (held document.now).value_of (held document.now).template) }
 {
-    let text = expand::<S>(alloc, document.template(), document.context())?;
-    canonicalize::<S>(alloc, resolver, text.as_str())
+    match expand::<S>(alloc, document.template(), document.context()) {
+        Ok(text) => canonicalize::<S>(alloc, resolver, text.as_str()),
+        Err(error) => Err(error),
+    }
 }

@@ -14,7 +14,8 @@
 //! two with one key stays; `specs/Documents.antt` stands on its definition of a reading.
 //!
 //! Proved: each call answers exactly what its definition says, or the definition's first fault; allocation failure alone
-//! is free. A fault of variables is that of the first one that has a fault. The words of both errors' `Display`.
+//! is free, and of a value in memory it never takes the place of a fault, nor of a template's. A fault of variables is that
+//! of the first one that has a fault. The words of both errors' `Display`.
 //!
 //! Not proved: that memory is allocated, so that a call that always answered `Memory` would keep its contract; tests
 //! show that each succeeds with ample memory, and that a `Display` does. How deep a value may nest before the stack is
@@ -27,5 +28,6 @@ pub mod expand;
 pub mod expand_error;
 pub mod laws;
 pub mod read;
+mod value_fault;
 pub mod values;
 pub mod variables;

@@ -1,9 +1,9 @@
 //! Lines that are read as documents.
-ghost use Rattle.std.specs.Prelude.{◌≡◌, option_map};
+ghost use Rattle.std.specs.Prelude.{◌≡◌, ◌<◌, length, option_map};
 ghost use Rattle.serde_json.specs.View.{view, members_view};
 ghost use Rattle.iri_template.specs.Contexts.{value_in};
-ghost use Rattle.iri_docs.specs.Answered.{AnswersBut};
-ghost use Rattle.iri_docs.specs.Documents.{line_document, document, has_only_known, all_known, is_known, vars_of};
+ghost use Rattle.iri_docs.specs.Answered.{AnswersBut, TellsFault};
+ghost use Rattle.iri_docs.specs.Documents.{line_document, document, has_only_known, all_known, is_known, vars_of, with_vars};
 ghost use Rattle.iri_docs.specs.Held.{held};
 
 use crate::doc_error::DocError;
@@ -40,7 +40,8 @@ fn has_only_known(object: Option<&Map<String, Json>>) -> bool
 }
 
 fn read_vars(alloc: Global, vars: Option<&Json>) -> Result<SimpleContext, DocError>
-    ensures { AnswersBut DocError.Memory value_in result (vars_of (option_map (λ v. view v.now) vars.entry)) }
+    ensures answer { AnswersBut DocError.Memory value_in result (vars_of (option_map (λ v. view v.now) vars.entry)) }
+    ensures fault { TellsFault result (vars_of (option_map (λ v. view v.now) vars.entry)) }
 {
     match vars {
         None => Ok(SimpleContext::new(alloc)),
@@ -49,18 +50,35 @@ fn read_vars(alloc: Global, vars: Option<&Json>) -> Result<SimpleContext, DocErr
     }
 }
 
+// The document of a template's text and the values of its variables.
+fn with_vars(alloc: Global, template: &str, vars: Option<&Json>) -> Result<Document, DocError>
+    ensures answer { AnswersBut DocError.Memory held result
+        (with_vars (Some template.now) (vars_of (option_map (λ v. view v.now) vars.entry))) }
+    ensures fault { TellsFault result
+        (with_vars (Some template.now) (vars_of (option_map (λ v. view v.now) vars.entry))) }
+{
+    match read_vars(alloc, vars) {
+        Ok(context) => Ok(Document {
+            template: String::from_str(alloc, template)?,
+            context,
+        }),
+        Err(error) => Err(error),
+    }
+}
+
 /// The document that a value of JSON is: an object with a string as its member `template`, maybe an object as its
 /// member `vars`, and no other member. `vars` has the values of variables, as [`read_variables`] reads them.
 ///
 /// # Errors
 ///
-/// The first of these:
+/// The first of these, whatever memory there is:
 ///
 /// - `Shape` exactly where the value isn't such an object.
 /// - Those of [`read_variables`] for `vars`.
-/// - `Memory` where allocation fails, which may come at any place, and says nothing of the value.
+/// - `Memory` where allocation fails, only where the value is a document.
 pub fn document_of(alloc: Global, value: &Json) -> Result<Document, DocError>
-    ensures { AnswersBut DocError.Memory held result (document (view value.now)) }
+    ensures answer { AnswersBut DocError.Memory held result (document (view value.now)) }
+    ensures fault { TellsFault result (document (view value.now)) }
 {
     if !has_only_known(value.as_object()) {
         return Err(DocError::Shape);
@@ -69,11 +87,7 @@ pub fn document_of(alloc: Global, value: &Json) -> Result<Document, DocError>
         .get("template")
         .and_then(Json::as_str)
         .ok_or(DocError::Shape)?;
-    let context = read_vars(alloc, value.get("vars"))?;
-    Ok(Document {
-        template: String::from_str(alloc, template)?,
-        context,
-    })
+    with_vars(alloc, template, value.get("vars"))
 }
 
 /// The document of a line, which is one value of JSON, as [`document_of`] has it. The line is as `serde_json` reads it:
@@ -81,8 +95,9 @@ pub fn document_of(alloc: Global, value: &Json) -> Result<Document, DocError>
 ///
 /// # Errors
 ///
-/// The first fault, in the order of [`DocError`]'s kinds: `Json`, then those of `document_of`. `Memory` may come at any
-/// place, and says nothing of the line.
+/// The first fault, in the order of [`DocError`]'s kinds: `Json`, then those of `document_of`. `Memory` where allocation
+/// fails, only where the line isn't empty; it says nothing else of the line, since `serde_json` may run out of memory at
+/// any place of its reading.
 ///
 /// ```
 /// use iri::docs::read_document;
@@ -92,7 +107,8 @@ pub fn document_of(alloc: Global, value: &Json) -> Result<Document, DocError>
 /// assert!(rt; read_document(rt.alloc(), b"x{?q}").is_err());
 /// ```
 pub fn read_document(alloc: Global, line: &[u8]) -> Result<Document, DocError>
-    ensures { AnswersBut DocError.Memory held result (line_document line.now) }
+    ensures answer { AnswersBut DocError.Memory held result (line_document line.now) }
+    ensures memory { result ≡ Err DocError.Memory → 0 < length line.now }
 {
     match Json::from_slice(alloc, line) {
         Ok(value) => document_of(alloc, &value),

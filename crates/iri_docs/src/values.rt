@@ -2,10 +2,11 @@
 ghost use Rattle.std.specs.Prelude.{◌≡◌, ◌++◌, ◌∷◌, [], string_bytes, IfErr, OnOk};
 ghost use Rattle.serde_json.specs.View.{view, number_view, items_view, members_view};
 ghost use Rattle.iri_template.specs.HeldValues.{shown_value};
-ghost use Rattle.iri_docs.specs.Answered.{AnswersBut};
+ghost use Rattle.iri_docs.specs.Answered.{AnswersBut, TellsFault};
 ghost use Rattle.iri_docs.specs.Documents.{whole_text, inner_text, inner_texts, inner_pairs, value as value_of};
 
 use crate::doc_error::DocError;
+use crate::value_fault::value_fault;
 use iri_template::value::{PairList, TextList, Value};
 use iri_text::Text;
 use serde_json::{Map, Number, Value as Json};
@@ -83,20 +84,8 @@ fn read_pairs(alloc: Global, object: &Map<String, Json>) -> Result<PairList, Doc
     Ok(pairs)
 }
 
-/// A value of JSON as the value of a variable (RFC 6570 section 2.3). A string is itself, a whole number its text in
-/// decimal, null no value; an array of strings and whole numbers is a list, an object of them an associative array, in
-/// the order in which the map has its members.
-///
-/// # Errors
-///
-/// The first fault from the left:
-///
-/// - `Truth` for a truth value.
-/// - `Float` for what `serde_json` holds as a float: `1.0`, `1e2`, `-0`, and a whole number below -2^63 or above 2^64 -
-///   1.
-/// - `Nested` for a null, an array or an object in an array or an object.
-/// - `Memory` where allocation fails, which may come at any place, and says nothing of the value.
-pub fn read_value(alloc: Global, value: &Json) -> Result<Value, DocError>
+// A value as that of a variable. Memory may be taken before a fault is found.
+pub(crate) fn copy_value(alloc: Global, value: &Json) -> Result<Value, DocError>
     ensures { AnswersBut DocError.Memory shown_value result (value_of (view value.now)) }
 {
     match value {
@@ -109,5 +98,28 @@ pub fn read_value(alloc: Global, value: &Json) -> Result<Value, DocError>
         )?))),
         Json::Array(array) => Ok(Value::List(read_list(alloc, array)?)),
         Json::Object(object) => Ok(Value::Assoc(read_pairs(alloc, object)?)),
+    }
+}
+
+/// A value of JSON as the value of a variable (RFC 6570 section 2.3). A string is itself, a whole number its text in
+/// decimal, null no value; an array of strings and whole numbers is a list, an object of them an associative array, in
+/// the order in which the map has its members.
+///
+/// # Errors
+///
+/// The first fault from the left, whatever memory there is:
+///
+/// - `Truth` for a truth value.
+/// - `Float` for what `serde_json` holds as a float: `1.0`, `1e2`, `-0`, and a whole number below -2^63 or above 2^64 -
+///   1.
+/// - `Nested` for a null, an array or an object in an array or an object.
+/// - `Memory` where allocation fails, only where the value has no fault.
+pub fn read_value(alloc: Global, value: &Json) -> Result<Value, DocError>
+    ensures answer { AnswersBut DocError.Memory shown_value result (value_of (view value.now)) }
+    ensures fault { TellsFault result (value_of (view value.now)) }
+{
+    match value_fault(value) {
+        Some(fault) => Err(fault),
+        None => copy_value(alloc, value),
     }
 }

@@ -6,7 +6,7 @@ use Rattle.iri_docs.specs.Documents.{followed, variable, variables}
 use Rattle.iri_docs.specs.inside.Entries.{entry_of}
 use Rattle.iri_docs.proofs.NameLemmas.{value_among-append}
 use Rattle.iri_docs.proofs.StepLemmas.{after, after-followed}
-use Rattle.iri_docs.proofs.variables.read_variables.Goals as goal
+use Rattle.iri_docs.proofs.variables.copy_variables.Goals as goal
 
 pub loop-key-preserved : goal.loop-key-preserved
 loop-key-preserved c =

@@ -4,7 +4,7 @@ use Rattle.iri_template.specs.Contexts.{value_in}
 use Rattle.iri_template.specs.ShownValues.{ShownValue}
 use Rattle.iri_docs.specs.Documents.{variables, value_by_name}
 use Rattle.iri_docs.proofs.StepLemmas.{after}
-use Rattle.iri_docs.proofs.variables.read_variables.Given as goal
+use Rattle.iri_docs.proofs.variables.copy_variables.Given as goal
 
 abbrev pub invariant-loop-key : goal.invariant-loop-key
 invariant-loop-key l =

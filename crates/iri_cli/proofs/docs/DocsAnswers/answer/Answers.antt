@@ -27,7 +27,7 @@ returns-in-Ok g c = λ at is.
     let text_is : text ≡ docs_answer s base line =
     ap (λ v. template_answer s base v template) c.context.ensures
     ∙ ap (template_answer s base document.value_of) (c.as_bytes.ensures.value ∙ c.template.ensures)
-    ∙ docs_read s base line (Ok document) c.in-Ok.ensures
+    ∙ docs_read s base line (Ok document) c.in-Ok.ensures.answer
     in
     let expansion = with_items self.expansion c.put_template.new.expansion in
     answers_docs s base self.expansion.items expansion.items (vec_capacity self.output) (vec_capacity c.put_template.new.output) at line
@@ -61,6 +61,6 @@ returns-in_default g c = λ at is.
     let text = description c.in-Err.error ++ 10 ∷ [] in
     answers_docs s base self.expansion.items self.expansion.items n n at line (state a) (state b) c.told.result is refl (omega arith)
     (answers_text docs_answer s base at is.stands line (state a) (state b)
-    c.told.result text (docs_read s base line (Err c.in-Err.error) (c.in-Err.ensures c.in_default.not-Memory))
+    c.told.result text (docs_read s base line (Err c.in-Err.error) (c.in-Err.ensures.answer c.in_default.not-Memory))
     (told_line false c.put_refusal.result text text c.told.result c.told.ensures (bad c.in-Err.error) refl c.put_refusal.ensures)
     (told_room false c.put_refusal.result text text c.told.result c.told.ensures refl c.put_refusal.ensures))

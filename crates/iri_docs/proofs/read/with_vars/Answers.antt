@@ -1,0 +1,16 @@
+use Rattle.std.proofs.Common.{ℕ, List, ap, option_map}
+use Rattle.serde_json.specs.View.{view}
+use Rattle.iri_template.specs.ShownValues.{ShownValue}
+use Rattle.iri_docs.specs.Documents.{result_map, vars_of}
+use Rattle.iri_docs.specs.Held.{Held}
+use Rattle.iri_docs.proofs.FaultLemmas.{retold}
+use Rattle.iri_docs.proofs.read.with_vars.Goals as goal
+
+pub returns-in-Err : goal.returns-in-Err
+returns-in-Err c =
+    let make : (List ℕ → ShownValue) → Held = λ v. record { template = c.args.template.now; value_of = v } in
+    let read = vars_of (option_map (λ v. view v.now) c.args.vars) in
+    record {
+      answer = λ not. ap (result_map make) (c.in-Err.ensures.answer not);
+      fault = retold make read c.in-Err.error c.in-Err.ensures.fault;
+    }

@@ -1,0 +1,9 @@
+use Rattle.std.proofs.Common.{◌≡◌, drop}
+use Rattle.std.specs.Result.{result_err}
+use Rattle.serde_json.specs.View.{items_view}
+use Rattle.iri_docs.specs.Documents.{inner_texts}
+use Rattle.iri_docs.proofs.value_fault.list_fault.Given as goal
+
+abbrev pub invariant-loop-value : goal.invariant-loop-value
+invariant-loop-value l =
+    result_err (inner_texts (items_view l.fn.array.items)) ≡ result_err (inner_texts (items_view (drop l.value-index l.array.items)))

@@ -1,0 +1,11 @@
+use Rattle.std.proofs.Common.{◌≡◌}
+use Rattle.std.specs.Result.{result_err}
+use Rattle.serde_json.specs.View.{members_view}
+use Rattle.iri_docs.specs.Documents.{variables}
+use Rattle.iri_docs.proofs.variables.variables_fault.Given as goal
+
+abbrev pub invariant-loop-key : goal.invariant-loop-key
+invariant-loop-key l =
+    (goal.iterator-loop-key).can_next l.key-iterator ×
+    (goal.iterator-loop-key).is_finite l.key-iterator ×
+    (result_err (variables (members_view l.fn.object.entries)) ≡ result_err (variables (members_view l.key-iterator)))
