@@ -1,18 +1,26 @@
 -- Live lines have an entry, and share it exactly where steps join their targets.
 use Rattle.std.proofs.Common.{◌≡◌, ◌↔◌, ℕ, zero, suc, ◌+◌, List, [], ◌∷◌, true, false, not, cond, bytes_eq, Option, Some, None}
-use Rattle.std.proofs.Common.{option_map, slice_get, refl, sym, ◌∙◌, ap, subst, arith}
-use Rattle.std.specs.Prelude.{IsSome}
+use Rattle.std.proofs.Common.{option_map, slice_get, length, refl, sym, ◌∙◌, ap, subst, arith}
+use Rattle.std.specs.Prelude.{IsSome, IfOk, MatchResult, OnOk, Result, Ok, Err}
 use Rattle.iri_grammar.specs.Classes.{Tests, IsSpec}
+use Rattle.iri_grammar.specs.Fault.{bytes_fault}
 use Rattle.iri_grammar.specs.Parts.{Fits, IsReference, IsAbsolute}
 use Rattle.iri_grammar.specs.Split.{split_of}
+use Rattle.iri_grammar.specs.WholeFault.{absolute_fault, reference_fault}
+use Rattle.iri_grammar.proofs.FaultLaws.{absolute-law, reference-law}
 use Rattle.iri_grammar.proofs.SplitUnique.{split_is}
 use Rattle.iri_normal.specs.NormalForm.{canonical}
 use Rattle.iri_normal.specs.Target.{target}
 use Rattle.iri_resolve.proofs.SchemeSteps.{joined-exactly, texts-exactly}
+use Rattle.iri_normal.proofs.CanonLemmas.{fault_none}
 use Rattle.iri_normal.proofs.TargetLaws.{target-fits}
-use Rattle.iri_register.specs.Entries.{Entry, place}
+use Rattle.iri_register.specs.Entries.{Entry, added, place, with_line, IsAdded}
 use Rattle.iri_register.specs.Commands.{Command, Line, live, numbers, entries_of_commands}
-use Rattle.iri_register.specs.Shared.{Share, IsLive, line_of, TargetsJoin}
+use Rattle.iri_register.specs.Refusals.{CausedBy}
+use Rattle.iri_register.specs.Shared.{Share, IsLive, line_of, TargetsJoin, IsJoinedPlace, FindsJoined, AddsJoined}
+use Rattle.iri_register.specs.declared.added.Added.{Added}
+use Rattle.iri_register.specs.declared.added.Added.TheVariants.{New, Old}
+use Rattle.iri_register.specs.declared.error.RegisterError.{RegisterError}
 use Rattle.iri_register.proofs.GroupLemmas.{same, is_same, without, grouped, entries_grouped}
 use Rattle.iri_register.proofs.MapLemmas.{none_is_some, some_same}
 
@@ -135,3 +143,62 @@ share_joined s cs base q r m n k b hq hr h =
     let shared = share_exactly cs (line_of s base q m) (line_of s base r n) h in
     let texts = joined_texts s base q r k b hq hr in
     (λ x. texts.0 (shared.0 x), λ j. shared.1 (texts.1 j))
+
+-- ---- one line alone
+
+-- where the line stood already, and where it is new
+placed_old : (es : List Entry) (t : List ℕ) (n k : ℕ) → place es t ≡ Some k → place (added es t n) t ≡ Some k
+placed_old [] t n k h = absurd (none_is_some h)
+placed_old (e ∷ es) t n k h =
+    elim (bytes_eq t e.target) as (λ b. bytes_eq t e.target ≡ b → cond b (Some 1) (option_map (λ j. j + 1) (place es t)) ≡ Some k
+    → place (cond b (with_line e n ∷ es) (e ∷ added es t n)) t ≡ Some k) [
+      | true ↦ λ a m. rw a m
+      | false ↦ λ a m. let l = one_less (place es t) k m in rw (a, placed_old es t n l.0 l.1) (ap Some (sym l.2))
+    ] refl h
+
+one_less_none : (o : Option ℕ) → option_map (λ j. j + 1) o ≡ None → o ≡ None
+one_less_none None h = refl
+one_less_none (Some j) h = cc
+
+placed_new : (es : List Entry) (t : List ℕ) (n : ℕ) → place es t ≡ None → place (added es t n) t ≡ Some (length es + 1)
+placed_new [] t n h = rw (same t) refl
+placed_new (e ∷ es) t n h =
+    let more : length es + 1 + 1 ≡ length (e ∷ es) + 1 = omega arith in
+    elim (bytes_eq t e.target) as (λ b. bytes_eq t e.target ≡ b → cond b (Some 1) (option_map (λ j. j + 1) (place es t)) ≡ None
+    → place (cond b (with_line e n ∷ es) (e ∷ added es t n)) t ≡ Some (length (e ∷ es) + 1)) [
+      | true ↦ λ a m. cc
+      | false ↦ λ a m. rw (a, placed_new es t n (one_less_none (place es t) m)) (ap Some more)
+    ] refl h
+
+module _ (s : Tests) (spec : IsSpec s) (base : List ℕ) (absolute : absolute_fault s base ≡ None) (q : List ℕ) where
+  joined_with : bytes_fault (reference_fault s) q ≡ None → (r : List ℕ) → IsReference s r
+      → (canonical s base q ≡ canonical s base r) ↔ TargetsJoin s base q r
+  joined_with h r hr =
+      joined_texts s base q r spec ((absolute-law s spec base).0 absolute)
+      ((reference-law s spec q).0 (fault_none (reference_fault s) q h)) hr
+
+  joined_place : bytes_fault (reference_fault s) q ≡ None → (es : List Entry) (k : ℕ) → place es (canonical s base q) ≡ Some k
+      → IsJoinedPlace s base es q k
+  unfolding IsJoinedPlace
+  joined_place h es k there r hr =
+      let texts = joined_with h r hr in
+      (λ i. texts.0 (one_target es (canonical s base q) (canonical s base r) k there i), λ j. ap (place es) (sym (texts.1 j)) ∙ there)
+
+  pub finds_joined : (es : List Entry) (x : Result (Option ℕ) RegisterError)
+      → MatchResult x (λ _. bytes_fault (reference_fault s) q ≡ None) (λ e. CausedBy e (bytes_fault (reference_fault s) q))
+      → IfOk x (λ k. k ≡ place es (canonical s base q)) → IfOk x (FindsJoined s base es q)
+  unfolding FindsJoined
+  finds_joined es (Ok (Some k)) h is = joined_place h es k (sym is)
+  finds_joined es (Ok None) h is = λ r hr j. ap (place es) (sym ((joined_with h r hr).1 j)) ∙ sym is
+  finds_joined es (Err e) h is = tt
+
+  pub adds_joined : (es new : List Entry) (n : ℕ) (x : Result Added RegisterError)
+      → MatchResult x (λ _. bytes_fault (reference_fault s) q ≡ None) (λ e. CausedBy e (bytes_fault (reference_fault s) q))
+      → IfOk x (IsAdded es (canonical s base q)) → OnOk x (new ≡ added es (canonical s base q) n) → IfOk x (AddsJoined s base new q)
+  unfolding AddsJoined
+  adds_joined es new n (Ok (Old k)) h is entries =
+      joined_place h new k (ap (λ l. place l (canonical s base q)) entries ∙ placed_old es (canonical s base q) n k is)
+  adds_joined es new n (Ok (New k)) h is entries =
+      joined_place h new k
+      (ap (λ l. place l (canonical s base q)) entries ∙ placed_new es (canonical s base q) n is.0 ∙ ap Some (sym is.1))
+  adds_joined es new n (Err e) h is entries = tt

@@ -9,6 +9,7 @@ ghost use Rattle.iri_normal.specs.NormalForm.{canonical};
 ghost use Rattle.iri_normal.specs.Resolver.{base_text};
 ghost use Rattle.iri_register.specs.Entries.{added, removed, place, line_count, entry_at, IsAdded};
 ghost use Rattle.iri_register.specs.Refusals.{CausedBy};
+ghost use Rattle.iri_register.specs.Shared.{AddsJoined, FindsJoined};
 
 use crate::added::Added;
 use crate::entries::{self, Entries};
@@ -102,6 +103,7 @@ impl Links {
         resolver: &FixedBaseResolver<'_, S>,
         reference: &[u8],
     ) -> Result<Option<usize>, RegisterError>
+        ensures joined { IfOk result (FindsJoined S.tests (base_text resolver.now) self.now.entries reference.now) }
         ensures causes { MatchResult result (λ _. bytes_fault (reference_fault S.tests) reference.now ≡ None)
             (λ e. CausedBy e (bytes_fault (reference_fault S.tests) reference.now)) }
         ensures answer { IfOk result (λ k. k
@@ -125,6 +127,7 @@ impl Links {
         reference: &[u8],
         line: u64,
     ) -> Result<Added, RegisterError>
+        ensures joined { IfOk result (AddsJoined S.tests (base_text resolver.now) self.new.entries reference.now) }
         ensures causes { MatchResult result (λ _. bytes_fault (reference_fault S.tests) reference.now ≡ None)
             (λ e. CausedBy e (bytes_fault (reference_fault S.tests) reference.now)) }
         ensures answer { IfOk result (IsAdded self.old.entries
@@ -207,6 +210,7 @@ impl<S: Spec> Register<S> {
     }
 
     /// The place, from 1, of the entry that has the reference's canonical target; `None` exactly where no entry has it.
+    /// It is the place of exactly the references whose targets steps join with this one's.
     ///
     /// # Errors
     ///
@@ -223,6 +227,7 @@ impl<S: Spec> Register<S> {
     /// assert!(rt; matches!(links.find(b"c"), Ok(None)));
     /// ```
     pub fn find(&self, reference: &[u8]) -> Result<Option<usize>, RegisterError>
+        ensures joined { IfOk result (FindsJoined S.tests self.now.base self.now.entries reference.now) }
         ensures causes { MatchResult result (λ _. bytes_fault (reference_fault S.tests) reference.now ≡ None)
             (λ e. CausedBy e (bytes_fault (reference_fault S.tests) reference.now)) }
         ensures answer { IfOk result (λ k. k ≡ place self.now.entries (canonical S.tests self.now.base reference.now)) }
@@ -243,6 +248,7 @@ impl<S: Spec> Register<S> {
         resolver: &FixedBaseResolver<'_, S>,
         reference: &[u8],
     ) -> Result<Option<usize>, RegisterError>
+        ensures joined { IfOk result (FindsJoined S.tests (base_text resolver.now) self.now.entries reference.now) }
         ensures causes { MatchResult result (λ _. bytes_fault (reference_fault S.tests) reference.now ≡ None)
             (λ e. CausedBy e (bytes_fault (reference_fault S.tests) reference.now)) }
         ensures answer { IfOk result (λ k. k
@@ -253,7 +259,8 @@ impl<S: Spec> Register<S> {
     }
 
     /// Puts a line: at the end of the lines of the entry that has the reference's canonical target, or into a new entry
-    /// at the end. All other entries stay.
+    /// at the end. All other entries stay. The place that is told is then that of exactly the references whose targets
+    /// steps join with this one's.
     ///
     /// # Errors
     ///
@@ -262,6 +269,7 @@ impl<S: Spec> Register<S> {
     /// - `Bad` exactly where the reference isn't UTF-8 or no reference: its first fault.
     /// - `Memory` where allocation fails; the reference is valid then.
     pub fn add(&mut self, reference: &[u8], line: u64) -> Result<Added, RegisterError>
+        ensures joined { IfOk result (AddsJoined S.tests self.old.base self.new.entries reference.now) }
         ensures causes { MatchResult result (λ _. bytes_fault (reference_fault S.tests) reference.now ≡ None)
             (λ e. CausedBy e (bytes_fault (reference_fault S.tests) reference.now)) }
         ensures answer { IfOk result (IsAdded self.old.entries
@@ -301,6 +309,7 @@ impl<S: Spec> Register<S> {
         reference: &[u8],
         line: u64,
     ) -> Result<Added, RegisterError>
+        ensures joined { IfOk result (AddsJoined S.tests (base_text resolver.now) self.new.entries reference.now) }
         ensures causes { MatchResult result (λ _. bytes_fault (reference_fault S.tests) reference.now ≡ None)
             (λ e. CausedBy e (bytes_fault (reference_fault S.tests) reference.now)) }
         ensures answer { IfOk result (IsAdded self.old.entries

@@ -7,7 +7,8 @@ use iri_register::added::Added;
 use iri_register::error::RegisterError;
 use iri_register::laws::{entries_are_those_of_the_commands, live_lines_share_an_entry};
 use iri_register::register::Register;
-use iri_types::view::RiAbsoluteStr;
+use iri_resolve::join::join_steps;
+use iri_types::view::{RiAbsoluteStr, RiReferenceStr};
 use std::alloc::Global;
 use std::test::Fail;
 
@@ -232,11 +233,50 @@ fn kept_where_a_reference_is_bad(rt: HostRuntime) -> Result<(), Fail> {
     Ok(())
 }
 
+// By the law of commands, obeying one after the other leaves the entries of all: a target that comes back is last.
 #[test]
-fn the_laws() {
+fn entries_of_commands(rt: HostRuntime) -> Result<(), Fail> {
     entries_are_those_of_the_commands();
+    let mut register = two_links(rt.alloc())?;
+    assert!(rt; matches!(register.remove(b"b"), Ok(Some(2))));
+    assert!(rt; register.add(b"b", 5).is_ok());
+    assert!(rt; is_entry(&register, 1, "http://a/c", &[3]));
+    assert!(rt; is_entry(&register, 2, "http://a/b", &[5]));
+    Ok(())
+}
+
+// Whether two references have one place, and whether steps join their targets.
+fn share_and_join<S: Spec>(alloc: Global, one: &str, other: &str) -> Result<(bool, bool), Fail> {
+    let base = "http://a/b/";
+    let mut register = register::<S>(alloc, base)?;
+    register.add(one.as_bytes(), 2)?;
+    let place = register.find(other.as_bytes())?;
+    let page = FixedBaseResolver::<S>::new(RiAbsoluteStr::new(base)?);
+    let first = page.target(alloc, RiReferenceStr::new(one)?)?;
+    let second = page.target(alloc, RiReferenceStr::new(other)?)?;
+    Ok((place == Some(1), join_steps(alloc, &first, &second)?.is_some()))
+}
+
+// By the law of lines, two share an entry exactly where steps join their targets.
+#[test]
+fn lines_share_what_steps_join(rt: HostRuntime) -> Result<(), Fail> {
     live_lines_share_an_entry::<UriSpec>();
     live_lines_share_an_entry::<IriSpec>();
+    static ROWS: [(&str, &str, bool); 6] = [
+        ("c", "./%63", true),
+        ("c", "HTTP://A:/b/x/../c", true),
+        ("c", "C", false),
+        ("c", "c?", false),
+        ("c", "http://a:80/b/c", false),
+        ("%3a", "%3A", true),
+    ];
+    for &(one, other, want) in &ROWS {
+        let uri = share_and_join::<UriSpec>(rt.alloc(), one, other)?;
+        assert_eq!(rt; uri, (want, want), "{one} and {other}");
+        let iri = share_and_join::<IriSpec>(rt.alloc(), one, other)?;
+        assert_eq!(rt; iri, (want, want), "{one} and {other}");
+    }
+    Ok(())
 }
 
 // A refused line leaves the entry as it was. The fifth line of an entry needs room for more.
