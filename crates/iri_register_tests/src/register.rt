@@ -254,7 +254,10 @@ fn share_and_join<S: Spec>(alloc: Global, one: &str, other: &str) -> Result<(boo
     let page = FixedBaseResolver::<S>::new(RiAbsoluteStr::new(base)?);
     let first = page.target(alloc, RiReferenceStr::new(one)?)?;
     let second = page.target(alloc, RiReferenceStr::new(other)?)?;
-    Ok((place == Some(1), join_steps(alloc, &first, &second)?.is_some()))
+    Ok((
+        place == Some(1),
+        join_steps(alloc, &first, &second)?.is_some(),
+    ))
 }
 
 // By the law of lines, two share an entry exactly where steps join their targets.
