@@ -15,11 +15,9 @@
 
 pub use iri_docs::laws as docs;
 pub use iri_edit::laws as edit;
-pub use iri_grammar::authority_laws as authority;
-pub use iri_grammar::laws as grammar;
+pub use iri_grammar::{authority_laws as authority, laws as grammar};
 pub use iri_link::laws as link;
-pub use iri_normal::laws as normal;
-pub use iri_normal::mapping_laws as mapping;
+pub use iri_normal::{laws as normal, mapping_laws as mapping};
 pub use iri_percent::laws as percent;
 pub use iri_register::laws as register;
 pub use iri_resolve::laws as steps;

@@ -9,8 +9,8 @@
 //! assert_eq!(rt; target.path(), "/b");
 //! ```
 
-pub use iri_normal::{MergedPath, TargetSlices};
 pub use iri_normal::owned_target::Target;
+pub use iri_normal::{MergedPath, TargetSlices};
 pub use iri_resolve::join::{join_steps, join_steps_in};
 pub use iri_resolve::normal_steps::{
     put_steps_in, show_steps, show_steps_in, steps_to_normal, steps_to_normal_in,
