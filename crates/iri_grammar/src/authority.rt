@@ -204,7 +204,7 @@ impl<'a> AuthoritySpan<'a> {
     }
 
     /// The port, without the `:` before it; a `:` without digits gives the empty text, and `None` comes exactly where
-    /// there is no `:`.
+    /// no `:` follows the host, as in `[::1]`.
     pub fn port(&self) -> Option<&'a str>
         ensures { now_of result ≡ (span_parts self.now).port }
     {

@@ -158,7 +158,7 @@ impl<'a> AuthorityComponents<'a> {
     }
 
     /// The port, without the `:` before it; a `:` without digits gives the empty text, and `None` comes exactly where
-    /// there is no `:` (RFC 3986 section 3.2.3).
+    /// no `:` follows the host, as in `[::1]` (RFC 3986 section 3.2.3).
     pub fn port(&self) -> Option<&'a str>
         ensures { now_of result ≡ (authority_parts (authority self.now)).port }
     {
