@@ -1,0 +1,31 @@
+use crate::robots;
+use crate::row::{Field, RowError};
+use std::alloc::Global;
+
+// What subjects keep from row to row.
+#[derive(Drop)]
+pub(crate) struct State {
+    robots: robots::File,
+}
+
+impl State {
+    pub(crate) fn new(alloc: Global) -> State {
+        State {
+            robots: robots::File::new(alloc),
+        }
+    }
+}
+
+// The answer of a row of a subject.
+pub(crate) fn answer(
+    alloc: Global,
+    state: &mut State,
+    subject: &str,
+    verb: &str,
+    fields: &[Field],
+) -> Result<Vec<u8>, RowError> {
+    match subject {
+        "robots" => Ok(robots::answer(alloc, &mut state.robots, verb, fields)?.into_bytes()),
+        _ => Err(RowError::NoRow),
+    }
+}
