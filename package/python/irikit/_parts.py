@@ -82,7 +82,7 @@ class SplitResult(NamedTuple):
 
     @property
     def port(self) -> int | None:
-        """The port as a number; None where it is empty.
+        """The port as a number; None where it is empty. Raises `ValueError` where it has more digits than `int` reads.
 
         >>> split("//h:8042").port, split("//h:").port
         (8042, None)

@@ -1,6 +1,7 @@
 """Texts, as they are passed to the library and come back from it."""
 from __future__ import annotations
 
+import functools
 from typing import Any, Callable, Iterable, Union
 
 from ._library import declared, room, size_t
@@ -28,8 +29,9 @@ class Immutable:
         return f"{type(self).__name__}({', '.join(shown)})"
 
 
+@functools.total_ordering
 class Identifier(Immutable):
-    """A text that is one of a grammar, whatever grammar that is."""
+    """A text that is one of a grammar, whatever grammar that is. Those of one grammar are ordered by their texts."""
 
     __slots__ = ()
 

@@ -53,7 +53,8 @@ class _Parted(Identifier):
 
     @property
     def port(self) -> int | None:
-        """The port as a number (section 3.2.3); None where it is empty, too."""
+        """The port as a number (section 3.2.3); None where it is empty, too. A grammar takes any number of digits, and `int` some
+        thousands (`sys.set_int_max_str_digits`): of more it raises `ValueError`."""
         port = self._part(PORT)
         return int(port) if port else None
 

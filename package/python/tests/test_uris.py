@@ -15,6 +15,8 @@ class Values(unittest.TestCase):
         self.assertEqual((urn.scheme, urn.path), ("urn", "example:animal:ferret:nose"))
         self.assertEqual([urn.authority, urn.userinfo, urn.host, urn.port, urn.query, urn.fragment], [None] * 6)
         self.assertEqual((Uri("a://@:?#").userinfo, Uri("a://@:?#").host, Uri("a://@:?#").port), ("", "", None))
+        with self.assertRaises(ValueError):
+            Uri("a://h:" + "1" * 100_000).port
         self.assertEqual((Uri("a://[::1]").host, Uri("a:").path, Uri("a:?").query), ("[::1]", "", ""))
 
     def test_parts_past_ascii(self):
@@ -49,8 +51,9 @@ class Values(unittest.TestCase):
         self.assertNotEqual(Uri("a:b"), "a:b")
         self.assertEqual(len({Uri("a:b"), Uri("a:b"), Uri("a:c")}), 2)
         self.assertEqual(sorted([Uri("b:"), Uri("a:c"), Uri("a:b")]), [Uri("a:b"), Uri("a:c"), Uri("b:")])
-        with self.assertRaises(TypeError):
-            sorted([Uri("b:"), Iri("a:")])
+        self.assertTrue(Uri("a:b") <= Uri("a:b") < Uri("a:c") and Uri("a:c") >= Uri("a:c") > Uri("a:b"))
+        for wrong in (lambda: sorted([Uri("b:"), Iri("a:")]), lambda: Uri("a:") <= Iri("b:"), lambda: Uri("b:") > "a:"):
+            self.assertRaises(TypeError, wrong)
 
     def test_immutable(self):
         uri = Uri("a://h/")
