@@ -29,7 +29,7 @@ fn append<'a, S: Spec>(
         (canonical_in S.tests mode (base_text resolver.now) (split_text reference.now)) (string_bytes dest.new)) }
     ensures full { OnErr result (string_capacity dest.old < string_len dest.old
         + length (canonical_in S.tests mode (base_text resolver.now) (split_text reference.now))) }
-    ensures room { OnOk result (string_capacity dest.old ≤ string_capacity dest.new) }
+    ensures room { string_capacity dest.old ≤ string_capacity dest.new }
 {
     let mut sink = StringSink::new(dest);
     match show_canonical_in(&mut sink, mode, resolver, reference) {
@@ -66,7 +66,7 @@ impl<'a, S: Spec> FixedBaseResolver<'a, S> {
         ensures unchanged { OnErr result (string_bytes dest.new ≡ string_bytes dest.old) }
         ensures full { OnErr result (string_capacity dest.old < string_len dest.old
             + length (canonical S.tests (base_text self.now) (split_text reference.now))) }
-        ensures room { OnOk result (string_capacity dest.old ≤ string_capacity dest.new) }
+        ensures room { string_capacity dest.old ≤ string_capacity dest.new }
     {
         self.canonical_into_in(dest, CanonMode::Default, reference)
     }
@@ -89,7 +89,7 @@ impl<'a, S: Spec> FixedBaseResolver<'a, S> {
         ensures unchanged { OnErr result (string_bytes dest.new ≡ string_bytes dest.old) }
         ensures full { OnErr result (string_capacity dest.old < string_len dest.old
             + length (canonical_in S.tests mode (base_text self.now) (split_text reference.now))) }
-        ensures room { OnOk result (string_capacity dest.old ≤ string_capacity dest.new) }
+        ensures room { string_capacity dest.old ≤ string_capacity dest.new }
     {
         let len = dest.as_str().len();
         match append(dest, mode, self, reference) {
