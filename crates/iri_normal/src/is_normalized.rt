@@ -1,5 +1,5 @@
 //! Tests of being in normal form (RFC 3986 section 6.2.2).
-ghost use Rattle.std.specs.Prelude.{◌≡◌, ◌↔◌, ℕ, List, false, true};
+ghost use Rattle.std.specs.Prelude.{◌≡◌, ◌↔◌, false, true};
 ghost use Rattle.iri_grammar.specs.Classes.{Tests};
 ghost use Rattle.iri_grammar.specs.Split.{split_of};
 ghost use Rattle.iri_types.specs.Texts.{text};
@@ -14,13 +14,11 @@ use crate::normal_kind::NormalKind;
 use crate::normalized::NormalizedText;
 use crate::views::Normalize;
 use iri_grammar::spec::Spec;
+use iri_text::Show;
 use iri_types::view::View;
 
 /// Texts that may be in normal form (RFC 3986 section 6.2.2). Nothing here takes memory.
-pub trait IsNormalized: Sized {
-    /// The bytes of the text.
-    ghost bytes: { Self → List ℕ };
-
+pub trait IsNormalized: Show + Sized {
     /// The classes of its characters.
     ghost tests: { Tests };
 
@@ -33,7 +31,7 @@ pub trait IsNormalized: Sized {
     /// assert!(rt; !UriStr::new("example://a/b/c/%7bfoo%7d")?.is_normalized());
     /// ```
     fn is_normalized(self) -> bool
-        ensures { (result ≡ true) ↔ IsInMode tests Normal (bytes self) };
+        ensures { (result ≡ true) ↔ IsInMode tests Normal (Self.text self) };
 
     /// Whether it is, and RFC 3986 alone has a normal form of it: without an authority, its path doesn't begin with
     /// `//` once its dot segments are removed.
@@ -46,13 +44,13 @@ pub trait IsNormalized: Sized {
     /// assert!(rt; !link.is_normalized_rfc3986());
     /// ```
     fn is_normalized_rfc3986(self) -> bool
-        ensures { (result ≡ true) ↔ (IsInMode tests Normal (bytes self)
-            × (is_unresolvable false (split_of (bytes self)) ≡ false)) };
+        ensures { (result ≡ true) ↔ (IsInMode tests Normal (Self.text self)
+            × (is_unresolvable false (split_of (Self.text self)) ≡ false)) };
 
     /// Whether the text is its own normal form where a path without authority that doesn't begin with a slash keeps its dot
     /// segments.
     fn is_normalized_but_authorityless_relative_path_preserved(self) -> bool
-        ensures { (result ≡ true) ↔ IsInMode tests Preserving (bytes self) };
+        ensures { (result ≡ true) ↔ IsInMode tests Preserving (Self.text self) };
 }
 
 // Whether what is shown of a view is its text.
@@ -66,8 +64,6 @@ pub(crate) fn is_same<S: Spec, K: NormalKind>(
 }
 
 impl<'a, S: Spec, K: NormalKind> IsNormalized for View<'a, S, K> {
-    ghost bytes = { λ v. text v };
-
     ghost tests = { S.tests };
 
     fn is_normalized(self) -> bool {

@@ -1,9 +1,10 @@
 //! Views in normal form, and references resolved against a base.
-ghost use Rattle.std.specs.Prelude.{◌≡◌, ℕ, List, false, true, IsErr, ◌↔◌};
+ghost use Rattle.std.specs.Prelude.{◌≡◌, false, true, IsErr, ◌↔◌, refl};
+ghost use Rattle.iri_grammar.specs.Classes.{Tests};
 ghost use Rattle.iri_grammar.specs.Split.{split_of};
 ghost use Rattle.iri_types.specs.Texts.{text};
 ghost use Rattle.iri_normal.specs.NormalForm.{is_unresolvable};
-ghost use Rattle.iri_normal.specs.Normalized.{Written};
+ghost use Rattle.iri_normal.specs.Normalized.{Written, written_text};
 ghost use Rattle.iri_normal.specs.NormalizedText.{written};
 ghost use Rattle.iri_normal.specs.Slices.{slices};
 ghost use Rattle.iri_normal.specs.Target.{target, takes_base_path};
@@ -22,12 +23,12 @@ use iri_types::split::SplitView;
 use iri_types::view::{RiAbsoluteStr, View};
 
 /// Texts with a scheme, which have a normal form (RFC 3986 section 6.2.2). Nothing here takes memory.
-pub trait Normalize: Sized {
+pub trait Normalize: Show + Sized {
     /// What shows the text in a mode.
     type Text: Show;
 
-    /// The bytes of the text.
-    ghost bytes: { Self → List ℕ };
+    /// The classes of its characters.
+    ghost tests: { Tests };
 
     /// What is shown.
     ghost shown: { Self.Text → Written };
@@ -41,7 +42,7 @@ pub trait Normalize: Sized {
     /// assert_eq!(rt; link.normalize().try_to_string(rt.alloc())?.as_str(), "example://a/b/c/%7Bfoo%7D");
     /// ```
     fn normalize(self) -> Self::Text
-        ensures { shown result ≡ record { parts = split_of (bytes self); whole = false; mode = Normal } };
+        ensures { shown result ≡ record { parts = split_of (Self.text self); whole = false; mode = Normal } };
 
     /// The text in normal form, but a path without authority that doesn't begin with a slash keeps its dot segments.
     ///
@@ -52,7 +53,7 @@ pub trait Normalize: Sized {
     /// assert_eq!(rt; link.try_to_string(rt.alloc())?.as_str(), "urn:a/../~");
     /// ```
     fn normalize_but_preserve_authorityless_relative_path(self) -> Self::Text
-        ensures { shown result ≡ record { parts = split_of (bytes self); whole = false; mode = Preserving } };
+        ensures { shown result ≡ record { parts = split_of (Self.text self); whole = false; mode = Preserving } };
 
     /// Whether RFC 3986 alone has a normal form of the text, without the `/.` before a path that would be read as an
     /// authority.
@@ -68,23 +69,23 @@ pub trait Normalize: Sized {
     /// assert!(rt; UriStr::new("web+demo:/.//not-a-host/")?.ensure_rfc3986_normalizable().is_err());
     /// ```
     fn ensure_rfc3986_normalizable(self) -> Result<(), Unresolvable>
-        ensures { IsErr result ↔ (is_unresolvable false (split_of (bytes self)) ≡ true) };
+        ensures { IsErr result ↔ (is_unresolvable false (split_of (Self.text self)) ≡ true) };
+
+    /// Its text is that of what is shown.
+    ghost shows: { (x : Self.Text) → Self.Text.text x ≡ written_text tests (shown x) };
 }
 
 /// References, which are resolved against a base (RFC 3986 section 5.2). Nothing here takes memory. For many references
 /// of one base, `FixedBaseResolver` prepares the base once.
-pub trait ResolveAgainst: Sized {
+pub trait ResolveAgainst: Show + Sized {
     /// A base.
-    type Base;
+    type Base: Show;
 
     /// What shows a text resolved.
     type Text: Show;
 
-    /// The bytes of the text.
-    ghost bytes: { Self → List ℕ };
-
-    /// The bytes of a base.
-    ghost base_bytes: { Self.Base → List ℕ };
+    /// The classes of its characters.
+    ghost tests: { Tests };
 
     /// What is shown.
     ghost shown: { Self.Text → Written };
@@ -101,10 +102,13 @@ pub trait ResolveAgainst: Sized {
     /// ```
     fn resolve_against(self, base: Self::Base) -> Self::Text
         ensures { shown result ≡ record {
-          parts = target (split_of (base_bytes base)) (split_of (bytes self));
-          whole = takes_base_path (split_of (bytes self));
+          parts = target (split_of (Self.Base.text base)) (split_of (Self.text self));
+          whole = takes_base_path (split_of (Self.text self));
           mode = Plain;
         } };
+
+    /// Its text is that of what is shown.
+    ghost shows: { (x : Self.Text) → Self.Text.text x ≡ written_text tests (shown x) };
 }
 
 // The slices of a view's parts, in a mode.
@@ -119,9 +123,11 @@ fn in_mode<'a, S: Spec, K: NormalKind>(view: View<'a, S, K>, mode: Mode) -> Norm
 impl<'a, S: Spec, K: NormalKind> Normalize for View<'a, S, K> {
     type Text = NormalizedText<'a, S, K>;
 
-    ghost bytes = { λ v. text v };
+    ghost tests = { S.tests };
 
     ghost shown = { λ n. written n };
+
+    ghost shows = { λ _. refl };
 
     fn normalize(self) -> NormalizedText<'a, S, K> {
         in_mode(self, Mode::Normal)
@@ -141,11 +147,11 @@ impl<'a, S: Spec> ResolveAgainst for View<'a, S, Reference> {
 
     type Text = Normalized<'a, S>;
 
-    ghost bytes = { λ v. text v };
-
-    ghost base_bytes = { λ v. text v };
+    ghost tests = { S.tests };
 
     ghost shown = { λ n. written n };
+
+    ghost shows = { λ _. refl };
 
     fn resolve_against(self, base: RiAbsoluteStr<'a, S>) -> Normalized<'a, S> {
         FixedBaseResolver::new(base).resolve(self)
@@ -157,11 +163,11 @@ impl<'a, S: Spec> ResolveAgainst for View<'a, S, Relative> {
 
     type Text = Normalized<'a, S>;
 
-    ghost bytes = { λ v. text v };
-
-    ghost base_bytes = { λ v. text v };
+    ghost tests = { S.tests };
 
     ghost shown = { λ n. written n };
+
+    ghost shows = { λ _. refl };
 
     fn resolve_against(self, base: RiAbsoluteStr<'a, S>) -> Normalized<'a, S> {
         FixedBaseResolver::new(base).resolve(self.as_reference())
