@@ -7,7 +7,7 @@ use crate::same::same;
 use iri_edit::builder::{BuildError, Builder};
 use iri_edit::fragment::SetFragment;
 use iri_edit::host::ReplaceHost;
-use iri_edit::password::{MaskPassword, PasswordMasked};
+use iri_edit::password::MaskPassword;
 use iri_edit::removal::RemovePassword;
 use iri_edit::shown_host::{with_host, with_host_reg_name};
 use iri_edit::shown_removal::without_password;
@@ -458,8 +458,8 @@ fn a_path_without_a_slash_beside_a_host(rt: HostRuntime) -> Result<(), Fail> {
 }
 
 // What is known of any type with these traits.
-fn hidden<'a, V: MaskPassword<'a>>(view: V) -> PasswordMasked<'a, V>
-    ensures { V.shown result ≡ masked (V.bytes view) }
+fn hidden<V: MaskPassword>(view: V) -> V::Masked
+    ensures { V.Masked.text result ≡ masked (V.text view) }
 {
     view.mask_password()
 }
