@@ -12,7 +12,10 @@ def _loaded() -> ctypes.CDLL:
     """The library that IRIKIT_LIBRARY names; otherwise the one beside this file, as the wheel has it; otherwise the system's."""
     beside = os.path.join(os.path.dirname(os.path.abspath(__file__)), SONAME)
     name = os.environ.get("IRIKIT_LIBRARY") or (beside if os.path.exists(beside) else SONAME)
-    library = ctypes.CDLL(name)
+    try:
+        library = ctypes.CDLL(name)
+    except OSError as error:
+        raise ImportError(f"no library irikit ({error}): install {SONAME.replace('.so.', '')}, or name its file in IRIKIT_LIBRARY") from error
     if not hasattr(library, "irikit_version") or library.irikit_version() // 100 != 2:
         raise ImportError(f"{name} is no libirikit of version 0.2")
     return library

@@ -111,8 +111,10 @@ class One(unittest.TestCase):
 
 class Library(unittest.TestCase):
     def test_another_library(self):
-        done = subprocess.run([sys.executable, "-c", "import irikit"], env={**os.environ, "IRIKIT_LIBRARY": "libc.so.6"}, stderr=subprocess.PIPE)
-        self.assertEqual((done.returncode, done.stderr.split(b"\n")[-2]), (1, b"ImportError: libc.so.6 is no libirikit of version 0.2"))
+        for name, words in (("libc.so.6", "libc.so.6 is no libirikit of version 0.2"), ("/nowhere/irikit", "no library irikit (/nowhere/irikit: ")):
+            done = subprocess.run([sys.executable, "-c", "import irikit"], env={**os.environ, "IRIKIT_LIBRARY": name}, stderr=subprocess.PIPE)
+            self.assertEqual(done.returncode, 1)
+            self.assertIn(f"\nImportError: {words}".encode(), done.stderr)
 
 
 class Many(unittest.TestCase):
