@@ -176,7 +176,7 @@ export class Kit {
   removePassword(text: Text, grammar?: Grammar): string;
 
   /**
-   * A reference with this password in place of its own, as it stands: `encode` gives what may stand `IN_USER`.
+   * A reference with this password in place of its own, as it stands: `encode` for a `"user"` makes one that may stand there.
    * @throws {Refused} where it is no reference
    */
   replacePassword(text: Text, password: Text, grammar?: Grammar): string;
