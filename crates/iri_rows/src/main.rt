@@ -6,8 +6,10 @@
 //! call has its contract, and the rows show that its definition is the standard's.
 #![tactic(auto)]
 
+mod canonical;
 mod robots;
 mod row;
+mod steps;
 mod subjects;
 
 use crate::row::{Row, RowError, escaped};

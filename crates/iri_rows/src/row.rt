@@ -172,7 +172,24 @@ pub(crate) fn escaped(alloc: Global, bytes: &[u8]) -> Result<String, AllocError>
     Ok(text)
 }
 
+// A call with the grammar that a field names as its type argument.
+macro_rules! in_grammar {
+    ($grammar:expr, $call:ident($($argument:expr),*)) => {
+        match $grammar.text()? {
+            "uri" => $call::<UriSpec>($($argument),*),
+            "iri" => $call::<IriSpec>($($argument),*),
+            _ => Err(RowError::NoRow),
+        }
+    };
+}
+
+pub(crate) use in_grammar;
+
 // The answer of a test.
+pub(crate) fn word(answer: bool) -> &'static str {
+    if answer { "yes" } else { "no" }
+}
+
 pub(crate) fn yes_or_no(alloc: Global, answer: bool) -> Result<String, AllocError> {
-    String::from_str(alloc, if answer { "yes" } else { "no" })
+    String::from_str(alloc, word(answer))
 }

@@ -1,5 +1,5 @@
-use crate::robots;
 use crate::row::{Field, RowError};
+use crate::{canonical, robots, steps};
 use std::alloc::Global;
 
 // What subjects keep from row to row.
@@ -25,6 +25,8 @@ pub(crate) fn answer(
     fields: &[Field],
 ) -> Result<Vec<u8>, RowError> {
     match subject {
+        "canonical" => Ok(canonical::answer(alloc, verb, fields)?.into_bytes()),
+        "steps" => Ok(steps::answer(alloc, verb, fields)?.into_bytes()),
         "robots" => Ok(robots::answer(alloc, &mut state.robots, verb, fields)?.into_bytes()),
         _ => Err(RowError::NoRow),
     }
