@@ -10,13 +10,11 @@ use iri_edit::host::ReplaceHost;
 use iri_edit::password::MaskPassword;
 use iri_edit::removal::RemovePassword;
 use iri_edit::shown_host::{with_host, with_host_reg_name};
-use iri_edit::shown_removal::without_password;
-use iri_grammar::error::ErrorKind;
 use iri_grammar::spec::{IriSpec, UriSpec};
-use iri_owned::owned::{IriReferenceString, UriReferenceString, UriRelativeString, UriString};
+use iri_owned::owned::UriString;
 use iri_text::{Show, ToDedicatedString, write_to_slice};
 use iri_types::kind::{Iri, Reference};
-use iri_types::view::{IriReferenceStr, UriFragmentStr, UriReferenceStr, UriRelativeStr, UriStr};
+use iri_types::view::{UriFragmentStr, UriReferenceStr, UriStr};
 use std::alloc::{AllocError, Global};
 use std::test::Fail;
 
@@ -38,24 +36,6 @@ fn shown<T: Show>(alloc: Global, value: &T) -> Result<String, Fail> {
 
 #[test]
 fn masked_and_replaced(rt: HostRuntime) -> Result<(), Fail> {
-    for &(text, masked, replaced) in &[
-        ("http://u:p@h/", "http://u:@h/", "http://u:***@h/"),
-        (
-            "http://a:b:c@h:80/",
-            "http://a:@h:80/",
-            "http://a:***@h:80/",
-        ),
-        ("http://u:@h/", "http://u:@h/", "http://u:***@h/"),
-        ("http://u@h/", "http://u@h/", "http://u@h/"),
-        ("http://@h/", "http://@h/", "http://@h/"),
-        ("http://h/u:p@", "http://h/u:p@", "http://h/u:p@"),
-        ("mailto:u:p@h", "mailto:u:p@h", "mailto:u:p@h"),
-    ] {
-        let mask = uri(text)?.mask_password();
-        assert_eq!(rt; shown(rt.alloc(), &mask)?.as_str(), masked);
-        let with = mask.replace_password("***");
-        assert_eq!(rt; shown(rt.alloc(), &with)?.as_str(), replaced);
-    }
     let mask = uri("http://u:p@h/")?.mask_password();
     let owned = mask.try_to_dedicated_string(rt.alloc())?;
     same(&rt, owned.as_str(), "http://u:@h/");
@@ -72,21 +52,6 @@ fn masked_and_replaced(rt: HostRuntime) -> Result<(), Fail> {
         format!(in rt.alloc(); "{with}")?.as_str(),
         "http://u:7@h/",
     );
-    Ok(())
-}
-
-#[test]
-fn other_kinds_are_masked(rt: HostRuntime) -> Result<(), Fail> {
-    let Ok(relative) = UriRelativeStr::new("//u:p@h") else {
-        return Err("a valid reference is refused")?;
-    };
-    let masked = relative.mask_password();
-    same(&rt, shown(rt.alloc(), &masked)?.as_str(), "//u:@h");
-    let Ok(reference) = IriReferenceStr::new("//é:p@é/") else {
-        return Err("a valid reference is refused")?;
-    };
-    let masked = reference.mask_password();
-    same(&rt, shown(rt.alloc(), &masked)?.as_str(), "//é:@é/");
     Ok(())
 }
 
@@ -111,94 +76,6 @@ fn the_closure_is_called_once_or_not(rt: HostRuntime) -> Result<(), Fail> {
     });
     same(&rt, shown(rt.alloc(), &with)?.as_str(), "http://u@h/");
     same(&rt, calls, 1);
-    Ok(())
-}
-
-#[test]
-fn passwords_removed(rt: HostRuntime) -> Result<(), Fail> {
-    for &(text, without, nonempty) in &[
-        ("http://@h/", "http://@h/", "http://@h/"),
-        ("http://u@h/", "http://u@h/", "http://u@h/"),
-        ("http://u:p@h/", "http://u@h/", "http://u:@h/"),
-        ("http://a:b:c@h/", "http://a@h/", "http://a:@h/"),
-        ("http://:@h/", "http://@h/", "http://:@h/"),
-    ] {
-        let mut a = UriString::try_from_str(rt.alloc(), text)?;
-        a.remove_password_inline();
-        assert_eq!(rt; a.as_str(), without);
-        let mut b = UriString::try_from_str(rt.alloc(), text)?;
-        b.remove_nonempty_password_inline();
-        assert_eq!(rt; b.as_str(), nonempty);
-    }
-    let mut relative = UriRelativeString::try_from_str(rt.alloc(), "//u:p@h")?;
-    relative.remove_password_inline();
-    same(&rt, relative.as_str(), "//u@h");
-    Ok(())
-}
-
-#[test]
-fn hosts_replaced(rt: HostRuntime) -> Result<(), Fail> {
-    for &(text, host, replaced) in &[
-        ("http://a:80/#f", "[::1]", Some("http://[::1]:80/#f")),
-        ("mailto:x", "h", None),
-        ("http://a/", "a/b", None),
-        ("http://127.0.0.1/", "h", Some("http://h/")),
-        ("//u:p@a?q", "", Some("//u:p@?q")),
-        ("//a", "%C3%89.example", Some("//%C3%89.example")),
-    ] {
-        let mut reference = UriReferenceString::try_from_str(rt.alloc(), text)?;
-        let told = match reference.try_replace_host(host)? {
-            Some(slice) => slice == host,
-            None => false,
-        };
-        assert_eq!(rt; told, replaced.is_some());
-        assert_eq!(rt; reference.as_str(), replaced.unwrap_or(text));
-    }
-    let mut iri = IriReferenceString::try_from_str(rt.alloc(), "//a/é")?;
-    same(&rt, iri.try_replace_host("é")?, Some("é"));
-    same(&rt, iri.as_str(), "//é/é");
-    let mut uri = UriString::try_from_str(rt.alloc(), "http://a:80/#f")?;
-    same(&rt, uri.try_replace_host("[::1]")?, Some("[::1]"));
-    same(&rt, uri.as_str(), "http://[::1]:80/#f");
-    Ok(())
-}
-
-#[test]
-fn names_alone_replaced(rt: HostRuntime) -> Result<(), Fail> {
-    for &(text, host, replaced) in &[
-        ("http://127.0.0.1/", "h", None),
-        ("http://[::1]/", "h", None),
-        ("http://a/", "a/b", None),
-        ("mailto:x", "h", None),
-        ("http://a/", "127.0.0.1", Some("http://127.0.0.1/")),
-    ] {
-        let mut uri = UriString::try_from_str(rt.alloc(), text)?;
-        let told = uri.try_replace_host_reg_name(host)?.is_some();
-        assert_eq!(rt; told, replaced.is_some());
-        assert_eq!(rt; uri.as_str(), replaced.unwrap_or(text));
-    }
-    Ok(())
-}
-
-#[test]
-fn fragments_set(rt: HostRuntime) -> Result<(), Fail> {
-    for &(text, fragment, want) in &[
-        ("http://a/#f", Some("x"), "http://a/#x"),
-        ("http://a/#f", Some("longer"), "http://a/#longer"),
-        ("http://a/#longer", Some("f"), "http://a/#f"),
-        ("http://a/#f", None, "http://a/"),
-        ("http://a/", Some("f"), "http://a/#f"),
-        ("http://a/", Some(""), "http://a/#"),
-        ("http://a/", None, "http://a/"),
-    ] {
-        let mut uri = UriString::try_from_str(rt.alloc(), text)?;
-        let fragment = match fragment {
-            Some(fragment) => UriFragmentStr::new(fragment).ok(),
-            None => None,
-        };
-        uri.set_fragment(fragment)?;
-        assert_eq!(rt; uri.as_str(), want);
-    }
     Ok(())
 }
 
@@ -233,44 +110,6 @@ fn kept_where_memory_is_refused(rt: HostRuntime) -> Result<(), Fail> {
     }
     same(&rt, uri.as_str(), "http://a/#a-rather-long-fragment");
     Ok(())
-}
-
-// The kind of fault that a build answers, or none where it gives this text.
-fn told(built: Result<UriReferenceString, BuildError>) -> Result<Option<ErrorKind>, Fail> {
-    match built {
-        Ok(_) => Ok(None),
-        Err(BuildError::Invalid(error)) => Ok(Some(error.kind())),
-        Err(BuildError::Memory(_)) => Err(AllocError)?,
-    }
-}
-
-// The kinds of fault of the four builds.
-fn reference_fault(alloc: Global, builder: &Builder<'_>) -> Result<Option<ErrorKind>, Fail> {
-    told(builder.build_reference::<UriSpec>(alloc))
-}
-
-fn iri_fault(alloc: Global, builder: &Builder<'_>) -> Result<Option<ErrorKind>, Fail> {
-    told(
-        builder
-            .build_iri::<UriSpec>(alloc)
-            .map(|t| t.into_reference()),
-    )
-}
-
-fn absolute_fault(alloc: Global, builder: &Builder<'_>) -> Result<Option<ErrorKind>, Fail> {
-    told(
-        builder
-            .build_absolute::<UriSpec>(alloc)
-            .map(|t| t.into_reference()),
-    )
-}
-
-fn relative_fault(alloc: Global, builder: &Builder<'_>) -> Result<Option<ErrorKind>, Fail> {
-    told(
-        builder
-            .build_relative::<UriSpec>(alloc)
-            .map(|t| t.into_reference()),
-    )
 }
 
 #[test]
@@ -339,121 +178,6 @@ fn parts_set_and_taken_back(rt: HostRuntime) -> Result<(), Fail> {
     builder.unset_fragment();
     let path = builder.build_relative::<IriSpec>(rt.alloc())?;
     same(&rt, path.as_str(), "/p");
-    Ok(())
-}
-
-// The faults of single parts, in their order.
-fn part_faults() -> [ErrorKind; 7] {
-    [
-        ErrorKind::InvalidScheme,
-        ErrorKind::InvalidUserInfo,
-        ErrorKind::InvalidHost,
-        ErrorKind::InvalidPort,
-        ErrorKind::InvalidPath,
-        ErrorKind::InvalidQuery,
-        ErrorKind::InvalidFragment,
-    ]
-}
-
-// Each fault of a single part alone, and with every later one of a part present too.
-#[test]
-fn faults_in_their_order(rt: HostRuntime) -> Result<(), Fail> {
-    for (i, kind) in part_faults().iter().enumerate() {
-        let alone = reference_fault(rt.alloc(), &faulty(i, i + 1))?;
-        assert_eq!(rt; alone, Some(*kind));
-        let all = reference_fault(rt.alloc(), &faulty(i, 7))?;
-        assert_eq!(rt; all, Some(*kind));
-    }
-    Ok(())
-}
-
-// The same, with every later fault of the kind and of the path present too: no scheme and a fragment in an absolute URI, a scheme in
-// a relative reference, and a colon in the first segment.
-#[test]
-fn faults_of_parts_before_those_of_kinds(rt: HostRuntime) -> Result<(), Fail> {
-    for (i, kind) in part_faults().iter().enumerate() {
-        let mut builder = faulty(i, 7);
-        if i > 4 {
-            builder.path("a:b");
-        }
-        let absolute = absolute_fault(rt.alloc(), &builder)?;
-        assert_eq!(rt; absolute, Some(*kind));
-        let relative = relative_fault(rt.alloc(), &builder)?;
-        assert_eq!(rt; relative, Some(*kind));
-    }
-    Ok(())
-}
-
-// A builder in which the parts from the one number to the other are faulty.
-fn faulty<'a>(from: usize, to: usize) -> Builder<'a> {
-    let mut builder = Builder::new();
-    if from < 1 && 0 < to {
-        builder.scheme("1");
-    }
-    if from < 2 && 1 < to {
-        builder.userinfo("@");
-    }
-    if from < 3 && 2 < to {
-        builder.host("/");
-    }
-    if from < 4 && 3 < to {
-        builder.port("a");
-    }
-    if from < 5 && 4 < to {
-        builder.path("?");
-    }
-    if from < 6 && 5 < to {
-        builder.query("#");
-    }
-    if from < 7 && 6 < to {
-        builder.fragment("#");
-    }
-    builder
-}
-
-// No scheme is set, and nothing else is wrong.
-#[test]
-fn no_scheme(rt: HostRuntime) -> Result<(), Fail> {
-    let builder = Builder::new();
-    let relative = Some(ErrorKind::UnexpectedRelative);
-    same(&rt, iri_fault(rt.alloc(), &builder)?, relative);
-    same(&rt, absolute_fault(rt.alloc(), &builder)?, relative);
-    Ok(())
-}
-
-#[test]
-fn faults_of_kinds_and_paths(rt: HostRuntime) -> Result<(), Fail> {
-    let alloc = rt.alloc();
-    let mut builder = Builder::new();
-    builder.path("a:b");
-    builder.fragment("f");
-    let path = Some(ErrorKind::InvalidPath);
-    same(&rt, reference_fault(alloc, &builder)?, path);
-    // No scheme, and with it a path that breaks a rule; the same with a fragment.
-    let relative = Some(ErrorKind::UnexpectedRelative);
-    same(&rt, iri_fault(alloc, &builder)?, relative);
-    same(&rt, absolute_fault(alloc, &builder)?, relative);
-    builder.scheme("foo");
-    builder.path("//b");
-    same(&rt, iri_fault(alloc, &builder)?, path);
-    let scheme = Some(ErrorKind::InvalidScheme);
-    same(&rt, relative_fault(alloc, &builder)?, scheme);
-    let fragment = Some(ErrorKind::UnexpectedFragment);
-    same(&rt, absolute_fault(alloc, &builder)?, fragment);
-    builder.path("");
-    same(&rt, absolute_fault(alloc, &builder)?, fragment);
-    builder.unset_fragment();
-    same(&rt, relative_fault(alloc, &builder)?, scheme);
-    Ok(())
-}
-
-#[test]
-fn a_path_without_a_slash_beside_a_host(rt: HostRuntime) -> Result<(), Fail> {
-    let mut host = Builder::new();
-    host.host("h");
-    host.path("b");
-    let fault = reference_fault(rt.alloc(), &host)?;
-    same(&rt, fault, Some(ErrorKind::InvalidPath));
     Ok(())
 }
 
@@ -530,21 +254,6 @@ fn shown_with_another_host(rt: HostRuntime) -> Result<(), Fail> {
     };
     same(&rt, shown(rt.alloc(), &with)?.as_str(), "//192.0.2.16/");
     assert!(rt; with_host(reference("mailto:u@h")?, "a").is_none());
-    Ok(())
-}
-
-#[test]
-fn shown_without_a_password(rt: HostRuntime) -> Result<(), Fail> {
-    for &(text, wanted) in &[
-        ("http://a:b:c@h:80/", "http://a@h:80/"),
-        ("//:@h", "//@h"),
-        ("mailto:u:p@h", "mailto:u:p@h"),
-    ] {
-        assert_eq!(rt;
-            shown(rt.alloc(), &without_password(reference(text)?))?.as_str(),
-            wanted
-        );
-    }
     Ok(())
 }
 

@@ -1,13 +1,7 @@
-//! Tests of `iri_grammar` over its public calls: examples of RFC 3986 and RFC 4291, borders of classes, notes of the scan. A crate
+//! Tests of `iri_grammar` over its public calls: a grammar of one's own, and laws. Rows of the standards are those of `iri_rows`. A crate
 //! with tests is proved twice, so they stand apart from the library.
 #![tactic(auto)]
 
-#[cfg(test)]
-mod classes;
-#[cfg(test)]
-mod components;
-#[cfg(test)]
-mod notes;
 #[cfg(test)]
 mod same;
 #[cfg(test)]

@@ -1,11 +1,11 @@
 ghost use Rattle.iri_grammar.specs.Classes.{iri_tests};
 ghost use Rattle.iri_grammar.specs.inside.Laws.{iri_is_spec};
 
-use crate::notes::{NOTHING, notes};
 use crate::same::same_at;
 use iri_grammar::class::Class;
 use iri_grammar::over::is_over;
 use iri_grammar::spec::{IriSpec, Spec, UriSpec};
+use iri_grammar::splitter::Splitter;
 
 // The grammar of IRIs by its two tests alone.
 #[derive(Clone, Copy)]
@@ -22,6 +22,27 @@ impl Spec for TestsAlone {
 
     fn is_nonascii_char_private(c: char) -> bool {
         IriSpec::is_nonascii_char_private(c)
+    }
+}
+
+const NOTHING: [bool; 6] = [false; 6];
+
+// The notes of a reference, in the order of the fields: triplets of path, query and fragment, dots, capitals, another
+// authority.
+fn notes<S: Spec>(text: &str) -> Option<[bool; 6]> {
+    match Splitter::new::<S>(text) {
+        Ok(parts) => {
+            let seen = parts.seen();
+            Some([
+                seen.path_triplets,
+                seen.query_triplets,
+                seen.fragment_triplets,
+                seen.dots,
+                seen.capitals,
+                seen.other_authority,
+            ])
+        }
+        Err(_) => None,
     }
 }
 

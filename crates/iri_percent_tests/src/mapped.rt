@@ -3,7 +3,7 @@ use iri_grammar::spec::{IriSpec, Spec, UriSpec};
 use iri_owned::owned::{IriFragmentString, IriQueryString, IriString, Owned};
 use iri_percent::{IntoUri, MappedKind, MappedToUri, ToUri, laws};
 use iri_text::{Show, ToDedicatedString, write_to_slice};
-use iri_types::kind::{Absolute, Fragment, Iri, Query, Reference, Relative};
+use iri_types::kind::Iri;
 use iri_types::view::{IriQueryStr, IriStr, UriStr, View};
 use std::alloc::{AllocError, Global};
 use std::test::Fail;
@@ -21,64 +21,6 @@ fn mapped<'b, S: Spec, K: MappedKind>(buf: &'b mut [u8], text: &str) -> &'b str 
         }
         Err(_) => "not in the production",
     }
-}
-
-#[test]
-fn each_kind(rt: HostRuntime) {
-    let mut buf = [0u8; 64];
-    let reference = mapped::<IriSpec, Reference>(&mut buf, "//\u{3b1}/\u{3b1}?\u{e000}#\u{3b1}");
-    same(&rt, reference, "//%CE%B1/%CE%B1?%EE%80%80#%CE%B1");
-    let iri = mapped::<IriSpec, Iri>(&mut buf, "a:\u{3b1}#\u{3b1}");
-    same(&rt, iri, "a:%CE%B1#%CE%B1");
-    let absolute = mapped::<IriSpec, Absolute>(&mut buf, "a://u\u{e9}:\u{e9}@h:1");
-    same(&rt, absolute, "a://u%C3%A9:%C3%A9@h:1");
-    let relative = mapped::<IriSpec, Relative>(&mut buf, "\u{3b1}%ce%b1");
-    same(&rt, relative, "%CE%B1%ce%b1");
-    let query = mapped::<IriSpec, Query>(&mut buf, "\u{3b1}=/?");
-    same(&rt, query, "%CE%B1=/?");
-    let fragment = mapped::<IriSpec, Fragment>(&mut buf, "\u{3b1}");
-    same(&rt, fragment, "%CE%B1");
-    let uri = mapped::<UriSpec, Iri>(&mut buf, "http://a/%ce?%41#-");
-    same(&rt, uri, "http://a/%ce?%41#-");
-}
-
-// The examples of RFC 3987 section 3.1, and the first and last character of each length of UTF-8.
-#[test]
-fn characters(rt: HostRuntime) {
-    for &(text, want) in &[
-        (
-            "http://www.example.org/red%09ros\u{e9}#red",
-            "http://www.example.org/red%09ros%C3%A9#red",
-        ),
-        (
-            "http://example.com/\u{10300}\u{10301}\u{10302}",
-            "http://example.com/%F0%90%8C%80%F0%90%8C%81%F0%90%8C%82",
-        ),
-        (
-            "http://r\u{e9}sum\u{e9}.example.org",
-            "http://r%C3%A9sum%C3%A9.example.org",
-        ),
-        ("a:~\u{a0}\u{7ff}", "a:~%C2%A0%DF%BF"),
-        ("a:\u{800}\u{ffef}z", "a:%E0%A0%80%EF%BF%AFz"),
-        ("a:\u{10000}/\u{efffd}", "a:%F0%90%80%80/%F3%AF%BF%BD"),
-        (
-            "a:?\u{e000}\u{f8ff}\u{f0000}\u{10fffd}",
-            "a:?%EE%80%80%EF%A3%BF%F3%B0%80%80%F4%8F%BF%BD",
-        ),
-        ("a:", "a:"),
-    ] {
-        let mut buf = [0u8; 128];
-        same_at(&rt, text, mapped::<IriSpec, Iri>(&mut buf, text), want);
-    }
-}
-
-// More octets in a row than are written in one piece.
-#[test]
-fn long_runs(rt: HostRuntime) {
-    let mut buf = [0u8; 128];
-    let text = "\u{3042}\u{3044}\u{3046}\u{3048}\u{304a}\u{304b}a\u{304d}";
-    let want = "%E3%81%82%E3%81%84%E3%81%86%E3%81%88%E3%81%8A%E3%81%8Ba%E3%81%8D";
-    same(&rt, mapped::<IriSpec, Query>(&mut buf, text), want);
 }
 
 const ALPHA: &str = "http://example.com/?alpha=\u{3b1}";

@@ -77,62 +77,6 @@ fn every_ascii_character(rt: HostRuntime) {
     }
 }
 
-// The characters on both sides of each border of `ucschar` (RFC 3987 section 2.2), by whether they are in it.
-static UCSCHAR: [(char, bool); 24] = [
-    ('\u{80}', false),
-    ('\u{9F}', false),
-    ('\u{A0}', true),
-    ('\u{D7FF}', true),
-    ('\u{F900}', true),
-    ('\u{FDCF}', true),
-    ('\u{FDD0}', false),
-    ('\u{FDEF}', false),
-    ('\u{FDF0}', true),
-    ('\u{FFEF}', true),
-    ('\u{FFF0}', false),
-    ('\u{FFFD}', false),
-    ('\u{FFFE}', false),
-    ('\u{FFFF}', false),
-    ('\u{E0000}', false),
-    ('\u{E0FFF}', false),
-    ('\u{E1000}', true),
-    ('\u{EFFFD}', true),
-    ('\u{EFFFE}', false),
-    ('\u{EFFFF}', false),
-    ('\u{FFFFE}', false),
-    ('\u{FFFFF}', false),
-    ('\u{10FFFE}', false),
-    ('\u{10FFFF}', false),
-];
-
-// Those at the ends of `iprivate`, which stand in a query alone; beyond each end stands a character of the list above.
-static IPRIVATE: [char; 6] = [
-    '\u{E000}',
-    '\u{F8FF}',
-    '\u{F0000}',
-    '\u{FFFFD}',
-    '\u{100000}',
-    '\u{10FFFD}',
-];
-
-#[test]
-fn borders_past_ascii(rt: HostRuntime) {
-    for place in 0..9usize {
-        for (c, in_class) in &UCSCHAR {
-            assert!(rt; is_encoded::<UriSpec>(place, *c, false), "at {place} {c}");
-            assert!(rt;
-                is_encoded::<IriSpec>(place, *c, *in_class),
-                "at {place} {c}"
-            );
-        }
-        let kept = place == 5 || place == 8;
-        for c in &IPRIVATE {
-            assert!(rt; is_encoded::<UriSpec>(place, *c, false), "at {place} {c}");
-            assert!(rt; is_encoded::<IriSpec>(place, *c, kept), "at {place} {c}");
-        }
-    }
-}
-
 // Of the planes 1 to 13 all but the last two characters are in `ucschar`.
 #[test]
 fn borders_of_planes(rt: HostRuntime) {
@@ -149,41 +93,6 @@ fn borders_of_planes(rt: HostRuntime) {
             }
         }
     }
-}
-
-#[test]
-fn raw_texts(rt: HostRuntime) {
-    let greek = "\u{3b1}/<alpha>?#";
-    let mut buf = [0u8; 64];
-    same(
-        &rt,
-        shown::<UriSpec>(&mut buf, 3, greek),
-        "%CE%B1%2F%3Calpha%3E%3F%23",
-    );
-    same(
-        &rt,
-        shown::<IriSpec>(&mut buf, 5, greek),
-        "\u{3b1}/%3Calpha%3E?%23",
-    );
-    same(
-        &rt,
-        shown::<UriSpec>(&mut buf, 8, ":/?#[]@ !$&'()*+,;="),
-        ":/?#[]@%20!$&'()*+,;=",
-    );
-    same(&rt, shown::<UriSpec>(&mut buf, 1, "a:b@c"), "a%3Ab%40c");
-    same(&rt, shown::<UriSpec>(&mut buf, 7, "100%25"), "100%2525");
-    same(&rt, shown::<UriSpec>(&mut buf, 7, ""), "");
-    // Runs of more octets than are spelled in one piece, and of one more.
-    same(
-        &rt,
-        shown::<UriSpec>(&mut buf, 7, "                 "),
-        "%20%20%20%20%20%20%20%20%20%20%20%20%20%20%20%20%20",
-    );
-    same(
-        &rt,
-        shown::<UriSpec>(&mut buf, 7, "                      "),
-        "no room",
-    );
 }
 
 // Counts the pieces that it is given.
@@ -270,6 +179,13 @@ fn texts_in_pieces(rt: HostRuntime) -> Result<(), Fail> {
 #[test]
 fn displayed(rt: HostRuntime) -> Result<(), Fail> {
     let alloc = rt.alloc();
+    // A slice that is too short.
+    let mut buf = [0u8; 64];
+    same(
+        &rt,
+        shown::<UriSpec>(&mut buf, 7, "                      "),
+        "no room",
+    );
     let encoded = PercentEncodedForUri::from_reg_name("a b\u{e9}");
     let text = format!(in alloc; "<{encoded}>")?;
     same(&rt, text.as_str(), "<a%20b%C3%A9>");

@@ -7,10 +7,14 @@
 #![tactic(auto)]
 
 mod canonical;
+mod edit;
+mod grammar;
+mod percent;
 mod robots;
 mod row;
 mod steps;
 mod subjects;
+mod types;
 
 use crate::row::{Row, RowError, escaped};
 use crate::subjects::State;

@@ -185,6 +185,25 @@ macro_rules! in_grammar {
 
 pub(crate) use in_grammar;
 
+// The same with the kind of text that another field names.
+macro_rules! in_kind {
+    ($grammar:expr, $kind:expr, $call:ident($($argument:expr),*)) => {
+        match ($grammar.text()?, $kind.text()?) {
+            ("uri", "whole") => $call::<UriSpec, Iri>($($argument),*),
+            ("uri", "absolute") => $call::<UriSpec, Absolute>($($argument),*),
+            ("uri", "relative") => $call::<UriSpec, Relative>($($argument),*),
+            ("uri", "reference") => $call::<UriSpec, Reference>($($argument),*),
+            ("iri", "whole") => $call::<IriSpec, Iri>($($argument),*),
+            ("iri", "absolute") => $call::<IriSpec, Absolute>($($argument),*),
+            ("iri", "relative") => $call::<IriSpec, Relative>($($argument),*),
+            ("iri", "reference") => $call::<IriSpec, Reference>($($argument),*),
+            _ => Err(RowError::NoRow),
+        }
+    };
+}
+
+pub(crate) use in_kind;
+
 // The answer of a test.
 pub(crate) fn word(answer: bool) -> &'static str {
     if answer { "yes" } else { "no" }

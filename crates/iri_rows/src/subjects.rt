@@ -1,5 +1,5 @@
 use crate::row::{Field, RowError};
-use crate::{canonical, robots, steps};
+use crate::{canonical, edit, grammar, percent, robots, steps, types};
 use std::alloc::Global;
 
 // What subjects keep from row to row.
@@ -26,7 +26,11 @@ pub(crate) fn answer(
 ) -> Result<Vec<u8>, RowError> {
     match subject {
         "canonical" => Ok(canonical::answer(alloc, verb, fields)?.into_bytes()),
+        "edit" => Ok(edit::answer(alloc, verb, fields)?.into_bytes()),
+        "grammar" => Ok(grammar::answer(alloc, verb, fields)?.into_bytes()),
+        "percent" => percent::answer(alloc, verb, fields),
         "steps" => Ok(steps::answer(alloc, verb, fields)?.into_bytes()),
+        "types" => Ok(types::answer(alloc, verb, fields)?.into_bytes()),
         "robots" => Ok(robots::answer(alloc, &mut state.robots, verb, fields)?.into_bytes()),
         _ => Err(RowError::NoRow),
     }

@@ -1,9 +1,8 @@
 use crate::same::same;
-use iri_grammar::error::ErrorKind;
 use iri_grammar::spec::{IriSpec, UriSpec};
 use iri_types::kind::{Absolute, Reference};
 use iri_types::split::SplitView;
-use iri_types::view::{IriAbsoluteStr, UriReferenceStr};
+use iri_types::view::IriAbsoluteStr;
 use std::test::Fail;
 
 // RFC 3986 section 3.
@@ -30,31 +29,6 @@ fn cut_once(rt: HostRuntime) -> Result<(), Fail> {
     Ok(())
 }
 
-// The fault of bytes that are no reference of IRIs.
-fn fault(bytes: &[u8]) -> Option<ErrorKind> {
-    match SplitView::<'_, IriSpec, Reference>::try_from_bytes(bytes) {
-        Ok(_) => None,
-        Err(error) => Some(error.kind()),
-    }
-}
-
-#[test]
-fn refusals(rt: HostRuntime) {
-    same(&rt, fault(b"\xFF"), Some(ErrorKind::InvalidUtf8));
-    same(&rt, fault(b"1a:b"), Some(ErrorKind::InvalidPath));
-    same(&rt, fault("?\u{3B1}".as_bytes()), None);
-    let view = UriReferenceStr::new("##");
-    assert!(rt; view.is_err() && SplitView::<'_, UriSpec, Reference>::new("##").is_err());
-}
-
-// Why bytes are no absolute URI.
-fn absolute_fault(bytes: &[u8]) -> Option<ErrorKind> {
-    match SplitView::<'_, UriSpec, Absolute>::absolute_from_bytes(bytes) {
-        Ok(_) => None,
-        Err(error) => Some(error.kind()),
-    }
-}
-
 // RFC 3986 section 4.3.
 #[test]
 fn absolute_texts(rt: HostRuntime) -> Result<(), Fail> {
@@ -64,14 +38,5 @@ fn absolute_texts(rt: HostRuntime) -> Result<(), Fail> {
     assert_eq!(rt; base.view().as_str(), "http://a/b?\u{3B1}");
     assert_eq!(rt; base.parts().authority(), Some("a"));
     assert_eq!(rt; base.parts().query(), Some("\u{3B1}"));
-    assert_eq!(rt; absolute_fault(b"http://a/b/c/d;p?q"), None);
-    assert_eq!(rt; absolute_fault(b"a/b"), Some(ErrorKind::UnexpectedRelative));
-    assert_eq!(rt;
-        absolute_fault(b"a:b#"),
-        Some(ErrorKind::UnexpectedFragment)
-    );
-    assert_eq!(rt; absolute_fault(b"1a:b"), Some(ErrorKind::InvalidScheme));
-    assert_eq!(rt; absolute_fault(b"a:%"), Some(ErrorKind::InvalidPath));
-    assert_eq!(rt; absolute_fault(b"a:\xFF"), Some(ErrorKind::InvalidUtf8));
     Ok(())
 }

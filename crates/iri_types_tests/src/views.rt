@@ -4,70 +4,12 @@ use iri_text::write_to_slice;
 use iri_types::authority::AuthorityComponents;
 use iri_types::laws::{equal_as_texts, hashed_as_texts, ordered_as_texts};
 use iri_types::view::{
-    IriAbsoluteStr, IriFragmentStr, IriQueryStr, IriReferenceStr, IriRelativeStr, IriStr,
-    UriAbsoluteStr, UriFragmentStr, UriQueryStr, UriReferenceStr, UriRelativeStr, UriStr,
+    IriReferenceStr, IriStr, UriAbsoluteStr, UriReferenceStr, UriRelativeStr, UriStr,
 };
 use std::cmp::Ordering;
 use std::convert::{AsStr, TryFrom};
 use std::hash::{DefaultHasher, Hash, Hasher};
 use std::test::Fail;
-
-// Scheme, authority, path, query and fragment.
-type Five<'a> = (
-    Option<&'a str>,
-    Option<&'a str>,
-    &'a str,
-    Option<&'a str>,
-    Option<&'a str>,
-);
-
-fn parts(v: UriReferenceStr<'_>) -> Five<'_> {
-    (
-        v.scheme_str(),
-        v.authority_str(),
-        v.path_str(),
-        v.query_str(),
-        v.fragment_str(),
-    )
-}
-
-fn reads(text: &str, want: Five<'_>) -> bool {
-    match UriReferenceStr::new(text) {
-        Ok(v) => {
-            let query = match v.query() {
-                Some(query) => Some(query.as_str()),
-                None => None,
-            };
-            let fragment = match v.fragment() {
-                Some(fragment) => Some(fragment.as_str()),
-                None => None,
-            };
-            parts(v) == want && query == want.3 && fragment == want.4
-        }
-        Err(_) => false,
-    }
-}
-
-#[test]
-fn each_part_present_absent_and_empty(rt: HostRuntime) {
-    // RFC 3986 section 3.
-    let url = "foo://example.com:8042/over/there?name=ferret#nose";
-    let authority = Some("example.com:8042");
-    let query = Some("name=ferret");
-    let want = (Some("foo"), authority, "/over/there", query, Some("nose"));
-    assert!(rt; reads(url, want));
-    let urn = "urn:example:animal:ferret:nose";
-    let path = "example:animal:ferret:nose";
-    assert!(rt; reads(urn, (Some("urn"), None, path, None, None)));
-    assert!(rt; reads("", (None, None, "", None, None)));
-    assert!(rt; reads("a:", (Some("a"), None, "", None, None)));
-    assert!(rt; reads("//", (None, Some(""), "", None, None)));
-    assert!(rt; reads("a", (None, None, "a", None, None)));
-    assert!(rt; reads("?", (None, None, "", Some(""), None)));
-    assert!(rt; reads("#", (None, None, "", None, Some(""))));
-    assert!(rt; reads("a://?#", (Some("a"), Some(""), "", Some(""), Some(""))));
-    assert!(rt; reads("b#c?d", (None, None, "b", None, Some("c?d"))));
-}
 
 fn fault<T>(answer: Result<T, Error>) -> Option<ErrorKind>
 where
@@ -77,75 +19,6 @@ where
         Ok(_) => None,
         Err(error) => Some(error.kind()),
     }
-}
-
-#[test]
-fn refusals(rt: HostRuntime) {
-    same(&rt, fault(IriStr::new("http://a/#f")), None);
-    same(
-        &rt,
-        fault(UriStr::new("a")),
-        Some(ErrorKind::UnexpectedRelative),
-    );
-    same(
-        &rt,
-        fault(IriStr::try_from_bytes(&[0xFF])),
-        Some(ErrorKind::InvalidUtf8),
-    );
-    let spaced = b"http://a/ \xFF";
-    same(
-        &rt,
-        fault(IriStr::try_from_bytes(spaced)),
-        Some(ErrorKind::InvalidUtf8),
-    );
-    same(
-        &rt,
-        fault(IriStr::try_from_bytes(b"http://a/ ")),
-        Some(ErrorKind::InvalidPath),
-    );
-    same(
-        &rt,
-        fault(UriAbsoluteStr::new("a:#")),
-        Some(ErrorKind::UnexpectedFragment),
-    );
-    same(
-        &rt,
-        fault(UriRelativeStr::new("a:b")),
-        Some(ErrorKind::InvalidPath),
-    );
-    same(
-        &rt,
-        fault(UriQueryStr::new("\u{3B1}")),
-        Some(ErrorKind::InvalidQuery),
-    );
-    same(&rt, fault(IriQueryStr::new("\u{3B1}")), None);
-    same(
-        &rt,
-        fault(UriFragmentStr::new("#")),
-        Some(ErrorKind::InvalidFragment),
-    );
-    same(&rt, fault(IriAbsoluteStr::new("a:\u{3B1}")), None);
-    same(&rt, fault(IriRelativeStr::new("\u{3B1}")), None);
-    same(&rt, fault(IriFragmentStr::new("\u{3B1}")), None);
-}
-
-#[test]
-fn after_delimiters(rt: HostRuntime) {
-    match UriQueryStr::from_prefixed("??a") {
-        Ok(query) => same(&rt, query.as_str(), "?a"),
-        Err(_) => assert!(rt; false),
-    }
-    match UriFragmentStr::from_prefixed("#") {
-        Ok(fragment) => assert!(rt; fragment.is_empty()),
-        Err(_) => assert!(rt; false),
-    }
-    let query = Some(ErrorKind::InvalidQuery);
-    same(&rt, fault(UriQueryStr::from_prefixed("a")), query);
-    same(&rt, fault(UriQueryStr::from_prefixed("")), query);
-    same(&rt, fault(UriQueryStr::from_prefixed("?a#")), query);
-    let fragment = Some(ErrorKind::InvalidFragment);
-    same(&rt, fault(UriFragmentStr::from_prefixed("?a")), fragment);
-    same(&rt, fault(UriFragmentStr::from_prefixed("##")), fragment);
 }
 
 #[test]
@@ -189,37 +62,6 @@ fn kinds(rt: HostRuntime) {
             }
             Err(_) => assert!(rt; false),
         },
-        Err(_) => assert!(rt; false),
-    }
-}
-
-// Userinfo, host, registered name and port.
-type Four<'a> = (Option<&'a str>, &'a str, Option<&'a str>, Option<&'a str>);
-
-fn four<'a>(a: &AuthorityComponents<'a>) -> Four<'a> {
-    (a.userinfo(), a.host(), a.reg_name(), a.port())
-}
-
-fn has_components(text: &str, want: Four<'_>) -> bool {
-    match UriReferenceStr::new(text) {
-        Ok(v) => match v.authority_components() {
-            Some(a) => four(&a) == want,
-            None => false,
-        },
-        Err(_) => false,
-    }
-}
-
-#[test]
-fn components(rt: HostRuntime) {
-    let host = "[::1]";
-    let want = (Some("u:p"), host, None, Some("80"));
-    assert!(rt; has_components("http://u:p@[::1]:80/", want));
-    assert!(rt; has_components("//@a:", (Some(""), "a", Some("a"), Some(""))));
-    assert!(rt; has_components("//127.0.0.1", (None, "127.0.0.1", None, None)));
-    assert!(rt; has_components("//", (None, "", Some(""), None)));
-    match UriReferenceStr::new("mailto:a@b") {
-        Ok(v) => assert!(rt; AuthorityComponents::from_iri(v).is_none()),
         Err(_) => assert!(rt; false),
     }
 }
