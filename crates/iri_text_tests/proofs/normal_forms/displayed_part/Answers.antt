@@ -4,7 +4,7 @@ use Rattle.iri_grammar.specs.Components.{is_query}
 use Rattle.iri_grammar.proofs.FaultLaws.{passed}
 use Rattle.iri_grammar.specs.declared.error.ErrorKind.TheVariants.{InvalidQuery}
 use Rattle.iri_percent.proofs.WholeLaws.{query-whole}
-use Rattle.iri_percent_tests.proofs.normal_forms.displayed_part.Goals as goal
+use Rattle.iri_text_tests.proofs.normal_forms.displayed_part.Goals as goal
 
 pub new-requires : goal.new-requires
 new-requires c = query-whole uri_tests c.args.text.now uri_is_spec
