@@ -168,7 +168,9 @@ module _ (stands_at : Answering → Type 0) (start : Answering) (reader0 old new
             goes AnswerFailed n = absurd (n refl)
             goes AnswerMemory n = λ h. cc h
 
-        by_error : (e : AnswerError) → PutsAnswer start.rules km kn (start.rules.answer start.base go.between new.line) (Err e)
+        by_error : (e : AnswerError)
+            → PutsAnswer start.rules km kn (start.rules.wants_memory start.base go.between new.line)
+            (start.rules.answer start.base go.between new.line) (Err e)
             → KeepsRoom km.room_left kn.room_left (start.rules.answer start.base go.between new.line) (NotSink (Err e))
             → Ends kn (end_of_error e)
         by_error AnswerFailed q k = record {
@@ -181,9 +183,13 @@ module _ (stands_at : Answering → Type 0) (start : Answering) (reader0 old new
         }
         by_error AnswerMemory q k = record {
           to = record {
-            takes_memory = q.0;
             whole = start.base ∷ go.between;
-            first = first_lines start.rules before lm old (start.base ∷ go.between) (go.read before first);
+            line = new.line;
+            wants = q.0;
+            first = λ x told.
+                let h = first_lines start.rules before ln new (start.base ∷ (go.between ++ new.line ∷ []))
+                (reads_line start.rules before lm ln sm sn old new (start.base ∷ go.between) go.going (go.read before first) a) x told in
+                (h.0, h.1 ∙ append_assoc (start.base ∷ go.between) (new.line ∷ []) h.0);
             base_taken = taken;
             writes = subst (λ (w : Option (List ℕ)). Appends ko.written w out) (sym q.1) go.writes;
             sink = q.2 ∙ go.sink_same;

@@ -78,11 +78,11 @@ canon_opened s m line text output k is taken short room =
     )
 
 -- the answer to a line
-pub puts_answer : (rules : Rules) (ko kn : SinkState) (r : Result Bool AnswerError) (text : List ℕ) → rules.is_good ≡ is_ok
-    → PutsLine ko kn text r → PutsAnswer rules ko kn text r
-puts_answer rules ko kn (Ok good) text e p = (p.0, p.1, p.2 ∙ ap (λ f. f text) (sym e))
-puts_answer rules ko kn (Err SinkFailed) text e p = p
-puts_answer rules ko kn (Err Memory) text e p = absurd p
+pub puts_answer : (rules : Rules) (ko kn : SinkState) (r : Result Bool AnswerError) (wants : Bool) (text : List ℕ) → rules.is_good ≡ is_ok
+    → PutsLine ko kn text r → PutsAnswer rules ko kn wants text r
+puts_answer rules ko kn (Ok good) wants text e p = (p.0, p.1, p.2 ∙ ap (λ f. f text) (sym e))
+puts_answer rules ko kn (Err SinkFailed) wants text e p = p
+puts_answer rules ko kn (Err Memory) wants text e p = absurd p
 
 pub on_ok : {X : Type 0} (r : Result Bool AnswerError) → X → OnOk r X
 on_ok (Ok x) h = h
@@ -96,7 +96,7 @@ answers_line s m base line output new at ko kn r is grows p room =
     let e : answer_in s m base line ≡ at.rules.answer at.base at.between line =
     is.same line ∙ ap (λ (rules : Rules). rules.answer at.base at.between line) (sym is.rules) in
     record {
-      puts = puts_answer at.rules ko kn r (at.rules.answer at.base at.between line) (ap (λ (rules : Rules). rules.is_good) is.rules)
+      puts = puts_answer at.rules ko kn r (at.rules.wants_memory at.base at.between line) (at.rules.answer at.base at.between line) (ap (λ (rules : Rules). rules.is_good) is.rules)
           (subst (λ t. PutsLine ko kn t r) e p);
       next = on_ok r (record { rules = is.rules; same = is.same; taken = is.taken; short = is.short; room = omega (arith, grows, is.room) });
       room = subst (λ t. KeepsRoom ko.room_left kn.room_left t (r ≢ Err SinkFailed)) e room;

@@ -17,7 +17,7 @@ use Rattle.iri_cli.specs.inside.StatelessAt.{IsStatelessAt}
 use Rattle.iri_cli.specs.run.Answering.{Answering, AnswersLine}
 use Rattle.iri_cli.specs.run.Limits.{answer_room, longest_line}
 use Rattle.iri_cli.specs.canon.Rules.{is_ok}
-use Rattle.iri_cli.specs.docs.Rules.{docs_rules}
+use Rattle.iri_cli.specs.docs.Rules.{docs_rules, takes_memory}
 use Rattle.iri_cli.specs.declared.run.answers.AnswerError.{AnswerError}
 
 -- the answer to a line by what was read of it
@@ -39,12 +39,12 @@ bad Memory = refl
 -- one line more
 pub answers_docs : (s : Tests) (base expansion after : List ℕ) (output grown : ℕ) (at : Answering) (line : List ℕ) (ko kn : SinkState)
     (r : Result Bool AnswerError) → IsDocsAt s base expansion output at → length after ≡ length expansion
-    → output ≤ grown → AnswersLine (IsStatelessAt docs_answer s base) at line ko kn r
+    → output ≤ grown → AnswersLine (IsStatelessAt docs_answer takes_memory s base) at line ko kn r
     → AnswersLine (IsDocsAt s base after grown) at line ko kn r
 answers_docs s base expansion after output grown at line ko kn r is same grows a =
     record { puts = a.puts; next = next r a.next; room = a.room }
   where
-    next : (x : Result Bool AnswerError) → OnOk x (IsStatelessAt docs_answer s base (record at { between = at.between ++ line ∷ [] }))
+    next : (x : Result Bool AnswerError) → OnOk x (IsStatelessAt docs_answer takes_memory s base (record at { between = at.between ++ line ∷ [] }))
         → OnOk x (IsDocsAt s base after grown (record at { between = at.between ++ line ∷ [] }))
     next (Ok good) h = record {
       stands = h;

@@ -133,7 +133,7 @@ module _ (s : Tests) (base expansion : List ℕ) (output : ℕ) (values : Values
   -- an answer was put, and no variable changed
   module _ (ko kn : SinkState) where
     puts_answer : (r : Result Bool AnswerError) (text : List ℕ) → is_ok_or_none text ≡ is_ok text → PutsLine ko kn text r
-        → PutsAnswer at.rules ko kn text r
+        → PutsAnswer at.rules ko kn (at.rules.wants_memory at.base at.between line) text r
     puts_answer (Ok good) text e p = (p.0, p.1, p.2 ∙ sym e ∙ ap (λ (r : Rules). r.is_good text) (sym is.rules))
     puts_answer (Err SinkFailed) text e p = p
     puts_answer (Err Memory) text e p = absurd p
@@ -145,7 +145,7 @@ module _ (s : Tests) (base expansion : List ℕ) (output : ℕ) (values : Values
         → KeepsRoom ko.room_left kn.room_left (answer_to s base values said) (r ≢ Err SinkFailed)
         → AnswersLine (IsExpandAt s base expansion_new output_new values) at line ko kn r
     answers_text expansion_new output_new r expansion_size output_grows same good p room = record {
-      puts = subst (λ t. PutsAnswer at.rules ko kn t r) (sym answer_is) (puts_answer r (answer_to s base values said) good p);
+      puts = subst (λ t. PutsAnswer at.rules ko kn (at.rules.wants_memory at.base at.between line) t r) (sym answer_is) (puts_answer r (answer_to s base values said) good p);
       next = on_ok r (next_at expansion_new output_new values expansion_size output_grows same);
       room = subst (λ t. KeepsRoom ko.room_left kn.room_left t (r ≢ Err SinkFailed)) (sym answer_is) room;
     }
@@ -162,17 +162,9 @@ module _ (s : Tests) (base expansion : List ℕ) (output : ℕ) (values : Values
     pub answers_nothing : (new : Values) → new ≡ after_line values said
         → AnswersLine (IsExpandAt s base expansion output new) at line k k (Ok true)
     answers_nothing new after = record {
-      puts = subst (λ t. PutsAnswer at.rules k k t (Ok true)) (sym text_is)
+      puts = subst (λ t. PutsAnswer at.rules k k (at.rules.wants_memory at.base at.between line) t (Ok true)) (sym text_is)
           (Appends-none k.written, refl, ap (λ (x : Rules). x.is_good []) (sym is.rules));
       next = next_at expansion output new refl (omega arith) after;
-      room = room-same k.room_left text (λ _ h. cc h);
-    }
-
-    -- allocation failed
-    pub answers_memory : (is_next : Answering → Type 0) → AnswersLine is_next at line k k (Err Memory)
-    answers_memory is_next = record {
-      puts = (ap (λ (x : Rules). x.takes_memory) is.rules, refl, refl);
-      next = tt;
       room = room-same k.room_left text (λ _ h. cc h);
     }
 

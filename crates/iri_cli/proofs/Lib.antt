@@ -13,6 +13,7 @@ pub mod GenLemmas
 pub mod GenReferences
 pub mod WordLemmas
 pub mod OpeningLemmas
+pub mod MemoryLemmas
 pub mod StatelessLemmas
 pub mod LinksLemmas
 pub mod VariableLemmas

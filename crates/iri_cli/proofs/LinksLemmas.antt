@@ -1,5 +1,27 @@
 -- The answers of `links`.
-use Rattle.std.proofs.Common.{◌≡◌, ◌∙◌, ℕ, List, map, Option, None, Some, refl, sym, ap}
+use Rattle.std.proofs.Common.{◌≡◌, ◌≤◌, ◌<◌, ◌^◌, ◌==◌, ◌&&◌, ◌∙◌, ℕ, Bool, true, false, not, List, [], ◌∷◌, ◌++◌, length, map, Option, None, Some, refl, sym, ap}
+use Rattle.std.proofs.Common.{arith, length-append}
+use Rattle.std.specs.Prelude.{◌||◌, codes, decimal}
+use Rattle.std.specs.List.{list_all}
+use Rattle.std.specs.Option.{is_none}
+use Rattle.std.specs.Str.{is_utf8}
+use Rattle.std.proofs.lemmas.Fmt.{length-decimal-le}
+use Rattle.std.proofs.lemmas.Str.{is_utf8-from_IsUtf8}
+use Rattle.iri_grammar.proofs.CutLaws.{before-delimited, both, by_test}
+use Rattle.iri_grammar.specs.Characters.{comma}
+use Rattle.iri_grammar.specs.Cut.{before, lacks}
+use Rattle.iri_grammar.specs.ErrorTexts.{description}
+use Rattle.iri_grammar.specs.WholeFault.{reference_fault}
+use Rattle.iri_grammar.specs.declared.error.ErrorKind.{ErrorKind}
+use Rattle.iri_grammar.specs.declared.error.ErrorKind.TheVariants.{InvalidScheme, InvalidUserInfo, InvalidHost, InvalidRegName, InvalidPort, InvalidPath}
+use Rattle.iri_grammar.specs.declared.error.ErrorKind.TheVariants.{InvalidQuery, InvalidFragment, UnexpectedFragment, UnexpectedRelative, InvalidUtf8}
+use Rattle.iri_link.specs.ErrorTexts.{displayed, words}
+use Rattle.iri_link.specs.Refusals.{RefusedBy}
+use Rattle.iri_link.specs.Token.{is_blank}
+use Rattle.iri_link.specs.declared.error.LinkError.TheVariants.{Fault, Memory}
+use Rattle.iri_link.specs.declared.error.LinkKind.{LinkKind}
+use Rattle.iri_link.specs.declared.error.LinkKind.TheVariants.{NotUtf8, NoTarget, OpenTarget, BadTarget, NoParam, NoValue, OpenString}
+use Rattle.iri_cli.specs.links.Memory.{has_target, keeps_target, takes_memory}
 use Rattle.iri_grammar.specs.Classes.{IsSpec, Tests}
 use Rattle.iri_link.specs.Fault.{Told, field_fault}
 use Rattle.iri_link.specs.Field.{LinkValue}
@@ -45,6 +67,78 @@ others_refused s base line none = by_fault (field_fault s line) refl
         × (unless_told (field_fault s line) (links_line s base (links_in line)) ≡ field_refusal t)
     by_fault None is = absurd (none (links_in line) (links_of_faultless s line is))
     by_fault (Some t) is = (t, is, ap (λ f. unless_told f (links_line s base (links_in line))) is)
+
+-- ---- memory
+
+-- a field value takes memory
+pub field_takes : (s : Tests) (line : List ℕ) (links : List LinkValue) → HasLinks s line links → takes_memory s line ≡ true
+field_takes s line links has =
+    ap (λ f. is_none f || (is_utf8 line && keeps_target s line)) (links_without_fault s line links has)
+
+-- a delimiter is found after any bytes
+has_one : (c : ℕ) (xs rest : List ℕ) → lacks c (xs ++ c ∷ rest) ≡ false
+has_one c [] rest = by_test c c (λ b. (not b && lacks c rest) ≡ false) (λ h. refl) (λ n. absurd (n refl))
+has_one c (x ∷ xs) rest = ap (λ b. not (x == c) && b) (has_one c xs rest) ∙ never (not (x == c))
+  where
+    never : (b : Bool) → (b && false) ≡ false
+    never true = refl
+    never false = refl
+
+target_there : (s : Tests) (target rest : List ℕ) → lacks 62 target ≡ true → reference_fault s target ≡ None
+    → has_target s (target ++ 62 ∷ rest) ≡ true
+target_there s target rest closed valid =
+    ap (λ b. not b && is_none (reference_fault s (before 62 (target ++ 62 ∷ rest)))) (has_one 62 target rest)
+    ∙ ap (λ t. is_none (reference_fault s t)) (before-delimited 62 target (Some rest) closed) ∙ ap is_none valid
+
+kept_from : (s : Tests) (prefix target rest : List ℕ) → list_all (λ c. is_blank c || c == comma) prefix ≡ true → lacks 62 target ≡ true
+    → reference_fault s target ≡ None → keeps_target s (prefix ++ 60 ∷ (target ++ 62 ∷ rest)) ≡ true
+unfolding keeps_target
+kept_from s [] target rest skipped closed valid = target_there s target rest closed valid
+kept_from s (c ∷ prefix) target rest skipped closed valid =
+    let b = both (is_blank c || c == comma) (list_all (λ x. is_blank x || x == comma) prefix) skipped in
+    let e : (is_blank c || c == comma) ≡ true = b.0 in
+    rw e (kept_from s prefix target rest b.1 closed valid)
+
+-- a line for which memory was wanted takes it
+pub kept_takes : (s : Tests) (line : List ℕ) → RefusedBy s line Memory → takes_memory s line ≡ true
+kept_takes s line (utf8, k) =
+    ap (λ b. is_none (field_fault s line) || (b && keeps_target s line)) (is_utf8-from_IsUtf8 line utf8)
+    ∙ ap (λ b. is_none (field_fault s line) || b)
+    (ap (keeps_target s) k.whole ∙ kept_from s k.prefix k.target k.rest k.skipped k.closed k.valid)
+    ∙ always (is_none (field_fault s line))
+  where
+    always : (b : Bool) → (b || true) ≡ true
+    always true = refl
+    always false = refl
+
+-- ---- the length of what is told of a fault
+kind_short : (k : ErrorKind) → length (codes "target " ++ description k) ≤ 54
+kind_short InvalidScheme = omega arith
+kind_short InvalidUserInfo = omega arith
+kind_short InvalidHost = omega arith
+kind_short InvalidRegName = omega arith
+kind_short InvalidPort = omega arith
+kind_short InvalidPath = omega arith
+kind_short InvalidQuery = omega arith
+kind_short InvalidFragment = omega arith
+kind_short UnexpectedFragment = omega arith
+kind_short UnexpectedRelative = omega arith
+kind_short InvalidUtf8 = omega arith
+
+words_short : (k : LinkKind) → length (words k) ≤ 54
+words_short NotUtf8 = omega arith
+words_short NoTarget = omega arith
+words_short OpenTarget = omega arith
+words_short (BadTarget error) = kind_short error.kind
+words_short NoParam = omega arith
+words_short NoValue = omega arith
+words_short OpenString = omega arith
+
+pub displayed_short : (k : LinkKind) (place : ℕ) → place < 2 ^ 64 → length (displayed (Fault k place)) ≤ 80
+displayed_short k place small =
+    let sizes = length-append (words k) (codes " at " ++ decimal place) in
+    let digits = length-decimal-le 20 place (omega arith) (omega arith) small in
+    omega (arith, words_short k, sizes, length-append (codes " at ") (decimal place), digits)
 
 -- what is written of a field value is answered by itself
 pub answered_again : (s : Tests) → IsSpec s → (base other line : List ℕ) (links : List LinkValue) → refusal s base ≡ None

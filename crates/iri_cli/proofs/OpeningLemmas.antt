@@ -17,24 +17,7 @@ use Rattle.iri_cli.specs.run.Run.{outside, Ran}
 use Rattle.iri_cli.specs.run.Steps.{GivesBase, IsNew}
 use Rattle.iri_cli.specs.declared.run.end.End.TheVariants.{Memory}
 use Rattle.iri_cli.proofs.BytesLemmas.{refused_none}
-
--- Allocation failed before the first line after the base was answered.
-pub ends_in_memory : (rules : Rules) (lo ln : Option (List ℕ)) (fo fn : ℕ) (ko : SinkState) → rules.takes_memory ≡ true → fo ≤ fn
-    → Ran rules (outside lo fo ko) (outside ln fn ko) Memory
-ends_in_memory rules lo ln fo fn ko takes later = record {
-  to = record {
-    takes_memory = takes;
-    whole = [];
-    first = λ x told. (_, refl);
-    base_taken = tt;
-    writes = Appends-none ko.written;
-    sink = refl;
-  };
-  prefix = λ x told. record { prefix = []; rest = (ending rules x).output; split = refl; appended = Appends-none ko.written };
-  source_later = later;
-  sink_later = omega arith;
-  room = λ x told. room-same ko.room_left (ending rules x).output (λ _ h. cc h);
-}
+use Rattle.iri_cli.proofs.Ends.{first_lines}
 
 -- the empty text is no base
 refuses_empty : (s : Tests) → refusal s [] ≡ None → ⊥
@@ -67,3 +50,27 @@ module _ (s : Tests) (rules : Rules) (begins : BeginsAsCanon s rules) where
       -- the command stands after it
       pub ready : (stands_at : Answering → Type 0) → stands_at (begun rules line) → IsReady stands_at (begun rules line) reader
       ready stands_at at = record { at = at; first = refl; base_taken = refusal_is ∙ taken; going = base_read.1 }
+
+      -- allocation failed before the first line after the base was answered
+      pub ends_in_memory : (fo fn : ℕ) (ko : SinkState) → rules.base_wants_memory ≡ true → fo ≤ fn
+          → Ran rules (outside lo fo ko) (outside lm fn ko) Memory
+      ends_in_memory fo fn ko takes later = record {
+        to = record {
+          whole = [];
+          line = line;
+          wants = (takes, refusal_is ∙ taken);
+          first = first_lines rules lo lm reader (line ∷ []) base_read.0;
+          base_taken = tt;
+          writes = Appends-none ko.written;
+          sink = refl;
+        };
+        prefix = λ x told. record {
+          prefix = [];
+          rest = (ending rules x).output;
+          split = refl;
+          appended = Appends-none ko.written;
+        };
+        source_later = later;
+        sink_later = omega arith;
+        room = λ x told. room-same ko.room_left (ending rules x).output (λ _ h. cc h);
+      }

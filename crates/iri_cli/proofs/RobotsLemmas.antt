@@ -1,8 +1,9 @@
 -- The answers of `robots`.
 use Rattle.std.proofs.Common.{◌≡◌, ◌≢◌, ◌↔◌, ◌&&◌, ℕ, Bool, true, false, List, [], ◌∷◌, ◌++◌, Option, Result, Ok, Err, refl, sym, ◌∙◌, ap}
-use Rattle.std.proofs.Common.{subst}
-use Rattle.std.specs.Prelude.{OnOk}
+use Rattle.std.proofs.Common.{arith, subst}
+use Rattle.std.specs.Prelude.{OnOk, length, nat_lt}
 use Rattle.std.proofs.lemmas.Grind.{flat_map-append}
+use Rattle.std.proofs.lemmas.Bool.Decides.{nat_tests}
 use Rattle.std.proofs.lemmas.List.{append-nil}
 use Rattle.iri_grammar.specs.Classes.{Tests}
 use Rattle.iri_grammar.specs.Parts.{Parts}
@@ -22,6 +23,7 @@ use Rattle.iri_cli.specs.run.Ending.{Rules}
 use Rattle.iri_cli.specs.run.Refused.{is_not_bad}
 use Rattle.iri_cli.specs.robots.Answers.{answer_to, normal_base, same_part, same_site, verdict_word}
 use Rattle.iri_cli.specs.robots.Lines.{RobotsLine, line_of, fed, records_after}
+use Rattle.iri_cli.specs.robots.Memory.{takes_memory}
 use Rattle.iri_cli.specs.robots.Rules.{robots_rules}
 use Rattle.iri_cli.specs.declared.run.answers.AnswerError.{AnswerError}
 use Rattle.iri_cli.specs.declared.run.answers.AnswerError.TheVariants.{SinkFailed, Memory}
@@ -75,11 +77,11 @@ unfolding records_after
 records_more between line =
     flat_map-append (λ l. fed (line_of l)) between (line ∷ []) ∙ ap (λ t. records_after between ++ t) (append-nil (fed (line_of line)))
 
-puts_by : (rules : Rules) (ko kn : SinkState) (text : List ℕ) (r : Result Bool AnswerError) → rules.is_good ≡ is_not_bad
-    → rules.takes_memory ≡ true → Replies ko kn text r → PutsAnswer rules ko kn text r
-puts_by rules ko kn text (Ok good) e m p = (p.0, p.1, p.2 ∙ ap (λ f. f text) (sym e))
-puts_by rules ko kn text (Err SinkFailed) e m p = p
-puts_by rules ko kn text (Err Memory) e m p = (m, p.0, p.1)
+puts_by : (rules : Rules) (ko kn : SinkState) (wants : Bool) (text : List ℕ) (r : Result Bool AnswerError) → rules.is_good ≡ is_not_bad
+    → (r ≡ Err Memory → wants ≡ true) → Replies ko kn text r → PutsAnswer rules ko kn wants text r
+puts_by rules ko kn wants text (Ok good) e m p = (p.0, p.1, p.2 ∙ ap (λ f. f text) (sym e))
+puts_by rules ko kn wants text (Err SinkFailed) e m p = p
+puts_by rules ko kn wants text (Err Memory) e m p = (m refl, p.0, p.1)
 
 next_at : (s : Tests) (token base : List ℕ) (scheme authority : Option (List ℕ)) (records new : List FileRecord) (at : Answering) (line : List ℕ)
     → IsRobotsAt s token base scheme authority records at → new ≡ records ++ fed (line_of line)
@@ -100,16 +102,17 @@ on_next s token base scheme authority records new at line (Err x) is e = tt
 pub answers_line : (s : Tests) (token base : List ℕ) (scheme authority : Option (List ℕ)) (records new : List FileRecord) (at : Answering) (line text : List ℕ)
     (ko kn : SinkState) (r : Result Bool AnswerError) → IsRobotsAt s token base scheme authority records at
     → text ≡ answer_to s token base records (line_of line) → OnOk r (new ≡ records ++ fed (line_of line))
-    → PutsReply ko kn text r → AnswersLine (IsRobotsAt s token base scheme authority new) at line ko kn r
-answers_line s token base scheme authority records new at line text ko kn r is answer e p =
+    → (r ≡ Err Memory → takes_memory s (line_of line) ≡ true) → PutsReply ko kn text r
+    → AnswersLine (IsRobotsAt s token base scheme authority new) at line ko kn r
+answers_line s token base scheme authority records new at line text ko kn r is answer e wants p =
     let whole : text ≡ at.rules.answer at.base at.between line =
     answer ∙ ap (λ b. answer_to s token b records (line_of line)) is.base_is
     ∙ ap (λ rs. answer_to s token at.base rs (line_of line)) is.records_are
     ∙ ap (λ (rules : Rules). rules.answer at.base at.between line) (sym is.rules) in
     record {
-      puts = subst (λ t. PutsAnswer at.rules ko kn t r) whole
-          (puts_by at.rules ko kn text r (ap (λ (rules : Rules). rules.is_good) is.rules)
-          (ap (λ (rules : Rules). rules.takes_memory) is.rules) p.puts);
+      puts = subst (λ t. PutsAnswer at.rules ko kn (at.rules.wants_memory at.base at.between line) t r) whole
+          (puts_by at.rules ko kn (at.rules.wants_memory at.base at.between line) text r (ap (λ (rules : Rules). rules.is_good) is.rules)
+          (λ h. ap (λ (rules : Rules). rules.wants_memory at.base at.between line) is.rules ∙ wants h) p.puts);
       next = on_next s token base scheme authority records new at line r is e;
       room = subst (λ t. KeepsRoom ko.room_left kn.room_left t (r ≢ Err SinkFailed)) whole p.room;
     }
@@ -120,6 +123,16 @@ pub unfed : (r : Result Bool AnswerError) (records : List FileRecord) (said : Ro
 unfed (Ok good) records said line is none =
     sym (append-nil records) ∙ ap (λ t. records ++ t) (sym none ∙ ap fed is)
 unfed (Err x) records said line is none = tt
+
+-- a line has a record where it isn't stored without memory
+pub feeds_record : {A B : Type 0} {x : A} {e : B} (records : List FileRecord) → (records ≡ [] → Err e ≡ Ok x) → nat_lt 0 (length records) ≡ true
+feeds_record [] stored = let h = stored refl in cc
+feeds_record (r ∷ records) stored = grind (arith, nat_tests)
+
+-- what is told of pieces that were put isn't that allocation failed
+pub never_memory : {X : Type 0} (good : Bool) (r : Result (Unit {0}) Failed) → told_of good r ≡ Err Memory → X
+never_memory good (Ok x) h = absurd (cc h)
+never_memory good (Err f) h = absurd (cc h)
 
 records_none : records_after [] ≡ []
 unfolding records_after

@@ -1,12 +1,12 @@
 -- What each status of a run says.
-use Rattle.std.proofs.Common.{◌≡◌, ◌≢◌, ◌⊎◌, ℕ, ◌+◌, ◌≤◌, List, length, true, false, Option, Some, refl, sym, ◌∙◌, ap, subst, arith, inl}
+use Rattle.std.proofs.Common.{◌≡◌, ◌≢◌, ◌⊎◌, ℕ, ◌+◌, ◌≤◌, List, [], ◌∷◌, length, false, Option, Some, refl, sym, ◌∙◌, ap, subst, arith, inl}
 use Rattle.std.proofs.Common.{inr, ⊎_elim}
 use Rattle.iri_text.specs.Count.{Rose}
 use Rattle.iri_text.specs.Source.{Consumes, IsAtEnd}
 use Rattle.iri_text.specs.Sink.{Appends, AppendsPrefix, KeepsRoom, SinkState}
 use Rattle.iri_text.proofs.Puts.{room-so, room-less}
 use Rattle.iri_cli.specs.run.Ending.{Rules, ending}
-use Rattle.iri_cli.specs.run.Run.{Outside, outside, Finishes, Decides, StopsShort, RunsOut, RanTo, Ran, Runs, status_of, IsDecided}
+use Rattle.iri_cli.specs.run.Run.{Outside, outside, Finishes, Decides, StopsShort, RunsOut, RanTo, Ran, Runs, MayRunOut, WantsMemory, status_of, IsDecided}
 use Rattle.iri_cli.specs.run.Closes.{Closes}
 use Rattle.iri_cli.specs.declared.run.end.End.{End}
 use Rattle.iri_cli.specs.declared.run.end.End.TheVariants.{Done, SomeBad, BadBase, SourceFailed, SinkFailed, Memory, LineTooLong, InputTooLong}
@@ -96,15 +96,20 @@ module _ (rules : Rules) (old new : Outside) where
   ran_out_of LineTooLong p h = absurd (omega (arith, h))
   ran_out_of InputTooLong p h = absurd (omega (arith, h))
 
+  may_run_out : RunsOut rules old new → (x : List ℕ) → old.left ≡ Some x → MayRunOut rules x
+  may_run_out p x told =
+      let h = p.first x told in
+      record { whole = p.whole; line = p.line; more = h.0; all = h.1; base_taken = p.base_taken; wants = p.wants }
+
   completes_of : (e : End) → RanTo rules old new e → (x : List ℕ) → old.left ≡ Some x → ¬ (Rose old.source_faults new.source_faults)
       → ¬ (Rose old.sink.faults new.sink.faults)
-      → (status_of e ≡ (ending rules x).status) ⊎ ((status_of e ≡ 6) × (rules.takes_memory ≡ true))
+      → (status_of e ≡ (ending rules x).status) ⊎ ((status_of e ≡ 6) × MayRunOut rules x)
   completes_of Done p x told f k = inl (finished 0 p x told).0
   completes_of SomeBad p x told f k = inl (finished 1 p x told).0
   completes_of BadBase p x told f k = inl (⊎_elim (λ q. (decided 3 q x told).0) (λ q. (finished 3 q x told).0) p)
   completes_of SourceFailed p x told f k = absurd (f p.source)
   completes_of SinkFailed p x told f k = absurd (k p)
-  completes_of Memory p x told f k = inr (refl, p.takes_memory)
+  completes_of Memory p x told f k = inr (refl, may_run_out p x told)
   completes_of LineTooLong p x told f k = inl (decided 7 p x told).0
   completes_of InputTooLong p x told f k = inl (decided 8 p x told).0
 
@@ -121,13 +126,13 @@ module _ (rules : Rules) (old new : Outside) where
 
   in_room_of : (e : End) → RanTo rules old new e → (x : List ℕ) → old.left ≡ Some x → ¬ (Rose old.source_faults new.source_faults)
       → e ≢ SinkFailed
-      → Meets (status_of e) x ⊎ ((status_of e ≡ 6) × (rules.takes_memory ≡ true))
+      → Meets (status_of e) x ⊎ ((status_of e ≡ 6) × MayRunOut rules x)
   in_room_of Done p x told f k = inl (finished 0 p x told)
   in_room_of SomeBad p x told f k = inl (finished 1 p x told)
   in_room_of BadBase p x told f k = inl (⊎_elim (λ q. decided 3 q x told) (λ q. finished 3 q x told) p)
   in_room_of SourceFailed p x told f k = absurd (f p.source)
   in_room_of SinkFailed p x told f k = absurd (k refl)
-  in_room_of Memory p x told f k = inr (refl, p.takes_memory)
+  in_room_of Memory p x told f k = inr (refl, may_run_out p x told)
   in_room_of LineTooLong p x told f k = inl (decided 7 p x told)
   in_room_of InputTooLong p x told f k = inl (decided 8 p x told)
 
@@ -154,9 +159,14 @@ module _ (rules : Rules) (old new : Outside) where
   runs_of e status is r = subst (Runs rules old new) (sym is) (runs_by e r)
 
   -- allocation fails only where lines take it
-  pub never_six : rules.takes_memory ≡ false → (e : End) (status : ℕ) → status ≡ status_of e
+  pub never_six : rules.base_wants_memory ≡ false
+      → ((base : List ℕ) (between : List (List ℕ)) (line : List ℕ) → rules.wants_memory base between line ≡ false) → (e : End) (status : ℕ) → status ≡ status_of e
       → Ran rules old new e → status ≢ 6
-  never_six none e status is r h = let m = (ran_out_of e r.to (sym is ∙ h)).takes_memory in cc
+  never_six none no_line e status is r h = let p = ran_out_of e r.to (sym is ∙ h) in by_whole p.whole p.line p.wants
+    where
+      by_whole : (whole : List (List ℕ)) (line : List ℕ) → WantsMemory rules whole line → ⊥
+      by_whole [] line wants = let m = wants.0 in cc
+      by_whole (base ∷ between) line wants = let n = no_line base between line in cc
 
 -- no end has the status of words that are no command
 not_two : (e : End) → status_of e ≢ 2
@@ -219,8 +229,9 @@ closed rules lo ln so sn ko km kn end last r c = ⊎_elim same broken c.ends
     }
     same_end k SinkFailed p = omega (arith, p, k)
     same_end k Memory p = record {
-      takes_memory = p.takes_memory;
       whole = p.whole;
+      line = p.line;
+      wants = p.wants;
       first = p.first;
       base_taken = p.base_taken;
       writes = writes _ p.writes;

@@ -1,5 +1,6 @@
 -- The command `links`.
 pub mod Answers
+pub mod Memory
 pub mod Rules
 pub mod FieldValues
 pub mod Examples

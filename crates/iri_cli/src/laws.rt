@@ -1,6 +1,6 @@
 //! What holds of a run over memory, of a base that is prepared once, of the entries of `register`,
 //! of the answers of `links`, and of the references of `gen`.
-ghost use Rattle.std.specs.Prelude.{◌≡◌, ◌≤◌, ◌+◌, ◌⊎◌, ℕ, List, [], ◌++◌, length, true, None, Some};
+ghost use Rattle.std.specs.Prelude.{◌≡◌, ◌≤◌, ◌+◌, ◌⊎◌, ℕ, List, [], ◌++◌, length, None, Some};
 ghost use Rattle.iri_grammar.specs.Parts.{IsAbsolute};
 ghost use Rattle.iri_grammar.specs.WholeFault.{reference_fault};
 ghost use Rattle.iri_normal.specs.NormalForm.{canonical_in};
@@ -13,14 +13,14 @@ ghost use Rattle.iri_cli.specs.register.Shared.{LiveLinesShareEntries};
 ghost use Rattle.iri_text.specs.Memory.{memory_written, state_of};
 ghost use Rattle.iri_text.specs.declared.streams.memory_sink.MemorySink.{MemorySink};
 ghost use Rattle.iri_cli.specs.run.Ending.{Rules, ending};
-ghost use Rattle.iri_cli.specs.run.Run.{outside, Runs};
+ghost use Rattle.iri_cli.specs.run.Run.{outside, MayRunOut, Runs};
 
 use iri_grammar::spec::Spec;
 use iri_normal::mode::CanonMode;
 
 /// Over plain bytes, and a sink over memory that is told no failing calls and has room for the
 /// output of their ending, a run has that ending's status and writes its output, or allocation
-/// failed at a line.
+/// failed at a line that takes memory.
 pub fn run_over_memory()
     ensures { (rules : Rules) (input left : List ℕ) (old new : MemorySink) (status : ℕ)
         → Runs rules (outside (Some input) 0 (state_of old)) (outside (Some left) 0 (state_of new))
@@ -29,7 +29,7 @@ pub fn run_over_memory()
         ≤ length old.buf.now →
         ((status ≡ (ending rules input).status)
         × (memory_written new ≡ memory_written old ++ (ending rules input).output))
-        ⊎ ((status ≡ 6) × (rules.takes_memory ≡ true)) }
+        ⊎ ((status ≡ 6) × MayRunOut rules input) }
 {}
 
 /// A base whose scheme and authority are put into normal form, and whose path loses the dot

@@ -29,10 +29,10 @@
 //! `run` each says what the answers of the tools are by the standard's relations: which lines of
 //! `register` share an entry, which links a field value has, what a document expands to, and what the
 //! patterns of a robots file allow. `canon_lines` and `canon_lines_in` are given no allocator, and never answer that
-//! allocation failed; where it fails at a line of another command, the lines before it were
-//! answered. A sink that is known to have room for the output doesn't fail: over a `PlainSource`
-//! and a `MemorySink` that is told no failing calls and has that room, status and output are those
-//! of `ending` alone, but that allocation may fail. The text of `gen` is that of
+//! allocation failed; where it fails at a line of another command, that line takes memory by the
+//! command's rules, and the lines before it were answered. A sink that is known to have room for the
+//! output doesn't fail: over a `PlainSource` and a `MemorySink` that is told no failing calls and has
+//! that room, status and output are those of `ending` alone, but that allocation may fail. The text of `gen` is that of
 //! specs/generator/References.antt, and those of `--help` and `--version` are constants of `help`.
 //!
 //! Not proved: that `CanonBuffers::new` and the other commands have their memory where there is

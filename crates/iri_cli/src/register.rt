@@ -1,5 +1,5 @@
 // The answers of `register`.
-ghost use Rattle.std.specs.Prelude.{◌≡◌, Option, Some, IfOk, OnOk};
+ghost use Rattle.std.specs.Prelude.{◌≡◌, Option, Some, true, IfOk, OnErr, OnOk};
 ghost use Rattle.iri_grammar.specs.declared.error.ErrorKind.{ErrorKind};
 ghost use Rattle.iri_normal.specs.Resolver.{base_text};
 ghost use Rattle.iri_text.specs.Sink.{PutsAll, sink_state};
@@ -8,6 +8,8 @@ ghost use Rattle.iri_register.specs.Refusals.{CausedBy};
 ghost use Rattle.iri_cli.specs.run.Refused.{is_not_bad};
 ghost use Rattle.iri_cli.specs.register.Answers.{answer_to, entry_line, entry_lines, joined, more_numbers, numbered};
 ghost use Rattle.iri_cli.specs.register.Lines.{command_of};
+ghost use Rattle.iri_cli.specs.register.Memory.{takes_memory};
+ghost use Rattle.iri_register.specs.declared.error.RegisterError.{RegisterError};
 ghost use Rattle.iri_cli.specs.inside.Asked.{asked};
 ghost use Rattle.iri_cli.specs.inside.Replies.{IsRefusal, reply_text, obeyed_by};
 
@@ -47,7 +49,8 @@ enum Reply {
 
 // The reply where a register refuses a reference.
 fn refused(error: RegisterError) -> Result<Reply, AllocError>
-    ensures { (fault : Option ErrorKind) → CausedBy error fault → IfOk result (IsRefusal fault) }
+    ensures fault { (fault : Option ErrorKind) → CausedBy error fault → IfOk result (IsRefusal fault) }
+    ensures memory { OnErr result (error ≡ RegisterError.Memory) }
 {
     match error {
         RegisterError::Bad(error) => Ok(Reply::BadReference(error.kind())),
@@ -67,6 +70,7 @@ fn reply_to<S: Spec>(
     ensures entries { OnOk result (register.new.entries ≡ obeyed_by register.old.entries
         (command_of S.tests (base_text resolver.now) number (asked line.entry))) }
     ensures base { register.new.base ≡ register.old.base }
+    ensures memory { OnErr result (takes_memory S.tests register.old.entries (asked line.entry) ≡ true) }
 {
     match line {
         Asked::Adds(reference) => match register.add_against(resolver, reference, number) {

@@ -1,8 +1,9 @@
 // The answers of `robots`.
-ghost use Rattle.std.specs.Prelude.{◌≡◌, ◌++◌, ◌∷◌, [], true, None, IfOk, OnOk, string_bytes};
+ghost use Rattle.std.specs.Prelude.{◌≡◌, ◌++◌, ◌∷◌, [], true, None, Err, IfOk, OnOk, string_bytes};
+ghost use Rattle.iri_grammar.specs.Fault.{bytes_fault};
 ghost use Rattle.iri_robots.specs.FileLines.{is_token};
 ghost use Rattle.iri_grammar.specs.Split.{split_of};
-ghost use Rattle.iri_grammar.specs.WholeFault.{iri_fault};
+ghost use Rattle.iri_grammar.specs.WholeFault.{iri_fault, reference_fault};
 ghost use Rattle.iri_normal.specs.NormalForm.{canonical};
 ghost use Rattle.iri_normal.specs.Resolver.{base_text};
 ghost use Rattle.iri_text.specs.LineEnds.{line_feed};
@@ -18,6 +19,7 @@ ghost use Rattle.iri_cli.specs.robots.Lines.{asks};
 ghost use Rattle.iri_cli.specs.inside.RobotsAt.{PutsReply};
 ghost use Rattle.iri_cli.specs.inside.Sites.{IsSiteOf, is_of_site};
 ghost use Rattle.iri_cli.specs.robots.Rules.{robots_rules};
+ghost use Rattle.iri_cli.specs.declared.run.answers.AnswerError.TheVariants.{Memory};
 ghost use Rattle.iri_cli.specs.run.Run.{RunsLines, outside_state};
 
 pub(crate) mod line;
@@ -137,10 +139,11 @@ fn put_answer<S: Spec, O: Sink>(
 ) -> Result<bool, AnswerError>
     requires { IsSiteOf site.now.scheme site.now.authority
         (split_of (normal_base S.tests (base_text resolver.now))) }
-    ensures { let state = sink_state O.written O.faults O.room_left in
+    ensures reply { let state = sink_state O.written O.faults O.room_left in
         PutsReply (state sink.old) (state sink.new)
         (answer_to S.tests (string_bytes site.now.robots.token) (base_text resolver.now)
         (record_texts site.now.robots.records.items) (asks reference.now)) result }
+    ensures memory { result ≡ Err Memory → bytes_fault (reference_fault S.tests) reference.now ≡ None }
 {
     match SplitView::<S, Reference>::try_from_bytes(reference) {
         Ok(reference) => match write_target(buffer, resolver, &reference) {

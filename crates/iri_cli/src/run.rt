@@ -121,8 +121,9 @@ fn obey<I: Source, O: Sink>(
 /// - 4: the source failed: exactly the lines that an LF ended in what was read were answered
 /// - 5: the sink failed: what was written is a prefix of the output. It never comes where the sink
 ///   is known to have room
-/// - 6: allocation failed; with `canon` nothing was read or written, with the other commands the
-///   lines before it were answered
+/// - 6: allocation failed; with `canon` nothing was read or written; with the other commands that
+///   may be so, or it failed at a base line that is taken or at a line whose answer takes memory,
+///   and the lines before it were answered
 /// - 7: a line has more than 1,048,576 bytes before its LF; 8: the input has more than
 ///   1,073,741,824 bytes; the lines before are answered
 ///
@@ -144,8 +145,8 @@ pub fn run<I: Source, O: Sink>(alloc: Global, words: &[String], source: &mut I, 
         → Tells (notice_text notice)
         (state source.old sink.old) (state source.new sink.new) result }
 
-    // A command over lines: each status comes only by its cause. Where its lines take no memory, as
-    // those of `canon`, allocation fails only before anything is read or written.
+    // A command over lines: each status comes only by its cause. Allocation fails only before
+    // anything is read or written, or at a line that takes memory by the command's rules.
     ensures lines { let state = outside_state I.left I.faults O.written O.faults O.room_left in
         (command : LineCommand) (grammar : Grammar)
         → IsCommand (map string_bytes words.now) (Command.Lines command grammar)

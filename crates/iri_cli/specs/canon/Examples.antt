@@ -15,7 +15,8 @@ small = record {
   answer = λ base between line. line ++ 10 ∷ [];
   is_good = λ answer. starts_with nat_eq answer (codes "ok ");
   closing = λ base between. [];
-  takes_memory = false;
+  base_wants_memory = false;
+  wants_memory = λ base between line. false;
 }
 
 -- the last line has no LF, and the base line a CR before its LF

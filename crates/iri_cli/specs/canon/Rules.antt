@@ -23,14 +23,19 @@ canon_rules_in s mode = record {
   answer = λ base between line. answer_in s mode base line;
   is_good = is_ok;
   closing = λ base between. [];
-  takes_memory = false;
+  base_wants_memory = false;
+  wants_memory = λ base between line. false;
 }
 
 -- the same by the rules of every scheme
 abbrev pub canon_rules : Tests → Rules
 canon_rules s = canon_rules_in s Default
 
--- a command that answers each line by the base and that line alone: base, limits and good answers are those of `canon`, but a line takes
--- memory
-abbrev pub stateless_rules : (Tests → List ℕ → List ℕ → List ℕ) → Tests → Rules
-stateless_rules answer_to s = record (canon_rules s) { answer = λ base between line. answer_to s base line; takes_memory = true }
+-- a command that answers each line by the base and that line alone: base, limits and good answers are those of `canon`, but the base line
+-- takes memory, and so do some lines
+abbrev pub stateless_rules : (answer_to : Tests → List ℕ → List ℕ → List ℕ) (takes_memory : Tests → List ℕ → Bool) → Tests → Rules
+stateless_rules answer_to takes_memory s = record (canon_rules s) {
+  answer = λ base between line. answer_to s base line;
+  base_wants_memory = true;
+  wants_memory = λ base between line. takes_memory s line;
+}

@@ -1,9 +1,14 @@
 -- The command `docs`: its rules.
+use Rattle.std.specs.Prelude.{ℕ, Bool, nat_lt, List, length}
 use Rattle.iri_grammar.specs.Classes.{Tests}
 use Rattle.iri_cli.specs.canon.Rules.{stateless_rules}
 use Rattle.iri_cli.specs.docs.Answers.{docs_answer}
 use Rattle.iri_cli.specs.run.Ending.{Rules}
 
+-- a line takes memory where it has a byte
+abbrev pub takes_memory : Tests → List ℕ → Bool
+takes_memory s line = nat_lt 0 (length line)
+
 -- `docs`: each line is a template document in JSON
 abbrev pub docs_rules : Tests → Rules
-docs_rules s = stateless_rules docs_answer s
+docs_rules s = stateless_rules docs_answer takes_memory s

@@ -19,14 +19,14 @@ abbrev pub begun : Rules → List ℕ → Answering
 begun rules line = record { rules = rules; base = line; between = [] }
 
 -- The base line is taken, and the command stands after it, with this text as its base; or the line is refused for what the words say;
--- or allocation failed.
+-- or it is taken, and allocation failed.
 abbrev pub Opens : {A : Type 0} → Tests → Rules → (line text : List ℕ) → (A → List ℕ → Answering → Type 0) → Result A BaseError → Type 0
 Opens s rules line text stands_at (Ok answers) =
     (refusal s line ≡ None) × (refusal s text ≡ None) × stands_at answers text (begun rules line)
 Opens s rules line text stands_at (Err (Refused words)) = refusal s line ≡ Some words.now
-Opens s rules line text stands_at (Err Memory) = rules.takes_memory ≡ true
+Opens s rules line text stands_at (Err Memory) = (rules.base_wants_memory ≡ true) × (refusal s line ≡ None)
 
--- a line is refused as a base, or allocation failed
+-- a line is refused as a base, or it is taken, and allocation failed
 abbrev pub RefusesLine : Tests → List ℕ → BaseError → Type 0
 RefusesLine s line (Refused words) = refusal s line ≡ Some words.now
-RefusesLine s line Memory = Unit {0}
+RefusesLine s line Memory = refusal s line ≡ None

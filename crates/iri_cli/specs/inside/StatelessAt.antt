@@ -1,10 +1,10 @@
 -- Where a command stands that answers each line alone.
-use Rattle.std.specs.Prelude.{◌≡◌, ℕ, List}
+use Rattle.std.specs.Prelude.{◌≡◌, ℕ, Bool, List}
 use Rattle.iri_grammar.specs.Classes.{Tests}
 use Rattle.iri_cli.specs.run.Answering.{Answering}
 use Rattle.iri_cli.specs.canon.Rules.{stateless_rules}
 
 -- It has the base.
-pub record IsStatelessAt (answer : Tests → List ℕ → List ℕ → List ℕ) (s : Tests) (base : List ℕ) (at : Answering) : Type 0 where
-  pub rules : at.rules ≡ stateless_rules answer s
+pub record IsStatelessAt (answer : Tests → List ℕ → List ℕ → List ℕ) (takes_memory : Tests → List ℕ → Bool) (s : Tests) (base : List ℕ) (at : Answering) : Type 0 where
+  pub rules : at.rules ≡ stateless_rules answer takes_memory s
   pub base_is : base ≡ at.base

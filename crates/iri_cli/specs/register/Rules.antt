@@ -3,6 +3,8 @@ use Rattle.std.specs.Prelude.{true}
 use Rattle.iri_grammar.specs.Classes.{Tests}
 use Rattle.iri_cli.specs.canon.Rules.{canon_rules}
 use Rattle.iri_cli.specs.register.Answers.{register_answer, register_closing}
+use Rattle.iri_cli.specs.register.Lines.{entries_after, line_of}
+use Rattle.iri_cli.specs.register.Memory.{takes_memory}
 use Rattle.iri_cli.specs.run.Ending.{Rules}
 use Rattle.iri_cli.specs.run.Refused.{is_not_bad}
 
@@ -13,5 +15,6 @@ register_rules s = record (canon_rules s) {
   answer = register_answer s;
   is_good = is_not_bad;
   closing = register_closing s;
-  takes_memory = true;
+  base_wants_memory = true;
+  wants_memory = λ base between line. takes_memory s (entries_after s base between) (line_of line);
 }

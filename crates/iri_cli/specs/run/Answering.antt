@@ -31,15 +31,14 @@ RefusesBase words old new SinkFailed =
 RefusesBase words old new end = ⊥
 
 module _ (rules : Rules) (old new : SinkState) where
-  -- allocation failed, and nothing was written
-  abbrev pub IsRefusedMemory : Type 0
-  IsRefusedMemory = (rules.takes_memory ≡ true) × (new.written ≡ old.written) × (new.faults ≡ old.faults)
-
-  -- The whole answer was written, and it is said whether it is good; or the sink failed; or allocation failed.
-  abbrev pub PutsAnswer : List ℕ → Result Bool AnswerError → Type 0
-  PutsAnswer answer (Ok good) = Appends old.written new.written answer × (new.faults ≡ old.faults) × (good ≡ rules.is_good answer)
-  PutsAnswer answer (Err AnswerFailed) = FailsWithin old new answer
-  PutsAnswer answer (Err AnswerMemory) = IsRefusedMemory
+  -- The whole answer was written, and it is said whether it is good; or the sink failed; or memory is wanted, allocation failed, and nothing
+  -- was written.
+  abbrev pub PutsAnswer : (wants : Bool) → List ℕ → Result Bool AnswerError → Type 0
+  PutsAnswer wants answer (Ok good) =
+      Appends old.written new.written answer × (new.faults ≡ old.faults) × (good ≡ rules.is_good answer)
+  PutsAnswer wants answer (Err AnswerFailed) =
+      FailsWithin old new answer
+  PutsAnswer wants answer (Err AnswerMemory) = (wants ≡ true) × (new.written ≡ old.written) × (new.faults ≡ old.faults)
 
 -- The text after all answers was written, which ends the run; or the sink failed within it.
 abbrev pub ClosesRun : (old new : SinkState) → Bool → List ℕ → End → Type 0
@@ -55,7 +54,8 @@ ClosesRun old new good text end = ⊥
 pub record AnswersLine (is_new : Answering → Type 0) (at : Answering) (line : List ℕ) (old new : SinkState)
     (result : Result Bool AnswerError)
     : Type 0 where
-  pub puts : PutsAnswer at.rules old new (at.rules.answer at.base at.between line) result
+  pub puts : PutsAnswer at.rules old new (at.rules.wants_memory at.base at.between line) (at.rules.answer at.base at.between line)
+      result
   pub next : OnOk result (is_new (record at { between = at.between ++ line ∷ [] }))
   pub room : KeepsRoom old.room_left new.room_left (at.rules.answer at.base at.between line) (result ≢ Err AnswerFailed)
 

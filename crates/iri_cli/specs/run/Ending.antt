@@ -18,8 +18,10 @@ pub record Rules : Type 0 where
   pub is_good : List ℕ → Bool
   -- what is written after the answers to all of the lines
   pub closing : List ℕ → List (List ℕ) → List ℕ
-  -- whether answers take memory, so that it may be refused at a line
-  pub takes_memory : Bool
+  -- whether a base line that is taken takes memory, so that it may be refused there
+  pub base_wants_memory : Bool
+  -- whether the answer to a line after a base and the lines between them takes memory, so that it may be refused at that line
+  pub wants_memory : List ℕ → List (List ℕ) → List ℕ → Bool
 
 pub record Ending : Type 0 where
   pub status : ℕ

@@ -1,5 +1,5 @@
 -- What a run over the lines of a source does to that source and to its sink.
-use Rattle.std.specs.Prelude.{◌≡◌, ◌≢◌, ◌⊎◌, ◌≤◌, ℕ, true, List, ◌++◌, length, Option, None, Some}
+use Rattle.std.specs.Prelude.{◌≡◌, ◌≢◌, ◌⊎◌, ◌≤◌, ℕ, true, List, [], ◌∷◌, ◌++◌, length, Option, None, Some}
 use Rattle.iri_text.specs.Count.{Rose}
 use Rattle.iri_text.specs.Lines.{lines}
 use Rattle.iri_text.specs.Source.{Consumes, IsAtEnd}
@@ -51,11 +51,17 @@ module _ (rules : Rules) where
     pub source : Rose old.source_faults new.source_faults
     pub sink : new.sink.faults ≡ old.sink.faults
 
-  -- Allocation failed at a line. The lines before it were answered, which are the first of the input.
+  -- Allocation may fail at a line after these: at a base line that is taken, and at a line whose answer takes memory.
+  abbrev pub WantsMemory : List (List ℕ) → List ℕ → Type 0
+  WantsMemory [] base = (rules.base_wants_memory ≡ true) × (rules.refusal base ≡ None)
+  WantsMemory (base ∷ between) line = rules.wants_memory base between line ≡ true
+
+  -- Allocation failed at a line, which wasn't answered. The lines before it were, and both are the first of the input.
   pub record RunsOut (old new : Outside) : Type 0 where
-    pub takes_memory : rules.takes_memory ≡ true
     pub whole : List (List ℕ)
-    pub first : (input : List ℕ) → old.left ≡ Some input → (more : List (List ℕ)) × (lines input ≡ whole ++ more)
+    pub line : List ℕ
+    pub wants : WantsMemory whole line
+    pub first : (input : List ℕ) → old.left ≡ Some input → (more : List (List ℕ)) × (lines input ≡ whole ++ line ∷ more)
     pub base_taken : IsBaseTaken rules whole
     pub writes : Appends old.sink.written new.sink.written (answered rules whole)
     pub sink : new.sink.faults ≡ old.sink.faults
@@ -80,6 +86,15 @@ module _ (rules : Rules) where
     pub sink_later : old.sink.faults ≤ new.sink.faults
     pub room : (input : List ℕ) → old.left ≡ Some input → KeepsRoom old.sink.room_left new.sink.room_left (ending rules input).output
         (end ≢ SinkFailed)
+
+-- Some line of an input is one at which allocation may fail.
+pub record MayRunOut (rules : Rules) (input : List ℕ) : Type 0 where
+  pub whole : List (List ℕ)
+  pub line : List ℕ
+  pub more : List (List ℕ)
+  pub all : lines input ≡ whole ++ line ∷ more
+  pub base_taken : IsBaseTaken rules whole
+  pub wants : WantsMemory rules whole line
 
 -- the status of an end
 abbrev pub status_of : End → ℕ
@@ -112,12 +127,12 @@ pub record Runs (rules : Rules) (old new : Outside) (status : ℕ) : Type 0 wher
   -- 5: the sink failed; in every other status it didn't
   pub sink_failed : status ≡ 5 → Rose old.sink.faults new.sink.faults
   pub sink_same : status ≢ 5 → new.sink.faults ≡ old.sink.faults
-  -- 6: allocation failed at a line
+  -- 6: allocation failed at a line that wasn't answered
   pub ran_out : status ≡ 6 → RunsOut rules old new
   -- where the source tells its bytes and nothing fails, the run has their ending, or allocation failed
   pub completes : (input : List ℕ) → old.left ≡ Some input → ¬ (Rose old.source_faults new.source_faults)
       → ¬ (Rose old.sink.faults new.sink.faults)
-      → (status ≡ (ending rules input).status) ⊎ ((status ≡ 6) × (rules.takes_memory ≡ true))
+      → (status ≡ (ending rules input).status) ⊎ ((status ≡ 6) × MayRunOut rules input)
   -- 5 never comes where the source tells its bytes and the sink is known to have room for the output of their ending
   pub room : (input : List ℕ) → old.left ≡ Some input → KeepsRoom old.sink.room_left new.sink.room_left (ending rules input).output
       (status ≢ 5)
@@ -125,7 +140,7 @@ pub record Runs (rules : Rules) (old new : Outside) (status : ℕ) : Type 0 wher
   pub completes_in_room : (input : List ℕ) → old.left ≡ Some input → ¬ (Rose old.source_faults new.source_faults)
       → HasRoom old.sink.room_left (length (ending rules input).output)
       → ((status ≡ (ending rules input).status) × Appends old.sink.written new.sink.written (ending rules input).output)
-      ⊎ ((status ≡ 6) × (rules.takes_memory ≡ true))
+      ⊎ ((status ≡ 6) × MayRunOut rules input)
 
 -- The same, or allocation failed before anything was read or written.
 abbrev pub RunsLines : Rules → Outside → Outside → ℕ → Type 0

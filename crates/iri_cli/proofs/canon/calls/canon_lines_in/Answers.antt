@@ -9,7 +9,7 @@ returns-clause-a_command g c = never_two c.run_lines.ensures.end c.run_lines.res
 
 pub returns-clause-in_memory : goal.returns-clause-in_memory
 returns-clause-in_memory g c =
-    never_six (canon_rules_in g.S.Spec.tests c.args.mode) _ _ refl _ _ c.run_lines.ensures.told c.run_lines.ensures.ran
+    never_six (canon_rules_in g.S.Spec.tests c.args.mode) _ _ refl (λ _ _ _. refl) _ _ c.run_lines.ensures.told c.run_lines.ensures.ran
 
 pub returns-clause-canonical : goal.returns-clause-canonical
 returns-clause-canonical g c = canonical_answers g.S.Spec.tests c.args.mode g.met.S.Spec.lawful

@@ -1,4 +1,6 @@
 use Rattle.std.proofs.Common.{◌≡◌, ◌∙◌, [], ◌∷◌, ◌++◌, Ok, Err, arith, false, refl, sym, ap}
+use Rattle.std.specs.Prelude.{length, nat_lt, true}
+use Rattle.std.proofs.lemmas.Bool.Decides.{nat_tests}
 use Rattle.std.specs.Vec.{vec_capacity, with_items}
 use Rattle.iri_text.specs.Sink.{sink_state}
 use Rattle.iri_docs.specs.ErrorTexts.{description}
@@ -7,9 +9,11 @@ use Rattle.iri_normal.specs.Resolver.{base_text}
 use Rattle.iri_template.specs.Contexts.{value_in}
 use Rattle.iri_cli.specs.docs.Answers.{docs_answer}
 use Rattle.iri_cli.specs.expand.Answers.{template_answer}
+use Rattle.iri_cli.specs.docs.Rules.{docs_rules, takes_memory}
+use Rattle.iri_cli.proofs.MemoryLemmas.{answers_memory}
 use Rattle.iri_cli.proofs.DocsLemmas.{answers_docs, bad, docs_read}
 use Rattle.iri_cli.proofs.ExpandLemmas.{told_line, told_room}
-use Rattle.iri_cli.proofs.StatelessLemmas.{answers_memory, answers_text}
+use Rattle.iri_cli.proofs.StatelessLemmas.{answers_text}
 use Rattle.iri_cli.proofs.docs.DocsAnswers.answer.Goals as goal
 
 pub returns-in-Ok : goal.returns-in-Ok
@@ -33,20 +37,14 @@ returns-in-Ok g c = λ at is.
     answers_docs s base self.expansion.items expansion.items (vec_capacity self.output) (vec_capacity c.put_template.new.output) at line
     (state a) (state b) c.put_template.result is
     (sym expansion.ok.0 ∙ self.expansion.ok.0) c.put_template.ensures.capacity
-    (answers_text docs_answer s base at is.stands line (state a) (state b)
+    (answers_text docs_answer takes_memory s base at is.stands line (state a) (state b)
     c.put_template.result text text_is c.put_template.ensures.puts c.put_template.ensures.room)
 
 pub returns-in-Memory : goal.returns-in-Memory
 returns-in-Memory g c = λ at is.
     let state = sink_state g.O.Sink.written g.O.Sink.faults g.O.Sink.room_left in
-    let s = g.S.Spec.tests in
-    let self = c.args.self.now in
-    let base = base_text c.args.resolver.now in
-    let line = c.args.line.now in
-    let a = c.args.sink.now in
-    let n = vec_capacity self.output in
-    answers_docs s base self.expansion.items self.expansion.items n n at line (state a) (state a) _ is refl (omega arith)
-    (answers_memory docs_answer s base at is.stands line (state a))
+    let has_bytes : nat_lt 0 (length c.args.line.now) ≡ true = grind (arith, nat_tests, c.in-Err.ensures.memory (ap Err c.in-Memory.is)) in
+    answers_memory (docs_rules g.S.Spec.tests) at c.args.line.now (state c.args.sink.now) _ is.stands.rules has_bytes
 
 pub returns-in_default : goal.returns-in_default
 returns-in_default g c = λ at is.
@@ -60,7 +58,7 @@ returns-in_default g c = λ at is.
     let n = vec_capacity self.output in
     let text = description c.in-Err.error ++ 10 ∷ [] in
     answers_docs s base self.expansion.items self.expansion.items n n at line (state a) (state b) c.told.result is refl (omega arith)
-    (answers_text docs_answer s base at is.stands line (state a) (state b)
+    (answers_text docs_answer takes_memory s base at is.stands line (state a) (state b)
     c.told.result text (docs_read s base line (Err c.in-Err.error) (c.in-Err.ensures.answer c.in_default.not-Memory))
     (told_line false c.put_refusal.result text text c.told.result c.told.ensures (bad c.in-Err.error) refl c.put_refusal.ensures)
     (told_room false c.put_refusal.result text text c.told.result c.told.ensures refl c.put_refusal.ensures))

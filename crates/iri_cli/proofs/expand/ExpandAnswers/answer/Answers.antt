@@ -1,4 +1,4 @@
-use Rattle.std.proofs.Common.{◌∙◌, arith, false, refl, sym}
+use Rattle.std.proofs.Common.{◌∙◌, ap, arith, false, refl, sym}
 use Rattle.std.specs.Vec.{vec_capacity, with_items}
 use Rattle.iri_text.specs.Sink.{sink_state}
 use Rattle.iri_normal.specs.Resolver.{base_text}
@@ -6,7 +6,9 @@ use Rattle.iri_template.specs.Contexts.{value_in}
 use Rattle.iri_cli.specs.run.Refused.{bad_line}
 use Rattle.iri_cli.specs.expand.Lines.{bad, changes, expands}
 use Rattle.iri_cli.specs.inside.Said.{change_of}
-use Rattle.iri_cli.proofs.ExpandLemmas.{answers_memory, answers_nothing, answers_text, template_good, told_line, told_room}
+use Rattle.iri_cli.specs.expand.Rules.{expand_rules, takes_memory}
+use Rattle.iri_cli.proofs.MemoryLemmas.{answers_memory}
+use Rattle.iri_cli.proofs.ExpandLemmas.{answers_nothing, answers_text, template_good, told_line, told_room}
 use Rattle.iri_cli.proofs.expand.ExpandAnswers.answer.Goals as goal
 
 pub returns-in-Ok : goal.returns-in-Ok
@@ -20,9 +22,8 @@ returns-in-Ok g c = λ at is.
 pub returns-in-Err : goal.returns-in-Err
 returns-in-Err g c = λ at is.
     let state = sink_state g.O.Sink.written g.O.Sink.faults g.O.Sink.room_left in
-    let self = c.args.self.now in
-    answers_memory g.S.Spec.tests (base_text c.args.resolver.now) self.expansion.items (vec_capacity self.output) (value_in self.values) at is c.args.line.now
-    (changes (change_of c.in-Changes.change)) (sym (c.in-Changes.ensures {u = tt})) (state c.args.sink.now) refl _
+    answers_memory (expand_rules g.S.Spec.tests) at c.args.line.now (state c.args.sink.now) _ is.rules
+    (ap takes_memory (sym (c.in-Changes.ensures {u = tt})))
 
 pub returns-in-Expands : goal.returns-in-Expands
 returns-in-Expands g c = λ at is.

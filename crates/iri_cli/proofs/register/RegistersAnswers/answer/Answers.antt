@@ -4,10 +4,22 @@ use Rattle.iri_normal.specs.Resolver.{base_text}
 use Rattle.iri_cli.specs.run.Answering.{AnswersLine}
 use Rattle.iri_cli.specs.register.Answers.{answer_to}
 use Rattle.iri_cli.specs.register.Lines.{command_of, line_of}
+use Rattle.iri_cli.specs.register.Memory.{takes_memory}
+use Rattle.iri_cli.specs.register.Rules.{register_rules}
 use Rattle.iri_cli.specs.inside.RegisterAt.{IsRegisterAt}
 use Rattle.iri_cli.specs.inside.Replies.{obeyed_by, reply_text}
+use Rattle.iri_cli.proofs.MemoryLemmas.{answers_memory}
 use Rattle.iri_cli.proofs.RegisterLemmas.{answers_line}
 use Rattle.iri_cli.proofs.register.RegistersAnswers.answer.Goals as goal
+
+pub returns-in-Err : goal.returns-in-Err
+returns-in-Err g c = λ at is.
+    let s = g.S.Spec.tests in
+    let kept = c.args.self.now.register in
+    let state = sink_state g.O.Sink.written g.O.Sink.faults g.O.Sink.room_left in
+    answers_memory (register_rules s) at c.args.line.now (state c.args.sink.now) _ is.rules
+    (ap (λ es. takes_memory s es (line_of c.args.line.now)) (sym is.entries_are) ∙ ap (takes_memory s kept.entries) (sym c.line_of.ensures)
+    ∙ c.in-Err.ensures.memory)
 
 pub returns-in-Ok : goal.returns-in-Ok
 returns-in-Ok g c = λ at is.

@@ -1,4 +1,5 @@
 use Rattle.std.proofs.Common.{◌++◌, ◌∙◌, [], Ok, ap, false, refl, string_bytes, subst, sym, true}
+use Rattle.std.specs.Option.{is_none}
 use Rattle.iri_text.specs.Sink.{sink_state}
 use Rattle.iri_normal.specs.Resolver.{base_text}
 use Rattle.iri_robots.specs.Stored.{record_texts}
@@ -6,9 +7,12 @@ use Rattle.iri_cli.specs.run.Answering.{AnswersLine}
 use Rattle.iri_cli.specs.canon.Puts.{told_of}
 use Rattle.iri_cli.specs.run.Refused.{bad_line}
 use Rattle.iri_cli.specs.robots.Answers.{answer_to}
+use Rattle.iri_cli.specs.robots.Memory.{takes_memory}
+use Rattle.iri_cli.specs.robots.Rules.{robots_rules}
 use Rattle.iri_cli.specs.robots.Lines.{asks, bad, fed}
 use Rattle.iri_cli.specs.inside.RobotsAt.{IsRobotsAt}
-use Rattle.iri_cli.proofs.RobotsLemmas.{answers_line, no_reply, replies, unfed}
+use Rattle.iri_cli.proofs.MemoryLemmas.{answers_memory}
+use Rattle.iri_cli.proofs.RobotsLemmas.{answers_line, feeds_record, never_memory, no_reply, replies, unfed}
 use Rattle.iri_cli.proofs.robots.CrawlsAnswers.answer.Goals as goal
 
 pub returns-in-Ok : goal.returns-in-Ok
@@ -25,7 +29,14 @@ returns-in-Ok g c = λ at is.
     (sym c.in-Ok.ensures.token)
     (answers_line s token base site.scheme site.authority records new at c.args.line.now [] old old (Ok true) is
     (ap (answer_to s token base records) c.in-Feeds.ensures)
-    (c.in-Ok.ensures.records ∙ ap (λ l. records ++ fed l) c.in-Feeds.ensures) (no_reply old))
+    (c.in-Ok.ensures.records ∙ ap (λ l. records ++ fed l) c.in-Feeds.ensures) (λ h. absurd (cc h)) (no_reply old))
+
+pub returns-in-Err : goal.returns-in-Err
+returns-in-Err g c = λ at is.
+    let s = g.S.Spec.tests in
+    let state = sink_state g.O.Sink.written g.O.Sink.faults g.O.Sink.room_left in
+    answers_memory (robots_rules s (string_bytes c.args.self.now.site.robots.token)) at c.args.line.now (state c.args.sink.now) _ is.rules
+    (ap (takes_memory s) (sym c.in-Feeds.ensures) ∙ feeds_record _ c.in-Err.ensures.none)
 
 pub returns-in-Asks : goal.returns-in-Asks
 returns-in-Asks g c = λ at is.
@@ -37,7 +48,8 @@ returns-in-Asks g c = λ at is.
     let reference = asks c.in-Asks.reference.now in
     answers_line s token base site.scheme site.authority records records at c.args.line.now (answer_to s token base records reference)
     _ _ c.put_answer.result is (ap (answer_to s token base records) c.in-Asks.ensures)
-    (unfed c.put_answer.result records reference c.args.line.now c.in-Asks.ensures refl) c.put_answer.ensures
+    (unfed c.put_answer.result records reference c.args.line.now c.in-Asks.ensures refl)
+    (λ h. ap (takes_memory s) (sym c.in-Asks.ensures) ∙ ap is_none (c.put_answer.ensures.memory h)) c.put_answer.ensures.reply
 
 pub returns-in-Bad : goal.returns-in-Bad
 returns-in-Bad g c = λ at is.
@@ -53,4 +65,5 @@ returns-in-Bad g c = λ at is.
     subst (AnswersLine (IsRobotsAt s token base site.scheme site.authority records) at c.args.line.now old new) (sym c.told.ensures)
     (answers_line s token base site.scheme site.authority records records at c.args.line.now bad_line old new told is
     (ap (answer_to s token base records) c.in-Bad.ensures) (unfed told records bad c.args.line.now c.in-Bad.ensures refl)
+    (never_memory false c.put_bad_line.result)
     (replies false c.put_bad_line.result bad_line c.put_bad_line.ensures refl))

@@ -78,6 +78,7 @@ returns g c =
     let begins = g.met.A.Answers.begins c.args.start in
     let is_new = new_reader s rules begins c.args.reader (vec_capacity c.args.base.now) (vec_capacity c.args.output) c.requires in
     let n = c.in-Ok.ensures rules is_new in
-    let takes = subst (λ e. Opens s rules c.read_base.new.buffer.items c.open.new.base.items g.A.Answers.stands_at (Err e))
-    c.in-Err-Memory.field-0-is c.in-Err-Memory.ensures in
-    ends_in_memory rules _ _ _ _ _ takes n.2
+    let line = c.read_base.new.buffer.items in
+    let o = subst (λ e. Opens s rules line c.open.new.base.items g.A.Answers.stands_at (Err e)) c.in-Err-Memory.field-0-is
+    c.in-Err-Memory.ensures in
+    ends_in_memory s rules begins line o.1 _ _ c.read_base.new.reader n.0 _ _ _ o.0 n.2
