@@ -8,6 +8,7 @@ pub mod Ends
 pub mod Answered
 pub mod BaseLine
 pub mod RunLemmas
+pub mod WriterLemmas
 pub mod CanonLemmas
 pub mod GenLemmas
 pub mod GenReferences

@@ -3,6 +3,7 @@ pub mod ExpandAt
 pub mod DocsAt
 pub mod Opening
 pub mod Obeyed
+pub mod HandsOn
 pub mod Said
 pub mod Sites
 pub mod Asked

@@ -2,6 +2,8 @@
 //!
 //! - [`run`](run::run) does what the words after the program's name say, and gives the program's
 //!   status.
+//! - [`run_to_writer`](run::to_writer::run_to_writer) does the same over a writer of std, as the program
+//!   calls it, and leaves nothing pending there.
 //! - [`CanonBuffers`](CanonBuffers) is the memory that every command over lines takes before it reads,
 //!   and all that `canon` needs: [`canon_lines`](canon_lines) answers the lines of a source with it,
 //!   each reference line by its canonical text against the base line (RFC 3986 section 5 and section
@@ -21,7 +23,7 @@
 //! - `gen` makes references by a counter, and tells how many bytes their canonical texts have and
 //!   the sum of these bytes' values.
 //!
-//! Proved: the contracts of `run`, `canon_lines` and `canon_lines_in`. Each status comes only by
+//! Proved: the contracts of `run`, `run_to_writer`, `canon_lines` and `canon_lines_in`. Each status comes only by
 //! its cause, and where the source tells its bytes, status and output are those of `ending` in
 //! specs/run/Ending.antt, which is defined by the lines of the input and the events that end a run,
 //! and by the rules of the command (`rules_of` in specs/run/Words.antt). These stand in the command's

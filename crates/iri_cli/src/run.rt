@@ -22,6 +22,7 @@ pub(crate) mod buffers;
 pub(crate) mod end;
 pub(crate) mod opening;
 pub(crate) mod puts;
+pub mod to_writer;
 pub mod words;
 
 use crate::canon::calls::canon_lines_in;

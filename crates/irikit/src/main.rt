@@ -1,11 +1,13 @@
 //! `irikit`: works on the lines of its standard input as the words after its name say, and ends with a status.
 //!
-//! All of its work is `iri_cli::run`, whose contract says what each status means. Not proved, and shown by tests/edges on the
-//! built program: that `main` makes a source of standard input and a sink of standard output, and passes on the words.
+//! All of its work is `run_to_writer` of `iri_cli`, whose contract says what each status means, and that nothing is held back at
+//! the end of a run whose sink didn't fail. Not proved, and shown by tests/edges on the built program: that `main` makes a source of
+//! standard input and a sink of standard output, and passes on the words.
 #![tactic(auto)]
 
+use iri_cli::run::to_writer::run_to_writer;
 use iri_cli::run::words::command_of;
-use iri_cli::run::{MEMORY, NO_COMMAND, run};
+use iri_cli::run::{MEMORY, NO_COMMAND};
 use iri_text::{ReadSource, WriteSink};
 use std::alloc::AllocError;
 use std::env;
@@ -34,5 +36,5 @@ fn main(rt: HostRuntime) -> ExitCode {
     };
     let mut source = ReadSource::new(rt.stdin());
     let mut sink = WriteSink::new(writer);
-    ExitCode::from(run(rt.alloc(), &words, &mut source, &mut sink))
+    ExitCode::from(run_to_writer(rt.alloc(), &words, &mut source, &mut sink))
 }
