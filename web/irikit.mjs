@@ -58,11 +58,14 @@ class Refused extends Error {
   }
 }
 
+// Node's files, by a name that a bundler for browsers doesn't look for.
+const FILES = "node:fs/promises";
+
 // The module's bytes, from the file beside this one. Node doesn't fetch files.
 async function bytesBeside() {
   const place = new URL("irikit.wasm", import.meta.url);
   if (place.protocol !== "file:") return fetch(place);
-  return (await import("node:fs/promises")).readFile(place);
+  return (await import(/* webpackIgnore: true */ /* @vite-ignore */ FILES)).readFile(place);
 }
 
 async function open(source = bytesBeside()) {
