@@ -1,32 +1,11 @@
-// References with one part changed (RFC 3986 sections 3.2.1, 3.5 and 7.5).
-ghost use Rattle.std.specs.Prelude.{◌≡◌};
-ghost use Rattle.iri_c.specs.Edits.{masked_in, masked_outcome, cut_in, cut_outcome, fragment_in, fragment_outcome};
-ghost use Rattle.iri_c.specs.Edits.{password_in, password_outcome, removed_in, removed_outcome};
-ghost use Rattle.iri_c.specs.Outcome.{Answered};
-ghost use Rattle.iri_grammar.specs.Cut.{before};
-ghost use Rattle.iri_types.specs.Texts.{text};
+// Calls that change a part of a reference, or build a text from parts.
+ghost use Rattle.iri_calls.specs.Building.{built_outcome};
+ghost use Rattle.iri_calls.specs.Edits.{cut_outcome, fragment_outcome, host_outcome, masked_outcome, password_outcome, removed_outcome};
+ghost use Rattle.iri_calls.specs.Outcome.{Answered};
+ghost use Rattle.std.specs.Prelude.{false, true};
 
-use crate::buffer::answer_text;
-use crate::fault::{answer, answer_fault};
-use crate::grammar::{IRI, URI};
-use crate::status::{BAD_PART, BAD_TEXT, UNKNOWN};
-use iri_edit::password::MaskPassword;
-use iri_edit::shown_removal::without_password;
-use iri_grammar::cutting::cut_before;
-use iri_grammar::error::ErrorKind;
-use iri_grammar::spec::{IriSpec, Spec, UriSpec};
-use iri_text::{Show, Stop, TextSink, show_three};
-use iri_types::view::{RiFragmentStr, RiReferenceStr};
-
-// The masked text in one grammar.
-fn mask_in<S: Spec>(text: &[u8], out: &mut [u8], told: &mut usize) -> u8
-    ensures { Answered (masked_in text.now S.tests) out.old out.new told.new result }
-{
-    match RiReferenceStr::<S>::try_from_bytes(text) {
-        Ok(view) => answer_text(out, &view.mask_password(), told),
-        Err(error) => answer_fault(BAD_TEXT, error.kind(), told),
-    }
-}
+use iri_calls::building::{self, Part};
+use iri_calls::{edits, hosts};
 
 /// A reference without its password.
 #[unsafe(no_mangle)]
@@ -38,21 +17,7 @@ pub extern "C" fn irikit_mask_password(
 ) -> u8
     ensures { Answered (masked_outcome grammar text.now) out.old out.new told.new result }
 {
-    match grammar {
-        URI => mask_in::<UriSpec>(text, out, told),
-        IRI => mask_in::<IriSpec>(text, out, told),
-        _ => answer(UNKNOWN, told),
-    }
-}
-
-// The text without its password and the colon before it in one grammar.
-fn remove_password_in<S: Spec>(text: &[u8], out: &mut [u8], told: &mut usize) -> u8
-    ensures { Answered (removed_in text.now S.tests) out.old out.new told.new result }
-{
-    match RiReferenceStr::<S>::try_from_bytes(text) {
-        Ok(view) => answer_text(out, &without_password(view), told),
-        Err(error) => answer_fault(BAD_TEXT, error.kind(), told),
-    }
+    edits::irikit_mask_password(grammar, text, out, told)
 }
 
 /// A reference without its password and the colon before it.
@@ -65,30 +30,7 @@ pub extern "C" fn irikit_remove_password(
 ) -> u8
     ensures { Answered (removed_outcome grammar text.now) out.old out.new told.new result }
 {
-    match grammar {
-        URI => remove_password_in::<UriSpec>(text, out, told),
-        IRI => remove_password_in::<IriSpec>(text, out, told),
-        _ => answer(UNKNOWN, told),
-    }
-}
-
-// The text with another password in one grammar.
-fn replace_password_in<S: Spec>(
-    text: &[u8],
-    password: &[u8],
-    out: &mut [u8],
-    told: &mut usize,
-) -> u8
-    ensures { Answered (password_in text.now password.now S.tests) out.old out.new told.new result }
-{
-    let view = match RiReferenceStr::<S>::try_from_bytes(text) {
-        Ok(view) => view,
-        Err(error) => return answer_fault(BAD_TEXT, error.kind(), told),
-    };
-    match str::from_utf8(password) {
-        Ok(password) => answer_text(out, &view.mask_password().replace_password(password), told),
-        Err(_) => answer_fault(BAD_PART, ErrorKind::InvalidUtf8, told),
-    }
+    edits::irikit_remove_password(grammar, text, out, told)
 }
 
 /// A reference with another text in place of its password.
@@ -102,28 +44,7 @@ pub extern "C" fn irikit_replace_password(
 ) -> u8
     ensures { Answered (password_outcome grammar text.now password.now) out.old out.new told.new result }
 {
-    match grammar {
-        URI => replace_password_in::<UriSpec>(text, password, out, told),
-        IRI => replace_password_in::<IriSpec>(text, password, out, told),
-        _ => answer(UNKNOWN, told),
-    }
-}
-
-// What stands before the fragment.
-fn before_fragment<S: Spec>(view: RiReferenceStr<'_, S>) -> &str
-    ensures { result.now ≡ before 35 (text view.entry) }
-{
-    cut_before(view.as_str(), b'#').0
-}
-
-// The text without its fragment in one grammar.
-fn remove_fragment_in<S: Spec>(text: &[u8], out: &mut [u8], told: &mut usize) -> u8
-    ensures { Answered (cut_in text.now S.tests) out.old out.new told.new result }
-{
-    match RiReferenceStr::<S>::try_from_bytes(text) {
-        Ok(view) => answer_text(out, &before_fragment(view), told),
-        Err(error) => answer_fault(BAD_TEXT, error.kind(), told),
-    }
+    edits::irikit_replace_password(grammar, text, password, out, told)
 }
 
 /// A reference without its fragment.
@@ -136,46 +57,7 @@ pub extern "C" fn irikit_remove_fragment(
 ) -> u8
     ensures { Answered (cut_outcome grammar text.now) out.old out.new told.new result }
 {
-    match grammar {
-        URI => remove_fragment_in::<UriSpec>(text, out, told),
-        IRI => remove_fragment_in::<IriSpec>(text, out, told),
-        _ => answer(UNKNOWN, told),
-    }
-}
-
-// A text and the fragment after it.
-#[derive(Drop)]
-struct Fragmented<'a> {
-    prefix: &'a str,
-    fragment: &'a str,
-}
-
-impl Show for Fragmented<'_> {
-    ghost use Rattle.std.specs.Prelude.{◌++◌, ◌∷◌};
-
-    ghost text = { λ f. f.prefix.now ++ 35 ∷ f.fragment.now };
-
-    fn show<W: TextSink>(&self, sink: &mut W) -> Result<(), Stop> {
-        show_three(sink, &self.prefix, &"#", &self.fragment)
-    }
-}
-
-// The text with another fragment in one grammar.
-fn set_fragment_in<S: Spec>(text: &[u8], fragment: &[u8], out: &mut [u8], told: &mut usize) -> u8
-    ensures { Answered (fragment_in text.now fragment.now S.tests) out.old out.new told.new result }
-{
-    let view = match RiReferenceStr::<S>::try_from_bytes(text) {
-        Ok(view) => view,
-        Err(error) => return answer_fault(BAD_TEXT, error.kind(), told),
-    };
-    match RiFragmentStr::<S>::try_from_bytes(fragment) {
-        Ok(fragment) => {
-            let prefix = before_fragment(view);
-            let fragment = fragment.as_str();
-            answer_text(out, &Fragmented { prefix, fragment }, told)
-        }
-        Err(error) => answer_fault(BAD_PART, error.kind(), told),
-    }
+    edits::irikit_remove_fragment(grammar, text, out, told)
 }
 
 /// A reference with a fragment in place of its own, or after one that has none.
@@ -189,9 +71,47 @@ pub extern "C" fn irikit_set_fragment(
 ) -> u8
     ensures { Answered (fragment_outcome grammar text.now fragment.now) out.old out.new told.new result }
 {
-    match grammar {
-        URI => set_fragment_in::<UriSpec>(text, fragment, out, told),
-        IRI => set_fragment_in::<IriSpec>(text, fragment, out, told),
-        _ => answer(UNKNOWN, told),
-    }
+    edits::irikit_set_fragment(grammar, text, fragment, out, told)
+}
+
+/// A reference with another host in place of its own.
+#[unsafe(no_mangle)]
+pub extern "C" fn irikit_replace_host(
+    grammar: u32,
+    text: &[u8],
+    host: &[u8],
+    out: &mut [u8],
+    told: &mut usize,
+) -> u8
+    ensures { Answered (host_outcome grammar false text.now host.now) out.old out.new told.new result }
+{
+    hosts::irikit_replace_host(grammar, text, host, out, told)
+}
+
+/// The same where the host is a registered name.
+#[unsafe(no_mangle)]
+pub extern "C" fn irikit_replace_reg_name(
+    grammar: u32,
+    text: &[u8],
+    host: &[u8],
+    out: &mut [u8],
+    told: &mut usize,
+) -> u8
+    ensures { Answered (host_outcome grammar true text.now host.now) out.old out.new told.new result }
+{
+    hosts::irikit_replace_reg_name(grammar, text, host, out, told)
+}
+
+/// A text built from its parts.
+#[unsafe(no_mangle)]
+pub extern "C" fn irikit_build(
+    grammar: u32,
+    kind: u32,
+    parts: &[Part<'_>],
+    out: &mut [u8],
+    told: &mut usize,
+) -> u8
+    ensures { Answered (built_outcome grammar kind parts.now) out.old out.new told.new result }
+{
+    building::irikit_build(grammar, kind, parts, out, told)
 }

@@ -1,19 +1,12 @@
 // The version of the library that runs.
-ghost use Rattle.std.specs.Prelude.{◌≡◌, ◌+◌, ◌*◌};
+ghost use Rattle.std.specs.Prelude.{◌*◌, ◌+◌, ◌≡◌};
 
-/// The number before the first dot of the version.
-const MAJOR: u32 = 0;
-
-/// That between its dots.
-const MINOR: u32 = 2;
-
-/// That after its last dot.
-const PATCH: u32 = 0;
+use iri_calls::version::{self, MAJOR, MINOR, PATCH};
 
 /// The version as one number, in which each of its three has two digits.
 #[unsafe(no_mangle)]
 pub extern "C" fn irikit_version() -> u32
     ensures { result ≡ 10000 * MAJOR + 100 * MINOR + PATCH }
 {
-    10_000 * MAJOR + 100 * MINOR + PATCH
+    version::irikit_version()
 }

@@ -1,5 +1,0 @@
-use Rattle.iri_c.proofs.DecodingLemmas.{decoding-short}
-use Rattle.iri_c.proofs.laws.decoded_bytes_are_few.Goals as goal
-
-pub returns : goal.returns
-returns c = decoding-short

@@ -1,0 +1,66 @@
+// Calls on references against a base, one or many.
+ghost use Rattle.iri_calls.specs.Lines.{Batched};
+ghost use Rattle.iri_calls.specs.Outcome.{Answered};
+ghost use Rattle.iri_calls.specs.Outcomes.{canonical_outcome};
+ghost use Rattle.iri_calls.specs.Resolutions.{resolved_outcome, target_outcome};
+
+use iri_calls::{canonical, lines, resolve, target};
+
+/// The canonical text of a reference against a base.
+#[unsafe(no_mangle)]
+pub extern "C" fn irikit_canonical(
+    grammar: u32,
+    mode: u32,
+    base: &[u8],
+    reference: &[u8],
+    out: &mut [u8],
+    told: &mut usize,
+) -> u8
+    ensures { Answered (canonical_outcome grammar mode base.now reference.now) out.old out.new told.new result }
+{
+    canonical::irikit_canonical(grammar, mode, base, reference, out, told)
+}
+
+/// A reference resolved against a base.
+#[unsafe(no_mangle)]
+pub extern "C" fn irikit_resolve(
+    grammar: u32,
+    base: &[u8],
+    reference: &[u8],
+    out: &mut [u8],
+    told: &mut usize,
+) -> u8
+    ensures { Answered (resolved_outcome grammar base.now reference.now) out.old out.new told.new result }
+{
+    resolve::irikit_resolve(grammar, base, reference, out, told)
+}
+
+/// The target of a reference against a base, with its dot segments.
+#[unsafe(no_mangle)]
+pub extern "C" fn irikit_target(
+    grammar: u32,
+    base: &[u8],
+    reference: &[u8],
+    out: &mut [u8],
+    told: &mut usize,
+) -> u8
+    ensures { Answered (target_outcome grammar base.now reference.now) out.old out.new told.new result }
+{
+    target::irikit_target(grammar, base, reference, out, told)
+}
+
+/// The answers to the lines of a text, as `irikit canon` writes them.
+#[unsafe(no_mangle)]
+pub extern "C" fn irikit_canonical_lines(
+    grammar: u32,
+    mode: u32,
+    base: &[u8],
+    lines: &[u8],
+    out: &mut [u8],
+    consumed: &mut usize,
+    told: &mut usize,
+) -> u8
+    ensures { Batched grammar mode base.now lines.now out.old out.new consumed.new told.new result }
+{
+    lines::irikit_canonical_lines(grammar, mode, base, lines, out, consumed, told)
+}

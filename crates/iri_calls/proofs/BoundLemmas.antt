@@ -1,0 +1,163 @@
+-- How many bytes a text has at most that a call writes.
+use Rattle.std.proofs.Common.{◌≡◌, ◌≤◌, ◌+◌, ◌*◌, ℕ, Bool, true, false, cond, nat_eq, nat_lt, List, [], ◌∷◌, ◌++◌, Option, Some, None}
+use Rattle.std.proofs.Common.{length, max, refl, ap, arith, length-append}
+use Rattle.std.specs.Char.{encode_utf8}
+use Rattle.std.specs.List.{flat_map}
+use Rattle.std.specs.Prelude.{◌==◌, if◌then◌else◌}
+use Rattle.std.specs.Str.{IsUtf8, is_utf8, chars, encode_utf8_all}
+use Rattle.std.proofs.lemmas.Str.{IsUtf8-from_is_utf8, encodes-chars}
+use Rattle.iri_grammar.specs.Classes.{Tests, IsSpec, uri_tests, iri_tests}
+use Rattle.iri_grammar.specs.ErrorTexts.{description}
+use Rattle.iri_grammar.specs.Fault.{bytes_fault}
+use Rattle.iri_grammar.specs.Split.{split_of}
+use Rattle.iri_grammar.specs.WholeFault.{reference_fault, iri_fault, absolute_fault, missing_scheme_fault}
+use Rattle.iri_grammar.specs.declared.error.ErrorKind.{ErrorKind}
+use Rattle.iri_grammar.specs.declared.error.ErrorKind.TheVariants.{InvalidScheme, InvalidUserInfo, InvalidHost, InvalidRegName}
+use Rattle.iri_grammar.specs.declared.error.ErrorKind.TheVariants.{InvalidPort, InvalidPath, InvalidQuery, InvalidFragment}
+use Rattle.iri_grammar.specs.declared.error.ErrorKind.TheVariants.{UnexpectedFragment, UnexpectedRelative, InvalidUtf8}
+use Rattle.iri_grammar.specs.inside.Laws.{uri_is_spec, iri_is_spec}
+use Rattle.iri_grammar.proofs.FaultLaws.{absolute-law, reference-law, neither, splits_where_no_fault}
+use Rattle.iri_grammar.proofs.SplitLaws.{recompose_split}
+use Rattle.iri_text.specs.LineEnds.{carriage_return}
+use Rattle.iri_text.specs.Lines.{no_cr}
+use Rattle.iri_percent.specs.Encoding.{encoded, encoded_char, keeps}
+use Rattle.iri_percent.specs.Mapping.{mapped, triplet, triplets}
+use Rattle.iri_percent.specs.declared.canon_mode.CanonMode.{CanonMode}
+use Rattle.iri_percent.specs.declared.context.Context.{Context}
+use Rattle.iri_normal.specs.Answers.{answer_by, answer_in}
+use Rattle.iri_normal.specs.NormalForm.{canonical_in}
+use Rattle.iri_normal.specs.Normalized.{written_text}
+use Rattle.iri_normal.specs.Target.{target, takes_base_path}
+use Rattle.iri_normal.specs.declared.mode.Mode.{Mode}
+use Rattle.iri_normal.proofs.CanonLemmas.{fault_none}
+use Rattle.iri_normal.proofs.LengthLaws.{length-canonical_in, length-form, length-plain_form, length-target}
+use Rattle.iri_calls.specs.Bounds.{HasAtMost}
+use Rattle.iri_calls.specs.Encodings.{encoded_for, no_fault}
+use Rattle.iri_calls.specs.Lines.{line_answer}
+use Rattle.iri_calls.specs.Numbers.{grammar_of}
+use Rattle.iri_calls.specs.Outcome.{Outcome}
+use Rattle.iri_calls.specs.Outcomes.{in_grammar, in_mode, unless_fault}
+use Rattle.iri_calls.specs.Resolutions.{in_form, resolved, target_text}
+use Rattle.iri_calls.specs.declared.grammar.TheConstants.{URI, IRI}
+
+-- ---- whatever a call's numbers are, and where nothing is refused
+pub in_each_grammar : (most grammar : ℕ) (f : Tests → Outcome) → ((s : Tests) → IsSpec s → HasAtMost most (f s))
+    → HasAtMost most (in_grammar (grammar_of grammar) f)
+in_each_grammar most grammar f h =
+    elim (nat_eq grammar URI) as (λ b. HasAtMost most (in_grammar (cond b (Some uri_tests) (cond (nat_eq grammar IRI) (Some iri_tests) None)) f)) [
+      | true ↦ h uri_tests uri_is_spec
+      | false ↦ elim (nat_eq grammar IRI) as (λ b. HasAtMost most (in_grammar (cond b (Some iri_tests) None) f))
+          [ true ↦ h iri_tests iri_is_spec | false ↦ tt ]
+    ]
+
+pub in_each_mode : (most : ℕ) (o : Option CanonMode) (f : CanonMode → Outcome) → ((m : CanonMode) → HasAtMost most (f m))
+    → HasAtMost most (in_mode o f)
+in_each_mode most None f h = tt
+in_each_mode most (Some m) f h = h m
+
+pub in_each_form : (most : ℕ) (o : Option Mode) (f : Mode → Outcome) → ((m : Mode) → HasAtMost most (f m)) → HasAtMost most (in_form o f)
+in_each_form most None f h = tt
+in_each_form most (Some m) f h = h m
+
+pub where_valid : (most whose : ℕ) (o : Option ErrorKind) (next : Outcome) → (o ≡ None → HasAtMost most next)
+    → HasAtMost most (unless_fault whose o next)
+where_valid most whose None next h = h refl
+where_valid most whose (Some kind) next h = tt
+
+-- ---- normal forms, targets and canonical texts
+pub short_form : (s : Tests) (mode : Mode) (t : List ℕ) → IsSpec s → bytes_fault (iri_fault s) t ≡ None
+    → length (written_text s (record { parts = split_of t; whole = false; mode = mode })) ≤ length t + 3
+short_form s mode t k none =
+    let valid : reference_fault s t ≡ None =
+    (neither (missing_scheme_fault t) (reference_fault s t) (fault_none (iri_fault s) t none)).1 in
+    omega (arith, length-form s mode false (split_of t) k (splits_where_no_fault s t valid).fits, ap length (recompose_split t))
+
+pub short_target : (base reference : List ℕ) → length (target_text base reference) ≤ length base + length reference + 1
+short_target base reference =
+    omega (
+      arith,
+      length-target (split_of base) (split_of reference),
+      ap length (recompose_split base),
+      ap length (recompose_split reference),
+    )
+
+pub short_resolved : (s : Tests) (base reference : List ℕ) → length (resolved s base reference) ≤ length base + length reference + 3
+short_resolved s base reference =
+    let t = target (split_of base) (split_of reference) in
+    omega (arith, length-plain_form s (takes_base_path (split_of reference)) t, short_target base reference)
+
+pub short_canonical : (s : Tests) (m : CanonMode) (base reference : List ℕ) → IsSpec s → bytes_fault (absolute_fault s) base ≡ None
+    → bytes_fault (reference_fault s) reference ≡ None → length (canonical_in s m base reference) ≤ length base + length reference + 3
+short_canonical s m base reference k b r =
+    length-canonical_in s m base reference k ((absolute-law s k base).0 (fault_none (absolute_fault s) base b))
+    ((reference-law s k reference).0 (fault_none (reference_fault s) reference r))
+
+-- ---- encoded texts
+short_triplets : (xs : List ℕ) → length (triplets xs) ≡ 3 * length xs
+short_triplets [] = refl
+short_triplets (x ∷ xs) = omega (arith, short_triplets xs)
+
+pub short_mapped : (t : List ℕ) → length (mapped t) ≤ 3 * length t
+short_mapped [] = omega arith
+short_mapped (x ∷ xs) =
+    let l = short_mapped xs in
+    elim (nat_lt x 128) as (λ b. length (cond b (x ∷ []) (triplet x) ++ mapped xs) ≤ 3 * length (x ∷ xs))
+    [ true ↦ omega arith | false ↦ omega arith ]
+
+short_characters : (kept : ℕ → Bool) (cs : List ℕ) → length (flat_map (encoded_char kept) cs) ≤ 3 * length (encode_utf8_all cs)
+short_characters kept [] = omega arith
+short_characters kept (c ∷ cs) =
+    let l = short_characters kept cs in
+    let whole = length-append (encode_utf8 c) (encode_utf8_all cs) in
+    elim (kept c) as (λ b. length (cond b (encode_utf8 c) (triplets (encode_utf8 c)) ++ flat_map (encoded_char kept) cs)
+    ≤ 3 * length (encode_utf8_all (c ∷ cs))) [
+      | true ↦ omega (arith, length-append (encode_utf8 c) (flat_map (encoded_char kept) cs))
+      | false ↦ omega (arith, short_triplets (encode_utf8 c), length-append (triplets (encode_utf8 c)) (flat_map (encoded_char kept) cs))
+    ]
+
+short_encoded : (kept : ℕ → Bool) (t : List ℕ) → IsUtf8 t → length (encoded kept t) ≤ 3 * length t
+unfolding encoded
+short_encoded kept t u = omega (arith, short_characters kept (chars t), ap length (encodes-chars t u))
+
+is_valid : (b : Bool) (o : Option ErrorKind) → cond b o (Some InvalidUtf8) ≡ None → b ≡ true
+is_valid true o e = refl
+is_valid false o e = cc
+
+pub short_encoding : (s : Tests) (o : Option Context) (t : List ℕ) → bytes_fault no_fault t ≡ None
+    → HasAtMost (3 * length t) (encoded_for o t s)
+short_encoding s None t e = tt
+short_encoding s (Some place) t e =
+    short_encoded (keeps s place) t (IsUtf8-from_is_utf8 t (is_valid (is_utf8 t) None e))
+
+-- ---- the answer of a line
+short_line : (raw : List ℕ) → length (no_cr raw) ≤ length raw
+short_line [] = omega arith
+short_line (b ∷ []) =
+    elim (b == carriage_return) as (λ c. length (if c then [] else b ∷ []) ≤ length (b ∷ [])) [ true ↦ omega arith | false ↦ omega arith ]
+short_line (b ∷ c ∷ bs) = let l = short_line (c ∷ bs) in omega arith
+
+short_words : (kind : ErrorKind) → length (description kind) ≤ 59
+short_words InvalidScheme = omega arith
+short_words InvalidUserInfo = omega arith
+short_words InvalidHost = omega arith
+short_words InvalidRegName = omega arith
+short_words InvalidPort = omega arith
+short_words InvalidPath = omega arith
+short_words InvalidQuery = omega arith
+short_words InvalidFragment = omega arith
+short_words UnexpectedFragment = omega arith
+short_words UnexpectedRelative = omega arith
+short_words InvalidUtf8 = omega arith
+
+short_answer_by : (o : Option ErrorKind) (t : List ℕ) (n : ℕ) → (o ≡ None → length t ≤ n + 3) → length (answer_by o t) ≤ max (n + 7) 64
+short_answer_by None t n h = omega (arith, h refl, length-append t (10 ∷ []))
+short_answer_by (Some kind) t n h = omega (arith, short_words kind, length-append (description kind) (10 ∷ []))
+
+pub short_answer : (s : Tests) (m : CanonMode) (base line : List ℕ) → IsSpec s → bytes_fault (absolute_fault s) base ≡ None
+    → length (line_answer s m base line) ≤ max (length base + length line + 7) 64
+unfolding answer_in
+short_answer s m base line k b =
+    let l = short_line line in
+    let answer = short_answer_by (bytes_fault (reference_fault s) (no_cr line)) (canonical_in s m base (no_cr line))
+    (length base + length (no_cr line)) (short_canonical s m base (no_cr line) k b) in
+    omega arith

@@ -1,0 +1,42 @@
+-- What edits come to where the text is a reference.
+use Rattle.std.proofs.Common.{◌≡◌, ℕ, List, ◌++◌, ◌∷◌, None, Some, sym, ◌∙◌, ap}
+use Rattle.iri_edit.specs.Fragment.{with_fragment}
+use Rattle.iri_edit.specs.Password.{with_password}
+use Rattle.iri_edit.proofs.FragmentLemmas.{fragment-removed, fragment-put}
+use Rattle.iri_grammar.specs.Classes.{Tests, IsSpec}
+use Rattle.iri_grammar.specs.Cut.{before}
+use Rattle.iri_grammar.specs.Fault.{bytes_fault, fragment_fault}
+use Rattle.iri_grammar.specs.WholeFault.{reference_fault}
+use Rattle.iri_grammar.specs.declared.error.ErrorKind.{ErrorKind}
+use Rattle.iri_normal.proofs.CanonLemmas.{fault_none}
+use Rattle.iri_calls.specs.Edits.{of_reference, cut_in, fragment_in, password_in}
+use Rattle.iri_calls.specs.Encodings.{no_fault}
+use Rattle.iri_calls.specs.Numbers.{bad_text, bad_part}
+use Rattle.iri_calls.specs.Outcome.{Outcome}
+use Rattle.iri_calls.specs.Outcome.Outcome.{text, fault}
+use Rattle.iri_calls.specs.Outcomes.{unless_fault}
+
+module _ (s : Tests) (k : IsSpec s) (t : List ℕ) (none : bytes_fault (reference_fault s) t ≡ None) where
+  is_reference : (next : Outcome) → next ≡ of_reference t s next
+  is_reference next = ap (λ o. unless_fault bad_text o next) (sym none)
+
+  pub password_text : (v w : List ℕ) → v ≡ t → bytes_fault no_fault w ≡ None → text (with_password v w) ≡ password_in t w s
+  password_text v w e free =
+      ap (λ x. text (with_password x w)) e ∙ ap (λ o. unless_fault bad_part o (text (with_password t w))) (sym free)
+      ∙ is_reference (unless_fault bad_part (bytes_fault no_fault w) (text (with_password t w)))
+
+  pub password_refused : (w : List ℕ) (kind : ErrorKind) → bytes_fault no_fault w ≡ Some kind → fault bad_part kind ≡ password_in t w s
+  password_refused w kind e =
+      ap (λ o. unless_fault bad_part o (text (with_password t w))) (sym e)
+      ∙ is_reference (unless_fault bad_part (bytes_fault no_fault w) (text (with_password t w)))
+
+  pub cut_text : (x : List ℕ) → x ≡ before 35 t → text x ≡ cut_in t s
+  cut_text x e =
+      ap text (e ∙ sym (fragment-removed s k t (fault_none (reference_fault s) t none)))
+      ∙ is_reference (text (with_fragment t None))
+
+  pub fragment_text : (x f : List ℕ) → x ≡ before 35 t → bytes_fault (fragment_fault s) f ≡ None → text (x ++ 35 ∷ f) ≡ fragment_in t f s
+  fragment_text x f e free =
+      ap text (ap (λ y. y ++ 35 ∷ f) e ∙ sym (fragment-put s k t (fault_none (reference_fault s) t none) f))
+      ∙ ap (λ o. unless_fault bad_part o (text (with_fragment t (Some f)))) (sym free)
+      ∙ is_reference (unless_fault bad_part (bytes_fault (fragment_fault s) f) (text (with_fragment t (Some f))))

@@ -1,0 +1,331 @@
+-- The part that is told of a fault isn't what the fault asks.
+use Rattle.std.proofs.Common.{◌≡◌, ◌≤◌, ◌+◌, ◌-◌, ◌∙◌, ◌⊎◌, ℕ, zero, suc, Bool, true, false, cond, not, ◌&&◌, ◌||◌, List, [], ◌∷◌, ◌++◌}
+use Rattle.std.proofs.Common.{Option, Some, None, inl, inr, is_some, length, take, drop, refl, sym, ap, subst, arith, append_assoc, append-nil, length-append, if◌then◌else◌}
+use Rattle.std.proofs.lemmas.List.{take-append-drop}
+use Rattle.std.specs.Str.{IsUtf8, is_utf8}
+use Rattle.std.specs.Str.Lossy.{utf8_valid_len, valid_len_up_to}
+use Rattle.std.proofs.lemmas.Bool.{false_from_ne_true}
+use Rattle.std.proofs.lemmas.Grind.{common_steps}
+use Rattle.std.proofs.lemmas.Str.{is_utf8-from_IsUtf8, IsUtf8-from_is_utf8, IsUtf8-append, IsUtf8-nil, utf8_valid_len_le}
+use Rattle.iri_grammar.specs.Authority.{authority_parts, recompose_authority, userinfo_text}
+use Rattle.iri_grammar.specs.Characters.{at_sign, colon, number_sign, question_mark, slash}
+use Rattle.iri_grammar.specs.Classes.{Tests}
+use Rattle.iri_grammar.specs.Components.{is_scheme, is_userinfo, is_path, is_query, is_fragment}
+use Rattle.iri_grammar.specs.Cut.{before, from, lacks, delimited}
+use Rattle.iri_grammar.specs.Fault.{bytes_fault, first, unless, part_fault, authority_fault, userinfo_fault, query_fault, fragment_fault, scheme_fault}
+use Rattle.iri_grammar.specs.Host.{is_host}
+use Rattle.iri_grammar.specs.Parts.{Parts, recompose, scheme_text, authority_text, path_rules, starts_with_slashes}
+use Rattle.iri_grammar.specs.WholeFault.{colon_allowed, fault_before_fragment, missing_scheme_fault, parts_fault}
+use Rattle.iri_grammar.specs.declared.error.ErrorKind.{ErrorKind}
+use Rattle.iri_grammar.specs.declared.error.ErrorKind.TheVariants.{InvalidScheme, InvalidUserInfo, InvalidHost, InvalidPath}
+use Rattle.iri_grammar.specs.declared.error.ErrorKind.TheVariants.{InvalidQuery, InvalidFragment, UnexpectedFragment, UnexpectedRelative, InvalidUtf8}
+use Rattle.iri_grammar.proofs.AuthorityLaws.{authority_recomposed}
+use Rattle.iri_grammar.proofs.CutLaws.{joined_from}
+use Rattle.iri_calls.specs.FaultParts.{IsFaulty, before_colon, faulty_slot, is_in_production, named_slot}
+use Rattle.iri_calls.specs.Slots.{bytes_at, place, slots_of, width, within_authority}
+use Rattle.iri_calls.specs.declared.parts.Slot.{Slot}
+use Rattle.iri_calls.proofs.SlotLemmas.{after-delimiter, of-scheme, of-authority, of-userinfo}
+
+-- ---- which part is faulty
+pub data Cause (s : Tests) (g : List ℕ → Option ErrorKind) (p : Parts) (kind : ErrorKind) : Type 0 where
+  userinfo : (a u : List ℕ) (there : p.authority ≡ Some a) (within : (authority_parts a).userinfo ≡ Some u)
+      (outside : is_userinfo s u ≡ false) (is : kind ≡ InvalidUserInfo) → Cause s g p kind
+  host : (a : List ℕ) (there : p.authority ≡ Some a) (outside : is_host s (authority_parts a).host ≡ false) (is : kind ≡ InvalidHost)
+      → Cause s g p kind
+  path : (outside : (is_path s p.path && colon_allowed p) ≡ false) (is : kind ≡ InvalidPath) → Cause s g p kind
+  query : (q : List ℕ) (there : p.query ≡ Some q) (outside : is_query s q ≡ false) (is : kind ≡ InvalidQuery) → Cause s g p kind
+  fragment : (f : List ℕ) (there : p.fragment ≡ Some f) (told : g f ≡ Some kind) → Cause s g p kind
+
+one_of : (a b : Option ErrorKind) (k : ErrorKind) → first a b ≡ Some k → (a ≡ Some k) ⊎ (b ≡ Some k)
+one_of None b k h = inr h
+one_of (Some e) b k h = inl h
+
+abbrev told-kind : Option ErrorKind → ErrorKind → ErrorKind
+told-kind None k = k
+told-kind (Some e) k = e
+
+failed : (b : Bool) (e k : ErrorKind) → unless b e ≡ Some k → (b ≡ false) × (k ≡ e)
+failed true e k h = cc
+failed false e k h = (refl, sym (ap (λ o. told-kind o e) h))
+
+in-part : (f : List ℕ → Option ErrorKind) (o : Option (List ℕ)) (k : ErrorKind) → part_fault f o ≡ Some k
+    → (x : List ℕ) × (o ≡ Some x) × (f x ≡ Some k)
+in-part f None k h = cc
+in-part f (Some x) k h = (x, refl, h)
+
+module _ (s : Tests) (g : List ℕ → Option ErrorKind) (p : Parts) (k : ErrorKind) where
+  in_authority : (a : List ℕ) → p.authority ≡ Some a → authority_fault s a ≡ Some k → Cause s g p k
+  in_authority a e h =
+      elim (one_of (part_fault (userinfo_fault s) (authority_parts a).userinfo) (unless (is_host s (authority_parts a).host) InvalidHost) k h) [
+        | inl of_userinfo ↦
+            let x = in-part (userinfo_fault s) (authority_parts a).userinfo k of_userinfo in
+            let f = failed (is_userinfo s x.0) InvalidUserInfo k x.2 in
+            userinfo a x.0 e x.1 f.0 f.1
+        | inr of_host ↦ let f = failed (is_host s (authority_parts a).host) InvalidHost k of_host in host a e f.0 f.1
+      ]
+
+  in_query : part_fault (query_fault s) p.query ≡ Some k → Cause s g p k
+  in_query h =
+      let x = in-part (query_fault s) p.query k h in
+      let f = failed (is_query s x.0) InvalidQuery k x.2 in
+      query x.0 x.1 f.0 f.1
+
+  past_authority : first (unless (is_path s p.path && colon_allowed p) InvalidPath) (part_fault (query_fault s) p.query) ≡ Some k → Cause s g p k
+  past_authority h =
+      elim (one_of (unless (is_path s p.path && colon_allowed p) InvalidPath) (part_fault (query_fault s) p.query) k h) [
+        | inl of_path ↦ let f = failed (is_path s p.path && colon_allowed p) InvalidPath k of_path in path f.0 f.1
+        | inr of_query ↦ in_query of_query
+      ]
+
+  before_fragment : fault_before_fragment s p ≡ Some k → Cause s g p k
+  unfolding fault_before_fragment
+  before_fragment h =
+      elim (one_of (part_fault (authority_fault s) p.authority)
+      (first (unless (is_path s p.path && colon_allowed p) InvalidPath) (part_fault (query_fault s) p.query)) k h) [
+        | inl of_authority ↦ let x = in-part (authority_fault s) p.authority k of_authority in in_authority x.0 x.1 x.2
+        | inr later ↦ past_authority later
+      ]
+
+  pub cause : parts_fault s g p ≡ Some k → Cause s g p k
+  unfolding parts_fault
+  cause h =
+      elim (one_of (fault_before_fragment s p) (part_fault g p.fragment) k h) [
+        | inl before ↦ before_fragment before
+        | inr of_fragment ↦ let x = in-part g p.fragment k of_fragment in fragment x.0 x.1 x.2
+      ]
+
+-- ---- where the parts stand
+-- these bytes stand in a slot
+record Holds (t : List ℕ) (slot : Slot) (x : List ℕ) : Type 0 where
+  bytes : bytes_at t slot ≡ x
+  within : slot.offset + slot.len ≤ length t
+
+holds : (t pre x post : List ℕ) (slot : Slot) → pre ++ (x ++ post) ≡ t → slot.offset ≡ length pre → slot.len ≡ length x → Holds t slot x
+holds t pre x post slot e o l =
+    let past : drop (length pre) (pre ++ (x ++ post)) ≡ x ++ post = grind (arith, common_steps) in
+    let front : take (length x) (x ++ post) ≡ x = grind (arith, common_steps) in
+    record {
+      bytes = ap (λ n. take slot.len (drop n t)) o ∙ ap (λ n. take n (drop (length pre) t)) l ∙ ap (λ u. take (length x) (drop (length pre) u)) (sym e)
+          ∙ ap (take (length x)) past ∙ front;
+      within = omega (arith, o, l, ap length e, length-append pre (x ++ post), length-append x post);
+    }
+
+module _ (t : List ℕ) (p : Parts) (whole : recompose p ≡ t) where
+  path_stands : Holds t (slots_of p).path p.path
+  unfolding recompose
+  path_stands =
+      let a = scheme_text p.scheme in
+      let b = authority_text p.authority in
+      let rest = delimited question_mark p.query ++ delimited number_sign p.fragment in
+      holds t (a ++ b) p.path rest (slots_of p).path (append_assoc a b (p.path ++ rest) ∙ whole)
+      (omega (arith, of-scheme p.scheme, of-authority p.authority, length-append a b)) refl
+
+  query_stands : (q : List ℕ) → p.query ≡ Some q → Holds t (slots_of p).query q
+  unfolding recompose
+  query_stands q e =
+      let a = scheme_text p.scheme in
+      let b = authority_text p.authority in
+      let f = delimited number_sign p.fragment in
+      let mark = question_mark ∷ [] in
+      let there : a ++ (b ++ (p.path ++ (mark ++ (q ++ f)))) ≡ t = ap (λ o. a ++ (b ++ (p.path ++ (delimited question_mark o ++ f)))) (sym e) ∙ whole in
+      subst (λ o. Holds t (place (width 1 p.scheme + width 2 p.authority + length p.path) 1 o) q) (sym e)
+      (holds t (a ++ (b ++ (p.path ++ mark))) q f
+      (record { offset = width 1 p.scheme + width 2 p.authority + length p.path + 1; len = length q })
+      (append_assoc a (b ++ (p.path ++ mark)) (q ++ f) ∙ ap (λ z. a ++ z) (append_assoc b (p.path ++ mark) (q ++ f)
+      ∙ ap (λ z. b ++ z) (append_assoc p.path mark (q ++ f))) ∙ there)
+      (omega (
+        arith,
+        of-scheme p.scheme,
+        of-authority p.authority,
+        length-append a (b ++ (p.path ++ mark)),
+        length-append b (p.path ++ mark),
+        length-append p.path mark,
+      )) refl)
+
+  fragment_stands : (f : List ℕ) → p.fragment ≡ Some f → Holds t (slots_of p).fragment f
+  unfolding recompose
+  fragment_stands f e =
+      let a = scheme_text p.scheme in
+      let b = authority_text p.authority in
+      let q = delimited question_mark p.query in
+      let mark = number_sign ∷ [] in
+      let there : a ++ (b ++ (p.path ++ (q ++ (mark ++ (f ++ []))))) ≡ t =
+      ap (λ z. a ++ (b ++ (p.path ++ (q ++ (number_sign ∷ z))))) (append-nil f)
+      ∙ ap (λ o. a ++ (b ++ (p.path ++ (q ++ delimited number_sign o)))) (sym e) ∙ whole in
+      subst (λ o. Holds t (place (width 1 p.scheme + width 2 p.authority + length p.path + width 1 p.query) 1 o) f) (sym e)
+      (holds t (a ++ (b ++ (p.path ++ (q ++ mark)))) f []
+      (record { offset = width 1 p.scheme + width 2 p.authority + length p.path + width 1 p.query + 1; len = length f })
+      (append_assoc a (b ++ (p.path ++ (q ++ mark))) (f ++ []) ∙ ap (λ z. a ++ z) (append_assoc b (p.path ++ (q ++ mark)) (f ++ [])
+      ∙ ap (λ z. b ++ z) (append_assoc p.path (q ++ mark) (f ++ []) ∙ ap (λ z. p.path ++ z) (append_assoc q mark (f ++ [])))) ∙ there)
+      (omega (
+        arith,
+        of-scheme p.scheme,
+        of-authority p.authority,
+        after-delimiter question_mark p.query,
+        length-append a (b ++ (p.path ++ (q ++ mark))),
+        length-append b (p.path ++ (q ++ mark)),
+        length-append p.path (q ++ mark),
+        length-append q mark,
+      )) refl)
+
+  -- an authority stands whole, and in it what stands there
+  authority_stands : (a pre x post : List ℕ) (slot : Slot) → p.authority ≡ Some a → pre ++ (x ++ post) ≡ a
+      → slot.offset ≡ width 1 p.scheme + 2 + length pre → slot.len ≡ length x → Holds t slot x
+  unfolding recompose
+  authority_stands a pre x post slot e within o l =
+      let sch = scheme_text p.scheme in
+      let slashes = slash ∷ slash ∷ [] in
+      let rest = p.path ++ (delimited question_mark p.query ++ delimited number_sign p.fragment) in
+      let there : sch ++ (slashes ++ (a ++ rest)) ≡ t = ap (λ z. sch ++ (authority_text z ++ rest)) (sym e) ∙ whole in
+      let inner : pre ++ (x ++ (post ++ rest)) ≡ a ++ rest =
+      ap (λ z. pre ++ z) (sym (append_assoc x post rest)) ∙ sym (append_assoc pre (x ++ post) rest) ∙ ap (λ z. z ++ rest) within in
+      holds t (sch ++ (slashes ++ pre)) x (post ++ rest) slot
+      (append_assoc sch (slashes ++ pre) (x ++ (post ++ rest)) ∙ ap (λ z. sch ++ (slashes ++ z)) inner ∙ there)
+      (omega (arith, o, of-scheme p.scheme, length-append sch (slashes ++ pre))) l
+
+  userinfo_stands : (a u : List ℕ) → p.authority ≡ Some a → (authority_parts a).userinfo ≡ Some u → Holds t (slots_of p).within.userinfo u
+  unfolding recompose_authority
+  userinfo_stands a u e is =
+      let parts = authority_parts a in
+      let later = parts.host ++ delimited colon parts.port in
+      let there : u ++ ((at_sign ∷ []) ++ later) ≡ a =
+      sym (append_assoc u (at_sign ∷ []) later) ∙ ap (λ o. userinfo_text o ++ later) (sym is) ∙ authority_recomposed a in
+      subst (λ o. Holds t (within_authority (width 1 p.scheme) o).userinfo u) (sym e)
+      (subst (λ o. Holds t (place (width 1 p.scheme + 2) 0 o) u) (sym is)
+      (authority_stands a [] u ((at_sign ∷ []) ++ later) (record { offset = width 1 p.scheme + 2 + 0; len = length u }) e there (omega arith) refl))
+
+  host_stands : (a : List ℕ) → p.authority ≡ Some a → Holds t (slots_of p).within.host (authority_parts a).host
+  unfolding recompose_authority
+  host_stands a e =
+      let parts = authority_parts a in
+      subst (λ o. Holds t (within_authority (width 1 p.scheme) o).host parts.host) (sym e)
+      (authority_stands a (userinfo_text parts.userinfo) parts.host (delimited colon parts.port)
+      (record { offset = width 1 p.scheme + 2 + width 1 parts.userinfo + 0; len = length parts.host }) e (authority_recomposed a)
+      (omega (arith, of-userinfo parts.userinfo)) refl)
+
+-- ---- what isn't UTF-8
+longer : (t : List ℕ) (n m : ℕ) (b : Bool) → is_utf8 (take n t) ≡ b → IsUtf8 (take m t) → IsUtf8 (take (if b then n else m) t)
+longer t n m true e h = IsUtf8-from_is_utf8 (take n t) e
+longer t n m false e h = h
+
+front : (t : List ℕ) (n : ℕ) → IsUtf8 (take (valid_len_up_to t n) t)
+front t zero = IsUtf8-nil
+front t (suc n) = longer t (suc n) (valid_len_up_to t n) (is_utf8 (take (suc n) t)) refl (front t n)
+
+abbrev past : List ℕ → Slot
+past t = record { offset = utf8_valid_len t; len = length t - utf8_valid_len t }
+
+not_utf8 : (s : Tests) (t : List ℕ) (p : Parts) → is_utf8 t ≡ false → IsFaulty s InvalidUtf8 t p (past t)
+unfolding utf8_valid_len
+not_utf8 s t p e =
+    let v = utf8_valid_len t in
+    let all : take (length t - v) (drop v t) ≡ drop v t = grind (arith, common_steps) in
+    let both : take v t ++ drop v t ≡ t = take-append-drop v t in
+    record {
+      within = omega (arith, utf8_valid_len_le t);
+      faulty = ap is_utf8 all ∙ false_from_ne_true (is_utf8 (drop v t)) (λ h.
+          let is : is_utf8 t ≡ true = is_utf8-from_IsUtf8 t (subst IsUtf8 both
+          (IsUtf8-append (take v t) (drop v t) (front t (length t)) (IsUtf8-from_is_utf8 (drop v t) h))) in
+          let clash : true ≡ false = sym is ∙ e in cc);
+    }
+
+-- ---- the part of the first fault
+and-false : (b : Bool) → (b && false) ≡ false
+and-false true = refl
+and-false false = refl
+
+rules-broken : (o a : Option (List ℕ)) (b : Bool) (x : List ℕ) → (b && (is_some o || is_some a || lacks colon (before slash x))) ≡ false
+    → (b && path_rules o a x) ≡ false
+rules-broken o a false x h = refl
+rules-broken (Some z) a true x h = cc
+rules-broken None (Some z) true x h = cc
+rules-broken None None true x h =
+    subst (λ l. (not (starts_with_slashes x) && l) ≡ false) (sym h) (and-false (not (starts_with_slashes x)))
+
+module _ (s : Tests) (t : List ℕ) (p : Parts) (whole : recompose p ≡ t) where
+  faulty_at : (kind : ErrorKind) (slot : Slot) (x : List ℕ) → Holds t slot x → is_in_production s kind p x ≡ false → IsFaulty s kind t p slot
+  faulty_at kind slot x h e = record { within = h.within; faulty = ap (is_in_production s kind p) h.bytes ∙ e }
+
+  -- what a fault of a fragment is
+  OfFragment : ErrorKind → List ℕ → Type 0
+  OfFragment kind f = ((kind ≡ InvalidFragment) × (is_fragment s f ≡ false)) ⊎ (kind ≡ UnexpectedFragment)
+
+  of_cause : (g : List ℕ → Option ErrorKind) (kind : ErrorKind) → ((f : List ℕ) → g f ≡ Some kind → OfFragment kind f)
+      → Cause s g p kind → IsFaulty s kind t p (named_slot kind t (slots_of p))
+  unfolding OfFragment
+  of_cause g kind of_fragment (userinfo a u there within outside is) =
+      subst (λ k. IsFaulty s k t p (named_slot k t (slots_of p))) (sym is)
+      (faulty_at InvalidUserInfo (slots_of p).within.userinfo u (userinfo_stands t p whole a u there within) outside)
+  of_cause g kind of_fragment (host a there outside is) =
+      subst (λ k. IsFaulty s k t p (named_slot k t (slots_of p))) (sym is)
+      (faulty_at InvalidHost (slots_of p).within.host (authority_parts a).host (host_stands t p whole a there) outside)
+  of_cause g kind of_fragment (path outside is) =
+      subst (λ k. IsFaulty s k t p (named_slot k t (slots_of p))) (sym is)
+      (faulty_at InvalidPath (slots_of p).path p.path (path_stands t p whole)
+      (rules-broken p.scheme p.authority (is_path s p.path) p.path outside))
+  of_cause g kind of_fragment (query q there outside is) =
+      subst (λ k. IsFaulty s k t p (named_slot k t (slots_of p))) (sym is)
+      (faulty_at InvalidQuery (slots_of p).query q (query_stands t p whole q there) outside)
+  of_cause g kind of_fragment (fragment f there told) =
+      elim (of_fragment f told) [
+        | inl invalid ↦
+            subst (λ k. IsFaulty s k t p (named_slot k t (slots_of p))) (sym invalid.0)
+            (faulty_at InvalidFragment (slots_of p).fragment f (fragment_stands t p whole f there) invalid.1)
+        | inr unexpected ↦
+            subst (λ k. IsFaulty s k t p (named_slot k t (slots_of p))) (sym unexpected)
+            (faulty_at UnexpectedFragment (slots_of p).fragment f (fragment_stands t p whole f there) refl)
+      ]
+
+  pub of_parts : (kind : ErrorKind) → parts_fault s (fragment_fault s) p ≡ Some kind → IsFaulty s kind t p (named_slot kind t (slots_of p))
+  unfolding OfFragment
+  of_parts kind h =
+      of_cause (fragment_fault s) kind (λ f told. let x = failed (is_fragment s f) InvalidFragment kind told in inl (x.1, x.0))
+      (cause s (fragment_fault s) p kind h)
+
+  pub of_parts_without_fragment : (kind : ErrorKind) → parts_fault s (λ _. Some UnexpectedFragment) p ≡ Some kind
+      → IsFaulty s kind t p (named_slot kind t (slots_of p))
+  unfolding OfFragment
+  of_parts_without_fragment kind h =
+      of_cause (λ _. Some UnexpectedFragment) kind (λ f told. inr (sym (ap (λ o. told-kind o UnexpectedFragment) told)))
+      (cause s (λ _. Some UnexpectedFragment) p kind h)
+
+  -- where a scheme must stand
+  pub of_scheme : (kind : ErrorKind) → missing_scheme_fault t ≡ Some kind → IsFaulty s kind t p (named_slot kind t (slots_of p))
+  of_scheme kind h = at (lacks colon t) refl h
+    where
+      unexpected : Some UnexpectedRelative ≡ Some kind → IsFaulty s kind t p (named_slot kind t (slots_of p))
+      unexpected e =
+          subst (λ k. IsFaulty s k t p (named_slot k t (slots_of p))) (ap (λ o. told-kind o kind) e)
+          (record { within = omega arith; faulty = refl })
+
+      invalid : lacks colon t ≡ false → scheme_fault (before colon t) ≡ Some kind → IsFaulty s kind t p (named_slot kind t (slots_of p))
+      invalid l e =
+          let f = failed (is_scheme (before colon t)) InvalidScheme kind e in
+          let x = before colon t in
+          let there : before_colon t ≡ Some x = rw l refl in
+          subst (λ k. IsFaulty s k t p (named_slot k t (slots_of p))) (sym f.1)
+          (subst (λ o. IsFaulty s InvalidScheme t p (place 0 0 o)) (sym there)
+          (faulty_at InvalidScheme (record { offset = 0; len = length x }) x
+          (holds t [] x (from colon t) (record { offset = 0; len = length x }) (joined_from colon t) refl refl) f.0))
+
+      at : (b : Bool) → lacks colon t ≡ b → cond b (Some UnexpectedRelative) (scheme_fault (before colon t)) ≡ Some kind
+          → IsFaulty s kind t p (named_slot kind t (slots_of p))
+      at true l e = unexpected e
+      at false l e = invalid l e
+
+pub of_bytes : (s : Tests) (f : List ℕ → Option ErrorKind) (t : List ℕ) (p : Parts) (kind : ErrorKind)
+    → (f t ≡ Some kind → IsFaulty s kind t p (named_slot kind t (slots_of p))) → bytes_fault f t ≡ Some kind
+    → IsFaulty s kind t p (faulty_slot kind t p)
+of_bytes s f t p kind law h = at (is_utf8 t) refl h
+  where
+    at : (b : Bool) → is_utf8 t ≡ b → cond b (f t) (Some InvalidUtf8) ≡ Some kind
+        → IsFaulty s kind t p (cond b (named_slot kind t (slots_of p)) (past t))
+    at true e h = law h
+    at false e h = subst (λ k. IsFaulty s k t p (past t)) (ap (λ o. told-kind o kind) h) (not_utf8 s t p e)
+
+pub of_first : (s : Tests) (t : List ℕ) (p : Parts) (g : List ℕ → Option ErrorKind) (kind : ErrorKind) → recompose p ≡ t
+    → (parts_fault s g p ≡ Some kind → IsFaulty s kind t p (named_slot kind t (slots_of p)))
+    → first (missing_scheme_fault t) (parts_fault s g p) ≡ Some kind → IsFaulty s kind t p (named_slot kind t (slots_of p))
+of_first s t p g kind whole later h =
+    elim (one_of (missing_scheme_fault t) (parts_fault s g p) kind h)
+    [ inl missing ↦ of_scheme s t p whole kind missing | inr of_parts ↦ later of_parts ]

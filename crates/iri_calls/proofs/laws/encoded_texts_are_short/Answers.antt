@@ -1,0 +1,10 @@
+use Rattle.std.proofs.Common.{◌*◌, length}
+use Rattle.iri_grammar.specs.Fault.{bytes_fault}
+use Rattle.iri_calls.proofs.BoundLemmas.{in_each_grammar, short_encoding, where_valid}
+use Rattle.iri_calls.specs.Encodings.{encoded_as, encoded_by, no_fault, place_numbered}
+use Rattle.iri_calls.specs.Numbers.{bad_text}
+use Rattle.iri_calls.proofs.laws.encoded_texts_are_short.Goals as goal
+
+pub returns : goal.returns
+returns c = λ grammar place t. where_valid (3 * length t) bad_text (bytes_fault no_fault t) (encoded_by grammar place t)
+    (λ e. in_each_grammar (3 * length t) grammar (encoded_as place t) (λ s k. short_encoding s (place_numbered place) t e))

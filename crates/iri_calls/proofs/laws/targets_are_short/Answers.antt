@@ -1,0 +1,18 @@
+use Rattle.std.proofs.Common.{◌+◌, length}
+use Rattle.iri_grammar.specs.Fault.{bytes_fault}
+use Rattle.iri_grammar.specs.WholeFault.{absolute_fault, reference_fault}
+use Rattle.iri_calls.proofs.BoundLemmas.{in_each_grammar, short_target, where_valid}
+use Rattle.iri_calls.specs.Numbers.{bad_base, bad_reference}
+use Rattle.iri_calls.specs.Outcome.Outcome.{text}
+use Rattle.iri_calls.specs.Outcomes.{unless_fault}
+use Rattle.iri_calls.specs.Resolutions.{target_text, target_in}
+use Rattle.iri_calls.proofs.laws.targets_are_short.Goals as goal
+
+pub returns : goal.returns
+returns c = λ grammar base reference.
+    let most = length base + length reference + 1 in
+    in_each_grammar most grammar (target_in base reference) (λ s k.
+    let next = text (target_text base reference) in
+    let of_reference = bytes_fault (reference_fault s) reference in
+    where_valid most bad_base (bytes_fault (absolute_fault s) base) (unless_fault bad_reference of_reference next)
+    (λ b. where_valid most bad_reference of_reference next (λ r. short_target base reference)))

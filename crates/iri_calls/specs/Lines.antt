@@ -1,0 +1,66 @@
+-- The lines of a text, and the answers to as many of them as have room together.
+use Rattle.std.specs.Prelude.{◌≡◌, ◌+◌, ◌-◌, ℕ, cond, nat_lt, ◌==◌, length, List, [], ◌∷◌, ◌++◌, Option, Some, None}
+use Rattle.std.specs.List.{flat_map}
+use Rattle.iri_grammar.specs.Classes.{Tests}
+use Rattle.iri_grammar.specs.Fault.{bytes_fault}
+use Rattle.iri_grammar.specs.WholeFault.{absolute_fault}
+use Rattle.iri_grammar.specs.declared.error.ErrorKind.{ErrorKind}
+use Rattle.iri_text.specs.LineEnds.{line_feed}
+use Rattle.iri_text.specs.Lines.{no_cr}
+use Rattle.iri_percent.specs.declared.canon_mode.CanonMode.{CanonMode}
+use Rattle.iri_normal.specs.Answers.{answer_in}
+use Rattle.iri_calls.specs.Buffers.{over}
+use Rattle.iri_calls.specs.Numbers.{ok, short, bad_base, unknown, grammar_of, mode_numbered}
+use Rattle.iri_calls.specs.Outcome.{Told}
+use Rattle.iri_calls.specs.Outcome.Outcome.{fault, plain}
+use Rattle.iri_calls.specs.declared.lines.Batch.{Batch}
+
+-- the lines that an LF ends, without it, where the first of them begins with the bytes of `prefix`
+unfoldable pub ended_from : List ℕ → List ℕ → List (List ℕ)
+ended_from prefix [] = []
+ended_from prefix (b ∷ bs) = cond (b == line_feed) (prefix ∷ ended_from [] bs) (ended_from (prefix ++ b ∷ []) bs)
+
+-- the lines of a text that an LF ends
+abbrev pub ended : List ℕ → List (List ℕ)
+ended bytes = ended_from [] bytes
+
+-- the answer to a line as it stands: a CR before its LF isn't part of it
+abbrev pub line_answer : Tests → CanonMode → List ℕ → List ℕ → List ℕ
+line_answer s mode base raw = answer_in s mode base (no_cr raw)
+
+-- so many bytes more were consumed and written before
+abbrev pub later : ℕ → ℕ → Batch → Batch
+later consumed written b = record { consumed = consumed + b.consumed; written = written + b.written; status = b.status }
+
+-- the lines whose answers have room together, from the first on: how many bytes they and their LFs have, and their answers
+unfoldable pub batch : (List ℕ → List ℕ) → ℕ → List (List ℕ) → Batch
+batch answer room [] = record { consumed = 0; written = 0; status = ok }
+batch answer room (line ∷ lines) =
+    cond (nat_lt room (length (answer line))) (record { consumed = 0; written = 0; status = short })
+    (later (length line + 1) (length (answer line)) (batch answer (room - length (answer line)) lines))
+
+-- what was done is told
+abbrev pub BatchTold : Batch → ℕ → ℕ → ℕ → Type 0
+BatchTold b consumed told status = (consumed ≡ b.consumed) × (told ≡ b.written) × (status ≡ b.status)
+
+-- The answers to all lines stand over the start of the buffer, as far as there is room. Told is what of them stands whole.
+abbrev pub BatchedBy : Option ErrorKind → (List ℕ → List ℕ) → List ℕ → List ℕ → List ℕ → ℕ → ℕ → ℕ → Type 0
+BatchedBy None answer lines old new consumed told status =
+    (new ≡ over (flat_map answer (ended lines)) old) × BatchTold (batch answer (length old) (ended lines)) consumed told status
+BatchedBy (Some kind) answer lines old new consumed told status =
+    (new ≡ old) × (consumed ≡ 0) × Told (fault bad_base kind) told status
+
+abbrev pub BatchedIn : Tests → CanonMode → List ℕ → List ℕ → List ℕ → List ℕ → ℕ → ℕ → ℕ → Type 0
+BatchedIn s mode base lines old new consumed told status =
+    BatchedBy (bytes_fault (absolute_fault s) base) (line_answer s mode base) lines old new consumed told status
+
+abbrev pub BatchedOf : Option Tests → Option CanonMode → List ℕ → List ℕ → List ℕ → List ℕ → ℕ → ℕ → ℕ → Type 0
+BatchedOf (Some s) (Some mode) base lines old new consumed told status = BatchedIn s mode base lines old new consumed told status
+BatchedOf (Some s) None base lines old new consumed told status =
+    (new ≡ old) × (consumed ≡ 0) × Told (plain unknown) told status
+BatchedOf None mode base lines old new consumed told status =
+    (new ≡ old) × (consumed ≡ 0) × Told (plain unknown) told status
+
+abbrev pub Batched : ℕ → ℕ → List ℕ → List ℕ → List ℕ → List ℕ → ℕ → ℕ → ℕ → Type 0
+Batched grammar mode base lines old new consumed told status =
+    BatchedOf (grammar_of grammar) (mode_numbered mode) base lines old new consumed told status

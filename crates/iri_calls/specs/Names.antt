@@ -1,0 +1,35 @@
+-- Where the variables of a template stand, in bytes.
+use Rattle.std.specs.Prelude.{◌≡◌, ℕ, cond, nat_lt, List, length, map, Option, Some, None}
+use Rattle.iri_template.specs.Fault.{template_fault}
+use Rattle.iri_template.specs.Places.{placed_names}
+use Rattle.iri_template.specs.Reading.{pieces_of}
+use Rattle.iri_template.specs.Template.{names_of}
+use Rattle.iri_template.specs.declared.error.Error.{Error}
+use Rattle.iri_calls.specs.Buffers.{over}
+use Rattle.iri_calls.specs.Numbers.{ok, short}
+use Rattle.iri_calls.specs.Slots.{bytes_at}
+use Rattle.iri_calls.specs.Templates.{Refused}
+use Rattle.iri_calls.specs.declared.parts.Slot.{Slot}
+
+-- a name at its place
+abbrev pub slot_of : ℕ × List ℕ → Slot
+slot_of p = record { offset = p.0; len = length p.1 }
+
+-- those of a template, from left to right, each as often as it stands there
+abbrev pub name_slots : List ℕ → List Slot
+name_slots t = map slot_of (placed_names 0 (pieces_of t))
+
+-- so many slots are told, and whether all have room
+abbrev pub NamesToldBy : Option Error → List ℕ → List Slot → List Slot → ℕ → ℕ → ℕ → Type 0
+NamesToldBy (Some e) t old new told place status = (new ≡ old) × Refused e told place status
+NamesToldBy None t old new told place status =
+    (new ≡ over (name_slots t) old) × (told ≡ length (name_slots t)) × (place ≡ 0)
+    × (status ≡ cond (nat_lt (length old) (length (name_slots t))) short ok)
+
+-- The slots of the names stand over the start of the caller's, as far as there is room; or the template is refused, and they stay.
+abbrev pub NamesTold : List ℕ → List Slot → List Slot → ℕ → ℕ → ℕ → Type 0
+NamesTold t old new told place status = NamesToldBy (template_fault t) t old new told place status
+
+-- in the slots of a template its names stand
+abbrev pub HoldsNames : List ℕ → Type 0
+HoldsNames t = map (bytes_at t) (name_slots t) ≡ names_of (pieces_of t)

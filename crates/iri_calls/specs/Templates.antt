@@ -1,0 +1,75 @@
+-- What an expansion comes to.
+use Rattle.std.specs.Prelude.{◌≡◌, ℕ, not, List, [], ◌∷◌, Option, Some, None, position, nat_eq}
+use Rattle.std.specs.List.{find}
+use Rattle.iri_grammar.specs.Classes.{Tests}
+use Rattle.iri_template.specs.ErrorTexts.{description}
+use Rattle.iri_template.specs.Expansion.{expansion}
+use Rattle.iri_template.specs.Fault.{template_fault, first}
+use Rattle.iri_template.specs.Reading.{pieces_of}
+use Rattle.iri_template.specs.TypeFaults.{type_fault}
+use Rattle.iri_template.specs.declared.error.Error.{Error}
+use Rattle.iri_template.specs.declared.error.ErrorKind.{ErrorKind}
+use Rattle.iri_template.specs.declared.error.ErrorKind.TheVariants.{ExpressionNotClosed, InvalidCharacter, InvalidExpression}
+use Rattle.iri_template.specs.declared.error.ErrorKind.TheVariants.{InvalidPercentEncoding, InvalidUtf8, UnexpectedValueType}
+use Rattle.iri_template.specs.declared.error.ErrorKind.TheVariants.{UnsupportedOperator, WriteFailed, Memory}
+use Rattle.iri_calls.specs.Numbers.{bad_text, bad_variable, unknown, grammar_of}
+use Rattle.iri_calls.specs.Outcome.{Outcome, Answered}
+use Rattle.iri_calls.specs.Outcome.Outcome.{text, plain}
+use Rattle.iri_calls.specs.Variables.{value_in, is_sound}
+use Rattle.iri_calls.specs.declared.template.TheConstants.{EXPRESSION_NOT_CLOSED, INVALID_CHARACTER, INVALID_EXPRESSION, INVALID_PERCENT_ENCODING}
+use Rattle.iri_calls.specs.declared.template.TheConstants.{INVALID_UTF8, UNEXPECTED_VALUE_TYPE, UNSUPPORTED_OPERATOR, WRITE_FAILED, MEMORY}
+use Rattle.iri_calls.specs.declared.variables.Variable.{Variable}
+
+-- the kinds of faults that are told; the last two of `template_fault_number` don't come where no text is written to a sink that
+-- stops and no memory is taken
+abbrev pub template_kinds : List ErrorKind
+template_kinds =
+    ExpressionNotClosed ∷ InvalidCharacter ∷ InvalidExpression ∷ InvalidPercentEncoding ∷ InvalidUtf8 ∷ UnexpectedValueType
+    ∷ UnsupportedOperator ∷ []
+
+abbrev pub template_fault_number : ErrorKind → ℕ
+template_fault_number ExpressionNotClosed = EXPRESSION_NOT_CLOSED
+template_fault_number InvalidCharacter = INVALID_CHARACTER
+template_fault_number InvalidExpression = INVALID_EXPRESSION
+template_fault_number InvalidPercentEncoding = INVALID_PERCENT_ENCODING
+template_fault_number InvalidUtf8 = INVALID_UTF8
+template_fault_number UnexpectedValueType = UNEXPECTED_VALUE_TYPE
+template_fault_number UnsupportedOperator = UNSUPPORTED_OPERATOR
+template_fault_number WriteFailed = WRITE_FAILED
+template_fault_number Memory = MEMORY
+
+-- the kind of fault that has this number
+abbrev pub template_fault_numbered : ℕ → Option ErrorKind
+template_fault_numbered n = find (λ kind. nat_eq n (template_fault_number kind)) template_kinds
+
+-- the words for the kind of this number
+abbrev pub words_of : Option ErrorKind → Outcome
+words_of None = plain unknown
+words_of (Some kind) = text (description kind)
+
+abbrev pub template_fault_words : ℕ → Outcome
+template_fault_words number = words_of (template_fault_numbered number)
+
+-- the kind of a fault and its place in bytes
+abbrev pub Refused : Error → ℕ → ℕ → ℕ → Type 0
+Refused e told place status = (told ≡ template_fault_number e.kind) × (place ≡ e.location) × (status ≡ bad_text)
+
+-- the first fault of the template; otherwise that of its values; otherwise the expansion
+abbrev pub ExpandedBy : Option Error → Tests → List ℕ → List Variable → List ℕ → List ℕ → ℕ → ℕ → ℕ → Type 0
+ExpandedBy (Some e) s t vs old new told place status = (new ≡ old) × Refused e told place status
+ExpandedBy None s t vs old new told place status =
+    (place ≡ 0) × Answered (text (expansion s (value_in vs) (pieces_of t))) old new told status
+
+abbrev pub ExpandedIn : Tests → List ℕ → List Variable → List ℕ → List ℕ → ℕ → ℕ → ℕ → Type 0
+ExpandedIn s t vs old new told place status =
+    ExpandedBy (first (template_fault t) (type_fault (value_in vs) (pieces_of t))) s t vs old new told place status
+
+abbrev pub ExpandedOf : Option ℕ → Option Tests → List ℕ → List Variable → List ℕ → List ℕ → ℕ → ℕ → ℕ → Type 0
+ExpandedOf (Some i) g t vs old new told place status = (place ≡ i) × Answered (plain bad_variable) old new told status
+ExpandedOf None None t vs old new told place status = (place ≡ 0) × Answered (plain unknown) old new told status
+ExpandedOf None (Some s) t vs old new told place status = ExpandedIn s t vs old new told place status
+
+-- a variable that isn't sound is told by its index, before all else
+abbrev pub Expanded : ℕ → List ℕ → List Variable → List ℕ → List ℕ → ℕ → ℕ → ℕ → Type 0
+Expanded grammar t vs old new told place status =
+    ExpandedOf (position (λ v. not (is_sound v)) vs) (grammar_of grammar) t vs old new told place status

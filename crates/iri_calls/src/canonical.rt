@@ -1,0 +1,80 @@
+// Canonical texts (RFC 3986 sections 5.2 and 6.2.2, RFC 3987 section 5.3.2).
+ghost use Rattle.iri_calls.specs.Outcome.{Answered};
+ghost use Rattle.iri_calls.specs.Outcomes.{canonical_as, canonical_outcome};
+
+use crate::buffer::answer_text;
+use crate::fault::{answer, answer_fault};
+use crate::grammar::{IRI, URI, mode_of};
+use crate::status::{BAD_BASE, BAD_REFERENCE, UNKNOWN};
+use iri_grammar::spec::{IriSpec, Spec, UriSpec};
+use iri_normal::canonical::show_canonical_in;
+use iri_normal::mode::CanonMode;
+use iri_normal::resolver::FixedBaseResolver;
+use iri_text::{Show, Stop, TextSink};
+use iri_types::kind::{Absolute, Reference};
+use iri_types::split::SplitView;
+
+// The canonical text of a reference against a base, by the rules of a mode.
+#[derive(Drop)]
+pub(crate) struct Canonical<'r, 'a, S: Spec> {
+    pub(crate) mode: CanonMode,
+    pub(crate) resolver: &'r FixedBaseResolver<'a, S>,
+    pub(crate) reference: &'r SplitView<'a, S, Reference>,
+}
+
+impl<S: Spec> Show for Canonical<'_, '_, S> {
+    ghost use Rattle.iri_normal.specs.NormalForm.{canonical_in};
+    ghost use Rattle.iri_normal.specs.Resolver.{base_text};
+    ghost use Rattle.iri_types.specs.SplitText.{split_text};
+
+    ghost text = { λ c. canonical_in S.tests c.mode (base_text c.resolver.now) (split_text c.reference.now) };
+
+    fn show<W: TextSink>(&self, sink: &mut W) -> Result<(), Stop> {
+        show_canonical_in(sink, self.mode, self.resolver, self.reference)
+    }
+}
+
+// The canonical text in one grammar.
+fn canonical_as<S: Spec>(
+    mode: CanonMode,
+    base: &[u8],
+    reference: &[u8],
+    out: &mut [u8],
+    told: &mut usize,
+) -> u8
+    ensures { Answered (canonical_as S.tests mode base.now reference.now) out.old out.new told.new result }
+{
+    let base = match SplitView::<S, Absolute>::absolute_from_bytes(base) {
+        Ok(base) => base,
+        Err(error) => return answer_fault(BAD_BASE, error.kind(), told),
+    };
+    match SplitView::<S, Reference>::try_from_bytes(reference) {
+        Ok(reference) => {
+            let canonical = Canonical {
+                mode,
+                resolver: &FixedBaseResolver::of_split(base),
+                reference: &reference,
+            };
+            answer_text(out, &canonical, told)
+        }
+        Err(error) => answer_fault(BAD_REFERENCE, error.kind(), told),
+    }
+}
+
+/// The canonical text of a reference against a base.
+pub fn irikit_canonical(
+    grammar: u32,
+    mode: u32,
+    base: &[u8],
+    reference: &[u8],
+    out: &mut [u8],
+    told: &mut usize,
+) -> u8
+    ensures { Answered (canonical_outcome grammar mode base.now reference.now) out.old out.new told.new result }
+{
+    match (grammar, mode_of(mode)) {
+        (URI, Some(mode)) => canonical_as::<UriSpec>(mode, base, reference, out, told),
+        (IRI, Some(mode)) => canonical_as::<IriSpec>(mode, base, reference, out, told),
+        _ => answer(UNKNOWN, told),
+    }
+}

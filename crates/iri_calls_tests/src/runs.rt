@@ -1,0 +1,49 @@
+// What runs over memory answer: commands, an input without lines, a buffer that is too short, and words that are no command.
+use iri_run_calls::irikit_run;
+
+#[test]
+fn runs(rt: HostRuntime) {
+    let mut out = [b'.'; 64];
+    let mut told = 9;
+    let input = b"http://a/b\n../c\n%\n";
+    let status = irikit_run(rt.alloc(), b"canon uri", input, &mut out, &mut told);
+    assert!(rt; status == 1 && told == 31);
+    assert!(rt; out.starts_with(b"ok http://a/c\nbad invalid path\n..."));
+    let status = irikit_run(
+        rt.alloc(),
+        b"canon uri scheme",
+        b"http://a:80\n\n",
+        &mut out,
+        &mut told,
+    );
+    assert!(rt; status == 0 && told == 13 && out.starts_with(b"ok http://a/\n\nbad"));
+    let status = irikit_run(rt.alloc(), b"canon uri", b"", &mut out, &mut told);
+    assert!(rt; status == 3);
+}
+
+#[test]
+fn rooms(rt: HostRuntime) {
+    let mut told = 9;
+    let input = b"http://a/b\n../c\n../d\n";
+    let status = irikit_run(rt.alloc(), b"canon uri", input, &mut [0; 28], &mut told);
+    assert!(rt; status == 0 && told == 28);
+    let mut out = [b'.'; 27];
+    let status = irikit_run(rt.alloc(), b"canon uri", input, &mut out, &mut told);
+    assert!(rt; status == 5 && told <= 27 && out[told..].iter().all(|b| *b == b'.'));
+    assert!(rt; b"ok http://a/c\nok http://a/d\n".starts_with(&out[..told]));
+}
+
+#[test]
+fn words(rt: HostRuntime) {
+    let mut told = 9;
+    for words in [
+        &b""[..],
+        b"canon",
+        b"canon  uri",
+        b"canon uri ",
+        b"canon \xff",
+    ] {
+        let status = irikit_run(rt.alloc(), words, b"a:\n", &mut [], &mut told);
+        assert!(rt; status == 2 && told == 0);
+    }
+}
