@@ -1,4 +1,4 @@
-// What runs over memory answer: commands, an input without lines, a buffer that is too short, and words that are no command.
+// What runs over memory answer: commands, an input without lines, a buffer that is too short, words that are no command, and notices.
 use iri_run_calls::irikit_run;
 
 #[test]
@@ -41,9 +41,38 @@ fn words(rt: HostRuntime) {
         b"canon",
         b"canon  uri",
         b"canon uri ",
+        b"canon uri scheme ",
+        b"canon uri schemes",
+        b"expand uri scheme",
+        b"robots uri",
+        b"robots uri Example/1",
+        b"gen uri 0",
+        b"gen uri 01",
+        b"gen uri 100001",
+        b"gen url 1",
+        b"--help uri",
+        b"--helps",
         b"canon \xff",
     ] {
         let status = irikit_run(rt.alloc(), words, b"a:\n", &mut [], &mut told);
         assert!(rt; status == 2 && told == 0);
     }
+}
+
+// Notices are written whole or not at all.
+#[test]
+fn notices(rt: HostRuntime) {
+    let mut out = [b'.'; 4096];
+    let mut told = 9;
+    let status = irikit_run(rt.alloc(), b"--version", b"a:\n", &mut out, &mut told);
+    assert!(rt; status == 0 && out.starts_with(b"irikit ") && out[told - 1] == b'\n');
+    assert!(rt; out[told..].iter().all(|b| *b == b'.'));
+    let room = told - 1;
+    let mut short = [b'.'; 64];
+    let status = irikit_run(rt.alloc(), b"--version", b"", &mut short[..room], &mut told);
+    assert!(rt; status == 5 && told == 0 && short == [b'.'; 64]);
+    let status = irikit_run(rt.alloc(), b"--version", b"", &mut [], &mut told);
+    assert!(rt; status == 5 && told == 0);
+    let status = irikit_run(rt.alloc(), b"--help", b"", &mut out, &mut told);
+    assert!(rt; status == 0 && out.starts_with(b"irikit: canonical texts"));
 }

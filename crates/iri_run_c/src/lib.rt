@@ -5,11 +5,13 @@
 //! Not proved: that memory is there, and that a caller in C passes what the header asks for.
 #![tactic(auto)]
 
-ghost use Rattle.iri_run_calls.specs.Told.{RunTold};
+ghost use Rattle.std.specs.Prelude.{◌≡◌};
+ghost use Rattle.iri_grammar.specs.Pieces.{pieces};
+ghost use Rattle.iri_run_calls.specs.Told.{space, RunTold, TakesMemory};
 
 use std::alloc::Global;
 
-/// What the program would do with words, one space between each two, and an input.
+/// What the program would do with words, one space between each two, and an input. Words are looked at before memory is taken.
 #[unsafe(no_mangle)]
 pub extern "C" fn irikit_run(
     alloc: Global,
@@ -18,7 +20,9 @@ pub extern "C" fn irikit_run(
     out: &mut [u8],
     told: &mut usize,
 ) -> u8
-    ensures { RunTold words.now input.now out.old out.new told.new result }
+    ensures run { RunTold words.now input.now out.old out.new told.new result }
+    // Allocation fails only at a command over lines, or at `gen`.
+    ensures memory { result ≡ 6 → TakesMemory (pieces space words.now) }
 {
     iri_run_calls::irikit_run(alloc, words, input, out, told)
 }

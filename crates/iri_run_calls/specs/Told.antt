@@ -42,6 +42,12 @@ pub record RunsWords (words : List (List ℕ)) (old new : Outside) (status : ℕ
   pub robots : (grammar : Grammar) (token : List ℕ) → words ≡ codes "robots" ∷ word_of grammar ∷ token ∷ []
       → AnswersAreVerdicts (tests_of grammar) token
 
+-- The words are a command over lines, or `gen`.
+abbrev pub TakesMemory : List (List ℕ) → Type 0
+TakesMemory words =
+    ((command : LineCommand) × (grammar : Grammar) × IsCommand words (Lines command grammar))
+    ⊎ ((grammar : Grammar) × (count : ℕ) × IsCommand words (Gen grammar count))
+
 -- nothing was read or written, and there is so much room
 abbrev pub begun : List ℕ → ℕ → Outside
 begun input room = outside (Some input) 0 (record { written = Some []; faults = 0; room_left = Some room })

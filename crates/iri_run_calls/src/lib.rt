@@ -2,19 +2,30 @@
 //! buffer. `iri_run_c` exports it.
 //!
 //! Proved: `irikit_run` keeps the contract of the program's `run`, over a source that has the input and never fails, and a sink
-//! that has as much room as the buffer; or allocation failed before anything was read.
+//! that has as much room as the buffer; or allocation failed before anything was read. That comes only for a command over lines and for
+//! `gen`: words that are no command, and those of a notice, take no memory.
 //!
 //! Not proved: that memory is there.
 #![tactic(auto)]
 
-ghost use Rattle.std.specs.Prelude.{◌≡◌, ◌≤◌, IfOk, map, string_bytes, length};
+ghost use Rattle.std.specs.Prelude.{◌≡◌, ◌≢◌, ◌≤◌, [], ◌∷◌, IfOk, map, string_bytes, length};
+ghost use Rattle.iri_cli.specs.help.Notices.{notice_text};
+ghost use Rattle.iri_cli.specs.run.Words.{notice_word};
 ghost use Rattle.iri_grammar.specs.Pieces.{pieces};
-ghost use Rattle.iri_run_calls.specs.Told.{over, space, Told, RunTold};
+ghost use Rattle.iri_run_calls.specs.Told.{over, space, RunTold, TakesMemory, Told};
 
+mod words;
+
+use crate::words::command_in;
+use iri_cli::help::{HELP, Notice, VERSION};
+use iri_cli::run::words::Command;
 use iri_cli::run::{MEMORY, NO_COMMAND, run};
 use iri_grammar::cutting::cut;
 use iri_text::{MemorySink, PlainSource};
 use std::alloc::{AllocError, Global};
+
+// The status where the output has no room.
+const SHORT: u8 = 5;
 
 // The words of a text, with one space between each two.
 fn words_in(alloc: Global, text: &str) -> Result<Vec<String>, AllocError>
@@ -74,25 +85,65 @@ fn run_words(alloc: Global, words: &[String], input: &[u8], out: &mut [u8], told
     status
 }
 
-/// What the program would do with words, one space between each two, and an input.
-pub fn irikit_run(
-    alloc: Global,
-    words: &[u8],
-    input: &[u8],
-    out: &mut [u8],
-    told: &mut usize,
-) -> u8
-    ensures { RunTold words.now input.now out.old out.new told.new result }
+// Does what the words of a text say with an input.
+fn run_text(alloc: Global, text: &str, input: &[u8], out: &mut [u8], told: &mut usize) -> u8
+    ensures { Told (pieces space text.now) input.now out.old out.new told.new result }
 {
-    let Ok(text) = str::from_utf8(words) else {
-        *told = 0;
-        return NO_COMMAND;
-    };
     match words_in(alloc, text) {
         Ok(words) => run_words(alloc, words.as_slice(), input, out, told),
         Err(_) => {
             *told = 0;
             MEMORY
         }
+    }
+}
+
+// The text of a notice.
+fn text_of(notice: Notice) -> &'static str
+    ensures { result.now ≡ notice_text notice }
+{
+    match notice {
+        Notice::Help => HELP,
+        Notice::Version => VERSION,
+    }
+}
+
+// Writes a notice over the start of a buffer, where it has room.
+fn tell(notice: Notice, input: &[u8], out: &mut [u8], told: &mut usize) -> u8
+    ensures run { Told (notice_word notice ∷ []) input.now out.old out.new told.new result }
+    ensures memory { result ≢ 6 }
+{
+    let text = text_of(notice);
+    if text.len() > out.len() {
+        *told = 0;
+        return SHORT;
+    }
+    copy_over(out, text.as_bytes());
+    *told = text.len();
+    0
+}
+
+// Tells that nothing was written, since words are no command.
+fn no_command(told: &mut usize) -> u8
+    ensures told { told.new ≡ 0 }
+    ensures status { result ≡ 2 }
+{
+    *told = 0;
+    NO_COMMAND
+}
+
+/// What the program would do with words, one space between each two, and an input. Words are looked at before memory is taken.
+pub fn irikit_run(alloc: Global, words: &[u8], input: &[u8], out: &mut [u8], told: &mut usize) -> u8
+    ensures run { RunTold words.now input.now out.old out.new told.new result }
+    // Allocation fails only at a command over lines, or at `gen`.
+    ensures memory { result ≡ 6 → TakesMemory (pieces space words.now) }
+{
+    let Ok(text) = str::from_utf8(words) else {
+        return no_command(told);
+    };
+    match command_in(text) {
+        Some(Command::Tell(notice)) => tell(notice, input, out, told),
+        Some(_) => run_text(alloc, text, input, out, told),
+        None => no_command(told),
     }
 }

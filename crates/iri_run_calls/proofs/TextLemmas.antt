@@ -1,0 +1,42 @@
+-- The words of a text, and what words are no command.
+use Rattle.std.proofs.Common.{◌≡◌, ◌≢◌, ◌∙◌, ℕ, List, [], ◌∷◌, Option, ap, drop, sym}
+use Rattle.std.specs.Prelude.{get_or}
+use Rattle.iri_grammar.specs.Cut.{before, after}
+use Rattle.iri_grammar.specs.Pieces.{pieces}
+use Rattle.iri_grammar.specs.inside.PiecesLaws.{more_pieces}
+use Rattle.iri_grammar.proofs.PiecesLaws.{pieces_cut}
+use Rattle.iri_cli.specs.run.Words.{IsCommand, named, word_of}
+use Rattle.iri_cli.specs.declared.run.words.Command.{Command}
+use Rattle.iri_cli.specs.declared.run.words.Command.TheVariants.{Lines, Gen, Tell}
+use Rattle.iri_cli.specs.declared.run.words.LineCommand.{LineCommand}
+use Rattle.iri_cli.specs.declared.run.words.LineCommand.TheVariants.{Canon, Robots}
+use Rattle.iri_cli.specs.declared.run.words.Grammar.{Grammar}
+use Rattle.iri_percent.specs.declared.canon_mode.CanonMode.TheVariants.{Default, Scheme}
+use Rattle.iri_run_calls.specs.Told.{space}
+
+-- the first word is cut off
+pub words_cut : (text first : List ℕ) (rest : Option (List ℕ)) → first ≡ before space text → rest ≡ after space text
+    → pieces space text ≡ first ∷ more_pieces space rest
+words_cut text first rest e f =
+    pieces_cut space text ∙ ap (λ w. w ∷ more_pieces space (after space text)) (sym e) ∙ ap (λ r. first ∷ more_pieces space r) (sym f)
+
+-- the second word names no grammar
+pub no_grammar : (first second : List ℕ) (more : List (List ℕ)) → ((g : Grammar) → second ≢ word_of g)
+    → (command : Command) → ¬ (IsCommand (first ∷ second ∷ more) command)
+no_grammar first second more none (Lines a g) is = none g (ap (λ (ws : List (List ℕ)). get_or ws 1 []) is.0)
+no_grammar first second more none (Gen g n) is = none g (ap (λ (ws : List (List ℕ)). get_or ws 1 []) is.1)
+no_grammar first second more none (Tell notice) is = cc is
+
+few_after : (a : LineCommand) (third fourth : List ℕ) (more : List (List ℕ)) → third ∷ fourth ∷ more ≢ (named a).after
+few_after (Canon Default) third fourth more e = cc e
+few_after (Canon Scheme) third fourth more e = cc e
+few_after (Robots token) third fourth more e = cc e
+few_after a third fourth more e = cc e
+
+-- no command has four words
+pub four_words : (first second third fourth : List ℕ) (more : List (List ℕ)) (command : Command)
+    → ¬ (IsCommand (first ∷ second ∷ third ∷ fourth ∷ more) command)
+four_words first second third fourth more (Lines a g) is =
+    few_after a third fourth more (ap (λ (ws : List (List ℕ)). drop 2 ws) is.0)
+four_words first second third fourth more (Gen g n) is = let e = is.1 in cc e
+four_words first second third fourth more (Tell notice) is = cc is

@@ -1,0 +1,62 @@
+use Rattle.std.proofs.Common.{◌∙◌, [], ◌∷◌, List, ℕ, None, Some, Option, ap, refl, subst, sym}
+use Rattle.std.specs.Prelude.{MatchOption}
+use Rattle.iri_cli.specs.run.Words.{IsCommand}
+use Rattle.iri_cli.specs.declared.run.words.Command.{Command}
+use Rattle.iri_grammar.specs.Cut.{before, after}
+use Rattle.iri_grammar.specs.OptionalSlices.{now_of}
+use Rattle.iri_grammar.specs.inside.PiecesLaws.{more_pieces}
+use Rattle.iri_run_calls.specs.Told.{space}
+use Rattle.iri_run_calls.proofs.TextLemmas.{four_words, no_grammar, words_cut}
+use Rattle.iri_run_calls.proofs.words.command_in.Goals as goal
+
+abbrev Reads : Option Command → List (List ℕ) → Type 0
+Reads command words = MatchOption command ((c : Command) → ¬ (IsCommand words c)) (IsCommand words)
+
+pub returns-in_default : goal.returns-in_default
+returns-in_default c =
+    let words = words_cut c.args.text.now c.cut.result.0.now None c.cut.ensures.before (sym (ap now_of c.in_default.is) ∙ c.cut.ensures.after) in
+    subst (Reads c.command_of_one.result) (sym words) c.command_of_one.ensures
+
+pub returns-in_default-grammar_of : goal.returns-in_default-grammar_of
+returns-in_default-grammar_of c =
+    let words = words_cut c.args.text.now c.cut.result.0.now (Some c.in-Some.after.now) c.cut.ensures.before
+    (sym (ap now_of c.in-Some.is) ∙ c.cut.ensures.after) in
+    let more = words_cut c.in-Some.after.now c.cut-2.result.0.now (now_of c.cut-2.result.1) c.cut-2.ensures.before c.cut-2.ensures.after in
+    subst (Reads None) (sym (words ∙ ap (λ ws. c.cut.result.0.now ∷ ws) more))
+    (no_grammar c.cut.result.0.now c.cut-2.result.0.now (more_pieces space (now_of c.cut-2.result.1)) c.in_default-grammar_of.ensures)
+
+pub returns-in_default-after : goal.returns-in_default-after
+returns-in_default-after c =
+    let words = words_cut c.args.text.now c.cut.result.0.now (Some c.in-Some.after.now) c.cut.ensures.before
+    (sym (ap now_of c.in-Some.is) ∙ c.cut.ensures.after) in
+    let more = words_cut c.in-Some.after.now c.cut-2.result.0.now None c.cut-2.ensures.before
+    (sym (ap now_of c.in_default-after.is) ∙ c.cut-2.ensures.after) in
+    subst (Reads c.command_of_two.result) (sym (words ∙ ap (λ ws. c.cut.result.0.now ∷ ws) more
+    ∙ ap (λ w. c.cut.result.0.now ∷ w ∷ []) c.in-Some-grammar_of.ensures)) c.command_of_two.ensures
+
+pub returns-in_default-None : goal.returns-in_default-None
+returns-in_default-None c =
+    let words = words_cut c.args.text.now c.cut.result.0.now (Some c.in-Some.after.now) c.cut.ensures.before
+    (sym (ap now_of c.in-Some.is) ∙ c.cut.ensures.after) in
+    let more = words_cut c.in-Some.after.now c.cut-2.result.0.now (Some c.in-Some-after.after.now) c.cut-2.ensures.before
+    (sym (ap now_of c.in-Some-after.is) ∙ c.cut-2.ensures.after) in
+    let last = words_cut c.in-Some-after.after.now c.cut-3.result.0.now None c.cut-3.ensures.before
+    (sym (ap now_of c.in_default-None.is-1) ∙ c.cut-3.ensures.after) in
+    subst (Reads c.command_of_three.result) (sym (words ∙ ap (λ ws. c.cut.result.0.now ∷ ws) more
+    ∙ ap (λ ws. c.cut.result.0.now ∷ c.cut-2.result.0.now ∷ ws) last
+    ∙ ap (λ w. c.cut.result.0.now ∷ w ∷ c.cut-3.result.0.now ∷ []) c.in-Some-grammar_of.ensures)) c.command_of_three.ensures
+
+pub returns-in_default-Some : goal.returns-in_default-Some
+returns-in_default-Some c =
+    let words = words_cut c.args.text.now c.cut.result.0.now (Some c.in-Some.after.now) c.cut.ensures.before
+    (sym (ap now_of c.in-Some.is) ∙ c.cut.ensures.after) in
+    let more = words_cut c.in-Some.after.now c.cut-2.result.0.now (Some c.in-Some-after.after.now) c.cut-2.ensures.before
+    (sym (ap now_of c.in-Some-after.is) ∙ c.cut-2.ensures.after) in
+    let rest = c.in_default-Some.field-0-1.now in
+    let third = words_cut c.in-Some-after.after.now c.cut-3.result.0.now (Some rest) c.cut-3.ensures.before
+    (sym (ap now_of c.in_default-Some.is-1) ∙ c.cut-3.ensures.after) in
+    let fourth = words_cut rest (before space rest) (after space rest) refl refl in
+    subst (Reads None) (sym (words ∙ ap (λ ws. c.cut.result.0.now ∷ ws) more
+    ∙ ap (λ ws. c.cut.result.0.now ∷ c.cut-2.result.0.now ∷ ws) third
+    ∙ ap (λ ws. c.cut.result.0.now ∷ c.cut-2.result.0.now ∷ c.cut-3.result.0.now ∷ ws) fourth))
+    (four_words c.cut.result.0.now c.cut-2.result.0.now c.cut-3.result.0.now (before space rest) (more_pieces space (after space rest)))
