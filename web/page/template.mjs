@@ -34,8 +34,8 @@ function shown(base, { text, lacking }) {
 
 // Shows what the template and the variables of two fields come to; the base is null where the page's address is none.
 function showTemplate(base, [template, variables], place) {
-  const { values, badLine } = readVariables(variables.field.value), expanded = values && expand(template.field.value, values);
-  const badTemplate = expanded?.refusal && refused(template.field.value, expanded.refusal);
+  const { values = new Map(), badLine } = readVariables(variables.field.value), expanded = expand(template.field.value, values);
+  const badTemplate = expanded.refusal && refused(template.field.value, expanded.refusal);
   const badVariables = badLine && [element("p", "why", `Line ${badLine} has no “name=” in front`)];
   for (const [{ field, told }, bad] of [[template, badTemplate], [variables, badVariables]]) {
     field.setAttribute("aria-invalid", String(bad !== undefined));

@@ -215,6 +215,8 @@ test("refused fields are red and described", async () => {
     assert.notEqual(after.told, before.told, id);
     assert.match(after.told, /^.*(Not an? |Line 1 has no )/, id);
   }
+  await visit(state(["base", "http://h/"], ["template", "{x"], ["var", "q"]));
+  assert.deepEqual(await invalid("template", "variables"), ["true", "true"]);
 });
 
 test("rules, and buttons that write what may stand", async () => {
