@@ -1,5 +1,4 @@
-//! Tests of the runs of `iri_cli`: each command over lines, rows of the standards, devices that fail. A crate with tests is proved twice, so they
-//! stand apart from the library.
+//! Tests of the runs of `iri_cli`: devices that fail, lines that are long, the help. Rows are those of `iri_rows`.
 #![tactic(auto)]
 
 #[cfg(test)]

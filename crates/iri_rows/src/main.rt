@@ -7,14 +7,20 @@
 #![tactic(auto)]
 
 mod canonical;
+mod docs;
 mod edit;
 mod grammar;
+mod link;
 mod percent;
+mod register;
 mod robots;
 mod row;
+mod run;
 mod steps;
 mod subjects;
+mod template;
 mod types;
+mod values;
 
 use crate::row::{Row, RowError, escaped};
 use crate::subjects::State;

@@ -1,5 +1,5 @@
-//! Tests of `iri_template` over its public calls: the rows of RFC 6570, with values in one piece and in many, faults and their
-//! places, and contexts that change. A crate with tests is proved twice, so they stand apart from the library.
+//! Tests of `iri_template` over its public calls: contexts that change, values of each type, owned templates, refused allocations;
+//! the rows of RFC 6570 are those of `iri_rows`. A crate with tests is proved twice, so they stand apart from the library.
 #![tactic(auto)]
 
 #[cfg(test)]
@@ -7,13 +7,7 @@ mod contexts;
 #[cfg(test)]
 mod dynamic;
 #[cfg(test)]
-mod expansions;
-#[cfg(test)]
-mod faults;
-#[cfg(test)]
-mod literals;
-#[cfg(test)]
-mod members;
+mod naive;
 #[cfg(test)]
 mod names;
 #[cfg(test)]

@@ -1,5 +1,5 @@
-// Sources that give few bytes at a time or fail, sinks that fail, and deep paths.
-use super::{LINE, answers, canon_uri};
+// Sources that give few bytes at a time or fail, and sinks that fail.
+use super::answers;
 use iri_text::{MemorySource, PlainSource};
 use std::test::Fail;
 
@@ -60,36 +60,99 @@ fn failing_sinks(rt: HostRuntime) -> Result<(), Fail> {
     Ok(())
 }
 
-// A prefix, so many times one text, so many times another, and a suffix.
-fn long(
-    rt: &HostRuntime,
-    prefix: &[u8],
-    parts: [(&[u8], usize); 2],
-    suffix: &[u8],
-) -> Result<Vec<u8>, Fail> {
-    let mut text = Vec::new(rt.alloc());
-    text.extend_from_slice(prefix)?;
-    for (part, count) in parts {
-        text.extend_from_slice(&part.to_vec(rt.alloc())?.repeat(rt.alloc(), count)?)?;
-    }
-    text.extend_from_slice(suffix)?;
-    Ok(text)
-}
-
-// Paths as long as a line may be: as many segments as leave one byte at least for what is after them.
+// The lines before the end of a run have their answers, and none is begun where its source fails.
 #[test]
-fn deep_paths(rt: HostRuntime) -> Result<(), Fail> {
-    for count in [10_900, (LINE - 1) / 5] {
-        let up = long(&rt, b"http://a/\n", [(b"a/", count), (b"../", count)], b"g")?;
+fn sources_that_fail_in_each_command(rt: HostRuntime) -> Result<(), Fail> {
+    static ROWS: [(&[&str], &[u8], [usize; 2], &[u8]); 5] = [
+        (
+            &["canon", "uri"],
+            b"http://a/\nb\nc",
+            [12, 1],
+            b"ok http://a/b\n",
+        ),
+        (
+            &["docs", "uri"],
+            b"http://a/\n{\"template\":\"b\"}\n{\"template\":\"c\"}\n",
+            [27, 4],
+            b"ok http://a/b\n",
+        ),
+        (
+            &["expand", "iri"],
+            b"http://a/\ns v 6\nt {v}\nt x",
+            [25, 1],
+            b"ok http://a/6\n",
+        ),
+        (
+            &["links", "uri"],
+            b"http://a/\n<b>\n<c>\n",
+            [14, 4],
+            b"ok <http://a/b>\n",
+        ),
+        (
+            &["register", "uri"],
+            b"http://a/\na b\na c\n",
+            [14, 4],
+            b"new 1\n",
+        ),
+    ];
+    for &(words, input, cuts, output) in &ROWS {
+        let mut source = MemorySource::new(input, &cuts, &[2]);
         assert!(rt;
-            canon_uri(&rt, &up, 0, b"ok http://a/g\n")?,
-            "{count} times"
+            answers(&rt, words, &mut source, &[], 4, output)?,
+            "{words:?}"
         );
     }
-    for count in [32_767, (LINE - 1) / 2] {
-        let input = long(&rt, b"http://a/\n", [(b"a/", count), (b"", 0)], b".")?;
-        let output = long(&rt, b"ok http://a/", [(b"a/", count), (b"", 0)], b"\n")?;
-        assert!(rt; canon_uri(&rt, &input, 0, &output)?, "{count} times");
+    Ok(())
+}
+
+// The same where the sink fails at a put. The entries of a register are written only where the input was read to its end.
+#[test]
+fn sinks_that_fail_in_each_command(rt: HostRuntime) -> Result<(), Fail> {
+    static ROWS: [(&[&str], &[u8], u64, &[u8]); 11] = [
+        (&["canon", "uri"], b"http://a/\nb\nc", 3, b"ok http://a/b\n"),
+        (
+            &["canon", "uri", "scheme"],
+            b"http://h\n\nx\n",
+            3,
+            b"ok http://h/\n",
+        ),
+        (
+            &["docs", "uri"],
+            b"http://a/\n{\"template\":\"b\"}\n{\"template\":\"c\"}\n",
+            3,
+            b"ok http://a/b\n",
+        ),
+        (
+            &["expand", "iri"],
+            b"http://a/\ns v 6\nt {v}\nt x",
+            3,
+            b"ok http://a/6\n",
+        ),
+        (
+            &["links", "uri"],
+            b"http://a/\n<b>\n<c>\n",
+            2,
+            b"ok <http://a/b>\n",
+        ),
+        (
+            &["register", "uri"],
+            b"http://a/\na b\na c\n",
+            7,
+            b"new 1\nnew 2\n",
+        ),
+        (&["robots", "uri", "x"], b"http://a/\nu b\n", 2, b"allow "),
+        (&["gen", "uri", "1"], b"a", 1, b""),
+        (&["gen", "iri", "1"], b"a", 1, b""),
+        (&["--help"], b"a", 1, b""),
+        (&["--version"], b"a", 1, b""),
+    ];
+    for &(words, input, put, output) in &ROWS {
+        let fails = [put];
+        let mut source = PlainSource::new(input);
+        assert!(rt;
+            answers(&rt, words, &mut source, &fails, 5, output)?,
+            "{words:?}"
+        );
     }
     Ok(())
 }

@@ -4,8 +4,8 @@ use Rattle.std.specs.Str.Iter.{chars_rest}
 use Rattle.iri_text.proofs.CharSteps.{first_char, no_chars}
 use Rattle.iri_template.proofs.ThroughEach.{HasPutUpTo, up_to_none, up_to_more, up_to_exit, up_to_end}
 use Rattle.iri_text.specs.Shown.{Shows}
-use Rattle.iri_template_tests.proofs.PlainChars.{no_step, plain_text, plain_all}
-use Rattle.iri_template_tests.proofs.expansions.put_chars.Goals as goal
+use Rattle.iri_rows.proofs.PlainChars.{no_step, plain_text, plain_all}
+use Rattle.iri_rows.proofs.template.chars.put_chars.Goals as goal
 
 pub loop-c-init : goal.loop-c-init
 loop-c-init g c =

@@ -1,8 +1,8 @@
 use Rattle.std.specs.Str.{IsUtf8, chars}
 use Rattle.std.specs.Str.Iter.{chars_rest}
 use Rattle.iri_template.proofs.ThroughEach.{HasPutUpTo}
-use Rattle.iri_template_tests.proofs.PlainChars.{no_step, plain_text}
-use Rattle.iri_template_tests.proofs.expansions.put_chars.Given as goal
+use Rattle.iri_rows.proofs.PlainChars.{no_step, plain_text}
+use Rattle.iri_rows.proofs.template.chars.put_chars.Given as goal
 
 -- the characters before those that are left were put
 abbrev pub invariant-loop-c : goal.invariant-loop-c
