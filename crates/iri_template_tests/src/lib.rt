@@ -1,9 +1,12 @@
-//! Tests of `iri_template` over its public calls: contexts that change, values of each type, owned templates, refused allocations;
-//! the rows of RFC 6570 are those of `iri_rows`. A crate with tests is proved twice, so they stand apart from the library.
+//! Tests of `iri_template` and `iri_docs` over their public calls: contexts that change, values of each type, owned templates, documents
+//! of JSON that is in memory, refused allocations. Rows are those of `iri_rows`. A crate with tests is proved twice, so they stand apart
+//! from the libraries.
 #![tactic(auto)]
 
 #[cfg(test)]
 mod contexts;
+#[cfg(test)]
+mod documents;
 #[cfg(test)]
 mod dynamic;
 #[cfg(test)]

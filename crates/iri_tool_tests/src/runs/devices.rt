@@ -105,48 +105,50 @@ fn sources_that_fail_in_each_command(rt: HostRuntime) -> Result<(), Fail> {
     Ok(())
 }
 
-// The same where the sink fails at a put. The entries of a register are written only where the input was read to its end.
+// Where the sink of a command fails, and what is written then. The entries of a register are written only where the input was read to
+// its end.
+static SINKS: [(&[&str], &[u8], u64, &[u8]); 11] = [
+    (&["canon", "uri"], b"http://a/\nb\nc", 3, b"ok http://a/b\n"),
+    (
+        &["canon", "uri", "scheme"],
+        b"http://h\n\nx\n",
+        3,
+        b"ok http://h/\n",
+    ),
+    (
+        &["docs", "uri"],
+        b"http://a/\n{\"template\":\"b\"}\n{\"template\":\"c\"}\n",
+        3,
+        b"ok http://a/b\n",
+    ),
+    (
+        &["expand", "iri"],
+        b"http://a/\ns v 6\nt {v}\nt x",
+        3,
+        b"ok http://a/6\n",
+    ),
+    (
+        &["links", "uri"],
+        b"http://a/\n<b>\n<c>\n",
+        2,
+        b"ok <http://a/b>\n",
+    ),
+    (
+        &["register", "uri"],
+        b"http://a/\na b\na c\n",
+        7,
+        b"new 1\nnew 2\n",
+    ),
+    (&["robots", "uri", "x"], b"http://a/\nu b\n", 2, b"allow "),
+    (&["gen", "uri", "1"], b"a", 1, b""),
+    (&["gen", "iri", "1"], b"a", 1, b""),
+    (&["--help"], b"a", 1, b""),
+    (&["--version"], b"a", 1, b""),
+];
+
 #[test]
 fn sinks_that_fail_in_each_command(rt: HostRuntime) -> Result<(), Fail> {
-    static ROWS: [(&[&str], &[u8], u64, &[u8]); 11] = [
-        (&["canon", "uri"], b"http://a/\nb\nc", 3, b"ok http://a/b\n"),
-        (
-            &["canon", "uri", "scheme"],
-            b"http://h\n\nx\n",
-            3,
-            b"ok http://h/\n",
-        ),
-        (
-            &["docs", "uri"],
-            b"http://a/\n{\"template\":\"b\"}\n{\"template\":\"c\"}\n",
-            3,
-            b"ok http://a/b\n",
-        ),
-        (
-            &["expand", "iri"],
-            b"http://a/\ns v 6\nt {v}\nt x",
-            3,
-            b"ok http://a/6\n",
-        ),
-        (
-            &["links", "uri"],
-            b"http://a/\n<b>\n<c>\n",
-            2,
-            b"ok <http://a/b>\n",
-        ),
-        (
-            &["register", "uri"],
-            b"http://a/\na b\na c\n",
-            7,
-            b"new 1\nnew 2\n",
-        ),
-        (&["robots", "uri", "x"], b"http://a/\nu b\n", 2, b"allow "),
-        (&["gen", "uri", "1"], b"a", 1, b""),
-        (&["gen", "iri", "1"], b"a", 1, b""),
-        (&["--help"], b"a", 1, b""),
-        (&["--version"], b"a", 1, b""),
-    ];
-    for &(words, input, put, output) in &ROWS {
+    for &(words, input, put, output) in &SINKS {
         let fails = [put];
         let mut source = PlainSource::new(input);
         assert!(rt;
