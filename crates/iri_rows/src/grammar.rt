@@ -55,7 +55,7 @@ fn classes<S: Spec>(alloc: Global, field: &Field) -> Result<String, RowError> {
     )?)
 }
 
-// `private GRAMMAR CHARACTER`: whether a character past ASCII stands in queries alone.
+// `private GRAMMAR CHARACTER`: whether a character past ASCII is allowed in queries alone.
 fn private<S: Spec>(alloc: Global, field: &Field) -> Result<String, RowError> {
     let is_private = S::is_nonascii_char_private(character(field)?);
     Ok(yes_or_no(alloc, is_private)?)

@@ -23,9 +23,9 @@ fn string(alloc: Global, text: &Field) -> Result<Vec<u8>, AllocError> {
     match decode_whatwg_bytes(text.bytes()).into_string(alloc) {
         Ok(decoded) => Ok(decoded.into_bytes()),
         Err(DecodeTextError::NotUtf8(bytes)) => {
-            let mut told = String::from_str(alloc, "not UTF-8: ")?.into_bytes();
-            told.extend_from_slice(bytes.into_vec().as_slice())?;
-            Ok(told)
+            let mut answer = String::from_str(alloc, "not UTF-8: ")?.into_bytes();
+            answer.extend_from_slice(bytes.into_vec().as_slice())?;
+            Ok(answer)
         }
         Err(DecodeTextError::Memory(error)) => Err(error),
     }
