@@ -1,5 +1,5 @@
 -- The command `links`, worked on the lines of small inputs.
-use Rattle.std.specs.Prelude.{◌≡◌, [], ◌∷◌, codes, refl}
+use Rattle.std.specs.Prelude.{◌≡◌, true, false, [], ◌∷◌, codes, map, refl}
 use Rattle.std.specs.Fmt.{digits}
 use Rattle.std.specs.Str.{chars, is_utf8}
 use lib.Utf8.{encode}
@@ -23,6 +23,7 @@ use Rattle.iri_normal.specs.NormalForm.{normal_path, normal_form, form, canonica
 use Rattle.iri_normal.specs.Target.{target}
 use Rattle.iri_cli.specs.run.Ending.{answers}
 use Rattle.iri_cli.specs.links.Answers.{links_answer}
+use Rattle.iri_cli.specs.links.Memory.{keeps_target}
 use Rattle.iri_cli.specs.links.Rules.{links_rules}
 
 -- links of an API with pages, a name in capitals, an escaped delimiter, no link; and a fault of each kind but that of UTF-8
@@ -39,3 +40,14 @@ unfolding links_answer fault_from closes_from reading digits canonical normal_fo
     reg_name_char path_char query_char fragment_char is_ascii_userinfo is_ascii_reg_name is_ascii_path is_ascii_pchar is_ascii_query
     is_sub_delim
 answers_to_some_lines = refl
+
+-- which lines take memory: field values, and lines with a fault after a target that is kept
+pub memory_at_some_lines : map ((links_rules uri_tests).wants_memory (codes "http://a/") [])
+    (codes "<b>" ∷ [] ∷ codes ", <b>;r=" ∷ codes "b" ∷ codes "<b" ∷ codes "<%4>" ∷ codes "b <b>" ∷ (60 ∷ 98 ∷ 62 ∷ 255 ∷ []) ∷ [])
+    ≡ true ∷ true ∷ true ∷ false ∷ false ∷ false ∷ false ∷ false ∷ []
+unfolding keeps_target fault_from closes_from canonical normal_form form normal_path target split_of relative_split_of recompose dots
+    is_dot_segment is_letter is_scheme_char authority_parts recompose_authority normal_authority normal_host is_ascii_host normal
+    char_units_from first_char chars encode is_utf8 unreserved is_ascii_unreserved fault_before_fragment parts_fault over_from userinfo_char
+    reg_name_char path_char query_char fragment_char is_ascii_userinfo is_ascii_reg_name is_ascii_path is_ascii_pchar is_ascii_query
+    is_sub_delim
+memory_at_some_lines = refl

@@ -1,5 +1,5 @@
 -- The command `register`, worked on the lines of small inputs.
-use Rattle.std.specs.Prelude.{◌≡◌, ℕ, List, [], ◌∷◌, codes, refl}
+use Rattle.std.specs.Prelude.{◌≡◌, ℕ, true, false, List, [], ◌∷◌, codes, map, refl}
 use Rattle.std.specs.Fmt.{digits}
 use Rattle.std.specs.Str.{chars, is_utf8}
 use lib.Utf8.{encode}
@@ -37,3 +37,24 @@ unfolding line_of entries_after digits canonical normal_form form normal_path ta
     reg_name_char path_char query_char fragment_char is_ascii_userinfo is_ascii_reg_name is_ascii_path is_ascii_pchar is_ascii_query
     is_sub_delim
 answers_to_some_lines = refl
+
+-- which lines take memory: without entries, and with one
+pub memory_without_entries : map ((register_rules uri_tests).wants_memory base [])
+    (codes "a b" ∷ codes "a %4" ∷ codes "d b" ∷ codes "f b" ∷ codes "q" ∷ [])
+    ≡ true ∷ false ∷ false ∷ false ∷ false ∷ []
+unfolding line_of entries_after canonical normal_form form normal_path target split_of relative_split_of recompose dots
+    is_dot_segment is_letter is_scheme_char authority_parts recompose_authority normal_authority normal_host is_ascii_host normal
+    char_units_from first_char chars encode is_utf8 unreserved is_ascii_unreserved fault_before_fragment parts_fault over_from userinfo_char
+    reg_name_char path_char query_char fragment_char is_ascii_userinfo is_ascii_reg_name is_ascii_path is_ascii_pchar is_ascii_query
+    is_sub_delim
+memory_without_entries = refl
+
+pub memory_with_an_entry : map ((register_rules uri_tests).wants_memory base (codes "a b" ∷ []))
+    (codes "d c" ∷ codes "f b" ∷ codes "f %4" ∷ codes "q" ∷ [])
+    ≡ true ∷ true ∷ false ∷ false ∷ []
+unfolding line_of entries_after canonical normal_form form normal_path target split_of relative_split_of recompose dots
+    is_dot_segment is_letter is_scheme_char authority_parts recompose_authority normal_authority normal_host is_ascii_host normal
+    char_units_from first_char chars encode is_utf8 unreserved is_ascii_unreserved fault_before_fragment parts_fault over_from userinfo_char
+    reg_name_char path_char query_char fragment_char is_ascii_userinfo is_ascii_reg_name is_ascii_path is_ascii_pchar is_ascii_query
+    is_sub_delim
+memory_with_an_entry = refl

@@ -1,5 +1,5 @@
 -- The command `robots`, worked on the lines of small inputs.
-use Rattle.std.specs.Prelude.{◌≡◌, [], ◌∷◌, codes, refl}
+use Rattle.std.specs.Prelude.{◌≡◌, true, false, [], ◌∷◌, codes, map, refl}
 use Rattle.std.specs.Str.{chars, is_utf8}
 use lib.Utf8.{encode}
 use Rattle.iri_grammar.specs.Authority.{authority_parts, recompose_authority}
@@ -38,3 +38,14 @@ unfolding line_of records_after compared special_of piece_of pieces some_suffix 
     unreserved is_ascii_unreserved fault_before_fragment parts_fault over_from userinfo_char reg_name_char path_char query_char fragment_char
     is_ascii_userinfo is_ascii_reg_name is_ascii_path is_ascii_pchar is_ascii_query is_sub_delim
 answers_by_rules = refl
+
+-- which lines take memory: one that has a record, and one that asks of a reference without a fault
+pub memory_at_some_lines : map ((robots_rules uri_tests (codes "examplebot")).wants_memory (codes "http://a") [])
+    (codes "r allow: /x" ∷ codes "r # no record" ∷ codes "u x" ∷ codes "u %4" ∷ codes "q" ∷ [])
+    ≡ true ∷ false ∷ true ∷ false ∷ false ∷ []
+unfolding line_of canonical normal_form form normal_path target split_of relative_split_of recompose dots
+    is_dot_segment is_letter is_scheme_char authority_parts recompose_authority normal_authority normal_host is_ascii_host normal
+    char_units_from first_char chars encode is_utf8 unreserved is_ascii_unreserved fault_before_fragment parts_fault over_from userinfo_char
+    reg_name_char path_char query_char fragment_char is_ascii_userinfo is_ascii_reg_name is_ascii_path is_ascii_pchar is_ascii_query
+    is_sub_delim
+memory_at_some_lines = refl
