@@ -7,6 +7,9 @@
  * `out` aren't NULL; no other thread writes to what is passed while the call runs; what is written overlaps with nothing
  * else that is passed.
  *
+ * What it runs on: Linux with x86-64 or arm64, and glibc 2.17 or later. For x86-64 it is compiled for x86-64-v2 (processors of 2009 and
+ * later): on another processor the loader, or the library as it is loaded, says so, and the process ends with 127.
+ *
  * What each call does: it reads what is passed, writes to `out` and to what its comment names, takes no memory, keeps
  * nothing, and returns. (irikit_run takes memory, and gives all of it back.) So calls may run in several threads at once,
  * each with its own `out` and `told`.
