@@ -133,7 +133,8 @@ fn target<S: Spec>(
     }
 }
 
-fn joined_in<S: Spec>(
+// What adding the first reference answers, and finding the other.
+fn found_in<S: Spec>(
     alloc: Global,
     base: &Field,
     one: &Field,
@@ -142,10 +143,42 @@ fn joined_in<S: Spec>(
     let mut register = Register::<S>::new(alloc, base_of(alloc, base)?);
     let added = shown_added(alloc, register.add(one.bytes(), 2))?;
     let found = shown_number(alloc, "at", register.find(other.bytes()))?;
+    Ok(format!(in alloc; "{added}, {found}")?)
+}
+
+// Whether steps join two targets.
+fn are_joined<S: Spec>(
+    alloc: Global,
+    first: &Target<S>,
+    second: &Target<S>,
+) -> Result<bool, AllocError> {
+    match join_steps(alloc, first, second)? {
+        Some(_) => Ok(true),
+        None => Ok(false),
+    }
+}
+
+fn targets_are_joined<S: Spec>(
+    alloc: Global,
+    base: &Field,
+    one: &Field,
+    other: &Field,
+) -> Result<bool, RowError> {
     let page = resolver::<S>(base)?;
-    let (first, second) = (target(alloc, &page, one)?, target(alloc, &page, other)?);
-    let joined = yes_or_no(alloc, join_steps(alloc, &first, &second)?.is_some())?;
-    Ok(format!(in alloc; "{added}, {found}, joined {joined}")?)
+    let first = target(alloc, &page, one)?;
+    let second = target(alloc, &page, other)?;
+    Ok(are_joined(alloc, &first, &second)?)
+}
+
+fn joined_in<S: Spec>(
+    alloc: Global,
+    base: &Field,
+    one: &Field,
+    other: &Field,
+) -> Result<String, RowError> {
+    let found = found_in::<S>(alloc, base, one, other)?;
+    let joined = yes_or_no(alloc, targets_are_joined::<S>(alloc, base, one, other)?)?;
+    Ok(format!(in alloc; "{found}, joined {joined}")?)
 }
 
 // `joined GRAMMAR BASE REFERENCE REFERENCE`: adds the first reference and finds the other; and whether steps join their targets.
