@@ -4,6 +4,7 @@ use Rattle.std.proofs.Common.{subst, arith, append_assoc}
 use Rattle.std.specs.Prelude.{◌==◌}
 use Rattle.std.specs.Char.{is_ascii_digit}
 use Rattle.std.proofs.Math.Bool.{and-false}
+use Rattle.std.proofs.lemmas.List.{append-nil}
 use Rattle.iri_grammar.specs.Classes.{Tests, IsSpec, userinfo_char, reg_name_char, is_ascii_userinfo, is_ascii_reg_name}
 use Rattle.iri_grammar.specs.Classes.{is_ascii_unreserved, is_sub_delim}
 use Rattle.iri_grammar.specs.Cut.{before, after, lacks, delimited}
@@ -84,13 +85,9 @@ host_then_port (x ∷ h) d t =
     let rest = not_digits h 58 d refl in
     (rw (rest, and-false (x == 58)) (ap (λ ys. x ∷ ys) r.0), rw (rest, and-false (x == 58)) r.1)
 
-nothing_after : (h : List ℕ) → h ++ [] ≡ h
-nothing_after [] = refl
-nothing_after (x ∷ xs) = ap (λ ys. x ∷ ys) (nothing_after xs)
-
 host_port : (s : Tests) → IsSpec s → (h : List ℕ) (p : Option (List ℕ)) → is_host s h ≡ true → if_there is_port p ≡ true
     → (host_of (h ++ delimited 58 p) ≡ h) × (port_of (h ++ delimited 58 p) ≡ p)
-host_port s k h None t d = subst (λ z. (host_of z ≡ h) × (port_of z ≡ None)) (sym (nothing_after h)) (host_alone s k h t)
+host_port s k h None t d = subst (λ z. (host_of z ≡ h) × (port_of z ≡ None)) (sym (append-nil h)) (host_alone s k h t)
 host_port s k h (Some p) t d = host_then_port h p d
 
 port_no_at : (p : Option (List ℕ)) → if_there is_port p ≡ true → lacks 64 (delimited 58 p) ≡ true
@@ -99,7 +96,7 @@ port_no_at (Some p) d = lacks-other 64 58 p refl (all-lacks is_ascii_digit 64 p 
 
 -- ---- the reading
 no_userinfo : (t : List ℕ) → lacks 64 t ≡ true → after 64 t ≡ None
-no_userinfo t l = sym (ap (after 64) (nothing_after t)) ∙ after-delimited 64 t None l
+no_userinfo t l = sym (ap (after 64) (append-nil t)) ∙ after-delimited 64 t None l
 
 read_back : (s : Tests) → IsSpec s → (u : Option (List ℕ)) (h : List ℕ) (p : Option (List ℕ)) → if_there (is_userinfo s) u ≡ true
     → is_host s h ≡ true → if_there is_port p ≡ true
@@ -121,7 +118,7 @@ read_back s k (Some u) h p f t d =
 -- of a name and a port
 name_port : (h : List ℕ) (p : Option (List ℕ)) → lacks 58 h ≡ true → if_there is_port p ≡ true
     → (host_of (h ++ delimited 58 p) ≡ h) × (port_of (h ++ delimited 58 p) ≡ p)
-name_port h None c d = subst (λ z. (host_of z ≡ h) × (port_of z ≡ None)) (sym (nothing_after h)) (no_colon h c)
+name_port h None c d = subst (λ z. (host_of z ≡ h) × (port_of z ≡ None)) (sym (append-nil h)) (no_colon h c)
 name_port h (Some p) c d = host_then_port h p d
 
 pub name_parts : (h : List ℕ) (p : Option (List ℕ)) → lacks 64 h ≡ true → lacks 58 h ≡ true → if_there is_port p ≡ true

@@ -1,7 +1,8 @@
 -- A class is its ASCII part and its part past ASCII.
-use Rattle.std.proofs.Common.{◌≡◌, ℕ, ◌≤◌, ◌<◌, Bool, true, false, ◌||◌, refl, sym, ◌∙◌, inl, inr, arith}
+use Rattle.std.proofs.Common.{◌≡◌, ℕ, ◌≤◌, ◌<◌, true, false, refl, sym, ◌∙◌, inl, inr, arith}
 use Rattle.std.proofs.lemmas.Bool.{cases_lt}
 use Rattle.std.proofs.lemmas.Bool.Decides.{nat_tests}
+use Rattle.std.proofs.Math.Bool.{or-false}
 use Rattle.iri_grammar.specs.Classes.{Tests, IsSpec, is_ascii_unreserved, is_ascii_reg_name, is_ascii_userinfo, is_ascii_pchar}
 use Rattle.iri_grammar.specs.Classes.{is_ascii_path, is_ascii_query, is_ascii_any, is_sub_delim, is_gen_delim, unreserved, reg_name_char}
 use Rattle.iri_grammar.specs.Classes.{userinfo_char, pchar, path_char, query_char, fragment_char, any_char}
@@ -9,21 +10,17 @@ use Rattle.iri_grammar.specs.ClassTests.{class_test, ascii_test, past_ascii_test
 use Rattle.iri_grammar.specs.declared.class.Class.{Class}
 use Rattle.iri_grammar.specs.declared.class.Class.TheVariants.{Unreserved, RegName, Userinfo, Pchar, Path, Query, Fragment, Any}
 
-or_false : (b : Bool) → (b || false) ≡ b
-or_false true = refl
-or_false false = refl
-
 -- of an ASCII character the spec's tests say nothing
 pub class_at_ascii : (s : Tests) → IsSpec s → (k : Class) (c : ℕ) → c < 128 → class_test s k c ≡ ascii_test k c
 unfolding unreserved reg_name_char userinfo_char pchar path_char query_char fragment_char any_char
-class_at_ascii s l Unreserved c h = rw (l.ucs_ascii c h) (or_false (is_ascii_unreserved c))
-class_at_ascii s l RegName c h = rw (l.ucs_ascii c h) (or_false (is_ascii_reg_name c))
-class_at_ascii s l Userinfo c h = rw (l.ucs_ascii c h) (or_false (is_ascii_userinfo c))
-class_at_ascii s l Pchar c h = rw (l.ucs_ascii c h) (or_false (is_ascii_pchar c))
-class_at_ascii s l Path c h = rw (l.ucs_ascii c h) (or_false (is_ascii_path c))
-class_at_ascii s l Query c h = rw (l.ucs_ascii c h, l.priv_ascii c h, or_false (is_ascii_query c)) (or_false (is_ascii_query c))
-class_at_ascii s l Fragment c h = rw (l.ucs_ascii c h) (or_false (is_ascii_query c))
-class_at_ascii s l Any c h = rw (l.ucs_ascii c h, l.priv_ascii c h, or_false (is_ascii_any c)) (or_false (is_ascii_any c))
+class_at_ascii s l Unreserved c h = rw (l.ucs_ascii c h) (or-false (is_ascii_unreserved c))
+class_at_ascii s l RegName c h = rw (l.ucs_ascii c h) (or-false (is_ascii_reg_name c))
+class_at_ascii s l Userinfo c h = rw (l.ucs_ascii c h) (or-false (is_ascii_userinfo c))
+class_at_ascii s l Pchar c h = rw (l.ucs_ascii c h) (or-false (is_ascii_pchar c))
+class_at_ascii s l Path c h = rw (l.ucs_ascii c h) (or-false (is_ascii_path c))
+class_at_ascii s l Query c h = rw (l.ucs_ascii c h, l.priv_ascii c h, or-false (is_ascii_query c)) (or-false (is_ascii_query c))
+class_at_ascii s l Fragment c h = rw (l.ucs_ascii c h) (or-false (is_ascii_query c))
+class_at_ascii s l Any c h = rw (l.ucs_ascii c h, l.priv_ascii c h, or-false (is_ascii_any c)) (or-false (is_ascii_any c))
 
 -- no ASCII part reaches past ASCII
 pub ascii_test_past : (k : Class) (c : ℕ) → 128 ≤ c → ascii_test k c ≡ false

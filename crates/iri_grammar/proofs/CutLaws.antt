@@ -4,6 +4,7 @@ use Rattle.std.proofs.Common.{subst, arith}
 use Rattle.std.specs.Prelude.{◌==◌}
 use Rattle.std.specs.List.{list_all}
 use Rattle.std.proofs.lemmas.Bool.Decides.{nat_tests}
+pub use Rattle.std.proofs.lemmas.Bool.{and_parts as both}
 use Rattle.iri_grammar.specs.Cut.{before, from, after, lacks, delimited}
 
 -- ---- tests
@@ -14,9 +15,11 @@ by_test x c P same other =
       | false ↦ λ e. let o : x ≢ c = grind (arith, nat_tests) in other o
     ] refl
 
-pub both : (a b : Bool) → (a && b) ≡ true → (a ≡ true) × (b ≡ true)
-both true b h = (refl, h)
-both false b h = cc
+pub and_three : (a b c : Bool) → (a && b && c) ≡ true → (a ≡ true) × (b ≡ true) × (c ≡ true)
+and_three a b c h =
+    let last = both (a && b) c h in
+    let first = both a b last.0 in
+    (first.0, first.1, last.1)
 
 -- ---- cutting
 pub joined : (c : ℕ) (t : List ℕ) → before c t ++ delimited c (after c t) ≡ t

@@ -1,14 +1,11 @@
 -- Where a byte first stands, and what stands before and after it.
-use Rattle.std.proofs.Common.{◌≡◌, ℕ, zero, suc, ◌<◌, Bool, true, false, List, [], ◌∷◌, Some, None, Option, MatchOption, length, refl, ap}
+use Rattle.std.proofs.Common.{◌≡◌, ℕ, zero, suc, ◌<◌, true, false, List, [], ◌∷◌, Some, None, Option, MatchOption, length, refl, ap}
 use Rattle.std.proofs.Common.{arith, add-one}
 use Rattle.std.specs.Prelude.{◌==◌, slice_index}
-use Rattle.std.proofs.lemmas.Bool.{eqb-true}
+use Rattle.std.proofs.lemmas.Bool.{eqb-true, false_from_ne_true}
+pub use Rattle.std.proofs.lemmas.Bool.{false_from_ne_true as false-where}
 use Rattle.memchr.specs.Find.{is_byte, IsFirstByte}
 use Rattle.iri_grammar.specs.Cut.{CutAt, NoCut}
-
-pub false-where : (b : Bool) → (b ≡ true → ⊥) → b ≡ false
-false-where true n = absurd (n refl)
-false-where false n = refl
 
 cut_at : (c : ℕ) (bs : List ℕ) (k : ℕ) → k < length bs → ((j : ℕ) → j < k → (slice_index bs j == c) ≡ true → ⊥)
     → (slice_index bs k == c) ≡ true → CutAt c bs k
@@ -22,7 +19,7 @@ cut_at c (x ∷ xs) zero l n p = record {
   has = rw p refl;
 }
 cut_at c (x ∷ xs) (suc k) l n p =
-    let miss : (x == c) ≡ false = false-where (x == c) (n 0 (omega arith)) in
+    let miss : (x == c) ≡ false = false_from_ne_true (x == c) (n 0 (omega arith)) in
     let h = cut_at c xs k (omega arith) (λ j b. n (suc j) (omega arith)) p in
     record {
       inside = l;
@@ -36,7 +33,7 @@ cut_at c (x ∷ xs) (suc k) l n p =
 none_at : (c : ℕ) (bs : List ℕ) → ((j : ℕ) → j < length bs → (slice_index bs j == c) ≡ true → ⊥) → NoCut c bs
 none_at c [] n = record { prefix = refl; rest = refl; tail = refl; has = refl }
 none_at c (x ∷ xs) n =
-    let miss : (x == c) ≡ false = false-where (x == c) (n 0 (omega arith)) in
+    let miss : (x == c) ≡ false = false_from_ne_true (x == c) (n 0 (omega arith)) in
     let h = none_at c xs (λ j b. n (suc j) (omega arith)) in
     record { prefix = rw miss (ap (λ ys. x ∷ ys) h.prefix); rest = rw miss h.rest; tail = rw miss h.tail; has = rw miss h.has }
 

@@ -6,14 +6,15 @@ use Rattle.std.specs.Char.{is_ascii_alphabetic}
 use Rattle.std.specs.List.{list_all}
 use Rattle.std.specs.Str.{IsUtf8}
 use Rattle.std.proofs.lemmas.Str.{IsUtf8-from_ascii}
-use Rattle.std.proofs.lemmas.Bool.{eqb-true}
+use Rattle.std.proofs.lemmas.Bool.{eqb-true, ltb-true, lt-ltb, false_from_ne_true}
 use Rattle.std.proofs.lemmas.Bool.Decides.{nat_tests}
 use Rattle.memchr.specs.Find.{is_byte3, IsFirstByte}
+use Rattle.iri_grammar.proofs.SplitUnique.{scheme_char-below}
 use Rattle.iri_grammar.specs.Components.{is_letter, is_scheme, is_scheme_char}
 use Rattle.iri_grammar.specs.Authority.{or_all}
 use Rattle.iri_grammar.specs.Runs.{run_of}
 use Rattle.iri_grammar.specs.Cut.{before, from, after}
-use Rattle.iri_grammar.proofs.CutLaws.{both, test_apart}
+use Rattle.iri_grammar.proofs.CutLaws.{both, and_three, test_apart}
 use Rattle.iri_grammar.specs.Parts.{starts_with_slash, starts_with_slashes}
 use Rattle.iri_grammar.specs.Split.{authority_of, hier_of}
 use Rattle.iri_grammar.proofs.SplitLaws.{letter-is_scheme_char, colon_ends}
@@ -21,7 +22,6 @@ use Rattle.iri_grammar.specs.Delimiters.{before_any, from_any}
 use Rattle.iri_grammar.specs.inside.Delimiters.{ends_scheme, SchemeAt, NoScheme, ends_authority, AuthorityEndAt, NoAuthorityEnd}
 use Rattle.iri_grammar.specs.inside.Delimiters.{IsPastAuthority}
 use Rattle.iri_grammar.proofs.AuthorityTexts.{all_below}
-use Rattle.iri_grammar.proofs.CutLemmas.{false-where}
 
 -- ---- the scheme
 -- the run reaches to the end where all pass
@@ -90,24 +90,12 @@ starts_scheme : (bs : List ℕ) → is_ascii_alphabetic (slice_index bs 0) ≡ t
 starts_scheme [] l a = cc
 starts_scheme (x ∷ xs) l a = letter-before x xs l a
 
-three : (a b c : Bool) → (a && b && c) ≡ true → (a ≡ true) × (b ≡ true) × (c ≡ true)
-three true true c h = (refl, refl, h)
-three true false c h = cc
-three false b c h = cc
-
-below : (a b : ℕ) → nat_lt a b ≡ true → a < b
-below a b h = grind (arith, nat_tests)
-
-scheme-below : (x : ℕ) → is_scheme_char x ≡ true → x < 128
-unfolding is_scheme_char
-scheme-below x h = grind (arith, nat_tests)
-
 pub scheme_at : (bs : List ℕ) → ends_scheme bs (run_of is_scheme_char bs) ≡ true → SchemeAt bs (run_of is_scheme_char bs)
 unfolding ends_scheme
 scheme_at bs h =
     let k = run_of is_scheme_char bs in
-    let t = three (nat_lt k (length bs)) (slice_index bs k == 58) (is_ascii_alphabetic (slice_index bs 0)) h in
-    let inside = below k (length bs) t.0 in
+    let t = and_three (nat_lt k (length bs)) (slice_index bs k == 58) (is_ascii_alphabetic (slice_index bs 0)) h in
+    let inside = ltb-true k (length bs) t.0 in
     let byte = eqb-true (slice_index bs k) 58 t.1 in
     let r = ran is_scheme_char 58 bs colon_ends inside byte in
     let sch = starts_scheme bs t.2 r.all in
@@ -116,7 +104,8 @@ scheme_at bs h =
       byte = byte;
       scheme = rw (sch, ← r.tail, r.prefix) refl;
       rest = rw (sch, ← r.tail) refl;
-      text = subst IsUtf8 (sym r.prefix) (IsUtf8-from_ascii (before 58 bs) (all_below is_scheme_char scheme-below (before 58 bs) r.all));
+      text = subst IsUtf8 (sym r.prefix)
+          (IsUtf8-from_ascii (before 58 bs) (all_below is_scheme_char scheme_char-below (before 58 bs) r.all));
     }
 
 is_scheme-first : (bs : List ℕ) → is_scheme (before 58 bs) ≡ true
@@ -136,11 +125,8 @@ unfolding ends_scheme
 scheme-ends bs h s =
     let f = is_scheme-first bs h in
     let e = ends is_scheme_char 58 bs colon_ends f.1 s in
-    let l : nat_lt (run_of is_scheme_char bs) (length bs) ≡ true = lt (run_of is_scheme_char bs) (length bs) e.0 in
+    let l : nat_lt (run_of is_scheme_char bs) (length bs) ≡ true = lt-ltb (run_of is_scheme_char bs) (length bs) e.0 in
     rw (l, e.1, f.0) refl
-  where
-    lt : (a b : ℕ) → a < b → nat_lt a b ≡ true
-    lt a b h = grind (arith, nat_tests)
 
 none_of : (b : Bool) (o : Option (List ℕ)) (x y : List ℕ) → (b ≡ true → is_some o ≡ true → ⊥)
     → (None ≡ cond (b && is_some o) (Some y) None) × (x ≡ cond b (or_all x o) x)
@@ -160,7 +146,7 @@ prefix-any : (p : ℕ → Bool) (bs : List ℕ) (k : ℕ) → k < length bs → 
 prefix-any p [] k l n h = absurd (omega arith)
 prefix-any p (x ∷ xs) zero l n h = rw h (refl, refl)
 prefix-any p (x ∷ xs) (suc k) l n h =
-    let miss : p x ≡ false = false-where (p x) (n 0 (omega arith)) in
+    let miss : p x ≡ false = false_from_ne_true (p x) (n 0 (omega arith)) in
     let r = prefix-any p xs k (omega arith) (λ j b. n (suc j) (omega arith)) h in
     rw miss (ap (λ ys. x ∷ ys) r.0, r.1)
 
@@ -168,7 +154,7 @@ none-any : (p : ℕ → Bool) (bs : List ℕ) → ((j : ℕ) → j < length bs �
     → (bs ≡ before_any p bs) × ([] ≡ from_any p bs)
 none-any p [] n = (refl, refl)
 none-any p (x ∷ xs) n =
-    let miss : p x ≡ false = false-where (p x) (n 0 (omega arith)) in
+    let miss : p x ≡ false = false_from_ne_true (p x) (n 0 (omega arith)) in
     let r = none-any p xs (λ j b. n (suc j) (omega arith)) in
     rw miss (ap (λ ys. x ∷ ys) r.0, r.1)
 

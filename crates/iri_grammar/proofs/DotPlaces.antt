@@ -2,8 +2,7 @@
 use Rattle.std.proofs.Common.{◌≡◌, ℕ, zero, suc, ◌+◌, ◌-◌, ◌%◌, ◌^◌, ◌<◌, ◌≤◌, Bool, true, false, cond, not, eqb, ◌&&◌, ◌||◌, List, [], ◌∷◌, map, length, take, drop, get_or, replicate}
 use Rattle.std.proofs.Common.{◌≢◌, refl, sym, ◌∙◌, ap, ap₂, arith, drop-cons, inl, inr}
 use Rattle.std.specs.Prelude.{◌==◌, slice_index}
-use Rattle.std.proofs.lemmas.Bool.{cases_eq, cases_lt, or_parts}
-use Rattle.std.proofs.lemmas.Bool.Decides.{nat_tests}
+use Rattle.std.proofs.lemmas.Bool.{cases_eq, cases_lt, or_parts, ne_eqb}
 use Rattle.std.specs.List.{prefix_len}
 use Rattle.std.proofs.lemmas.List.Sums.{prefix_len-le-length, prefix_len_passes}
 use Rattle.std.proofs.lemmas.List.{drop-drop, get_or-map, length-drop, length-map}
@@ -59,10 +58,7 @@ pub first-none : (m : ℕ) → m ≡ 0 → 16 ≡ first m
 first-none m e = ap first (sym e)
 
 pub first-some : (m : ℕ) → m ≢ 0 → count_trailing_zeros 64 m ≡ first m
-first-some m e = ap (λ c. cond c 16 (count_trailing_zeros 64 m)) (sym (other m e))
-  where
-    other : (n : ℕ) → n ≢ 0 → eqb n 0 ≡ false
-    other n h = grind (arith, nat_tests)
+first-some m e = ap (λ c. cond c 16 (count_trailing_zeros 64 m)) (sym (ne_eqb m 0 e))
 
 abbrev pub mask : List ℕ → List ℕ → ℕ
 mask xs ys = mask_l (map (top 7) (lanes xs ys)) % 2 ^ 64

@@ -2,16 +2,16 @@
 use Rattle.std.proofs.Common.{◌≡◌, ℕ, zero, suc, ◌<◌, ◌≤◌, ◌≢◌, false, ◌&&◌, List, [], ◌∷◌, Some, None, length, take, drop}
 use Rattle.std.proofs.Common.{refl, sym, ◌∙◌, ap, subst, arith}
 use Rattle.std.specs.Prelude.{◌==◌}
-use Rattle.std.proofs.lemmas.Bool.{eqb-true}
+use Rattle.std.proofs.lemmas.Bool.{eqb-true, false_from_ne_true}
+use Rattle.iri_grammar.specs.Cut.{begins}
 use Rattle.iri_grammar.proofs.CutLaws.{both}
-use Rattle.iri_grammar.proofs.CutLemmas.{false-where}
-use Rattle.iri_grammar.specs.Ipv6Test.{begins, before_double, after_double}
+use Rattle.iri_grammar.specs.Ipv6Test.{before_double, after_double}
 
 -- none at the start
 none_here : (x : ℕ) (xs : List ℕ) → ((rest : List ℕ) → x ∷ xs ≢ 58 ∷ 58 ∷ rest) → (x == 58 && begins 58 xs) ≡ false
-none_here x [] n = false-where (x == 58 && false) (λ e. let two = both (x == 58) false e in cc)
+none_here x [] n = false_from_ne_true (x == 58 && false) (λ e. let two = both (x == 58) false e in cc)
 none_here x (y ∷ ys) n =
-    false-where (x == 58 && y == 58) (λ e. let two = both (x == 58) (y == 58) e in
+    false_from_ne_true (x == 58 && y == 58) (λ e. let two = both (x == 58) (y == 58) e in
     n ys (ap (λ c. c ∷ y ∷ ys) (eqb-true x 58 two.0) ∙ ap (λ c. 58 ∷ c ∷ ys) (eqb-true y 58 two.1)))
 
 pub no_double : (bs : List ℕ) → ((i : ℕ) → i ≤ length bs → (rest : List ℕ) → drop i bs ≢ 58 ∷ 58 ∷ rest)

@@ -193,7 +193,7 @@ some-after (x ∷ xs) h =
     elim (x == 58) as (λ b. (not b && lacks 58 xs) ≡ false
     → is_some (cond b (Some xs) (after 58 xs)) ≡ true) [ true ↦ λ _. refl | false ↦ λ k. some-after xs k ] h
 
-colon-there : (b : Bool) (k : ErrorKind) (o : Option ErrorKind) → cond b (Some k) o ≡ None → (b ≡ false) × (o ≡ None)
+pub colon-there : (b : Bool) (k : ErrorKind) (o : Option ErrorKind) → cond b (Some k) o ≡ None → (b ≡ false) × (o ≡ None)
 colon-there true k o h = cc
 colon-there false k o h = (refl, h)
 
@@ -287,13 +287,10 @@ Kept o = (k : ErrorKind) → o ≡ Some k → absolute_kind k ≡ k
 
 kept-unless : (b : Bool) (e : ErrorKind) → absolute_kind e ≡ e → Kept (unless b e)
 kept-unless true e h k n = cc
-kept-unless false e h k n = subst Kept-at (some-is e k n) h
+kept-unless false e h k n = subst Kept-at (cc) h
   where
     Kept-at : ErrorKind → Type 0
     Kept-at k = absolute_kind k ≡ k
-
-    some-is : (a b : ErrorKind) → Some a ≡ Some b → a ≡ b
-    some-is a b h = cc
 
 kept-first : (a b : Option ErrorKind) → Kept a → Kept b → Kept (first a b)
 kept-first None b h k = k
@@ -348,7 +345,7 @@ relative-none : (t : List ℕ) → IsNone (relative_split_of t).scheme
 unfolding relative_split_of
 relative-none t = refl
 
-none-is : (o : Option (List ℕ)) → IsNone o → o ≡ None
+pub none-is : (o : Option (List ℕ)) → IsNone o → o ≡ None
 none-is None h = refl
 none-is (Some x) h = cc
 

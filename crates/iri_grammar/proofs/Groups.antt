@@ -2,6 +2,7 @@
 use Rattle.std.proofs.Common.{◌≡◌, ℕ, ◌+◌, Bool, true, false, cond, ◌&&◌, ◌||◌, List, [], ◌∷◌, Option, Some, None, refl, sym, ◌∙◌, ap}
 use Rattle.std.proofs.Common.{arith}
 use Rattle.std.specs.Prelude.{◌==◌, nat_lt}
+use Rattle.std.proofs.lemmas.Option.{cond_some}
 use Rattle.iri_grammar.specs.Cut.{before, after}
 use Rattle.iri_grammar.specs.Pieces.{pieces}
 use Rattle.iri_grammar.proofs.PiecesLaws.{pieces_cut}
@@ -45,6 +46,10 @@ pub last_none : (v : Bool) (n : ℕ) (t : List ℕ) (total : Option ℕ) → aft
     → (v && is_ipv4 (before 58 t)) ≡ false → plus n (count v (pieces 58 t)) ≡ total → None ≡ total
 last_none v n t total e g w h = sym (plus_none n (count v (pieces 58 t)) (rw (count_last v t e, g, w) refl)) ∙ h
 
+plus_cond : (b : Bool) (n : ℕ) → plus 1 (cond b (Some n) None) ≡ cond b (Some (1 + n)) None
+plus_cond true n = refl
+plus_cond false n = refl
+
 -- what the count says
 pub counted_prefix : (ps : List (List ℕ)) → count false ps ≡ cond (are_groups ps) (Some (group_count ps)) None
 counted_prefix [] = refl
@@ -60,10 +65,6 @@ counted_prefix (p ∷ q ∷ ps) =
           ∙ plus_cond (are_groups (q ∷ ps)) (group_count (q ∷ ps)))
       | false ↦ λ _. refl
     ] refl
-  where
-    plus_cond : (b : Bool) (n : ℕ) → plus 1 (cond b (Some n) None) ≡ cond b (Some (1 + n)) None
-    plus_cond true n = refl
-    plus_cond false n = refl
 
 pub counted_back : (ps : List (List ℕ)) → count true ps ≡ cond (are_groups_or_ipv4 ps) (Some (group_count ps)) None
 counted_back [] = refl
@@ -80,22 +81,14 @@ counted_back (p ∷ q ∷ ps) =
           ∙ plus_cond (are_groups_or_ipv4 (q ∷ ps)) (group_count (q ∷ ps)))
       | false ↦ λ _. refl
     ] refl
-  where
-    plus_cond : (b : Bool) (n : ℕ) → plus 1 (cond b (Some n) None) ≡ cond b (Some (1 + n)) None
-    plus_cond true n = refl
-    plus_cond false n = refl
 
--- a count, and none
-told : (b : Bool) (u n : ℕ) → cond b (Some u) None ≡ Some n → (b ≡ true) × (u ≡ n)
-told true u n h = (refl, cc)
-told false u n h = cc
-
+-- no count
 untold : (b : Bool) (u : ℕ) → cond b (Some u) None ≡ None → b ≡ false
 untold true u h = cc
 untold false u h = refl
 
 pub full_count : (ps : List (List ℕ)) (n : ℕ) → count true ps ≡ Some n → (n == 8) ≡ is_full ps
-full_count ps n h = let k = told (are_groups_or_ipv4 ps) (group_count ps) n (sym (counted_back ps) ∙ h) in rw (k.0, k.1) refl
+full_count ps n h = let k = cond_some (are_groups_or_ipv4 ps) (group_count ps) n (sym (counted_back ps) ∙ h) in rw (k.0, k.1) refl
 
 pub full_none : (ps : List (List ℕ)) → count true ps ≡ None → false ≡ is_full ps
 full_none ps h = rw (untold (are_groups_or_ipv4 ps) (group_count ps) (sym (counted_back ps) ∙ h)) refl
@@ -103,8 +96,8 @@ full_none ps h = rw (untold (are_groups_or_ipv4 ps) (group_count ps) (sym (count
 pub short_count : (fs bs : List (List ℕ)) (m n : ℕ) → count false fs ≡ Some m → count true bs ≡ Some n
     → nat_lt (m + n) 8 ≡ is_shortened fs bs
 short_count fs bs m n h k =
-    let a = told (are_groups fs) (group_count fs) m (sym (counted_prefix fs) ∙ h) in
-    let b = told (are_groups_or_ipv4 bs) (group_count bs) n (sym (counted_back bs) ∙ k) in
+    let a = cond_some (are_groups fs) (group_count fs) m (sym (counted_prefix fs) ∙ h) in
+    let b = cond_some (are_groups_or_ipv4 bs) (group_count bs) n (sym (counted_back bs) ∙ k) in
     rw (a.0, b.0, a.1, b.1) refl
 
 pub short_prefix_none : (fs bs : List (List ℕ)) → count false fs ≡ None → false ≡ is_shortened fs bs

@@ -2,9 +2,8 @@
 use Rattle.std.proofs.Common.{◌≡◌, ℕ, ◌<◌, Bool, true, false, cond, not, ◌&&◌, get_or, refl, ◌∙◌, ap}
 use Rattle.std.specs.Prelude.{◌==◌, bit_and}
 use Rattle.std.specs.Char.{is_ascii_hexdigit}
-use Rattle.std.proofs.lemmas.Bool.{eqb-true}
+use Rattle.std.proofs.lemmas.Bool.{eqb-true, agree_below, agree_below_at}
 use Rattle.iri_grammar.specs.declared.unit.TheConstants.{HEX_DIGITS}
-use Rattle.iri_grammar.proofs.Tables.{agree_below, agree_at}
 
 abbrev delimited : ℕ → ℕ → Bool
 delimited delimiter b = get_or HEX_DIGITS b 0 == delimiter
@@ -21,8 +20,8 @@ zeros = refl
 digit-delimiter : (b : ℕ) → b < 256 → get_or HEX_DIGITS b 0 ≡ cond (is_ascii_hexdigit b) 49 48
 digit-delimiter b lt =
     elim (is_ascii_hexdigit b) as (λ v. is_ascii_hexdigit b ≡ v → get_or HEX_DIGITS b 0 ≡ cond v 49 48) [
-      | true ↦ λ e. eqb-true (get_or HEX_DIGITS b 0) 49 (agree_at (delimited 49) is_ascii_hexdigit 256 ones b lt ∙ e)
-      | false ↦ λ e. eqb-true (get_or HEX_DIGITS b 0) 48 (agree_at (delimited 48) is_other 256 zeros b lt ∙ ap not e)
+      | true ↦ λ e. eqb-true (get_or HEX_DIGITS b 0) 49 (agree_below_at (delimited 49) is_ascii_hexdigit 256 b ones lt ∙ e)
+      | false ↦ λ e. eqb-true (get_or HEX_DIGITS b 0) 48 (agree_below_at (delimited 48) is_other 256 b zeros lt ∙ ap not e)
     ] refl
 
 pub both-digits : (a b : ℕ) → a < 256 → b < 256

@@ -5,15 +5,15 @@ use Rattle.std.specs.Prelude.{◌==◌, nat_lt}
 use Rattle.std.specs.Char.{is_ascii_digit, is_ascii_hexdigit}
 use Rattle.std.specs.List.{list_all}
 use Rattle.std.proofs.lemmas.Bool.Decides.{nat_tests}
-use Rattle.iri_grammar.specs.Cut.{before, after, lacks, tail}
+use Rattle.iri_grammar.specs.Cut.{before, after, lacks, tail, begins}
 use Rattle.iri_grammar.proofs.CutLaws.{all-lacks, by_test, both}
 use Rattle.iri_grammar.specs.Pieces.{pieces, onto, joined}
 use Rattle.iri_grammar.specs.inside.PiecesLaws.{more_pieces}
 use Rattle.iri_grammar.proofs.PiecesLaws.{pieces_cut}
 use Rattle.iri_grammar.specs.Ipv4.{is_ipv4, is_dec_octet, are_four_octets}
 use Rattle.iri_grammar.specs.Ipv6.{IsFullIpv6, IsShortenedIpv6, IsIpv6, is_group, are_groups, are_groups_or_ipv4, group_count}
-use Rattle.iri_grammar.specs.Ipv6Test.{begins, before_double, after_double, group_texts, is_ipv6_around, is_ipv6}
-use Rattle.iri_grammar.proofs.LiteralChars.{octet-digits}
+use Rattle.iri_grammar.specs.Ipv6Test.{before_double, after_double, group_texts, is_ipv6_around, is_ipv6}
+use Rattle.iri_grammar.proofs.LiteralChars.{hex_of_group, octet-digits}
 
 -- a text without a delimiter is one piece
 pub one_piece : (c : ℕ) (t : List ℕ) → lacks c t ≡ true → pieces c t ≡ t ∷ []
@@ -25,14 +25,6 @@ one_piece c (x ∷ xs) h =
     h
 
 -- a group has no dot
-hex_of_group : (p : List ℕ) → is_group p ≡ true → list_all is_ascii_hexdigit p ≡ true
-unfolding is_group
-hex_of_group p h = first (list_all is_ascii_hexdigit p) _ _ h
-  where
-    first : (a b c : Bool) → (a && b && c) ≡ true → a ≡ true
-    first true b c h = refl
-    first false b c h = cc
-
 pub group_is_no_ipv4 : (p : List ℕ) → is_group p ≡ true → is_ipv4 p ≡ false
 group_is_no_ipv4 p h = ap are_four_octets (one_piece 46 p (all-lacks is_ascii_hexdigit 46 p refl (hex_of_group p h)))
 

@@ -1,6 +1,7 @@
 -- From one kind of whole text to another, and from a whole text to its parts, said of faults.
 use Rattle.std.proofs.Common.{◌≡◌, ℕ, true, List, [], ◌∷◌, ◌++◌, Option, Some, None, refl, sym, ◌∙◌, ap, subst, append_assoc}
 use Rattle.std.specs.Prelude.{IsSome}
+use Rattle.std.proofs.lemmas.List.{append-nil}
 use Rattle.iri_grammar.specs.Classes.{Tests, IsSpec}
 use Rattle.iri_grammar.specs.Components.{if_there, is_scheme}
 use Rattle.iri_grammar.specs.Cut.{before, lacks, delimited}
@@ -20,10 +21,6 @@ iri-has_scheme s k t h = let r = (iri-law s k t).0 h in subst (λ p. IsSome p.sc
 abbrev pub without_fragment : Parts → Parts
 without_fragment p = record { scheme = p.scheme; authority = p.authority; path = p.path; query = p.query; fragment = None }
 
-nothing_after : (xs : List ℕ) → xs ++ [] ≡ xs
-nothing_after [] = refl
-nothing_after (x ∷ xs) = ap (λ ys. x ∷ ys) (nothing_after xs)
-
 pub scheme_text-lacks : (o : Option (List ℕ)) → if_there is_scheme o ≡ true → lacks 35 (scheme_text o) ≡ true
 scheme_text-lacks None h = refl
 scheme_text-lacks (Some x) h = lacks-append 35 x (58 ∷ []) (scheme-lacks 35 x hash_ends h) (lacks-other 35 58 [] refl refl)
@@ -39,7 +36,7 @@ before-hash sch a p q f m =
     (lacks-append 35 (authority_text a) _ (authority_text-lacks 35 a refl m.authority_hash)
     (lacks-append 35 p (delimited 63 q) m.path_hash (delimited-lacks 35 63 q refl m.query_hash))) in
     let grouped : scheme_text sch ++ (authority_text a ++ (p ++ (delimited 63 q ++ delimited 35 f))) ≡ prefix ++ delimited 35 f = simp append_assoc in
-    ap (λ z. scheme_text sch ++ (authority_text a ++ (p ++ z))) (nothing_after (delimited 63 q))
+    ap (λ z. scheme_text sch ++ (authority_text a ++ (p ++ z))) (append-nil (delimited 63 q))
     ∙ sym (ap (before 35) grouped ∙ before-delimited 35 prefix f plain)
 
 pub splits_without_fragment : (s : Tests) → IsSpec s → (t : List ℕ) (p : Parts) → Splits s t p → Splits s (before 35 t) (without_fragment p)

@@ -9,10 +9,10 @@ use Rattle.iri_grammar.specs.Classes.{is_ascii_userinfo, is_ascii_reg_name, is_a
 use Rattle.iri_grammar.specs.Pieces.{pieces, onto}
 use Rattle.iri_grammar.specs.Ipv4.{is_ipv4, is_dec_octet, is_hundreds, are_four_octets}
 use Rattle.iri_grammar.specs.Ipv6.{is_group, are_groups, are_groups_or_ipv4, group_count}
-use Rattle.iri_grammar.specs.Ipv6Test.{begins, before_double, after_double, group_texts, is_ipv6_around, is_ipv6}
+use Rattle.iri_grammar.specs.Ipv6Test.{before_double, after_double, group_texts, is_ipv6_around, is_ipv6}
 use Rattle.iri_grammar.specs.IpLiteral.{some_of, is_future_address, is_ipvfuture, is_end, is_ip_literal}
-use Rattle.iri_grammar.specs.Cut.{before, after, delimited, tail}
-use Rattle.iri_grammar.proofs.CutLaws.{by_test, both, joined}
+use Rattle.iri_grammar.specs.Cut.{before, after, delimited, tail, begins}
+use Rattle.iri_grammar.proofs.CutLaws.{by_test, both, and_three, joined}
 
 -- brackets, and what stands in them: hex digits, `.`, `:` and the other ASCII characters of a userinfo
 unfoldable pub is_literal_char : ℕ → Bool
@@ -83,28 +83,21 @@ octets-literal (a ∷ []) h = cc
 octets-literal (a ∷ b ∷ []) h = cc
 octets-literal (a ∷ b ∷ c ∷ []) h = cc
 octets-literal (a ∷ b ∷ c ∷ d ∷ []) h =
-    let k : (is_dec_octet a ≡ true) × (is_dec_octet b ≡ true) × (is_dec_octet c ≡ true) × (is_dec_octet d ≡ true) =
-    four (is_dec_octet a) (is_dec_octet b) (is_dec_octet c) (is_dec_octet d) h in
-    rw (octet-literal a k.0, octet-literal b k.1, octet-literal c k.2, octet-literal d k.3) refl
-  where
-    four : (a b c d : Bool) → (a && b && c && d) ≡ true → (a ≡ true) × (b ≡ true) × (c ≡ true) × (d ≡ true)
-    four true true true d h = (refl, refl, refl, h)
-    four true true false d h = cc
-    four true false c d h = cc
-    four false b c d h = cc
+    let last = both (is_dec_octet a && is_dec_octet b && is_dec_octet c) (is_dec_octet d) h in
+    let k = and_three (is_dec_octet a) (is_dec_octet b) (is_dec_octet c) last.0 in
+    rw (octet-literal a k.0, octet-literal b k.1, octet-literal c k.2, octet-literal d last.1) refl
 octets-literal (a ∷ b ∷ c ∷ d ∷ e ∷ ps) h = cc
 
 pub ipv4-literal : (xs : List ℕ) → is_ipv4 xs ≡ true → list_all is_literal_char xs ≡ true
 ipv4-literal xs h = pieces-all is_literal_char 46 xs dot-literal (octets-literal (pieces 46 xs) h)
 
 -- ---- IPv6
-group-literal : (xs : List ℕ) → is_group xs ≡ true → list_all is_literal_char xs ≡ true
+pub hex_of_group : (p : List ℕ) → is_group p ≡ true → list_all is_ascii_hexdigit p ≡ true
 unfolding is_group
-group-literal xs h = all-weaken is_ascii_hexdigit is_literal_char hex-literal xs (one (list_all is_ascii_hexdigit xs) _ _ h)
-  where
-    one : (a b c : Bool) → (a && b && c) ≡ true → a ≡ true
-    one true b c h = refl
-    one false b c h = cc
+hex_of_group p h = (and_three (list_all is_ascii_hexdigit p) _ _ h).0
+
+group-literal : (xs : List ℕ) → is_group xs ≡ true → list_all is_literal_char xs ≡ true
+group-literal xs h = all-weaken is_ascii_hexdigit is_literal_char hex-literal xs (hex_of_group xs h)
 
 groups-literal : (ps : List (List ℕ)) → are_groups ps ≡ true → list_all (list_all is_literal_char) ps ≡ true
 groups-literal [] h = refl
@@ -157,13 +150,8 @@ around-literal prefix None h = (
   refl,
 )
 around-literal prefix (Some back) h =
-    let k = three (are_groups (group_texts prefix)) (are_groups_or_ipv4 (group_texts back)) _ h in
+    let k = and_three (are_groups (group_texts prefix)) (are_groups_or_ipv4 (group_texts back)) _ h in
     (parts-literal prefix (groups-literal (group_texts prefix) k.0), parts-literal back (mixed-literal (group_texts back) k.1))
-  where
-    three : (a b c : Bool) → (a && b && c) ≡ true → (a ≡ true) × (b ≡ true)
-    three true true c h = (refl, refl)
-    three true false c h = cc
-    three false b c h = cc
 
 ipv6-literal : (xs : List ℕ) → is_ipv6 xs ≡ true → list_all is_literal_char xs ≡ true
 ipv6-literal xs h = let k = around-literal (before_double xs) (after_double xs) h in double-literal xs k.0 k.1
@@ -185,15 +173,10 @@ version-literal v h = grind (arith, nat_tests)
 future-literal : (xs : List ℕ) → is_ipvfuture xs ≡ true → list_all is_literal_char xs ≡ true
 future-literal [] h = refl
 future-literal (v ∷ xs) h =
-    let k = three (v == 118 || v == 86) (some_of is_ascii_hexdigit (before 46 xs)) (is_future_address (after 46 xs)) h in
+    let k = and_three (v == 118 || v == 86) (some_of is_ascii_hexdigit (before 46 xs)) (is_future_address (after 46 xs)) h in
     let digits = all-weaken is_ascii_hexdigit is_literal_char hex-literal (before 46 xs) (some-all is_ascii_hexdigit (before 46 xs) k.1) in
     rw (version-literal v k.0) (subst (λ ys. list_all is_literal_char ys ≡ true) (joined 46 xs)
     (all-join is_literal_char (before 46 xs) (delimited 46 (after 46 xs)) digits (address-literal (after 46 xs) k.2)))
-  where
-    three : (a b c : Bool) → (a && b && c) ≡ true → (a ≡ true) × (b ≡ true) × (c ≡ true)
-    three true true c h = (refl, refl, h)
-    three true false c h = cc
-    three false b c h = cc
 
 -- ---- IP literals
 open-literal : (b : ℕ) → (b == 91) ≡ true → is_literal_char b ≡ true
@@ -219,11 +202,6 @@ address xs h =
 pub ip_literal-chars : (xs : List ℕ) → is_ip_literal xs ≡ true → list_all is_literal_char xs ≡ true
 ip_literal-chars [] h = refl
 ip_literal-chars (b ∷ xs) h =
-    let k = three (b == 91) (is_end (after 93 xs)) (is_ipv6 (before 93 xs) || is_ipvfuture (before 93 xs)) h in
+    let k = and_three (b == 91) (is_end (after 93 xs)) (is_ipv6 (before 93 xs) || is_ipvfuture (before 93 xs)) h in
     rw (open-literal b k.0) (subst (λ ys. list_all is_literal_char ys ≡ true) (joined 93 xs)
     (all-join is_literal_char (before 93 xs) (delimited 93 (after 93 xs)) (address (before 93 xs) k.2) (end-literal (after 93 xs) k.1)))
-  where
-    three : (a b c : Bool) → (a && b && c) ≡ true → (a ≡ true) × (b ≡ true) × (c ≡ true)
-    three true true c h = (refl, refl, h)
-    three true false c h = cc
-    three false b c h = cc

@@ -1,16 +1,18 @@
 -- Plain authorities: a name in ASCII, and perhaps a port.
-use Rattle.std.proofs.Common.{◌≡◌, ℕ, suc, ◌+◌, ◌≤◌, Bool, true, false, cond, not, ◌&&◌, ◌||◌, List, [], ◌∷◌, ◌++◌, Option, Some, None}
+use Rattle.std.proofs.Common.{◌≡◌, ℕ, suc, ◌+◌, ◌≤◌, Bool, true, false, cond, not, ◌&&◌, List, [], ◌∷◌, ◌++◌, Option, Some, None}
 use Rattle.std.proofs.Common.{length, take, drop, refl, sym, ◌∙◌, ap, arith, add-one}
 use Rattle.std.specs.Prelude.{◌==◌, is_some}
 use Rattle.std.specs.Char.{is_ascii_digit}
 use Rattle.std.specs.List.{list_all}
 use Rattle.std.specs.Str.{IsUtf8}
-use Rattle.std.proofs.lemmas.Bool.{eqb-true}
+use Rattle.std.proofs.lemmas.Bool.{eqb-true, ne_eqb}
 use Rattle.std.proofs.lemmas.Str.{IsUtf8-from_ascii}
 use Rattle.std.proofs.lemmas.Bool.Decides.{nat_tests}
 use Rattle.std.proofs.lemmas.List.{length-drop, length-take-le}
 use Rattle.std.proofs.lemmas.List.Folds.{list_all-append}
 use Rattle.std.proofs.Math.Seq.{take-add}
+use Rattle.std.proofs.Math.Bool.{or-true}
+use Rattle.iri_grammar.proofs.LiteralChars.{all-weaken}
 use Rattle.iri_grammar.specs.Authority.{authority_parts, is_authority}
 use Rattle.iri_grammar.specs.Classes.{Tests, IsSpec, is_ascii_userinfo, is_ascii_reg_name, is_ascii_unreserved, is_sub_delim}
 use Rattle.iri_grammar.specs.ClassTests.{ascii_test}
@@ -81,14 +83,10 @@ digit_char : (x : ℕ) → is_ascii_digit x ≡ true → ascii_test Userinfo x �
 unfolding is_ascii_userinfo is_ascii_reg_name is_ascii_unreserved is_sub_delim
 digit_char x h = grind (arith, nat_tests)
 
-all_of : (p q : ℕ → Bool) → ((x : ℕ) → p x ≡ true → q x ≡ true) → (xs : List ℕ) → list_all p xs ≡ true → list_all q xs ≡ true
-all_of p q f [] h = refl
-all_of p q f (x ∷ xs) h = let k = both (p x) (list_all p xs) h in rw (f x k.0) (all_of p q f xs k.1)
-
 port_chars : (p : Option (List ℕ)) → if_there is_port p ≡ true → list_all (ascii_test Userinfo) (delimited 58 p) ≡ true
 unfolding is_ascii_userinfo is_ascii_reg_name is_ascii_unreserved is_sub_delim
 port_chars None h = refl
-port_chars (Some d) h = all_of is_ascii_digit (ascii_test Userinfo) digit_char d h
+port_chars (Some d) h = all-weaken is_ascii_digit (ascii_test Userinfo) digit_char d h
 
 no_at : (h : List ℕ) → list_all (ascii_test RegName) h ≡ true → lacks 64 h ≡ true
 unfolding is_ascii_reg_name is_ascii_unreserved is_sub_delim
@@ -103,7 +101,7 @@ plain_of : (h : List ℕ) (p : Option (List ℕ)) → list_all (ascii_test RegNa
 unfolding is_plain_authority
 plain_of h p n d k = record {
   chars = list_all-append (ascii_test Userinfo) h (delimited 58 p)
-      ∙ rw (all_of (ascii_test RegName) (ascii_test Userinfo) name_char h n) (port_chars p d);
+      ∙ rw (all-weaken (ascii_test RegName) (ascii_test Userinfo) name_char h n) (port_chars p d);
   plain = rw (name_parts h p (no_at h n) (no_colon h n) d, n, k) refl;
 }
 
@@ -122,11 +120,7 @@ digit_small x h = grind (arith, nat_tests)
 
 pub port_small : (p : Option (List ℕ)) → if_there is_port p ≡ true → list_all is_small (delimited 58 p) ≡ true
 port_small None h = refl
-port_small (Some d) h = all_of is_ascii_digit is_small digit_small d h
-
-pub not-small : (b : Bool) → not b ≡ false → b ≡ true
-not-small true h = refl
-not-small false h = cc
+port_small (Some d) h = all-weaken is_ascii_digit is_small digit_small d h
 
 -- a name goes on after its characters in lower case exactly with a capital letter
 pub record SmallRun (t : List ℕ) (n : ℕ) : Type 0 where
@@ -139,13 +133,13 @@ small_run (x ∷ xs) =
     elim (ascii_test RegName x) as (λ b. ascii_test RegName x ≡ b → SmallRun (x ∷ xs) (run_of is_small_name_char (x ∷ xs))) [
       | true ↦ λ e. elim (is_small x) as (λ b. is_small x ≡ b → SmallRun (x ∷ xs) (run_of is_small_name_char (x ∷ xs))) [
         | true ↦ λ f. let r = small_run xs in rw (e, f) (record { whole = rw e (omega (arith, r.whole)); small = rw (e, f) r.small })
-        | false ↦ λ f. rw (e, f) (record { whole = omega arith; small = rw (e, f) (sym (never (name_len xs))) })
+        | false ↦ λ f. rw (e, f) (record {
+          whole = omega arith;
+          small = rw (e, f) (sym (ne_eqb (suc (name_len xs)) 0 (λ n. absurd (omega (arith, n)))));
+        })
       ] refl
       | false ↦ λ e. rw e (record { whole = rw e (omega arith); small = rw e refl })
     ] refl
-  where
-    never : (n : ℕ) → (suc n == 0) ≡ false
-    never n = grind (arith, nat_tests)
 
 -- ---- what is cut
 pub record PlainCut (t : List ℕ) : Type 0 where
@@ -182,10 +176,6 @@ three false b c h = (refl, (both b c h).0)
 none_there : (o : Option (List ℕ)) (f : List ℕ → Bool) → is_some o ≡ false → if_there f o ≡ true
 none_there None f h = refl
 none_there (Some x) f h = cc
-
-or-true : (b : Bool) → (b || true) ≡ true
-or-true true = refl
-or-true false = refl
 
 pub plain_no_fault : (s : Tests) → IsSpec s → (a : List ℕ) → is_plain_authority a ≡ true → authority_fault s a ≡ None
 unfolding is_plain_authority is_authority

@@ -1,10 +1,12 @@
 -- Parts that are made of ASCII characters of their classes alone.
 use Rattle.std.proofs.Common.{◌≡◌, ℕ, suc, Bool, true, false, cond, List, [], ◌∷◌, ◌++◌, Option, Some, None, length, take, drop, refl, sym}
-use Rattle.std.proofs.Common.{◌∙◌, ◌||◌, ap, append-nil}
+use Rattle.std.proofs.Common.{◌∙◌, ap, append-nil}
 use Rattle.std.specs.List.{list_all}
 use Rattle.std.specs.Str.{chars}
 use Rattle.std.proofs.lemmas.Str.{IsUtf8-from_ascii}
 use Rattle.std.proofs.lemmas.Bool.{eqb-true}
+use Rattle.std.proofs.Math.Bool.{or-true}
+use Rattle.std.proofs.Math.Seq.{drop-length}
 use Rattle.iri_grammar.specs.Authority.{recompose_authority}
 use Rattle.iri_grammar.specs.Classes.{Tests, IsSpec, is_ascii_reg_name, is_ascii_userinfo, is_ascii_unreserved, is_sub_delim}
 use Rattle.iri_grammar.specs.Delimiters.{before_any, from_any}
@@ -40,16 +42,12 @@ run-all p (x ∷ xs) =
     ] refl
 
 -- ---- such a part is in its production
-drop_all : (t : List ℕ) → drop (length t) t ≡ []
-drop_all [] = refl
-drop_all (x ∷ xs) = drop_all xs
-
 pub plain-over : (s : Tests) → IsSpec s → (k : Class) (t : List ℕ) → list_all (ascii_test k) t ≡ true → text_over (class_test s k) t ≡ true
 plain-over s l k t h =
     let q = ascii_test k in
     let u = IsUtf8-from_ascii t (all_below q (ascii_test_below k) t h) in
     let whole : run_of q t ≡ length t = eqb-true (run_of q t) (length t) (run_of_all q t ∙ h) in
-    let rest : drop (run_of q t) t ≡ [] = ap (λ n. drop n t) whole ∙ drop_all t in
+    let rest : drop (run_of q t) t ≡ [] = ap (λ n. drop n t) whole ∙ drop-length t in
     of_text (class_test s k) t u ∙ sym (run_past (class_test s k) q t (class_has_ascii s l k) (class_has_no_percent s l k) u)
     ∙ ap (λ x. over (class_test s k) (chars x)) rest ∙ nothing_more (class_test s k)
 
@@ -78,10 +76,6 @@ name-text a = append-nil a
 pub plain_name : (s : Tests) → IsSpec s → (a : List ℕ) → list_all (ascii_test RegName) a ≡ true → authority_fault s a ≡ None
 plain_name s l a h = authority-no_fault s a (passes s l a (record { userinfo = None; host = a; port = None })
     (record { userinfo = refl; host = rw (plain-over s l RegName a h) (or-true (is_ip_literal a)); port = refl }, name-text a))
-  where
-    or-true : (b : Bool) → (b || true) ≡ true
-    or-true true = refl
-    or-true false = refl
 
 -- beside an authority without a fault, only a colon out of its place is left to be one
 pub colon-fault : (s : Tests) (p : Parts) → part_fault (authority_fault s) p.authority ≡ None → AreOver s p.path p.query p.fragment

@@ -3,13 +3,13 @@ use Rattle.std.proofs.Common.{◌≡◌, ℕ, zero, suc, ◌+◌, ◌-◌, ◌*�
 use Rattle.std.proofs.Common.{◌≢◌, refl, sym, ap, ap₂, ◌∙◌, arith, w8, Fits}
 use Rattle.std.specs.List.{prefix_len}
 use Rattle.std.proofs.lemmas.List.{get_or-map, length-map, ext_get_or}
-use Rattle.std.proofs.lemmas.Bool.Decides.{nat_tests}
 use Rattle.std.proofs.lemmas.List.{length-drop, take_all}
 use Rattle.std.proofs.lemmas.Nat.{and_le_r}
 use Rattle.std.proofs.lemmas.Simd.{Each1-all, Each1-weaker, Each1-zip2, Each2-splat, SwzOk, SwzOk-from_below, below_from_Fits, length-zip2}
 use Rattle.std.proofs.lemmas.Simd.{map-map, bitmask_splat, first_set_mask_l, zip2-map, swz_l, length-swz_l, get_or-swz_l_below}
 use lib.Count.{count_trailing_zeros}
 use lib.Lanes.{zip2, mask_l, top, Each1}
+use Rattle.std.proofs.lemmas.Bool.{ne_eqb, agree_below, agree_below_at}
 use Rattle.iri_grammar.specs.Classes.{is_ascii_unreserved, is_ascii_reg_name, is_ascii_userinfo, is_ascii_pchar, is_ascii_path}
 use Rattle.iri_grammar.specs.Classes.{is_ascii_query, is_ascii_any, is_sub_delim, is_gen_delim}
 use Rattle.iri_grammar.specs.ClassTests.{ascii_test, rank_of}
@@ -18,21 +18,10 @@ use Rattle.iri_grammar.specs.declared.class.Class.TheVariants.{Unreserved, RegNa
 use Rattle.iri_grammar.specs.inside.Halves.{high_bit, low_bits, row_test}
 use Rattle.iri_grammar.specs.inside.PlainAuthority.{is_small_name_char}
 use Rattle.iri_grammar.specs.Runs.{run_of}
-use Rattle.iri_grammar.proofs.Tables.{agree_at, agree_below}
 
 -- a vector of bytes
 abbrev pub IsBlock : List ℕ → Type 0
 IsBlock v = (length v ≡ 16) × Each1 (Fits w8) v
-
-pub rank_within : (k : Class) → (48 ≤ rank_of k) × (rank_of k ≤ 54)
-rank_within Unreserved = (omega arith, omega arith)
-rank_within RegName = (omega arith, omega arith)
-rank_within Userinfo = (omega arith, omega arith)
-rank_within Pchar = (omega arith, omega arith)
-rank_within Path = (omega arith, omega arith)
-rank_within Query = (omega arith, omega arith)
-rank_within Fragment = (omega arith, omega arith)
-rank_within Any = (omega arith, omega arith)
 
 -- ---- the rows agree with the classes, by computing
 computed : (k : Class) → agree_below (row_test (rank_of k - 48)) (ascii_test k) 256 ≡ true
@@ -56,10 +45,11 @@ same_run p q e [] h = refl
 same_run p q e (x ∷ xs) h = rw (e x (h 0).fits) (ap (λ n. cond (q x) (suc n) 0) (same_run p q e xs (λ i. h (suc i))))
 
 pub class_run : (k : Class) (t : List ℕ) → ((i : ℕ) → Fits w8 (get_or t i 0)) → run_of (row_test (rank_of k - 48)) t ≡ run_of (ascii_test k) t
-class_run k t h = same_run (row_test (rank_of k - 48)) (ascii_test k) (agree_at (row_test (rank_of k - 48)) (ascii_test k) 256 (computed k)) t h
+class_run k t h = same_run (row_test (rank_of k - 48)) (ascii_test k)
+    (λ b. agree_below_at (row_test (rank_of k - 48)) (ascii_test k) 256 b (computed k)) t h
 
 pub name_run : (t : List ℕ) → ((i : ℕ) → Fits w8 (get_or t i 0)) → run_of (row_test 7) t ≡ run_of is_small_name_char t
-name_run t h = same_run (row_test 7) is_small_name_char (agree_at (row_test 7) is_small_name_char 256 computed_names) t h
+name_run t h = same_run (row_test 7) is_small_name_char (λ b. agree_below_at (row_test 7) is_small_name_char 256 b computed_names) t h
 
 -- ---- look-ups, lane by lane
 lane_fits : (v : List ℕ) (i : ℕ) → Each1 (Fits w8) v → get_or v i 0 < 256
@@ -129,12 +119,9 @@ pub first-other : (r : ℕ) (v xs ys : List ℕ) → IsBlock v → xs ≡ map (l
     → mask_of (zip2 bit_and xs ys) ≢ 0 → count_trailing_zeros 64 (mask_of (zip2 bit_and xs ys)) ≡ run_of (row_test r) v
 first-other r v xs ys fits a b some =
     let m = mask_of (zip2 bit_and xs ys) in
-    let test : eqb m 0 ≡ false = eq-false m some in
+    let test : eqb m 0 ≡ false = ne_eqb m 0 some in
     ap (λ c. cond c 16 (count_trailing_zeros 64 m)) (sym test)
     ∙ ap (λ n. cond (eqb n 0) 16 (count_trailing_zeros 64 n)) (ap₂ (λ l m. mask_of (zip2 bit_and l m)) a b) ∙ run-mask r v fits
-  where
-    eq-false : (n : ℕ) → n ≢ 0 → eqb n 0 ≡ false
-    eq-false n h = grind (arith, nat_tests)
 
 -- ---- runs, part by part
 pub run-onward : (p : ℕ → Bool) (t : List ℕ) (i : ℕ) → i ≤ run_of p t → i + run_of p (drop i t) ≡ run_of p t

@@ -7,7 +7,7 @@ use Rattle.std.proofs.lemmas.Bool.{eqb-true}
 use Rattle.std.proofs.lemmas.Str.{IsUtf8-from_is_utf8, is_utf8-from_IsUtf8}
 use Rattle.iri_grammar.specs.Classes.{Tests, IsSpec, fragment_char, path_char, query_char}
 use Rattle.iri_grammar.specs.Components.{if_there, is_query}
-use Rattle.iri_grammar.specs.Cut.{before, after, lacks, delimited}
+use Rattle.iri_grammar.specs.Cut.{before, after, lacks, delimited, begins}
 use Rattle.iri_grammar.specs.Fault.{authority_fault, bytes_fault, first, fragment_fault, part_fault, query_fault, unless}
 use Rattle.iri_grammar.specs.OptionalSlices.{now_of}
 use Rattle.iri_grammar.specs.Over.{text_over}
@@ -20,7 +20,7 @@ use Rattle.iri_grammar.specs.declared.tail.Tail.{Tail}
 use Rattle.iri_grammar.specs.inside.Delimiters.{IsPastAuthority}
 use Rattle.iri_grammar.specs.inside.Runs.{HasNoUnit}
 use Rattle.iri_grammar.specs.inside.Scans.{fault_after, stop_fault, Scans}
-use Rattle.iri_grammar.specs.inside.Tails.{AreOver, starts_with, ScansTail, TailStops}
+use Rattle.iri_grammar.specs.inside.Tails.{AreOver, ScansTail, TailStops}
 use Rattle.iri_grammar.proofs.AuthorityTexts.{nothing-utf8, over_text-lacks}
 use Rattle.iri_grammar.proofs.CutLaws.{after-delimited, before-delimited, by_test, joined, lacks-append}
 use Rattle.iri_grammar.proofs.FaultLaws.{part-no_fault}
@@ -52,18 +52,18 @@ before-past c [] r h = refl
 before-past c (y ∷ x) r h = by_test y c (λ b. (not b && lacks c x) ≡ true → cond b [] (y ∷ before c (x ++ r)) ≡ y ∷ (x ++ before c r)) (λ _ k. cc)
     (λ _ k. ap (λ ys. y ∷ ys) (before-past c x r k)) h
 
-before-lacks : (c : ℕ) (r : List ℕ) → lacks c (before c r) ≡ true
+pub before-lacks : (c : ℕ) (r : List ℕ) → lacks c (before c r) ≡ true
 before-lacks c [] = refl
 before-lacks c (x ∷ r) = elim (x == c) as (λ b. (x == c) ≡ b → lacks c (cond b [] (x ∷ before c r)) ≡ true) [
   | true ↦ λ _. refl
   | false ↦ λ e. rw e (before-lacks c r)
 ] refl
 
-hash-some : (r : List ℕ) → starts_with 35 r ≡ false → is_empty r ≡ false → is_empty (before 35 r) ≡ false
+hash-some : (r : List ℕ) → begins 35 r ≡ false → is_empty r ≡ false → is_empty (before 35 r) ≡ false
 hash-some [] h some = some
 hash-some (x ∷ r) h some = rw h refl
 
-hier-some : (r : List ℕ) → starts_with 63 r ≡ false → starts_with 35 r ≡ false → is_empty r ≡ false → is_empty (hier_of r) ≡ false
+hier-some : (r : List ℕ) → begins 63 r ≡ false → begins 35 r ≡ false → is_empty r ≡ false → is_empty (hier_of r) ≡ false
 hier-some [] q h some = some
 hier-some (x ∷ r) q h some = rw (h, q) refl
 
@@ -160,10 +160,6 @@ scanned s k sch t a r p authority rest same scan =
     }
 
 -- ---- the fault of bytes
-pub nothing : (r : List ℕ) → (length r == 0) ≡ true → r ≡ []
-nothing [] h = refl
-nothing (x ∷ r) h = absurd (omega (arith, eqb-true (length (x ∷ r)) 0 h))
-
 pub whole-fault : (s : Tests) (sch : Option (List ℕ)) (t : List ℕ) (p : Parts) (r : List ℕ) → Scans s sch t p r → (length r == 0) ≡ true
     → bytes_fault (fault_after s sch) t ≡ parts_fault s (fragment_fault s) p
 whole-fault s sch t p [] h none = rw (h.text, is_utf8-from_IsUtf8 [] nothing-utf8) (ap (parts_fault s (fragment_fault s)) (sym (h.whole refl)))

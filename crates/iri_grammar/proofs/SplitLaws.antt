@@ -4,6 +4,7 @@ use Rattle.std.proofs.Common.{◌∙◌, ap, subst, arith, append_assoc}
 use Rattle.std.specs.Prelude.{◌==◌, is_some}
 use Rattle.std.proofs.lemmas.Bool.Decides.{nat_tests}
 use Rattle.std.specs.List.{list_all}
+use Rattle.std.proofs.lemmas.Bool.{not-true}
 use Rattle.iri_grammar.specs.Authority.{or_all}
 use Rattle.iri_grammar.specs.Components.{if_there, is_letter, is_scheme, is_scheme_char}
 use Rattle.iri_grammar.specs.Cut.{before, from, after, lacks, delimited}
@@ -103,10 +104,6 @@ stop_or_no_colon : (p r : List ℕ) → lacks 58 (before 47 p) ≡ true → stop
     → (not (list_all is_scheme_char (before 58 (p ++ r))) || not (is_some (after 58 (p ++ r)))) ≡ true
 stop_or_no_colon [] [] h k l = refl
 stop_or_no_colon [] (x ∷ xs) h k l = stopped x xs (not-true (is_scheme_char x) k) (not-true (x == 58) (both (not (x == 58)) true l).0)
-  where
-    not-true : (b : Bool) → not b ≡ true → b ≡ false
-    not-true true h = cc
-    not-true false h = refl
 stop_or_no_colon (x ∷ xs) r h k l =
     by_test x 47 (λ b. lacks 58 (cond b [] (x ∷ before 47 xs)) ≡ true
     → (not (list_all is_scheme_char (before 58 (x ∷ (xs ++ r)))) || not (is_some (after 58 (x ∷ (xs ++ r))))) ≡ true)
@@ -160,16 +157,8 @@ authority-split : (s a : Option (List ℕ)) (p : List ℕ) → if_there (lacks 4
 authority-split s (Some a) p l r =
     let e = edge p r in (ap Some (before-at 47 a p l e.0), from-at 47 a p l e.1)
 authority-split (Some s) None p l r = let n : starts_with_slashes p ≡ false = not-true (starts_with_slashes p) r in rw n (refl, refl)
-  where
-    not-true : (b : Bool) → not b ≡ true → b ≡ false
-    not-true true h = cc
-    not-true false h = refl
 authority-split None None p l r = let n : starts_with_slashes p ≡ false =
     not-true (starts_with_slashes p) (both (not (starts_with_slashes p)) (lacks 58 (before 47 p)) r).0 in rw n (refl, refl)
-  where
-    not-true : (b : Bool) → not b ≡ true → b ≡ false
-    not-true true h = cc
-    not-true false h = refl
 
 no_scheme-rules : (s a : Option (List ℕ)) (p : List ℕ) (q f : Option (List ℕ)) → path_rules s a p ≡ true → s ≡ None
     → no_scheme (authority_text a ++ (p ++ (delimited 63 q ++ delimited 35 f))) ≡ true

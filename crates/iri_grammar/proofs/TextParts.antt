@@ -6,6 +6,7 @@ use Rattle.std.specs.Str.{is_utf8, IsUtf8}
 use Rattle.std.proofs.lemmas.List.{take-append-drop}
 use Rattle.std.proofs.lemmas.Str.{IsCharBoundary-from_take, IsUtf8-append, IsUtf8-drop, IsUtf8-from_is_utf8, is_utf8-from_IsUtf8}
 use Rattle.std.proofs.Math.Seq.{take-append_seam, drop-append_seam}
+use Rattle.std.proofs.lemmas.Bool.{false_from_ne_true}
 use Rattle.iri_grammar.specs.Classes.{Tests, fragment_char, path_char, query_char}
 use Rattle.iri_grammar.specs.Cut.{delimited}
 use Rattle.iri_grammar.specs.Fault.{Answers, bytes_fault}
@@ -14,7 +15,6 @@ use Rattle.iri_grammar.specs.declared.error.ErrorKind.{ErrorKind}
 use Rattle.iri_grammar.specs.declared.error.ErrorKind.TheVariants.{InvalidUtf8}
 use Rattle.iri_grammar.specs.inside.Delimiters.{SchemeAt}
 use Rattle.iri_grammar.specs.inside.Tails.{AreOver}
-use Rattle.iri_grammar.proofs.CutLemmas.{false-where}
 use Rattle.iri_grammar.proofs.AuthorityTexts.{one_byte-utf8, text_over-utf8}
 use Rattle.iri_grammar.proofs.SplitUnique.{part-utf8}
 
@@ -29,7 +29,7 @@ pub text-after : (a r : List ℕ) → IsUtf8 a → is_utf8 (a ++ r) ≡ is_utf8 
 text-after a r u =
     elim (is_utf8 (a ++ r)) as (λ b. is_utf8 (a ++ r) ≡ b → b ≡ is_utf8 r) [
       | true ↦ λ e. sym (is_utf8-from_IsUtf8 r (rest-text a r u (IsUtf8-from_is_utf8 (a ++ r) e)))
-      | false ↦ λ e. sym (false-where (is_utf8 r)
+      | false ↦ λ e. sym (false_from_ne_true (is_utf8 r)
           (λ k. let both : true ≡ false = sym (is_utf8-from_IsUtf8 (a ++ r) (IsUtf8-append a r u (IsUtf8-from_is_utf8 r k))) ∙ e in cc))
     ] refl
 
@@ -56,7 +56,7 @@ pub text_fault : (f : List ℕ → Option ErrorKind) (bs : List ℕ) → IsUtf8 
 text_fault f bs u = rw (is_utf8-from_IsUtf8 bs u) refl
 
 pub no_text_fault : (f : List ℕ → Option ErrorKind) (bs : List ℕ) → (IsUtf8 bs → ⊥) → bytes_fault f bs ≡ Some InvalidUtf8
-no_text_fault f bs n = rw (false-where (is_utf8 bs) (λ e. n (IsUtf8-from_is_utf8 bs e))) refl
+no_text_fault f bs n = rw (false_from_ne_true (is_utf8 bs) (λ e. n (IsUtf8-from_is_utf8 bs e))) refl
 
 -- what is said of a text is said of its bytes
 pub answers-of : {A : Type 0} (r : Result A Error) (f : List ℕ → Option ErrorKind) (t bs : List ℕ) → t ≡ bs → IsUtf8 bs → Answers r (f t)

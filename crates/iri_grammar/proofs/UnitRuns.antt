@@ -3,13 +3,14 @@ use Rattle.std.proofs.Common.{◌≡◌, ℕ, zero, suc, ◌+◌, ◌-◌, ◌<�
 use Rattle.std.proofs.Common.{◌≢◌, refl, sym, ◌∙◌, ap, subst, arith, length-append, append-nil}
 use Rattle.std.specs.Prelude.{◌==◌, slice_index}
 use Rattle.std.specs.Char.{is_ascii_hexdigit, encode_utf8}
-use Rattle.std.specs.Str.{chars, IsAscii, IsUtf8, is_utf8}
+use Rattle.std.specs.Str.{chars, IsUtf8, is_utf8}
 use Rattle.std.proofs.lemmas.Bool.{and_parts as both, eqb-true}
 use Rattle.std.proofs.lemmas.Bool.Decides.{nat_tests}
 use Rattle.std.proofs.lemmas.List.{length-drop}
 use Rattle.std.proofs.lemmas.Str.{chars-append, IsUtf8-append, IsUtf8-drop, IsUtf8-from_ascii, IsUtf8-from_is_utf8, IsUtf8-past_char, IsUtf8-take}
 use Rattle.std.proofs.lemmas.Str.{IsCharBoundary-from_drop, IsCharBoundary-from_take}
 use Rattle.std.proofs.Math.Seq.{take-add, take-append_seam, drop-append_seam}
+use Rattle.std.proofs.lemmas.Str.Ascii.{IsAscii-cons, IsAscii-nil}
 use Rattle.iri_grammar.specs.Classes.{Tests, IsSpec}
 use Rattle.iri_grammar.specs.ClassTests.{ascii_test, class_test}
 use Rattle.iri_grammar.specs.declared.class.Class.{Class}
@@ -127,17 +128,12 @@ triplet_units p (x ∷ a ∷ b ∷ cs) h =
     let two = both (is_ascii_hexdigit a) (is_ascii_hexdigit b) one.1 in
     let low = eqb-true x 37 one.0 in
     let t = x ∷ a ∷ b ∷ [] in
-    let u = IsUtf8-from_ascii t (of_three x a b (omega (arith, low)) (hex_is_ascii a two.0) (hex_is_ascii b two.1)) in
+    let u = IsUtf8-from_ascii t (IsAscii-cons x (a ∷ b ∷ []) (omega (arith, low)) (IsAscii-cons a (b ∷ []) (hex_is_ascii a two.0)
+    (IsAscii-cons b [] (hex_is_ascii b two.1) IsAscii-nil))) in
     record {
       within = omega arith;
       over = of_text p t u ∙ sym (triplet_past p t u h) ∙ nothing_more p;
     }
-  where
-    of_three : (x a b : ℕ) → x < 128 → a < 128 → b < 128 → IsAscii (x ∷ a ∷ b ∷ [])
-    of_three x a b h k l zero = h
-    of_three x a b h k l (suc zero) = k
-    of_three x a b h k l (suc (suc zero)) = l
-    of_three x a b h k l (suc (suc (suc i))) = omega arith
 
 pub run_units : (s : Tests) → IsSpec s → (k : Class) (t : List ℕ) → AreUnits (class_test s k) t (run_of (ascii_test k) t)
 run_units s l k t = record {

@@ -5,10 +5,11 @@ use Rattle.std.specs.Prelude.{◌==◌}
 use Rattle.std.specs.Char.{is_ascii_hexdigit, encode_utf8}
 use Rattle.std.specs.Str.{chars, IsUtf8}
 use lib.Utf8.{encodes}
-use Rattle.std.proofs.lemmas.Bool.{cases_lt, cases_eq, and_parts as both, eqb-true}
+use Rattle.std.proofs.lemmas.Bool.{cases_lt, cases_eq, and_parts as both, and_left, and_right, eqb-true}
 use Rattle.std.proofs.lemmas.Bool.Decides.{nat_tests}
 use Rattle.std.proofs.lemmas.Str.{chars_past_char, chars-nil, chars_from_encodes, encode_ascii, IsUtf8-past_char, byte_from_char}
 use Rattle.std.proofs.lemmas.Str.{is_utf8-from_IsUtf8, encodes-chars, chars-append, length-encode, len_utf8_bounds}
+use Rattle.std.proofs.Math.Bool.{and-false, and_assoc}
 use Rattle.iri_grammar.specs.Cut.{tail}
 use Rattle.iri_grammar.specs.Over.{over, over_from, text_over}
 use Rattle.iri_grammar.specs.Runs.{run_of}
@@ -88,12 +89,9 @@ triplet_past p (x ∷ a ∷ b ∷ cs) u h =
 
 -- `%` without two hex digits
 no_triplet : (p : ℕ → Bool) (t : List ℕ) → IsUtf8 (37 ∷ t) → begins_with_triplet (37 ∷ t) ≡ false → over p (chars (37 ∷ t)) ≡ false
-no_triplet p t u h = percent_step p t u ∙ stops (begins_with_digit t) (begins_with_digit (tail t)) (over p (chars (tail (tail t)))) h
-  where
-    stops : (a b c : Bool) → (a && b) ≡ false → (a && (b && c)) ≡ false
-    stops true true c h = cc
-    stops true false c h = refl
-    stops false b c h = refl
+no_triplet p t u h = percent_step p t u
+    ∙ sym (and_assoc (begins_with_digit t) (begins_with_digit (tail t)) (over p (chars (tail (tail t)))))
+    ∙ and_left (begins_with_digit t && begins_with_digit (tail t)) (over p (chars (tail (tail t)))) h
 
 -- a character at the start that is no `%`
 plain_step : (p : ℕ → Bool) (c : ℕ) (cs : List ℕ) → c ≢ 37 → over p (c ∷ cs) ≡ (p c && over p cs)
@@ -109,17 +107,8 @@ char_past p c t r u e n h =
 -- no unit at the start of a text: then none at the start of what begins it
 triplet-prefix : (y z : List ℕ) → begins_with_triplet (y ++ z) ≡ false → begins_with_triplet y ≡ false
 triplet-prefix [] z h = refl
-triplet-prefix (x ∷ []) z h = never (x == 37)
-  where
-    never : (a : Bool) → (a && false) ≡ false
-    never true = refl
-    never false = refl
-triplet-prefix (x ∷ a ∷ []) z h = never (x == 37) (is_ascii_hexdigit a)
-  where
-    never : (a b : Bool) → (a && (b && false)) ≡ false
-    never true true = refl
-    never true false = refl
-    never false b = refl
+triplet-prefix (x ∷ []) z h = and-false (x == 37)
+triplet-prefix (x ∷ a ∷ []) z h = and_right (x == 37) (is_ascii_hexdigit a && false) (and-false (is_ascii_hexdigit a))
 triplet-prefix (x ∷ a ∷ b ∷ y) z h = h
 
 -- so what begins it is no text over the class

@@ -1,13 +1,12 @@
 -- Characters past ASCII, told from their bytes.
-use Rattle.std.proofs.Common.{◌≡◌, ℕ, ◌+◌, ◌-◌, ◌<◌, ◌≤◌, true, false, List, [], ◌∷◌, ◌++◌, take, drop, length}
+use Rattle.std.proofs.Common.{◌≡◌, ℕ, ◌+◌, ◌-◌, ◌<◌, ◌≤◌, true, List, [], ◌∷◌, ◌++◌, take, drop, length}
 use Rattle.std.proofs.Common.{refl, sym, ◌∙◌, ap, subst, arith, append-nil, inl, inr}
 use Rattle.std.specs.Prelude.{◌/◌, ◌*◌, ◌%◌, slice_index}
 use Rattle.std.specs.Int.{is_in_range}
-use Rattle.std.proofs.lemmas.Bool.{cases_lt}
+use Rattle.std.proofs.lemmas.Bool.{cases_lt, lt-ltb, le-ltb}
 use Rattle.std.proofs.lemmas.Bool.Decides.{nat_tests}
 use Rattle.std.specs.Str.{IsUtf8}
 use Rattle.std.proofs.lemmas.Str.{IsUtf8-encode}
-use lib.Dec.{ltb}
 use lib.Utf8.{encode, next, scalar}
 use Rattle.iri_grammar.specs.Classes.{Tests, IsSpec, HasFirstUcschars}
 use Rattle.iri_grammar.specs.ClassTests.{class_test}
@@ -18,12 +17,6 @@ use Rattle.iri_grammar.specs.inside.Runs.{begins_with_more, AreUnits, BeginsWide
 use Rattle.iri_grammar.proofs.ClassLaws.{class_past_ascii, class_has_no_percent}
 use Rattle.iri_grammar.proofs.UnitRuns.{char_units, char_lacks}
 
-pub below : (a b : ℕ) → a < b → ltb a b ≡ true
-below a b h = grind (arith, nat_tests)
-
-pub not_below : (a b : ℕ) → b ≤ a → ltb a b ≡ false
-not_below a b h = grind (arith, nat_tests)
-
 -- ---- the spelling of a character past ASCII, by its width
 pub spelled_in_two : (code lead a : ℕ) (os : List ℕ) → 192 ≤ lead → lead < 224 → a < 64 → code ≡ (lead - 192) * 64 + a → 128 ≤ code
     → lead ∷ (128 + a) ∷ os ≡ encode code ++ os
@@ -31,7 +24,7 @@ unfolding encode
 spelled_in_two code lead a os l u p e h =
     let x : lead ≡ 192 + code / 64 = omega arith in
     let y : a ≡ code % 64 = omega arith in
-    rw (not_below code 128 h, below code 2048 (omega arith)) (ap (λ n. n ∷ (128 + a) ∷ os) x ∙ ap (λ n. (192 + code / 64) ∷ (128 + n) ∷ os) y)
+    rw (le-ltb code 128 h, lt-ltb code 2048 (omega arith)) (ap (λ n. n ∷ (128 + a) ∷ os) x ∙ ap (λ n. (192 + code / 64) ∷ (128 + n) ∷ os) y)
 
 pub spelled_in_three : (code lead a b : ℕ) (os : List ℕ) → 224 ≤ lead → lead < 240 → a < 64 → b < 64
     → code ≡ ((lead - 224) * 64 + a) * 64 + b → 2048 ≤ code → lead ∷ (128 + a) ∷ (128 + b) ∷ os ≡ encode code ++ os
@@ -40,7 +33,7 @@ spelled_in_three code lead a b os l u p q e h =
     let x : lead ≡ 224 + code / 4096 = omega arith in
     let y : a ≡ code / 64 % 64 = omega arith in
     let z : b ≡ code % 64 = omega arith in
-    rw (not_below code 128 (omega arith), not_below code 2048 h, below code 65536 (omega arith))
+    rw (le-ltb code 128 (omega arith), le-ltb code 2048 h, lt-ltb code 65536 (omega arith))
     (ap (λ n. n ∷ (128 + a) ∷ (128 + b) ∷ os) x ∙ ap (λ n. (224 + code / 4096) ∷ (128 + n) ∷ (128 + b) ∷ os) y
     ∙ ap (λ n. (224 + code / 4096) ∷ next (code / 64) ∷ (128 + n) ∷ os) z)
 

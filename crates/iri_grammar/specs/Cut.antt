@@ -27,6 +27,11 @@ abbrev pub lacks : ℕ → List ℕ → Bool
 lacks c [] = true
 lacks c (x ∷ xs) = not (x == c) && lacks c xs
 
+-- the text begins with c
+abbrev pub begins : ℕ → List ℕ → Bool
+begins c [] = false
+begins c (x ∷ xs) = x == c
+
 -- a delimiter and the part after it, where the part stands
 abbrev pub delimited : ℕ → Option (List ℕ) → List ℕ
 delimited c None = []

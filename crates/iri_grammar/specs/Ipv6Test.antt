@@ -1,14 +1,10 @@
 -- The test for IPv6 texts. That it tells `IsIpv6` is a law.
-use Rattle.std.specs.Prelude.{ℕ, ◌+◌, Bool, false, cond, ◌&&◌, ◌==◌, List, [], ◌∷◌, Option, Some, None, nat_lt}
+use Rattle.std.specs.Prelude.{ℕ, ◌+◌, Bool, cond, ◌&&◌, ◌==◌, List, [], ◌∷◌, Option, Some, None, nat_lt}
 use Rattle.iri_grammar.specs.Cut.{tail}
+pub use Rattle.iri_grammar.specs.Cut.{begins}
 use Rattle.iri_grammar.specs.Pieces.{pieces}
 use Rattle.iri_grammar.specs.Ipv6.{are_groups, are_groups_or_ipv4, group_count}
 use Rattle.iri_grammar.specs.Characters.{colon}
-
--- a text begins with the delimiter
-abbrev pub begins : ℕ → List ℕ → Bool
-begins c [] = false
-begins c (x ∷ xs) = x == c
 
 -- what stands before the first `::`, or all
 abbrev pub before_double : List ℕ → List ℕ

@@ -4,10 +4,10 @@ ghost use Rattle.std.specs.Str.{IsUtf8};
 ghost use Rattle.iri_grammar.specs.Characters.{percent_sign};
 ghost use Rattle.iri_grammar.specs.ClassTests.{class_test};
 ghost use Rattle.iri_grammar.specs.Components.{if_there};
-ghost use Rattle.iri_grammar.specs.Cut.{lacks, delimited};
+ghost use Rattle.iri_grammar.specs.Cut.{begins, lacks, delimited};
 ghost use Rattle.iri_grammar.specs.OptionalSlices.{now_of};
 ghost use Rattle.iri_grammar.specs.Over.{text_over};
-ghost use Rattle.iri_grammar.specs.inside.Tails.{starts_with, PartStops, ScansTail, KeepsNotes};
+ghost use Rattle.iri_grammar.specs.inside.Tails.{PartStops, ScansTail, KeepsNotes};
 
 use crate::class::Class;
 use crate::spec::Spec;
@@ -28,7 +28,7 @@ pub(crate) struct Tail<'a> {
 // What follows this byte at the start.
 #[inline(always)]
 fn after_first(s: &[u8], delimiter: u8) -> Option<&[u8]>
-    ensures { MatchOption result (starts_with delimiter s.now ≡ false) (λ r. s.now ≡ delimiter ∷ r.now) }
+    ensures { MatchOption result (begins delimiter s.now ≡ false) (λ r. s.now ≡ delimiter ∷ r.now) }
 {
     match s {
         [b, rest @ ..] if *b == delimiter => Some(rest),

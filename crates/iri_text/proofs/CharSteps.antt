@@ -1,14 +1,12 @@
 -- The characters of a text, one by one.
-use Rattle.std.specs.Prelude.{◌≡◌, ℕ, Bool, true, false, ◌&&◌, List, [], ◌∷◌, ◌++◌, length}
+use Rattle.std.specs.Prelude.{◌≡◌, ℕ, List, [], ◌∷◌, ◌++◌, length}
 use Rattle.std.specs.Str.{IsUtf8, chars}
 use Rattle.std.specs.Char.{encode_utf8}
-use Rattle.std.proofs.Common.{sym, ◌∙◌, ap, arith}
+use Rattle.std.proofs.Common.{sym, ◌∙◌, ap}
+use Rattle.std.proofs.lemmas.List.{nil_from_length}
+use Rattle.std.proofs.lemmas.Bool.{and_parts}
 use Rattle.std.proofs.lemmas.Str.{chars_from_encodes, cons_from_encodes, chars-nil}
 use lib.Utf8.{scalar, scalars}
-
-and_right : (a b : Bool) → (a && b) ≡ true → b ≡ true
-and_right true b h = h
-and_right false b h = cc
 
 pub record FirstChar (bs rest : List ℕ) (c : ℕ) : Type 0 where
   pub first : chars bs ≡ c ∷ chars rest
@@ -17,12 +15,11 @@ pub record FirstChar (bs rest : List ℕ) (c : ℕ) : Type 0 where
 pub first_char : (bs rest : List ℕ) (c : ℕ) → IsUtf8 bs → bs ≡ encode_utf8 c ++ rest → FirstChar bs rest c
 first_char bs rest c (cs, (ok, e)) is =
     let split = cons_from_encodes cs rest c (e ∙ is) in
-    let after : IsUtf8 rest = (split.0, (and_right (scalar c) (scalars split.0) (ap scalars (sym split.1) ∙ ok), split.2)) in
+    let after : IsUtf8 rest = (split.0, ((and_parts (scalar c) (scalars split.0) (ap scalars (sym split.1) ∙ ok)).1, split.2)) in
     record {
       first = sym (chars_from_encodes cs bs (cs, (ok, e)) e) ∙ split.1 ∙ ap (λ l. c ∷ l) (chars_from_encodes split.0 rest after split.2);
       utf8 = after;
     }
 
 pub no_chars : (bs : List ℕ) → length bs ≡ 0 → chars bs ≡ []
-no_chars [] h = chars-nil
-no_chars (b ∷ bs) h = absurd (omega arith)
+no_chars bs h = ap chars (nil_from_length bs h) ∙ chars-nil

@@ -2,8 +2,7 @@
 use Rattle.std.proofs.Common.{◌≡◌, ◌≢◌, ℕ, ◌+◌, ◌-◌, ◌<◌, ◌≤◌, ◌%◌, ◌^◌, true, false, not, cond, eqb, ◌&&◌, List, length, take, drop, map, replicate}
 use Rattle.std.proofs.Common.{get_or, slice_range, ap, arith, ltb, ltb-true, eqb-true, sym, ◌∙◌, w8}
 use Rattle.std.specs.List.{prefix_len}
-use Rattle.std.proofs.lemmas.Bool.{and_parts}
-use Rattle.std.proofs.lemmas.Bool.Decides.{nat_tests}
+use Rattle.std.proofs.lemmas.Bool.{and_parts, ne_eqb, eqb-false}
 use Rattle.std.proofs.lemmas.List.Sums.{prefix_len-le-length}
 use Rattle.std.proofs.lemmas.Simd.{bitmask_splat, first_set_mask_l, run_in_chunk_fails}
 use lib.Count.{count_trailing_zeros}
@@ -25,11 +24,8 @@ no_delimiter v long none = ap (λ n. cond (eqb n 0) 16 (count_trailing_zeros 64 
 
 pub first_delimiter : (v : List ℕ) → length v ≡ 16 → mask_of v ≢ 0 → count_trailing_zeros 64 (mask_of v) ≡ prefix_len (λ b. not (eqb b 10)) v
 first_delimiter v long some =
-    let test : eqb (mask_of v) 0 ≡ false = eq-false (mask_of v) some in
+    let test : eqb (mask_of v) 0 ≡ false = ne_eqb (mask_of v) 0 some in
     ap (λ c. cond c 16 (count_trailing_zeros 64 (mask_of v))) (sym test) ∙ block v long
-  where
-    eq-false : (n : ℕ) → n ≢ 0 → eqb n 0 ≡ false
-    eq-false n h = grind (arith, nat_tests)
 
 pub block_within : (v : List ℕ) → length v ≡ 16 → prefix_len (λ b. not (eqb b 10)) v ≤ 16
 block_within v long = omega (arith, long, prefix_len-le-length (λ b. not (eqb b 10)) v)
@@ -42,10 +38,7 @@ passed t i r room none e short =
     NoLf-further t i (i + r) (omega arith) none (NoLf-nowhere (slice_range t i (i + r)) (λ k l h.
     let here : k < (i + r) - i = omega (arith, long, l) in
     let other : eqb (get_or t (i + k) 0) 10 ≡ false = run_in_chunk_fails (λ b. eqb b 10) t i 16 r 0 room e (i + k) (omega arith) (omega (arith, here)) in
-    differs (get_or t (i + k) 0) other (sym (get_or-part t i (i + r) k here) ∙ h)))
-  where
-    differs : (n : ℕ) → eqb n 10 ≡ false → n ≢ 10
-    differs n e h = grind (arith, nat_tests)
+    eqb-false (get_or t (i + k) 0) 10 other (sym (get_or-part t i (i + r) k here) ∙ h)))
 
 -- the first LF, where one stands after such bytes
 pub first_there : (t : List ℕ) (i : ℕ) → NoLf (take i t) → (ltb i (length t) && eqb (get_or t i 0) 10) ≡ true → IsFirstLf t i

@@ -1,10 +1,10 @@
 -- Path, query and fragment of a text, as the splitter cuts them.
-use Rattle.std.specs.Prelude.{◌≡◌, ℕ, Bool, true, false, ◌==◌, List, [], ◌∷◌, ◌++◌, Option, Some, None}
+use Rattle.std.specs.Prelude.{◌≡◌, ℕ, Bool, true, false, List, ◌++◌, Option, Some, None}
 use Rattle.std.specs.Str.{IsUtf8}
 use Rattle.iri_grammar.specs.Characters.{number_sign, percent_sign, question_mark}
 use Rattle.iri_grammar.specs.Classes.{Tests, fragment_char, path_char, query_char}
 use Rattle.iri_grammar.specs.Components.{if_there, is_path, is_query, is_fragment}
-use Rattle.iri_grammar.specs.Cut.{delimited, lacks}
+use Rattle.iri_grammar.specs.Cut.{delimited, lacks, begins}
 use Rattle.iri_grammar.specs.OptionalSlices.{now_of}
 use Rattle.iri_grammar.specs.declared.tail.Tail.{Tail}
 use Rattle.iri_grammar.specs.inside.Runs.{HasNoUnit}
@@ -19,14 +19,9 @@ KeepsNotes p = (p.path_triplets ≡ false → lacks percent_sign p.path.now ≡ 
 abbrev pub AreOver : Tests → List ℕ → Option (List ℕ) → Option (List ℕ) → Type 0
 AreOver s path query fragment = (is_path s path ≡ true) × (if_there (is_query s) query ≡ true) × (if_there (is_fragment s) fragment ≡ true)
 
--- the text begins with c
-abbrev pub starts_with : ℕ → List ℕ → Bool
-starts_with c [] = false
-starts_with c (x ∷ xs) = x == c
-
 -- a part after the delimiter c goes no further than r: there is no c, or no unit of the part
 abbrev pub PartStops : (ℕ → Bool) → ℕ → Option (List ℕ) → List ℕ → Type 0
-PartStops p c None r = starts_with c r ≡ false
+PartStops p c None r = begins c r ≡ false
 PartStops p c (Some x) r = HasNoUnit p r
 
 -- none of the three goes on where r is left over

@@ -2,12 +2,13 @@ use Rattle.std.proofs.Common.{◌∙◌, ap, subst, sym, take}
 use Rattle.std.proofs.lemmas.List.{take_rest}
 use Rattle.std.specs.List.{list_all}
 use Rattle.std.specs.Str.{IsUtf8, is_utf8}
+use Rattle.std.proofs.lemmas.Bool.{not-false}
 use Rattle.iri_grammar.specs.ClassTests.{ascii_test}
 use Rattle.iri_grammar.specs.Seen.{is_plain_authority, is_small}
 use Rattle.iri_grammar.specs.declared.class.Class.TheVariants.{Userinfo}
 use Rattle.iri_grammar.specs.inside.PlainAuthority.{is_small_name}
 use Rattle.iri_grammar.proofs.TextParts.{text-past}
-use Rattle.iri_grammar.proofs.PlainAuthorities.{not-small, plain_cut}
+use Rattle.iri_grammar.proofs.PlainAuthorities.{plain_cut}
 use Rattle.iri_grammar.proofs.authority.cut_plain.Goals as goal
 
 pub from_utf8_unchecked-name-requires : goal.from_utf8_unchecked-name-requires
@@ -27,7 +28,7 @@ returns-clause-plain c =
 pub returns-clause-capitals : goal.returns-clause-capitals
 returns-clause-capitals c h =
     let t = c.args.s.now in
-    let small = not-small (is_small_name t) (sym c.plain_len-end.ensures.capitals ∙ h) in
+    let small = not-false (is_small_name t) (sym c.plain_len-end.ensures.capitals ∙ h) in
     ap (list_all is_small) (c.from_utf8_unchecked-name.ensures ∙ ap (λ n. take n t) c.plain_len-end.ensures.len) ∙ (plain_cut t).small small
 
 pub returns-clause-text : goal.returns-clause-text

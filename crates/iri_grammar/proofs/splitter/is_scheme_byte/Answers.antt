@@ -1,8 +1,8 @@
 use Rattle.std.proofs.Common.{◌≡◌, ℕ, Bool, true, get_or, refl, arith}
 use Rattle.std.specs.Prelude.{◌==◌}
+use Rattle.std.proofs.lemmas.Bool.{agree_below, agree_below_at}
 use Rattle.iri_grammar.specs.Components.{is_scheme_char}
 use Rattle.iri_grammar.specs.declared.splitter.TheConstants.{SCHEME_BYTES}
-use Rattle.iri_grammar.proofs.Tables.{agree_below, agree_at}
 use Rattle.iri_grammar.proofs.splitter.is_scheme_byte.Goals as goal
 
 abbrev delimited : ℕ → Bool
@@ -14,4 +14,4 @@ unfolding is_scheme_char
 computed = refl
 
 pub returns : goal.returns
-returns c = rw c.from.ensures (agree_at delimited is_scheme_char 256 computed c.args.b (omega arith))
+returns c = rw c.from.ensures (agree_below_at delimited is_scheme_char 256 c.args.b computed (omega arith))

@@ -2,7 +2,7 @@ use Rattle.std.proofs.Common.{◌∙◌, ap, sym, arith}
 use Rattle.std.specs.Str.{is_utf8}
 use Rattle.std.proofs.lemmas.List.{take_rest}
 use Rattle.std.proofs.lemmas.Str.{IsUtf8-from_is_utf8, IsUtf8-take}
-use Rattle.iri_grammar.proofs.CutLemmas.{false-where}
+use Rattle.std.proofs.lemmas.Bool.{false_from_ne_true}
 use Rattle.iri_grammar.proofs.TextParts.{text-past}
 use Rattle.iri_grammar.proofs.splitter.text_before_end.Goals as goal
 
@@ -17,5 +17,5 @@ pub returns-in-Err : goal.returns-in-Err
 returns-in-Err c =
     let t = c.args.s.now in
     let at = c.authority_len-end.ensures in
-    false-where (is_utf8 t) (λ e. c.in-Err.ensures.cases.0
+    false_from_ne_true (is_utf8 t) (λ e. c.in-Err.ensures.cases.0
     (IsUtf8-take t c.authority_len-end.result (IsUtf8-from_is_utf8 t e) (at.within, λ l h. omega (arith, at.ascii l))))

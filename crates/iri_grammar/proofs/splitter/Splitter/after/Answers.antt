@@ -1,5 +1,7 @@
 use Rattle.std.proofs.Common.{◌∙◌, sym}
-use Rattle.iri_grammar.proofs.Scans.{left-fault, nothing, scanned, whole-fault}
+use Rattle.std.proofs.lemmas.Bool.{eqb-true}
+use Rattle.std.proofs.lemmas.List.{nil_from_length}
+use Rattle.iri_grammar.proofs.Scans.{left-fault, scanned, whole-fault}
 use Rattle.iri_grammar.proofs.splitter.Splitter.after.Goals as goal
 
 pub returns-then-not-is_empty-clause-fault : goal.returns-then-not-is_empty-clause-fault
@@ -21,7 +23,7 @@ returns-in-Ok-clause-value g c =
     let s = g.S.Spec.tests in
     let cut = c.in-Some.ensures in
     let scan = scanned s g.met.S.Spec.lawful _ c.args.bytes.now _ _ c.scan-tail.result cut.0 cut.1 cut.3 c.scan-tail.ensures.scan in
-    scan.whole (nothing c.scan-tail.result.rest.now (sym c.is_empty.ensures ∙ c.if-not-is_empty.false))
+    scan.whole (nil_from_length c.scan-tail.result.rest.now (eqb-true _ 0 (sym c.is_empty.ensures ∙ c.if-not-is_empty.false)))
 
 pub returns-in-Err-clause-fault : goal.returns-in-Err-clause-fault
 returns-in-Err-clause-fault g c =

@@ -1,13 +1,10 @@
-use Rattle.std.proofs.Common.{◌≡◌, Bool, true, false, not, refl, subst}
+use Rattle.std.proofs.Common.{true, subst}
+use Rattle.std.proofs.lemmas.Bool.{not-true}
 use Rattle.iri_grammar.specs.Fault.{Answers}
 use Rattle.iri_grammar.specs.Splitters.{parts}
 use Rattle.iri_grammar.proofs.PlainAuthorities.{plain-authorities}
 use Rattle.iri_grammar.proofs.PlainTails.{colon-fault, over-fault}
 use Rattle.iri_grammar.proofs.validate.whole.judge_scanned.Goals as goal
-
-not-true : (b : Bool) → not b ≡ true → b ≡ false
-not-true true h = cc
-not-true false h = refl
 
 pub returns-then-not-seen : goal.returns-then-not-seen
 returns-then-not-seen g c =
