@@ -4,9 +4,8 @@ use Rattle.std.proofs.Common.{subst, arith, append-nil, ltb-true, ltb-false}
 use Rattle.std.specs.Prelude.{map}
 use Rattle.std.specs.Char.{encode_utf8}
 use lib.Dec.{ltb}
-use lib.Utf8.{scalar}
+use lib.Utf8.{scalar, low_scalar}
 use Rattle.std.proofs.lemmas.Str.{encode_ascii, inside_one}
-use Rattle.std.proofs.lemmas.Bool.Decides.{nat_tests}
 use Rattle.iri_grammar.specs.Classes.{Tests, unreserved}
 use Rattle.iri_percent.specs.Units.{first_char}
 use Rattle.iri_percent.proofs.UnitLaws.{BeginsChar, first_char_is}
@@ -49,12 +48,9 @@ is_decoded s os c h =
           | false ↦ λ _ l. cc
         ] refl k
 
-low_scalar : (c : ℕ) → c < 128 → scalar c ≡ true
-low_scalar c h = grind (arith, nat_tests)
-
 pub case_scalar : (f : ℕ → ℕ) (c : ℕ) → IsCase f → scalar c ≡ true → scalar (f c) ≡ true
 case_scalar f c i h =
     elim (ltb c 128) as (λ b. ltb c 128 ≡ b → scalar (f c) ≡ true) [
-      | true ↦ λ e. low_scalar (f c) (i.below c (ltb-true c 128 e))
+      | true ↦ λ e. let low : f c < 128 = i.below c (ltb-true c 128 e) in low_scalar (f c) (omega arith)
       | false ↦ λ e. ap scalar (i.past c (ltb-false c 128 e)) ∙ h
     ] refl

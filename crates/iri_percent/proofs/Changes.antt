@@ -7,11 +7,13 @@ use Rattle.std.specs.Char.{is_ascii_hexdigit, is_ascii_uppercase, to_ascii_upper
 use Rattle.std.specs.Char.{len_utf8}
 use lib.Utf8.{scalar}
 use Rattle.std.proofs.lemmas.Str.{IsUtf8-encode, IsUtf8-from_ascii, encode_ascii, length-encode, len_utf8_bounds, lead_after_ascii}
-use Rattle.std.specs.Str.{IsAscii, IsUtf8}
+use Rattle.std.specs.Str.{IsUtf8}
 use lib.Dec.{ltb}
 use Rattle.std.proofs.lemmas.List.{drop_at, get_or_append_left}
 use Rattle.std.proofs.lemmas.Bool.Decides.{nat_tests}
 use Rattle.std.proofs.Common.{get_or-drop, slice_range}
+use Rattle.std.proofs.lemmas.Str.Ascii.{IsAscii-cons, IsAscii-nil}
+use Rattle.iri_grammar.proofs.Units.{hex_is_ascii}
 use Rattle.iri_grammar.specs.Classes.{Tests, IsSpec, unreserved, is_ascii_unreserved}
 use Rattle.iri_grammar.proofs.CutLaws.{both}
 use Rattle.iri_percent.specs.Units.{octet, octets, whole_triplets}
@@ -140,14 +142,11 @@ pub case_is : (lower : Bool) → IsCase (case_of lower)
 case_is true = lower-case
 case_is false = as_it_is-case
 
-digit_below : (a : ℕ) → is_ascii_hexdigit a ≡ true → a < 128
-digit_below a h = grind (arith, nat_tests)
-
 spells_ascii : (sp os : List ℕ) → Spells sp os → (k : ℕ) → get_or sp k 0 < 128
 spells_ascii sp os none k = omega arith
 spells_ascii sp os (more a b sp' os' p q r) zero = omega arith
-spells_ascii sp os (more a b sp' os' p q r) (suc zero) = digit_below a p
-spells_ascii sp os (more a b sp' os' p q r) (suc (suc zero)) = digit_below b q
+spells_ascii sp os (more a b sp' os' p q r) (suc zero) = hex_is_ascii a p
+spells_ascii sp os (more a b sp' os' p q r) (suc (suc zero)) = hex_is_ascii b q
 spells_ascii sp os (more a b sp' os' p q r) (suc (suc (suc k))) = spells_ascii sp' os' r k
 
 -- a character that is decoded
@@ -185,7 +184,7 @@ raises_at s lower a b ys p q w n = record {
   within = omega arith;
   some = omega arith;
   first = omega arith;
-  last = digit_below b q;
+  last = hex_is_ascii b q;
   whole = sym (whole_triplet a b ys p q) ∙ w;
 }
 
@@ -236,22 +235,14 @@ octet_becomes s lower t o i w l e is high =
 pub upper_digit : (a : ℕ) → is_ascii_hexdigit a ≡ true → to_ascii_uppercase a < 128
 upper_digit a h = grind (arith, nat_tests)
 
-one_ascii : (x : ℕ) → x < 128 → IsAscii (x ∷ [])
-one_ascii x p zero = p
-one_ascii x p (suc i) = omega arith
-
-three_ascii : (a b c : ℕ) → a < 128 → b < 128 → c < 128 → IsAscii (a ∷ b ∷ c ∷ [])
-three_ascii a b c p q r zero = p
-three_ascii a b c p q r (suc zero) = q
-three_ascii a b c p q r (suc (suc zero)) = r
-three_ascii a b c p q r (suc (suc (suc i))) = omega arith
-
 octet_utf8 : (lower : Bool) (o a b : ℕ) → is_ascii_hexdigit a ≡ true → is_ascii_hexdigit b ≡ true → IsUtf8 (octet_text lower o a b)
 octet_utf8 lower o a b p q =
     elim (is_ascii_unreserved o) as (λ v. is_ascii_unreserved o ≡ v
     → IsUtf8 (cond v (case_of lower o ∷ []) (37 ∷ to_ascii_uppercase a ∷ to_ascii_uppercase b ∷ []))) [
-      | true ↦ λ u. IsUtf8-from_ascii _ (one_ascii (case_of lower o) ((case_is lower).below o (unreserved_low o u)))
-      | false ↦ λ _. IsUtf8-from_ascii _ (three_ascii 37 (to_ascii_uppercase a) (to_ascii_uppercase b) (omega arith) (upper_digit a p) (upper_digit b q))
+      | true ↦ λ u. IsUtf8-from_ascii _ (IsAscii-cons (case_of lower o) [] ((case_is lower).below o (unreserved_low o u)) IsAscii-nil)
+      | false ↦ λ _. IsUtf8-from_ascii _ (IsAscii-cons 37 (to_ascii_uppercase a ∷ to_ascii_uppercase b ∷ []) (omega arith)
+          (IsAscii-cons (to_ascii_uppercase a) (to_ascii_uppercase b ∷ []) (upper_digit a p)
+          (IsAscii-cons (to_ascii_uppercase b) [] (upper_digit b q) IsAscii-nil)))
     ] refl
 
 pub writes_octet : (s : Tests) (lower : Bool) (t old new : List ℕ) (at written o : ℕ) → IsSpec s → whole_triplets t ≡ true → 0 < length t
@@ -293,7 +284,7 @@ is_letter : (lower : Bool) (x : ℕ) → stays lower x ≡ false → (x == 37) �
 is_letter true x h n = (refl, grind (arith, nat_tests))
 is_letter false x h n = absurd (grind (arith, nat_tests))
 
-upper_below : (x : ℕ) → is_ascii_uppercase x ≡ true → x < 128
+pub upper_below : (x : ℕ) → is_ascii_uppercase x ≡ true → x < 128
 upper_below x h = grind (arith, nat_tests)
 
 letter_at : (s : Tests) (x : ℕ) (xs : List ℕ) → is_ascii_uppercase x ≡ true → (x == 37) ≡ false → whole_triplets (x ∷ xs) ≡ true
@@ -316,7 +307,7 @@ writes_letter s lower (x ∷ xs) old new at written w l h n put =
     record {
       text = to_ascii_lowercase x ∷ [];
       becomes = subst (λ b. Becomes s b (x ∷ xs) 0 1 (to_ascii_lowercase x ∷ [])) (sym k.0) (letter_at s x xs k.1 n w);
-      utf8 = IsUtf8-from_ascii _ (one_ascii (to_ascii_lowercase x) (lower-case.below x (upper_below x k.1)));
+      utf8 = IsUtf8-from_ascii _ (IsAscii-cons (to_ascii_lowercase x) [] (lower-case.below x (upper_below x k.1)) IsAscii-nil);
       put = put;
     }
 

@@ -5,29 +5,26 @@ use Rattle.std.specs.Char.{is_ascii_hexdigit, to_ascii_uppercase}
 use Rattle.std.specs.Str.{chars, IsUtf8}
 use lib.Utf8.{encode, encodes, scalar}
 use Rattle.std.proofs.lemmas.Str.{encodes-chars, scalars-chars}
+use Rattle.std.proofs.lemmas.List.{map-id}
 use Rattle.iri_grammar.specs.Classes.{Tests, IsSpec, unreserved}
 use Rattle.iri_grammar.proofs.CutLaws.{both}
 use Rattle.iri_percent.specs.Units.{Plain, Char, Lone, octets, first_char, units, two_digits, whole_triplets}
 use Rattle.iri_percent.specs.CharUnits.{char_units, char_units_from}
 use Rattle.iri_percent.specs.Triplets.{pct, as_it_is, unit_in_form}
 use Rattle.iri_percent.specs.ByteForm.{normal_units}
-use Rattle.iri_percent.proofs.UnitLaws.{Spells, units_lone}
+use Rattle.iri_percent.proofs.UnitLaws.{Spells, encodes_triplet, units_lone}
 use Rattle.iri_percent.proofs.NormalLaws.{normal_nil, normal_plains, normal_lone, normal_char}
 use Rattle.iri_percent.proofs.Reading.{whole_triplet, whole_after}
 use Rattle.iri_percent.proofs.Stability.{as_it_is-case, upper_spells, unreserved_percent, encode_percent, whole_plains, units-normal}
 use Rattle.iri_percent.proofs.CharUnits.{CharReading, done, plain, char, lone, stray, read, percent_unit, char_units_char}
-use Rattle.iri_percent.proofs.CharUnits.{char_units_plain, encodes_triplet, encodes_spelled, encodes_percent, octets_encoded}
+use Rattle.iri_percent.proofs.CharUnits.{char_units_plain, encodes_spelled, encodes_percent, octets_encoded}
 
 abbrev IsFormed : Tests → List ℕ → Type 0
 IsFormed s t = char_units (pct s t) ≡ map (unit_in_form s) (char_units t)
 
-map_same : (os : List ℕ) → map as_it_is os ≡ os
-map_same [] = refl
-map_same (o ∷ os) = ap (λ l. o ∷ l) (map_same os)
-
 plain_formed : (s : Tests) (c : ℕ) (xs : List ℕ) → scalar c ≡ true → (c == 37) ≡ false → IsFormed s xs → IsFormed s (encode c ++ xs)
 plain_formed s c xs h e k =
-    ap char_units (normal_plains s as_it_is (encode c) xs (encode_percent c e) ∙ ap (λ l. l ++ pct s xs) (map_same (encode c)))
+    ap char_units (normal_plains s as_it_is (encode c) xs (encode_percent c e) ∙ ap (λ l. l ++ pct s xs) (map-id (encode c)))
     ∙ char_units_plain c (pct s xs) h e
     ∙ ap (λ us. Plain c ∷ us) k
     ∙ sym (ap (map (unit_in_form s)) (char_units_plain c xs h e))
@@ -44,7 +41,7 @@ char_formed s c sp xs i h sps k =
         elim (unreserved s c) as (λ b. unreserved s c ≡ b
         → char_units (cond b (map as_it_is (encode c)) (map to_ascii_uppercase sp) ++ pct s xs)
         ≡ cond b (Plain c) (Char c (map to_ascii_uppercase sp)) ∷ map (unit_in_form s) (char_units xs)) [
-          | true ↦ λ u. ap (λ l. char_units (l ++ pct s xs)) (map_same (encode c))
+          | true ↦ λ u. ap (λ l. char_units (l ++ pct s xs)) (map-id (encode c))
               ∙ char_units_plain c (pct s xs) h (unreserved_percent s c i u) ∙ ap (λ us. Plain c ∷ us) k
           | false ↦ λ _. char_units_char c (map to_ascii_uppercase sp) (encode c) (pct s xs) h (upper_spells sp (encode c) sps) refl
               ∙ ap (λ us. Char c (map to_ascii_uppercase sp) ∷ us) k

@@ -13,17 +13,17 @@ use Rattle.iri_grammar.proofs.CutLaws.{both}
 use Rattle.iri_percent.specs.Units.{TextUnit, Plain, Char, Lone, Stray, IllFormed, octet, octets, first_char, triplet_unit, first_unit}
 use Rattle.iri_percent.specs.Units.{unit_text, units_from, units, two_digits}
 use Rattle.iri_percent.proofs.UnitLaws.{Spells, none, more, octets_other, octets_triplet, octets_spelled, first_char_is, char_first}
-use Rattle.iri_percent.proofs.UnitLaws.{encode_bytes, byte_other, units_plain, units_lone, units_char}
+use Rattle.iri_percent.proofs.UnitLaws.{encode_bytes, encodes_triplet, byte_other, units_plain, units_lone, units_char}
 use Rattle.iri_percent.proofs.CharLaws.{percent_same, units-by_chars}
 use Rattle.iri_percent.proofs.NormalLaws.{PrefixTriplet, prefix_triplet}
-use Rattle.iri_percent.proofs.MapTexts.{is_high, hex_low, encode-high}
+use Rattle.iri_percent.proofs.MapTexts.{is_high, encode-high}
 use Rattle.iri_percent.specs.UnitTexts.{units_text}
 use Rattle.iri_percent.proofs.UnitTexts.{units-text}
 use Rattle.iri_percent.specs.CharUnits.{by_character, first_char_unit, char_unit_text, char_units_from, char_units, plains, byte_units}
 use Rattle.iri_grammar.proofs.Units.{past_hex as high_no_hex}
 
 -- ---- digits after a `%`
-no_two : (x : ℕ) (xs : List ℕ) → is_ascii_hexdigit x ≡ false → two_digits (x ∷ xs) ≡ false
+pub no_two : (x : ℕ) (xs : List ℕ) → is_ascii_hexdigit x ≡ false → two_digits (x ∷ xs) ≡ false
 no_two x [] h = refl
 no_two x (y ∷ xs) h = rw h refl
 
@@ -131,16 +131,8 @@ pub read : (t : List ℕ) → scalars t ≡ true → CharReading t
 read t w = read_within (length t) t (omega arith) w
 
 -- ---- octets
-encodes_hex : (a : ℕ) (cs : List ℕ) → is_ascii_hexdigit a ≡ true → encodes (a ∷ cs) ≡ a ∷ encodes cs
-encodes_hex a cs h = ap (λ l. l ++ encodes cs) (encode_ascii a (ltb-true a 128 (hex_low a h)))
-
 pub encodes_percent : (cs : List ℕ) → encodes (37 ∷ cs) ≡ 37 ∷ encodes cs
 encodes_percent cs = ap (λ l. l ++ encodes cs) (encode_ascii 37 (omega arith))
-
-pub encodes_triplet : (a b : ℕ) (cs : List ℕ) → is_ascii_hexdigit a ≡ true → is_ascii_hexdigit b ≡ true
-    → encodes (37 ∷ a ∷ b ∷ cs) ≡ 37 ∷ a ∷ b ∷ encodes cs
-encodes_triplet a b cs p q = encodes_percent (a ∷ b ∷ cs)
-    ∙ ap (λ l. 37 ∷ l) (encodes_hex a (b ∷ cs) p ∙ ap (λ l. a ∷ l) (encodes_hex b cs q))
 
 pub encodes_spelled : (sp os cs : List ℕ) → Spells sp os → encodes (sp ++ cs) ≡ sp ++ encodes cs
 encodes_spelled sp os cs none = refl

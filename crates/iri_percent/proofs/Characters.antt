@@ -4,15 +4,17 @@ use Rattle.std.proofs.Common.{zero, suc, length, take, drop, take-append-drop, r
 use Rattle.std.specs.Prelude.{◌/◌, ◌*◌, ◌%◌}
 use Rattle.std.specs.Str.{chars}
 use lib.Dec.{ltb}
-use lib.Utf8.{encode, next, scalar}
+use lib.Utf8.{encode, next, scalar, low_scalar}
 use Rattle.std.proofs.lemmas.Str.{encode_ascii, length-encode, len_utf8_bounds}
 use Rattle.std.proofs.lemmas.Bool.Decides.{nat_tests}
+use Rattle.std.proofs.lemmas.Bool.{lt-ltb, le-ltb}
+use Rattle.iri_grammar.specs.inside.Runs.{begins_with_more}
 use Rattle.iri_grammar.specs.Classes.{Tests, IsSpec, unreserved, is_ascii_unreserved}
-use Rattle.iri_grammar.proofs.WideChars.{below, not_below, spelled_in_three, spelled_in_two}
+use Rattle.iri_grammar.proofs.WideChars.{spelled_in_three, spelled_in_two}
 use Rattle.iri_percent.specs.Units.{first_char}
 use Rattle.iri_percent.proofs.UnitLaws.{BeginsChar, first_char_is, char_first, none_before, continuation_none, is_continuation, next_continues}
 use Rattle.iri_percent.specs.NormalLaws.{decoded, unreserved_only}
-use Rattle.iri_percent.specs.inside.Octets.{goes_on, char_from}
+use Rattle.iri_percent.specs.inside.Octets.{char_from}
 
 pub empty_none : (os : List ℕ) → os ≡ [] → first_char os ≡ None
 unfolding first_char chars
@@ -60,10 +62,10 @@ no_char os bad =
     ] refl
 
 -- what continues a character is no end of it
-ended : (os : List ℕ) (x : ℕ) (rest : List ℕ) → goes_on os ≡ false → os ≡ next x ∷ rest → ⊥
-ended os x rest h e = let k : is_continuation (next x) ≡ false = sym (ap goes_on e) ∙ h in cc (next_continues x)
+ended : (os : List ℕ) (x : ℕ) (rest : List ℕ) → begins_with_more os ≡ false → os ≡ next x ∷ rest → ⊥
+ended os x rest h e = let k : is_continuation (next x) ≡ false = sym (ap begins_with_more e) ∙ h in cc (next_continues x)
 
-pub ends_at_one : (lead : ℕ) (os : List ℕ) → 192 ≤ lead → goes_on os ≡ false → None ≡ first_char (lead ∷ os)
+pub ends_at_one : (lead : ℕ) (os : List ℕ) → 192 ≤ lead → begins_with_more os ≡ false → None ≡ first_char (lead ∷ os)
 ends_at_one lead os l h = no_char (lead ∷ os) (λ c g. at c g.rest (wide c lead os g.rest g.split))
   where
     at : (c : ℕ) (rest : List ℕ) → Wide c lead os rest → ⊥
@@ -72,7 +74,7 @@ ends_at_one lead os l h = no_char (lead ∷ os) (λ c g. at c g.rest (wide c lea
     at c rest (three p q e t) = ended os (c / 64) (next c ∷ rest) h t
     at c rest (four p e t) = ended os (c / 4096) (next (c / 64) ∷ next c ∷ rest) h t
 
-pub ends_at_two : (lead x : ℕ) (os : List ℕ) → 224 ≤ lead → goes_on os ≡ false → None ≡ first_char (lead ∷ x ∷ os)
+pub ends_at_two : (lead x : ℕ) (os : List ℕ) → 224 ≤ lead → begins_with_more os ≡ false → None ≡ first_char (lead ∷ x ∷ os)
 ends_at_two lead x os l h = no_char (lead ∷ x ∷ os) (λ c g. at c g.rest (wide c lead (x ∷ os) g.rest g.split))
   where
     at : (c : ℕ) (rest : List ℕ) → Wide c lead (x ∷ os) rest → ⊥
@@ -81,7 +83,7 @@ ends_at_two lead x os l h = no_char (lead ∷ x ∷ os) (λ c g. at c g.rest (wi
     at c rest (three p q e t) = ended os c rest h (heads x (next (c / 64)) os (next c ∷ rest) t).1
     at c rest (four p e t) = ended os (c / 64) (next c ∷ rest) h (heads x (next (c / 4096)) os (next (c / 64) ∷ next c ∷ rest) t).1
 
-pub ends_at_three : (lead x y : ℕ) (os : List ℕ) → 240 ≤ lead → goes_on os ≡ false → None ≡ first_char (lead ∷ x ∷ y ∷ os)
+pub ends_at_three : (lead x y : ℕ) (os : List ℕ) → 240 ≤ lead → begins_with_more os ≡ false → None ≡ first_char (lead ∷ x ∷ y ∷ os)
 ends_at_three lead x y os l h = no_char (lead ∷ x ∷ y ∷ os) (λ c g. at c g.rest (wide c lead (x ∷ y ∷ os) g.rest g.split))
   where
     at : (c : ℕ) (rest : List ℕ) → Wide c lead (x ∷ y ∷ os) rest → ⊥
@@ -109,7 +111,7 @@ pub encode_two : (c code y : ℕ) → code ≡ c → 128 ≤ c → code < 2048 �
 unfolding encode
 encode_two c code y e l h p =
     ap (λ n. (192 + code / 64) ∷ n ∷ []) p ∙ ap (λ n. (192 + n / 64) ∷ next n ∷ []) e
-    ∙ rw (not_below c 128 l, below c 2048 (omega (arith, e, h))) refl
+    ∙ rw (le-ltb c 128 l, lt-ltb c 2048 (omega (arith, e, h))) refl
 
 pub encode_three : (c code y z : ℕ) → code ≡ c → 2048 ≤ code → code < 65536 → y ≡ next (code / 64) → z ≡ next code
     → (224 + code / 4096) ∷ y ∷ z ∷ [] ≡ encode c
@@ -117,7 +119,7 @@ unfolding encode
 encode_three c code y z e l h p q =
     ap (λ n. (224 + code / 4096) ∷ n ∷ z ∷ []) p ∙ ap (λ n. (224 + code / 4096) ∷ next (code / 64) ∷ n ∷ []) q
     ∙ ap (λ n. (224 + n / 4096) ∷ next (n / 64) ∷ next n ∷ []) e
-    ∙ rw (not_below c 128 (omega (arith, e, l)), not_below c 2048 (omega (arith, e, l)), below c 65536 (omega (arith, e, h))) refl
+    ∙ rw (le-ltb c 128 (omega (arith, e, l)), le-ltb c 2048 (omega (arith, e, l)), lt-ltb c 65536 (omega (arith, e, h))) refl
 
 pub encode_four : (c code x y z : ℕ) → code ≡ c → 65536 ≤ code → x ≡ next (code / 4096) → y ≡ next (code / 64) → z ≡ next code
     → (240 + code / 262144) ∷ x ∷ y ∷ z ∷ [] ≡ encode c
@@ -126,7 +128,7 @@ encode_four c code x y z e l p q r =
     ap (λ n. (240 + code / 262144) ∷ n ∷ y ∷ z ∷ []) p ∙ ap (λ n. (240 + code / 262144) ∷ next (code / 4096) ∷ n ∷ z ∷ []) q
     ∙ ap (λ n. (240 + code / 262144) ∷ next (code / 4096) ∷ next (code / 64) ∷ n ∷ []) r
     ∙ ap (λ n. (240 + n / 262144) ∷ next (n / 4096) ∷ next (n / 64) ∷ next n ∷ []) e
-    ∙ rw (not_below c 128 (omega (arith, e, l)), not_below c 2048 (omega (arith, e, l)), not_below c 65536 (omega (arith, e, l))) refl
+    ∙ rw (le-ltb c 128 (omega (arith, e, l)), le-ltb c 2048 (omega (arith, e, l)), le-ltb c 65536 (omega (arith, e, l))) refl
 
 pub two_octets : (lead a : ℕ) (os : List ℕ) → 192 ≤ lead → lead < 224 → a < 64
     → char_from ((lead - 192) * 64 + a) 128 ≡ first_char (lead ∷ (128 + a) ∷ os)
@@ -165,7 +167,7 @@ spelled_in_four code lead a b d os l p q r e h =
     let x : a ≡ code / 4096 % 64 = omega arith in
     let y : b ≡ code / 64 % 64 = omega arith in
     let z : d ≡ code % 64 = omega arith in
-    rw (not_below code 128 (omega arith), not_below code 2048 (omega arith), not_below code 65536 h)
+    rw (le-ltb code 128 (omega arith), le-ltb code 2048 (omega arith), le-ltb code 65536 h)
     (ap (λ n. n ∷ (128 + a) ∷ (128 + b) ∷ (128 + d) ∷ os) w
     ∙ ap (λ n. (240 + code / 262144) ∷ (128 + n) ∷ (128 + b) ∷ (128 + d) ∷ os) x
     ∙ ap (λ n. (240 + code / 262144) ∷ next (code / 4096) ∷ (128 + n) ∷ (128 + d) ∷ os) y
@@ -212,11 +214,8 @@ first_of_four os =
 pub none_decoded : (s : Tests) (os : List ℕ) → os ≡ [] → decoded s os ≡ None
 none_decoded s os e = ap (unreserved_only s) (empty_none os e)
 
-low_scalar : (o : ℕ) → o < 128 → scalar o ≡ true
-low_scalar o h = grind (arith, nat_tests)
-
 pub ascii_first : (o : ℕ) (os : List ℕ) → o < 128 → first_char (o ∷ os) ≡ Some o
-ascii_first o os l = ap (λ b. first_char (b ++ os)) (sym (encode_ascii o l)) ∙ char_first o os (low_scalar o l)
+ascii_first o os l = ap (λ b. first_char (b ++ os)) (sym (encode_ascii o l)) ∙ char_first o os (low_scalar o (omega arith))
 
 pub middle_none : (o : ℕ) (os : List ℕ) → 128 ≤ o → o < 192 → first_char (o ∷ os) ≡ None
 middle_none o os l h = continuation_none o os (continues o l h)

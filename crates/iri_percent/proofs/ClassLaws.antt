@@ -5,7 +5,7 @@ use Rattle.std.specs.Prelude.{◌==◌, map, codes}
 use Rattle.std.specs.Char.{is_ascii_hexdigit, is_ascii_uppercase, char_set_contains, to_ascii_uppercase, to_ascii_lowercase}
 use Rattle.std.specs.Str.{chars, is_utf8}
 use lib.Utf8.{encode, encodes, scalar, scalars}
-use Rattle.std.proofs.lemmas.Str.{encodes-chars, scalars-chars, chars-encodes, encode_ascii, IsUtf8-from_is_utf8, is_utf8-from_IsUtf8}
+use Rattle.std.proofs.lemmas.Str.{encodes-chars, scalars-chars, chars-encodes, IsUtf8-from_is_utf8, is_utf8-from_IsUtf8}
 use Rattle.std.proofs.lemmas.Bool.Decides.{nat_tests}
 use Rattle.iri_grammar.specs.Classes.{Tests, IsSpec, unreserved, reg_name_char, userinfo_char, pchar, path_char, query_char, fragment_char}
 use Rattle.iri_grammar.specs.Classes.{is_ascii_unreserved, is_ascii_reg_name, is_ascii_userinfo, is_ascii_pchar, is_ascii_path}
@@ -17,13 +17,12 @@ use Rattle.iri_grammar.specs.Over.{over, text_over, IsOver}
 use Rattle.iri_grammar.proofs.OverLaws.{units-from_over, over-from_units}
 use Rattle.iri_percent.specs.Units.{octets}
 use Rattle.iri_percent.specs.Triplets.{normal, as_it_is, pct}
-use Rattle.iri_percent.proofs.UnitLaws.{Spells, none, more, Spelled, spelled, encode_bytes}
+use Rattle.iri_percent.proofs.UnitLaws.{Spells, none, more, Spelled, spelled, encode_bytes, encodes_triplet}
 use Rattle.iri_percent.specs.NormalLaws.{decoded}
 use Rattle.iri_percent.proofs.NormalLaws.{normal_nil, normal_plains, normal_decoded, normal_kept}
 use Rattle.iri_percent.proofs.Stability.{IsCase, as_it_is-case, lower-case, upper_hex, encode_percent}
 use Rattle.iri_percent.proofs.CaseLaws.{encode_case, case_scalar, is_decoded}
 use Rattle.iri_percent.proofs.WholeLaws.{reg_name_percent, userinfo_percent, pchar_percent, path_percent, query_percent, fragment_percent}
-use Rattle.iri_grammar.proofs.Units.{hex_is_ascii as digit_below}
 
 -- ---- texts over a class, by their bytes
 pub data IsText (p : ℕ → Bool) : List ℕ → Type 0 where
@@ -34,12 +33,6 @@ pub data IsText (p : ℕ → Bool) : List ℕ → Type 0 where
 pub class_percent : (p : ℕ → Bool) (c : ℕ) → p 37 ≡ false → p c ≡ true → (c == 37) ≡ false
 class_percent p c n h = by_test c 37 (λ b. b ≡ false) (λ e. let no : p c ≡ false = ap p e ∙ n in cc) (λ _. refl)
 
-triplet_encodes : (a b : ℕ) (ds : List ℕ) → is_ascii_hexdigit a ≡ true → is_ascii_hexdigit b ≡ true
-    → encodes (37 ∷ a ∷ b ∷ ds) ≡ 37 ∷ a ∷ b ∷ encodes ds
-triplet_encodes a b ds p q = ap (λ l. l ++ (encode a ++ (encode b ++ encodes ds))) (encode_ascii 37 (omega arith))
-    ∙ ap (λ l. 37 ∷ (l ++ (encode b ++ encodes ds))) (encode_ascii a (digit_below a p))
-    ∙ ap (λ l. 37 ∷ a ∷ (l ++ encodes ds)) (encode_ascii b (digit_below b q))
-
 encoded_text : (p : ℕ → Bool) (cs : List ℕ) → p 37 ≡ false → scalars cs ≡ true → IsOver p cs → IsText p (encodes cs)
 encoded_text p cs n s Rattle.iri_grammar.specs.Over.done = ended
 encoded_text p cs n s (Rattle.iri_grammar.specs.Over.plain c ds h r) = let k = both (scalar c) (scalars ds) s in
@@ -47,7 +40,7 @@ encoded_text p cs n s (Rattle.iri_grammar.specs.Over.plain c ds h r) = let k = b
 encoded_text p cs n s (Rattle.iri_grammar.specs.Over.triplet a b ds ha hb r) =
     let k = both (scalar a) (scalar b && scalars ds) s in
     let j = both (scalar b) (scalars ds) k.1 in
-    subst (λ t. IsText p t) (sym (triplet_encodes a b ds ha hb)) (escape a b (encodes ds) ha hb (encoded_text p ds n j.1 r))
+    subst (λ t. IsText p t) (sym (encodes_triplet a b ds ha hb)) (escape a b (encodes ds) ha hb (encoded_text p ds n j.1 r))
 
 pub text-from_over : (p : ℕ → Bool) (t : List ℕ) → p 37 ≡ false → text_over p t ≡ true → IsText p t
 text-from_over p t n h =
@@ -79,7 +72,7 @@ chars_of p t (escape a b t' ha hb r) =
     record {
       cs = 37 ∷ a ∷ b ∷ k.cs;
       all = rw (digit_scalar a ha, digit_scalar b hb) k.all;
-      text = triplet_encodes a b k.cs ha hb ∙ ap (λ l. 37 ∷ a ∷ b ∷ l) k.text;
+      text = encodes_triplet a b k.cs ha hb ∙ ap (λ l. 37 ∷ a ∷ b ∷ l) k.text;
       over = Rattle.iri_grammar.specs.Over.triplet a b k.cs ha hb k.over;
     }
 
@@ -102,7 +95,7 @@ after_escape p u a b t (letter c t' s h n r) e =
     cc
 after_escape p u a b t (escape a' b' t' ha hb r) e = let same : t' ≡ t = cc in subst (λ x. IsText p x) same r
 
-after_spelled : (p : ℕ → Bool) (sp os xs : List ℕ) → Spells sp os → IsText p (sp ++ xs) → IsText p xs
+pub after_spelled : (p : ℕ → Bool) (sp os xs : List ℕ) → Spells sp os → IsText p (sp ++ xs) → IsText p xs
 after_spelled p sp os xs none h = h
 after_spelled p sp os xs (more a b sp' os' ha hb k) h =
     after_spelled p sp' os' xs k (after_escape p (37 ∷ a ∷ b ∷ (sp' ++ xs)) a b (sp' ++ xs) h refl)
@@ -221,7 +214,7 @@ pub pct-fragment : (s : Tests) (t : List ℕ) → IsSpec s → is_fragment s t �
 pct-fragment s t k h = pct-over s (fragment_char s) t (fragment_percent s k) (in_fragment s) h
 
 -- a registered name in lower case
-upper_unreserved : (c : ℕ) → is_ascii_uppercase c ≡ true → is_ascii_unreserved (to_ascii_lowercase c) ≡ true
+pub upper_unreserved : (c : ℕ) → is_ascii_uppercase c ≡ true → is_ascii_unreserved (to_ascii_lowercase c) ≡ true
 unfolding is_ascii_unreserved
 upper_unreserved c h = grind (arith, nat_tests)
 

@@ -1,10 +1,11 @@
 -- A text with a delimiter: units and triplet normal form on both sides of it.
-use Rattle.std.proofs.Common.{◌≡◌, ℕ, zero, suc, ◌+◌, ◌*◌, ◌-◌, ◌≤◌, Bool, true, false, cond, ◌&&◌, List, [], ◌∷◌, ◌++◌, Option, Some}
-use Rattle.std.proofs.Common.{None, length, take, refl, sym, ◌∙◌, ap, arith, length-append}
+use Rattle.std.proofs.Common.{◌≡◌, ℕ, zero, suc, ◌+◌, ◌*◌, ◌-◌, ◌≤◌, true, false, cond, ◌&&◌, List, [], ◌∷◌, ◌++◌, Option, Some}
+use Rattle.std.proofs.Common.{None, length, refl, sym, ◌∙◌, ap, arith, length-append}
 use Rattle.std.specs.Prelude.{◌==◌}
 use Rattle.std.specs.Char.{is_ascii_hexdigit, len_utf8, encode_utf8}
 use Rattle.std.proofs.lemmas.Str.{length-encode}
-use Rattle.std.proofs.lemmas.List.{take-append-le}
+use Rattle.std.proofs.lemmas.List.{take-append-le, length-take}
+use Rattle.std.proofs.Math.Bool.{and-false}
 use Rattle.iri_grammar.specs.Classes.{Tests}
 use Rattle.iri_percent.specs.Units.{Plain, Char, Stray, is_triplet, octet, octets, first_char, triplet_unit, byte_unit, first_unit}
 use Rattle.iri_percent.specs.Units.{unit_text, units_from, units}
@@ -14,16 +15,12 @@ use Rattle.iri_percent.proofs.CharLaws.{all_written-append, normal-by_bytes}
 use Rattle.iri_percent.proofs.UnitLaws.{first_char_is, units_plain}
 use Rattle.iri_percent.specs.DelimiterLaws.{IsOutsideTriplets}
 
-and_false : (b : Bool) → (b && false) ≡ false
-and_false true = refl
-and_false false = refl
-
 no_second : (x m b : ℕ) → IsOutsideTriplets m → is_triplet x m b ≡ false
-no_second x m b k = ap (λ v. x == 37 && (v && is_ascii_hexdigit b)) k.digit ∙ and_false (x == 37)
+no_second x m b k = ap (λ v. x == 37 && (v && is_ascii_hexdigit b)) k.digit ∙ and-false (x == 37)
 
 no_third : (x a m : ℕ) → IsOutsideTriplets m → is_triplet x a m ≡ false
-no_third x a m k = ap (λ v. x == 37 && (is_ascii_hexdigit a && v)) k.digit ∙ ap (λ v. x == 37 && v) (and_false (is_ascii_hexdigit a))
-    ∙ and_false (x == 37)
+no_third x a m k = ap (λ v. x == 37 && (is_ascii_hexdigit a && v)) k.digit ∙ ap (λ v. x == 37 && v) (and-false (is_ascii_hexdigit a))
+    ∙ and-false (x == 37)
 
 no_first : (m a b : ℕ) → IsOutsideTriplets m → is_triplet m a b ≡ false
 no_first m a b k = ap (λ v. v && (is_ascii_hexdigit a && is_ascii_hexdigit b)) k.percent
@@ -59,9 +56,10 @@ char_within t c h =
     ap length g.split ∙ length-append (encode_utf8 c) g.rest ∙ ap (λ n. n + length g.rest) (length-encode c) in
     omega (arith, e, length_octets t)
 
-triplet_delimiter : (m a b : ℕ) (t r : List ℕ) (o : Option ℕ) → first_char (octets t) ≡ o → triplet_unit a b (t ++ r) o ≡ triplet_unit a b t o
-triplet_delimiter m a b t r None h = refl
-triplet_delimiter m a b t r (Some c) h = ap (λ l. Char c l) (take-append-le (3 * len_utf8 c) t r (char_within t c h))
+-- what follows the octets of a character in triplets makes no difference
+pub triplet_more : (a b : ℕ) (t r : List ℕ) (o : Option ℕ) → first_char (octets t) ≡ o → triplet_unit a b (t ++ r) o ≡ triplet_unit a b t o
+triplet_more a b t r None h = refl
+triplet_more a b t r (Some c) h = ap (λ l. Char c l) (take-append-le (3 * len_utf8 c) t r (char_within t c h))
 
 pub first_candidate : (m x : ℕ) (a b : List ℕ) → IsOutsideTriplets m → first_unit x (a ++ m ∷ b) ≡ first_unit x a
 first_candidate m x [] [] k = refl
@@ -73,7 +71,7 @@ first_candidate m x (y ∷ z ∷ a) b k =
     ap (λ os. cond (is_triplet x y z) (triplet_unit y z (x ∷ y ∷ z ∷ (a ++ m ∷ b)) (first_char os)) (byte_unit x))
     (octets_delimiter m (x ∷ y ∷ z ∷ a) b k)
     ∙ ap (λ u. cond (is_triplet x y z) u (byte_unit x))
-    (triplet_delimiter m y z (x ∷ y ∷ z ∷ a) (m ∷ b) (first_char (octets (x ∷ y ∷ z ∷ a))) refl)
+    (triplet_more y z (x ∷ y ∷ z ∷ a) (m ∷ b) (first_char (octets (x ∷ y ∷ z ∷ a))) refl)
 
 byte_length : (x : ℕ) (xs : List ℕ) → length (unit_text (byte_unit x)) ≤ length (x ∷ xs)
 byte_length x xs = elim (x == 37) as (λ v. length (unit_text (cond v Stray (Plain x))) ≤ length (x ∷ xs)) [
@@ -81,15 +79,10 @@ byte_length x xs = elim (x == 37) as (λ v. length (unit_text (cond v Stray (Pla
   | false ↦ omega arith
 ]
 
-taken_length : (n : ℕ) (xs : List ℕ) → length (take n xs) ≤ length xs
-taken_length zero xs = omega arith
-taken_length (suc n) [] = omega arith
-taken_length (suc n) (x ∷ xs) = let h = taken_length n xs in omega arith
-
 triplet_length : (a b x : ℕ) (xs : List ℕ) (o : Option ℕ)
     → length (unit_text (triplet_unit a b (x ∷ a ∷ b ∷ xs) o)) ≤ length (x ∷ a ∷ b ∷ xs)
 triplet_length a b x xs None = omega arith
-triplet_length a b x xs (Some c) = taken_length (3 * len_utf8 c) (x ∷ a ∷ b ∷ xs)
+triplet_length a b x xs (Some c) = omega (arith, length-take (3 * len_utf8 c) (x ∷ a ∷ b ∷ xs))
 
 -- a unit stands in the text
 pub unit_within : (x : ℕ) (xs : List ℕ) → length (unit_text (first_unit x xs)) ≤ length (x ∷ xs)

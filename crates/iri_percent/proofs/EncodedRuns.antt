@@ -8,6 +8,7 @@ use Rattle.std.specs.Str.{chars, IsUtf8, IsCharBoundary}
 use Rattle.std.proofs.lemmas.Str.{encode_ascii, IsCharBoundary-from_drop}
 use Rattle.std.proofs.lemmas.List.{take_at, drop_at}
 use Rattle.std.proofs.lemmas.Bool.Decides.{nat_tests}
+use Rattle.std.proofs.lemmas.Bool.{not-true}
 use Rattle.iri_grammar.specs.Classes.{Tests, IsSpec, userinfo_char, reg_name_char, is_ascii_userinfo, is_ascii_reg_name}
 use Rattle.iri_grammar.specs.Classes.{is_ascii_unreserved, is_sub_delim}
 use Rattle.iri_grammar.specs.ClassTests.{class_test, ascii_test}
@@ -95,10 +96,6 @@ past_ascii p q stands h (b ∷ t) u =
     ] refl
 
 -- such characters that aren't in a class
-is_false : (x : Bool) → not x ≡ true → x ≡ false
-is_false true h = cc
-is_false false h = refl
-
 pub other_below : (k : Class) (b : ℕ) → is_other k b ≡ true → b < 128
 other_below k b h = ltb-true b 128 (both (nat_lt b 128) (not (ascii_test k b)) h).0
 
@@ -106,7 +103,7 @@ pub other_ascii : (s : Tests) → IsSpec s → (k : Class) (b : ℕ) → is_othe
 other_ascii s l k b h = (
   other_below k b h,
   class_at_ascii s l k b (other_below k b h)
-      ∙ is_false (ascii_test k b) (both (nat_lt b 128) (not (ascii_test k b)) h).1,
+      ∙ not-true (ascii_test k b) (both (nat_lt b 128) (not (ascii_test k b)) h).1,
 )
 
 -- a character, and the run after it

@@ -2,8 +2,8 @@
 use Rattle.std.proofs.Common.{◌≡◌, ℕ, ◌<◌, ◌≤◌, Bool, true, false, not, get_or, refl, sym, ◌∙◌, subst, arith, eqb-true}
 use Rattle.std.specs.Prelude.{nat_lt, nat_eq, ◌%◌, ◌||◌}
 use Rattle.std.specs.Char.{is_ascii_hexdigit, digit_value, to_ascii_uppercase}
-use Rattle.std.proofs.lemmas.Bool.Decides.{nat_tests}
-use Rattle.iri_grammar.proofs.Tables.{agree_below, agree_at}
+use Rattle.std.proofs.lemmas.Bool.{agree_below, agree_below_at, lt-ltb, le-ltb}
+use Rattle.std.proofs.lemmas.Nat.{mod_below}
 use Rattle.iri_percent.specs.declared.octets.TheConstants.{VALUES, CAPITALS}
 
 abbrev is_value : ℕ → Bool
@@ -18,21 +18,12 @@ values = refl
 right : agree_below is_right (λ _. true) 256 ≡ true
 right = refl
 
-below : (x y : ℕ) → x < y → nat_lt x y ≡ true
-below x y h = grind (arith, nat_tests)
-
-not_below : (x y : ℕ) → y ≤ x → nat_lt x y ≡ false
-not_below x y h = grind (arith, nat_tests)
-
 second : (p q : Bool) → p ≡ true → (not p || q) ≡ true → q ≡ true
 second true q e h = h
 second false q e h = cc
 
-remainder : (x : ℕ) → x % 16 < 16
-remainder x = omega arith
-
 is_digit : (b : ℕ) → b < 256 → get_or VALUES b 0 < 64 → is_ascii_hexdigit b ≡ true
-is_digit b h l = sym (agree_at is_value is_ascii_hexdigit 256 values b h) ∙ below (get_or VALUES b 0) 64 l
+is_digit b h l = sym (agree_below_at is_value is_ascii_hexdigit 256 b values h) ∙ lt-ltb (get_or VALUES b 0) 64 l
 
 -- a digit
 pub digit_here : (b n : ℕ) → b ≡ n → b < 256 → get_or VALUES n 0 < 64
@@ -42,19 +33,19 @@ digit_here b n e h = subst (λ m. get_or VALUES m 0 < 64
     (λ l. (
       is_digit b h l,
       eqb-true (get_or VALUES b 0 % 16) (digit_value b) (second (is_ascii_hexdigit b) (nat_eq (get_or VALUES b 0 % 16) (digit_value b))
-          (is_digit b h l) (agree_at is_right (λ _. true) 256 right b h)),
-      remainder (get_or VALUES b 0),
+          (is_digit b h l) (agree_below_at is_right (λ _. true) 256 b right h)),
+      mod_below (get_or VALUES b 0) 16 (omega arith),
     ))
 
 -- no digit
 pub none_here : (b n : ℕ) → b ≡ n → b < 256 → 64 ≤ get_or VALUES n 0 → is_ascii_hexdigit b ≡ false
 none_here b n e h = subst (λ m. 64 ≤ get_or VALUES m 0 → is_ascii_hexdigit b ≡ false) e
-    (λ l. sym (agree_at is_value is_ascii_hexdigit 256 values b h) ∙ not_below (get_or VALUES b 0) 64 l)
+    (λ l. sym (agree_below_at is_value is_ascii_hexdigit 256 b values h) ∙ le-ltb (get_or VALUES b 0) 64 l)
 
 pub value_here : (b n : ℕ) → b ≡ n → b < 256 → is_ascii_hexdigit b ≡ true → get_or VALUES n 0 % 16 ≡ digit_value b
 value_here b n e l h = subst (λ m. get_or VALUES m 0 % 16 ≡ digit_value b) e
     (eqb-true (get_or VALUES b 0 % 16) (digit_value b) (second (is_ascii_hexdigit b) (nat_eq (get_or VALUES b 0 % 16) (digit_value b)) h
-    (agree_at is_right (λ _. true) 256 right b l)))
+    (agree_below_at is_right (λ _. true) 256 b right l)))
 
 -- ---- the capital form
 abbrev is_capital : ℕ → Bool
@@ -66,4 +57,4 @@ capitals = refl
 pub capital_here : (b n : ℕ) → b ≡ n → b < 256 → is_ascii_hexdigit b ≡ true → get_or CAPITALS n 0 ≡ to_ascii_uppercase b
 capital_here b n e l h = subst (λ m. get_or CAPITALS m 0 ≡ to_ascii_uppercase b) e
     (eqb-true (get_or CAPITALS b 0) (to_ascii_uppercase b) (second (is_ascii_hexdigit b) (nat_eq (get_or CAPITALS b 0) (to_ascii_uppercase b)) h
-    (agree_at is_capital (λ _. true) 256 capitals b l)))
+    (agree_below_at is_capital (λ _. true) 256 b capitals l)))

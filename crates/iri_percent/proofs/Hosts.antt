@@ -6,6 +6,7 @@ use Rattle.std.specs.Prelude.{◌==◌, nat_lt}
 use Rattle.std.specs.List.{list_all}
 use Rattle.std.specs.Char.{is_ascii_uppercase, to_ascii_lowercase}
 use Rattle.std.proofs.lemmas.List.{take_rest}
+use Rattle.std.proofs.lemmas.Bool.{not-true}
 use Rattle.iri_grammar.specs.Classes.{Tests}
 use Rattle.iri_grammar.proofs.CutLaws.{both}
 use Rattle.iri_percent.specs.Units.{two_digits, whole_triplets}
@@ -50,12 +51,8 @@ plain_ascii [] h = refl
 plain_ascii (x ∷ xs) h =
     let k = both (is_plain_byte x) (list_all is_plain_byte xs) h in
     let j = both (nat_lt x 128) (not (x == 37) && not (is_ascii_uppercase x)) k.0 in
-    let n : (x == 37) ≡ false = percent (x == 37) (both (not (x == 37)) (not (is_ascii_uppercase x)) j.1).0 in
+    let n : (x == 37) ≡ false = not-true (x == 37) (both (not (x == 37)) (not (is_ascii_uppercase x)) j.1).0 in
     rw (j.0, n) (plain_ascii xs k.1)
-  where
-    percent : (b : Bool) → not b ≡ true → b ≡ false
-    percent true e = cc
-    percent false e = refl
 
 pub plain_four : (t : List ℕ) → 4 ≤ length t
     → (((is_plain_byte (get_or t 0 0) && is_plain_byte (get_or t 1 0)) && is_plain_byte (get_or t 2 0)) && is_plain_byte (get_or t 3 0)) ≡ true

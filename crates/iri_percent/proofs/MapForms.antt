@@ -1,5 +1,5 @@
 -- The mapping and triplet normal form, and what the mapping does.
-use Rattle.std.proofs.Common.{◌≡◌, ℕ, zero, suc, ◌+◌, ◌*◌, ◌<◌, ◌≤◌, Bool, true, false, cond, ◌||◌, List, [], ◌∷◌, ◌++◌, Option, Some}
+use Rattle.std.proofs.Common.{◌≡◌, ℕ, zero, suc, ◌+◌, ◌*◌, ◌<◌, ◌≤◌, Bool, true, false, cond, List, [], ◌∷◌, ◌++◌, Option, Some}
 use Rattle.std.proofs.Common.{None, length, map, refl, sym, ◌∙◌, ap, subst, arith, length-append, ltb-true, ltb-false}
 use Rattle.std.specs.Prelude.{◌==◌, ◌/◌, ◌%◌, nat_lt}
 use Rattle.std.specs.List.{list_all}
@@ -8,17 +8,23 @@ use lib.Utf8.{encode, encodes, scalar, scalars}
 use Rattle.std.specs.Str.{chars, IsAscii, IsUtf8}
 use Rattle.std.proofs.lemmas.Str.{encode_ascii, encodes-chars, scalars-chars, IsAscii-append}
 use Rattle.std.proofs.lemmas.Bool.Decides.{nat_tests}
+use Rattle.std.proofs.lemmas.Bool.{lt-ltb}
+use Rattle.std.proofs.Math.Bool.{or-false}
+use Rattle.std.proofs.lemmas.Str.Ascii.{IsAscii-cons, IsAscii-nil}
 use Rattle.iri_grammar.specs.Classes.{Tests, IsSpec, uri_tests, unreserved, is_ascii_unreserved}
 use Rattle.iri_grammar.proofs.CutLaws.{both}
 use Rattle.iri_grammar.specs.Over.{text_over}
 use Rattle.iri_percent.specs.Units.{octet, octets, first_char}
 use Rattle.iri_percent.specs.Triplets.{normal}
-use Rattle.iri_percent.proofs.ClassLaws.{IsText, ended, letter, escape, text-from_over, after_escape}
+use Rattle.iri_percent.proofs.ClassLaws.{IsText, ended, letter, escape, text-from_over, after_spelled}
 use Rattle.iri_percent.proofs.UnitLaws.{Spells, none, more, spelled, octets_triplet, char_first, encode_bytes}
 use Rattle.iri_percent.specs.NormalLaws.{decoded, unreserved_only}
 use Rattle.iri_percent.proofs.NormalLaws.{normal_nil, normal_plain, normal_plains, normal_char, normal_decoded, normal_kept}
 use Rattle.iri_percent.proofs.CaseLaws.{encode_case, is_decoded}
 use Rattle.iri_percent.proofs.Stability.{IsCase, encode_percent, upper_hex}
+pub use Rattle.iri_percent.proofs.Characters.{unreserved_low as unreserved_ascii}
+use Rattle.iri_percent.proofs.Characters.{unreserved_low}
+use Rattle.iri_percent.proofs.Spelled.{hex_below}
 use Rattle.iri_percent.specs.Mapping.{capital_hex, triplet, mapped, triplets, mapped_char, mapped_chars}
 use Rattle.iri_percent.proofs.MapTexts.{mapped-low, mapped-high, mapped-append, mapped-triplet, mapped-spelled, mapped-spells, is_high}
 use Rattle.iri_percent.proofs.MapTexts.{high_past, high_small, first_digit, second_digit, encode-high, uri-spec}
@@ -58,18 +64,10 @@ past_reserved : (c : ℕ) → nat_lt c 128 ≡ false → unreserved uri_tests c 
 unfolding unreserved is_ascii_unreserved
 past_reserved c h = grind (arith, nat_tests)
 
-pub unreserved_ascii : (c : ℕ) → is_ascii_unreserved c ≡ true → c < 128
-unfolding is_ascii_unreserved
-unreserved_ascii c h = grind (arith, nat_tests)
-
 -- an ASCII character is unreserved under each spec alike
 ascii_unreserved : (s : Tests) (c : ℕ) → IsSpec s → c < 128 → unreserved s c ≡ is_ascii_unreserved c
 unfolding unreserved
-ascii_unreserved s c k l = rw (k.ucs_ascii c l) (or_false (is_ascii_unreserved c))
-  where
-    or_false : (b : Bool) → (b || false) ≡ b
-    or_false true = refl
-    or_false false = refl
+ascii_unreserved s c k l = rw (k.ucs_ascii c l) (or-false (is_ascii_unreserved c))
 
 pub low_scalar : (c : ℕ) → c < 128 → scalar c ≡ true
 low_scalar c h = grind (arith, nat_tests)
@@ -78,7 +76,7 @@ low_scalar c h = grind (arith, nat_tests)
 pub ascii-decoded : (s : Tests) (o : ℕ) (os : List ℕ) → is_ascii_unreserved o ≡ true → decoded s (o ∷ os) ≡ Some o
 unfolding unreserved
 ascii-decoded s o os h =
-    let l = unreserved_ascii o h in
+    let l = unreserved_low o h in
     let there : first_char (o ∷ os) ≡ Some o = ap (λ z. first_char (z ++ os)) (sym (encode_ascii o l)) ∙ char_first o os (low_scalar o l) in
     ap (unreserved_only s) there ∙ (rw h refl)
 
@@ -91,27 +89,17 @@ uri-decoded o os n = at (decoded uri_tests (o ∷ os)) refl
     at None e = refl
     at (Some c) e =
         let d = is_decoded uri_tests (o ∷ os) c e in
-        let free : is_ascii_unreserved c ≡ true = sym (or_false (is_ascii_unreserved c)) ∙ d.1 in
-        let w : o ∷ os ≡ c ∷ d.0.rest = d.0.split ∙ ap (λ z. z ++ d.0.rest) (encode_ascii c (unreserved_ascii c free)) in
+        let free : is_ascii_unreserved c ≡ true = sym (or-false (is_ascii_unreserved c)) ∙ d.1 in
+        let w : o ∷ os ≡ c ∷ d.0.rest = d.0.split ∙ ap (λ z. z ++ d.0.rest) (encode_ascii c (unreserved_low c free)) in
         let same : o ≡ c = cc in
         let no : true ≡ false = sym free ∙ ap is_ascii_unreserved (sym same) ∙ n in
         cc
-      where
-        or_false : (b : Bool) → (b || false) ≡ b
-        or_false true = refl
-        or_false false = refl
 
 -- where no unreserved character begins, none begins under URIs
 none-decoded : (s : Tests) (o : ℕ) (os qs : List ℕ) → decoded s (o ∷ os) ≡ None → decoded uri_tests (o ∷ qs) ≡ None
 none-decoded s o os qs h =
     elim (is_ascii_unreserved o) as (λ b. is_ascii_unreserved o ≡ b
     → decoded uri_tests (o ∷ qs) ≡ None) [ true ↦ λ e. let yes' = ascii-decoded s o os e in cc | false ↦ λ e. uri-decoded o qs e ] refl
-
--- ---- what stands after a triplet
-after_spelled : (p : ℕ → Bool) (sp os xs : List ℕ) → Spells sp os → IsText p (sp ++ xs) → IsText p xs
-after_spelled p sp os xs none h = h
-after_spelled p sp os xs (more a b sp' os' ha hb k) h =
-    after_spelled p sp' os' xs k (after_escape p (37 ∷ a ∷ b ∷ (sp' ++ xs)) a b (sp' ++ xs) h refl)
 
 -- ---- the triplet normal form
 abbrev Maps : Tests → (ℕ → ℕ) → List ℕ → Type 0
@@ -126,7 +114,7 @@ at_letter s f c t i h n rest =
     elim (nat_lt c 128) as (λ b. nat_lt c 128 ≡ b → Maps s f (encode c ++ t)) [
       | true ↦ λ e.
           let l = ltb-true c 128 e in
-          let below : nat_lt (f c) 128 ≡ true = low (f c) (i.below c l) in
+          let below : nat_lt (f c) 128 ≡ true = lt-ltb (f c) 128 (i.below c l) in
           subst (λ z. Maps s f (z ++ t)) (sym (encode_ascii c l))
           (ap mapped (normal_plain s f c t n) ∙ mapped-low (f c) (normal s f t) below ∙ ap (λ z. f c ∷ z) rest
           ∙ sym (normal_plain uri_tests f c (mapped t) n) ∙ ap (normal uri_tests f) (sym (mapped-low c t e)))
@@ -142,9 +130,6 @@ at_letter s f c t i h n rest =
           ∙ sym (normal_char uri_tests f c (mapped (encode c)) (mapped t) h spell)
           ∙ ap (normal uri_tests f) (sym (mapped-append (encode c) t))
     ] refl
-  where
-    low : (x : ℕ) → x < 128 → nat_lt x 128 ≡ true
-    low x h = grind (arith, nat_tests)
 
 at_kept : (s : Tests) (f : ℕ → ℕ) (a b : ℕ) (t : List ℕ) → is_ascii_hexdigit a ≡ true → is_ascii_hexdigit b ≡ true
     → decoded s (octets (37 ∷ a ∷ b ∷ t)) ≡ None → Maps s f t → Maps s f (37 ∷ a ∷ b ∷ t)
@@ -175,15 +160,12 @@ at_decoded s f c sp t k i h u j rest =
       | true ↦ λ e.
           let l = ltb-true c 128 e in
           let free : unreserved uri_tests c ≡ true = ascii_unreserved uri_tests c uri-spec l ∙ sym (ascii_unreserved s c k l) ∙ u in
-          rw (free, encode_ascii c l) (mapped-low (f c) [] (low (f c) (i.below c l)))
+          rw (free, encode_ascii c l) (mapped-low (f c) [] (lt-ltb (f c) 128 (i.below c l)))
       | false ↦ λ e. rw (past_reserved c e, map_past f c i e) (sym (upper-spelled sp (encode c) j (encode-high c h e)))
     ] refl in
     left ∙ ap (λ z. z ++ normal uri_tests f (mapped t)) same ∙ sym right
-  where
-    low : (x : ℕ) → x < 128 → nat_lt x 128 ≡ true
-    low x h = grind (arith, nat_tests)
 
-some_bytes : (c : ℕ) → 0 < length (encode c)
+pub some_bytes : (c : ℕ) → 0 < length (encode c)
 some_bytes c = let b = encode_bytes c in omega (arith, ap length b.split)
 
 some_triplet : (sp os : List ℕ) → Spells sp os → 0 < length os → 0 < length sp
@@ -229,24 +211,14 @@ mapped-normal_text s f p t k i h = maps_within (length t) s f p t k i (omega ari
 
 -- ---- what the mapping does
 -- a mapped text is in ASCII
-small_digit : (n : ℕ) → n < 16 → capital_hex n < 128
-small_digit n h = grind (arith, nat_tests)
-
 triplet-ascii : (x : ℕ) → x < 256 → IsAscii (triplet x)
 triplet-ascii x h zero = omega arith
-triplet-ascii x h (suc zero) = small_digit (x / 16) (first_digit x h)
-triplet-ascii x h (suc (suc zero)) = small_digit (x % 16) (second_digit x)
+triplet-ascii x h (suc zero) = hex_below (x / 16) (first_digit x h)
+triplet-ascii x h (suc (suc zero)) = hex_below (x % 16) (second_digit x)
 triplet-ascii x h (suc (suc (suc i))) = omega arith
 
-none-ascii : IsAscii []
-none-ascii i = omega arith
-
-one-ascii : (x : ℕ) → x < 128 → IsAscii (x ∷ [])
-one-ascii x h zero = h
-one-ascii x h (suc i) = omega arith
-
 high-ascii : (os : List ℕ) → list_all is_high os ≡ true → IsAscii (mapped os)
-high-ascii [] h = none-ascii
+high-ascii [] h = IsAscii-nil
 high-ascii (x ∷ xs) h =
     let k = both (is_high x) (list_all is_high xs) h in
     subst IsAscii (sym (mapped-high x xs (high_past x k.0)))
@@ -255,12 +227,14 @@ high-ascii (x ∷ xs) h =
 char-ascii : (c : ℕ) → scalar c ≡ true → IsAscii (mapped (encode c))
 char-ascii c h =
     elim (nat_lt c 128) as (λ b. nat_lt c 128 ≡ b → IsAscii (mapped (encode c))) [
-      | true ↦ λ e. let l = ltb-true c 128 e in subst IsAscii (sym (ap mapped (encode_ascii c l) ∙ mapped-low c [] e)) (one-ascii c l)
+      | true ↦ λ e.
+          let l = ltb-true c 128 e in
+          subst IsAscii (sym (ap mapped (encode_ascii c l) ∙ mapped-low c [] e)) (IsAscii-cons c [] l IsAscii-nil)
       | false ↦ λ e. high-ascii (encode c) (encode-high c h e)
     ] refl
 
 chars-ascii : (cs : List ℕ) → scalars cs ≡ true → IsAscii (mapped (encodes cs))
-chars-ascii [] h = none-ascii
+chars-ascii [] h = IsAscii-nil
 chars-ascii (c ∷ cs) h =
     let k = both (scalar c) (scalars cs) h in
     subst IsAscii (sym (mapped-append (encode c) (encodes cs)))

@@ -5,6 +5,7 @@ use Rattle.std.specs.Prelude.{nat_lt, IsSome, IsNone, option_map}
 use Rattle.std.specs.Char.{is_ascii_digit}
 use Rattle.std.specs.List.{list_all}
 use Rattle.std.proofs.lemmas.Bool.Decides.{nat_tests}
+use Rattle.std.proofs.Math.Bool.{or-true}
 use Rattle.iri_grammar.specs.Authority.{AuthorityParts, FitsAuthority, authority_parts, recompose_authority, is_authority, userinfo_text}
 use Rattle.iri_grammar.proofs.AuthorityLaws.{authority_law, reading_is, passes, authority_recomposed}
 use Rattle.iri_grammar.specs.Classes.{Tests, IsSpec, uri_tests, userinfo_char, reg_name_char, path_char, query_char, fragment_char}
@@ -140,12 +141,8 @@ pub mapped-host : (s : Tests) (x : List ℕ) → IsSpec s → is_host s x ≡ tr
 mapped-host s x k h =
     elim (is_ip_literal x) as (λ b. is_ip_literal x ≡ b → (b || is_reg_name s x) ≡ true → is_host uri_tests (mapped x) ≡ true) [
       | true ↦ λ e _. rw (mapped-literal x e, e) refl
-      | false ↦ λ _ r. rw (mapped-reg_name s x k r) (or_true (is_ip_literal (mapped x)))
+      | false ↦ λ _ r. rw (mapped-reg_name s x k r) (or-true (is_ip_literal (mapped x)))
     ] refl h
-  where
-    or_true : (b : Bool) → (b || true) ≡ true
-    or_true true = refl
-    or_true false = refl
 
 -- ---- authorities
 userinfo-fits : (s : Tests) (o : Option (List ℕ)) → IsSpec s → if_there (is_userinfo s) o ≡ true

@@ -1,9 +1,10 @@
 -- The mapping of a text, run by run.
-use Rattle.std.proofs.Common.{◌≡◌, ℕ, zero, suc, ◌<◌, true, false, cond, not, List, [], ◌∷◌, ◌++◌, length, take, drop, refl, sym, ◌∙◌, ap}
+use Rattle.std.proofs.Common.{◌≡◌, ℕ, suc, ◌<◌, true, false, cond, not, List, [], ◌∷◌, ◌++◌, length, take, drop, refl, sym, ◌∙◌, ap}
 use Rattle.std.proofs.Common.{subst, arith, append_assoc, length-drop, ltb-true}
 use Rattle.std.specs.Prelude.{nat_lt}
 use Rattle.std.specs.Str.{IsAscii}
-use Rattle.std.proofs.lemmas.Bool.Decides.{nat_tests}
+use Rattle.std.proofs.lemmas.Bool.{lt-ltb}
+use Rattle.std.proofs.lemmas.Str.Ascii.{IsAscii-cons, IsAscii-nil}
 use Rattle.iri_grammar.specs.Runs.{run_of}
 use Rattle.iri_percent.specs.Mapping.{triplet, mapped, triplets}
 use Rattle.iri_percent.specs.inside.MapRuns.{goes_on}
@@ -30,19 +31,12 @@ high-run (x ∷ xs) =
           ∙ sym (append_assoc (triplet x) (triplets (take (run_of (goes_on true) xs) xs)) (mapped (drop (run_of (goes_on true) xs) xs)))
     ] refl
 
-ascii-first : (x : ℕ) (xs : List ℕ) → x < 128 → IsAscii xs → IsAscii (x ∷ xs)
-ascii-first x xs h k zero = h
-ascii-first x xs h k (suc j) = k j
-
-ascii-none : IsAscii []
-ascii-none i = omega arith
-
 pub low-ascii : (t : List ℕ) → IsAscii (take (run_of (goes_on false) t) t)
-low-ascii [] = ascii-none
+low-ascii [] = IsAscii-nil
 low-ascii (x ∷ xs) =
     elim (nat_lt x 128) as (λ b. nat_lt x 128 ≡ b → IsAscii (take (cond b (suc (run_of (goes_on false) xs)) 0) (x ∷ xs))) [
-      | true ↦ λ e. ascii-first x (take (run_of (goes_on false) xs) xs) (ltb-true x 128 e) (low-ascii xs)
-      | false ↦ λ _. ascii-none
+      | true ↦ λ e. IsAscii-cons x (take (run_of (goes_on false) xs) xs) (ltb-true x 128 e) (low-ascii xs)
+      | false ↦ λ _. IsAscii-nil
     ] refl
 
 -- something is taken of a text that isn't empty
@@ -59,12 +53,9 @@ runs-shorter (x ∷ xs) h =
     ] refl
 
 -- ---- ASCII
-pub low : (x : ℕ) → x < 128 → nat_lt x 128 ≡ true
-low x h = grind (arith, nat_tests)
-
 pub mapped-of_ascii : (t : List ℕ) → IsAscii t → mapped t ≡ t
 mapped-of_ascii [] h = refl
-mapped-of_ascii (x ∷ xs) h = mapped-low x xs (low x (h 0)) ∙ ap (λ z. x ∷ z) (mapped-of_ascii xs (λ i. h (suc i)))
+mapped-of_ascii (x ∷ xs) h = mapped-low x xs (lt-ltb x 128 (h 0)) ∙ ap (λ z. x ∷ z) (mapped-of_ascii xs (λ i. h (suc i)))
 
 -- ---- what was written, two runs, and the rest
 pub one_run : (t done rest plain : List ℕ) → mapped t ≡ done ++ mapped rest → plain ≡ take (run_of (goes_on false) rest) rest

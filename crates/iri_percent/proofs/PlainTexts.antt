@@ -6,7 +6,8 @@ use Rattle.std.specs.List.{list_all}
 use Rattle.std.specs.Str.{IsAscii}
 use Rattle.std.specs.Char.{is_ascii_digit, to_ascii_lowercase}
 use Rattle.std.proofs.lemmas.Bool.Decides.{nat_tests}
-use Rattle.std.proofs.lemmas.List.{map-append}
+use Rattle.std.proofs.lemmas.List.{map-append, map-id}
+use Rattle.std.proofs.lemmas.Bool.{lt-ltb}
 use Rattle.iri_grammar.specs.Classes.{Tests}
 use Rattle.iri_grammar.specs.ClassTests.{ascii_test}
 use Rattle.iri_grammar.specs.Components.{if_there, is_port}
@@ -25,7 +26,6 @@ use Rattle.iri_percent.specs.Triplets.{as_it_is, normal, pct}
 use Rattle.iri_percent.specs.inside.Pieces.{NoCandidate, case_of}
 use Rattle.iri_percent.proofs.Changes.{run_all}
 use Rattle.iri_percent.proofs.Hosts.{host_case}
-use Rattle.iri_percent.proofs.MappedRuns.{low}
 use Rattle.iri_percent.proofs.DelimiterLaws.{pct_delimiter}
 use Rattle.iri_percent.proofs.NormalLaws.{normal_nil, normal_plains}
 
@@ -42,12 +42,8 @@ pub pct-same : (s : Tests) (t : List ℕ) → lacks 37 t ≡ true → pct s t �
 pct-same s t h = run_all s false t (lacks-stays t h)
 
 -- what has no triplet stays before what follows
-same : (t : List ℕ) → map as_it_is t ≡ t
-same [] = refl
-same (x ∷ xs) = ap (λ l. x ∷ l) (same xs)
-
 pub pct-prefix : (s : Tests) (t r : List ℕ) → lacks 37 t ≡ true → pct s (t ++ r) ≡ t ++ pct s r
-pct-prefix s t r h = normal_plains s as_it_is t r h ∙ ap (λ l. l ++ pct s r) (same t)
+pct-prefix s t r h = normal_plains s as_it_is t r h ∙ ap (λ l. l ++ pct s r) (map-id t)
 
 -- a part after its delimiter
 pub pct-delimited : (s : Tests) (m : ℕ) (a : List ℕ) (o : Option (List ℕ)) → IsOutsideTriplets m
@@ -79,7 +75,7 @@ unfolding is_ascii_host
 name_ascii [] h = refl
 name_ascii (x ∷ xs) h =
     let k = both (ascii_test RegName x) (list_all (ascii_test RegName) xs) h in
-    rw (low x (ascii_test_below RegName x k.0), test_apart (ascii_test RegName) 37 x (no_percent RegName) k.0) (name_ascii xs k.1)
+    rw (lt-ltb x 128 (ascii_test_below RegName x k.0), test_apart (ascii_test RegName) 37 x (no_percent RegName) k.0) (name_ascii xs k.1)
 
 name-lowered : (s : Tests) (t : List ℕ) → list_all (ascii_test RegName) t ≡ true → normal_host s t ≡ map to_ascii_lowercase t
 name-lowered s t h = host_case s t ∙ (ap (λ b. normal s (case_of b) t) (name_ascii t h) ∙ lowered-alone s t (name-lacks t h))

@@ -5,6 +5,7 @@ use Rattle.std.specs.Prelude.{◌==◌}
 use Rattle.std.specs.List.{list_all}
 use Rattle.std.specs.Char.{is_ascii_hexdigit, encode_utf8, to_ascii_uppercase}
 use Rattle.std.specs.Prelude.{cond, map}
+use Rattle.std.proofs.lemmas.Bool.{not-true}
 use Rattle.iri_grammar.specs.Classes.{Tests, unreserved}
 use Rattle.iri_grammar.proofs.CutLaws.{both}
 use Rattle.iri_percent.specs.Units.{octet, octets, is_triplet, first_char, two_digits, whole_triplets}
@@ -17,10 +18,6 @@ use Rattle.iri_percent.proofs.Reading.{Reading, done, plain, char, lone, whole_p
 abbrev pub leads : List ℕ → Bool
 leads [] = true
 leads (o ∷ os) = not (is_continuation o)
-
-not-true : (b : Bool) → not b ≡ true → b ≡ false
-not-true true h = cc
-not-true false h = refl
 
 -- ---- octets
 abbrev Seam : List ℕ → List ℕ → Type 0

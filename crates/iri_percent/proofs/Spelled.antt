@@ -35,7 +35,7 @@ one_spelled buf os n i o high low room within is h l so_far =
     ∙ ap triplets (ap (λ x. take i os ++ (x ∷ [])) is ∙ sym (take-suc os i 0 within) ∙ ap (λ k. take k os) next)
 
 -- spelled octets are ASCII
-hex_below : (n : ℕ) → n < 16 → capital_hex n < 128
+pub hex_below : (n : ℕ) → n < 16 → capital_hex n < 128
 hex_below n h = grind (arith, nat_tests)
 
 triplets-ascii : (os : List ℕ) → ((i : ℕ) → get_or os i 0 < 256) → IsAscii (triplets os)

@@ -5,6 +5,8 @@ use Rattle.std.specs.Prelude.{◌==◌, map, not}
 use Rattle.std.specs.Char.{is_ascii_hexdigit, digit_value, to_ascii_uppercase, to_ascii_lowercase, encode_utf8}
 use Rattle.std.proofs.lemmas.Bool.Decides.{nat_tests}
 use Rattle.std.proofs.lemmas.List.{append-nil}
+pub use Rattle.std.proofs.lemmas.Str.Ascii.{uppercase-uppercase as upper_twice}
+use Rattle.std.proofs.lemmas.Str.Ascii.{lowercase-lowercase, lowercase_ascii, uppercase-uppercase}
 use Rattle.iri_grammar.specs.Classes.{Tests, IsSpec, unreserved, is_ascii_unreserved}
 use Rattle.iri_grammar.specs.Cut.{lacks}
 use Rattle.iri_grammar.proofs.CutLaws.{by_test, lacks-other}
@@ -33,17 +35,11 @@ as_it_is-case = record { percent = λ x h. h; twice = λ x. refl; below = λ x h
 lower_percent : (x : ℕ) → (x == 37) ≡ false → (to_ascii_lowercase x == 37) ≡ false
 lower_percent x h = grind (arith, nat_tests)
 
-lower_twice : (x : ℕ) → to_ascii_lowercase (to_ascii_lowercase x) ≡ to_ascii_lowercase x
-lower_twice x = grind (arith, nat_tests)
-
-lower_below : (x : ℕ) → x < 128 → to_ascii_lowercase x < 128
-lower_below x h = grind (arith, nat_tests)
-
 lower_past : (x : ℕ) → 128 ≤ x → to_ascii_lowercase x ≡ x
 lower_past x h = grind (arith, nat_tests)
 
 pub lower-case : IsCase to_ascii_lowercase
-lower-case = record { percent = lower_percent; twice = lower_twice; below = lower_below; past = lower_past }
+lower-case = record { percent = lower_percent; twice = lowercase-lowercase; below = lowercase_ascii; past = lower_past }
 
 -- ---- capital digits
 pub upper_hex : (a : ℕ) → is_ascii_hexdigit a ≡ true → is_ascii_hexdigit (to_ascii_uppercase a) ≡ true
@@ -51,9 +47,6 @@ upper_hex a h = grind (arith, nat_tests)
 
 pub upper_value : (a : ℕ) → is_ascii_hexdigit a ≡ true → digit_value (to_ascii_uppercase a) ≡ digit_value a
 upper_value a h = grind (arith, nat_tests)
-
-pub upper_twice : (a : ℕ) → to_ascii_uppercase (to_ascii_uppercase a) ≡ to_ascii_uppercase a
-upper_twice a = grind (arith, nat_tests)
 
 pub upper_octet : (a b : ℕ) → is_ascii_hexdigit a ≡ true → is_ascii_hexdigit b ≡ true
     → octet (to_ascii_uppercase a) (to_ascii_uppercase b) ≡ octet a b
@@ -209,9 +202,9 @@ unit_twice s f (Char c sp) i =
     ≡ cond b (map f (encode_utf8 c)) (map to_ascii_uppercase sp)) [
       | true ↦ λ _. written_plains s f (map f (encode_utf8 c)) ∙ map_twice f i.twice (encode_utf8 c)
       | false ↦ λ u. ap (λ b. cond b (map f (encode_utf8 c)) (map to_ascii_uppercase (map to_ascii_uppercase sp)) ++ []) u
-          ∙ append-nil (map to_ascii_uppercase (map to_ascii_uppercase sp)) ∙ map_twice to_ascii_uppercase upper_twice sp
+          ∙ append-nil (map to_ascii_uppercase (map to_ascii_uppercase sp)) ∙ map_twice to_ascii_uppercase uppercase-uppercase sp
     ] refl
-unit_twice s f (Lone a b) i = rw (upper_twice a, upper_twice b) refl
+unit_twice s f (Lone a b) i = rw (uppercase-uppercase a, uppercase-uppercase b) refl
 unit_twice s f Stray i = refl
 unit_twice s f (IllFormed b) i = ap (λ x. x ∷ []) (i.twice b)
 

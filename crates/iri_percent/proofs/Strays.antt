@@ -6,6 +6,7 @@ use Rattle.std.specs.List.{All, list_all, flat_map}
 use Rattle.std.specs.Char.{is_ascii_hexdigit, encode_utf8}
 use Rattle.std.proofs.lemmas.List.Elements.{All-cons}
 use lib.Utf8.{scalar}
+use Rattle.std.proofs.lemmas.Bool.{not-true}
 use Rattle.iri_percent.specs.Units.{TextUnit, Plain, Char, Lone, Stray, IllFormed, octets, first_char, two_digits, units, units_from}
 use Rattle.iri_percent.specs.Units.{whole_triplets}
 use Rattle.iri_grammar.proofs.CutLaws.{both}
@@ -125,11 +126,7 @@ no_stray-from : (us : List TextUnit) → all_free us ≡ true → NoStray us
 no_stray-from [] h = λ k d l. absurd (omega (arith, l))
 no_stray-from (u ∷ us) h =
     let k = both (not (is_stray u)) (all_free us) h in
-    All-cons (λ v. v ≢ Stray) u us (no_stray u (inverse (is_stray u) k.0)) (no_stray-from us k.1)
-  where
-    inverse : (b : Bool) → not b ≡ true → b ≡ false
-    inverse true h = cc
-    inverse false h = refl
+    All-cons (λ v. v ≢ Stray) u us (no_stray u (not-true (is_stray u) k.0)) (no_stray-from us k.1)
 
 same_free : (t : List ℕ) → all_free (units t) ≡ all_free (char_units t)
 same_free t = ap all_free (units-by_chars t) ∙ bytes_free (char_units t)

@@ -7,10 +7,12 @@ use Rattle.std.specs.List.{list_all}
 use Rattle.std.specs.Char.{is_ascii_hexdigit, len_utf8}
 use Rattle.std.specs.Str.{chars}
 use lib.Dec.{ltb}
-use lib.Utf8.{encode, next, scalar, scalars}
-use Rattle.std.proofs.lemmas.Str.{chars-append, chars-encodes, IsUtf8-encode, length-encode}
+use lib.Utf8.{encode, encodes, next, scalar, scalars}
+use Rattle.std.proofs.lemmas.Str.{encode_ascii, chars-append, chars-encodes, IsUtf8-encode, length-encode}
 use Rattle.std.proofs.lemmas.List.{take_at, drop_at}
 use Rattle.std.proofs.lemmas.Bool.Decides.{nat_tests}
+use Rattle.std.proofs.lemmas.Bool.{and_from}
+use Rattle.iri_grammar.proofs.Units.{hex_is_ascii}
 use Rattle.iri_grammar.proofs.CutLaws.{both}
 use Rattle.iri_percent.specs.Units.{Plain, Char, Lone, Stray, is_triplet, octet, octets, starts_with, well_formed, first_char}
 use Rattle.iri_percent.specs.Units.{triplet_unit, first_unit, unit_text, units_from, units}
@@ -18,6 +20,13 @@ use Rattle.iri_percent.specs.Units.{triplet_unit, first_unit, unit_text, units_f
 -- ---- octets
 pub hex_apart : (x : ℕ) → is_ascii_hexdigit x ≡ true → (x == 37) ≡ false
 hex_apart x h = grind (arith, nat_tests)
+
+-- a triplet is in ASCII
+pub encodes_triplet : (a b : ℕ) (cs : List ℕ) → is_ascii_hexdigit a ≡ true → is_ascii_hexdigit b ≡ true
+    → encodes (37 ∷ a ∷ b ∷ cs) ≡ 37 ∷ a ∷ b ∷ encodes cs
+encodes_triplet a b cs p q = ap (λ l. l ++ (encode a ++ (encode b ++ encodes cs))) (encode_ascii 37 (omega arith))
+    ∙ ap (λ l. 37 ∷ (l ++ (encode b ++ encodes cs))) (encode_ascii a (hex_is_ascii a p))
+    ∙ ap (λ l. 37 ∷ a ∷ (l ++ encodes cs)) (encode_ascii b (hex_is_ascii b q))
 
 pub octets_other : (x : ℕ) (xs : List ℕ) → (x == 37) ≡ false → octets (x ∷ xs) ≡ []
 octets_other x [] h = refl
@@ -233,11 +242,10 @@ units_plain x xs h = ap (λ u. u ∷ units_from (length (unit_text u) - 1) xs) (
 
 pub unit_lone : (a b : ℕ) (xs : List ℕ) → is_ascii_hexdigit a ≡ true → is_ascii_hexdigit b ≡ true
     → first_char (octets (37 ∷ a ∷ b ∷ xs)) ≡ None → first_unit 37 (a ∷ b ∷ xs) ≡ Lone a b
-unit_lone a b xs p q n = ap (λ v. cond v (triplet_unit a b (37 ∷ a ∷ b ∷ xs) (first_char (octets (37 ∷ a ∷ b ∷ xs)))) Stray) (ap₂b p q)
+unit_lone a b xs p q n =
+    ap (λ v. cond v (triplet_unit a b (37 ∷ a ∷ b ∷ xs) (first_char (octets (37 ∷ a ∷ b ∷ xs)))) Stray)
+    (and_from (is_ascii_hexdigit a) (is_ascii_hexdigit b) p q)
     ∙ ap (triplet_unit a b (37 ∷ a ∷ b ∷ xs)) n
-  where
-    ap₂b : {x y : Bool} → x ≡ true → y ≡ true → (x && y) ≡ true
-    ap₂b {x = x} {y = y} p q = rw (p, q) refl
 
 pub units_lone : (a b : ℕ) (xs : List ℕ) → is_ascii_hexdigit a ≡ true → is_ascii_hexdigit b ≡ true
     → first_char (octets (37 ∷ a ∷ b ∷ xs)) ≡ None → units (37 ∷ a ∷ b ∷ xs) ≡ Lone a b ∷ units xs
@@ -246,11 +254,10 @@ units_lone a b xs p q n = ap (λ u. u ∷ units_from (length (unit_text u) - 1) 
 
 pub unit_char : (c a b : ℕ) (xs : List ℕ) → is_ascii_hexdigit a ≡ true → is_ascii_hexdigit b ≡ true
     → first_char (octets (37 ∷ a ∷ b ∷ xs)) ≡ Some c → first_unit 37 (a ∷ b ∷ xs) ≡ Char c (take (3 * len_utf8 c) (37 ∷ a ∷ b ∷ xs))
-unit_char c a b xs p q n = ap (λ v. cond v (triplet_unit a b (37 ∷ a ∷ b ∷ xs) (first_char (octets (37 ∷ a ∷ b ∷ xs)))) Stray) (ap₂b p q)
+unit_char c a b xs p q n =
+    ap (λ v. cond v (triplet_unit a b (37 ∷ a ∷ b ∷ xs) (first_char (octets (37 ∷ a ∷ b ∷ xs)))) Stray)
+    (and_from (is_ascii_hexdigit a) (is_ascii_hexdigit b) p q)
     ∙ ap (triplet_unit a b (37 ∷ a ∷ b ∷ xs)) n
-  where
-    ap₂b : {x y : Bool} → x ≡ true → y ≡ true → (x && y) ≡ true
-    ap₂b {x = x} {y = y} p q = rw (p, q) refl
 
 units_char_at : (c : ℕ) (sp os xs : List ℕ) → scalar c ≡ true → Spells sp os → os ≡ encode c → units (sp ++ xs) ≡ Char c sp ∷ units xs
 unfolding units_from

@@ -24,7 +24,7 @@ prefix_byte x xs =
       | false ↦ λ _. record { rest = xs; split = refl; some = omega arith }
     ] refl
 
-some_taken : (n x : ℕ) (xs : List ℕ) → 0 < n → 0 < length (take n (x ∷ xs))
+pub some_taken : (n x : ℕ) (xs : List ℕ) → 0 < n → 0 < length (take n (x ∷ xs))
 some_taken zero x xs h = absurd (omega arith)
 some_taken (suc n) x xs h = omega arith
 

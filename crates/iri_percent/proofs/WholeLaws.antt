@@ -1,11 +1,10 @@
 -- Each part of a reference has whole triplets.
-use Rattle.std.proofs.Common.{◌≡◌, ℕ, ◌<◌, Bool, true, false, cond, not, ◌&&◌, ◌||◌, List, [], ◌∷◌, ◌++◌, refl, sym, ◌∙◌, ap, arith}
+use Rattle.std.proofs.Common.{◌≡◌, ℕ, Bool, true, false, cond, not, ◌&&◌, ◌||◌, List, [], ◌∷◌, ◌++◌, refl, sym, ◌∙◌, ap, arith}
 use Rattle.std.specs.Prelude.{◌==◌}
-use Rattle.std.specs.Char.{is_ascii_hexdigit}
 use Rattle.std.specs.Str.{chars, is_utf8}
 use lib.Utf8.{encode, encodes}
-use Rattle.std.proofs.lemmas.Str.{encodes-chars, encode_ascii, IsUtf8-from_is_utf8}
-use Rattle.std.proofs.lemmas.Bool.Decides.{nat_tests}
+use Rattle.std.proofs.lemmas.Str.{encodes-chars, IsUtf8-from_is_utf8}
+use Rattle.iri_percent.proofs.UnitLaws.{encodes_triplet}
 use Rattle.iri_grammar.specs.Classes.{Tests, IsSpec, reg_name_char, userinfo_char, pchar, path_char, query_char, fragment_char}
 use Rattle.iri_grammar.specs.Classes.{is_ascii_reg_name, is_ascii_userinfo, is_ascii_pchar, is_ascii_path, is_ascii_query}
 use Rattle.iri_grammar.specs.Classes.{is_ascii_unreserved, is_sub_delim}
@@ -53,14 +52,7 @@ over_whole p cs n (plain c ds h r) =
     let other : (c == 37) ≡ false = by_test c 37 (λ b. b ≡ false) (λ e. let no : p c ≡ false = ap p e ∙ n in cc) (λ _. refl) in
     whole_plains (encode c) (encodes ds) (encode_percent c other) ∙ over_whole p ds n r
 over_whole p cs n (triplet a b ds ha hb r) =
-    let spelled : encodes (37 ∷ a ∷ b ∷ ds) ≡ 37 ∷ a ∷ b ∷ encodes ds =
-    ap (λ l. l ++ (encode a ++ (encode b ++ encodes ds))) (encode_ascii 37 (omega arith))
-    ∙ ap (λ l. 37 ∷ (l ++ (encode b ++ encodes ds))) (encode_ascii a (digit_below a ha))
-    ∙ ap (λ l. 37 ∷ a ∷ (l ++ encodes ds)) (encode_ascii b (digit_below b hb)) in
-    ap whole_triplets spelled ∙ whole_triplet a b (encodes ds) ha hb ∙ over_whole p ds n r
-  where
-    digit_below : (x : ℕ) → is_ascii_hexdigit x ≡ true → x < 128
-    digit_below x h = grind (arith, nat_tests)
+    ap whole_triplets (encodes_triplet a b ds ha hb) ∙ whole_triplet a b (encodes ds) ha hb ∙ over_whole p ds n r
 
 pub text_over-whole : (p : ℕ → Bool) (xs : List ℕ) → p 37 ≡ false → text_over p xs ≡ true → whole_triplets xs ≡ true
 text_over-whole p xs n h =

@@ -2,7 +2,7 @@
 ghost use Rattle.std.specs.Prelude.{◌≡◌, ◌<◌, ◌+◌, ◌∷◌, [], true, false, ◌&&◌, MatchOption, drop};
 ghost use Rattle.std.specs.Char.{is_ascii_hexdigit, digit_value, to_ascii_uppercase};
 ghost use Rattle.iri_percent.specs.Units.{octet, octets};
-ghost use Rattle.iri_percent.specs.inside.Octets.{goes_on};
+ghost use Rattle.iri_grammar.specs.inside.Runs.{begins_with_more};
 
 // For each byte its value as a hex digit, counted from `0` on, and `@`, one past the last, where it is none.
 static VALUES: [u8; 256] = *b"\
@@ -92,7 +92,7 @@ pub(crate) fn first_octet(text: &[u8]) -> Option<u8>
 // The six bits of an octet that continues a character, where the text begins with such a percent-encoded octet, and the
 // rest.
 pub(crate) fn split_bits(text: &[u8]) -> Option<(u32, &[u8])>
-    ensures { MatchOption result (goes_on (octets text.now) ≡ false)
+    ensures { MatchOption result (begins_with_more (octets text.now) ≡ false)
         (λ r. (octets text.now ≡ (128 + r.0) ∷ octets r.1.now) × (r.0 < 64)) }
 {
     match split_octet(text)? {

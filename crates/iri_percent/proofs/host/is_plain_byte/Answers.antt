@@ -1,6 +1,6 @@
 use Rattle.std.proofs.Common.{◌≡◌, ℕ, Bool, true, get_or, refl, arith}
 use Rattle.std.specs.Prelude.{◌==◌, ◌%◌}
-use Rattle.iri_grammar.proofs.Tables.{agree_below, agree_at}
+use Rattle.std.proofs.lemmas.Bool.{agree_below, agree_below_at}
 use Rattle.iri_percent.specs.NormalHost.{is_plain_byte}
 use Rattle.iri_percent.specs.declared.host.TheConstants.{PLAIN_BYTES}
 use Rattle.iri_percent.proofs.host.is_plain_byte.Goals as goal
@@ -13,4 +13,4 @@ computed : agree_below delimited is_plain_byte 256 ≡ true
 computed = refl
 
 pub returns : goal.returns
-returns c = rw c.from.ensures (agree_at delimited is_plain_byte 256 computed c.args.b (omega arith))
+returns c = rw c.from.ensures (agree_below_at delimited is_plain_byte 256 c.args.b computed (omega arith))

@@ -1,7 +1,6 @@
-use Rattle.std.proofs.Common.{◌≡◌, ℕ, ◌<◌, true, false, ◌++◌, Ok, length, drop, sym, ap, ◌∙◌, subst, append-nil, arith, eqb-true}
-use Rattle.std.specs.Prelude.{◌==◌}
-use Rattle.std.proofs.lemmas.Bool.Decides.{nat_tests}
+use Rattle.std.proofs.Common.{true, false, ◌++◌, Ok, length, drop, sym, ap, ◌∙◌, subst, append-nil, arith, eqb-true}
 use Rattle.std.specs.Str.{IsAscii}
+use Rattle.std.proofs.lemmas.Bool.{eqb-false}
 use Rattle.iri_grammar.specs.Runs.{run_of}
 use Rattle.iri_text.specs.Shown.{Shows}
 use Rattle.iri_text.proofs.Compose.{shown_more, shown_exit, shows_all}
@@ -46,14 +45,12 @@ loop-rest-preserved g c =
           ∙ ap (λ z. done' ++ mapped z) (sym c.split_run-in-loop-rest.ensures.rest);
     }
 
-some : (n : ℕ) → (n == 0) ≡ false → 0 < n
-some n h = grind (arith, nat_tests)
-
 pub loop-rest-smaller : goal.loop-rest-smaller
 loop-rest-smaller g c =
     let rest = c.loop-rest.rest.now in
     shorter_by rest c.split_run.result.1.now c.split_run-in-loop-rest.result.1.now
-    (some (length rest) (sym c.is_empty.ensures ∙ c.loop-rest-test.true)) c.split_run.ensures.rest c.split_run-in-loop-rest.ensures.rest
+    (omega (arith, eqb-false (length rest) 0 (sym c.is_empty.ensures ∙ c.loop-rest-test.true)))
+    c.split_run.ensures.rest c.split_run-in-loop-rest.ensures.rest
 
 pub returns : goal.returns
 returns g c =
