@@ -1,11 +1,10 @@
 -- Texts of one kind that are, or hold, texts of another.
 use Rattle.std.proofs.Common.{◌≡◌, ℕ, true, List, ◌++◌, Some, None, refl, sym, ◌∙◌, ap, subst, append_assoc}
 use Rattle.std.specs.Prelude.{IsSome, IsNone}
-use Rattle.std.proofs.lemmas.List.{append-nil}
 use Rattle.iri_grammar.specs.Classes.{Tests, IsSpec}
 use Rattle.iri_grammar.specs.Cut.{before, after, lacks, delimited}
-use Rattle.iri_grammar.proofs.CutLaws.{before-delimited, after-delimited, lacks-append, joined}
-use Rattle.iri_grammar.specs.Parts.{Parts, Splits, recompose, scheme_text, authority_text}
+use Rattle.iri_grammar.proofs.CutLaws.{after-delimited, lacks-append, joined}
+use Rattle.iri_grammar.specs.Parts.{Parts, recompose, scheme_text, authority_text}
 use Rattle.iri_grammar.specs.Split.{split_of}
 use Rattle.iri_grammar.proofs.SplitLaws.{Delimiters, recompose_split, authority_text-lacks, delimited-lacks}
 use Rattle.iri_grammar.proofs.SplitUnique.{fits-delimiters}
@@ -13,7 +12,7 @@ use Rattle.iri_grammar.specs.WholeFault.{reference_fault, iri_fault, absolute_fa
 use Rattle.iri_grammar.proofs.FaultLaws.{splits_where_no_fault, iri-law, absolute-law, relative-law}
 use Rattle.iri_types.specs.inside.KindLaws.{iri-whole}
 use Rattle.iri_grammar.proofs.KindLaws.{iri-has_scheme as iri-scheme}
-use Rattle.iri_grammar.proofs.KindLaws.{scheme_text-lacks}
+use Rattle.iri_grammar.proofs.KindLaws.{scheme_text-lacks, splits_without_fragment, without_fragment}
 
 -- ---- a reference is an IRI where a scheme stands, and otherwise a relative reference
 pub reference-iri : (s : Tests) → IsSpec s → (t u : List ℕ) → reference_fault s t ≡ None → t ≡ u → (x : List ℕ)
@@ -37,13 +36,6 @@ absolute-iri s k t h = let r = (absolute-law s k t).0 h in (iri-law s k t).1 (r.
 abbrev prefix_of : Parts → List ℕ
 prefix_of p = scheme_text p.scheme ++ (authority_text p.authority ++ (p.path ++ delimited 63 p.query))
 
-abbrev bare : Parts → Parts
-bare p = record { scheme = p.scheme; authority = p.authority; path = p.path; query = p.query; fragment = None }
-
-recompose-bare : (p : Parts) → recompose (bare p) ≡ prefix_of p
-unfolding recompose
-recompose-bare p = ap (λ z. scheme_text p.scheme ++ (authority_text p.authority ++ (p.path ++ z))) (append-nil (delimited 63 p.query))
-
 recompose-prefix : (p : Parts) → recompose p ≡ prefix_of p ++ delimited 35 p.fragment
 unfolding recompose
 recompose-prefix p = regroup (scheme_text p.scheme) (authority_text p.authority) p.path (delimited 63 p.query) (delimited 35 p.fragment)
@@ -63,26 +55,17 @@ lacks-split s k t h = lacks-prefix (split_of t) (fits-delimiters s (split_of t) 
 text-prefix : (t : List ℕ) → t ≡ prefix_of (split_of t) ++ delimited 35 (split_of t).fragment
 text-prefix t = sym (recompose_split t) ∙ recompose-prefix (split_of t)
 
-before-prefix : (s : Tests) → IsSpec s → (t : List ℕ) → reference_fault s t ≡ None → before 35 t ≡ prefix_of (split_of t)
-before-prefix s k t h = ap (before 35) (text-prefix t) ∙ before-delimited 35 (prefix_of (split_of t)) (split_of t).fragment (lacks-split s k t h)
-
 -- what comes after the `#` is the fragment
 pub fragment-after : (s : Tests) → IsSpec s → (t : List ℕ) → reference_fault s t ≡ None → after 35 t ≡ (split_of t).fragment
 fragment-after s k t h = ap (after 35) (text-prefix t)
     ∙ after-delimited 35 (prefix_of (split_of t)) (split_of t).fragment (lacks-split s k t h)
 
-prefix-splits : (s : Tests) → IsSpec s → (t : List ℕ) → reference_fault s t ≡ None → Splits s (before 35 t) (bare (split_of t))
-prefix-splits s k t h =
-    let f = (splits_where_no_fault s t h).fits in
-    record {
-      fits = record { scheme = f.scheme; authority = f.authority; path = f.path; query = f.query; fragment = refl; rules = f.rules };
-      text = recompose-bare (split_of t) ∙ sym (before-prefix s k t h);
-    }
-
 -- what stands before the `#` of an IRI is an absolute IRI
 pub prefix-absolute : (s : Tests) → IsSpec s → (t : List ℕ) → iri_fault s t ≡ None → absolute_fault s (before 35 t) ≡ None
-prefix-absolute s k t h = (absolute-law s k (before 35 t)).1
-    (bare (split_of t), prefix-splits s k t (iri-whole s k t h), iri-scheme s k t h, refl)
+prefix-absolute s k t h =
+    let whole = splits_where_no_fault s t (iri-whole s k t h) in
+    (absolute-law s k (before 35 t)).1
+    (without_fragment (split_of t), splits_without_fragment s k t (split_of t) whole, iri-scheme s k t h, refl)
 
 -- both joined are the text
 pub prefix-joined : (s : Tests) → IsSpec s → (t : List ℕ) → iri_fault s t ≡ None → before 35 t ++ delimited 35 (split_of t).fragment ≡ t
