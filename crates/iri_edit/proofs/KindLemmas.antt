@@ -28,14 +28,9 @@ module _ (s : Tests) (k : IsSpec s) (f : AuthorityParts → AuthorityParts)
 
   pub edited-fits : (p : Parts) → Fits s p → Fits s (edited_parts f p)
   edited-fits p h =
-      record {
-        scheme = h.scheme;
-        authority = authority-fits p.authority h.authority;
-        path = h.path;
-        query = h.query;
-        fragment = h.fragment;
-        rules = rules-kept p.scheme p.authority p.path h.rules;
-      }
+      let a = authority-fits p.authority h.authority in
+      let r = rules-kept p.scheme p.authority p.path h.rules in
+      record { scheme = h.scheme; authority = a; path = h.path; query = h.query; fragment = h.fragment; rules = r }
 
 pub host_replaced-fits : (s : Tests) (h : List ℕ) → is_host s h ≡ true → (a : AuthorityParts) → FitsAuthority s a
     → FitsAuthority s (host_replaced h a)
@@ -43,14 +38,7 @@ host_replaced-fits s h v a f = record { userinfo = f.userinfo; host = v; port = 
 
 pub fragment-fits : (s : Tests) (o : Option (List ℕ)) → if_there (is_fragment s) o ≡ true → (p : Parts) → Fits s p
     → Fits s (fragment_replaced o p)
-fragment-fits s o v p h = record {
-  scheme = h.scheme;
-  authority = h.authority;
-  path = h.path;
-  query = h.query;
-  fragment = v;
-  rules = h.rules;
-}
+fragment-fits s o v p h = record { scheme = h.scheme; authority = h.authority; path = h.path; query = h.query; fragment = v; rules = h.rules }
 
 -- what holds of a whole kind
 pub record IsWhole (s : Tests) (fault : Tests → List ℕ → Option ErrorKind) (allows : Bool → Bool → Bool) : Type 0 where

@@ -53,7 +53,7 @@ module _ (s : Tests) (k : IsSpec s) where
 
   mask-again : (a : AuthorityParts) → mask (mask a) ≡ mask a
   unfolding mask
-  mask-again a = ap (λ o. record { userinfo = o; host = a.host; port = a.port }) (user-again a.userinfo)
+  mask-again a = ap (λ o. record a { userinfo = o }) (user-again a.userinfo)
 
   authority-again : (o : Option (List ℕ)) → if_there (is_authority s) o ≡ true
       → edited_authority mask (edited_authority mask o) ≡ edited_authority mask o
@@ -68,10 +68,4 @@ module _ (s : Tests) (k : IsSpec s) where
   unfolding edited mask
   masked-again t h =
       ap (λ p. recompose (edited_parts mask p)) (masked-split t h)
-      ∙ ap (λ o. recompose (record {
-        scheme = (split_of t).scheme;
-        authority = o;
-        path = (split_of t).path;
-        query = (split_of t).query;
-        fragment = (split_of t).fragment;
-      })) (authority-again (split_of t).authority (split-fits s t h).authority)
+      ∙ ap (λ o. recompose (record (split_of t) { authority = o })) (authority-again (split_of t).authority (split-fits s t h).authority)

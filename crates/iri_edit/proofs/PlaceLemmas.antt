@@ -6,12 +6,13 @@ use Rattle.std.proofs.lemmas.Str.{IsUtf8-append, IsUtf8-drop, IsUtf8-take, IsCha
 use Rattle.std.proofs.lemmas.Str.{IsCharBoundary-from_take}
 use Rattle.std.proofs.lemmas.List.{append-nil}
 use Rattle.std.proofs.Math.Seq.{drop-append_seam, get_or-append_seam, take-append_seam}
+use Rattle.std.specs.Prelude.{is_some, ◌==◌}
 use Rattle.iri_grammar.specs.Authority.{authority_parts, recompose_authority, userinfo_text}
 use Rattle.iri_grammar.proofs.AuthorityLaws.{authority_recomposed}
 use Rattle.iri_grammar.proofs.AuthorityTexts.{host-utf8}
 use Rattle.iri_grammar.specs.Classes.{Tests}
 use Rattle.iri_grammar.specs.Cut.{before, after, lacks, delimited}
-use Rattle.iri_grammar.proofs.CutLaws.{joined, by_test}
+use Rattle.iri_grammar.proofs.CutLaws.{joined}
 use Rattle.iri_grammar.specs.Host.{is_host}
 use Rattle.iri_grammar.specs.Parts.{recompose, scheme_text, authority_text}
 use Rattle.iri_grammar.specs.Split.{split_of}
@@ -63,11 +64,13 @@ userinfo-edited : (f : List ℕ → List ℕ) (a u : List ℕ) → (authority_pa
 unfolding recompose_authority rest_of
 userinfo-edited f a u h = ap (λ o. userinfo_text (where_userinfo f o) ++ rest_of a) h ∙ append_assoc (f u) (64 ∷ []) (rest_of a)
 
-pub after-lacks : (u p : List ℕ) → after 58 u ≡ Some p → lacks 58 u ≡ false
-after-lacks [] p h = cc
-after-lacks (x ∷ xs) p h =
-    by_test x 58 (λ b. cond b (Some xs) (after 58 xs) ≡ Some p → (not b && lacks 58 xs) ≡ false) (λ _ _. refl)
-    (λ _ k. after-lacks xs p k) h
+-- a colon stands in it exactly where something may follow one
+pub lacks-told : (u : List ℕ) → lacks 58 u ≡ not (is_some (after 58 u))
+lacks-told [] = refl
+lacks-told (x ∷ xs) = elim (x == 58) as (λ b. (not b && lacks 58 xs) ≡ not (is_some (cond b (Some xs) (after 58 xs)))) [
+  | true ↦ refl
+  | false ↦ lacks-told xs
+]
 
 pub ascii-boundary : (t xs ys : List ℕ) (c : ℕ) → c < 128 → xs ++ c ∷ ys ≡ t → IsCharBoundary t (length xs)
 ascii-boundary t xs ys c l e =
@@ -93,7 +96,7 @@ module _ (t a u p : List ℕ) (start : ℕ) (h : (authority_parts a).userinfo �
   cut-user = ap (λ o. before 58 u ++ delimited 58 o) (sym k) ∙ joined 58 u
 
   user_with-colon : (w : List ℕ) → user_with w u ≡ before 58 u ++ 58 ∷ w
-  user_with-colon w = ap (λ b. cond b u (before 58 u ++ 58 ∷ w)) (after-lacks u p k)
+  user_with-colon w = ap (λ b. cond b u (before 58 u ++ 58 ∷ w)) (lacks-told u ∙ ap (λ o. not (is_some o)) k)
 
   pub password-place : IsAuthorityAt t a start → IsPasswordAt t (start + length (before 58 u)) (start + length (before 58 u) + 1 + length p)
   unfolding password_of
@@ -155,11 +158,10 @@ no_colon t a u h k n = ap (λ o. password_in (userinfo_in o)) h ∙ (ap password
 host_prefix : (t a : List ℕ) (start : ℕ) (i : IsAuthorityAt t a start) (o : Option (List ℕ)) (rest : List ℕ)
     → (i.prefix ++ userinfo_text o) ++ rest ≡ t → IsCharBoundary t (length (i.prefix ++ userinfo_text o))
 host_prefix t a start i None rest e =
-    let nothing : (xs : List ℕ) → xs ++ [] ≡ xs = λ xs. simp append-nil in
     let f : i.lead ++ 47 ∷ rest ≡ t = sym (append_assoc i.lead (47 ∷ []) rest)
-    ∙ (ap (λ z. z ++ rest) (i.ends ∙ sym (nothing i.prefix)) ∙ e) in
+    ∙ (ap (λ z. z ++ rest) (i.ends ∙ sym (append-nil i.prefix)) ∙ e) in
     let n : length i.lead + 1 ≡ length (i.prefix ++ []) =
-    omega (arith, length-append i.lead (47 ∷ []), ap length i.ends, ap length (nothing i.prefix)) in
+    omega (arith, length-append i.lead (47 ∷ []), ap length i.ends, ap length (append-nil i.prefix)) in
     subst (IsCharBoundary t) n (after-boundary t i.lead rest 47 (omega arith) i.utf8 f)
 host_prefix t a start i (Some x) rest e =
     let f : (i.prefix ++ x) ++ 64 ∷ rest ≡ t = sym (append_assoc (i.prefix ++ x) (64 ∷ []) rest)

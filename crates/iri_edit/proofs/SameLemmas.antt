@@ -1,25 +1,21 @@
 -- A text without a password stays as it is.
 use Rattle.std.proofs.Common.{◌≡◌, ℕ, true, cond, List, [], ◌∷◌, ◌++◌, Option, Some, None, refl, sym, ◌∙◌, ap}
-use Rattle.std.specs.Prelude.{not, ◌&&◌}
+use Rattle.std.specs.Prelude.{not, is_some}
 use Rattle.std.proofs.lemmas.List.{append-nil}
 use Rattle.iri_grammar.specs.Authority.{authority_parts, recompose_authority}
 use Rattle.iri_grammar.proofs.AuthorityLaws.{authority_recomposed}
-use Rattle.iri_grammar.specs.Cut.{before, after, lacks, delimited}
-use Rattle.iri_grammar.proofs.CutLaws.{joined, by_test}
+use Rattle.iri_grammar.specs.Cut.{before, after, delimited}
+use Rattle.iri_grammar.proofs.CutLaws.{joined}
 use Rattle.iri_grammar.specs.Parts.{recompose}
 use Rattle.iri_grammar.specs.Split.{split_of}
 use Rattle.iri_grammar.proofs.SplitLaws.{recompose_split}
 use Rattle.iri_edit.specs.Edited.{edited, edited_authority}
 use Rattle.iri_edit.specs.Password.{password_of, password_in, userinfo_in, user_with, user_alone, where_userinfo, with_userinfo}
 use Rattle.iri_edit.specs.Password.{with_password, without_password}
-
-lacking : (u : List ℕ) → after 58 u ≡ None → lacks 58 u ≡ true
-lacking [] h = refl
-lacking (x ∷ xs) h = by_test x 58 (λ b. cond b (Some xs) (after 58 xs) ≡ None → (not b && lacks 58 xs) ≡ true) (λ _ k. cc)
-    (λ _ k. lacking xs k) h
+use Rattle.iri_edit.proofs.PlaceLemmas.{lacks-told}
 
 user_with-same : (w u : List ℕ) → after 58 u ≡ None → user_with w u ≡ u
-user_with-same w u h = ap (λ b. cond b u (before 58 u ++ 58 ∷ w)) (lacking u h)
+user_with-same w u h = ap (λ b. cond b u (before 58 u ++ 58 ∷ w)) (lacks-told u ∙ ap (λ o. not (is_some o)) h)
 
 user_alone-same : (u : List ℕ) → after 58 u ≡ None → user_alone u ≡ u
 user_alone-same u h = sym (append-nil (before 58 u)) ∙ (ap (λ o. before 58 u ++ delimited 58 o) (sym h) ∙ joined 58 u)
@@ -32,19 +28,13 @@ module _ (f : List ℕ → List ℕ) (same : (u : List ℕ) → after 58 u ≡ N
   same-authority : (o : Option (List ℕ)) → password_in (userinfo_in o) ≡ None → edited_authority (with_userinfo f) o ≡ o
   same-authority None h = refl
   same-authority (Some a) h =
-      ap Some (ap (λ o. recompose_authority (record { userinfo = o; host = (authority_parts a).host; port = (authority_parts a).port }))
+      ap Some (ap (λ o. recompose_authority (record (authority_parts a) { userinfo = o }))
       (same-userinfo (authority_parts a).userinfo h) ∙ authority_recomposed a)
 
   pub edited-same : (t : List ℕ) → password_of t ≡ None → edited (with_userinfo f) t ≡ t
   unfolding edited password_of
   edited-same t h =
-      ap (λ o. recompose (record {
-        scheme = (split_of t).scheme;
-        authority = o;
-        path = (split_of t).path;
-        query = (split_of t).query;
-        fragment = (split_of t).fragment;
-      })) (same-authority (split_of t).authority h) ∙ recompose_split t
+      ap (λ o. recompose (record (split_of t) { authority = o })) (same-authority (split_of t).authority h) ∙ recompose_split t
 
 pub with_password-same : (t w : List ℕ) → password_of t ≡ None → with_password t w ≡ t
 with_password-same t w h = edited-same (user_with w) (user_with-same w) t h

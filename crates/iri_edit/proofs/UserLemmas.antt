@@ -2,50 +2,22 @@
 use Rattle.std.proofs.Common.{◌≡◌, ℕ, zero, suc, Bool, true, false, cond, ◌&&◌, List, [], ◌∷◌, ◌++◌, Option, Some, None, refl, sym}
 use Rattle.std.proofs.Common.{◌∙◌, ap, subst, arith}
 use Rattle.std.specs.Prelude.{◌==◌}
-use Rattle.std.specs.Char.{is_ascii_hexdigit}
 use Rattle.std.specs.Str.{chars, is_utf8}
 use Rattle.std.proofs.lemmas.List.{append-nil}
-use Rattle.std.proofs.lemmas.Str.{chars-append}
 use Rattle.iri_grammar.specs.Authority.{AuthorityParts, FitsAuthority}
-use Rattle.iri_grammar.proofs.AuthorityTexts.{one_byte-utf8, text_over-utf8}
+use Rattle.iri_grammar.proofs.AuthorityTexts.{one_byte-utf8}
 use Rattle.iri_grammar.specs.Classes.{Tests, IsSpec, userinfo_char, is_ascii_userinfo, is_ascii_reg_name, is_ascii_unreserved, is_sub_delim}
 use Rattle.iri_grammar.specs.Components.{if_there, is_userinfo}
 use Rattle.iri_grammar.specs.Cut.{before, after, lacks, delimited}
 use Rattle.iri_grammar.proofs.CutLaws.{before-delimited, both, by_test, joined}
 use Rattle.iri_grammar.specs.Over.{over_from, text_over}
 use Rattle.iri_grammar.proofs.UnitRuns.{text_over-append}
-use Rattle.iri_normal.proofs.TextLaws.{is_utf8-of, over-of, utf8-prefix}
+use Rattle.iri_normal.proofs.TextLaws.{is_utf8-of, text_over-sides}
+use Rattle.iri_normal.proofs.SlashLemmas.{before-lacks}
 use Rattle.iri_grammar.specs.declared.error.ErrorKind.{ErrorKind}
 use Rattle.iri_edit.specs.Password.{masked, user_with, user_alone, where_userinfo, with_userinfo, without_password}
 use Rattle.iri_edit.proofs.KindLemmas.{IsWhole, edited-valid}
 use Rattle.iri_grammar.proofs.FaultLaws.{lacks-joined}
-
-over-prefix : (p : ℕ → Bool) (n : ℕ) (xs ys : List ℕ) → over_from p n (xs ++ 58 ∷ ys) ≡ true → over_from p n xs ≡ true
-unfolding over_from
-over-prefix p zero [] ys h = refl
-over-prefix p (suc n) [] ys h = cc
-over-prefix p zero (x ∷ xs) ys h =
-    by_test x 37 (λ b. cond b (over_from p 2 (xs ++ 58 ∷ ys)) (p x && over_from p 0 (xs ++ 58 ∷ ys)) ≡ true
-    → cond b (over_from p 2 xs) (p x && over_from p 0 xs) ≡ true)
-    (λ _ l. over-prefix p 2 xs ys l)
-    (λ _ l. let k = both (p x) (over_from p 0 (xs ++ 58 ∷ ys)) l in rw k.0 (over-prefix p 0 xs ys k.1))
-    h
-over-prefix p (suc n) (x ∷ xs) ys h = let k = both (is_ascii_hexdigit x) (over_from p n (xs ++ 58 ∷ ys)) h in
-    rw k.0 (over-prefix p n xs ys k.1)
-
-chars-one_colon : chars (58 ∷ []) ≡ 58 ∷ []
-unfolding chars
-chars-one_colon = refl
-
-chars-colon : (ys : List ℕ) → chars (58 ∷ ys) ≡ 58 ∷ chars ys
-chars-colon ys = chars-append (58 ∷ []) ys (one_byte-utf8 58 (omega arith)) ∙ ap (λ z. z ++ chars ys) chars-one_colon
-
-text_over-prefix : (p : ℕ → Bool) (xs ys : List ℕ) → text_over p (xs ++ 58 ∷ ys) ≡ true → text_over p xs ≡ true
-text_over-prefix p xs ys h =
-    let prefix = utf8-prefix 58 xs ys (omega arith) (text_over-utf8 p (xs ++ 58 ∷ ys) h) in
-    let e : chars (xs ++ 58 ∷ ys) ≡ chars xs ++ 58 ∷ chars ys =
-    chars-append xs (58 ∷ ys) prefix ∙ ap (λ z. chars xs ++ z) (chars-colon ys) in
-    is_utf8-of p xs prefix (over-prefix p 0 (chars xs) (chars ys) (subst (λ z. over_from p 0 z ≡ true) e (over-of p (xs ++ 58 ∷ ys) h)))
 
 colon_over : (s : Tests) → is_userinfo s (58 ∷ []) ≡ true
 unfolding over_from chars userinfo_char is_ascii_userinfo is_ascii_reg_name is_ascii_unreserved is_sub_delim
@@ -54,7 +26,8 @@ colon_over s = is_utf8-of (userinfo_char s) (58 ∷ []) (one_byte-utf8 58 (omega
 alone-at : (s : Tests) (u : List ℕ) (o : Option (List ℕ)) → before 58 u ++ delimited 58 o ≡ u → is_userinfo s u ≡ true
     → is_userinfo s (before 58 u) ≡ true
 alone-at s u None e h = subst (λ z. is_userinfo s z ≡ true) (sym e ∙ append-nil (before 58 u)) h
-alone-at s u (Some p) e h = text_over-prefix (userinfo_char s) (before 58 u) p (subst (λ z. is_userinfo s z ≡ true) (sym e) h)
+alone-at s u (Some p) e h = (text_over-sides (userinfo_char s) 58 (before 58 u) p (omega arith) refl
+    (subst (λ z. is_userinfo s z ≡ true) (sym e) h)).0
 
 pub user_alone-fits : (s : Tests) (u : List ℕ) → is_userinfo s u ≡ true → is_userinfo s (user_alone u) ≡ true
 user_alone-fits s u h = alone-at s u (after 58 u) (joined 58 u) h
@@ -93,15 +66,10 @@ module _ (s : Tests) (fault : Tests → List ℕ → Option ErrorKind) (allows :
   without-valid = edited-valid s fault allows k kind (with_userinfo user_alone) (with_userinfo-fits s user_alone (user_alone-fits s)) t h
 
 -- ---- changed twice
-before-lacks : (u : List ℕ) → lacks 58 (before 58 u) ≡ true
-before-lacks [] = refl
-before-lacks (x ∷ xs) = by_test x 58 (λ b. (x == 58) ≡ b → lacks 58 (cond b [] (x ∷ before 58 xs)) ≡ true) (λ _ _. refl)
-    (λ _ e. rw e (before-lacks xs)) refl
-
 -- what stands in place of a password is replaced in its turn
 pub user_with-twice : (w u : List ℕ) → user_with w (user_with w u) ≡ user_with w u
 user_with-twice w u =
     elim (lacks 58 u) as (λ b. lacks 58 u ≡ b → user_with w (cond b u (before 58 u ++ 58 ∷ w)) ≡ cond b u (before 58 u ++ 58 ∷ w)) [
       | true ↦ λ e. rw e refl
-      | false ↦ λ _. rw (lacks-joined (before 58 u) w, before-delimited 58 (before 58 u) (Some w) (before-lacks u)) refl
+      | false ↦ λ _. rw (lacks-joined (before 58 u) w, before-delimited 58 (before 58 u) (Some w) (before-lacks 58 u)) refl
     ] refl

@@ -1,15 +1,14 @@
 -- The normal form of an authority is an authority, and stable.
-use Rattle.std.proofs.Common.{◌≡◌, ℕ, Bool, true, false, cond, ◌||◌, List, [], ◌∷◌, ◌++◌, Option, Some, None, map, refl, sym, ◌∙◌, ap}
+use Rattle.std.proofs.Common.{◌≡◌, ℕ, true, false, cond, ◌||◌, List, [], ◌∷◌, ◌++◌, Option, Some, None, map, refl, sym, ◌∙◌, ap}
 use Rattle.std.proofs.Common.{append-nil}
 use Rattle.std.specs.Prelude.{nat_lt}
 use Rattle.std.specs.Char.{to_ascii_lowercase}
-use Rattle.std.specs.List.{list_all}
+use Rattle.std.proofs.Math.Bool.{or-true}
 use Rattle.iri_grammar.specs.Classes.{Tests, IsSpec}
 use Rattle.iri_grammar.specs.Components.{is_userinfo, is_port, if_there}
-use Rattle.iri_grammar.proofs.CutLaws.{both}
 use Rattle.iri_grammar.specs.Host.{is_host, is_reg_name}
 use Rattle.iri_grammar.specs.IpLiteral.{is_ip_literal}
-use Rattle.iri_grammar.proofs.LiteralChars.{is_literal_char, ip_literal-chars}
+use Rattle.iri_grammar.proofs.LiteralChars.{is_literal_char, ip_literal-chars, all-weaken}
 use Rattle.iri_grammar.specs.Authority.{AuthorityParts, FitsAuthority, ReadsAuthority, recompose_authority, authority_parts, is_authority}
 use Rattle.iri_grammar.proofs.AuthorityLaws.{reading_is, authority_law}
 use Rattle.iri_percent.specs.Triplets.{normal, pct}
@@ -27,14 +26,6 @@ use Rattle.iri_percent.proofs.MapKinds.{authority-reads as reads}
 use Rattle.iri_percent.proofs.MapKinds.{literal_low as literal-ascii}
 
 -- ---- hosts
-or_true : (b : Bool) → (b || true) ≡ true
-or_true true = refl
-or_true false = refl
-
-all-ascii : (xs : List ℕ) → list_all is_literal_char xs ≡ true → list_all (λ x. nat_lt x 128) xs ≡ true
-all-ascii [] h = refl
-all-ascii (x ∷ xs) h = let k = both (is_literal_char x) (list_all is_literal_char xs) h in rw (literal-ascii x k.0) (all-ascii xs k.1)
-
 ascii-nothing : is_ascii_host [] ≡ true
 unfolding is_ascii_host
 ascii-nothing = refl
@@ -44,7 +35,7 @@ unfolding normal_host
 literal-normal s h e =
     let l = literal-lacks h e in
     let a : is_ascii_host h ≡ true = ap is_ascii_host (sym (append-nil h))
-    ∙ (ascii-plains h [] l ∙ rw (all-ascii h (ip_literal-chars h e), ascii-nothing) refl) in
+    ∙ (ascii-plains h [] l ∙ rw (all-weaken is_literal_char (λ x. nat_lt x 128) literal-ascii h (ip_literal-chars h e), ascii-nothing) refl) in
     let n : normal s to_ascii_lowercase h ≡ map to_ascii_lowercase h =
     ap (normal s to_ascii_lowercase) (sym (append-nil h))
     ∙ (normal_plains s to_ascii_lowercase h [] l
@@ -56,7 +47,7 @@ unfolding normal_host
 host-fits s h k t =
     elim (is_ip_literal h) as (λ b. is_ip_literal h ≡ b → (b || is_reg_name s h) ≡ true → is_host s (normal_host s h) ≡ true) [
       | true ↦ λ e _. rw (literal-normal s h e, literal-lower h, e) refl
-      | false ↦ λ _ r. rw (reg_name-fits r) (or_true (is_ip_literal (normal_host s h)))
+      | false ↦ λ _ r. rw (reg_name-fits r) (or-true (is_ip_literal (normal_host s h)))
     ] refl t
   where
     reg_name-fits : is_reg_name s h ≡ true → is_reg_name s (normal_host s h) ≡ true

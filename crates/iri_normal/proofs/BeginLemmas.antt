@@ -4,7 +4,7 @@ use Rattle.std.proofs.Common.{◌∙◌, ap}
 use Rattle.iri_grammar.specs.Classes.{Tests, IsSpec}
 use Rattle.iri_grammar.specs.Parts.{starts_with_slashes}
 use Rattle.iri_normal.specs.Guard.{guard}
-use Rattle.iri_normal.specs.PathForm.{in_form}
+use Rattle.iri_normal.specs.inside.PathForm.{in_form}
 use Rattle.iri_normal.proofs.TripletHeads.{pct-heads}
 use Rattle.iri_percent.specs.Units.{whole_triplets}
 

@@ -1,7 +1,6 @@
 -- Dot segments, byte by byte.
 use Rattle.std.proofs.Common.{◌≡◌, ℕ, ◌≢◌, Bool, true, false, cond, ◌&&◌, ◌||◌, List, [], ◌∷◌, Option, Some, None, ◌≤◌, ◌<◌, length, drop}
 use Rattle.std.proofs.Common.{refl, sym, ◌∙◌, ap, subst, arith}
-use mathlib.Core.Bool.{and_assoc}
 use Rattle.std.specs.Prelude.{◌==◌}
 use Rattle.std.proofs.lemmas.Bool.{or_parts}
 use Rattle.iri_grammar.specs.Cut.{before, after}
@@ -109,9 +108,7 @@ none_there [] h = refl
 none_there (x ∷ []) h = rw (or_parts (x == 46) (x == 37 && false) h).0 refl
 none_there (x ∷ y ∷ []) h = rw (or_parts (x == 46) (x == 37 && false) h).0 refl
 none_there (x ∷ y ∷ z ∷ xs) h =
-    let k = or_parts (x == 46) (x == 37 && (y == 50 && (z == 69 || z == 101))) h in
-    let miss = and_assoc (x == 37) (y == 50) (z == 69 || z == 101) ∙ k.1 in
-    rw (k.0, miss) refl
+    let k = or_parts (x == 46) (x == 37 && (y == 50 && (z == 69 || z == 101))) h in rw (k.0, k.1) refl
 
 begins_none : (t : List ℕ) → begins_dot t ≡ false → dots_before t ≡ false
 begins_none t h = no_dot_first t (sym (none_there t h))

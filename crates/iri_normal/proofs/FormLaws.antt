@@ -1,14 +1,16 @@
 -- The normal form of parts fits and is stable, whatever port is dropped.
-use Rattle.std.proofs.Common.{◌≡◌, ℕ, true, false, List, [], ◌∷◌, Option, Some, None, refl, sym, ◌∙◌, ap, subst, arith}
+use Rattle.std.proofs.Common.{◌≡◌, ℕ, true, false, List, [], ◌∷◌, Option, Some, None, refl, sym, ◌∙◌, ap, subst, arith, Bool}
 use Rattle.std.specs.Prelude.{IsSome}
 use Rattle.std.specs.Char.{to_ascii_lowercase}
 use Rattle.std.specs.List.{list_all}
 use Rattle.std.proofs.lemmas.Bool.Decides.{nat_tests}
+use Rattle.std.proofs.lemmas.List.Folds.{list_all-map}
 use Rattle.iri_grammar.specs.Classes.{Tests, IsSpec, path_char}
 use Rattle.iri_grammar.specs.Components.{if_there, is_scheme, is_scheme_char, is_letter, is_path, is_query, is_fragment}
 use Rattle.iri_grammar.specs.Authority.{is_authority}
 use Rattle.iri_grammar.proofs.CutLaws.{both}
 use Rattle.iri_grammar.specs.Parts.{Parts, Fits, path_rules, is_empty}
+use Rattle.iri_grammar.proofs.LiteralChars.{all-weaken}
 use Rattle.iri_percent.specs.Triplets.{as_it_is, pct}
 use Rattle.iri_percent.specs.NormalHost.{normal_authority, normal_authority_in}
 use Rattle.iri_percent.specs.SchemeRules.{dropped_port}
@@ -18,13 +20,14 @@ use Rattle.iri_percent.proofs.ClassLaws.{pct-query, pct-fragment}
 use Rattle.iri_percent.proofs.NormalLaws.{normal_nil, normal_plain}
 use Rattle.iri_percent.proofs.Stability.{pct-stable}
 use Rattle.iri_percent.proofs.WholeLaws.{query-whole, fragment-whole}
+use Rattle.iri_percent.specs.Units.{whole_triplets}
 use Rattle.iri_normal.specs.DotRemoval.{dots}
 use Rattle.iri_normal.specs.Dots.{is_dot_segment}
 use Rattle.iri_normal.specs.LowerCase.{lowered, where_there}
 use Rattle.iri_normal.specs.NormalForm.{becomes_slash, normal_form, normal_form_in, normal_parts, normal_path, slash_or}
 use Rattle.iri_normal.proofs.AuthorityForm.{authority_in-fits, authority_in-stable}
 use Rattle.iri_normal.proofs.PathLaws.{path-over, path-rules, path-stable}
-use Rattle.iri_normal.proofs.SchemeForm.{dropped-still, lowered-twice, normal-empty, normal-is}
+use Rattle.iri_normal.proofs.SchemeForm.{dropped-still, lowered-twice, normal-empty, normal-is, there-fits, there-one}
 use Rattle.iri_normal.proofs.TargetLaws.{slash_in_path}
 use Rattle.iri_normal.proofs.TextLaws.{slash_over}
 
@@ -37,54 +40,18 @@ pub lower-scheme_char : (c : ℕ) → is_scheme_char c ≡ true → is_scheme_ch
 unfolding is_scheme_char
 lower-scheme_char c h = grind (arith, nat_tests)
 
-pub lower-all : (xs : List ℕ) → list_all is_scheme_char xs ≡ true → list_all is_scheme_char (lowered xs) ≡ true
-lower-all [] h = refl
-lower-all (x ∷ xs) h = let k = both (is_scheme_char x) (list_all is_scheme_char xs) h in rw (lower-scheme_char x k.0) (lower-all xs k.1)
+pub lowered-chars : (xs : List ℕ) → list_all is_scheme_char xs ≡ true → list_all is_scheme_char (lowered xs) ≡ true
+lowered-chars xs h = list_all-map is_scheme_char to_ascii_lowercase xs
+    ∙ all-weaken is_scheme_char (λ x. is_scheme_char (to_ascii_lowercase x)) lower-scheme_char xs h
 
 pub scheme-fits : (o : Option (List ℕ)) → if_there is_scheme o ≡ true → if_there is_scheme (where_there lowered o) ≡ true
 scheme-fits None h = refl
 scheme-fits (Some []) h = cc
-scheme-fits (Some (x ∷ xs)) h = let k = both (is_letter x) (list_all is_scheme_char xs) h in rw (lower-letter x k.0) (lower-all xs k.1)
+scheme-fits (Some (x ∷ xs)) h = let k = both (is_letter x) (list_all is_scheme_char xs) h in rw (lower-letter x k.0) (lowered-chars xs k.1)
 
 pub scheme-stable : (o : Option (List ℕ)) → where_there lowered (where_there lowered o) ≡ where_there lowered o
 scheme-stable None = refl
 scheme-stable (Some x) = ap Some (lowered-twice x)
-
--- ---- the authority
-authorities_in-fit : (s : Tests) (d o : Option (List ℕ)) → IsSpec s → if_there (is_authority s) o ≡ true
-    → if_there (is_authority s) (where_there (normal_authority_in s d) o) ≡ true
-authorities_in-fit s d None k h = refl
-authorities_in-fit s d (Some x) k h = authority_in-fits s d x k h
-
-authorities_in-stable : (s : Tests) (d o : Option (List ℕ)) → IsSpec s → if_there (is_authority s) o ≡ true
-    → where_there (normal_authority_in s d) (where_there (normal_authority_in s d) o) ≡ where_there (normal_authority_in s d) o
-authorities_in-stable s d None k h = refl
-authorities_in-stable s d (Some x) k h = ap Some (authority_in-stable s d x k h)
-
-pub authorities-stable : (s : Tests) (o : Option (List ℕ)) → IsSpec s → if_there (is_authority s) o ≡ true
-    → where_there (normal_authority s) (where_there (normal_authority s) o) ≡ where_there (normal_authority s) o
-authorities-stable s o k h = authorities_in-stable s None o k h
-
--- ---- query and fragment
-pub query-fits : (s : Tests) (o : Option (List ℕ)) → IsSpec s → if_there (is_query s) o ≡ true
-    → if_there (is_query s) (where_there (pct s) o) ≡ true
-query-fits s None k h = refl
-query-fits s (Some x) k h = pct-query s x k h
-
-pub query-stable : (s : Tests) (o : Option (List ℕ)) → IsSpec s → if_there (is_query s) o ≡ true
-    → where_there (pct s) (where_there (pct s) o) ≡ where_there (pct s) o
-query-stable s None k h = refl
-query-stable s (Some x) k h = ap Some (pct-stable s x k (query-whole s x k h))
-
-pub fragment-fits : (s : Tests) (o : Option (List ℕ)) → IsSpec s → if_there (is_fragment s) o ≡ true
-    → if_there (is_fragment s) (where_there (pct s) o) ≡ true
-fragment-fits s None k h = refl
-fragment-fits s (Some x) k h = pct-fragment s x k h
-
-pub fragment-stable : (s : Tests) (o : Option (List ℕ)) → IsSpec s → if_there (is_fragment s) o ≡ true
-    → where_there (pct s) (where_there (pct s) o) ≡ where_there (pct s) o
-fragment-stable s None k h = refl
-fragment-stable s (Some x) k h = ap Some (pct-stable s x k (fragment-whole s x k h))
 
 -- ---- the path
 abbrev slashed : Tests → Option (List ℕ) → Option (List ℕ) → List ℕ → List ℕ
@@ -135,14 +102,29 @@ pub parts-fit : (s : Tests) (d : Option (List ℕ)) (t : Parts) → IsSpec s →
 parts-fit s d t k f i = (
   record {
     scheme = scheme-fits t.scheme f.scheme;
-    authority = authorities_in-fit s d t.authority k f.authority;
+    authority = there-fits (is_authority s) (is_authority s) (normal_authority_in s d) t.authority (λ x h. authority_in-fits s d x k h) f.authority;
     path = path-slashed s d t.authority t.path k f.path;
-    query = query-fits s t.query k f.query;
-    fragment = fragment-fits s t.fragment k f.fragment;
+    query = there-fits (is_query s) (is_query s) (pct s) t.query (λ x h. pct-query s x k h) f.query;
+    fragment = there-fits (is_fragment s) (is_fragment s) (pct s) t.fragment (λ x h. pct-fragment s x k h) f.fragment;
     rules = rules-fit s (normal_authority_in s d) d t t.scheme i f.rules;
   },
   still-there t.scheme i,
 )
+
+-- what is in normal form stays
+pub authorities_in-stable : (s : Tests) (d o : Option (List ℕ)) → IsSpec s → if_there (is_authority s) o ≡ true
+    → where_there (normal_authority_in s d) (where_there (normal_authority_in s d) o) ≡ where_there (normal_authority_in s d) o
+authorities_in-stable s d o k h =
+    let f = normal_authority_in s d in there-one (is_authority s) f f f o (λ x e. authority_in-stable s d x k e) h
+
+pub authorities-stable : (s : Tests) (o : Option (List ℕ)) → IsSpec s → if_there (is_authority s) o ≡ true
+    → where_there (normal_authority s) (where_there (normal_authority s) o) ≡ where_there (normal_authority s) o
+authorities-stable s o k h = authorities_in-stable s None o k h
+
+pub triplets-stable : (s : Tests) (p : List ℕ → Bool) (o : Option (List ℕ)) → IsSpec s
+    → ((x : List ℕ) → p x ≡ true → whole_triplets x ≡ true) → if_there p o ≡ true
+    → where_there (pct s) (where_there (pct s) o) ≡ where_there (pct s) o
+triplets-stable s p o k whole h = there-one p (pct s) (pct s) (pct s) o (λ x e. pct-stable s x k (whole x e)) h
 
 parts-stable : (s : Tests) (d : Option (List ℕ)) (t : Parts) → IsSpec s → Fits s t → normal_parts s d (normal_parts s d t) ≡ normal_parts s d t
 parts-stable s d t k f =
@@ -150,8 +132,8 @@ parts-stable s d t k f =
       scheme-stable t.scheme,
       authorities_in-stable s d t.authority k f.authority,
       path-slashed-stable s (normal_authority_in s d) t.scheme d t.authority t.path k f.path f.rules,
-      query-stable s t.query k f.query,
-      fragment-stable s t.fragment k f.fragment,
+      triplets-stable s (is_query s) t.query k (λ x h. query-whole s x k h) f.query,
+      triplets-stable s (is_fragment s) t.fragment k (λ x h. fragment-whole s x k h) f.fragment,
     )
     refl
 

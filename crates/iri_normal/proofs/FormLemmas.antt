@@ -1,12 +1,14 @@
 -- Parts shown in a mode.
-use Rattle.std.proofs.Common.{◌≡◌, ℕ, ◌<◌, Bool, true, false, cond, ◌&&◌, ◌||◌, List, [], ◌∷◌, ◌++◌, Option, Some, Bor, refl, sym, ◌∙◌}
+use Rattle.std.proofs.Common.{◌≡◌, ℕ, Bool, true, false, cond, ◌&&◌, ◌||◌, List, [], ◌∷◌, ◌++◌, Option, Some, Bor, refl, sym, ◌∙◌}
 use Rattle.std.proofs.Common.{ap, subst, arith}
-use Rattle.std.specs.Prelude.{◌==◌, nat_lt}
+use Rattle.std.specs.Prelude.{◌==◌}
 use Rattle.std.specs.Char.{to_ascii_lowercase}
 use Rattle.std.specs.List.{list_all}
 use Rattle.std.proofs.lemmas.Str.{encode_ascii}
 use Rattle.std.proofs.lemmas.Bool.Decides.{nat_tests}
-use lib.Utf8.{scalar}
+use Rattle.std.proofs.Math.Bool.{or-true}
+use Rattle.std.proofs.lemmas.Bool.{lt-ltb}
+use Rattle.std.proofs.Math.Utf8.{low_scalar}
 use Rattle.iri_grammar.specs.Classes.{Tests, IsSpec, reg_name_char, is_ascii_reg_name, is_ascii_unreserved, is_sub_delim}
 use Rattle.iri_grammar.specs.Components.{is_scheme, is_scheme_char}
 use Rattle.iri_grammar.specs.Cut.{delimited}
@@ -23,13 +25,10 @@ use Rattle.iri_percent.specs.Triplets.{normal, pct}
 use Rattle.iri_percent.proofs.WholeLaws.{reg_name_percent}
 use Rattle.iri_normal.specs.LowerCase.{lowered, where_there}
 use Rattle.iri_normal.specs.NormalForm.{becomes_slash, part_in}
-use Rattle.iri_normal.specs.PathForm.{in_form}
+use Rattle.iri_normal.specs.inside.PathForm.{in_form}
 use Rattle.iri_grammar.proofs.SplitUnique.{scheme_char-below as scheme-low}
 
 -- ---- a scheme is a host, and put into lower case as one
-scheme-scalar : (c : ℕ) → c < 128 → scalar c ≡ true
-scheme-scalar c h = grind (arith, nat_tests)
-
 scheme-percent : (c : ℕ) → is_scheme_char c ≡ true → (c == 37) ≡ false
 unfolding is_scheme_char
 scheme-percent c h = grind (arith, nat_tests)
@@ -48,25 +47,18 @@ scheme-text s (x ∷ xs) h =
     let k = both (is_scheme_char x) (list_all is_scheme_char xs) h in
     let low = scheme-low x k.0 in
     subst (λ l. IsText (reg_name_char s) (l ++ xs)) (encode_ascii x low)
-    (letter x xs (scheme-scalar x low) (scheme-name s x k.0) (scheme-percent x k.0) (scheme-text s xs k.1))
+    (letter x xs (low_scalar x (omega arith)) (scheme-name s x k.0) (scheme-percent x k.0) (scheme-text s xs k.1))
 
 pub scheme-host : (s : Tests) (x : List ℕ) → IsSpec s → is_scheme x ≡ true → is_host s x ≡ true
 scheme-host s x k h = rw (over-from_text (reg_name_char s) x (reg_name_percent s k) (scheme-text s x (scheme-chars x h)))
     (or-true (is_ip_literal x))
-  where
-    or-true : (b : Bool) → (b || true) ≡ true
-    or-true true = refl
-    or-true false = refl
-
-below : (c : ℕ) → c < 128 → nat_lt c 128 ≡ true
-below c h = grind (arith, nat_tests)
 
 ascii-all : (xs : List ℕ) → list_all is_scheme_char xs ≡ true → is_ascii_host xs ≡ true
 unfolding is_ascii_host
 ascii-all [] h = refl
 ascii-all (x ∷ xs) h =
     let k = both (is_scheme_char x) (list_all is_scheme_char xs) h in
-    rw (below x (scheme-low x k.0), scheme-percent x k.0) (ascii-all xs k.1)
+    rw (lt-ltb x 128 (scheme-low x k.0), scheme-percent x k.0) (ascii-all xs k.1)
 
 lowered-all : (s : Tests) (xs : List ℕ) → list_all is_scheme_char xs ≡ true → normal s to_ascii_lowercase xs ≡ lowered xs
 lowered-all s [] h = normal_nil s to_ascii_lowercase

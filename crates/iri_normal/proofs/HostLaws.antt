@@ -1,10 +1,11 @@
 -- The normal form of a host is stable.
-use Rattle.std.proofs.Common.{◌≡◌, ℕ, ◌<◌, ◌≤◌, Bool, true, false, cond, not, ◌&&◌, List, [], ◌∷◌, ◌++◌, map, refl, sym, ◌∙◌, ap, arith}
+use Rattle.std.proofs.Common.{◌≡◌, ℕ, Bool, true, false, cond, not, ◌&&◌, List, [], ◌∷◌, ◌++◌, map, refl, sym, ◌∙◌, ap, arith}
 use mathlib.Core.Bool.{and_assoc}
 use Rattle.std.specs.Prelude.{◌==◌, nat_lt}
 use Rattle.std.specs.Char.{is_ascii_hexdigit, to_ascii_lowercase, to_ascii_uppercase, encode_utf8}
 use Rattle.std.specs.List.{list_all}
 use Rattle.std.proofs.lemmas.Bool.Decides.{nat_tests}
+use Rattle.std.proofs.lemmas.Bool.{lt-ltb, ltb-true, ltb-false}
 use Rattle.iri_grammar.specs.Classes.{Tests, IsSpec, unreserved}
 use Rattle.iri_grammar.specs.Cut.{lacks}
 use Rattle.iri_percent.specs.Units.{octet, whole_triplets}
@@ -52,18 +53,9 @@ ascii-plains (y ∷ ys) xs h =
 case-ascii : (f : ℕ → ℕ) (x : ℕ) → IsCase f → is_ascii (f x) ≡ is_ascii x
 case-ascii f x i =
     elim (is_ascii x) as (λ b. is_ascii x ≡ b → is_ascii (f x) ≡ b) [
-      | true ↦ λ e. below (f x) (i.below x (small x e))
-      | false ↦ λ e. ap is_ascii (i.past x (large x e)) ∙ e
+      | true ↦ λ e. lt-ltb (f x) 128 (i.below x (ltb-true x 128 e))
+      | false ↦ λ e. ap is_ascii (i.past x (ltb-false x 128 e)) ∙ e
     ] refl
-  where
-    small : (y : ℕ) → is_ascii y ≡ true → y < 128
-    small y e = grind (arith, nat_tests)
-
-    large : (y : ℕ) → is_ascii y ≡ false → 128 ≤ y
-    large y e = grind (arith, nat_tests)
-
-    below : (y : ℕ) → y < 128 → is_ascii y ≡ true
-    below y l = grind (arith, nat_tests)
 
 all-case : (f : ℕ → ℕ) (xs : List ℕ) → IsCase f → list_all is_ascii (map f xs) ≡ list_all is_ascii xs
 all-case f [] i = refl

@@ -1,11 +1,12 @@
 -- How segments act on those before them: what they take away, and what stays of them.
 use Rattle.std.proofs.Common.{◌≡◌, ℕ, zero, suc, ◌+◌, ◌-◌, ◌<◌, ◌≤◌, Bool, true, false, cond, not, ◌&&◌, ◌||◌, List, [], ◌∷◌, ◌++◌}
 use Rattle.std.proofs.Common.{refl, sym, ◌∙◌, ap, subst, arith, append_assoc, length, drop, take}
-use Rattle.std.proofs.lemmas.Bool.{eqb-true}
+use Rattle.std.proofs.lemmas.Bool.{eqb-true, not-true, not-false}
 use Rattle.std.proofs.lemmas.Bool.Decides.{nat_tests}
 use Rattle.std.proofs.lemmas.List.{append-nil, length-take-le}
 use Rattle.std.specs.List.{list_all}
 use Rattle.std.specs.Prelude.{◌==◌}
+use Rattle.std.proofs.Math.Bool.{or-true, or-false}
 use Rattle.iri_grammar.specs.Classes.{Tests, path_char}
 use Rattle.iri_grammar.specs.Components.{is_path}
 use Rattle.iri_grammar.specs.Cut.{lacks}
@@ -16,14 +17,14 @@ use Rattle.iri_grammar.specs.Pieces.{pieces}
 use Rattle.iri_grammar.proofs.UnitRuns.{text_over-append}
 use Rattle.iri_normal.specs.DotRemoval.{is_two_dots, without_last}
 use Rattle.iri_normal.specs.Dots.{any_dot_segment, has_dot_segment, is_dot_segment}
-use Rattle.iri_normal.specs.Kept.{kept, taken, taken_by}
+use Rattle.iri_normal.specs.inside.Kept.{kept, taken, taken_by}
 use Rattle.iri_normal.specs.Target.{ends_at_slash}
 use Rattle.iri_normal.specs.inside.Written.{left, popped, popped_times, written, written_segments}
 use Rattle.iri_normal.proofs.EndedLemmas.{both-end, slash-ends, without_end}
 use Rattle.iri_normal.proofs.OutputLaws.{without_last-all, without_last-slash}
 use Rattle.iri_normal.proofs.PathLaws.{pieces-over}
 use Rattle.iri_normal.proofs.PieceLaws.{all_lack, nothing-is_no_dot, pieces-lack, pieces-slash, pieces-some, pieces-whole}
-use Rattle.iri_normal.proofs.SegmentLemmas.{alone, ended, or_false, or_true}
+use Rattle.iri_normal.proofs.SegmentLemmas.{alone, ended}
 use Rattle.iri_normal.proofs.TargetLaws.{slash_in_path}
 use Rattle.iri_normal.proofs.TextLaws.{nothing_over, slash_over}
 use Rattle.iri_normal.proofs.WrittenLemmas.{left-output, popped-output, two_ends, written-ends, written-plain}
@@ -105,7 +106,7 @@ last-slash (s ∷ t ∷ ss) n = last-slash (t ∷ ss) n
 
 last-none : (ss : List (List ℕ)) → last_ok ss 0 ≡ true
 last-none [] = refl
-last-none (s ∷ []) = or_true (is_empty s)
+last-none (s ∷ []) = or-true (is_empty s)
 last-none (s ∷ t ∷ ss) = last-none (t ∷ ss)
 
 last-path : (t : List ℕ) (n : ℕ) → (ends_at_slash t || n == 0) ≡ true → last_ok (pieces 47 t) n ≡ true
@@ -214,16 +215,12 @@ pub kept-path : (s : Tests) (t : List ℕ) (n : ℕ) → is_path s t ≡ true �
 kept-path s t n h = segments-over (path_char s) (pieces 47 t) n (slash_in_path s) (pieces-over (path_char s) t h)
 
 -- ---- a part that stays, or of which nothing does
-of_not : (b : Bool) → not b ≡ true → b ≡ false
-of_not true e = cc
-of_not false e = refl
-
 pub kept-plain : (t : List ℕ) (n : ℕ) → (n == 0 && not (has_dot_segment t)) ≡ true → t ≡ kept (pieces 47 t) n
 kept-plain t n h =
     let p = both (n == 0) (not (has_dot_segment t)) h in
     let z : n ≡ 0 = eqb-true n 0 p.0 in
     let whole : 47 ∷ t ≡ 47 ∷ kept (pieces 47 t) 0 =
-    sym (written-plain (47 ∷ []) t (of_not (has_dot_segment t) p.1)) ∙ after-slash t 0 (or_true (ends_at_slash t)) in
+    sym (written-plain (47 ∷ []) t (not-true (has_dot_segment t) p.1)) ∙ after-slash t 0 (or-true (ends_at_slash t)) in
     ap (drop 1) whole ∙ ap (kept (pieces 47 t)) (sym z)
 
 -- one segment, which doesn't stay: a dot segment, or one that is taken away
@@ -250,10 +247,6 @@ lacks-last (x ∷ y ∷ ys) l h e =
     let k = both (not (x == 47)) (lacks 47 (take (length (y ∷ ys) - 1) (y ∷ ys))) (ap (λ n. lacks 47 (take n (x ∷ y ∷ ys))) (sym size) ∙ h) in
     rw k.0 (lacks-last (y ∷ ys) (omega arith) k.1 e)
 
-of_not_not : (b : Bool) → not b ≡ false → b ≡ true
-of_not_not true e = refl
-of_not_not false e = cc
-
 pub one-segment : (t : List ℕ) (n : ℕ) → 0 < length t → lacks 47 (take (length t - 1) t) ≡ true → (ends_at_slash t || n == 0) ≡ true
     → (n == 0 && not (has_dot_segment t)) ≡ false → [] ≡ kept (pieces 47 t) n
 one-segment t n some l o g =
@@ -262,19 +255,19 @@ one-segment t n some l o g =
           subst (λ q. [] ≡ kept (pieces 47 q) n) (sym w)
           (one-slash (take (length t - 1) t) n l (ap (λ q. n == 0 && not (has_dot_segment q)) (sym w) ∙ g))
       | false ↦ λ e z. let ps = pieces-whole t (lacks-last t some l e) in
-          let dots : has_dot_segment t ≡ is_dot_segment t = ap any_dot_segment ps ∙ or_false (is_dot_segment t) in
-          let dot = sym dots ∙ of_not_not (has_dot_segment t) (ap (λ v. v && not (has_dot_segment t)) (sym z) ∙ g) in
+          let dots : has_dot_segment t ≡ is_dot_segment t = ap any_dot_segment ps ∙ or-false (is_dot_segment t) in
+          let dot = sym dots ∙ not-false (has_dot_segment t) (ap (λ v. v && not (has_dot_segment t)) (sym z) ∙ g) in
           sym (ap (λ q. kept q n) ps ∙ ap (λ v. cond v [] t) dot)
     ] refl o
 
 -- ---- in the buffer
 pub ends-more : (b : List ℕ) (n : ℕ) → 0 < n → (ends_at_slash b || n == 0) ≡ true → ends_at_slash b ≡ true
 ends-more b zero l h = absurd (omega arith)
-ends-more b (suc n) l h = sym (or_false (ends_at_slash b)) ∙ (ap (λ v. ends_at_slash b || v) (sym (some n)) ∙ h)
+ends-more b (suc n) l h = sym (or-false (ends_at_slash b)) ∙ (ap (λ v. ends_at_slash b || v) (sym (some n)) ∙ h)
 
 pub put-ends : (b t : List ℕ) (n : ℕ) → ends_at_slash b ≡ true → (ends_at_slash t || n == 0) ≡ true
     → (ends_at_slash (written b t) || n == 0) ≡ true
-put-ends b t zero e h = or_true (ends_at_slash (written b t))
+put-ends b t zero e h = or-true (ends_at_slash (written b t))
 put-ends b t (suc n) e h = ap (λ v. v || suc n == 0) (written-ends b t e (ends-more t (suc n) (omega arith) h))
 
 pub buffer-some : (k : ℕ) (t b : List ℕ) → k ≤ length b → take k b ≡ 47 ∷ t → 1 ≤ k

@@ -3,6 +3,7 @@ use Rattle.std.proofs.Common.{◌≡◌, ℕ, ◌+◌, ◌≤◌, Bool, true, fa
 use Rattle.std.proofs.Common.{map, refl, sym, ap, subst, arith, length-append}
 use Rattle.std.specs.Prelude.{is_some}
 use Rattle.std.specs.Char.{to_ascii_uppercase, to_ascii_lowercase, encode_utf8}
+use Rattle.std.proofs.lemmas.List.{length-map}
 use Rattle.iri_grammar.specs.Classes.{Tests, IsSpec, unreserved, path_char}
 use Rattle.iri_grammar.specs.Components.{if_there, is_userinfo, is_path, is_query, is_fragment}
 use Rattle.iri_grammar.specs.Cut.{lacks, delimited}
@@ -39,11 +40,6 @@ use Rattle.iri_normal.proofs.TargetLaws.{target-fits, slash_in_path}
 use Rattle.iri_percent.proofs.WholeLaws.{userinfo-whole, host-whole, path-whole, query-whole, fragment-whole}
 use Rattle.iri_normal.proofs.PathLaws.{dots-over}
 use Rattle.iri_percent.proofs.MapKinds.{authority-reads as reads}
-use Rattle.iri_normal.proofs.LiteralLaws.{length-lower}
-
-length-map : (f : ℕ → ℕ) (xs : List ℕ) → length (map f xs) ≡ length xs
-length-map f [] = refl
-length-map f (x ∷ xs) = let e = length-map f xs in omega arith
 
 -- ---- triplets
 length-read : (s : Tests) (f : ℕ → ℕ) (t : List ℕ) → Reading t → length (normal s f t) ≤ length t
@@ -56,8 +52,8 @@ length-read s f t (char c sp xs h sps r) =
     let a = length-append sp xs in
     rw (normal_char s f c sp xs h sps) (elim (unreserved s c) as (λ b. length
     (cond b (map f (encode_utf8 c)) (map to_ascii_uppercase sp) ++ normal s f xs) ≤ length (sp ++ xs)) [
-      | true ↦ omega (arith, length-append (map f (encode_utf8 c)) (normal s f xs), length-map f (encode_utf8 c))
-      | false ↦ omega (arith, length-append (map to_ascii_uppercase sp) (normal s f xs), length-map to_ascii_uppercase sp)
+      | true ↦ omega (arith, length-append (map f (encode_utf8 c)) (normal s f xs), length-map (encode_utf8 c) f)
+      | false ↦ omega (arith, length-append (map to_ascii_uppercase sp) (normal s f xs), length-map sp to_ascii_uppercase)
     ])
 
 length-pct : (s : Tests) (t : List ℕ) → whole_triplets t ≡ true → length (pct s t) ≤ length t
@@ -174,7 +170,7 @@ length-parts p =
 
 pub length-scheme : (o : Option (List ℕ)) → length (scheme_text (where_there lowered o)) ≤ length (scheme_text o)
 length-scheme None = omega arith
-length-scheme (Some x) = omega (arith, length-append (lowered x) (58 ∷ []), length-append x (58 ∷ []), length-lower x)
+length-scheme (Some x) = omega (arith, length-append (lowered x) (58 ∷ []), length-append x (58 ∷ []), length-map x to_ascii_lowercase)
 
 length-authorities_in : (s : Tests) (d o : Option (List ℕ)) → IsSpec s → if_there (is_authority s) o ≡ true
     → length (authority_text (where_there (normal_authority_in s d) o)) ≤ length (authority_text o)

@@ -1,11 +1,12 @@
 -- An IP literal in lower case is an IP literal.
-use Rattle.std.proofs.Common.{◌≡◌, ℕ, Bool, true, false, cond, ◌&&◌, ◌||◌, List, [], ◌∷◌, Option, Some, None, length, map, refl, ◌∙◌, ap}
+use Rattle.std.proofs.Common.{◌≡◌, ℕ, Bool, true, false, cond, ◌&&◌, ◌||◌, List, [], ◌∷◌, Option, Some, None, map, refl, ◌∙◌, ap}
 use Rattle.std.proofs.Common.{arith}
 use Rattle.std.specs.Prelude.{◌==◌}
 use Rattle.std.specs.Char.{is_ascii_hexdigit, is_ascii_digit, to_ascii_lowercase}
 use Rattle.std.specs.Int.{is_in_range}
 use Rattle.std.specs.List.{list_all}
 use Rattle.std.proofs.lemmas.Bool.Decides.{nat_tests}
+use Rattle.std.proofs.lemmas.List.{length-map}
 use Rattle.iri_grammar.specs.Classes.{is_ascii_userinfo, is_ascii_reg_name, is_ascii_unreserved, is_sub_delim}
 use Rattle.iri_grammar.specs.Cut.{before, after, tail}
 use Rattle.iri_grammar.specs.Pieces.{pieces, onto}
@@ -52,10 +53,6 @@ all-lower p (x ∷ xs) h = rw (h x, all-lower p xs h) refl
 some-lower : (p : ℕ → Bool) (xs : List ℕ) → ((x : ℕ) → p (to_ascii_lowercase x) ≡ p x) → some_of p (lowered xs) ≡ some_of p xs
 some-lower p [] h = refl
 some-lower p (x ∷ xs) h = all-lower p (x ∷ xs) h
-
-pub length-lower : (xs : List ℕ) → length (lowered xs) ≡ length xs
-length-lower [] = refl
-length-lower (x ∷ xs) = let e = length-lower xs in omega arith
 
 onto-lower : (x : ℕ) (ps : List (List ℕ)) → onto (to_ascii_lowercase x) (map lowered ps) ≡ map lowered (onto x ps)
 onto-lower x [] = refl
@@ -121,7 +118,7 @@ ipv4-lower xs = ap are_four_octets (pieces-lower 46 xs dot_stays) ∙ four-lower
 -- ---- IPv6
 group-lower : (xs : List ℕ) → is_group (lowered xs) ≡ is_group xs
 unfolding is_group
-group-lower xs = rw (all-lower is_ascii_hexdigit xs hex-lower, length-lower xs) refl
+group-lower xs = rw (all-lower is_ascii_hexdigit xs hex-lower, length-map xs to_ascii_lowercase) refl
 
 groups-lower : (ps : List (List ℕ)) → are_groups (map lowered ps) ≡ are_groups ps
 groups-lower [] = refl

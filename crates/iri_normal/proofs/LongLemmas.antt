@@ -1,7 +1,7 @@
 -- A long path in parts.
 use Rattle.std.proofs.Common.{◌≡◌, ℕ, zero, suc, ◌+◌, ◌-◌, ◌<◌, ◌≤◌, Bool, true, false, cond, not, ◌&&◌, ◌||◌, List, [], ◌∷◌, ◌++◌, Option, Some, None}
 use Rattle.std.proofs.Common.{refl, sym, ◌∙◌, ap, ap₂, subst, arith, append_assoc, length, take, drop}
-use Rattle.std.proofs.lemmas.List.{append-nil, get_or-take, length-drop, length-take-le, take-append-drop}
+use Rattle.std.proofs.lemmas.List.{append-nil, get_or-take, length-drop, length-take-le, take-append-drop, nil_from_length}
 use Rattle.std.proofs.lemmas.List.Recursion.{is_count_by}
 use Rattle.std.specs.List.{count_by}
 use Rattle.std.specs.Prelude.{◌==◌, MatchOption, slice_index}
@@ -13,43 +13,32 @@ use Rattle.iri_grammar.specs.Cut.{before, after, lacks, delimited}
 use Rattle.iri_grammar.proofs.CutLaws.{both, joined}
 use Rattle.iri_grammar.proofs.CutLemmas.{found}
 use Rattle.std.proofs.lemmas.Bool.{eqb-true, or_parts}
+use Rattle.std.proofs.Math.Bool.{or-true}
 use Rattle.iri_grammar.specs.Parts.{is_empty}
 use Rattle.iri_grammar.specs.Pieces.{onto, pieces}
-use Rattle.iri_grammar.specs.Over.{text_over}
 use Rattle.iri_grammar.specs.inside.PiecesLaws.{more_pieces}
 use Rattle.iri_grammar.proofs.AuthorityTexts.{text_over-utf8}
 use Rattle.iri_grammar.proofs.PiecesLaws.{pieces_cut}
-use Rattle.iri_grammar.proofs.UnitRuns.{text_over-append}
 use Rattle.iri_percent.specs.Triplets.{pct}
 use Rattle.iri_percent.proofs.DelimiterLaws.{pct_delimiter, slash}
 use Rattle.iri_normal.specs.DotRemoval.{dots, is_two_dots}
 use Rattle.iri_normal.specs.Dots.{is_dot_segment, any_dot_segment, has_dot_segment}
-use Rattle.iri_normal.specs.Kept.{kept, taken}
-use Rattle.iri_normal.specs.PathForm.{in_form}
+use Rattle.iri_normal.specs.inside.Kept.{kept, taken}
+use Rattle.iri_normal.specs.inside.PathForm.{in_form}
 use Rattle.iri_normal.specs.Target.{ends_at_slash}
 use Rattle.iri_normal.specs.inside.CutText.{IsCut}
 use Rattle.iri_normal.specs.inside.NextDots.{IsNext}
 use Rattle.iri_normal.specs.inside.Written.{or_nothing, popped, popped_times, written, written_segments}
-use Rattle.iri_normal.proofs.EndedLemmas.{end_slash, first_whole, rest-ends, slash-ends, take-ends}
+use Rattle.iri_normal.proofs.EndedLemmas.{first_whole, rest-ends, slash-ends, take-ends}
 use Rattle.iri_normal.proofs.KeptLemmas.{bottom-times, kept-ends, kept-two, path-stays, taken-two}
 use Rattle.iri_normal.proofs.NormalLemmas.{pct_nil}
-use Rattle.iri_normal.proofs.PieceLaws.{all_lack, nothing-is_no_dot, pieces-lack, pieces-some}
-use Rattle.iri_normal.proofs.SegmentLemmas.{or_true}
-use Rattle.iri_normal.proofs.TargetLaws.{slash_in_path}
-use Rattle.iri_normal.proofs.TextLaws.{nothing_over, slash_over, text_over-cut}
+use Rattle.iri_normal.proofs.PieceLaws.{nothing-is_no_dot, pieces-some}
+use Rattle.iri_normal.proofs.TargetLaws.{parts_over}
+use Rattle.iri_normal.proofs.TextLaws.{nothing_over, text_over-cut}
 use Rattle.iri_normal.proofs.WriterLemmas.{form-append, form-nil}
 use Rattle.iri_normal.proofs.WrittenLemmas.{left-nothing, popped-ends, written-dot, written-dots, written-nothing, written-two}
 
 -- ---- parts of a path
-pub path-two : (s : Tests) (a b : List ℕ) → ends_at_slash a ≡ true → is_path s (a ++ b) ≡ true → (is_path s a ≡ true) × (is_path s b ≡ true)
-path-two s [] b h w = (nothing_over (path_char s), w)
-path-two s (x ∷ xs) b h w =
-    let p = path_char s in
-    let e = end_slash (x ∷ xs) h (omega arith) in
-    let sides = text_over-cut p e.prefix b (subst (λ l. text_over p l ≡ true)
-    (ap (λ l. l ++ b) e.whole ∙ append_assoc e.prefix (47 ∷ []) b) w) in
-    (subst (λ l. text_over p l ≡ true) (sym e.whole) (text_over-append p e.prefix (47 ∷ []) sides.left (slash_over p (slash_in_path s))), sides.right)
-
 pub first-path : (s : Tests) (t r : List ℕ) → after 47 t ≡ Some r → is_path s t ≡ true → (is_path s (before 47 t) ≡ true) × (is_path s r ≡ true)
 first-path s t r e w =
     let sides = text_over-cut (path_char s) (before 47 t) r (subst (λ l. is_path s l ≡ true)
@@ -59,10 +48,7 @@ first-path s t r e w =
 pub path-parts : (s : Tests) (a b : List ℕ) → (is_empty b || ends_at_slash a) ≡ true → is_path s (a ++ b) ≡ true
     → (is_path s a ≡ true) × (is_path s b ≡ true)
 path-parts s a [] c w = (ap (is_path s) (sym (append-nil a)) ∙ w, nothing_over (path_char s))
-path-parts s a (x ∷ xs) c w = path-two s a (x ∷ xs) c w
-
-pub before-lacks : (t : List ℕ) → lacks 47 (before 47 t) ≡ true
-before-lacks t = (both (lacks 47 (before 47 t)) (all_lack (more_pieces 47 (after 47 t))) (ap all_lack (sym (pieces_cut 47 t)) ∙ pieces-lack t)).0
+path-parts s a (x ∷ xs) c w = parts_over (path_char s) a (x ∷ xs) c w
 
 pub path-utf8 : (s : Tests) (t : List ℕ) → is_path s t ≡ true → IsUtf8 t
 path-utf8 s t w = text_over-utf8 (path_char s) t w
@@ -172,7 +158,7 @@ empty-is (x ∷ xs) h = cc
 whole-before : (t : List ℕ) → after 47 t ≡ None → before 47 t ≡ t
 whole-before t e = sym (ap (λ o. before 47 t ++ delimited 47 o) e ∙ append-nil (before 47 t)) ∙ joined 47 t
 
--- one segment, with nothing after it
+-- one segment, with nil_from_length after it
 pub one-alone : (t m : List ℕ) → after 47 t ≡ None → is_dot_segment (before 47 t) ≡ false
     → (is_empty m || (ends_at_slash t && not (is_empty t))) ≡ true → t ≡ written (written [] t) m
 one-alone t m e h c =
@@ -190,9 +176,9 @@ more-ends t (x ∷ xs) r e c =
 none-taken : taken (pieces 47 []) 0 ≡ 0
 none-taken = rw nothing-is_no_dot refl
 
--- what is taken away of a part before nothing, or before more
+-- what is taken away of a part before nil_from_length, or before more
 pub count-ends : (m r : List ℕ) (k : ℕ) → k ≡ taken (pieces 47 m) 0 → (is_empty m || ends_at_slash r) ≡ true → (ends_at_slash r || k == 0) ≡ true
-count-ends [] r k e c = ap (λ n. ends_at_slash r || n == 0) (e ∙ none-taken) ∙ or_true (ends_at_slash r)
+count-ends [] r k e c = ap (λ n. ends_at_slash r || n == 0) (e ∙ none-taken) ∙ or-true (ends_at_slash r)
 count-ends (x ∷ xs) r k e c = ap (λ b. b || k == 0) c
 
 taken-more : (r m : List ℕ) → (is_empty m || ends_at_slash r) ≡ true → taken (pieces 47 (r ++ m)) 0 ≡ taken (pieces 47 r) (taken (pieces 47 m) 0)
@@ -223,7 +209,7 @@ form-three s normal t r m i k e h c p q =
     let y = kept (pieces 47 m) 0 in
     let cut = more-ends t m r e c in
     let all : written (written [] t) m ≡ popped_times (taken (pieces 47 (r ++ m)) 0) b ++ kept (pieces 47 (r ++ m)) 0 =
-    ap (λ l. written l m) (written-first t r e h) ∙ (written-more b r m cut ∙ path-stays (before 47 t) (r ++ m) 0 (or_true (ends_at_slash (r ++ m)))) in
+    ap (λ l. written l m) (written-first t r e h) ∙ (written-more b r m cut ∙ path-stays (before 47 t) (r ++ m) 0 (or-true (ends_at_slash (r ++ m)))) in
     let parts : popped_times (taken (pieces 47 (r ++ m)) 0) b ++ kept (pieces 47 (r ++ m)) 0 ≡ popped_times i b ++ (x ++ y) =
     ap₂ (λ n l. popped_times n b ++ l) (taken-more r m cut ∙ (ap (taken (pieces 47 r)) (sym p) ∙ sym q))
     (kept-more r m cut ∙ ap (λ n. kept (pieces 47 r) n ++ y) (sym p)) in
@@ -264,14 +250,10 @@ form-first s normal a n z = form-slash s normal a ∙ ap (λ k. in_form s normal
 pub dots-base : (f p g : List ℕ) → (is_empty p || ends_at_slash f) ≡ true → written [] g ≡ written [] f → written (written [] g) p ≡ dots (f ++ p)
 dots-base f p g c h = ap (λ w. written w p) h ∙ (written-more [] f p c ∙ written-dots (f ++ p))
 
-nothing : (g : List ℕ) → length g ≡ 0 → g ≡ []
-nothing [] z = refl
-nothing (x ∷ xs) z = absurd (omega arith)
-
 pub dots-reference : (f p g q : List ℕ) → (is_empty p || ends_at_slash f) ≡ true → length g ≡ 0 → written [] g ≡ written [] f
     → written [] q ≡ written [] p → written (written [] q) [] ≡ dots (f ++ p)
 dots-reference f p g q c z h k =
-    written-nothing (written [] q) ∙ (k ∙ (ap (λ w. written w p) (sym (written-nothing []) ∙ (ap (written []) (sym (nothing g z)) ∙ h))
+    written-nothing (written [] q) ∙ (k ∙ (ap (λ w. written w p) (sym (written-nothing []) ∙ (ap (written []) (sym (nil_from_length g z)) ∙ h))
     ∙ (written-more [] f p c ∙ written-dots (f ++ p))))
 
 -- what follows the base's piece follows a segment of what is left of it

@@ -4,9 +4,9 @@ use Rattle.std.proofs.Common.{subst, arith, ltb-true}
 use Rattle.std.specs.Prelude.{nat_lt, is_some, IsSome, option_map}
 use Rattle.std.specs.Char.{to_ascii_lowercase}
 use Rattle.std.specs.List.{list_all}
-use lib.Utf8.{encode, scalar}
+use lib.Utf8.{encode}
 use Rattle.std.proofs.lemmas.Str.{encode_ascii}
-use Rattle.std.proofs.lemmas.Bool.Decides.{nat_tests}
+use Rattle.std.proofs.Math.Utf8.{low_scalar}
 use Rattle.iri_grammar.specs.Authority.{AuthorityParts, FitsAuthority, authority_parts, recompose_authority, is_authority}
 use Rattle.iri_grammar.specs.Classes.{Tests, IsSpec, uri_tests, userinfo_char, reg_name_char, path_char, query_char, fragment_char}
 use Rattle.iri_grammar.specs.Classes.{is_ascii_userinfo, is_ascii_reg_name, is_ascii_unreserved, is_sub_delim}
@@ -37,15 +37,15 @@ use Rattle.iri_percent.proofs.WholeLaws.{reg_name_percent, userinfo_percent, pat
 use Rattle.iri_percent.proofs.MapForms.{mapped-normal, mapped-normal_text}
 use Rattle.iri_normal.specs.DotRemoval.{dots}
 use Rattle.iri_normal.proofs.HostLaws.{ascii-plains, ascii-spelled, ascii-triplet}
-use Rattle.iri_normal.specs.LowerCase.{lowered, where_there}
+use Rattle.iri_normal.specs.LowerCase.{lowered}
 use Rattle.iri_normal.specs.NormalForm.{becomes_slash, canonical_in, normal_form_in, normal_parts, normal_path, slash_or}
 use Rattle.iri_normal.proofs.CanonLaws.{canonical_in-text}
-use Rattle.iri_normal.proofs.SchemeForm.{normal-is}
+use Rattle.iri_normal.proofs.SchemeForm.{normal-is, there-both}
 use Rattle.iri_normal.proofs.PathLaws.{dots-over}
 use Rattle.iri_normal.specs.Target.{target, target_under, target_path, target_query, merged, merge_prefix, or_base, to_last_slash}
 use Rattle.iri_normal.proofs.TargetLaws.{target-fits, slash_in_path}
 use Rattle.iri_normal.proofs.MapPaths.{mapped-last_slash, mapped-dots, mapped-guard}
-use Rattle.iri_normal.proofs.FormLaws.{lower-all as lowered-chars}
+use Rattle.iri_normal.proofs.FormLaws.{lowered-chars}
 
 -- ---- schemes
 mapped-lowered : (x : List ℕ) → is_scheme x ≡ true → mapped (lowered x) ≡ lowered (mapped x)
@@ -62,16 +62,13 @@ record HostText (x : List ℕ) : Type 0 where
   class : ℕ → Bool
   text : IsText class x
 
-low_scalar : (c : ℕ) → nat_lt c 128 ≡ true → scalar c ≡ true
-low_scalar c h = grind (arith, nat_tests)
-
 literal-text : (xs : List ℕ) → list_all is_literal_char xs ≡ true → IsText is_literal_char xs
 literal-text [] h = ended
 literal-text (x ∷ xs) h =
     let k = both (is_literal_char x) (list_all is_literal_char xs) h in
     let l = literal_low x k.0 in
     subst (λ z. IsText is_literal_char (z ++ xs)) (encode_ascii x (ltb-true x 128 l))
-    (letter x xs (low_scalar x l) k.0 (test_apart is_literal_char 37 x literal_percent k.0) (literal-text xs k.1))
+    (letter x xs (low_scalar x (omega (arith, ltb-true x 128 l))) k.0 (test_apart is_literal_char 37 x literal_percent k.0) (literal-text xs k.1))
 
 host-text : (s : Tests) (x : List ℕ) → IsSpec s → is_host s x ≡ true → HostText x
 host-text s x k h =
@@ -141,27 +138,7 @@ mapped-normal_authority s d t k h =
     ∙ ap recompose_authority (mapped-normal_parts s d a k (authority-reads s t k h))
     ∙ authority_in uri_tests d (mapped t) (mapped_authority a) (sym (mapped-authority s t k h).parts)
 
--- ---- the other parts, where they stand
-scheme-there : (o : Option (List ℕ)) → if_there is_scheme o ≡ true
-    → option_map mapped (where_there lowered o) ≡ where_there lowered (option_map mapped o)
-scheme-there None h = refl
-scheme-there (Some x) h = ap Some (mapped-lowered x h)
-
-authority-there : (s : Tests) (d o : Option (List ℕ)) → IsSpec s → if_there (is_authority s) o ≡ true
-    → option_map mapped (where_there (normal_authority_in s d) o) ≡ where_there (normal_authority_in uri_tests d) (option_map mapped o)
-authority-there s d None k h = refl
-authority-there s d (Some x) k h = ap Some (mapped-normal_authority s d x k h)
-
-query-there : (s : Tests) (o : Option (List ℕ)) → IsSpec s → if_there (is_query s) o ≡ true
-    → option_map mapped (where_there (pct s) o) ≡ where_there (pct uri_tests) (option_map mapped o)
-query-there s None k h = refl
-query-there s (Some x) k h = ap Some (mapped-normal s as_it_is (query_char s) x k as_it_is-case (query_percent s k) h)
-
-fragment-there : (s : Tests) (o : Option (List ℕ)) → IsSpec s → if_there (is_fragment s) o ≡ true
-    → option_map mapped (where_there (pct s) o) ≡ where_there (pct uri_tests) (option_map mapped o)
-fragment-there s None k h = refl
-fragment-there s (Some x) k h = ap Some (mapped-normal s as_it_is (fragment_char s) x k as_it_is-case (fragment_percent s k) h)
-
+-- ---- paths
 mapped-stands : (o : Option (List ℕ)) → is_some (option_map mapped o) ≡ is_some o
 mapped-stands None = refl
 mapped-stands (Some x) = refl
@@ -196,11 +173,14 @@ mapped-parts : (s : Tests) (d : Option (List ℕ)) (t : Parts) → IsSpec s → 
 mapped-parts s d t k f =
     rw (
       mapped-becomes d t.authority t.path,
-      scheme-there t.scheme f.scheme,
-      authority-there s d t.authority k f.authority,
+      there-both is_scheme mapped lowered lowered mapped t.scheme mapped-lowered f.scheme,
+      there-both (is_authority s) mapped (normal_authority_in s d) (normal_authority_in uri_tests d) mapped t.authority
+          (λ x h. mapped-normal_authority s d x k h) f.authority,
       mapped-slashed s (becomes_slash d t.authority t.path) t.authority t.path k f.path,
-      query-there s t.query k f.query,
-      fragment-there s t.fragment k f.fragment,
+      there-both (is_query s) mapped (pct s) (pct uri_tests) mapped t.query
+          (λ x h. mapped-normal s as_it_is (query_char s) x k as_it_is-case (query_percent s k) h) f.query,
+      there-both (is_fragment s) mapped (pct s) (pct uri_tests) mapped t.fragment
+          (λ x h. mapped-normal s as_it_is (fragment_char s) x k as_it_is-case (fragment_percent s k) h) f.fragment,
     )
     refl
 

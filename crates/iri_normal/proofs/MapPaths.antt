@@ -3,6 +3,8 @@ use Rattle.std.proofs.Common.{◌≡◌, ℕ, Bool, true, false, cond, not, ◌&
 use Rattle.std.proofs.Common.{◌∙◌, ap, subst, arith}
 use Rattle.std.specs.Prelude.{◌==◌, ◌/◌, ◌%◌, nat_lt}
 use Rattle.std.proofs.lemmas.Bool.Decides.{nat_tests}
+use Rattle.std.proofs.Math.Bool.{and-false}
+use Rattle.std.specs.List.{list_all}
 use Rattle.iri_grammar.specs.Cut.{lacks}
 use Rattle.iri_grammar.proofs.CutLaws.{by_test}
 use Rattle.iri_grammar.specs.Parts.{starts_with_slashes}
@@ -11,11 +13,11 @@ use Rattle.iri_percent.specs.Mapping.{capital_hex, triplet, mapped}
 use Rattle.iri_percent.proofs.MapTexts.{mapped-low, mapped-high, mapped-append}
 use Rattle.iri_percent.proofs.MapDelimiters.{slash-apart, slash_hex, high_apart, mapped-lacks, mapped-slashes}
 use Rattle.iri_normal.specs.Dots.{after_dot, is_dot_segment}
-use Rattle.iri_normal.specs.DotRemoval.{is_all, is_one_dot, is_one_dot_after, is_two_dots, without_top, closed, remove_after}
-use Rattle.iri_normal.specs.DotRemoval.{remove_dots, path_text, dots}
+use Rattle.iri_normal.specs.DotRemoval.{is_all, is_one_dot, is_one_dot_after, is_two_dots}
+use Rattle.iri_normal.specs.DotRemoval.{dots}
 use Rattle.iri_normal.specs.Guard.{guard}
 use Rattle.iri_normal.specs.LowerCase.{where_there}
-use Rattle.iri_normal.proofs.OutputLaws.{left}
+use Rattle.iri_normal.proofs.OutputLaws.{KeepsSegments, dots-map}
 use Rattle.iri_normal.proofs.PieceLaws.{pieces-some, dot_kinds}
 use Rattle.iri_normal.specs.Target.{to_last_slash}
 
@@ -104,10 +106,6 @@ after_percent (y ∷ z ∷ xs) =
           ∙ sym (ap (where_there mapped) (no_dot_after_percent y z xs (rw (high_apart y 50 e (omega arith)) refl)))
     ] refl
   where
-    and_false : (b : Bool) → (b && false) ≡ false
-    and_false true = refl
-    and_false false = refl
-
     second : nat_lt y 128 ≡ true → after_dot (37 ∷ y ∷ mapped (z ∷ xs)) ≡ where_there mapped (after_dot (37 ∷ y ∷ z ∷ xs))
     second d =
         elim (nat_lt z 128) as (λ b. nat_lt z 128 ≡ b
@@ -117,9 +115,9 @@ after_percent (y ∷ z ∷ xs) =
               ≡ where_there mapped (cond b (Some xs) None)) [ true ↦ refl | false ↦ refl ])
           | false ↦ λ e.
               ap (λ t. after_dot (37 ∷ y ∷ t)) (mapped-high z xs e)
-              ∙ no_dot_after_percent y 37 (capital_hex (z / 16) ∷ capital_hex (z % 16) ∷ mapped xs) (and_false (y == 50))
+              ∙ no_dot_after_percent y 37 (capital_hex (z / 16) ∷ capital_hex (z % 16) ∷ mapped xs) (and-false (y == 50))
               ∙ sym (ap (where_there mapped) (no_dot_after_percent y z xs
-              (rw (high_apart z 69 e (omega arith), high_apart z 101 e (omega arith)) (and_false (y == 50)))))
+              (rw (high_apart z 69 e (omega arith), high_apart z 101 e (omega arith)) (and-false (y == 50)))))
         ] refl
 
 mapped-dot : (xs : List ℕ) → after_dot (mapped xs) ≡ where_there mapped (after_dot xs)
@@ -160,53 +158,22 @@ mapped-two_dots t = ap is_one_dot_after (mapped-dot t) ∙ after-mapped (after_d
 mapped-dot_segment : (t : List ℕ) → is_dot_segment (mapped t) ≡ is_dot_segment t
 mapped-dot_segment t = dot_kinds (mapped t) ∙ (rw (mapped-one_dot t, mapped-two_dots t) (sym (dot_kinds t)))
 
+every : (ss : List (List ℕ)) → list_all (λ s. true) ss ≡ true
+every [] = refl
+every (s ∷ ss) = every ss
+
 -- ---- dot removal
-top-map : (st : List (List ℕ)) → without_top (map mapped st) ≡ map mapped (without_top st)
-top-map [] = refl
-top-map (t ∷ []) = refl
-top-map (t ∷ u ∷ us) = refl
-
-left-map : (two : Bool) (st : List (List ℕ)) → left two (map mapped st) ≡ map mapped (left two st)
-left-map true st = top-map st
-left-map false st = refl
-
-closed-map : (ss st : List (List ℕ)) → closed (map mapped ss) (map mapped st) ≡ map mapped (closed ss st)
-closed-map [] st = refl
-closed-map (t ∷ ts) st = refl
-
-after-map : (st ss : List (List ℕ)) → remove_after (map mapped st) (map mapped ss) ≡ map mapped (remove_after st ss)
-after-map st [] = refl
-after-map st (t ∷ ts) =
-    rw (mapped-dot_segment t, mapped-two_dots t)
-    (elim (is_dot_segment t) as (λ b. cond b (remove_after (closed (map mapped ts) (left (is_two_dots t) (map mapped st))) (map mapped ts))
-    (remove_after (map mapped (t ∷ st)) (map mapped ts))
-    ≡ map mapped (cond b (remove_after (closed ts (left (is_two_dots t) st)) ts) (remove_after (t ∷ st) ts))) [
-      | true ↦ ap (λ o. remove_after (closed (map mapped ts) o) (map mapped ts)) (left-map (is_two_dots t) st)
-          ∙ (ap (λ o. remove_after o (map mapped ts)) (closed-map ts (left (is_two_dots t) st))
-          ∙ after-map (closed ts (left (is_two_dots t) st)) ts)
-      | false ↦ after-map (t ∷ st) ts
-    ])
-
-removed-map : (ss : List (List ℕ)) → remove_dots (map mapped ss) ≡ map mapped (remove_dots ss)
-removed-map [] = refl
-removed-map (t ∷ ts) =
-    rw (mapped-dot_segment t)
-    (elim (is_dot_segment t) as (λ b. cond b (remove_dots (map mapped ts)) (remove_after (map mapped (t ∷ [])) (map mapped ts))
-    ≡ map mapped (cond b (remove_dots ts) (remove_after (t ∷ []) ts))) [
-      | true ↦ removed-map ts
-      | false ↦ after-map (t ∷ []) ts
-    ])
-
-text-map : (st : List (List ℕ)) → path_text (map mapped st) ≡ mapped (path_text st)
-text-map [] = refl
-text-map (t ∷ []) = refl
-text-map (t ∷ u ∷ us) = ap (λ xs. xs ++ 47 ∷ mapped t) (text-map (u ∷ us)) ∙ sym (mapped-append (path_text (u ∷ us)) (47 ∷ t))
-
 -- mapping commutes with dot removal, and with the guard
 pub mapped-dots : (p : List ℕ) → dots (mapped p) ≡ mapped (dots p)
-unfolding dots
-mapped-dots p = ap (λ ps. path_text (remove_dots ps)) (mapped-pieces p)
-    ∙ (ap path_text (removed-map (pieces 47 p)) ∙ text-map (remove_dots (pieces 47 p)))
+mapped-dots p = dots-map (λ s. true) mapped keeps p (mapped-pieces p) (every (pieces 47 p))
+  where
+    keeps : KeepsSegments (λ s. true) mapped
+    keeps = record {
+      nothing = refl;
+      slash = λ a s. mapped-append a (47 ∷ s);
+      dot = λ s _. mapped-dot_segment s;
+      two = λ s _. mapped-two_dots s;
+    }
 
 pub mapped-guard : (p : List ℕ) (stands : Bool) → guard (mapped p) stands ≡ mapped (guard p stands)
 mapped-guard p stands = rw (mapped-slashes p) (elim

@@ -2,7 +2,7 @@
 use Rattle.std.proofs.Common.{◌≡◌, ℕ, Bool, true, false, cond, not, ◌||◌, List, [], ◌∷◌, Option, Some, None, refl, sym, ◌∙◌, ap, subst}
 use Rattle.std.specs.Prelude.{IsSome, IsNone, is_some}
 use Rattle.iri_grammar.specs.Classes.{Tests, IsSpec}
-use Rattle.iri_grammar.specs.Components.{is_path}
+use Rattle.iri_grammar.specs.Components.{is_path, is_query, is_fragment}
 use Rattle.iri_grammar.proofs.FaultLaws.{iri-law, absolute-law}
 use Rattle.iri_grammar.specs.Parts.{Parts, Fits, path_rules, recompose, starts_with_slash, starts_with_slashes}
 use Rattle.iri_grammar.proofs.SplitUnique.{one_split}
@@ -13,10 +13,10 @@ use Rattle.iri_percent.proofs.Stability.{pct-stable}
 use Rattle.iri_percent.specs.Triplets.{pct}
 use Rattle.iri_percent.specs.declared.canon_mode.CanonMode.{CanonMode}
 use Rattle.iri_percent.specs.declared.canon_mode.CanonMode.TheVariants.{Default, Scheme}
-use Rattle.iri_percent.proofs.WholeLaws.{path-whole}
+use Rattle.iri_percent.proofs.WholeLaws.{path-whole, query-whole, fragment-whole}
 use Rattle.iri_normal.specs.DotRemoval.{dots}
 use Rattle.iri_normal.proofs.SchemeForm.{form-is}
-use Rattle.iri_normal.proofs.FormLaws.{normal_in-fits, parts-fit, scheme-stable, authorities-stable, query-stable, fragment-stable}
+use Rattle.iri_normal.proofs.FormLaws.{normal_in-fits, parts-fit, scheme-stable, authorities-stable, triplets-stable}
 use Rattle.iri_normal.specs.Guard.{guard}
 use Rattle.iri_normal.specs.Modes.{is_normalizing, mode_of}
 use Rattle.iri_normal.specs.LowerCase.{lowered, where_there}
@@ -155,7 +155,7 @@ preserving-stable s whole again t k f =
       scheme-stable t.scheme,
       authorities-stable s t.authority k f.authority,
       preserved-stable s t.authority t.path k f.path,
-      query-stable s t.query k f.query,
-      fragment-stable s t.fragment k f.fragment,
+      triplets-stable s (is_query s) t.query k (λ x h. query-whole s x k h) f.query,
+      triplets-stable s (is_fragment s) t.fragment k (λ x h. fragment-whole s x k h) f.fragment,
     )
     refl

@@ -12,14 +12,12 @@ use Rattle.iri_grammar.proofs.SplitUnique.{split_is}
 use Rattle.iri_grammar.specs.WholeFault.{reference_fault, iri_fault}
 use Rattle.iri_grammar.specs.declared.error.ErrorKind.{ErrorKind}
 use Rattle.iri_percent.specs.declared.canon_mode.CanonMode.{CanonMode}
-use Rattle.iri_percent.specs.declared.canon_mode.CanonMode.TheVariants.{Default}
 use Rattle.iri_normal.proofs.CanonLaws.{written-canonical as targets-canonical}
 use Rattle.iri_normal.specs.Normalized.{AreSound, Written, written_text}
-use Rattle.iri_normal.specs.NormalForm.{canonical, canonical_in}
+use Rattle.iri_normal.specs.NormalForm.{canonical_in}
 use Rattle.iri_normal.specs.Modes.{mode_of}
 use Rattle.iri_normal.specs.Slices.{slices}
 use Rattle.iri_normal.specs.Target.{target}
-use Rattle.iri_normal.specs.declared.mode.Mode.TheVariants.{Normal}
 use Rattle.iri_normal.specs.declared.target.TargetSlices.{TargetSlices}
 
 -- ---- what sound slices are
@@ -55,11 +53,3 @@ made-normal_in m w = record w { mode = mode_of m }
 pub written-canonical_in : (s : Tests) (m : CanonMode) (b r : List ℕ) (whole : Bool) (w : Written)
     → w ≡ record { parts = target (split_of b) (split_of r); whole = whole; mode = mode_of m } → written_text s w ≡ canonical_in s m b r
 written-canonical_in s m b r whole w e = ap (written_text s) e ∙ targets-canonical s m whole b r
-
--- by the rules of every scheme
-abbrev pub made-normal : Written → Written
-made-normal w = made-normal_in Default w
-
-pub written-canonical : (s : Tests) (b r : List ℕ) (whole : Bool) (w : Written)
-    → w ≡ record { parts = target (split_of b) (split_of r); whole = whole; mode = Normal } → written_text s w ≡ canonical s b r
-written-canonical s b r whole w e = written-canonical_in s Default b r whole w e

@@ -1,12 +1,12 @@
 -- The first dot segment of a path.
-use Rattle.std.proofs.Common.{◌≡◌, ℕ, zero, suc, ◌+◌, ◌-◌, ◌<◌, ◌≤◌, Bool, true, false, cond, ◌&&◌, ◌||◌, List, [], ◌∷◌, ◌++◌, Option, Some, None}
+use Rattle.std.proofs.Common.{◌≡◌, ℕ, suc, ◌+◌, ◌-◌, ◌<◌, ◌≤◌, Bool, true, false, cond, ◌&&◌, ◌||◌, List, [], ◌∷◌, ◌++◌, Option, Some, None}
 use Rattle.std.proofs.Common.{refl, sym, ◌∙◌, ap, subst, arith, length, take, drop, length-append, drop-cons, below_more}
-use Rattle.std.proofs.lemmas.Bool.{eqb-true}
-use Rattle.std.proofs.lemmas.Bool.Decides.{nat_tests}
+use Rattle.std.proofs.lemmas.Bool.{eqb-true, or_right, ne_eqb}
 use Rattle.std.proofs.lemmas.List.{append-nil, length-take-le, take-append-drop}
 use Rattle.std.specs.Prelude.{◌==◌, slice_index}
+use Rattle.std.proofs.Math.Bool.{and-false}
 use Rattle.iri_grammar.specs.Cut.{before, after}
-use Rattle.iri_grammar.proofs.CutLaws.{both, by_test}
+use Rattle.iri_grammar.proofs.CutLaws.{both}
 use Rattle.iri_grammar.proofs.PiecesLaws.{after_shorter, pieces_cut}
 use Rattle.iri_grammar.specs.Parts.{is_empty}
 use Rattle.iri_normal.specs.DotRemoval.{is_all, is_one_dot_after, is_two_dots}
@@ -15,36 +15,16 @@ use Rattle.iri_normal.specs.Target.{ends_at_slash}
 use Rattle.iri_normal.specs.inside.DotSearch.{dots_before, slash_and_dots, dots_after}
 use Rattle.iri_normal.proofs.DotLemmas.{cut_rest, dot_cut, empty_after, first_or_after, next_place, one_dot_first, plain_prefix, too_short, two_dots_first}
 use Rattle.iri_normal.proofs.EndedLemmas.{both-end, take-ends}
-use Rattle.iri_normal.proofs.PieceLaws.{nothing-is_no_dot}
+use Rattle.iri_normal.proofs.PieceLaws.{nothing-is_no_dot, past_dot}
 use Rattle.iri_normal.proofs.SegmentLemmas.{dot_in_two, nothing-plain}
 use Rattle.iri_normal.specs.inside.NextDots.{IsBefore, IsNext}
 use Rattle.iri_normal.specs.inside.Written.{left, or_nothing, written}
 use Rattle.iri_normal.proofs.WrittenLemmas.{left-ends, written-dot, written-run}
 
 -- ---- a dot segment at the start
--- a dot has no slash in it
-pub after-dot : (d r : List ℕ) → after_dot d ≡ Some r → after 47 d ≡ after 47 r
-after-dot [] r h = cc
-after-dot (x ∷ []) r h =
-    by_test x 46 (λ b. cond b (Some []) None ≡ Some r → after 47 (x ∷ []) ≡ after 47 r) (λ e k. let n : [] ≡ r = cc in rw (e, ← n) refl)
-    (λ _ k. cc) h
-after-dot (x ∷ y ∷ []) r h =
-    by_test x 46 (λ b. cond b (Some (y ∷ [])) None ≡ Some r → after 47 (x ∷ y ∷ []) ≡ after 47 r)
-    (λ e k. let n : y ∷ [] ≡ r = cc in rw (e, ← n) refl) (λ _ k. cc) h
-after-dot (x ∷ y ∷ z ∷ xs) r h =
-    by_test x 46 (λ b. cond b (Some (y ∷ z ∷ xs)) (cond (x == 37 && y == 50 && (z == 69 || z == 101)) (Some xs) None) ≡ Some r
-    → after 47 (x ∷ y ∷ z ∷ xs) ≡ after 47 r)
-    (λ e k. let n : y ∷ z ∷ xs ≡ r = cc in rw (e, ← n) refl)
-    (λ _ k. elim (x == 37 && y == 50 && (z == 69 || z == 101)) as (λ b. (x == 37 && y == 50 && (z == 69 || z == 101)) ≡ b
-    → cond b (Some xs) None ≡ Some r → after 47 (x ∷ y ∷ z ∷ xs) ≡ after 47 r) [
-      | true ↦ λ t l. let n : xs ≡ r = cc in let m = slashless x y z t in rw (m.0, m.1, m.2, ← n) refl
-      | false ↦ λ _ l. cc
-    ] refl k)
-    h
-  where
-    slashless : (x y z : ℕ) → (x == 37 && y == 50 && (z == 69 || z == 101)) ≡ true
-        → ((x == 47) ≡ false) × ((y == 47) ≡ false) × ((z == 47) ≡ false)
-    slashless x y z t = (grind (arith, nat_tests), grind (arith, nat_tests), grind (arith, nat_tests))
+-- what follows a dot goes on to the same slash
+after-dot : (d r : List ℕ) → after_dot d ≡ Some r → after 47 d ≡ after 47 r
+after-dot d r h = past_dot (after 47) (λ x xs e. rw e refl) d r h
 
 two-kind : (t r : List ℕ) → Some r ≡ after_dot t → is_two_dots (before 47 t) ≡ is_all (cut_rest (after_dot r))
 two-kind t r h = ap is_one_dot_after (dot_cut t ∙ ap cut_rest (sym h)) ∙ ap is_all (dot_cut r)
@@ -81,10 +61,6 @@ pub none-end : (t r s : List ℕ) → Some r ≡ after_dot t → is_empty (befor
 none-end t r s h e k f = two_dots_first t r h e ∙ (ap (λ o. empty_after (cut_rest o)) (sym k) ∙ f)
 
 -- ---- places without one
-or_right : (a : Bool) {b : Bool} → b ≡ true → (a || b) ≡ true
-or_right true h = refl
-or_right false h = h
-
 pub before-ended : (x : ℕ) (xs m : List ℕ) → ends_at_slash (x ∷ xs) ≡ true → before 47 ((x ∷ xs) ++ m) ≡ before 47 (x ∷ xs)
 before-ended x [] m h = rw h refl
 before-ended x (y ∷ ys) m h = ap (λ l. cond (x == 47) [] (x ∷ l)) (before-ended y ys m h)
@@ -132,23 +108,19 @@ found t i two r low l f n s h =
       more = drop i t;
       whole = sym whole;
       ends = ends;
-      plain = none-before (take i t) (drop i t) (or_right (is_empty (drop i t)) ends) (ap (λ u. is_dot_segment (before 47 u)) whole ∙ f)
+      plain = none-before (take i t) (drop i t) (or_right (is_empty (drop i t)) _ ends) (ap (λ u. is_dot_segment (before 47 u)) whole ∙ f)
           (λ k m. ap (λ u. slash_and_dots (drop k u)) whole ∙ n k (omega arith));
       prefix = h;
     }
 
 -- ---- places that are passed
-and_false : (b : Bool) → (b && false) ≡ false
-and_false true = refl
-and_false false = refl
-
 place-none : (t : List ℕ) (i : ℕ) → 1 ≤ i → i < length t → is_dot_segment (before 47 (drop i t)) ≡ false
     → slash_and_dots (drop (i - 1) t) ≡ false
 place-none t i low l h =
     let place : suc (i - 1) ≡ i = omega arith in
     let at : drop (i - 1) t ≡ slice_index t (i - 1) ∷ drop (suc (i - 1)) t = drop-cons t (i - 1) 0 (omega arith) in
     let rest : is_dot_segment (before 47 (drop (suc (i - 1)) t)) ≡ false = ap (λ k. is_dot_segment (before 47 (drop k t))) place ∙ h in
-    ap slash_and_dots at ∙ rw rest (and_false (slice_index t (i - 1) == 47))
+    ap slash_and_dots at ∙ rw rest (and-false (slice_index t (i - 1) == 47))
 
 place-other : (t : List ℕ) (i : ℕ) → i < length t → (slice_index t i == 47) ≡ false → slash_and_dots (drop i t) ≡ false
 place-other t i l h = ap slash_and_dots (drop-cons t i 0 l) ∙ rw h refl
@@ -156,9 +128,6 @@ place-other t i l h = ap slash_and_dots (drop-cons t i 0 l) ∙ rw h refl
 plain-at : (t : List ℕ) (i : ℕ) → i < length t → (slice_index t i == 46) ≡ false → (slice_index t i == 37) ≡ false
     → is_dot_segment (before 47 (drop i t)) ≡ false
 plain-at t i l h k = ap (λ u. is_dot_segment (before 47 u)) (drop-cons t i 0 l) ∙ plain_prefix (slice_index t i) (drop (suc i) t) h k
-
-other-than : (x c : ℕ) → (x ≡ c → ⊥) → (x == c) ≡ false
-other-than x c n = by_test x c (λ b. b ≡ false) (λ e. absurd (n e)) (λ _. refl)
 
 more-none : (t : List ℕ) (i : ℕ) → 1 ≤ i → ((k : ℕ) → k + 1 < i → slash_and_dots (drop k t) ≡ false)
     → slash_and_dots (drop (i - 1) t) ≡ false → (k : ℕ) → k + 1 < i + 1 → slash_and_dots (drop k t) ≡ false
@@ -182,7 +151,7 @@ pass-plain t i low l o n =
     pass-both t i low l (place-none t i low l (plain-at t i l (other 46 (omega arith)) (other 37 (omega arith)))) (other 47 (omega arith)) n
   where
     other : (c : ℕ) → c ≤ 47 → (slice_index t i == c) ≡ false
-    other c a = other-than (slice_index t i) c (λ e. omega arith)
+    other c a = ne_eqb (slice_index t i) c (λ e. omega arith)
 
 -- ---- what follows from it
 pub next-more : (m : List ℕ) → is_dot_segment (before 47 m) ≡ true → 0 < length m
@@ -214,7 +183,7 @@ next-ends b t a two r h e =
     both-end b a (or_second (is_empty t) (ends_at_slash b) (not-empty t (omega arith)) e) h.ends
 
 pub left-next : (two : Bool) (b r : List ℕ) → ends_at_slash b ≡ true → (is_empty r || ends_at_slash (left two b)) ≡ true
-left-next two b r h = or_right (is_empty r) (left-ends two b h)
+left-next two b r h = or_right (is_empty r) _ (left-ends two b h)
 
 pub written-next : (b t a : List ℕ) (two : Bool) (r : List ℕ) → IsNext t a two r → written b t ≡ written (left two (b ++ a)) r
 written-next b t a two r h =
@@ -227,4 +196,4 @@ written-next b t a two r h =
 pub next-dotted : (t a : List ℕ) (two : Bool) (r : List ℕ) → IsNext t a two r → has_dot_segment t ≡ true
 next-dotted t a two r h =
     let more : has_dot_segment h.more ≡ true = ap any_dot_segment (pieces_cut 47 h.more) ∙ rw h.prefix.dots refl in
-    ap has_dot_segment h.whole ∙ (dot_in_two a h.more h.ends ∙ or_right (has_dot_segment a) more)
+    ap has_dot_segment h.whole ∙ (dot_in_two a h.more h.ends ∙ or_right (has_dot_segment a) _ more)

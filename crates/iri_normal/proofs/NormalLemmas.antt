@@ -1,5 +1,5 @@
 -- Parts without a stray `%`, and a path in two pieces.
-use Rattle.std.proofs.Common.{◌≡◌, ℕ, true, false, cond, ◌&&◌, ◌||◌, List, [], ◌∷◌, ◌++◌, Option, Some, None, Bor, refl, sym, ◌∙◌}
+use Rattle.std.proofs.Common.{◌≡◌, ℕ, true, false, cond, ◌&&◌, ◌||◌, List, [], ◌∷◌, ◌++◌, Option, Some, None, Bor, refl, sym, ◌∙◌, arith}
 use Rattle.std.proofs.Common.{ap, subst, append_assoc}
 use Rattle.std.specs.Prelude.{◌==◌, is_some}
 use Rattle.std.specs.Char.{is_ascii_hexdigit}
@@ -20,12 +20,8 @@ use Rattle.iri_normal.specs.NormalForm.{normal_path}
 use Rattle.iri_normal.proofs.PathLaws.{dots-over}
 use Rattle.iri_normal.specs.Target.{ends_at_slash}
 use Rattle.iri_normal.proofs.TargetLaws.{slash_in_path}
+use Rattle.iri_normal.proofs.EndedLemmas.{end_slash}
 use Rattle.iri_percent.proofs.WholeLaws.{path-whole}
-
--- a text that ends with a slash is what stands before it, and the slash
-slash_end : (x : ℕ) (xs : List ℕ) → ends_at_slash (x ∷ xs) ≡ true → (init : List ℕ) × (x ∷ xs ≡ init ++ 47 ∷ [])
-slash_end x [] h = ([], ap (λ c. c ∷ []) (eqb-true x 47 h))
-slash_end x (y ∷ ys) h = let r = slash_end y ys h in (x ∷ r.0, ap (λ l. x ∷ l) r.1)
 
 pub pct_nil : (s : Tests) → pct s [] ≡ []
 unfolding normal char_units_from
@@ -41,7 +37,8 @@ pct_at s init p =
 pub pct_two : (s : Tests) (f p : List ℕ) → ends_at_slash f ≡ true → pct s (f ++ p) ≡ pct s f ++ pct s p
 pct_two s [] p h = sym (ap (λ l. l ++ pct s p) (pct_nil s))
 pct_two s (x ∷ xs) p h =
-    let r = slash_end x xs h in subst (λ (f : List ℕ). pct s (f ++ p) ≡ pct s f ++ pct s p) (sym r.1) (pct_at s r.0 p)
+    let r = end_slash (x ∷ xs) h (omega arith) in
+    subst (λ (f : List ℕ). pct s (f ++ p) ≡ pct s f ++ pct s p) (sym r.whole) (pct_at s r.prefix p)
 
 -- the triplet normal form of a path in two pieces that is cut where a segment ends
 pub pct_parts : (s : Tests) (f p : List ℕ) → (is_empty p || ends_at_slash f) ≡ true → pct s (f ++ p) ≡ pct s f ++ pct s p

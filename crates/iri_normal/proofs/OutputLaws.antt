@@ -1,6 +1,8 @@
 -- Dot removal over segments and over the output's text.
-use Rattle.std.proofs.Common.{◌≡◌, ℕ, Bool, true, false, cond, not, ◌&&◌, List, [], ◌∷◌, ◌++◌, refl, sym, ◌∙◌, ap}
+use Rattle.std.proofs.Common.{◌≡◌, ℕ, Bool, true, false, cond, not, ◌&&◌, List, [], ◌∷◌, ◌++◌, refl, sym, ◌∙◌, ap, map}
 use Rattle.std.specs.Prelude.{◌==◌}
+use Rattle.std.proofs.lemmas.Bool.{eq-eqb}
+use Rattle.std.specs.List.{list_all}
 use Rattle.iri_grammar.specs.Cut.{lacks}
 use Rattle.iri_grammar.proofs.CutLaws.{both}
 use Rattle.iri_grammar.specs.Pieces.{pieces}
@@ -47,14 +49,14 @@ pub text-push : (s : List ℕ) (st : List (List ℕ)) → is_output st ≡ true 
 text-push s [] h = cc
 text-push s (t ∷ ts) h = refl
 
--- the output's last segment
-lacks_slash : (xs ys : List ℕ) → lacks 47 (xs ++ 47 ∷ ys) ≡ false
-lacks_slash [] ys = refl
-lacks_slash (x ∷ xs) ys = elim (x == 47) as (λ b. (not b && lacks 47 (xs ++ 47 ∷ ys)) ≡ false) [ true ↦ refl | false ↦ lacks_slash xs ys ]
+pub lacks_there : (c : ℕ) (xs ys : List ℕ) → lacks c (xs ++ c ∷ ys) ≡ false
+lacks_there c [] ys = ap (λ b. not b && lacks c ys) (eq-eqb c c refl)
+lacks_there c (x ∷ xs) ys = elim (x == c) as (λ b. (not b && lacks c (xs ++ c ∷ ys)) ≡ false) [ true ↦ refl | false ↦ lacks_there c xs ys ]
 
+-- the output's last segment
 pub without_last-slash : (xs ys : List ℕ) → lacks 47 ys ≡ true → without_last (xs ++ 47 ∷ ys) ≡ xs
 without_last-slash [] ys h = rw h refl
-without_last-slash (x ∷ xs) ys h = rw (lacks_slash xs ys) (ap (λ zs. x ∷ zs) (without_last-slash xs ys h))
+without_last-slash (x ∷ xs) ys h = rw (lacks_there 47 xs ys) (ap (λ zs. x ∷ zs) (without_last-slash xs ys h))
 
 pub without_last-all : (xs : List ℕ) → lacks 47 xs ≡ true → without_last xs ≡ []
 without_last-all [] h = refl
@@ -110,3 +112,61 @@ text-from (s ∷ ss) h =
 pub dots-text : (p : List ℕ) → text_from [] (pieces 47 p) ≡ dots p
 unfolding dots
 dots-text p = text-from (pieces 47 p) (pieces-lack p)
+
+-- ---- what is done to each segment
+-- f keeps what segments are, of those that pass the test
+pub record KeepsSegments (ok : List ℕ → Bool) (f : List ℕ → List ℕ) : Type 0 where
+  pub nothing : f [] ≡ []
+  pub slash : (a s : List ℕ) → f (a ++ 47 ∷ s) ≡ f a ++ 47 ∷ f s
+  pub dot : (s : List ℕ) → ok s ≡ true → is_dot_segment (f s) ≡ is_dot_segment s
+  pub two : (s : List ℕ) → ok s ≡ true → is_two_dots (f s) ≡ is_two_dots s
+
+module _ (ok : List ℕ → Bool) (f : List ℕ → List ℕ) (k : KeepsSegments ok f) where
+  top-map : (st : List (List ℕ)) → without_top (map f st) ≡ map f (without_top st)
+  top-map [] = ap (λ s. s ∷ []) (sym k.nothing)
+  top-map (t ∷ []) = ap (λ s. s ∷ []) (sym k.nothing)
+  top-map (t ∷ u ∷ us) = refl
+
+  left-map : (two : Bool) (st : List (List ℕ)) → left two (map f st) ≡ map f (left two st)
+  left-map true st = top-map st
+  left-map false st = refl
+
+  closed-map : (ss st : List (List ℕ)) → closed (map f ss) (map f st) ≡ map f (closed ss st)
+  closed-map [] st = ap (λ s. s ∷ map f st) (sym k.nothing)
+  closed-map (t ∷ ts) st = refl
+
+  after-map : (st ss : List (List ℕ)) → list_all ok ss ≡ true → remove_after (map f st) (map f ss) ≡ map f (remove_after st ss)
+  after-map st [] w = refl
+  after-map st (t ∷ ts) w =
+      let l = both (ok t) (list_all ok ts) w in
+      rw (k.dot t l.0, k.two t l.0)
+      (elim (is_dot_segment t) as (λ b. cond b (remove_after (closed (map f ts) (left (is_two_dots t) (map f st))) (map f ts))
+      (remove_after (map f (t ∷ st)) (map f ts))
+      ≡ map f (cond b (remove_after (closed ts (left (is_two_dots t) st)) ts) (remove_after (t ∷ st) ts))) [
+        | true ↦ ap (λ o. remove_after (closed (map f ts) o) (map f ts)) (left-map (is_two_dots t) st)
+            ∙ (ap (λ o. remove_after o (map f ts)) (closed-map ts (left (is_two_dots t) st))
+            ∙ after-map (closed ts (left (is_two_dots t) st)) ts l.1)
+        | false ↦ after-map (t ∷ st) ts l.1
+      ])
+
+  removed-map : (ss : List (List ℕ)) → list_all ok ss ≡ true → remove_dots (map f ss) ≡ map f (remove_dots ss)
+  removed-map [] w = ap (λ s. s ∷ []) (sym k.nothing)
+  removed-map (t ∷ ts) w =
+      let l = both (ok t) (list_all ok ts) w in
+      rw (k.dot t l.0)
+      (elim (is_dot_segment t) as (λ b. cond b (remove_dots (map f ts)) (remove_after (map f (t ∷ [])) (map f ts))
+      ≡ map f (cond b (remove_dots ts) (remove_after (t ∷ []) ts))) [
+        | true ↦ removed-map ts l.1
+        | false ↦ after-map (t ∷ []) ts l.1
+      ])
+
+  text-map : (st : List (List ℕ)) → path_text (map f st) ≡ f (path_text st)
+  text-map [] = sym k.nothing
+  text-map (t ∷ []) = refl
+  text-map (t ∷ u ∷ us) = ap (λ xs. xs ++ 47 ∷ f t) (text-map (u ∷ us)) ∙ sym (k.slash (path_text (u ∷ us)) t)
+
+  -- dots are removed before it or after it
+  pub dots-map : (p : List ℕ) → pieces 47 (f p) ≡ map f (pieces 47 p) → list_all ok (pieces 47 p) ≡ true → dots (f p) ≡ f (dots p)
+  unfolding dots
+  dots-map p e w = ap (λ ps. path_text (remove_dots ps)) e
+      ∙ (ap path_text (removed-map (pieces 47 p) w) ∙ text-map (remove_dots (pieces 47 p)))

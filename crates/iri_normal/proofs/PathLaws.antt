@@ -167,6 +167,10 @@ unfolding normal_path
 path-rules s f x y (Some z) t h = path-rooted s t h
 path-rules s f x y None t h = guarded (pct s (dots t))
 
+pub stands-still : (f : List ℕ → List ℕ) (o : Option (List ℕ)) → is_some (where_there f o) ≡ is_some o
+stands-still f None = refl
+stands-still f (Some x) = refl
+
 pub path-stable : (s : Tests) (f : List ℕ → List ℕ) (a : Option (List ℕ)) (t : List ℕ) → IsSpec s → is_path s t ≡ true
     → normal_path s (where_there f a) (normal_path s a t) ≡ normal_path s a t
 unfolding normal_path
@@ -175,11 +179,7 @@ path-stable s f a t k h =
     let q = pct s (dots t) in
     let again : pct s (dots (guard q (is_some a))) ≡ q =
     ap (pct s) (guard-dots q (is_some a) ∙ (dots-pct s (dots t) k w ∙ ap (pct s) (dots-stable t))) ∙ pct-stable s (dots t) k w in
-    rw again (ap (guard q) (still a))
-  where
-    still : (o : Option (List ℕ)) → is_some (where_there f o) ≡ is_some o
-    still None = refl
-    still (Some x) = refl
+    rw again (ap (guard q) (stands-still f a))
 
 -- ---- the path without its dot segments, as it stands otherwise
 pub plain-over : (s : Tests) (a : Option (List ℕ)) (t : List ℕ) → is_path s t ≡ true → is_path s (guard (dots t) (is_some a)) ≡ true
@@ -206,7 +206,3 @@ normal-rooted s t h =
     let e = pct-slash s (dots t) (dots-slash t h) in
     elim (starts_with_slashes (pct s (dots t))) as (λ b. starts_with_slash (cond (not b) (pct s (dots t)) (47 ∷ 46 ∷ pct s (dots t)))
     ≡ true) [ true ↦ refl | false ↦ e ]
-
-pub stands-still : (f : List ℕ → List ℕ) (o : Option (List ℕ)) → is_some (where_there f o) ≡ is_some o
-stands-still f None = refl
-stands-still f (Some x) = refl

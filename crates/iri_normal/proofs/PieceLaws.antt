@@ -3,6 +3,7 @@ use Rattle.std.proofs.Common.{◌≡◌, ℕ, Bool, true, false, cond, not, ◌&
 use Rattle.std.proofs.Common.{ap, subst, arith}
 use Rattle.std.specs.Prelude.{◌==◌}
 use Rattle.std.proofs.lemmas.Bool.Decides.{nat_tests}
+use Rattle.std.proofs.Math.Bool.{or-true, or-false}
 use Rattle.iri_grammar.specs.Cut.{lacks}
 use Rattle.iri_grammar.proofs.CutLaws.{by_test, both}
 use Rattle.iri_grammar.specs.Pieces.{pieces, onto}
@@ -62,29 +63,33 @@ pieces-lack (x ∷ xs) =
     ] refl
 
 -- ---- dot segments
--- a dot has no slash in it
-pub after_dot-lacks : (d r : List ℕ) → after_dot d ≡ Some r → lacks 47 d ≡ lacks 47 r
-after_dot-lacks [] r h = cc
-after_dot-lacks (x ∷ []) r h =
-    by_test x 46 (λ b. cond b (Some []) None ≡ Some r → lacks 47 (x ∷ []) ≡ lacks 47 r) (λ e k. let n : [] ≡ r = cc in rw (e, ← n) refl)
-    (λ _ k. cc) h
-after_dot-lacks (x ∷ y ∷ []) r h =
-    by_test x 46 (λ b. cond b (Some (y ∷ [])) None ≡ Some r → lacks 47 (x ∷ y ∷ []) ≡ lacks 47 r)
-    (λ e k. let n : y ∷ [] ≡ r = cc in rw (e, ← n) refl) (λ _ k. cc) h
-after_dot-lacks (x ∷ y ∷ z ∷ xs) r h =
-    by_test x 46 (λ b. cond b (Some (y ∷ z ∷ xs)) (cond (x == 37 && y == 50 && (z == 69 || z == 101)) (Some xs) None) ≡ Some r
-    → lacks 47 (x ∷ y ∷ z ∷ xs) ≡ lacks 47 r)
-    (λ e k. let n : y ∷ z ∷ xs ≡ r = cc in rw (e, ← n) refl)
-    (λ _ k. elim (x == 37 && y == 50 && (z == 69 || z == 101)) as (λ b. (x == 37 && y == 50 && (z == 69 || z == 101)) ≡ b
-    → cond b (Some xs) None ≡ Some r → lacks 47 (x ∷ y ∷ z ∷ xs) ≡ lacks 47 r) [
-      | true ↦ λ t l. let n : xs ≡ r = cc in let m = slashless x y z t in rw (m.0, m.1, m.2, ← n) refl
+-- a dot has no slash in it: what passes other bytes by passes it by
+pub past_dot : {A : Type 0} (g : List ℕ → A) → ((x : ℕ) (xs : List ℕ) → (x == 47) ≡ false → g (x ∷ xs) ≡ g xs) → (d r : List ℕ)
+    → after_dot d ≡ Some r → g d ≡ g r
+past_dot g pass [] r h = cc
+past_dot g pass (x ∷ []) r h =
+    by_test x 46 (λ b. cond b (Some []) None ≡ Some r → g (x ∷ []) ≡ g r)
+    (λ e k. let n : [] ≡ r = cc in pass x [] (ap (λ y. y == 47) e) ∙ ap g n) (λ _ k. cc) h
+past_dot g pass (x ∷ y ∷ []) r h =
+    by_test x 46 (λ b. cond b (Some (y ∷ [])) None ≡ Some r → g (x ∷ y ∷ []) ≡ g r)
+    (λ e k. let n : y ∷ [] ≡ r = cc in pass x (y ∷ []) (ap (λ y. y == 47) e) ∙ ap g n) (λ _ k. cc) h
+past_dot g pass (x ∷ y ∷ z ∷ xs) r h =
+    by_test x 46 (λ b. cond b (Some (y ∷ z ∷ xs)) (cond (x == 37 && (y == 50 && (z == 69 || z == 101))) (Some xs) None) ≡ Some r
+    → g (x ∷ y ∷ z ∷ xs) ≡ g r)
+    (λ e k. let n : y ∷ z ∷ xs ≡ r = cc in pass x (y ∷ z ∷ xs) (ap (λ y. y == 47) e) ∙ ap g n)
+    (λ _ k. elim (x == 37 && (y == 50 && (z == 69 || z == 101))) as (λ b. (x == 37 && (y == 50 && (z == 69 || z == 101))) ≡ b
+    → cond b (Some xs) None ≡ Some r → g (x ∷ y ∷ z ∷ xs) ≡ g r) [
+      | true ↦ λ t l. let n : xs ≡ r = cc in let m = slashless x y z t in pass x (y ∷ z ∷ xs) m.0 ∙ pass y (z ∷ xs) m.1 ∙ pass z xs m.2 ∙ ap g n
       | false ↦ λ _ l. cc
     ] refl k)
     h
   where
-    slashless : (x y z : ℕ) → (x == 37 && y == 50 && (z == 69 || z == 101)) ≡ true
+    slashless : (x y z : ℕ) → (x == 37 && (y == 50 && (z == 69 || z == 101))) ≡ true
         → ((x == 47) ≡ false) × ((y == 47) ≡ false) × ((z == 47) ≡ false)
     slashless x y z t = (grind (arith, nat_tests), grind (arith, nat_tests), grind (arith, nat_tests))
+
+after_dot-lacks : (d r : List ℕ) → after_dot d ≡ Some r → lacks 47 d ≡ lacks 47 r
+after_dot-lacks d r h = past_dot (lacks 47) (λ x xs e. rw e refl) d r h
 
 nothing_or_dot-lacks : (r : List ℕ) → is_dot_or_nothing r ≡ true → lacks 47 r ≡ true
 nothing_or_dot-lacks [] h = refl
@@ -126,22 +131,14 @@ one_dot-is_not_two d h = by_rest (after_dot d) h
     by_rest (Some []) k = refl
     by_rest (Some (x ∷ xs)) k = cc
 
-or_true : (b : Bool) → (b || true) ≡ true
-or_true true = refl
-or_true false = refl
-
 pub one_dot-is_dot : (d : List ℕ) → is_one_dot d ≡ true → is_dot_segment d ≡ true
 one_dot-is_dot d h = dot_kinds d ∙ rw h refl
 
 pub two_dots-is_dot : (d : List ℕ) → is_two_dots d ≡ true → is_dot_segment d ≡ true
-two_dots-is_dot d h = dot_kinds d ∙ rw h (or_true (is_one_dot d))
-
-or_false : (b : Bool) → (b || false) ≡ b
-or_false true = refl
-or_false false = refl
+two_dots-is_dot d h = dot_kinds d ∙ rw h (or-true (is_one_dot d))
 
 pub dot-is_one : (d : List ℕ) → is_dot_segment d ≡ true → is_two_dots d ≡ false → is_one_dot d ≡ true
-dot-is_one d h k = sym (or_false (is_one_dot d)) ∙ (ap (λ b. is_one_dot d || b) (sym k) ∙ (sym (dot_kinds d) ∙ h))
+dot-is_one d h k = sym (or-false (is_one_dot d)) ∙ (ap (λ b. is_one_dot d || b) (sym k) ∙ (sym (dot_kinds d) ∙ h))
 
 pub nothing-is_no_dot : is_dot_segment [] ≡ false
 unfolding is_dot_segment

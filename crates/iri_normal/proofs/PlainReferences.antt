@@ -1,16 +1,16 @@
 -- References in which nothing changes.
 use Rattle.std.proofs.Common.{◌≡◌, ℕ, Bool, true, false, cond, not, ◌||◌, List, [], ◌∷◌, ◌++◌, Option, Some, None, refl, sym, ◌∙◌, ap}
-use Rattle.std.proofs.Common.{◌<◌, ◌≤◌, append_assoc, append-nil, arith, drop, length, map, subst, suc, zero}
+use Rattle.std.proofs.Common.{◌≤◌, append_assoc, append-nil, arith, drop, length, subst}
 use Rattle.std.specs.Char.{to_ascii_lowercase}
 use Rattle.std.specs.Str.{IsAscii}
 use Rattle.std.proofs.lemmas.List.{map-append}
-use Rattle.std.proofs.lemmas.List.Folds.{list_all-append}
-use Rattle.std.proofs.lemmas.Str.Ascii.{lowercase_ascii}
+use Rattle.std.proofs.lemmas.Str.Ascii.{IsAscii-cons, IsAscii-nil}
 use Rattle.std.proofs.Math.Seq.{drop-append_seam}
-use Rattle.std.proofs.lemmas.Bool.Decides.{nat_tests}
 use Rattle.std.specs.Prelude.{◌==◌, is_some, MatchOption}
 use Rattle.std.specs.List.{list_all}
-use Rattle.std.proofs.lemmas.Bool.{or_parts}
+use Rattle.std.proofs.lemmas.Bool.{or_parts, not-true}
+use Rattle.std.proofs.Math.Bool.{or-true}
+use Rattle.std.proofs.lemmas.Str.{IsAscii-append}
 use Rattle.iri_grammar.specs.Classes.{Tests, IsSpec}
 use Rattle.iri_grammar.specs.Components.{if_there, is_fragment, is_query, is_scheme, is_scheme_char}
 use Rattle.iri_grammar.specs.Cut.{lacks, delimited}
@@ -18,10 +18,11 @@ use Rattle.iri_grammar.specs.Parts.{Parts, Fits, authority_text, is_empty, path_
 use Rattle.iri_grammar.specs.Parts.{starts_with_slashes}
 use Rattle.iri_grammar.specs.Seen.{is_plain_authority, is_small}
 use Rattle.iri_grammar.specs.Split.{split_of}
-use Rattle.iri_grammar.proofs.CutLaws.{both, lacks-append, lacks-other}
-use Rattle.iri_grammar.proofs.SplitLaws.{scheme-chars, scheme-lacks}
+use Rattle.iri_grammar.proofs.CutLaws.{both, lacks-append}
+use Rattle.iri_grammar.proofs.SplitLaws.{scheme-chars, scheme-lacks, delimited-lacks}
 use Rattle.iri_grammar.proofs.SplitUnique.{scheme_char-below}
 use Rattle.iri_grammar.proofs.AuthorityTexts.{all_below}
+use Rattle.iri_grammar.proofs.LiteralChars.{all-join}
 use Rattle.iri_percent.specs.DelimiterLaws.{IsOutsideTriplets}
 use Rattle.iri_percent.specs.NormalHost.{normal_authority}
 use Rattle.iri_percent.specs.Triplets.{pct}
@@ -45,14 +46,6 @@ use Rattle.iri_normal.proofs.StableLaws.{no_dots-same}
 use Rattle.iri_normal.proofs.TripletHeads.{pct-heads}
 
 -- ---- tests
-pub not-true : (b : Bool) → not b ≡ true → b ≡ false
-not-true true h = cc
-not-true false h = refl
-
-or-true : (b : Bool) → (b || true) ≡ true
-or-true true = refl
-or-true false = refl
-
 pub none-noted : (a b : Bool) → not (a || b) ≡ true → (a ≡ false) × (b ≡ false)
 none-noted a b h = or_parts a b (not-true (a || b) h)
 
@@ -70,25 +63,13 @@ authority-percent (Some a) h = plain-lacks a h
 scheme-ascii : (x : List ℕ) → is_scheme x ≡ true → IsAscii x
 scheme-ascii x h = all_below is_scheme_char scheme_char-below x (scheme-chars x h)
 
-both-ascii : (xs ys : List ℕ) → IsAscii xs → IsAscii ys → IsAscii (xs ++ ys)
-both-ascii [] ys h k i = k i
-both-ascii (x ∷ xs) ys h k zero = h zero
-both-ascii (x ∷ xs) ys h k (suc i) = both-ascii xs ys (λ j. h (suc j)) k i
-
-some-ascii : (x : ℕ) (xs : List ℕ) → x < 128 → IsAscii xs → IsAscii (x ∷ xs)
-some-ascii x xs l h zero = l
-some-ascii x xs l h (suc i) = h i
-
-nothing-ascii : IsAscii []
-nothing-ascii i = omega arith
-
 scheme_text-ascii : (o : Option (List ℕ)) → if_there is_scheme o ≡ true → IsAscii (scheme_text o)
-scheme_text-ascii None h = nothing-ascii
-scheme_text-ascii (Some x) h = both-ascii x (58 ∷ []) (scheme-ascii x h) (some-ascii 58 [] (omega arith) nothing-ascii)
+scheme_text-ascii None h = IsAscii-nil
+scheme_text-ascii (Some x) h = IsAscii-append x (58 ∷ []) (scheme-ascii x h) (IsAscii-cons 58 [] (omega arith) IsAscii-nil)
 
 authority_text-ascii : (o : Option (List ℕ)) → if_there is_plain_authority o ≡ true → IsAscii (authority_text o)
-authority_text-ascii None h = nothing-ascii
-authority_text-ascii (Some a) h = some-ascii 47 (47 ∷ a) (omega arith) (some-ascii 47 a (omega arith) (plain-ascii a h))
+authority_text-ascii None h = IsAscii-nil
+authority_text-ascii (Some a) h = IsAscii-cons 47 (47 ∷ a) (omega arith) (IsAscii-cons 47 a (omega arith) (plain-ascii a h))
 
 scheme_text-lowered : (o : Option (List ℕ)) → scheme_text (where_there lowered o) ≡ lowered (scheme_text o)
 scheme_text-lowered None = refl
@@ -109,12 +90,9 @@ prefix-percent : (s : Tests) (r : Parts) → Fits s r → if_there is_plain_auth
 prefix-percent s r f h =
     lacks-append 37 (scheme_text r.scheme) (authority_text r.authority) (scheme-percent r.scheme f.scheme) (authority-percent r.authority h)
 
-small-append : (xs ys : List ℕ) → list_all is_small xs ≡ true → list_all is_small ys ≡ true → list_all is_small (xs ++ ys) ≡ true
-small-append xs ys h k = list_all-append is_small xs ys ∙ rw (h, k) refl
-
 scheme_text-small : (o : Option (List ℕ)) → if_there (list_all is_small) o ≡ true → list_all is_small (scheme_text o) ≡ true
 scheme_text-small None h = refl
-scheme_text-small (Some x) h = small-append x (58 ∷ []) h refl
+scheme_text-small (Some x) h = all-join is_small x (58 ∷ []) h refl
 
 authority_text-small : (o : Option (List ℕ)) → if_there (list_all is_small) o ≡ true → list_all is_small (authority_text o) ≡ true
 authority_text-small None h = refl
@@ -124,7 +102,7 @@ pub plain-prefix : (s : Tests) (r : Parts) → Fits s r → if_there (list_all i
     → if_there is_plain_authority r.authority ≡ true → KeepsPrefix s r
 plain-prefix s r f a b p = (
   prefix-lowered s r p ∙ small-lowered (prefix_in s false r)
-      (small-append (scheme_text r.scheme) (authority_text r.authority) (scheme_text-small r.scheme a) (authority_text-small r.authority b)),
+      (all-join is_small (scheme_text r.scheme) (authority_text r.authority) (scheme_text-small r.scheme a) (authority_text-small r.authority b)),
   prefix-percent s r f p,
 )
 
@@ -165,14 +143,10 @@ rest-whole s r k f =
     (delimited-whole 63 (is_query s) r.query refl (λ x h. query-whole s x k h) f.query)
     (delimited-whole 35 (is_fragment s) r.fragment refl (λ x h. fragment-whole s x k h) f.fragment))
 
-delimited-lacks : (m : ℕ) (o : Option (List ℕ)) → (m == 37) ≡ false → if_there (lacks 37) o ≡ true → lacks 37 (delimited m o) ≡ true
-delimited-lacks m None n h = refl
-delimited-lacks m (Some x) n h = lacks-other 37 m x n h
-
 rest-lacks : (r : Parts) → LacksTriplets r → lacks 37 (rest r) ≡ true
 rest-lacks r h =
     lacks-append 37 r.path (delimited 63 r.query ++ delimited 35 r.fragment) h.0
-    (lacks-append 37 (delimited 63 r.query) (delimited 35 r.fragment) (delimited-lacks 63 r.query refl h.1) (delimited-lacks 35 r.fragment refl h.2))
+    (lacks-append 37 (delimited 63 r.query) (delimited 35 r.fragment) (delimited-lacks 37 63 r.query refl h.1) (delimited-lacks 37 35 r.fragment refl h.2))
 
 -- ---- the canonical text
 -- prefix and path of the base, the prefix of the reference and the rest of it
@@ -263,17 +237,12 @@ lowered-before s t first second x k f e a n w p short =
           (own-stands s (split_of base) r x (lowered own) e f (prefix-lowered s r a) percent) n
           ∙ (ap (λ y. lowered own ++ y) (sym (rest-form s r.path r.query r.fragment))
           ∙ (ap (λ y. lowered y ++ pct s (rest r)) (sym p) ∙ ap (λ y. lowered first ++ pct s y) (sym last)));
-      ascii = subst IsAscii (sym p) (both-ascii (scheme_text r.scheme) (authority_text r.authority) (scheme_text-ascii r.scheme f.scheme)
+      ascii = subst IsAscii (sym p) (IsAscii-append (scheme_text r.scheme) (authority_text r.authority) (scheme_text-ascii r.scheme f.scheme)
           (authority_text-ascii r.authority a));
       short = short;
       whole = ap whole_triplets last ∙ rest-whole s r k f;
       bare = λ h. ap (lacks 37) last ∙ rest-lacks r h;
     }
-
-pub lowered-ascii : (t : List ℕ) → IsAscii t → IsAscii (map to_ascii_lowercase t)
-lowered-ascii [] h i = h i
-lowered-ascii (x ∷ xs) h zero = lowercase_ascii x (h zero)
-lowered-ascii (x ∷ xs) h (suc i) = lowered-ascii xs (λ j. h (suc j)) i
 
 -- a reference with neither scheme nor authority
 record HasPath (r : Parts) : Type 0 where

@@ -34,6 +34,22 @@ unfolding normal_form form
 form-is s Default whole t = refl
 form-is s Scheme whole t = refl
 
+-- ---- parts that may stand
+pub there-fits : (p q : List ℕ → Bool) (f : List ℕ → List ℕ) (o : Option (List ℕ)) → ((x : List ℕ) → p x ≡ true → q (f x) ≡ true)
+    → if_there p o ≡ true → if_there q (where_there f o) ≡ true
+there-fits p q f None go h = refl
+there-fits p q f (Some x) go h = go x h
+
+pub there-one : (p : List ℕ → Bool) (f g a : List ℕ → List ℕ) (o : Option (List ℕ)) → ((x : List ℕ) → p x ≡ true → f (g x) ≡ a x)
+    → if_there p o ≡ true → where_there f (where_there g o) ≡ where_there a o
+there-one p f g a None go h = refl
+there-one p f g a (Some x) go h = ap Some (go x h)
+
+pub there-both : (p : List ℕ → Bool) (f g a b : List ℕ → List ℕ) (o : Option (List ℕ)) → ((x : List ℕ) → p x ≡ true → f (g x) ≡ a (b x))
+    → if_there p o ≡ true → where_there f (where_there g o) ≡ where_there a (where_there b o)
+there-both p f g a b None go h = refl
+there-both p f g a b (Some x) go h = ap Some (go x h)
+
 -- ---- the default port is told by the scheme in lower case
 pub lowered-twice : (xs : List ℕ) → lowered (lowered xs) ≡ lowered xs
 lowered-twice [] = refl
@@ -103,11 +119,6 @@ without-normal s (Some d) t k h =
     ∙ (ap (λ o. recompose_authority (record (normal_authority_parts s p) { port = o })) (port-kept d p.port)
     ∙ authority_in s (Some d) t p refl)
 
-without-there : (s : Tests) (d o : Option (List ℕ)) → IsSpec s → if_there (is_authority s) o ≡ true
-    → where_there (without d) (where_there (normal_authority s) o) ≡ where_there (normal_authority_in s d) o
-without-there s d None k h = refl
-without-there s d (Some x) k h = ap Some (without-normal s d x k h)
-
 -- ---- the normal form of a mode is told by that of the rules of every scheme
 abbrev pub by_rules : Option (List ℕ) → Parts → Parts
 by_rules d p = record p {
@@ -120,7 +131,11 @@ by_mode m p = by_rules (dropped_port m p.scheme) p
 
 parts-by_rules : (s : Tests) (d : Option (List ℕ)) (t : Parts) → IsSpec s → Fits s t → by_rules d (normal_parts s None t) ≡ normal_parts s d t
 parts-by_rules s d t k f =
-    rw (without-there s d t.authority k f.authority, slash-normal s (normal_authority s) t.scheme d t.authority t.path f.rules) refl
+    rw (
+      there-one (is_authority s) (without d) (normal_authority s) (normal_authority_in s d) t.authority (λ x h. without-normal s d x k h) f.authority,
+      slash-normal s (normal_authority s) t.scheme d t.authority t.path f.rules,
+    )
+    refl
 
 pub form-by_mode : (s : Tests) (m : CanonMode) (t : Parts) → IsSpec s → Fits s t → by_mode m (normal_form s t) ≡ normal_form_in s m t
 form-by_mode s m t k f =

@@ -1,6 +1,7 @@
 -- Paths cut where a segment ends.
-use Rattle.std.proofs.Common.{◌≡◌, ℕ, Bool, true, false, ◌||◌, List, [], ◌∷◌, ◌++◌, refl, sym, ◌∙◌, ap, arith, append_assoc}
+use Rattle.std.proofs.Common.{◌≡◌, ℕ, true, false, ◌||◌, List, [], ◌∷◌, ◌++◌, refl, sym, ◌∙◌, ap, arith, append_assoc}
 use Rattle.std.proofs.lemmas.List.{append-nil}
+use Rattle.std.proofs.Math.Bool.{or-false, or_assoc}
 use Rattle.iri_grammar.specs.Parts.{is_empty}
 use Rattle.iri_grammar.specs.Pieces.{pieces}
 use Rattle.iri_normal.specs.Target.{ends_at_slash}
@@ -26,22 +27,10 @@ pub alone : (t : List ℕ) (e : Ended t) → pieces 47 t ≡ e.segments ++ [] �
 alone t e = ap (pieces 47) (sym (append-nil t)) ∙ e.whole []
 
 -- ---- dot segments
-pub or_true : (b : Bool) → (b || true) ≡ true
-or_true true = refl
-or_true false = refl
-
-pub or_false : (b : Bool) → (b || false) ≡ b
-or_false true = refl
-or_false false = refl
-
-or_assoc : (a b c : Bool) → (a || (b || c)) ≡ ((a || b) || c)
-or_assoc true b c = refl
-or_assoc false b c = refl
-
 any_append : (xs ys : List (List ℕ)) → any_dot_segment (xs ++ ys) ≡ (any_dot_segment xs || any_dot_segment ys)
 any_append [] ys = refl
 any_append (x ∷ xs) ys = ap (λ b. is_dot_segment x || b) (any_append xs ys)
-    ∙ or_assoc (is_dot_segment x) (any_dot_segment xs) (any_dot_segment ys)
+    ∙ sym (or_assoc (is_dot_segment x) (any_dot_segment xs) (any_dot_segment ys))
 
 pub nothing-plain : has_dot_segment [] ≡ false
 nothing-plain = rw nothing-is_no_dot refl
@@ -51,11 +40,11 @@ dot_in_two f p h =
     let e = ended f h in
     let first : has_dot_segment f ≡ any_dot_segment e.segments =
     ap any_dot_segment (alone f e) ∙ (any_append e.segments ([] ∷ [])
-    ∙ (ap (λ b. any_dot_segment e.segments || b) nothing-plain ∙ or_false (any_dot_segment e.segments))) in
+    ∙ (ap (λ b. any_dot_segment e.segments || b) nothing-plain ∙ or-false (any_dot_segment e.segments))) in
     ap any_dot_segment (e.whole p) ∙ (any_append e.segments (pieces 47 p) ∙ ap (λ b. b || has_dot_segment p) (sym first))
 
 pub dot_in_parts : (f p : List ℕ) → (is_empty p || ends_at_slash f) ≡ true
     → has_dot_segment (f ++ p) ≡ (has_dot_segment f || has_dot_segment p)
 dot_in_parts f [] h = ap has_dot_segment (append-nil f)
-    ∙ sym (ap (λ b. has_dot_segment f || b) nothing-plain ∙ or_false (has_dot_segment f))
+    ∙ sym (ap (λ b. has_dot_segment f || b) nothing-plain ∙ or-false (has_dot_segment f))
 dot_in_parts f (x ∷ xs) h = dot_in_two f (x ∷ xs) h

@@ -2,13 +2,12 @@
 use Rattle.std.proofs.Common.{◌≡◌, ℕ, zero, suc, ◌+◌, ◌<◌, true, false, cond, not, ◌&&◌, List, [], ◌∷◌, Some, None}
 use Rattle.std.proofs.Common.{length, take, drop, ◌++◌, refl, sym, ◌∙◌, ap, arith, add-one}
 use Rattle.std.specs.Prelude.{◌==◌, slice_index}
-use Rattle.std.proofs.lemmas.Bool.{eqb-true}
+use Rattle.std.proofs.lemmas.Bool.{eqb-true, false_from_ne_true}
 use Rattle.std.proofs.lemmas.List.{drop_at, length-take-le}
 use Rattle.memchr.specs.Find.{is_byte, IsLastByte}
-use Rattle.iri_grammar.specs.Cut.{lacks}
-use Rattle.iri_grammar.specs.Parts.{is_empty}
+use Rattle.iri_grammar.specs.Cut.{lacks, before}
+use Rattle.iri_grammar.specs.Parts.{is_empty, starts_with_slash, starts_with_slashes}
 use Rattle.iri_normal.specs.Target.{to_last_slash, last_segment, ends_at_slash}
-use Rattle.iri_grammar.proofs.CutLemmas.{false-where}
 
 -- none, or the last at k
 pub slash_is : (bs : List ℕ) (k : ℕ) → IsLastByte (is_byte 47) bs (Some k) → (k < length bs) × (slice_index bs k ≡ 47)
@@ -17,7 +16,7 @@ slash_is bs k h = (h.0.high, eqb-true (slice_index bs k) 47 h.1)
 pub no_slash : (bs : List ℕ) → IsLastByte (is_byte 47) bs None → (lacks 47 bs ≡ true) × ([] ≡ to_last_slash bs)
 no_slash [] h = (refl, refl)
 no_slash (x ∷ xs) h =
-    let miss : (x == 47) ≡ false = false-where (x == 47) (h 0 (omega arith) (omega arith)) in
+    let miss : (x == 47) ≡ false = false_from_ne_true (x == 47) (h 0 (omega arith) (omega arith)) in
     let r = no_slash xs (λ j a b. h (suc j) (omega arith) (omega arith)) in
     (rw miss r.0, rw (miss, r.0) refl)
 
@@ -62,7 +61,7 @@ has_prefix : (xs : List ℕ) → lacks 47 xs ≡ false → is_empty (to_last_sla
 has_prefix [] h = cc
 has_prefix (x ∷ xs) h = rw h refl
 
-none_prefix : (xs : List ℕ) → lacks 47 xs ≡ true → to_last_slash xs ≡ []
+pub none_prefix : (xs : List ℕ) → lacks 47 xs ≡ true → to_last_slash xs ≡ []
 none_prefix [] h = refl
 none_prefix (x ∷ xs) h = rw h refl
 
@@ -88,3 +87,17 @@ ends (x ∷ xs) =
           | true ↦ rw (has_prefix xs e) r
           | false ↦ rw (has_prefix xs e) r
         ]
+
+-- ---- what stands before a byte
+pub before-lacks : (c : ℕ) (t : List ℕ) → lacks c (before c t) ≡ true
+before-lacks c [] = refl
+before-lacks c (x ∷ xs) =
+    elim (x == c) as (λ b. (x == c) ≡ b → lacks c (cond b [] (x ∷ before c xs)) ≡ true) [
+      | true ↦ λ _. refl
+      | false ↦ λ e. rw e (before-lacks c xs)
+    ] refl
+
+-- ---- how a path begins
+pub no_slashes : (p : List ℕ) → starts_with_slash p ≡ false → starts_with_slashes p ≡ false
+no_slashes [] h = refl
+no_slashes (x ∷ xs) h = ap (λ b. b && starts_with_slash xs) h

@@ -1,5 +1,5 @@
 -- Dot removal leaves no dot segment, and a path without one as it is.
-use Rattle.std.proofs.Common.{◌≡◌, ℕ, Bool, true, false, cond, not, ◌&&◌, List, [], ◌∷◌, ◌++◌, refl, sym, ◌∙◌, ap, append_assoc}
+use Rattle.std.proofs.Common.{◌≡◌, ℕ, Bool, true, false, cond, not, ◌&&◌, List, [], ◌∷◌, ◌++◌, refl, sym, ◌∙◌, ap, append_assoc, append-nil}
 use Rattle.std.proofs.lemmas.Bool.{or_parts}
 use Rattle.iri_grammar.specs.Cut.{lacks}
 use Rattle.iri_grammar.proofs.CutLaws.{by_test, both}
@@ -103,11 +103,7 @@ unsplit-pieces (x ∷ xs) =
 
 same-after : (t : List ℕ) (st ss : List (List ℕ)) → any_dot_segment ss ≡ false
     → path_text (remove_after (t ∷ st) ss) ≡ path_text (t ∷ st) ++ slashed ss
-same-after t st [] h = sym (append-nothing (path_text (t ∷ st)))
-  where
-    append-nothing : (xs : List ℕ) → xs ++ [] ≡ xs
-    append-nothing [] = refl
-    append-nothing (x ∷ xs) = ap (λ ys. x ∷ ys) (append-nothing xs)
+same-after t st [] h = sym (append-nil (path_text (t ∷ st)))
 same-after t st (s ∷ ss) h =
     let n = or_parts (is_dot_segment s) (any_dot_segment ss) h in
     rw n.0 (same-after s (t ∷ st) ss n.1 ∙ append_assoc (path_text (t ∷ st)) (47 ∷ s) (slashed ss))

@@ -1,7 +1,9 @@
 -- The target of a reference against parts with a scheme fits and has a scheme.
-use Rattle.std.proofs.Common.{◌≡◌, ℕ, Bool, true, false, cond, not, ◌&&◌, ◌||◌, List, [], ◌∷◌, ◌++◌, Option, Some, None, refl, sym, ap}
+use Rattle.std.proofs.Common.{◌≡◌, ℕ, Bool, true, false, cond, not, ◌&&◌, List, [], ◌∷◌, ◌++◌, Option, Some, None, refl, sym, ap}
 use Rattle.std.proofs.Common.{◌∙◌, arith, append_assoc, subst}
 use Rattle.std.specs.Prelude.{◌==◌, is_some, IsSome}
+use Rattle.std.proofs.Math.Bool.{and-false, or-true}
+use Rattle.std.proofs.lemmas.Bool.{not-true}
 use Rattle.iri_grammar.specs.Classes.{Tests, path_char, is_ascii_path, is_ascii_pchar, is_ascii_reg_name, is_ascii_unreserved, is_sub_delim}
 use Rattle.iri_grammar.specs.Over.{text_over}
 use Rattle.iri_grammar.specs.Components.{if_there, is_path, is_query}
@@ -12,11 +14,11 @@ use Rattle.iri_normal.specs.Target.{target, target_under, target_path, merged, m
 use Rattle.iri_normal.specs.Target.{to_last_slash, last_segment, ends_at_slash}
 use Rattle.iri_grammar.proofs.UnitRuns.{text_over-append}
 use Rattle.iri_normal.proofs.EndedLemmas.{end_slash}
-use Rattle.iri_normal.proofs.SlashLemmas.{at_last_slash, ends}
+use Rattle.iri_normal.proofs.SlashLemmas.{at_last_slash, ends, no_slashes}
 use Rattle.iri_normal.proofs.TextLaws.{text_over-cut, nothing_over, slash_over}
 
 -- ---- a path cut at its last slash
-parts_over : (p : ℕ → Bool) (f l : List ℕ) → ends_at_slash f ≡ true → text_over p (f ++ l) ≡ true
+pub parts_over : (p : ℕ → Bool) (f l : List ℕ) → ends_at_slash f ≡ true → text_over p (f ++ l) ≡ true
     → (text_over p f ≡ true) × (text_over p l ≡ true)
 parts_over p [] l h k = (nothing_over p, k)
 parts_over p (x ∷ xs) l h k =
@@ -41,29 +43,13 @@ merged-over p base path s h k =
     ]
 
 -- ---- the rules of a merged path
-and_false : (b : Bool) → (b && false) ≡ false
-and_false true = refl
-and_false false = refl
-
-or_true : (b : Bool) → (b || true) ≡ true
-or_true true = refl
-or_true false = refl
-
-not-true : (b : Bool) → not b ≡ true → b ≡ false
-not-true true h = cc
-not-true false h = refl
-
-no_slashes : (rest : List ℕ) → starts_with_slash rest ≡ false → starts_with_slashes rest ≡ false
-no_slashes [] k = refl
-no_slashes (r ∷ rs) k = rw k refl
-
 -- where no `//` begins the base's path, none begins what is merged with it
 apart : (path rest : List ℕ) → starts_with_slashes path ≡ false → starts_with_slash rest ≡ false
     → starts_with_slashes (to_last_slash path ++ rest) ≡ false
 apart [] rest h k = no_slashes rest k
 apart (x ∷ []) rest h k =
     elim (x == 47) as (λ b. starts_with_slashes (cond (not b && true) [] (x ∷ []) ++ rest) ≡ false) [
-      | true ↦ rw k (and_false (x == 47))
+      | true ↦ rw k (and-false (x == 47))
       | false ↦ no_slashes rest k
     ]
 apart (x ∷ y ∷ ys) rest h k =
@@ -71,7 +57,7 @@ apart (x ∷ y ∷ ys) rest h k =
     (cond a [] (x ∷ cond (not (y == 47) && lacks 47 ys) [] (y ∷ to_last_slash ys)) ++ rest) ≡ false) [
       | true ↦ no_slashes rest k
       | false ↦ elim (not (y == 47) && lacks 47 ys) as (λ b. starts_with_slashes ((x ∷ cond b [] (y ∷ to_last_slash ys)) ++ rest)
-          ≡ false) [ true ↦ rw k (and_false (x == 47)) | false ↦ h ]
+          ≡ false) [ true ↦ rw k (and-false (x == 47)) | false ↦ h ]
     ]
 
 abbrev merged_path : Option (List ℕ) → List ℕ → List ℕ → List ℕ
@@ -83,13 +69,13 @@ merged-rules : (scheme : List ℕ) (authority : Option (List ℕ)) (base path : 
 merged-rules scheme (Some a) [] path h k =
     elim (starts_with_slash path) as (λ b. starts_with_slash path ≡ b
     → path_rules (Some scheme) (Some a) (cond b path (47 ∷ path)) ≡ true) [
-      | true ↦ λ e. rw e (or_true (is_empty path))
+      | true ↦ λ e. rw e (or-true (is_empty path))
       | false ↦ λ _. refl
     ] refl
 merged-rules scheme (Some a) (y ∷ ys) path h k =
     elim (starts_with_slash path) as (λ b. starts_with_slash path ≡ b
     → path_rules (Some scheme) (Some a) (cond b path (to_last_slash (y ∷ ys) ++ path))
-    ≡ true) [ true ↦ λ e. rw e (or_true (is_empty path)) | false ↦ λ _. rw h h ] refl
+    ≡ true) [ true ↦ λ e. rw e (or-true (is_empty path)) | false ↦ λ _. rw h h ] refl
 merged-rules scheme None base path h k =
     elim (starts_with_slash path) as (λ b. starts_with_slash path ≡ b
     → path_rules (Some scheme) None (cond b path (to_last_slash base ++ path)) ≡ true) [

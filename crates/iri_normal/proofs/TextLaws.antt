@@ -1,48 +1,37 @@
--- Texts over a class, put together and cut at a slash.
-use Rattle.std.proofs.Common.{◌≡◌, ℕ, zero, suc, ◌+◌, ◌<◌, Bool, true, cond, ◌&&◌, List, [], ◌∷◌, ◌++◌, length, drop, get_or, refl, sym}
-use Rattle.std.proofs.Common.{◌∙◌, ap, subst, arith, length-append}
+-- Texts over a class, put together and cut at a delimiter.
+use Rattle.std.proofs.Common.{◌≡◌, ℕ, zero, suc, ◌<◌, Bool, true, cond, ◌&&◌, List, [], ◌∷◌, ◌++◌, length, drop, refl, sym}
+use Rattle.std.proofs.Common.{◌∙◌, ap, subst, arith, length-append, append-nil, false}
 use Rattle.std.specs.Prelude.{◌==◌}
 use Rattle.std.specs.Char.{is_ascii_hexdigit}
 use Rattle.std.specs.Str.{chars, IsUtf8, is_utf8}
-use Rattle.std.proofs.lemmas.Str.{is_utf8-from_IsUtf8, IsUtf8-append, IsUtf8-take, IsUtf8-drop, IsCharBoundary-after_ascii}
-use Rattle.std.proofs.lemmas.Str.{IsCharBoundary-from_drop, chars-append}
-use Rattle.std.proofs.Math.Seq.{get_or-append_seam, drop-append_seam, drop-append-add, take-append_seam}
+use lib.Utf8.{encode, scalars}
+use Rattle.std.proofs.lemmas.Str.{is_utf8-from_IsUtf8, IsUtf8-append, IsUtf8-take, chars-encodes}
+use Rattle.std.proofs.lemmas.Str.{IsCharBoundary-from_drop, chars-append, encode_ascii}
+use Rattle.std.proofs.Math.Seq.{drop-append_seam, take-append_seam}
+use Rattle.std.proofs.Math.Utf8.{low_scalar}
 use Rattle.iri_grammar.specs.Over.{over_from, over, text_over}
-use Rattle.iri_grammar.proofs.CutLaws.{both, by_test}
+use Rattle.iri_grammar.proofs.CutLaws.{both}
 use Rattle.iri_grammar.proofs.AuthorityTexts.{one_byte-utf8, text_over-utf8}
+use Rattle.iri_grammar.proofs.Delimiters.{text_after_delimiter}
 
--- what is over the class on both sides of a slash
-pub record Sides (p : ℕ → Bool) (n : ℕ) (xs ys : List ℕ) : Type 0 where
-  pub left : over_from p n xs ≡ true
-  pub slash : p 47 ≡ true
-  pub right : over_from p 0 ys ≡ true
-
-pub over-cut : (p : ℕ → Bool) (n : ℕ) (xs ys : List ℕ) → over_from p n (xs ++ 47 ∷ ys) ≡ true → Sides p n xs ys
+-- on both sides of a byte that is no digit of a triplet
+over-sides : (p : ℕ → Bool) (c n : ℕ) (xs ys : List ℕ) → is_ascii_hexdigit c ≡ false → over_from p n (xs ++ c ∷ ys) ≡ true
+    → (over_from p n xs ≡ true) × (over_from p 0 (c ∷ ys) ≡ true)
 unfolding over_from
-over-cut p zero [] ys h = let r = both (p 47) (over_from p 0 ys) h in record { left = refl; slash = r.0; right = r.1 }
-over-cut p (suc n) [] ys h = cc
-over-cut p zero (x ∷ xs) ys h =
-    by_test x 37 (λ b. (x == 37) ≡ b → cond b (over_from p 2 (xs ++ 47 ∷ ys)) (p x && over_from p 0 (xs ++ 47 ∷ ys)) ≡ true
-    → Sides p 0 (x ∷ xs) ys)
-    (λ _ e l. let r = over-cut p 2 xs ys l in record { left = rw e r.left; slash = r.slash; right = r.right })
-    (λ _ e l. let k = both (p x) (over_from p 0 (xs ++ 47 ∷ ys)) l in let r = over-cut p 0 xs ys k.1 in
-    record { left = rw (e, k.0) r.left; slash = r.slash; right = r.right })
-    refl h
-over-cut p (suc n) (x ∷ xs) ys h =
-    let k = both (is_ascii_hexdigit x) (over_from p n (xs ++ 47 ∷ ys)) h in let r = over-cut p n xs ys k.1 in
-    record { left = rw k.0 r.left; slash = r.slash; right = r.right }
+over-sides p c zero [] ys d h = (refl, h)
+over-sides p c (suc n) [] ys d h = let no : false ≡ true = sym (ap (λ b. b && over_from p n ys) d) ∙ h in cc
+over-sides p c zero (x ∷ xs) ys d h =
+    elim (x == 37) as (λ b. cond b (over_from p 2 (xs ++ c ∷ ys)) (p x && over_from p 0 (xs ++ c ∷ ys)) ≡ true
+    → (cond b (over_from p 2 xs) (p x && over_from p 0 xs) ≡ true) × (over_from p 0 (c ∷ ys) ≡ true)) [
+      | true ↦ λ k. over-sides p c 2 xs ys d k
+      | false ↦ λ k. let m = both (p x) (over_from p 0 (xs ++ c ∷ ys)) k in let r = over-sides p c 0 xs ys d m.1 in (rw m.0 r.0, r.1)
+    ] h
+over-sides p c (suc n) (x ∷ xs) ys d h = let m = both (is_ascii_hexdigit x) (over_from p n (xs ++ c ∷ ys)) h in
+    let r = over-sides p c n xs ys d m.1 in (rw m.0 r.0, r.1)
 
 -- ---- the same of bytes
-pub utf8-after : (c : ℕ) (xs ys : List ℕ) → c < 128 → IsUtf8 (xs ++ c ∷ ys) → IsUtf8 ys
-utf8-after c xs ys a u =
-    let bs = xs ++ c ∷ ys in
-    let at : get_or bs (length xs) 0 ≡ c = get_or-append_seam xs c ys 0 in
-    let l : length xs < length bs = omega (arith, length-append xs (c ∷ ys)) in
-    let d : drop (length xs + 1) bs ≡ ys = drop-append-add xs (c ∷ ys) 1 in
-    subst (λ z. IsUtf8 z) d (IsUtf8-drop bs (length xs + 1) u (IsCharBoundary-after_ascii bs (length xs) u l (omega arith)))
-
 pub utf8-from : (c : ℕ) (xs ys : List ℕ) → c < 128 → IsUtf8 (xs ++ c ∷ ys) → IsUtf8 (c ∷ ys)
-utf8-from c xs ys a u = IsUtf8-append (c ∷ []) ys (one_byte-utf8 c a) (utf8-after c xs ys a u)
+utf8-from c xs ys a u = IsUtf8-append (c ∷ []) ys (one_byte-utf8 c a) (text_after_delimiter c xs ys a u)
 
 pub utf8-prefix : (c : ℕ) (xs ys : List ℕ) → c < 128 → IsUtf8 (xs ++ c ∷ ys) → IsUtf8 xs
 utf8-prefix c xs ys a u =
@@ -52,12 +41,11 @@ utf8-prefix c xs ys a u =
     let edge = IsCharBoundary-from_drop bs (length xs) (omega arith) (subst (λ z. IsUtf8 z) (sym d) (utf8-from c xs ys a u)) in
     subst (λ z. IsUtf8 z) (take-append_seam xs (c ∷ ys)) (IsUtf8-take bs (length xs) u edge)
 
-chars-one_slash : chars (47 ∷ []) ≡ 47 ∷ []
-unfolding chars
-chars-one_slash = refl
-
-chars-slash : (ys : List ℕ) → chars (47 ∷ ys) ≡ 47 ∷ chars ys
-chars-slash ys = chars-append (47 ∷ []) ys (one_byte-utf8 47 (omega arith)) ∙ ap (λ z. z ++ chars ys) chars-one_slash
+pub chars-ascii : (c : ℕ) (rest : List ℕ) → c < 128 → chars (c ∷ rest) ≡ c ∷ chars rest
+chars-ascii c rest l =
+    let one : scalars (c ∷ []) ≡ true = rw (low_scalar c (omega arith)) refl in
+    let alone : chars (c ∷ []) ≡ c ∷ [] = ap chars (sym (append-nil (encode c) ∙ encode_ascii c l)) ∙ chars-encodes (c ∷ []) one in
+    chars-append (c ∷ []) rest (one_byte-utf8 c l) ∙ ap (λ cs. cs ++ chars rest) alone
 
 pub is_utf8-of : (p : ℕ → Bool) (xs : List ℕ) → IsUtf8 xs → over p (chars xs) ≡ true → text_over p xs ≡ true
 is_utf8-of p xs u h = rw (is_utf8-from_IsUtf8 xs u) h
@@ -82,12 +70,24 @@ pub point_over : (p : ℕ → Bool) → p 46 ≡ true → text_over p (46 ∷ []
 unfolding over_from chars
 point_over p h = is_utf8-of p (46 ∷ []) (one_byte-utf8 46 (omega arith)) (rw h refl)
 
+-- on both sides of an ASCII byte that is no digit of a triplet
+pub text_over-sides : (p : ℕ → Bool) (c : ℕ) (xs ys : List ℕ) → c < 128 → is_ascii_hexdigit c ≡ false → text_over p (xs ++ c ∷ ys) ≡ true
+    → (text_over p xs ≡ true) × (text_over p (c ∷ ys) ≡ true)
+text_over-sides p c xs ys l d h =
+    let u = text_over-utf8 p (xs ++ c ∷ ys) h in
+    let prefix = utf8-prefix c xs ys l u in
+    let e : chars (xs ++ c ∷ ys) ≡ chars xs ++ c ∷ chars ys =
+    chars-append xs (c ∷ ys) prefix ∙ ap (λ z. chars xs ++ z) (chars-ascii c ys l) in
+    let k = over-sides p c 0 (chars xs) (chars ys) d (ap (over p) (sym e) ∙ over-of p (xs ++ c ∷ ys) h) in (
+      is_utf8-of p xs prefix k.0,
+      is_utf8-of p (c ∷ ys) (utf8-from c xs ys l u) (ap (over p) (chars-ascii c ys l) ∙ k.1),
+    )
+
 pub text_over-cut : (p : ℕ → Bool) (xs ys : List ℕ) → text_over p (xs ++ 47 ∷ ys) ≡ true → TextSides p xs ys
+unfolding over_from
 text_over-cut p xs ys h =
-    let u = text_over-utf8 p (xs ++ 47 ∷ ys) h in
-    let prefix = utf8-prefix 47 xs ys (omega arith) u in
-    let back = utf8-after 47 xs ys (omega arith) u in
-    let e : chars (xs ++ 47 ∷ ys) ≡ chars xs ++ 47 ∷ chars ys =
-    chars-append xs (47 ∷ ys) prefix ∙ ap (λ z. chars xs ++ z) (chars-slash ys) in
-    let c = over-cut p 0 (chars xs) (chars ys) (subst (λ z. over_from p 0 z ≡ true) e (over-of p (xs ++ 47 ∷ ys) h)) in
-    record { left = is_utf8-of p xs prefix c.left; slash = slash_over p c.slash; right = is_utf8-of p ys back c.right }
+    let k = text_over-sides p 47 xs ys (omega arith) refl h in
+    let back : (p 47 && over p (chars ys)) ≡ true = ap (over p) (sym (chars-ascii 47 ys (omega arith))) ∙ over-of p (47 ∷ ys) k.1 in
+    let b = both (p 47) (over p (chars ys)) back in
+    let u = text_after_delimiter 47 xs ys (omega arith) (text_over-utf8 p (xs ++ 47 ∷ ys) h) in
+    record { left = k.0; slash = slash_over p b.0; right = is_utf8-of p ys u b.1 }

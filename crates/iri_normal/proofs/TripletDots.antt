@@ -1,9 +1,11 @@
 -- Triplet normal form keeps what is a dot segment.
-use Rattle.std.proofs.Common.{◌≡◌, ℕ, ◌+◌, ◌*◌, ◌<◌, Bool, true, false, cond, not, ◌&&◌, ◌||◌, List, [], ◌∷◌, ◌++◌, Option, Some, None}
+use Rattle.std.proofs.Common.{◌≡◌, ℕ, ◌+◌, ◌*◌, ◌<◌, true, false, cond, not, ◌&&◌, ◌||◌, List, [], ◌∷◌, ◌++◌, Option, Some, None}
 use Rattle.std.proofs.Common.{map, refl, sym, ◌∙◌, ap, subst, arith, append-nil, eqb-true}
 use Rattle.std.specs.Prelude.{◌==◌}
 use Rattle.std.specs.Char.{is_ascii_hexdigit, digit_value, to_ascii_uppercase, encode_utf8}
 use Rattle.std.proofs.lemmas.Bool.Decides.{nat_tests}
+use Rattle.std.proofs.lemmas.Bool.{not-true}
+use Rattle.std.proofs.lemmas.List.{map-id}
 use lib.Utf8.{scalar, encode}
 use Rattle.iri_grammar.specs.Classes.{Tests, IsSpec, unreserved, is_ascii_unreserved}
 use Rattle.iri_grammar.specs.Cut.{lacks}
@@ -59,8 +61,7 @@ no_point : (c : ℕ) → (c == 46) ≡ false → lacks 46 (encode_utf8 c) ≡ tr
 no_point c h = ap (lacks 46) (sym (append-nil (encode_utf8 c))) ∙ lacks-encodes 46 (c ∷ []) (omega arith) (lacks-other 46 c [] h refl)
 
 pub map_same : (xs : List ℕ) → map as_it_is xs ≡ xs
-map_same [] = refl
-map_same (x ∷ xs) = ap (λ ys. x ∷ ys) (map_same xs)
+map_same xs = map-id xs
 
 nothing_spelled : (sp os : List ℕ) → Spells sp os → os ≡ [] → sp ≡ []
 nothing_spelled sp os none e = refl
@@ -111,10 +112,6 @@ char-dot s c sp os xs k (more a b sp' os' p q m) e =
               (after_dot-plain g.lead (g.tail ++ pct s xs) (g.percent ∙ unreserved_percent s c k u) ∙ rw apart refl)
           | false ↦ λ _. lone-dot s a b (map to_ascii_uppercase sp' ++ pct s xs) p q far
         ] refl)
-      where
-        not-true : (b : Bool) → not b ≡ true → b ≡ false
-        not-true true h = cc
-        not-true false h = refl
 
 -- a dot in a triplet is a character
 lone-far : (a b : ℕ) (xs : List ℕ) → is_ascii_hexdigit a ≡ true → is_ascii_hexdigit b ≡ true → first_char (octets (37 ∷ a ∷ b ∷ xs)) ≡ None

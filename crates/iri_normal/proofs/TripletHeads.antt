@@ -3,6 +3,7 @@ use Rattle.std.proofs.Common.{◌≡◌, ℕ, ◌<◌, Bool, true, false, cond, 
 use Rattle.std.specs.Prelude.{◌==◌}
 use Rattle.std.specs.Char.{to_ascii_uppercase, encode_utf8}
 use Rattle.std.proofs.lemmas.Str.{len_utf8_bounds, length-encode}
+use Rattle.std.proofs.lemmas.Bool.{not-true}
 use Rattle.iri_grammar.specs.Classes.{Tests, IsSpec, unreserved}
 use Rattle.iri_grammar.specs.Cut.{lacks}
 use Rattle.iri_grammar.proofs.CutLaws.{both, by_test}
@@ -13,17 +14,10 @@ use Rattle.iri_percent.specs.Triplets.{as_it_is, pct}
 use Rattle.iri_percent.proofs.UnitLaws.{Spells, none, more}
 use Rattle.iri_percent.specs.Units.{octet, whole_triplets}
 use Rattle.iri_normal.proofs.TripletPaths.{encoded-lacks, slash-delimits}
+use Rattle.iri_normal.proofs.SlashLemmas.{no_slashes}
 
 pub head-apart : (x : ℕ) (xs : List ℕ) → lacks 47 (x ∷ xs) ≡ true → (x == 47) ≡ false
-head-apart x xs h = of_not (x == 47) (both (not (x == 47)) (lacks 47 xs) h).0
-  where
-    of_not : (b : Bool) → not b ≡ true → b ≡ false
-    of_not true k = cc
-    of_not false k = refl
-
-pub one-slash : (l : List ℕ) → starts_with_slash l ≡ false → starts_with_slashes l ≡ false
-one-slash [] h = refl
-one-slash (x ∷ xs) h = ap (λ b. b && starts_with_slash xs) h
+head-apart x xs h = not-true (x == 47) (both (not (x == 47)) (lacks 47 xs) h).0
 
 spelled-head : (sp os xs ys : List ℕ) → Spells sp os → 0 < length os → lacks 47 (map as_it_is os) ≡ true
     → starts_with_slash (map as_it_is os ++ ys) ≡ starts_with_slash (sp ++ xs)
@@ -64,5 +58,5 @@ pct-heads s (x ∷ xs) k w =
     let n : (x == 37) ≡ false = ap (λ y. y == 37) e in
     let r : whole_triplets xs ≡ true = sym (whole_plain x xs n) ∙ w in
     ap starts_with_slashes (normal_plain s as_it_is x xs n) ∙ (ap (λ y. (y == 47) && starts_with_slash (pct s xs)) e ∙ pct-head s xs k r))
-    (λ _ h. one-slash (pct s (x ∷ xs)) (pct-head s (x ∷ xs) k w ∙ h))
+    (λ _ h. no_slashes (pct s (x ∷ xs)) (pct-head s (x ∷ xs) k w ∙ h))
     refl

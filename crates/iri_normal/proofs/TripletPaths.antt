@@ -1,8 +1,9 @@
 -- Dot removal commutes with triplet normal form.
-use Rattle.std.proofs.Common.{◌≡◌, ℕ, ◌<◌, Bool, true, false, cond, not, ◌&&◌, List, [], ◌∷◌, ◌++◌, map, refl, sym, ◌∙◌, ap, subst, arith}
+use Rattle.std.proofs.Common.{◌≡◌, ℕ, ◌<◌, Bool, true, false, cond, not, List, [], ◌∷◌, ◌++◌, map, refl, sym, ◌∙◌, ap, subst, arith}
 use Rattle.std.proofs.Common.{append-nil}
 use Rattle.std.specs.Prelude.{◌==◌}
 use Rattle.std.specs.Char.{is_ascii_hexdigit, to_ascii_uppercase, encode_utf8}
+use Rattle.std.specs.List.{list_all}
 use Rattle.iri_grammar.specs.Classes.{Tests, IsSpec, unreserved, is_ascii_unreserved}
 use Rattle.iri_grammar.specs.Cut.{lacks, before, after}
 use Rattle.iri_grammar.proofs.CutLaws.{by_test, both, lacks-append, lacks-other, test_apart}
@@ -18,10 +19,9 @@ use Rattle.iri_percent.proofs.DelimiterLaws.{pct_delimiter, slash}
 use Rattle.iri_percent.proofs.NormalLaws.{normal_nil, normal_plain, normal_lone, normal_char}
 use Rattle.iri_percent.proofs.Reading.{Reading, done, plain, char, lone, read}
 use Rattle.iri_percent.proofs.Stability.{upper_hex}
-use Rattle.iri_normal.specs.Dots.{is_dot_segment}
-use Rattle.iri_normal.specs.DotRemoval.{is_two_dots, without_top, closed, remove_after, remove_dots, path_text, dots}
+use Rattle.iri_normal.specs.DotRemoval.{dots}
 use Rattle.iri_normal.proofs.PieceLaws.{all_lack, pieces-whole, pieces-slash, pieces-lack}
-use Rattle.iri_normal.proofs.OutputLaws.{left}
+use Rattle.iri_normal.proofs.OutputLaws.{KeepsSegments, dots-map}
 use Rattle.iri_normal.proofs.StableLaws.{unsplit, unsplit-pieces}
 use Rattle.iri_normal.proofs.TripletDots.{map_same, two_dots-pct, dot_segment-pct}
 
@@ -85,8 +85,7 @@ slash-delimits s k = record { delimiter = slash; ascii = omega arith; reserved =
 
 -- ---- the segments
 abbrev pub all_whole : List (List ℕ) → Bool
-all_whole [] = true
-all_whole (s ∷ ss) = whole_triplets s && all_whole ss
+all_whole ss = list_all whole_triplets ss
 
 digits-before : (xs : List ℕ) → two_digits xs ≡ true → two_digits (before 47 xs) ≡ true
 digits-before [] h = cc
@@ -133,53 +132,13 @@ pieces-pct s p k w =
     (subst (λ ps. all_whole ps ≡ true) (pieces_cut 47 p) (whole-pieces p w))))
 
 -- ---- removal
-top-map : (s : Tests) (st : List (List ℕ)) → without_top (map (pct s) st) ≡ map (pct s) (without_top st)
-top-map s [] = rw (normal_nil s as_it_is) refl
-top-map s (t ∷ []) = rw (normal_nil s as_it_is) refl
-top-map s (t ∷ u ∷ us) = refl
-
-left-map : (s : Tests) (two : Bool) (st : List (List ℕ)) → left two (map (pct s) st) ≡ map (pct s) (left two st)
-left-map s true st = top-map s st
-left-map s false st = refl
-
-closed-map : (s : Tests) (ss st : List (List ℕ)) → closed (map (pct s) ss) (map (pct s) st) ≡ map (pct s) (closed ss st)
-closed-map s [] st = rw (normal_nil s as_it_is) refl
-closed-map s (t ∷ ts) st = refl
-
-after-map : (s : Tests) (st ss : List (List ℕ)) → IsSpec s → all_whole ss ≡ true
-    → remove_after (map (pct s) st) (map (pct s) ss) ≡ map (pct s) (remove_after st ss)
-after-map s st [] k w = refl
-after-map s st (t ∷ ts) k w =
-    let l = both (whole_triplets t) (all_whole ts) w in
-    rw (dot_segment-pct s t k l.0, two_dots-pct s t k l.0)
-    (elim (is_dot_segment t) as (λ b. cond b (remove_after (closed (map (pct s) ts) (left (is_two_dots t) (map (pct s) st)))
-    (map (pct s) ts)) (remove_after (map (pct s) (t ∷ st)) (map (pct s) ts))
-    ≡ map (pct s) (cond b (remove_after (closed ts (left (is_two_dots t) st)) ts) (remove_after (t ∷ st) ts))) [
-      | true ↦ ap (λ o. remove_after (closed (map (pct s) ts) o) (map (pct s) ts)) (left-map s (is_two_dots t) st)
-          ∙ (ap (λ o. remove_after o (map (pct s) ts)) (closed-map s ts (left (is_two_dots t) st))
-          ∙ after-map s (closed ts (left (is_two_dots t) st)) ts k l.1)
-      | false ↦ after-map s (t ∷ st) ts k l.1
-    ])
-
-removed-map : (s : Tests) (ss : List (List ℕ)) → IsSpec s → all_whole ss ≡ true
-    → remove_dots (map (pct s) ss) ≡ map (pct s) (remove_dots ss)
-removed-map s [] k w = rw (normal_nil s as_it_is) refl
-removed-map s (t ∷ ts) k w =
-    let l = both (whole_triplets t) (all_whole ts) w in
-    rw (dot_segment-pct s t k l.0)
-    (elim (is_dot_segment t) as (λ b. cond b (remove_dots (map (pct s) ts)) (remove_after (map (pct s) (t ∷ [])) (map (pct s) ts))
-    ≡ map (pct s) (cond b (remove_dots ts) (remove_after (t ∷ []) ts))) [
-      | true ↦ removed-map s ts k l.1
-      | false ↦ after-map s (t ∷ []) ts k l.1
-    ])
-
-text-map : (s : Tests) (st : List (List ℕ)) → path_text (map (pct s) st) ≡ pct s (path_text st)
-text-map s [] = sym (normal_nil s as_it_is)
-text-map s (t ∷ []) = refl
-text-map s (t ∷ u ∷ us) = ap (λ xs. xs ++ 47 ∷ pct s t) (text-map s (u ∷ us)) ∙ sym (pct_delimiter s 47 (path_text (u ∷ us)) t slash)
-
 pub dots-pct : (s : Tests) (p : List ℕ) → IsSpec s → whole_triplets p ≡ true → dots (pct s p) ≡ pct s (dots p)
-unfolding dots
-dots-pct s p k w =
-    ap (λ ps. path_text (remove_dots ps)) (pieces-pct s p k w)
-    ∙ (ap path_text (removed-map s (pieces 47 p) k (whole-pieces p w)) ∙ text-map s (remove_dots (pieces 47 p)))
+dots-pct s p k w = dots-map whole_triplets (pct s) keeps p (pieces-pct s p k w) (whole-pieces p w)
+  where
+    keeps : KeepsSegments whole_triplets (pct s)
+    keeps = record {
+      nothing = normal_nil s as_it_is;
+      slash = λ a t. pct_delimiter s 47 a t slash;
+      dot = λ t h. dot_segment-pct s t k h;
+      two = λ t h. two_dots-pct s t k h;
+    }

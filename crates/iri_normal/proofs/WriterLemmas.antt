@@ -3,7 +3,7 @@ use Rattle.std.proofs.Common.{◌≡◌, ℕ, Bool, true, false, ◌||◌, List,
 use Rattle.std.proofs.Common.{arith}
 use Rattle.iri_grammar.specs.Classes.{Tests}
 use Rattle.iri_grammar.specs.Parts.{is_empty}
-use Rattle.iri_normal.specs.PathForm.{in_form}
+use Rattle.iri_normal.specs.inside.PathForm.{in_form}
 use Rattle.iri_normal.specs.Target.{ends_at_slash}
 use Rattle.iri_normal.proofs.NormalLemmas.{pct_two, pct_nil, pct_parts}
 

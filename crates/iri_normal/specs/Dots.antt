@@ -2,14 +2,14 @@
 use Rattle.std.specs.Prelude.{ℕ, Bool, true, false, cond, ◌&&◌, ◌||◌, ◌==◌, List, [], ◌∷◌, Option, Some, None}
 use Rattle.iri_grammar.specs.Pieces.{pieces}
 use Rattle.iri_grammar.specs.Characters.{dot, percent_sign, slash}
+use Rattle.iri_grammar.specs.Seen.{goes_on_as_dot}
 
 -- what follows a dot at the start, where there is one, in any spelling
 abbrev pub after_dot : List ℕ → Option (List ℕ)
 after_dot [] = None
 after_dot (x ∷ []) = cond (x == dot) (Some []) None
 after_dot (x ∷ y ∷ []) = cond (x == dot) (Some (y ∷ [])) None
-after_dot (x ∷ y ∷ z ∷ xs) = cond (x == dot) (Some (y ∷ z ∷ xs))
-    (cond (x == percent_sign && y == 50 && (z == 69 || z == 101)) (Some xs) None)
+after_dot (x ∷ y ∷ z ∷ xs) = cond (x == dot) (Some (y ∷ z ∷ xs)) (cond (x == percent_sign && goes_on_as_dot (y ∷ z ∷ xs)) (Some xs) None)
 
 -- nothing, or one dot more
 abbrev pub is_dot_or_nothing : List ℕ → Bool

@@ -4,8 +4,6 @@ pub mod LowerCase
 pub mod Modes
 pub mod Slices
 pub mod DotRemoval
-pub mod Kept
-pub mod PathForm
 pub mod Guard
 pub mod NormalForm
 pub mod Answers

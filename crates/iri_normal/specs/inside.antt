@@ -6,3 +6,5 @@ pub mod Written
 pub mod CutText
 pub mod NextDots
 pub mod Unchanged
+pub mod Kept
+pub mod PathForm

@@ -5,7 +5,7 @@ ghost use Rattle.iri_grammar.specs.Parts.{starts_with_slash, starts_with_slashes
 ghost use Rattle.iri_normal.specs.DotRemoval.{dots};
 ghost use Rattle.iri_normal.specs.Guard.{guard};
 ghost use Rattle.iri_normal.specs.NormalForm.{is_unresolvable, normal_path, path_in, plain_path, preserved_path};
-ghost use Rattle.iri_normal.specs.PathForm.{in_form};
+ghost use Rattle.iri_normal.specs.inside.PathForm.{in_form};
 ghost use Rattle.iri_normal.specs.Slices.{merged, slices};
 ghost use Rattle.iri_text.specs.Shown.{Shows};
 

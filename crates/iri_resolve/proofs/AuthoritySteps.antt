@@ -1,9 +1,11 @@
 -- Changes of an authority keep it an authority, and its normal form.
 use Rattle.std.proofs.Common.{◌≡◌, ℕ, ◌-◌, ◌<◌, Bool, true, false, cond, not, ◌||◌, List, [], ◌∷◌, ◌++◌, Option, Some, None, refl, sym}
-use Rattle.std.proofs.Common.{◌∙◌, ap, arith}
+use Rattle.std.proofs.Common.{◌∙◌, ap, arith, subst}
 use Rattle.std.specs.Prelude.{◌==◌, nat_lt, take}
 use Rattle.std.specs.Char.{is_ascii_hexdigit, is_ascii_uppercase, to_ascii_lowercase}
 use Rattle.std.proofs.lemmas.Bool.Decides.{nat_tests}
+use Rattle.std.proofs.Math.Bool.{or-true}
+use Rattle.std.proofs.lemmas.Bool.{not-false}
 use Rattle.iri_grammar.specs.Authority.{AuthorityParts, FitsAuthority, authority_parts, recompose_authority, is_authority}
 use Rattle.iri_grammar.proofs.AuthorityLaws.{reading_is, passes}
 use Rattle.iri_grammar.specs.Classes.{Tests, IsSpec, unreserved, userinfo_char, reg_name_char, is_ascii_unreserved}
@@ -26,7 +28,7 @@ use Rattle.iri_resolve.specs.Changes.{with_small_host_letter}
 use Rattle.iri_resolve.specs.Steps.{placed, in_part, host_start, in_host, in_userinfo_or_host, without_empty_port}
 use Rattle.iri_resolve.specs.Steps.{with_small_letter_in_host}
 use Rattle.iri_percent.proofs.SeamLaws.{leads, normal-seam}
-use Rattle.iri_resolve.proofs.ByteLaws.{ByteChange, small_host_letter, IsAsGood, byte_change-over}
+use Rattle.iri_resolve.proofs.ByteLaws.{ByteChange, small_host_letter, IsAsGood, byte_change-over, capital_low}
 use Rattle.iri_resolve.proofs.ChangeKeeps.{TripletChange}
 use Rattle.iri_percent.proofs.ClassLaws.{in_reg_name}
 use Rattle.iri_percent.proofs.ClassLaws.{in_userinfo}
@@ -47,10 +49,6 @@ authority-kept s a b k c = (
 )
 
 -- ---- hosts
-or_true : (b : Bool) → (b || true) ≡ true
-or_true true = refl
-or_true false = refl
-
 -- whether a host is ASCII shows in its form in lower case
 pub ascii-same : (s : Tests) (h g : List ℕ) → IsSpec s → whole_triplets h ≡ true → whole_triplets g ≡ true
     → normal s to_ascii_lowercase g ≡ normal s to_ascii_lowercase h → is_ascii_host g ≡ is_ascii_host h
@@ -78,7 +76,7 @@ host-kept s change i h g k c e t =
       | false ↦ λ _ r. r
     ] refl t in
     let good : is_host s g ≡ true = rw (c.over (reg_name_char s) i h g (reg_name_percent s k) (in_reg_name s) e name)
-    (or_true (is_ip_literal g)) in
+    (or-true (is_ip_literal g)) in
     let w = host-whole s h k t in
     let v = host-whole s g k good in
     (good, host-form s h g k w v (c.form to_ascii_lowercase i h g e w v) (λ _. c.form as_it_is i h g e w v))
@@ -117,7 +115,16 @@ pub in_part-is : (change : List ℕ → Option (List ℕ)) (o : Option (List ℕ
 in_part-is change None v h = cc
 in_part-is change (Some u) v h = (u, refl, h)
 
-in_host-is : (change : ℕ → List ℕ → Option (List ℕ)) (i : ℕ) (p : AuthorityParts) (b : List ℕ) → in_host change i p ≡ Some b
+-- what holds of each text that is put holds of what was placed
+pub placed-gives : {X : Type 0} (P : X → Type 0) (put : List ℕ → X) (o : Option (List ℕ)) (x : X) → placed put o ≡ Some x
+    → ((b : List ℕ) → o ≡ Some b → P (put b)) → P x
+placed-gives P put o x h go = let r = placed-is put o x h in subst P r.2 (go r.0 r.1)
+
+pub part-gives : {X : Type 0} (P : X → Type 0) (put : List ℕ → X) (change : List ℕ → Option (List ℕ)) (o : Option (List ℕ)) (x : X)
+    → placed put (in_part change o) ≡ Some x → ((a b : List ℕ) → o ≡ Some a → change a ≡ Some b → P (put b)) → P x
+part-gives P put change o x h go = placed-gives P put (in_part change o) x h (λ b e. let q = in_part-is change o b e in go q.0 b q.1 q.2)
+
+pub in_host-is : (change : ℕ → List ℕ → Option (List ℕ)) (i : ℕ) (p : AuthorityParts) (b : List ℕ) → in_host change i p ≡ Some b
     → (g : List ℕ) × (change (i - host_start p) p.host ≡ Some g) × (recompose_authority (record p { host = g }) ≡ b)
 in_host-is change i p b h =
     elim (nat_lt i (host_start p)) as (λ v. cond v None
@@ -135,10 +142,8 @@ triplets-changed s change i a b k c t h =
     elim (nat_lt i (host_start p)) as (λ v. cond v
     (placed (λ u. recompose_authority (record p { userinfo = Some u })) (in_part (change i) p.userinfo)) (in_host change i p) ≡ Some b
     → AuthorityChange s a b) [
-      | true ↦ λ m.
-          let r = placed-is (λ u. recompose_authority (record p { userinfo = Some u })) (in_part (change i) p.userinfo) b m in
-          let q = in_part-is (change i) p.userinfo r.0 r.1 in
-          userinfo-case s change i a b q.0 r.0 k c f q.1 q.2 r.2
+      | true ↦ λ m. part-gives (AuthorityChange s a) (λ u. recompose_authority (record p { userinfo = Some u })) (change i) p.userinfo b m
+          (λ u v o e. userinfo-case s change i a (recompose_authority (record p { userinfo = Some v })) u v k c f o e refl)
       | false ↦ λ m.
           let r = in_host-is change i p b m in
           let q = host-kept s change (i - host_start p) p.host r.0 k c r.1 f.host in
@@ -149,29 +154,14 @@ triplets-changed s change i a b k c t h =
 capital-good : (s : Tests) (x : ℕ) → is_ascii_uppercase x ≡ true → IsAsGood (reg_name_char s) x (to_ascii_lowercase x)
 unfolding is_ascii_unreserved unreserved
 capital-good s x h = record {
-  low = low x h;
-  still_low = still_low x h;
-  plain = plain x h;
-  still_plain = still_plain x h;
-  digit = λ d. digit x h d;
+  low = (capital_low x h).0;
+  still_low = (capital_low x h).1;
+  plain = grind (arith, nat_tests);
+  still_plain = grind (arith, nat_tests);
+  digit = λ d. grind (arith, nat_tests);
   class = λ _. in_reg_name s (to_ascii_lowercase x) (ap (λ b. b || s.ucs (to_ascii_lowercase x)) (letter x h));
 }
   where
-    low : (x : ℕ) → is_ascii_uppercase x ≡ true → x < 128
-    low x h = grind (arith, nat_tests)
-
-    still_low : (x : ℕ) → is_ascii_uppercase x ≡ true → to_ascii_lowercase x < 128
-    still_low x h = grind (arith, nat_tests)
-
-    plain : (x : ℕ) → is_ascii_uppercase x ≡ true → (x == 37) ≡ false
-    plain x h = grind (arith, nat_tests)
-
-    still_plain : (x : ℕ) → is_ascii_uppercase x ≡ true → (to_ascii_lowercase x == 37) ≡ false
-    still_plain x h = grind (arith, nat_tests)
-
-    digit : (x : ℕ) → is_ascii_uppercase x ≡ true → is_ascii_hexdigit x ≡ true → is_ascii_hexdigit (to_ascii_lowercase x) ≡ true
-    digit x h d = grind (arith, nat_tests)
-
     letter : (x : ℕ) → is_ascii_uppercase x ≡ true → is_ascii_unreserved (to_ascii_lowercase x) ≡ true
     letter x h = grind (arith, nat_tests)
 
@@ -181,10 +171,6 @@ lowered-changed (y ∷ a) b x = ap (λ ys. to_ascii_lowercase y ∷ ys) (lowered
 
 pub lowered-change : (i : ℕ) (t u : List ℕ) → ByteChange is_ascii_uppercase to_ascii_lowercase i t u → lowered u ≡ lowered t
 lowered-change i t u c = ap lowered c.new ∙ lowered-changed (take i t) c.back c.byte ∙ ap lowered (sym c.old)
-
-not-false : (b : Bool) → not b ≡ false → b ≡ true
-not-false true h = refl
-not-false false h = cc
 
 letter-form : (s : Tests) (a b : List ℕ) (x : ℕ) → whole_triplets a ≡ true → is_ascii_uppercase x ≡ true
     → normal s to_ascii_lowercase (a ++ to_ascii_lowercase x ∷ b) ≡ normal s to_ascii_lowercase (a ++ x ∷ b)
@@ -206,7 +192,7 @@ letter-kept s i h g k m o =
     → is_host s g ≡ true) [
       | true ↦ λ l _. rw (sym (literal-lower g) ∙ ap is_ip_literal (lowered-change i h g c.change) ∙ literal-lower h ∙ l) refl
       | false ↦ λ _ r. rw (byte_change-over (reg_name_char s) is_ascii_uppercase to_ascii_lowercase i h g (capital-good s) c.change r)
-          (or_true (is_ip_literal g))
+          (or-true (is_ip_literal g))
     ] refl o in (
       good,
       ap (normal s to_ascii_lowercase) c.change.new

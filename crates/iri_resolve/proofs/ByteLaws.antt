@@ -1,16 +1,18 @@
 -- Changes of one byte: what stays, and the class of the text.
 use Rattle.std.proofs.Common.{◌≡◌, ℕ, zero, suc, ◌<◌, Bool, true, false, cond, ◌&&◌, List, [], ◌∷◌, ◌++◌, Some, None, refl, sym, ◌∙◌, ap}
-use Rattle.std.proofs.Common.{arith, append-nil}
+use Rattle.std.proofs.Common.{arith, append-nil, length}
 use Rattle.std.specs.Prelude.{◌==◌, nat_lt, take, drop, slice_index, slice_set}
 use Rattle.std.specs.Char.{is_ascii_hexdigit, is_ascii_uppercase, to_ascii_lowercase, to_ascii_uppercase}
 use Rattle.std.specs.Str.{chars}
-use lib.Utf8.{encode, scalar, scalars}
-use Rattle.std.proofs.lemmas.Str.{IsUtf8-append, chars-append, chars-encodes, encode_ascii}
+use Rattle.std.proofs.lemmas.Str.{IsUtf8-append, chars-append}
 use Rattle.std.proofs.lemmas.Bool.Decides.{nat_tests}
+use Rattle.std.proofs.lemmas.Option.{cond_some}
 use Rattle.iri_grammar.proofs.AuthorityTexts.{text_over-utf8, delimited-utf8, one_byte-utf8}
 use Rattle.iri_grammar.proofs.CutLaws.{both}
 use Rattle.iri_grammar.specs.Over.{over_from, over, text_over}
-use Rattle.iri_normal.proofs.TextLaws.{utf8-prefix, utf8-from, utf8-after, is_utf8-of, over-of}
+use Rattle.iri_grammar.proofs.Units.{hex_is_ascii}
+use Rattle.iri_grammar.proofs.Delimiters.{text_after_delimiter}
+use Rattle.iri_normal.proofs.TextLaws.{utf8-prefix, is_utf8-of, over-of, chars-ascii}
 use Rattle.iri_resolve.specs.Changes.{is_in_triplet, is_small_digit, with_small_letter, with_small_host_letter, with_capital_digit}
 
 -- ---- one byte
@@ -22,16 +24,21 @@ pub record ByteChange (test : ℕ → Bool) (f : ℕ → ℕ) (i : ℕ) (t u : L
   pub old : t ≡ take i t ++ byte ∷ back
   pub new : u ≡ take i t ++ f byte ∷ back
 
-pub cut : (i : ℕ) (t : List ℕ) (y : ℕ) → nat_lt 0 (slice_index t i) ≡ true
+pub in_text : (i : ℕ) (t : List ℕ) → nat_lt 0 (slice_index t i) ≡ true → i < length t
+in_text zero [] h = cc
+in_text (suc i) [] h = cc
+in_text zero (x ∷ xs) h = omega arith
+in_text (suc i) (x ∷ xs) h = let l = in_text i xs h in omega arith
+
+pub cut_at : (i : ℕ) (t : List ℕ) (y : ℕ) → i < length t
     → (t ≡ take i t ++ slice_index t i ∷ drop (suc i) t) × (slice_set t i y ≡ take i t ++ y ∷ drop (suc i) t)
-cut zero [] y h = cc
-cut (suc i) [] y h = cc
-cut zero (x ∷ xs) y h = (refl, refl)
-cut (suc i) (x ∷ xs) y h = let r = cut i xs y h in (ap (λ z. x ∷ z) r.0, ap (λ z. x ∷ z) r.1)
+cut_at i [] y h = absurd (omega arith)
+cut_at zero (x ∷ xs) y h = (refl, refl)
+cut_at (suc i) (x ∷ xs) y h = let r = cut_at i xs y (omega arith) in (ap (λ z. x ∷ z) r.0, ap (λ z. x ∷ z) r.1)
 
 changed : (test : ℕ → Bool) (f : ℕ → ℕ) (i : ℕ) (t u : List ℕ) → nat_lt 0 (slice_index t i) ≡ true → test (slice_index t i) ≡ true
     → slice_set t i (f (slice_index t i)) ≡ u → ByteChange test f i t u
-changed test f i t u h p e = let c = cut i t (f (slice_index t i)) h in
+changed test f i t u h p e = let c = cut_at i t (f (slice_index t i)) (in_text i t h) in
     record { byte = slice_index t i; back = drop (suc i) t; passes = p; old = c.0; new = sym e ∙ c.1 }
 
 pub capital_some : (x : ℕ) → is_ascii_uppercase x ≡ true → nat_lt 0 x ≡ true
@@ -40,16 +47,17 @@ capital_some x h = grind (arith, nat_tests)
 pub digit_some : (x : ℕ) → is_small_digit x ≡ true → nat_lt 0 x ≡ true
 digit_some x h = grind (arith, nat_tests)
 
+pub capital_low : (x : ℕ) → is_ascii_uppercase x ≡ true → (x < 128) × (to_ascii_lowercase x < 128)
+capital_low x h = (grind (arith, nat_tests), grind (arith, nat_tests))
+
+pub digit_low : (x : ℕ) → is_small_digit x ≡ true → (x < 128) × (to_ascii_uppercase x < 128)
+digit_low x h = (grind (arith, nat_tests), grind (arith, nat_tests))
+
 pub small_letter : (i : ℕ) (t u : List ℕ) → with_small_letter i t ≡ Some u → ByteChange is_ascii_uppercase to_ascii_lowercase i t u
 unfolding with_small_letter
 small_letter i t u h =
-    elim (is_ascii_uppercase (slice_index t i)) as (λ b. is_ascii_uppercase (slice_index t i) ≡ b
-    → cond b (Some (slice_set t i (to_ascii_lowercase (slice_index t i)))) None ≡ Some u
-    → ByteChange is_ascii_uppercase to_ascii_lowercase i t u) [
-      | true ↦ λ e k. let same : slice_set t i (to_ascii_lowercase (slice_index t i)) ≡ u = cc in
-          changed is_ascii_uppercase to_ascii_lowercase i t u (capital_some (slice_index t i) e) e same
-      | false ↦ λ _ k. cc
-    ] refl h
+    let r = cond_some (is_ascii_uppercase (slice_index t i)) (slice_set t i (to_ascii_lowercase (slice_index t i))) u h in
+    changed is_ascii_uppercase to_ascii_lowercase i t u (capital_some (slice_index t i) r.0) r.0 r.1
 
 -- such a change, and where it stands among the triplets
 pub record PlacedChange (inside : Bool) (test : ℕ → Bool) (f : ℕ → ℕ) (i : ℕ) (t u : List ℕ) : Type 0 where
@@ -69,15 +77,9 @@ small_host_letter i t u h =
 pub capital_digit : (i : ℕ) (t u : List ℕ) → with_capital_digit i t ≡ Some u → PlacedChange true is_small_digit to_ascii_uppercase i t u
 unfolding with_capital_digit
 capital_digit i t u h =
-    elim (is_in_triplet i t && is_small_digit (slice_index t i)) as (λ b. (is_in_triplet i t && is_small_digit (slice_index t i)) ≡ b
-    → cond b (Some (slice_set t i (to_ascii_uppercase (slice_index t i)))) None ≡ Some u
-    → PlacedChange true is_small_digit to_ascii_uppercase i t u) [
-      | true ↦ λ e k.
-          let p = both (is_in_triplet i t) (is_small_digit (slice_index t i)) e in
-          let same : slice_set t i (to_ascii_uppercase (slice_index t i)) ≡ u = cc in
-          record { place = p.0; change = changed is_small_digit to_ascii_uppercase i t u (digit_some (slice_index t i) p.1) p.1 same }
-      | false ↦ λ _ k. cc
-    ] refl h
+    let r = cond_some (is_in_triplet i t && is_small_digit (slice_index t i)) (slice_set t i (to_ascii_uppercase (slice_index t i))) u h in
+    let p = both (is_in_triplet i t) (is_small_digit (slice_index t i)) r.0 in
+    record { place = p.0; change = changed is_small_digit to_ascii_uppercase i t u (digit_some (slice_index t i) p.1) p.1 r.1 }
 
 -- ---- the class
 -- a byte y that may stand where x stands
@@ -105,21 +107,12 @@ over-changed p x y g zero (z ∷ zs) ys h =
 over-changed p x y g (suc n) (z ∷ zs) ys h =
     let m = both (is_ascii_hexdigit z) (over_from p n (zs ++ x ∷ ys)) h in rw m.0 (over-changed p x y g n zs ys m.1)
 
-pub chars-ascii : (c : ℕ) (rest : List ℕ) → c < 128 → chars (c ∷ rest) ≡ c ∷ chars rest
-chars-ascii c rest l =
-    let one : scalars (c ∷ []) ≡ true = rw (low_scalar c l) refl in
-    let alone : chars (c ∷ []) ≡ c ∷ [] = ap chars (sym (append-nil (encode c) ∙ encode_ascii c l)) ∙ chars-encodes (c ∷ []) one in
-    chars-append (c ∷ []) rest (one_byte-utf8 c l) ∙ ap (λ cs. cs ++ chars rest) alone
-  where
-    low_scalar : (c : ℕ) → c < 128 → scalar c ≡ true
-    low_scalar c h = grind (arith, nat_tests)
-
 pub text_over-changed : (p : ℕ → Bool) (x y : ℕ) (a b : List ℕ) → IsAsGood p x y → text_over p (a ++ x ∷ b) ≡ true
     → text_over p (a ++ y ∷ b) ≡ true
 text_over-changed p x y a b g h =
     let u = text_over-utf8 p (a ++ x ∷ b) h in
     let prefix = utf8-prefix x a b g.low u in
-    let back = utf8-after x a b g.low u in
+    let back = text_after_delimiter x a b g.low u in
     let old : chars (a ++ x ∷ b) ≡ chars a ++ x ∷ chars b = chars-append a (x ∷ b) prefix ∙ ap (λ z. chars a ++ z) (chars-ascii x b g.low) in
     let new : chars (a ++ y ∷ b) ≡ chars a ++ y ∷ chars b =
     chars-append a (y ∷ b) prefix ∙ ap (λ z. chars a ++ z) (chars-ascii y b g.still_low) in
@@ -131,50 +124,18 @@ pub byte_change-over : (p test : ℕ → Bool) (f : ℕ → ℕ) (i : ℕ) (t u 
 byte_change-over p test f i t u g c h =
     ap (text_over p) c.new ∙ text_over-changed p c.byte (f c.byte) (take i t) c.back (g c.byte c.passes) (ap (text_over p) (sym c.old) ∙ h)
 
--- ---- a triplet in a text over a class
-over-percent : (p : ℕ → Bool) (n : ℕ) (xs ys : List ℕ) → over_from p n (xs ++ 37 ∷ ys) ≡ true
-    → (over_from p n xs ≡ true) × (over_from p 0 (37 ∷ ys) ≡ true)
-unfolding over_from
-over-percent p zero [] ys h = (refl, h)
-over-percent p (suc n) [] ys h = cc
-over-percent p zero (x ∷ xs) ys h =
-    elim (x == 37) as (λ b. cond b (over_from p 2 (xs ++ 37 ∷ ys)) (p x && over_from p 0 (xs ++ 37 ∷ ys)) ≡ true
-    → (cond b (over_from p 2 xs) (p x && over_from p 0 xs) ≡ true) × (over_from p 2 ys ≡ true)) [
-      | true ↦ λ k. over-percent p 2 xs ys k
-      | false ↦ λ k. let m = both (p x) (over_from p 0 (xs ++ 37 ∷ ys)) k in let r = over-percent p 0 xs ys m.1 in (rw m.0 r.0, r.1)
-    ] h
-over-percent p (suc n) (x ∷ xs) ys h = let m = both (is_ascii_hexdigit x) (over_from p n (xs ++ 37 ∷ ys)) h in
-    let r = over-percent p n xs ys m.1 in (rw m.0 r.0, r.1)
-
--- on both sides of a `%`
-pub text_over-percent : (p : ℕ → Bool) (a r : List ℕ) → text_over p (a ++ 37 ∷ r) ≡ true
-    → (text_over p a ≡ true) × (text_over p (37 ∷ r) ≡ true)
-text_over-percent p a r h =
-    let u = text_over-utf8 p (a ++ 37 ∷ r) h in
-    let prefix = utf8-prefix 37 a r (omega arith) u in
-    let e : chars (a ++ 37 ∷ r) ≡ chars a ++ 37 ∷ chars r =
-    chars-append a (37 ∷ r) prefix ∙ ap (λ z. chars a ++ z) (chars-ascii 37 r (omega arith)) in
-    let k = over-percent p 0 (chars a) (chars r) (ap (over p) (sym e) ∙ over-of p (a ++ 37 ∷ r) h) in (
-      is_utf8-of p a prefix k.0,
-      is_utf8-of p (37 ∷ r) (utf8-from 37 a r (omega arith) u)
-          (ap (over p) (chars-ascii 37 r (omega arith)) ∙ k.1),
-    )
-
--- after a triplet
+-- ---- after a triplet in a text over a class
 pub text_over-after : (p : ℕ → Bool) (a b : ℕ) (r : List ℕ) → is_ascii_hexdigit a ≡ true → is_ascii_hexdigit b ≡ true
     → text_over p (37 ∷ a ∷ b ∷ r) ≡ true → text_over p r ≡ true
 unfolding over_from
 text_over-after p a b r ha hb h =
-    let la = digit_below a ha in
-    let lb = digit_below b hb in
+    let la = hex_is_ascii a ha in
+    let lb = hex_is_ascii b hb in
     let u = text_over-utf8 p (37 ∷ a ∷ b ∷ r) h in
     let e : chars (37 ∷ a ∷ b ∷ r) ≡ 37 ∷ a ∷ b ∷ chars r =
     chars-ascii 37 (a ∷ b ∷ r) (omega arith) ∙ ap (λ z. 37 ∷ z) (chars-ascii a (b ∷ r) la ∙ ap (λ z. a ∷ z) (chars-ascii b r lb)) in
     let k : (is_ascii_hexdigit a && (is_ascii_hexdigit b && over_from p 0 (chars r))) ≡ true =
     ap (over p) (sym e) ∙ over-of p (37 ∷ a ∷ b ∷ r) h in
-    is_utf8-of p r (utf8-after b (37 ∷ a ∷ []) r lb u)
+    is_utf8-of p r (text_after_delimiter b (37 ∷ a ∷ []) r lb u)
     (both (is_ascii_hexdigit b) (over_from p 0 (chars r))
     (both (is_ascii_hexdigit a) (is_ascii_hexdigit b && over_from p 0 (chars r)) k).1).1
-  where
-    digit_below : (x : ℕ) → is_ascii_hexdigit x ≡ true → x < 128
-    digit_below x h = grind (arith, nat_tests)

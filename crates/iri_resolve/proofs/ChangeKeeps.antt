@@ -1,9 +1,11 @@
 -- What a change of triplets keeps.
 use Rattle.std.proofs.Common.{◌≡◌, ℕ, zero, suc, ◌<◌, length, Bool, true, false, not, ◌&&◌, ◌||◌, List, [], ◌∷◌, ◌++◌, Option, Some, None, refl, sym, ◌∙◌, ap}
-use Rattle.std.proofs.Common.{arith, append-nil}
+use Rattle.std.proofs.Common.{arith, append-nil, length-append}
 use Rattle.std.specs.Prelude.{◌==◌, take}
 use Rattle.std.specs.Char.{encode_utf8}
 use Rattle.std.proofs.lemmas.Bool.Decides.{nat_tests}
+use Rattle.std.proofs.lemmas.Bool.{not-true}
+use Rattle.std.proofs.lemmas.List.{length-take}
 use Rattle.iri_grammar.specs.Classes.{Tests, IsSpec, unreserved}
 use Rattle.iri_grammar.specs.Cut.{lacks}
 use Rattle.iri_grammar.proofs.CutBytes.{lacks-encodes}
@@ -15,6 +17,7 @@ use Rattle.iri_percent.specs.Triplets.{normal}
 use Rattle.iri_percent.proofs.UnitLaws.{encode_bytes}
 use Rattle.iri_percent.proofs.WholeLaws.{lacks-whole}
 use Rattle.iri_normal.proofs.TripletPaths.{slash-delimits}
+use Rattle.iri_normal.proofs.OutputLaws.{lacks_there}
 use Rattle.iri_resolve.specs.Changes.{is_small_digit, with_capital_digit, with_decoded}
 use Rattle.iri_resolve.proofs.ByteLaws.{capital_digit}
 use Rattle.iri_resolve.proofs.ChangeLaws.{digit-normal, digit-over, decoding, decoded-normal, decoded-over, some_triplets}
@@ -42,10 +45,6 @@ pub record TripletChange (s : Tests) (change : ℕ → List ℕ → Option (List
   pub inside : (i : ℕ) (t u : List ℕ) → change i t ≡ Some u → i < length t
 
 -- ---- a text with a `%`
-some-percent : (a r : List ℕ) → lacks 37 (a ++ 37 ∷ r) ≡ false
-some-percent [] r = refl
-some-percent (x ∷ a) r = elim (x == 37) as (λ b. (not b && lacks 37 (a ++ 37 ∷ r)) ≡ false) [ true ↦ refl | false ↦ some-percent a r ]
-
 percent-inside : (t : List ℕ) (i : ℕ) → not (whole_triplets (take i t)) ≡ true → lacks 37 (take i t) ≡ false
 percent-inside t i h =
     elim (lacks 37 (take i t)) as (λ b. lacks 37 (take i t) ≡ b
@@ -58,10 +57,7 @@ prefix-lacks (x ∷ a) r h = elim (x == 37) as (λ b. (not b && lacks 37 a) ≡ 
 
 -- ---- the place lies in the text
 lies-inside : (i : ℕ) (t : List ℕ) (y : ℕ) (r : List ℕ) → t ≡ take i t ++ y ∷ r → i < length t
-lies-inside zero [] y r e = cc
-lies-inside zero (x ∷ xs) y r e = omega arith
-lies-inside (suc i) [] y r e = cc
-lies-inside (suc i) (x ∷ xs) y r e = let tail : xs ≡ take i xs ++ y ∷ r = cc in let l = lies-inside i xs y r tail in omega arith
+lies-inside i t y r e = omega (arith, ap length e, length-append (take i t) (y ∷ r), length-take i t)
 
 pub decode-inside : (s : Tests) (i : ℕ) (t u : List ℕ) → with_decoded s i t ≡ Some u → i < length t
 decode-inside s i t u h =
@@ -99,10 +95,6 @@ capital-keeps s = record {
   inside = λ i t u h. let c = capital_digit i t u h in lies-inside i t c.change.byte c.change.back c.change.old;
 }
 
-not-true : (b : Bool) → not b ≡ true → b ≡ false
-not-true true h = cc
-not-true false h = refl
-
 pub encode-slash : (c : ℕ) (lead : ℕ) (tail : List ℕ) → (c == 47) ≡ false → encode_utf8 c ≡ lead ∷ tail → (lead == 47) ≡ false
 encode-slash c lead tail n e =
     let l : lacks 47 (encode_utf8 c) ≡ true = ap (lacks 47) (sym (append-nil (encode_utf8 c)))
@@ -116,7 +108,7 @@ decoding-keeps s k = record {
   percent = λ i t u h.
       let d = decoding s i t u h in
       let g = some_triplets d.c d.sp (encode_utf8 d.c) d.spells refl in
-      ap (lacks 37) (d.old ∙ ap (λ z. take i t ++ (z ++ d.back)) g.text) ∙ some-percent (take i t) (g.rest ++ d.back);
+      ap (lacks 37) (d.old ∙ ap (λ z. take i t ++ (z ++ d.back)) g.text) ∙ lacks_there 37 (take i t) (g.rest ++ d.back);
   slashes = λ i t u h.
       let d = decoding s i t u h in
       let g = some_triplets d.c d.sp (encode_utf8 d.c) d.spells refl in

@@ -6,6 +6,8 @@ use Rattle.std.specs.Char.{is_ascii_hexdigit, to_ascii_uppercase, len_utf8, enco
 use lib.Utf8.{scalar}
 use Rattle.std.proofs.lemmas.Str.{length-encode}
 use Rattle.std.proofs.lemmas.Bool.Decides.{nat_tests}
+use Rattle.std.proofs.lemmas.Bool.{not-true}
+use Rattle.std.proofs.lemmas.Str.Ascii.{uppercase-uppercase}
 use Rattle.iri_grammar.specs.Classes.{Tests, IsSpec, unreserved, is_ascii_unreserved}
 use Rattle.iri_grammar.proofs.CutLaws.{both, by_test}
 use Rattle.iri_grammar.specs.Over.{text_over}
@@ -18,12 +20,14 @@ use Rattle.iri_percent.specs.NormalLaws.{decoded}
 use Rattle.iri_percent.proofs.NormalLaws.{normal_plain, normal_plains, normal_lone, normal_char, normal_decoded}
 use Rattle.iri_percent.proofs.CaseLaws.{is_decoded}
 use Rattle.iri_percent.proofs.Reading.{Reading, done, plain, char, lone, whole_plain, read}
-use Rattle.iri_percent.proofs.Stability.{as_it_is-case, upper_hex, upper_octet, upper_twice, encode_percent, unreserved_percent}
+use Rattle.iri_percent.proofs.Stability.{as_it_is-case, upper_hex, upper_octet, encode_percent, unreserved_percent}
 use Rattle.iri_percent.proofs.Stability.{decoded_octets}
 use Rattle.iri_grammar.proofs.UnitRuns.{text_over-append}
 use Rattle.iri_resolve.specs.Changes.{is_small_digit, with_capital_digit, with_character, with_decoded}
 use Rattle.iri_percent.proofs.SeamLaws.{leads, normal-seam, whole-percent}
-use Rattle.iri_resolve.proofs.ByteLaws.{capital_digit, IsAsGood, byte_change-over, text_over-percent, text_over-after}
+use Rattle.iri_resolve.proofs.ByteLaws.{capital_digit, IsAsGood, byte_change-over, text_over-after, digit_low}
+use Rattle.iri_normal.proofs.TripletDots.{map_same}
+use Rattle.iri_normal.proofs.TextLaws.{text_over-sides}
 
 -- ---- capital digits
 -- a text with capital digits in its triplets, where so many digits of a triplet are still to come
@@ -63,7 +67,7 @@ capitals-octets t (char c sp xs h sps r) =
 
 upper-map : (xs : List ℕ) → map to_ascii_uppercase (map to_ascii_uppercase xs) ≡ map to_ascii_uppercase xs
 upper-map [] = refl
-upper-map (x ∷ xs) = ap (λ y. y ∷ map to_ascii_uppercase (map to_ascii_uppercase xs)) (upper_twice x)
+upper-map (x ∷ xs) = ap (λ y. y ∷ map to_ascii_uppercase (map to_ascii_uppercase xs)) (uppercase-uppercase x)
     ∙ ap (λ l. to_ascii_uppercase x ∷ l) (upper-map xs)
 
 capitals-read : (s : Tests) (f : ℕ → ℕ) (t : List ℕ) → Reading t → normal s f (capitals 0 t) ≡ normal s f t
@@ -76,8 +80,8 @@ capitals-read s f t (lone a b xs p q n r) =
     ap first_char (capitals-octets (37 ∷ a ∷ b ∷ xs) (lone a b xs p q n r)) ∙ n in
     normal_lone s f (to_ascii_uppercase a) (to_ascii_uppercase b) (capitals 0 xs) (upper_hex a p) (upper_hex b q) same
     ∙ ap (λ z. 37 ∷ to_ascii_uppercase (to_ascii_uppercase a) ∷ to_ascii_uppercase (to_ascii_uppercase b) ∷ z) (capitals-read s f xs r)
-    ∙ ap (λ z. 37 ∷ z ∷ to_ascii_uppercase (to_ascii_uppercase b) ∷ normal s f xs) (upper_twice a)
-    ∙ ap (λ z. 37 ∷ to_ascii_uppercase a ∷ z ∷ normal s f xs) (upper_twice b)
+    ∙ ap (λ z. 37 ∷ z ∷ to_ascii_uppercase (to_ascii_uppercase b) ∷ normal s f xs) (uppercase-uppercase a)
+    ∙ ap (λ z. 37 ∷ to_ascii_uppercase a ∷ z ∷ normal s f xs) (uppercase-uppercase b)
     ∙ sym (normal_lone s f a b xs p q n)
 capitals-read s f t (char c sp xs h sps r) =
     ap (normal s f) (capitals-spelled sp (encode_utf8 c) xs sps)
@@ -95,14 +99,14 @@ unfolding capitals whole_triplets
 capitals-changed [] b x w n = cc
 capitals-changed (y ∷ []) b x w n =
     by_test y 37 (λ v. (cond v false true && true) ≡ false → capitals 0 (y ∷ x ∷ b) ≡ capitals 0 (y ∷ to_ascii_uppercase x ∷ b))
-    (λ e _. rw e (ap (λ z. 37 ∷ z ∷ capitals 1 b) (sym (upper_twice x))))
+    (λ e _. rw e (ap (λ z. 37 ∷ z ∷ capitals 1 b) (sym (uppercase-uppercase x))))
     (λ _ k. cc)
     n
 capitals-changed (y ∷ h ∷ []) b x w n =
     let k = both (cond (y == 37) (two_digits (h ∷ x ∷ b)) true) (whole_triplets (h ∷ x ∷ b)) w in
     by_test y 37 (λ v. (y == 37) ≡ v → cond v (two_digits (h ∷ x ∷ b)) true ≡ true → (cond v false true && whole_triplets (h ∷ [])) ≡ false
     → capitals 0 (y ∷ h ∷ x ∷ b) ≡ capitals 0 (y ∷ h ∷ to_ascii_uppercase x ∷ b))
-    (λ e _ _ _. rw e (ap (λ z. 37 ∷ to_ascii_uppercase h ∷ z ∷ capitals 0 b) (sym (upper_twice x))))
+    (λ e _ _ _. rw e (ap (λ z. 37 ∷ to_ascii_uppercase h ∷ z ∷ capitals 0 b) (sym (uppercase-uppercase x))))
     (λ _ e _ m. capitals-plain y (h ∷ x ∷ b) e ∙ ap (λ z. y ∷ z) (capitals-changed (h ∷ []) b x k.1 m)
     ∙ sym (capitals-plain y (h ∷ to_ascii_uppercase x ∷ b) e))
     refl k.0 n
@@ -121,10 +125,6 @@ capitals-changed (y ∷ h ∷ j ∷ a) b x w n =
       | false ↦ λ e _ m. ap (λ z. y ∷ z) (capitals-changed (h ∷ j ∷ a) b x k.1 m)
     ] refl k.0 n
 
-not-false : (b : Bool) → not b ≡ true → b ≡ false
-not-false true h = cc
-not-false false h = refl
-
 -- both texts have whole triplets
 pub digit-normal : (s : Tests) (f : ℕ → ℕ) (i : ℕ) (t u : List ℕ) → with_capital_digit i t ≡ Some u → whole_triplets t ≡ true
     → whole_triplets u ≡ true → normal s f u ≡ normal s f t
@@ -132,36 +132,21 @@ digit-normal s f i t u h w v =
     let c = capital_digit i t u h in
     let e : capitals 0 t ≡ capitals 0 u = ap (capitals 0) c.change.old
     ∙ capitals-changed (take i t) c.change.back c.change.byte (ap whole_triplets (sym c.change.old) ∙ w)
-    (not-false (whole_triplets (take i t)) c.place) ∙ ap (capitals 0) (sym c.change.new) in
+    (not-true (whole_triplets (take i t)) c.place) ∙ ap (capitals 0) (sym c.change.new) in
     sym (capitals-read s f u (read u v)) ∙ ap (normal s f) (sym e) ∙ capitals-read s f t (read t w)
 
 digit-good : (p : ℕ → Bool) → ((c : ℕ) → is_ascii_unreserved c ≡ true → p c ≡ true) → (x : ℕ) → is_small_digit x ≡ true
     → IsAsGood p x (to_ascii_uppercase x)
 unfolding is_ascii_unreserved
 digit-good p k x h = record {
-  low = below x h;
-  still_low = upper_below x h;
-  plain = apart x h;
-  still_plain = upper_apart x h;
-  digit = λ _. upper_digit x h;
+  low = (digit_low x h).0;
+  still_low = (digit_low x h).1;
+  plain = grind (arith, nat_tests);
+  still_plain = grind (arith, nat_tests);
+  digit = λ _. grind (arith, nat_tests);
   class = λ _. k (to_ascii_uppercase x) (upper_letter x h);
 }
   where
-    below : (x : ℕ) → is_small_digit x ≡ true → x < 128
-    below x h = grind (arith, nat_tests)
-
-    upper_below : (x : ℕ) → is_small_digit x ≡ true → to_ascii_uppercase x < 128
-    upper_below x h = grind (arith, nat_tests)
-
-    apart : (x : ℕ) → is_small_digit x ≡ true → (x == 37) ≡ false
-    apart x h = grind (arith, nat_tests)
-
-    upper_apart : (x : ℕ) → is_small_digit x ≡ true → (to_ascii_uppercase x == 37) ≡ false
-    upper_apart x h = grind (arith, nat_tests)
-
-    upper_digit : (x : ℕ) → is_small_digit x ≡ true → is_ascii_hexdigit (to_ascii_uppercase x) ≡ true
-    upper_digit x h = grind (arith, nat_tests)
-
     upper_letter : (x : ℕ) → is_small_digit x ≡ true → is_ascii_unreserved (to_ascii_uppercase x) ≡ true
     upper_letter x h = grind (arith, nat_tests)
 
@@ -214,10 +199,6 @@ pub some_triplets : (c : ℕ) (sp os : List ℕ) → Spells sp os → os ≡ enc
 some_triplets c sp os none e = let b = encode_bytes c in let no : [] ≡ b.lead ∷ b.tail = e ∙ b.split in cc
 some_triplets c sp os (more a b sp' os' p q k) e = record { rest = a ∷ b ∷ sp'; text = refl }
 
-map_same : (xs : List ℕ) → map as_it_is xs ≡ xs
-map_same [] = refl
-map_same (x ∷ xs) = ap (λ ys. x ∷ ys) (map_same xs)
-
 pub spelled-leads : (c : ℕ) (sp xs : List ℕ) → Spells sp (encode_utf8 c) → leads (octets (sp ++ xs)) ≡ true
 spelled-leads c sp xs k = let b = encode_bytes c in
     ap leads (octets_spelled sp (encode_utf8 c) xs k ∙ ap (λ os. os ++ octets xs) b.split) ∙ ap not b.leads
@@ -250,7 +231,7 @@ pub decoded-over : (s : Tests) (p : ℕ → Bool) (i : ℕ) (t u : List ℕ) →
 decoded-over s p i t u k n q h o =
     let d = decoding s i t u h in
     let g = some_triplets d.c d.sp (encode_utf8 d.c) d.spells refl in
-    let sides = text_over-percent p (take i t) (g.rest ++ d.back)
+    let sides = text_over-sides p 37 (take i t) (g.rest ++ d.back) (omega arith) refl
     (ap (text_over p) (sym (d.old ∙ ap (λ z. take i t ++ (z ++ d.back)) g.text)) ∙ o) in
     let back = spelled-over p d.sp (encode_utf8 d.c) d.back d.spells (ap (λ z. text_over p (z ++ d.back)) g.text ∙ sides.1) in
     let one : text_over p (encode_utf8 d.c) ≡ true =

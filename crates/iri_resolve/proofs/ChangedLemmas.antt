@@ -21,7 +21,6 @@ use Rattle.iri_percent.specs.Units.{Plain, Char, Lone, octets, units, whole_trip
 use Rattle.iri_percent.specs.NormalHost.{is_dropped}
 use Rattle.iri_percent.specs.SchemeRules.{dropped_port}
 use Rattle.iri_percent.specs.declared.canon_mode.CanonMode.{CanonMode}
-use Rattle.iri_resolve.proofs.AuthoritySteps.{placed-is, in_part-is}
 use Rattle.iri_resolve.proofs.ByteLaws.{ByteChange, small_letter, small_host_letter, capital_digit}
 use Rattle.iri_resolve.proofs.ChangeLaws.{decoding, some_triplets, spelled-leads}
 use Rattle.iri_resolve.specs.Changes.{is_small_digit, with_small_letter, with_small_host_letter, with_capital_digit, with_decoded}
@@ -35,6 +34,7 @@ use Rattle.iri_resolve.specs.declared.step.Part.{Part}
 use Rattle.iri_resolve.specs.declared.step.Part.TheVariants.{Authority, Path, Query, Fragment}
 use Rattle.iri_resolve.specs.declared.step.Step.{Step}
 use Rattle.iri_resolve.specs.declared.step.Step.TheVariants.{SchemeLetter, HostLetter, HexDigit, Decode, EmptyPort, Dots, DefaultPort, SlashPath}
+use Rattle.iri_resolve.proofs.AuthoritySteps.{placed-gives, part-gives, in_host-is}
 
 -- ---- a text
 same_some : (x y : List ℕ) → Some x ≡ Some y → x ≡ y
@@ -93,13 +93,8 @@ host-changes : (change : ℕ → List ℕ → Option (List ℕ)) (i : ℕ) (a b 
     → in_host change i (authority_parts a) ≡ Some b → b ≢ a
 host-changes change i a b c h e =
     let p = authority_parts a in
-    elim (nat_lt i (host_start p)) as (λ v. cond v None
-    (placed (λ h. recompose_authority (record p { host = h })) (change (i - host_start p) p.host)) ≡ Some b → ⊥) [
-      | true ↦ λ k. cc
-      | false ↦ λ k.
-          let r = placed-is (λ h. recompose_authority (record p { host = h })) (change (i - host_start p) p.host) b k in
-          c (i - host_start p) p.host r.0 r.1 (other-host p r.0 (r.2 ∙ e ∙ sym (authority_recomposed a)))
-    ] h
+    let r = in_host-is change i p b h in
+    c (i - host_start p) p.host r.0 r.1 (other-host p r.0 (r.2 ∙ e ∙ sym (authority_recomposed a)))
 
 authority-changes : (change : ℕ → List ℕ → Option (List ℕ)) (i : ℕ) (a b : List ℕ) → Changing change
     → in_userinfo_or_host change i (authority_parts a) ≡ Some b → b ≢ a
@@ -108,10 +103,8 @@ authority-changes change i a b c h e =
     elim (nat_lt i (host_start p)) as (λ v. cond v
     (placed (λ u. recompose_authority (record p { userinfo = Some u })) (in_part (change i) p.userinfo)) (in_host change i p)
     ≡ Some b → ⊥) [
-      | true ↦ λ m.
-          let r = placed-is (λ u. recompose_authority (record p { userinfo = Some u })) (in_part (change i) p.userinfo) b m in
-          let q = in_part-is (change i) p.userinfo r.0 r.1 in
-          c i q.0 r.0 q.2 (other-userinfo p r.0 q.0 q.1 (r.2 ∙ e ∙ sym (authority_recomposed a)))
+      | true ↦ λ m. part-gives (λ z. z ≢ a) (λ u. recompose_authority (record p { userinfo = Some u })) (change i) p.userinfo b m
+          (λ w v o f d. c i w v f (other-userinfo p v w o (d ∙ sym (authority_recomposed a)))) e
       | false ↦ λ m. host-changes change i a b c m e
     ] h
 
@@ -164,21 +157,15 @@ slash-changes (Some d) t p h e = at t.authority t.path h e
 -- ---- each step
 place-changes : (change : ℕ → List ℕ → Option (List ℕ)) (t u : Parts) (part : Part) (i : ℕ) → Changing change
     → at_place change t part i ≡ Some u → u ≢ t
-place-changes change t u Authority i c h e =
-    let r = placed-is (λ a. record t { authority = Some a })
-    (in_part (λ a. in_userinfo_or_host change i (authority_parts a)) t.authority) u h in
-    let q = in_part-is (λ a. in_userinfo_or_host change i (authority_parts a)) t.authority r.0 r.1 in
-    authority-changes change i q.0 r.0 c q.2 (same_some r.0 q.0 (ap (λ z. z.authority) (r.2 ∙ e) ∙ q.1))
-place-changes change t u Path i c h e = let r = placed-is (λ p. record t { path = p }) (change i t.path) u h in
-    c i t.path r.0 r.1 (ap (λ z. z.path) (r.2 ∙ e))
-place-changes change t u Query i c h e =
-    let r = placed-is (λ p. record t { query = Some p }) (in_part (change i) t.query) u h in
-    let q = in_part-is (change i) t.query r.0 r.1 in
-    c i q.0 r.0 q.2 (same_some r.0 q.0 (ap (λ z. z.query) (r.2 ∙ e) ∙ q.1))
-place-changes change t u Fragment i c h e =
-    let r = placed-is (λ p. record t { fragment = Some p }) (in_part (change i) t.fragment) u h in
-    let q = in_part-is (change i) t.fragment r.0 r.1 in
-    c i q.0 r.0 q.2 (same_some r.0 q.0 (ap (λ z. z.fragment) (r.2 ∙ e) ∙ q.1))
+place-changes change t u Authority i c h = part-gives (λ z. z ≢ t) (λ a. record t { authority = Some a })
+    (λ a. in_userinfo_or_host change i (authority_parts a)) t.authority u h
+    (λ a b o f e. authority-changes change i a b c f (same_some b a (ap (λ z. z.authority) e ∙ o)))
+place-changes change t u Path i c h = placed-gives (λ z. z ≢ t) (λ p. record t { path = p }) (change i t.path) u h
+    (λ b f e. c i t.path b f (ap (λ z. z.path) e))
+place-changes change t u Query i c h = part-gives (λ z. z ≢ t) (λ p. record t { query = Some p }) (change i) t.query u h
+    (λ a b o f e. c i a b f (same_some b a (ap (λ z. z.query) e ∙ o)))
+place-changes change t u Fragment i c h = part-gives (λ z. z ≢ t) (λ p. record t { fragment = Some p }) (change i) t.fragment u h
+    (λ a b o f e. c i a b f (same_some b a (ap (λ z. z.fragment) e ∙ o)))
 
 dots-change : (t : Parts) (u : List ℕ) → with_dots_removed t ≡ Some u → u ≢ t.path
 dots-change t u h e =
@@ -194,35 +181,25 @@ dots-change t u h e =
 
 pub step-changes : (s : Tests) (m : CanonMode) (t u : Parts) (x : Step) → step_in s m t x ≡ Some u → u ≢ t
 unfolding step_in
-step-changes s m t u (SchemeLetter i) h e =
-    let r = placed-is (λ x. record t { scheme = Some x }) (in_part (with_small_letter i) t.scheme) u h in
-    let q = in_part-is (with_small_letter i) t.scheme r.0 r.1 in
-    letter-changing i q.0 r.0 q.2 (same_some r.0 q.0 (ap (λ z. z.scheme) (r.2 ∙ e) ∙ q.1))
-step-changes s m t u (HostLetter i) h e =
-    let r = placed-is (λ a. record t { authority = Some a })
-    (in_part (λ a. with_small_letter_in_host i (authority_parts a)) t.authority) u h in
-    let q = in_part-is (λ a. with_small_letter_in_host i (authority_parts a)) t.authority r.0 r.1 in
-    letter-changes i q.0 r.0 q.2 (same_some r.0 q.0 (ap (λ z. z.authority) (r.2 ∙ e) ∙ q.1))
-step-changes s m t u (HexDigit part i) h e = place-changes with_capital_digit t u part i digit-changing h e
-step-changes s m t u (Decode part i) h e = place-changes (with_decoded s) t u part i (decode-changing s) h e
-step-changes s m t u EmptyPort h e =
-    let r = placed-is (λ a. record t { authority = Some a })
-    (in_part (λ a. without_empty_port (authority_parts a) (authority_parts a).port) t.authority) u h in
-    let q = in_part-is (λ a. without_empty_port (authority_parts a) (authority_parts a).port) t.authority r.0 r.1 in
-    port-changes (authority_parts q.0) (authority_parts q.0).port r.0 refl q.2
-    (same_some r.0 q.0 (ap (λ z. z.authority) (r.2 ∙ e) ∙ q.1) ∙ sym (authority_recomposed q.0))
-step-changes s m t u Dots h e =
-    let r = placed-is (λ p. record t { path = p }) (with_dots_removed t) u h in
-    dots-change t r.0 r.1 (ap (λ z. z.path) (r.2 ∙ e))
-step-changes s m t u DefaultPort h e =
-    let change : List ℕ → Option (List ℕ) = λ a. without_dropped_port (dropped_port m t.scheme) (authority_parts a) (authority_parts a).port in
-    let r = placed-is (λ a. record t { authority = Some a }) (in_part change t.authority) u h in
-    let q = in_part-is change t.authority r.0 r.1 in
-    dropped-changes (dropped_port m t.scheme) (authority_parts q.0) (authority_parts q.0).port r.0 refl q.2
-    (same_some r.0 q.0 (ap (λ z. z.authority) (r.2 ∙ e) ∙ q.1) ∙ sym (authority_recomposed q.0))
-step-changes s m t u SlashPath h e =
-    let r = placed-is (λ p. record t { path = p }) (with_slash (dropped_port m t.scheme) t) u h in
-    slash-changes (dropped_port m t.scheme) t r.0 r.1 (ap (λ z. z.path) (r.2 ∙ e))
+step-changes s m t u (SchemeLetter i) h = part-gives (λ z. z ≢ t) (λ x. record t { scheme = Some x }) (with_small_letter i) t.scheme u h
+    (λ a b o f e. letter-changing i a b f (same_some b a (ap (λ z. z.scheme) e ∙ o)))
+step-changes s m t u (HostLetter i) h = part-gives (λ z. z ≢ t) (λ a. record t { authority = Some a })
+    (λ a. with_small_letter_in_host i (authority_parts a)) t.authority u h
+    (λ a b o f e. letter-changes i a b f (same_some b a (ap (λ z. z.authority) e ∙ o)))
+step-changes s m t u (HexDigit part i) h = place-changes with_capital_digit t u part i digit-changing h
+step-changes s m t u (Decode part i) h = place-changes (with_decoded s) t u part i (decode-changing s) h
+step-changes s m t u EmptyPort h = part-gives (λ z. z ≢ t) (λ a. record t { authority = Some a })
+    (λ a. without_empty_port (authority_parts a) (authority_parts a).port) t.authority u h
+    (λ a b o f e. port-changes (authority_parts a) (authority_parts a).port b refl f
+    (same_some b a (ap (λ z. z.authority) e ∙ o) ∙ sym (authority_recomposed a)))
+step-changes s m t u Dots h = placed-gives (λ z. z ≢ t) (λ p. record t { path = p }) (with_dots_removed t) u h
+    (λ b f e. dots-change t b f (ap (λ z. z.path) e))
+step-changes s m t u DefaultPort h = part-gives (λ z. z ≢ t) (λ a. record t { authority = Some a })
+    (λ a. without_dropped_port (dropped_port m t.scheme) (authority_parts a) (authority_parts a).port) t.authority u h
+    (λ a b o f e. dropped-changes (dropped_port m t.scheme) (authority_parts a) (authority_parts a).port b refl f
+    (same_some b a (ap (λ z. z.authority) e ∙ o) ∙ sym (authority_recomposed a)))
+step-changes s m t u SlashPath h = placed-gives (λ z. z ≢ t) (λ p. record t { path = p }) (with_slash (dropped_port m t.scheme) t) u h
+    (λ b f e. slash-changes (dropped_port m t.scheme) t b f (ap (λ z. z.path) e))
 
 -- ---- a decoded place
 units-nil : units [] ≡ []

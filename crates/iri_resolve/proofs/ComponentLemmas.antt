@@ -21,7 +21,7 @@ use Rattle.iri_percent.proofs.Changes.{case_is, decodes}
 use Rattle.iri_percent.proofs.ClassLaws.{other_same}
 use Rattle.iri_percent.proofs.Reading.{whole_plain, whole_triplet, percent_follows}
 use Rattle.iri_percent.proofs.Stability.{upper_hex, encode_percent, unreserved_percent}
-use Rattle.iri_percent.proofs.WholeLaws.{lacks-whole}
+use Rattle.iri_percent.proofs.WholeLaws.{lacks-whole, whole-append}
 use Rattle.iri_percent.specs.Triplets.{normal}
 use Rattle.iri_percent.specs.Units.{octets, whole_triplets}
 use Rattle.iri_percent.specs.declared.canon_mode.CanonMode.{CanonMode}
@@ -30,12 +30,13 @@ use Rattle.iri_resolve.specs.NormalSteps.{Prefix, byte_prefix, component_steps, 
 use Rattle.iri_resolve.specs.Steps.{step_in}
 use Rattle.iri_resolve.proofs.ChangeKeeps.{capital-keeps, decoding-keeps}
 use Rattle.iri_resolve.proofs.Going.{Going, all_gone, going_on, gone_wrong}
-use Rattle.iri_resolve.proofs.Leads.{Led, led-nothing, led-step, led-on, not-whole, whole-append, whole_nil, whole_percent}
+use Rattle.iri_resolve.proofs.Leads.{Led, led-nothing, led-step, led-on, not-whole, whole_nil, whole_percent}
 use Rattle.iri_resolve.proofs.Leads.{capital-at, capital_same, decoded-at}
 use Rattle.iri_resolve.proofs.Places.{IsPlace}
 use Rattle.iri_resolve.specs.declared.step.Part.{Part}
 use Rattle.iri_resolve.specs.declared.step.Step.{Step}
 use Rattle.iri_resolve.specs.declared.step.Step.TheVariants.{HostLetter, HexDigit, Decode}
+use Rattle.iri_resolve.proofs.ByteLaws.{capital_low}
 
 -- ---- letters
 case-lowered : (lower : Bool) (x : ℕ) → (lower && is_ascii_uppercase x) ≡ true
@@ -56,15 +57,6 @@ letter-at : (a r : List ℕ) (x : ℕ) → whole_triplets a ≡ true → is_asci
 unfolding with_small_host_letter with_small_letter
 letter-at a r x w h = rw (take-append_seam a (x ∷ r), w, get_or-append_seam a x r 0, h)
     (ap Some (set-append_seam a x r (to_ascii_lowercase x)))
-
-capital_low : (c : ℕ) → is_ascii_uppercase c ≡ true → (c < 128) × (to_ascii_lowercase c < 128)
-capital_low c h = (low c h, still c h)
-  where
-    low : (c : ℕ) → is_ascii_uppercase c ≡ true → c < 128
-    low c h = grind (arith, nat_tests)
-
-    still : (c : ℕ) → is_ascii_uppercase c ≡ true → to_ascii_lowercase c < 128
-    still c h = grind (arith, nat_tests)
 
 -- ---- what is done to a text in its place
 module _ (s : Tests) (m : CanonMode) (part : Part) (lower : Bool) (start : ℕ) (ok : List ℕ → Bool) (put : List ℕ → Parts) (p : IsPlace s part lower start ok put) where
@@ -322,7 +314,3 @@ module _ {W : Type 0} {puts halts : W → List Step → W → Type 0} {stops : W
 
 pub something : (t : List ℕ) → (length t == 0) ≡ false → 0 < length t
 something t h = grind (arith, nat_tests)
-
-pub nothing : (t : List ℕ) → (length t == 0) ≡ true → t ≡ []
-nothing [] h = refl
-nothing (x ∷ xs) h = absurd (grind (arith, nat_tests))

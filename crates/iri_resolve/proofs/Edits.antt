@@ -16,21 +16,11 @@ use Rattle.std.proofs.lemmas.Str.{length-encode, lead_after_ascii, IsUtf8-append
 use Rattle.iri_resolve.proofs.ChangeLaws.{some_triplets}
 use Rattle.iri_resolve.specs.Changes.{is_in_triplet, is_small_digit, with_small_letter, with_small_host_letter, with_capital_digit}
 use Rattle.iri_resolve.specs.Changes.{with_character, with_decoded}
+use Rattle.iri_resolve.proofs.ByteLaws.{cut_at}
 use Rattle.iri_grammar.proofs.Units.{hex_is_ascii as digit_below}
-use Rattle.iri_normal.proofs.TextLaws.{utf8-after, utf8-prefix}
+use Rattle.iri_normal.proofs.TextLaws.{utf8-prefix}
 use Rattle.iri_grammar.proofs.AuthorityTexts.{delimited-utf8}
-
-pub in_text : (i : ℕ) (t : List ℕ) → nat_lt 0 (slice_index t i) ≡ true → i < length t
-in_text zero [] h = cc
-in_text (suc i) [] h = cc
-in_text zero (x ∷ xs) h = omega arith
-in_text (suc i) (x ∷ xs) h = let l = in_text i xs h in omega arith
-
-cut_at : (i : ℕ) (t : List ℕ) (y : ℕ) → i < length t
-    → (t ≡ take i t ++ slice_index t i ∷ drop (suc i) t) × (slice_set t i y ≡ take i t ++ y ∷ drop (suc i) t)
-cut_at i [] y h = absurd (omega arith)
-cut_at zero (x ∷ xs) y h = (refl, refl)
-cut_at (suc i) (x ∷ xs) y h = let r = cut_at i xs y (omega arith) in (ap (λ z. x ∷ z) r.0, ap (λ z. x ∷ z) r.1)
+use Rattle.iri_grammar.proofs.Delimiters.{text_after_delimiter}
 
 -- an ASCII byte in the place of another
 pub put-utf8 : (i : ℕ) (t : List ℕ) (y : ℕ) → i < length t → slice_index t i < 128 → y < 128 → IsUtf8 t → IsUtf8 (slice_set t i y)
@@ -38,25 +28,7 @@ put-utf8 i t y h l m u =
     let c = cut_at i t y h in
     let v = subst (λ z. IsUtf8 z) c.0 u in
     subst (λ z. IsUtf8 z) (sym c.1) (IsUtf8-append (take i t) (y ∷ drop (suc i) t) (utf8-prefix (slice_index t i) (take i t) (drop (suc i) t) l v)
-    (delimited-utf8 y (drop (suc i) t) m (utf8-after (slice_index t i) (take i t) (drop (suc i) t) l v)))
-
-pub capital_low : (x : ℕ) → is_ascii_uppercase x ≡ true → (x < 128) × (to_ascii_lowercase x < 128)
-capital_low x h = (low x h, still x h)
-  where
-    low : (x : ℕ) → is_ascii_uppercase x ≡ true → x < 128
-    low x h = grind (arith, nat_tests)
-
-    still : (x : ℕ) → is_ascii_uppercase x ≡ true → to_ascii_lowercase x < 128
-    still x h = grind (arith, nat_tests)
-
-pub digit_low : (x : ℕ) → is_small_digit x ≡ true → (x < 128) × (to_ascii_uppercase x < 128)
-digit_low x h = (low x h, still x h)
-  where
-    low : (x : ℕ) → is_small_digit x ≡ true → x < 128
-    low x h = grind (arith, nat_tests)
-
-    still : (x : ℕ) → is_small_digit x ≡ true → to_ascii_uppercase x < 128
-    still x h = grind (arith, nat_tests)
+    (delimited-utf8 y (drop (suc i) t) m (text_after_delimiter (slice_index t i) (take i t) (drop (suc i) t) l v)))
 
 pub no_letter : (i : ℕ) (t : List ℕ) → is_ascii_uppercase (slice_index t i) ≡ false → with_small_letter i t ≡ None
 unfolding with_small_letter
@@ -163,10 +135,6 @@ after_place i n t u p l h =
     let next : i + n - 1 + 1 ≡ i + n = omega arith in
     subst (λ k. 192 ≤ slice_index t k) next (lead_after_ascii t (i + n - 1) u p.last (omega arith)
     (subst (λ k. 128 ≤ slice_index t k) (sym next) h))
-
-pub rest_all : (l : List ℕ) (i : ℕ) → take (length l - i) (drop i l) ≡ drop i l
-rest_all l i = Rattle.std.proofs.lemmas.List.take_all (length l - i) (drop i l)
-    (omega (arith, Rattle.std.proofs.lemmas.List.length-drop i l))
 
 -- ---- letters of a host
 pub letter_inside : (i : ℕ) (t : List ℕ) → is_in_triplet i t ≡ true → with_small_host_letter i t ≡ None

@@ -4,6 +4,8 @@ use Rattle.std.proofs.Common.{subst, eqb-true}
 use Rattle.std.specs.Prelude.{◌==◌}
 use Rattle.std.specs.Str.{bytes_eq}
 use Rattle.std.proofs.lemmas.Slice.Eq.{bytes_eq-Decides}
+use Rattle.std.proofs.lemmas.Bool.{not-true, false_from_ne_true}
+use Rattle.std.proofs.Math.Bool.{not-not}
 use Rattle.iri_grammar.specs.Classes.{Tests, IsSpec}
 use Rattle.iri_grammar.specs.Cut.{before, after}
 use Rattle.iri_grammar.proofs.CutLaws.{by_test, both}
@@ -25,10 +27,6 @@ use Rattle.iri_normal.proofs.StableLaws.{dot_before, no_dots_left, no_dots-same,
 use Rattle.iri_normal.proofs.TripletDots.{dot_segment-pct, empty-pct, encode_point, point_scalar, point_unreserved, two_dots-pct}
 use Rattle.iri_normal.proofs.TripletHeads.{pct-heads}
 use Rattle.iri_normal.proofs.TripletPaths.{all_whole, pieces-pct, whole-pieces}
-
-of-not : (b : Bool) → not b ≡ true → b ≡ false
-of-not true h = cc
-of-not false h = refl
 
 -- ---- `.`, in any spelling, has one triplet normal form
 spelled : (z : ℕ) → (z == 69 || z == 101) ≡ true → Spells (37 ∷ 50 ∷ z ∷ []) (46 ∷ [])
@@ -52,15 +50,15 @@ all-after true [] h = (refl, refl)
 all-after true (x ∷ xs) h = cc
 all-after false xs h = cc
 
-triplet-point : (s : Tests) (x y z : ℕ) (xs : List ℕ) → is_all (cond (x == 37 && y == 50 && (z == 69 || z == 101)) (Some xs) None) ≡ true
+triplet-point : (s : Tests) (x y z : ℕ) (xs : List ℕ) → is_all (cond (x == 37 && (y == 50 && (z == 69 || z == 101))) (Some xs) None) ≡ true
     → pct s (x ∷ y ∷ z ∷ xs) ≡ 46 ∷ []
 triplet-point s x y z xs h =
-    let a = all-after (x == 37 && y == 50 && (z == 69 || z == 101)) xs h in
-    let b = both (x == 37 && y == 50) (z == 69 || z == 101) a.0 in
-    let c = both (x == 37) (y == 50) b.0 in
+    let a = all-after (x == 37 && (y == 50 && (z == 69 || z == 101))) xs h in
+    let b = both (x == 37) (y == 50 && (z == 69 || z == 101)) a.0 in
+    let c = both (y == 50) (z == 69 || z == 101) b.1 in
     let text : x ∷ y ∷ z ∷ xs ≡ 37 ∷ 50 ∷ z ∷ [] =
-    ap (λ n. n ∷ y ∷ z ∷ xs) (eqb-true x 37 c.0) ∙ (ap (λ n. 37 ∷ n ∷ z ∷ xs) (eqb-true y 50 c.1) ∙ ap (λ t. 37 ∷ 50 ∷ z ∷ t) a.1) in
-    ap (pct s) text ∙ decoded-point s z b.1
+    ap (λ n. n ∷ y ∷ z ∷ xs) (eqb-true x 37 b.0) ∙ (ap (λ n. 37 ∷ n ∷ z ∷ xs) (eqb-true y 50 c.0) ∙ ap (λ t. 37 ∷ 50 ∷ z ∷ t) a.1) in
+    ap (pct s) text ∙ decoded-point s z c.1
 
 one_dot-normal : (s : Tests) (d : List ℕ) → is_one_dot d ≡ true → pct s d ≡ 46 ∷ []
 one_dot-normal s [] h = cc
@@ -70,7 +68,7 @@ one_dot-normal s (x ∷ []) h =
 one_dot-normal s (x ∷ y ∷ []) h =
     by_test x 46 (λ b. is_all (cond b (Some (y ∷ [])) None) ≡ true → pct s (x ∷ y ∷ []) ≡ 46 ∷ []) (λ _ k. cc) (λ _ k. cc) h
 one_dot-normal s (x ∷ y ∷ z ∷ xs) h =
-    by_test x 46 (λ b. is_all (cond b (Some (y ∷ z ∷ xs)) (cond (x == 37 && y == 50 && (z == 69 || z == 101)) (Some xs) None)) ≡ true
+    by_test x 46 (λ b. is_all (cond b (Some (y ∷ z ∷ xs)) (cond (x == 37 && (y == 50 && (z == 69 || z == 101))) (Some xs) None)) ≡ true
     → pct s (x ∷ y ∷ z ∷ xs) ≡ 46 ∷ [])
     (λ _ k. cc)
     (λ _ k. triplet-point s x y z xs k)
@@ -159,7 +157,7 @@ module _ (s : Tests) (k : IsSpec s) (p : List ℕ) (w : whole_triplets p ≡ tru
       let b = both (is_dot_segment d) (not (is_two_dots d)) a.0 in
       let v = u ++ slashed us in
       let text : p ≡ 47 ∷ (d ++ 47 ∷ 47 ∷ v) = sym (unsplit-pieces p) ∙ ap unsplit e in
-      let dot : pct s d ≡ 46 ∷ [] = one_dot-normal s d (dot-is_one d b.0 (of-not (is_two_dots d) b.1)) in
+      let dot : pct s d ≡ 46 ∷ [] = one_dot-normal s d (dot-is_one d b.0 (not-true (is_two_dots d) b.1)) in
       let normal : pct s p ≡ 47 ∷ 46 ∷ 47 ∷ 47 ∷ pct s v =
       ap (pct s) text ∙ (normal_plain s as_it_is 47 (d ++ 47 ∷ 47 ∷ v) refl
       ∙ ap (λ t. 47 ∷ t) (pct_delimiter s 47 d (47 ∷ v) slash
@@ -173,16 +171,9 @@ module _ (s : Tests) (k : IsSpec s) (p : List ℕ) (w : whole_triplets p ≡ tru
       let inner : pieces 47 (pct s v) ≡ map (pct s) (u ∷ us) = cc in
       let whole : all_whole ([] ∷ d ∷ [] ∷ u ∷ us) ≡ true = ap all_whole (sym e) ∙ whole-pieces p w in
       let last = both (whole_triplets d) (all_whole ([] ∷ u ∷ us)) whole in
-      let none : any_dot_segment (u ∷ us) ≡ false = rw nothing-is_no_dot at (of-not (any_dot_segment ([] ∷ u ∷ us)) a.1) in
+      let none : any_dot_segment (u ∷ us) ≡ false = rw nothing-is_no_dot at (not-true (any_dot_segment ([] ∷ u ∷ us)) a.1) in
       let clear : any_dot_segment (pieces 47 (pct s v)) ≡ false = ap any_dot_segment inner ∙ (any-pct s (u ∷ us) k last.1 ∙ none) in
       subst (λ t. guard (dots t) false ≡ t) (sym normal) (guard-again (pct s v) (rw nothing-is_no_dot clear))
-
-  equal : (a b : List ℕ) → a ≡ b → bytes_eq a b ≡ true
-  equal a b e = (bytes_eq-Decides a b).1 e
-
-  apart : (a b : List ℕ) → (a ≡ b → ⊥) → bytes_eq a b ≡ false
-  apart a b n = elim (bytes_eq a b) as (λ v. bytes_eq a b ≡ v
-      → v ≡ false) [ true ↦ λ e. absurd (n ((bytes_eq-Decides a b).0 e)) | false ↦ λ _. refl ] refl
 
   without : has_dot_segment p ≡ false → (stands : Bool) → (stands || not (starts_with_slashes p)) ≡ true
       → guard (dots (pct s p)) stands ≡ pct s p
@@ -196,24 +187,21 @@ module _ (s : Tests) (k : IsSpec s) (p : List ℕ) (w : whole_triplets p ≡ tru
 
   -- whether a guarded path is given again
   guarded : has_dot_segment p ≡ true → (b : Bool) → is_guard_alone (pieces 47 p) ≡ b → bytes_eq (guard (dots (pct s p)) false) (pct s p) ≡ b
-  guarded h true e = equal (guard (dots (pct s p)) false) (pct s p) (alone-again (pieces 47 p) refl e)
+  guarded h true e = (bytes_eq-Decides (guard (dots (pct s p)) false) (pct s p)).1 (alone-again (pieces 47 p) refl e)
   guarded h false e =
-      apart (guard (dots (pct s p)) false) (pct s p)
+      false_from_ne_true (bytes_eq (guard (dots (pct s p)) false) (pct s p))
       (λ same.
       let yes : is_guard_alone (pieces 47 p) ≡ true =
       sym (ap is_guard_alone normal-pieces ∙ guard_alone-pct s (pieces 47 p) k (whole-pieces p w))
-      ∙ given-again (pct s p) (has-pct ∙ h) same in
+      ∙ given-again (pct s p) (has-pct ∙ h) ((bytes_eq-Decides (guard (dots (pct s p)) false) (pct s p)).0 same) in
       let no : true ≡ false = sym yes ∙ e in
       cc)
 
   with-dots : has_dot_segment p ≡ true → (stands : Bool)
       → bytes_eq (guard (dots (pct s p)) stands) (pct s p) ≡ not (stands || not (is_guard_alone (pieces 47 p)))
-  with-dots h true = apart (dots (pct s p)) (pct s p) (changed h)
-  with-dots h false = guarded h (is_guard_alone (pieces 47 p)) refl ∙ twice (is_guard_alone (pieces 47 p))
-    where
-      twice : (b : Bool) → b ≡ not (not b)
-      twice true = refl
-      twice false = refl
+  with-dots h true = false_from_ne_true (bytes_eq (dots (pct s p)) (pct s p))
+      (λ same. changed h ((bytes_eq-Decides (dots (pct s p)) (pct s p)).0 same))
+  with-dots h false = guarded h (is_guard_alone (pieces 47 p)) refl ∙ sym (not-not (is_guard_alone (pieces 47 p)))
 
   pub dots-lost : (stands : Bool) → (stands || not (starts_with_slashes p)) ≡ true
       → bytes_eq (guard (dots (pct s p)) stands) (pct s p) ≡ not (loses_dots p stands)
@@ -221,7 +209,7 @@ module _ (s : Tests) (k : IsSpec s) (p : List ℕ) (w : whole_triplets p ≡ tru
       elim (has_dot_segment p) as (λ b. has_dot_segment p ≡ b
       → bytes_eq (guard (dots (pct s p)) stands) (pct s p) ≡ not (b && (stands || not (is_guard_alone (pieces 47 p))))) [
         | true ↦ λ h. with-dots h stands
-        | false ↦ λ h. equal (guard (dots (pct s p)) stands) (pct s p) (without h stands g)
+        | false ↦ λ h. (bytes_eq-Decides (guard (dots (pct s p)) stands) (pct s p)).1 (without h stands g)
       ] refl
 
 -- ---- the first two segments, cut off

@@ -61,19 +61,6 @@ not-whole a r h =
     elim (whole_triplets (a ++ r)) as (λ b. whole_triplets (a ++ r) ≡ b
     → b ≡ false) [ true ↦ λ e. let no : true ≡ false = sym (whole-after a r e) ∙ h in cc | false ↦ λ _. refl ] refl
 
-pub whole-append : (a r : List ℕ) → whole_triplets a ≡ true → whole_triplets r ≡ true → whole_triplets (a ++ r) ≡ true
-unfolding whole_triplets
-whole-append [] r h k = k
-whole-append (x ∷ a) r h k =
-    let m = both (cond (x == 37) (two_digits a) true) (whole_triplets a) h in
-    rw (whole-append a r m.1 k) (elim (x == 37) as (λ b. cond b (two_digits a) true ≡ true
-    → (cond b (two_digits (a ++ r)) true && true) ≡ true) [ true ↦ λ d. digits-append a d | false ↦ λ _. refl ] m.0)
-  where
-    digits-append : (a : List ℕ) → two_digits a ≡ true → (two_digits (a ++ r) && true) ≡ true
-    digits-append [] d = cc
-    digits-append (y ∷ []) d = cc
-    digits-append (y ∷ z ∷ a) d = rw d refl
-
 -- ---- changes in the middle of a text
 pub capital-at : (a r : List ℕ) (x : ℕ) → whole_triplets a ≡ false → is_small_digit x ≡ true
     → with_capital_digit (length a) (a ++ x ∷ r) ≡ Some (a ++ to_ascii_uppercase x ∷ r)

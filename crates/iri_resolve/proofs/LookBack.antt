@@ -1,8 +1,8 @@
 -- Where a byte of a text stands among its triplets, told by the bytes before it.
 use Rattle.std.proofs.Common.{◌≡◌, ℕ, zero, suc, ◌-◌, ◌≤◌, true, false, cond, not, ◌&&◌, ◌||◌, List, [], ◌∷◌, length, refl, ◌∙◌, ap}
 use Rattle.std.proofs.Common.{arith}
-use Rattle.std.specs.Prelude.{◌==◌, nat_le, take, slice_index}
-use Rattle.std.proofs.lemmas.Bool.Decides.{nat_tests}
+use Rattle.std.specs.Prelude.{◌==◌, take, slice_index}
+use Rattle.std.proofs.lemmas.Bool.{le-leb}
 use Rattle.iri_grammar.proofs.CutLaws.{both}
 use Rattle.iri_percent.specs.Units.{two_digits, whole_triplets}
 use Rattle.iri_resolve.specs.Changes.{is_in_triplet}
@@ -11,11 +11,8 @@ use Rattle.iri_resolve.specs.inside.LookBack.{percent_before}
 step_back : (n i x : ℕ) (xs : List ℕ) → n ≤ i → (slice_index (x ∷ xs) (suc i - n) == 37) ≡ (slice_index xs (i - n) == 37)
 step_back n i x xs h = let e : suc i - n ≡ suc (i - n) = omega arith in ap (λ k. slice_index (x ∷ xs) k == 37) e
 
-yes : (n i : ℕ) → n ≤ i → nat_le n i ≡ true
-yes n i h = grind (arith, nat_tests)
-
 back : (n i x : ℕ) (xs : List ℕ) → n ≤ i → percent_before n (suc i) (x ∷ xs) ≡ percent_before n i xs
-back n i x xs h = rw (yes n i h, yes n (suc i) (omega arith)) (step_back n i x xs h)
+back n i x xs h = rw (le-leb n i h, le-leb n (suc i) (omega arith)) (step_back n i x xs h)
 
 -- in a text with whole triplets, the two bytes before tell it
 pub looked-back : (i : ℕ) (t : List ℕ) → whole_triplets t ≡ true → i ≤ length t

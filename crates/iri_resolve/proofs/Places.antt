@@ -3,7 +3,7 @@ use Rattle.std.proofs.Common.{◌≡◌, ℕ, ◌+◌, ◌-◌, ◌<◌, ◌≤�
 use Rattle.std.proofs.Common.{length, refl, ◌∙◌, ap, arith, length-append}
 use Rattle.std.specs.Prelude.{nat_lt}
 use Rattle.std.specs.Char.{to_ascii_lowercase}
-use Rattle.std.proofs.lemmas.Bool.Decides.{nat_tests}
+use Rattle.std.proofs.lemmas.Bool.{lt-ltb, le-ltb}
 use Rattle.iri_grammar.specs.Authority.{AuthorityParts, FitsAuthority, authority_parts, recompose_authority}
 use Rattle.iri_grammar.proofs.AuthorityLaws.{reading_is}
 use Rattle.iri_grammar.specs.Classes.{Tests, IsSpec, unreserved, userinfo_char, path_char, query_char, fragment_char}
@@ -63,12 +63,6 @@ fragment-place s u k = class-place s Fragment (fragment_char s) (λ p. record u 
 abbrev pub with_authority : Parts → AuthorityParts → Parts
 with_authority t p = record t { authority = Some (recompose_authority p) }
 
-pub below : (i n : ℕ) → i < n → nat_lt i n ≡ true
-below i n h = grind (arith, nat_tests)
-
-pub not-below : (i n : ℕ) → n ≤ i → nat_lt i n ≡ false
-not-below i n h = grind (arith, nat_tests)
-
 in-userinfo : (s : Tests) (change : ℕ → List ℕ → Option (List ℕ)) (t : Parts) (p : AuthorityParts) (i : ℕ) (u v : List ℕ) → IsSpec s
     → FitsAuthority s p → is_userinfo s u ≡ true → i < length u → change i u ≡ Some v
     → at_place change (with_authority t (record p { userinfo = Some u })) Authority i ≡ Some (with_authority t (record p { userinfo = Some v }))
@@ -76,7 +70,7 @@ in-userinfo s change t p i u v k f o l h =
     let e : authority_parts (recompose_authority (record p { userinfo = Some u })) ≡ record p { userinfo = Some u } =
     reading_is s k (recompose_authority (record p { userinfo = Some u })) (record p { userinfo = Some u })
     (record { userinfo = o; host = f.host; port = f.port }, refl) in
-    let low : nat_lt i (length (u ++ 64 ∷ [])) ≡ true = below i (length (u ++ 64 ∷ [])) (omega (arith, l, length-append u (64 ∷ []))) in
+    let low : nat_lt i (length (u ++ 64 ∷ [])) ≡ true = lt-ltb i (length (u ++ 64 ∷ [])) (omega (arith, l, length-append u (64 ∷ []))) in
     rw (e, low, h) refl
 
 pub userinfo-place : (s : Tests) (t : Parts) (p : AuthorityParts) → IsSpec s → FitsAuthority s p
@@ -102,7 +96,7 @@ in-host : (s : Tests) (change : ℕ → List ℕ → Option (List ℕ)) (t : Par
     → FitsAuthority s p → is_host s h ≡ true → change i h ≡ Some g
     → at_place change (with_authority t (record p { host = h })) Authority (host_start p + i) ≡ Some (with_authority t (record p { host = g }))
 in-host s change t p i h g k f o e =
-    let far : nat_lt (host_start p + i) (host_start p) ≡ false = not-below (host_start p + i) (host_start p) (omega arith) in
+    let far : nat_lt (host_start p + i) (host_start p) ≡ false = le-ltb (host_start p + i) (host_start p) (omega arith) in
     rw (host-reading s p h k f o, far, after-start (host_start p) i, e) refl
 
 letter-in-host : (s : Tests) (m : CanonMode) (t : Parts) (p : AuthorityParts) (i : ℕ) (h g : List ℕ) → IsSpec s → FitsAuthority s p → is_host s h ≡ true
@@ -110,7 +104,7 @@ letter-in-host : (s : Tests) (m : CanonMode) (t : Parts) (p : AuthorityParts) (i
     → step_in s m (with_authority t (record p { host = h })) (HostLetter (host_start p + i)) ≡ Some (with_authority t (record p { host = g }))
 unfolding step_in
 letter-in-host s m t p i h g k f o a e =
-    let far : nat_lt (host_start p + i) (host_start p) ≡ false = not-below (host_start p + i) (host_start p) (omega arith) in
+    let far : nat_lt (host_start p + i) (host_start p) ≡ false = le-ltb (host_start p + i) (host_start p) (omega arith) in
     rw (host-reading s p h k f o, a, far, after-start (host_start p) i, e) refl
 
 pub host-place : (s : Tests) (t : Parts) (p : AuthorityParts) → IsSpec s → FitsAuthority s p

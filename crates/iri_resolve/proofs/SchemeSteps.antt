@@ -3,6 +3,7 @@ use Rattle.std.proofs.Common.{◌≡◌, ◌≢◌, ◌↔◌, ℕ, Bool, true, 
 use Rattle.std.proofs.Common.{◌∙◌, ap, subst}
 use Rattle.std.specs.Prelude.{IsSome, codes}
 use Rattle.std.specs.Str.{str_eq_ignore_ascii_case}
+use Rattle.std.proofs.lemmas.Option.{cond_some}
 use Rattle.iri_grammar.specs.Authority.{AuthorityParts, FitsAuthority, authority_parts, is_authority, recompose_authority}
 use Rattle.iri_grammar.specs.Classes.{Tests, IsSpec, path_char}
 use Rattle.iri_grammar.specs.Components.{if_there}
@@ -25,7 +26,7 @@ use Rattle.iri_resolve.specs.NormalSteps.{default_port_steps, has_port, is_port_
 use Rattle.iri_resolve.specs.declared.step.Step.{Step}
 use Rattle.iri_resolve.specs.declared.step.Step.TheVariants.{SchemeLetter, HostLetter, HexDigit, Decode, EmptyPort, Dots, DefaultPort, SlashPath}
 use Rattle.iri_normal.proofs.AuthorityForm.{normal-parts}
-use Rattle.iri_resolve.proofs.AuthoritySteps.{in_part-is, letter-changed, placed-is, port-changed}
+use Rattle.iri_resolve.proofs.AuthoritySteps.{letter-changed, port-changed, placed-gives, part-gives}
 use Rattle.iri_resolve.proofs.NormalStepLemmas.{plain-led}
 use Rattle.iri_resolve.proofs.Leads.{replayed_in-append}
 use Rattle.iri_normal.proofs.FormLaws.{normal-slash, normal_in-fits}
@@ -73,9 +74,7 @@ without-kept s d a k h g =
 port-dropped : (d : Option (List ℕ)) (p : AuthorityParts) (o : Option (List ℕ)) (b : List ℕ) → without_dropped_port d p o ≡ Some b
     → (is_port_dropped d o ≡ true) × (recompose_authority (record p { port = None }) ≡ b)
 port-dropped d p None b h = cc
-port-dropped d p (Some x) b h =
-    elim (is_dropped d x) as (λ v. cond v (Some (recompose_authority (record p { port = None }))) None ≡ Some b
-    → (v ≡ true) × (recompose_authority (record p { port = None }) ≡ b)) [ true ↦ λ k. (refl, cc) | false ↦ λ k. cc ] h
+port-dropped d p (Some x) b h = cond_some (is_dropped d x) (recompose_authority (record p { port = None })) b h
 
 still-stands : (d : Option (List ℕ)) (a b p : List ℕ) → becomes_slash d (Some a) p ≡ becomes_slash d (Some b) p
 still-stands None a b p = refl
@@ -104,14 +103,6 @@ default_port-kept s m t a b k v e h =
     }
 
 -- ---- the empty path
-slash-given : (d : Option (List ℕ)) (t : Parts) (p : List ℕ) → with_slash d t ≡ Some p
-    → (becomes_slash d t.authority t.path ≡ true) × (p ≡ 47 ∷ [])
-slash-given d t p h =
-    elim (becomes_slash d t.authority t.path) as (λ b. cond b (Some (47 ∷ [])) None ≡ Some p → (b ≡ true) × (p ≡ 47 ∷ [])) [
-      | true ↦ λ k. (refl, cc)
-      | false ↦ λ k. cc
-    ] h
-
 slash-stands : (d a : Option (List ℕ)) (p : List ℕ) → becomes_slash d a p ≡ true → (z : List ℕ) × (a ≡ Some z)
 slash-stands None a p h = cc
 slash-stands (Some d) None p h = cc
@@ -140,28 +131,23 @@ slash-kept s m t v h =
 -- ---- each step
 pub step_in-kept : (s : Tests) (m : CanonMode) (t u : Parts) (x : Step) → IsSpec s → Valid s t → step_in s m t x ≡ Some u → KeptIn s m t u
 unfolding step_in
-step_in-kept s m t u (SchemeLetter i) k v h =
-    let r = placed-is (λ x. record t { scheme = Some x }) (in_part (with_small_letter i) t.scheme) u h in
-    let q = in_part-is (with_small_letter i) t.scheme r.0 r.1 in
-    kept_in s m t u k v (subst (λ z. Kept s t z) r.2 (scheme-step s t i q.0 r.0 v q.1 q.2))
+step_in-kept s m t u (SchemeLetter i) k v h = kept_in s m t u k v (part-gives (Kept s t) (λ x. record t { scheme = Some x })
+    (with_small_letter i) t.scheme u h (λ a b e f. scheme-step s t i a b v e f))
 step_in-kept s m t u (HostLetter i) k v h = kept_in s m t u k v
     (authority-changed s t u (λ a. with_small_letter_in_host i (authority_parts a)) k v (λ a b o e. letter-changed s i a b k o e) h)
 step_in-kept s m t u (HexDigit part i) k v h = kept_in s m t u k v (change-kept s with_capital_digit t u part i k (capital-keeps s) v h)
 step_in-kept s m t u (Decode part i) k v h = kept_in s m t u k v (change-kept s (with_decoded s) t u part i k (decoding-keeps s k) v h)
 step_in-kept s m t u EmptyPort k v h = kept_in s m t u k v
     (authority-changed s t u (λ a. without_empty_port (authority_parts a) (authority_parts a).port) k v (λ a b o e. port-changed s a b k o e) h)
-step_in-kept s m t u Dots k v h =
-    let r = placed-is (λ p. record t { path = p }) (with_dots_removed t) u h in
-    kept_in s m t u k v (subst (λ z. Kept s t z) (ap (λ p. record t { path = p }) (dots-removed t r.0 r.1) ∙ r.2) (dots-step s t k v))
+step_in-kept s m t u Dots k v h = kept_in s m t u k v (placed-gives (Kept s t) (λ p. record t { path = p }) (with_dots_removed t) u h
+    (λ b e. subst (λ p. Kept s t (record t { path = p })) (dots-removed t b e) (dots-step s t k v)))
 step_in-kept s m t u DefaultPort k v h =
     let change : List ℕ → Option (List ℕ) = λ a. without_dropped_port (dropped_port m t.scheme) (authority_parts a) (authority_parts a).port in
-    let r = placed-is (λ a. record t { authority = Some a }) (in_part change t.authority) u h in
-    let q = in_part-is change t.authority r.0 r.1 in
-    subst (λ z. KeptIn s m t z) r.2 (default_port-kept s m t q.0 r.0 k v q.1 q.2)
+    part-gives (KeptIn s m t) (λ a. record t { authority = Some a }) change t.authority u h (λ a b e f. default_port-kept s m t a b k v e f)
 step_in-kept s m t u SlashPath k v h =
-    let r = placed-is (λ p. record t { path = p }) (with_slash (dropped_port m t.scheme) t) u h in
-    let q = slash-given (dropped_port m t.scheme) t r.0 r.1 in
-    subst (λ z. KeptIn s m t z) (ap (λ p. record t { path = p }) (sym q.1) ∙ r.2) (slash-kept s m t v q.0)
+    placed-gives (KeptIn s m t) (λ p. record t { path = p }) (with_slash (dropped_port m t.scheme) t) u h
+    (λ b e. let q = cond_some (becomes_slash (dropped_port m t.scheme) t.authority t.path) (47 ∷ []) b e in
+    subst (λ p. KeptIn s m t (record t { path = p })) q.1 (slash-kept s m t v q.0))
 
 -- ---- lists of steps
 pub valid_in : (s : Tests) (m : CanonMode) (t u : Parts) → KeptIn s m t u → Valid s u

@@ -8,22 +8,20 @@ use Rattle.iri_grammar.specs.Authority.{authority_parts, is_authority}
 use Rattle.iri_grammar.specs.Classes.{Tests, IsSpec, path_char, query_char, fragment_char}
 use Rattle.iri_grammar.specs.Components.{if_there, is_scheme, is_scheme_char, is_letter, is_path, is_query, is_fragment}
 use Rattle.iri_grammar.proofs.CutLaws.{both}
-use Rattle.iri_grammar.specs.Parts.{Parts, Fits, path_rules, is_empty, starts_with_slash}
+use Rattle.iri_grammar.specs.Parts.{Parts, Fits, path_rules}
 use Rattle.iri_percent.specs.Triplets.{as_it_is, pct}
 use Rattle.iri_percent.proofs.WholeLaws.{path-whole, query-whole, fragment-whole, path_percent, query_percent, fragment_percent}
 use Rattle.iri_normal.specs.DotRemoval.{dots}
 use Rattle.iri_normal.specs.Guard.{guard}
 use Rattle.iri_normal.specs.NormalForm.{normal_path, normal_form, form}
-use Rattle.iri_normal.proofs.PathLaws.{dots-over, dots-slash, dots-nothing}
 use Rattle.iri_normal.proofs.StableLaws.{guarded-stable}
-use Rattle.iri_normal.proofs.TargetLaws.{slash_in_path}
 use Rattle.iri_normal.proofs.TripletPaths.{dots-pct}
 use Rattle.iri_resolve.specs.Changes.{with_small_letter}
 use Rattle.iri_resolve.specs.Steps.{at_place, in_part, in_userinfo_or_host, placed, with_dots_removed}
 use Rattle.iri_resolve.proofs.ByteLaws.{small_letter}
 use Rattle.iri_resolve.proofs.ChangeKeeps.{TripletChange, rules-same}
-use Rattle.iri_resolve.proofs.AuthoritySteps.{AuthorityChange, authority-kept, triplets-changed}
-use Rattle.iri_resolve.proofs.AuthoritySteps.{lowered-change, placed-is, in_part-is}
+use Rattle.iri_resolve.proofs.AuthoritySteps.{AuthorityChange, authority-kept, triplets-changed, placed-gives, part-gives}
+use Rattle.iri_resolve.proofs.AuthoritySteps.{lowered-change}
 use Rattle.iri_resolve.specs.declared.step.Part.{Part}
 use Rattle.iri_resolve.specs.declared.step.Part.TheVariants.{Authority, Path, Query, Fragment}
 use Rattle.iri_percent.proofs.ClassLaws.{in_fragment}
@@ -31,8 +29,7 @@ use Rattle.iri_percent.proofs.ClassLaws.{in_path}
 use Rattle.iri_percent.proofs.ClassLaws.{in_query}
 use Rattle.iri_normal.proofs.FormLaws.{lower-letter}
 use Rattle.iri_normal.proofs.FormLaws.{lower-scheme_char}
-use Rattle.iri_normal.proofs.PathLaws.{guard-over}
-use Rattle.iri_normal.proofs.PathLaws.{guarded, point_in_path}
+use Rattle.iri_normal.proofs.PathLaws.{plain-over, plain-rules}
 
 -- u is valid, has a scheme, and has the normal form of t
 pub record Kept (s : Tests) (t u : Parts) : Type 0 where
@@ -129,25 +126,15 @@ path-triplets s change t i u k c v h =
       form = rw same refl;
     }
 
-rooted : (p : List ℕ) → (is_empty p || starts_with_slash p) ≡ true → (is_empty (dots p) || starts_with_slash (dots p)) ≡ true
-rooted [] h = rw dots-nothing refl
-rooted (x ∷ xs) h = slashed (dots (x ∷ xs)) (dots-slash (x ∷ xs) h)
-  where
-    slashed : (q : List ℕ) → starts_with_slash q ≡ true → (is_empty q || starts_with_slash q) ≡ true
-    slashed [] k = refl
-    slashed (y ∷ ys) k = k
-
 dots-rules : (o a : Option (List ℕ)) (p : List ℕ) → IsSome o → path_rules o a p ≡ true → path_rules o a (guard (dots p) (is_some a)) ≡ true
 dots-rules None a p i h = cc
-dots-rules (Some x) (Some a) p i h = rooted p h
-dots-rules (Some x) None p i h = guarded (dots p)
+dots-rules (Some x) a p i h = plain-rules x a p h
 
 pub dots-step : (s : Tests) (t : Parts) → IsSpec s → Valid s t → Kept s t (record t { path = guard (dots t.path) (is_some t.authority) })
 unfolding normal_form form normal_path
 dots-step s t k v = record {
   fits = path-fits s t (guard (dots t.path) (is_some t.authority)) v.fits
-      (guard-over (path_char s) (dots t.path) (is_some t.authority) (slash_in_path s) (point_in_path s)
-      (dots-over (path_char s) t.path (slash_in_path s) v.fits.path)) (dots-rules t.scheme t.authority t.path v.scheme v.fits.rules);
+      (plain-over s t.authority t.path v.fits.path) (dots-rules t.scheme t.authority t.path v.scheme v.fits.rules);
   scheme = v.scheme;
   form = rw (guarded-stable t.path (is_some t.authority)) refl;
 }
@@ -162,17 +149,11 @@ query-triplets : (s : Tests) (change : ℕ → List ℕ → Option (List ℕ)) (
     → Valid s t → t.query ≡ Some q → change i q ≡ Some u → Kept s t (record t { query = Some u })
 unfolding normal_form form
 query-triplets s change t i q u k c v e h =
+    let f = v.fits in
     let old : is_query s q ≡ true = ap (if_there (is_query s)) (sym e) ∙ v.fits.query in
     let new : is_query s u ≡ true = c.over (query_char s) i q u (query_percent s k) (in_query s) h old in
     record {
-      fits = record {
-        scheme = v.fits.scheme;
-        authority = v.fits.authority;
-        path = v.fits.path;
-        query = new;
-        fragment = v.fits.fragment;
-        rules = v.fits.rules;
-      };
+      fits = record { scheme = f.scheme; authority = f.authority; path = f.path; query = new; fragment = f.fragment; rules = f.rules };
       scheme = v.scheme;
       form = rw (e, c.form as_it_is i q u h (query-whole s q k old) (query-whole s u k new)) refl;
     }
@@ -181,17 +162,11 @@ fragment-triplets : (s : Tests) (change : ℕ → List ℕ → Option (List ℕ)
     → TripletChange s change → Valid s t → t.fragment ≡ Some q → change i q ≡ Some u → Kept s t (record t { fragment = Some u })
 unfolding normal_form form
 fragment-triplets s change t i q u k c v e h =
+    let f = v.fits in
     let old : is_fragment s q ≡ true = ap (if_there (is_fragment s)) (sym e) ∙ v.fits.fragment in
     let new : is_fragment s u ≡ true = c.over (fragment_char s) i q u (fragment_percent s k) (in_fragment s) h old in
     record {
-      fits = record {
-        scheme = v.fits.scheme;
-        authority = v.fits.authority;
-        path = v.fits.path;
-        query = v.fits.query;
-        fragment = new;
-        rules = v.fits.rules;
-      };
+      fits = record { scheme = f.scheme; authority = f.authority; path = f.path; query = f.query; fragment = new; rules = f.rules };
       scheme = v.scheme;
       form = rw (e, c.form as_it_is i q u h (fragment-whole s q k old) (fragment-whole s u k new)) refl;
     }
@@ -200,23 +175,16 @@ fragment-triplets s change t i q u k c v e h =
 pub authority-changed : (s : Tests) (t u : Parts) (change : List ℕ → Option (List ℕ)) → IsSpec s → Valid s t
     → ((a b : List ℕ) → is_authority s a ≡ true → change a ≡ Some b → AuthorityChange s a b)
     → placed (λ a. record t { authority = Some a }) (in_part change t.authority) ≡ Some u → Kept s t u
-authority-changed s t u change k v go h =
-    let r = placed-is (λ a. record t { authority = Some a }) (in_part change t.authority) u h in
-    let q = in_part-is change t.authority r.0 r.1 in
-    subst (λ z. Kept s t z) r.2 (authority-step s t q.0 r.0 k v q.1 (λ o. go q.0 r.0 o q.2))
+authority-changed s t u change k v go h = part-gives (Kept s t) (λ a. record t { authority = Some a }) change t.authority u h
+    (λ a b e f. authority-step s t a b k v e (λ o. go a b o f))
 
 pub change-kept : (s : Tests) (change : ℕ → List ℕ → Option (List ℕ)) (t u : Parts) (part : Part) (i : ℕ) → IsSpec s
     → TripletChange s change → Valid s t → at_place change t part i ≡ Some u → Kept s t u
 change-kept s change t u Authority i k c v h = authority-changed s t u (λ a. in_userinfo_or_host change i (authority_parts a)) k v
     (λ a b o e. triplets-changed s change i a b k c o e) h
-change-kept s change t u Path i k c v h =
-    let r = placed-is (λ p. record t { path = p }) (change i t.path) u h in
-    subst (λ z. Kept s t z) r.2 (path-triplets s change t i r.0 k c v r.1)
-change-kept s change t u Query i k c v h =
-    let r = placed-is (λ p. record t { query = Some p }) (in_part (change i) t.query) u h in
-    let q = in_part-is (change i) t.query r.0 r.1 in
-    subst (λ z. Kept s t z) r.2 (query-triplets s change t i q.0 r.0 k c v q.1 q.2)
-change-kept s change t u Fragment i k c v h =
-    let r = placed-is (λ p. record t { fragment = Some p }) (in_part (change i) t.fragment) u h in
-    let q = in_part-is (change i) t.fragment r.0 r.1 in
-    subst (λ z. Kept s t z) r.2 (fragment-triplets s change t i q.0 r.0 k c v q.1 q.2)
+change-kept s change t u Path i k c v h = placed-gives (Kept s t) (λ p. record t { path = p }) (change i t.path) u h
+    (λ b e. path-triplets s change t i b k c v e)
+change-kept s change t u Query i k c v h = part-gives (Kept s t) (λ p. record t { query = Some p }) (change i) t.query u h
+    (λ a b e f. query-triplets s change t i a b k c v e f)
+change-kept s change t u Fragment i k c v h = part-gives (Kept s t) (λ p. record t { fragment = Some p }) (change i) t.fragment u h
+    (λ a b e f. fragment-triplets s change t i a b k c v e f)

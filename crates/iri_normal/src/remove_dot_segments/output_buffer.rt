@@ -5,7 +5,7 @@ ghost use Rattle.iri_grammar.specs.Characters.{slash};
 ghost use Rattle.iri_grammar.specs.Parts.{is_empty};
 ghost use Rattle.iri_grammar.specs.Pieces.{pieces};
 ghost use Rattle.iri_normal.specs.DotRemoval.{dots};
-ghost use Rattle.iri_normal.specs.Kept.{kept};
+ghost use Rattle.iri_normal.specs.inside.Kept.{kept};
 ghost use Rattle.iri_normal.specs.Target.{ends_at_slash};
 ghost use Rattle.iri_normal.specs.inside.Written.{left, popped, popped_times, written};
 

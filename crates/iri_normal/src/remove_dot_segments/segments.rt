@@ -6,7 +6,7 @@ ghost use Rattle.iri_grammar.specs.Components.{is_path};
 ghost use Rattle.iri_grammar.specs.Cut.{before, lacks};
 ghost use Rattle.iri_grammar.specs.Pieces.{pieces};
 ghost use Rattle.iri_normal.specs.Dots.{is_dot_segment};
-ghost use Rattle.iri_normal.specs.Kept.{taken};
+ghost use Rattle.iri_normal.specs.inside.Kept.{taken};
 ghost use Rattle.iri_normal.specs.Target.{ends_at_slash};
 ghost use Rattle.iri_normal.specs.inside.CutText.{IsCut};
 ghost use Rattle.iri_normal.specs.inside.Written.{written};

@@ -3,15 +3,17 @@ use Rattle.iri_text.proofs.Compose.{shown_none, shows_all, shows_exit, shows_the
 use Rattle.iri_text.specs.Shown.{Shows}
 use Rattle.iri_grammar.specs.Components.{is_path}
 use Rattle.iri_grammar.specs.Pieces.{pieces}
+use Rattle.iri_grammar.specs.Classes.{path_char}
 use Rattle.iri_percent.proofs.WholeLaws.{path-whole}
-use Rattle.iri_normal.specs.Kept.{kept}
-use Rattle.iri_normal.specs.PathForm.{in_form}
+use Rattle.iri_normal.specs.inside.Kept.{kept}
+use Rattle.iri_normal.specs.inside.PathForm.{in_form}
 use Rattle.std.specs.Prelude.{◌==◌}
 use Rattle.iri_normal.specs.Target.{ends_at_slash}
 use Rattle.iri_normal.proofs.EndedLemmas.{rest-ok}
 use Rattle.iri_normal.proofs.KeptLemmas.{kept-plain, one-segment}
-use Rattle.iri_normal.proofs.LongLemmas.{form-two, path-two}
+use Rattle.iri_normal.proofs.LongLemmas.{form-two}
 use Rattle.iri_normal.proofs.WriterLemmas.{form-nil}
+use Rattle.iri_normal.proofs.TargetLaws.{parts_over}
 use Rattle.iri_normal.proofs.remove_dot_segments.+show_kept.Goals as goal
 
 pub show_part-requires : goal.show_part-requires
@@ -31,7 +33,7 @@ show_kept-requires g t c =
     let size = ap length h.whole ∙ length-append c.in-Some.first.now c.in-Some.rest.now in
     let smaller : length c.in-Some.first.now < length c.args.text.now = omega (arith, size, h.rest_some) in
     let old_path : is_path g.S.Spec.tests c.args.text.now ≡ true = assumption in
-    let path = (path-two g.S.Spec.tests c.in-Some.first.now c.in-Some.rest.now h.ends
+    let path = (parts_over (path_char g.S.Spec.tests) c.in-Some.first.now c.in-Some.rest.now h.ends
     (subst (λ l. is_path g.S.Spec.tests l ≡ true) h.whole old_path)).0 in
     let old_room : c.args.count + length c.args.text.now < 2 ^ 64 = assumption in
     let ok : (ends_at_slash c.in-Some.first.now || c.taken.result == 0) ≡ true = ap (λ b. b || c.taken.result == 0) h.ends in
@@ -52,7 +54,7 @@ show_kept-requires-2 g t c =
     let size = ap length h.whole ∙ length-append c.in-Some.first.now c.in-Some.rest.now in
     let smaller : length c.in-Some.rest.now < length c.args.text.now = omega (arith, size, h.first_some) in
     let old_path : is_path g.S.Spec.tests c.args.text.now ≡ true = assumption in
-    let path = (path-two g.S.Spec.tests c.in-Some.first.now c.in-Some.rest.now h.ends
+    let path = (parts_over (path_char g.S.Spec.tests) c.in-Some.first.now c.in-Some.rest.now h.ends
     (subst (λ l. is_path g.S.Spec.tests l ≡ true) h.whole old_path)).1 in
     let old_room : c.args.count + length c.args.text.now < 2 ^ 64 = assumption in
     let old_ok : (ends_at_slash c.args.text.now || c.args.count == 0) ≡ true = assumption in

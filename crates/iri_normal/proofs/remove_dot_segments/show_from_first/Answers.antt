@@ -6,10 +6,11 @@ use Rattle.iri_grammar.specs.Cut.{lacks}
 use Rattle.iri_grammar.specs.OptionalSlices.{now_of}
 use Rattle.iri_grammar.specs.Pieces.{pieces}
 use Rattle.iri_percent.proofs.WholeLaws.{path-whole}
-use Rattle.iri_normal.specs.Kept.{kept}
-use Rattle.iri_normal.specs.PathForm.{in_form}
+use Rattle.iri_normal.specs.inside.Kept.{kept}
+use Rattle.iri_normal.specs.inside.PathForm.{in_form}
 use Rattle.iri_normal.specs.inside.Written.{popped_times}
-use Rattle.iri_normal.proofs.LongLemmas.{before-lacks, count-ends, first-path, form-three, more-ends, one-alone}
+use Rattle.iri_normal.proofs.LongLemmas.{count-ends, first-path, form-three, more-ends, one-alone}
+use Rattle.iri_normal.proofs.SlashLemmas.{before-lacks}
 use Rattle.iri_normal.proofs.remove_dot_segments.show_from_first.Goals as goal
 
 pub show_part-requires : goal.show_part-requires
@@ -28,7 +29,7 @@ show_first-requires-clause-path g c =
     ∙ (first-path g.S.Spec.tests c.args.text.now c.in-Some.rest.now e c.requires.paths.0).0
 
 pub show_first-requires-clause-one : goal.show_first-requires-clause-one
-show_first-requires-clause-one g c = ap (lacks 47) c.cut.ensures.before ∙ before-lacks c.args.text.now
+show_first-requires-clause-one g c = ap (lacks 47) c.cut.ensures.before ∙ before-lacks 47 c.args.text.now
 
 pub returns-in_err-show_first : goal.returns-in_err-show_first
 returns-in_err-show_first g c =

@@ -1,4 +1,3 @@
-use Rattle.std.proofs.Common.{ap}
 use Rattle.iri_normal.proofs.PlainReferences.{none-noted, plain-prefix}
 use Rattle.iri_grammar.specs.Splitters.{parts}
 use Rattle.iri_normal.proofs.unchanged.keeps_prefix.Goals as goal

@@ -2,8 +2,8 @@ use Rattle.std.proofs.Common.{◌≡◌, sym, ◌∙◌, ap, true}
 use Rattle.std.specs.Prelude.{slice_index, slice_set, string_bytes}
 use Rattle.std.specs.Char.{to_ascii_uppercase}
 use Rattle.iri_resolve.specs.Changes.{is_in_triplet, is_small_digit}
-use Rattle.iri_resolve.proofs.Edits.{no_digit, digit_outside, digit, in_text, digit_low}
-use Rattle.iri_resolve.proofs.ByteLaws.{digit_some}
+use Rattle.iri_resolve.proofs.Edits.{no_digit, digit_outside, digit}
+use Rattle.iri_resolve.proofs.ByteLaws.{digit_some, in_text, digit_low}
 use Rattle.iri_resolve.proofs.change.capital_digit.Goals as goal
 
 pub returns-then-not-is_small_digit_at : goal.returns-then-not-is_small_digit_at

@@ -1,7 +1,8 @@
 use Rattle.std.proofs.Common.{sym, ap, ◌∙◌}
+use Rattle.std.proofs.lemmas.List.{take_rest}
 use Rattle.iri_percent.specs.Units.{octets}
 use Rattle.iri_percent.specs.NormalLaws.{decoded}
-use Rattle.iri_resolve.proofs.Edits.{after_end, rest_all}
+use Rattle.iri_resolve.proofs.Edits.{after_end}
 use Rattle.iri_resolve.proofs.change.spelled_at.Goals as goal
 
 pub returns-then-text-i : goal.returns-then-text-i
@@ -9,4 +10,4 @@ returns-then-text-i g c = sym (after_end g.S.Spec.tests c.args.i c.args.text.now
 
 pub returns : goal.returns
 returns g c = c.decoded_char.ensures ∙ ap (λ t. decoded g.S.Spec.tests (octets t))
-    (rest_all c.args.text.now c.args.i)
+    (take_rest c.args.text.now c.args.i)

@@ -1,11 +1,12 @@
 use Rattle.std.proofs.Common.{◌≡◌, ◌+◌, length, sym, ◌∙◌, ap, arith, subst}
+use Rattle.std.proofs.lemmas.List.{nil_from_length, take_rest}
+use Rattle.std.proofs.lemmas.Bool.{eqb-true}
 use Rattle.iri_percent.proofs.NormalLaws.{normal_nil}
 use Rattle.iri_percent.specs.Triplets.{normal}
 use Rattle.iri_percent.specs.Units.{whole_triplets}
 use Rattle.iri_percent.specs.inside.Pieces.{case_of}
 use Rattle.iri_resolve.specs.NormalSteps.{component_steps}
-use Rattle.iri_resolve.proofs.ComponentLemmas.{nothing, prefix-is, something, walk-ended, walk-stopped, walked-on}
-use Rattle.iri_resolve.proofs.Edits.{rest_all}
+use Rattle.iri_resolve.proofs.ComponentLemmas.{prefix-is, something, walk-ended, walk-stopped, walked-on}
 use Rattle.iri_resolve.proofs.Going.{Going, done-err, going}
 use Rattle.iri_resolve.proofs.component_steps.push_component.Goals as goal
 
@@ -44,16 +45,18 @@ pub prefixes-preserved : goal.prefixes-preserved
 prefixes-preserved g c =
     let w = walked-on g.met.T.StepSink.rules g.S.Spec.tests c.args.part c.args.lower c.args.start c.args.text.now c.prefixes.at c.prefixes.rest.now g.met.S.Spec.lawful
     (something c.prefixes.rest.now (sym c.is_empty.ensures ∙ c.prefixes-test.true)) c.prefixes.invariant c.in_ok-prefix.ensures.steps in
-    rw (rest_all c.prefixes.rest.now c.in_ok-prefix.prefix.len, c.in_ok-prefix.ensures.len, c.in_ok-prefix.ensures.normal_len) w
+    rw (take_rest c.prefixes.rest.now c.in_ok-prefix.prefix.len, c.in_ok-prefix.ensures.len, c.in_ok-prefix.ensures.normal_len) w
 
 pub returns-clause-steps : goal.returns-clause-steps
 returns-clause-steps g c =
     walk-ended g.met.T.StepSink.rules g.S.Spec.tests c.args.part c.args.lower c.args.start c.args.text.now c.prefixes.at c.prefixes.rest.now g.met.S.Spec.lawful
-    (nothing c.prefixes.rest.now (sym c.is_empty.ensures ∙ c.prefixes-test.false)) c.prefixes.invariant
+    (nil_from_length c.prefixes.rest.now
+    (eqb-true (length c.prefixes.rest.now) 0 (sym c.is_empty.ensures ∙ c.prefixes-test.false))) c.prefixes.invariant
 
 pub returns-clause-place : goal.returns-clause-place
 returns-clause-place g c =
-    let rest = nothing c.prefixes.rest.now (sym c.is_empty.ensures ∙ c.prefixes-test.false) in
+    let rest = nil_from_length c.prefixes.rest.now
+    (eqb-true (length c.prefixes.rest.now) 0 (sym c.is_empty.ensures ∙ c.prefixes-test.false)) in
     let none = ap (λ z. length (normal g.S.Spec.tests (case_of c.args.lower) z)) rest
     ∙ ap length (normal_nil g.S.Spec.tests (case_of c.args.lower)) in
     omega (arith, none, c.prefixes.invariant.place)

@@ -1,12 +1,12 @@
 use Rattle.std.proofs.Common.{◌-◌, ◌<◌, ◌≤◌, ◌∙◌, ap, subst}
 use Rattle.std.specs.Prelude.{string_bytes}
+use Rattle.std.proofs.lemmas.Bool.{lt-ltb, le-ltb}
 use Rattle.iri_percent.proofs.Authorities.{part_whole}
 use Rattle.iri_percent.proofs.WholeLaws.{host-whole, userinfo-whole}
 use Rattle.iri_grammar.specs.Components.{is_userinfo}
 use Rattle.iri_normal.specs.Resolver.{bytes_of}
 use Rattle.iri_resolve.specs.inside.ChangeOf.{change_of}
 use Rattle.iri_resolve.proofs.ChangeOf.{change-keeps}
-use Rattle.iri_resolve.proofs.Places.{below, not-below}
 use Rattle.iri_resolve.specs.inside.Reached.{authority_of}
 use Rattle.iri_resolve.specs.Steps.{host_start}
 use Rattle.iri_resolve.proofs.ReachedLemmas.{userinfo-on, host-on}
@@ -23,12 +23,12 @@ pub returns-then-i-start : goal.returns-then-i-start
 returns-then-i-start g c =
     userinfo-on g.S.Spec.tests (change_of g.S.Spec.tests c.args.change) c.args.i c.args.authority.now c.changed_there.new.text c.in_ok-went.went
     g.met.S.Spec.lawful (change-keeps g.S.Spec.tests c.args.change g.met.S.Spec.lawful) c.requires
-    (below c.args.i (host_start (authority_of c.args.authority.now)) (subst (λ n. c.args.i < n) c.host_start-start.ensures c.if-i-start.true))
+    (lt-ltb c.args.i (host_start (authority_of c.args.authority.now)) (subst (λ n. c.args.i < n) c.host_start-start.ensures c.if-i-start.true))
     c.in_ok-went.ensures
 
 pub returns : goal.returns
 returns g c =
     host-on g.S.Spec.tests (change_of g.S.Spec.tests c.args.change) c.args.i c.args.authority.now c.changed.new.text c.in_ok-went-2.went
     g.met.S.Spec.lawful (change-keeps g.S.Spec.tests c.args.change g.met.S.Spec.lawful) c.requires
-    (not-below c.args.i (host_start (authority_of c.args.authority.now)) (subst (λ n. n ≤ c.args.i) c.host_start-start.ensures c.if-i-start.false))
+    (le-ltb c.args.i (host_start (authority_of c.args.authority.now)) (subst (λ n. n ≤ c.args.i) c.host_start-start.ensures c.if-i-start.false))
     (c.in_ok-went-2.ensures ∙ ap (λ n. change_of g.S.Spec.tests c.args.change (c.args.i - n) (string_bytes c.args.authority.now.host)) c.host_start-start.ensures)

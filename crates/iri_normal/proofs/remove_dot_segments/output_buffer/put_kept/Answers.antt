@@ -1,19 +1,19 @@
 use Rattle.std.proofs.Common.{◌∷◌, ◌||◌, ◌∙◌, [], refl, ap, arith}
 use Rattle.std.specs.Prelude.{◌==◌}
+use Rattle.std.proofs.Math.Bool.{or-true}
 use Rattle.iri_grammar.specs.Parts.{is_empty}
 use Rattle.iri_grammar.specs.Pieces.{pieces}
-use Rattle.iri_normal.specs.Kept.{kept}
+use Rattle.iri_normal.specs.inside.Kept.{kept}
 use Rattle.iri_normal.specs.Target.{ends_at_slash}
 use Rattle.iri_normal.specs.inside.Written.{popped_times, written}
 use Rattle.iri_normal.proofs.KeptLemmas.{after-slash, buffer-some, put-ends}
 use Rattle.iri_normal.proofs.OutputLemmas.{first-slash}
-use Rattle.iri_normal.proofs.SegmentLemmas.{or_true}
 use Rattle.iri_normal.proofs.remove_dot_segments.output_buffer.put_kept.Goals as goal
 
 pub put-all-requires-clause-ends : goal.put-all-requires-clause-ends
 put-all-requires-clause-ends c =
     ap (λ l. is_empty c.args.text.now || ends_at_slash l) (first-slash c.args.buf.now (omega (arith, c.told-buf)))
-    ∙ or_true (is_empty c.args.text.now)
+    ∙ or-true (is_empty c.args.text.now)
 
 pub pop_times-requires-clause-ends : goal.pop_times-requires-clause-ends
 pop_times-requires-clause-ends c =

@@ -1,9 +1,8 @@
-use Rattle.std.proofs.Common.{◌≡◌, ◌∙◌, false, ap, subst, sym}
+use Rattle.std.proofs.Common.{◌∙◌, false, ap, subst, sym}
 use Rattle.std.specs.Prelude.{MatchOption}
 use Rattle.iri_grammar.specs.Parts.{Fits, Parts}
 use Rattle.iri_grammar.specs.Seen.{may_have_dots}
 use Rattle.iri_grammar.specs.Split.{split_of}
-use Rattle.iri_grammar.specs.Splitters.{parts}
 use Rattle.iri_types.specs.SplitText.{split_text}
 use Rattle.iri_normal.specs.Prefix.{prefix_in}
 use Rattle.iri_normal.specs.Resolver.{base_text}
