@@ -1,8 +1,9 @@
 -- What is answered of bytes, from what is answered of a text.
-use Rattle.std.proofs.Common.{◌≡◌, ℕ, List, true, false, cond, Some, Result, Ok, Err, refl, sym, ap, ◌∙◌, subst}
+use Rattle.std.proofs.Common.{◌≡◌, ℕ, List, cond, Some, Result, Ok, Err, sym, ap, ◌∙◌, subst}
 use Rattle.std.specs.Prelude.{MatchResult}
 use Rattle.std.specs.Str.{is_utf8, IsUtf8}
 use Rattle.std.specs.Str.Lossy.{utf8_valid_len}
+use Rattle.std.proofs.lemmas.Bool.{false_from_ne_true}
 use Rattle.std.proofs.lemmas.Str.{is_utf8-from_IsUtf8, IsUtf8-from_is_utf8}
 use Rattle.iri_grammar.specs.Classes.{Tests}
 use Rattle.iri_link.specs.Fault.{Told, field_fault, place_in, fault_from}
@@ -37,12 +38,9 @@ pub of_text : (s : Tests) (base x y : List ℕ) → x ≡ y → IsUtf8 y → (r 
 of_text s base x y e u r h =
     answered s base y u r (subst (λ z. MatchResult r (λ l. ReadsField s base z l) (IsTold s z)) e h)
 
-no_text : (y : List ℕ) → (IsUtf8 y → ⊥) → is_utf8 y ≡ false
-no_text y n = elim (is_utf8 y) as (λ b. is_utf8 y ≡ b → b ≡ false) [ true ↦ λ e. absurd (n (IsUtf8-from_is_utf8 y e)) | false ↦ λ e. refl ] refl
-
 pub of_bytes : (s : Tests) (y : List ℕ) (n : ℕ) → (IsUtf8 y → ⊥) → n ≡ utf8_valid_len y → RefusedBy s y (Fault NotUtf8 n)
 of_bytes s y n u e =
     let f : field_fault s y ≡ Some (record { kind = NotUtf8; place = n }) =
-    ap (λ b. cond b (place_in y (fault_from s before_link y)) (Some (record { kind = NotUtf8; place = utf8_valid_len y }))) (no_text y u)
+    ap (λ b. cond b (place_in y (fault_from s before_link y)) (Some (record { kind = NotUtf8; place = utf8_valid_len y }))) (false_from_ne_true (is_utf8 y) (λ h. u (IsUtf8-from_is_utf8 y h)))
     ∙ ap (λ m. Some (record { kind = NotUtf8; place = m })) (sym e) in
     (f, faulty s y (record { kind = NotUtf8; place = n }) f)

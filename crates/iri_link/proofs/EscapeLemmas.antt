@@ -3,7 +3,7 @@ use Rattle.std.proofs.Common.{◌≡◌, ℕ, zero, suc, ◌+◌, ◌-◌, ◌<�
 use Rattle.std.specs.Prelude.{◌==◌, ◌||◌, slice_index, slice_range, MatchOption}
 use Rattle.std.proofs.lemmas.Grind.{common_steps}
 use Rattle.std.proofs.Math.Seq.{drop-cons}
-use Rattle.iri_grammar.proofs.CutLemmas.{false-where}
+use Rattle.std.proofs.lemmas.Bool.{false_from_ne_true}
 use Rattle.memchr.specs.Find.{IsFirstByte, is_byte2}
 use Rattle.iri_link.specs.Written.{escaped}
 use Rattle.iri_link.specs.inside.CutDelimiters.{IsDelimiterAt, IsCutAtDelimiter}
@@ -15,7 +15,7 @@ is_delimiter c = c == 34 || c == 92
 pub escaped-same : (t : List ℕ) → ((k : ℕ) → k < length t → is_delimiter (slice_index t k) ≡ true → ⊥) → escaped t ≡ t
 escaped-same [] h = refl
 escaped-same (c ∷ cs) h =
-    let none : is_delimiter c ≡ false = false-where (is_delimiter c) (h 0 (omega arith)) in
+    let none : is_delimiter c ≡ false = false_from_ne_true (is_delimiter c) (h 0 (omega arith)) in
     let rest = escaped-same cs (λ k l m. h (suc k) (omega arith) m) in
     ap (λ b. cond b (92 ∷ c ∷ escaped cs) (c ∷ escaped cs)) none ∙ ap (λ l. c ∷ l) rest
 
@@ -24,7 +24,7 @@ pub escaped-at : (t : List ℕ) (k : ℕ) → k < length t → ((j : ℕ) → j 
 escaped-at [] k l h m = absurd (omega arith)
 escaped-at (c ∷ cs) zero l h m = ap (λ b. cond b (92 ∷ c ∷ escaped cs) (c ∷ escaped cs)) m
 escaped-at (c ∷ cs) (suc k) l h m =
-    let none : is_delimiter c ≡ false = false-where (is_delimiter c) (h 0 (omega arith)) in
+    let none : is_delimiter c ≡ false = false_from_ne_true (is_delimiter c) (h 0 (omega arith)) in
     let rest = escaped-at cs k (omega arith) (λ j i n. h (suc j) (omega arith) n) m in
     ap (λ b. cond b (92 ∷ c ∷ escaped cs) (c ∷ escaped cs)) none ∙ ap (λ l. c ∷ l) rest
 

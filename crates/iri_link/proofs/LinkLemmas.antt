@@ -3,7 +3,7 @@ use Rattle.std.proofs.Common.{◌≡◌, ℕ, suc, true, false, List, [], ◌∷
 use Rattle.std.specs.Prelude.{◌==◌, ◌||◌, MatchOption, MatchResult, Result, Ok, Err}
 use Rattle.std.specs.List.{list_all}
 use denote.Bor.{Bor}
-use Rattle.std.proofs.lemmas.Bool.{eqb-true}
+use Rattle.std.proofs.lemmas.Bool.{and_parts as both, eqb-true}
 use Rattle.iri_grammar.specs.OptionalSlices.{now_of}
 use Rattle.iri_link.specs.declared.halt.Halt.{Halt}
 use Rattle.iri_link.specs.declared.halt.Halt.TheVariants.{Fault as Halted, Memory}
@@ -11,7 +11,7 @@ use Rattle.std.proofs.lemmas.List.{append-nil, map-append}
 use Rattle.std.proofs.lemmas.List.Elements.{All-append, All-nil, All-cons}
 use Rattle.iri_grammar.specs.Classes.{Tests}
 use Rattle.iri_grammar.specs.Cut.{before, after, delimited}
-use Rattle.iri_grammar.proofs.CutLaws.{both, joined}
+use Rattle.iri_grammar.proofs.CutLaws.{joined}
 use Rattle.iri_grammar.specs.WholeFault.{reference_fault}
 use Rattle.iri_grammar.specs.declared.error.Error.{Error}
 use Rattle.iri_normal.specs.NormalForm.{canonical}
@@ -19,7 +19,8 @@ use Rattle.iri_link.specs.Token.{is_blank, is_blanks}
 use Rattle.iri_link.specs.Field.{LinkParam, LinkValue, IsLink, link, IsElement, empty, link as element, IsField, last, more}
 use Rattle.iri_link.specs.Phases.{before_link, in_target, after_param, next}
 use Rattle.iri_link.specs.Fault.{fault_from, target_fault, earlier}
-use Rattle.iri_link.specs.inside.Runs.{begins, IsRun}
+use Rattle.iri_grammar.specs.inside.Runs.{first_passes}
+use Rattle.iri_link.specs.inside.Runs.{IsRun}
 use Rattle.iri_link.specs.inside.ReadParams.{ends_link, ReadsParams}
 use Rattle.iri_link.specs.inside.Halts.{HaltsAt, HaltsIn}
 use Rattle.iri_link.specs.Links.{HasReference}
@@ -138,7 +139,7 @@ kept-comma s t (Some r) e k = rw e (record {
 })
 
 -- ---- an element
-pub comma_or_end : (t : List ℕ) (o : Option (Bor (List ℕ))) → MatchOption o (begins (λ c. c == 44) t ≡ false) (λ r. t ≡ 44 ∷ r.now) → ends_link t ≡ true
+pub comma_or_end : (t : List ℕ) (o : Option (Bor (List ℕ))) → MatchOption o (first_passes (λ c. c == 44) t ≡ false) (λ r. t ≡ 44 ∷ r.now) → ends_link t ≡ true
     → (t ≡ delimited 44 (now_of o)) × ((s : Tests) → fault_from s after_param t ≡ fault_after s (now_of o))
 unfolding fault_from
 comma_or_end [] None h e = (refl, λ s. refl)
@@ -186,7 +187,7 @@ unfolding fault_from
 skips_end [] h = record { whole = refl; goes = λ s. refl }
 skips_end (c ∷ cs) h = absurd (omega (arith, eqb-true (suc (length cs)) 0 h))
 
-pub no_target : (s : Tests) (t : List ℕ) → begins is_blank t ≡ false → begins (λ c. c == 60) t ≡ false → begins (λ c. c == 44) t ≡ false → (length t == 0) ≡ false
+pub no_target : (s : Tests) (t : List ℕ) → first_passes is_blank t ≡ false → first_passes (λ c. c == 60) t ≡ false → first_passes (λ c. c == 44) t ≡ false → (length t == 0) ≡ false
     → fault_from s before_link t ≡ Some (record { kind = NoTarget; rest = t })
 unfolding fault_from
 no_target s [] a b d h = cc

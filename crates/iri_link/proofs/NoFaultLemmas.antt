@@ -1,21 +1,22 @@
 -- Field values as the grammar has them have no fault.
-use Rattle.std.proofs.Common.{◌≡◌, ℕ, true, false, not, ◌&&◌, List, [], ◌∷◌, ◌++◌, None, refl, sym, ap, ◌∙◌, subst, append_assoc}
+use Rattle.std.proofs.Common.{◌≡◌, ℕ, true, false, not, ◌&&◌, List, [], ◌∷◌, ◌++◌, Option, None, refl, sym, ap, ◌∙◌, subst, append_assoc}
 use Rattle.std.specs.Prelude.{◌==◌}
 use Rattle.std.specs.List.{list_all, All}
 use Rattle.std.proofs.lemmas.Str.{is_utf8-from_IsUtf8}
 use Rattle.std.proofs.lemmas.List.{append-nil}
 use Rattle.std.proofs.lemmas.List.Elements.{All-head, All-tail, All-cons, All-nil}
 use Rattle.iri_grammar.specs.Classes.{Tests}
-use Rattle.iri_grammar.proofs.CutLaws.{both, test_apart}
+use Rattle.std.proofs.lemmas.Bool.{and_parts as both}
+use Rattle.iri_grammar.proofs.CutLaws.{test_apart}
 use Rattle.iri_link.specs.Token.{is_pair_char, is_plain_char, is_blank, is_blanks, is_token_char, IsQuoted, done, plain, pair}
 use Rattle.iri_link.specs.Field.{LinkParam, LinkValue, IsValue, token, quoted, IsParam, bare, valued, IsParams, none, empty, param}
 use Rattle.iri_link.specs.Field.{IsLink, link, IsElement, empty as no_element, link as element, IsField, last, more}
 use Rattle.iri_link.specs.Links.{HasReference, HasLinks}
 use Rattle.iri_link.specs.Phases.{before_link, after_param, after_semicolon, in_name, after_name, after_equals, in_quoted}
-use Rattle.iri_link.specs.Fault.{fault_from, closes_from, place_in, field_fault}
-use Rattle.iri_link.specs.inside.Runs.{begins}
+use Rattle.iri_link.specs.Fault.{Fault, fault_from, closes_from, place_in, field_fault}
+use Rattle.iri_grammar.specs.inside.Runs.{first_passes}
 use Rattle.iri_link.proofs.TargetLemmas.{closed_goes}
-use Rattle.iri_link.proofs.PhaseLemmas.{equals-token, token-run, token-ends, by_blank, start-blanks, ready-blanks, semicolon-blanks, semicolon-name, equals-blanks, named-blanks, name-run, name-ends}
+use Rattle.iri_link.proofs.PhaseLemmas.{equals-token, token-run, token-ends, by_blank, start-blanks, ready-blanks, semicolon-blanks, semicolon-name, equals-blanks, named-blanks, name-equals, name-run, name-ends}
 
 pub quoted_closes : (s : Tests) (t v z : List ℕ) → IsQuoted t v → (closes_from false (t ++ 34 ∷ z) ≡ true) × (fault_from s in_quoted (t ++ 34 ∷ z) ≡ fault_from s after_param z)
 unfolding closes_from fault_from
@@ -33,7 +34,7 @@ unfolding fault_from
 equals_quoted s y h = rw h refl
 
 -- after a value nothing that a token has may stand
-pub value_goes : (s : Tests) (t v z : List ℕ) → IsValue t v → begins is_token_char z ≡ false → fault_from s after_equals (t ++ z) ≡ fault_from s after_param z
+pub value_goes : (s : Tests) (t v z : List ℕ) → IsValue t v → first_passes is_token_char z ≡ false → fault_from s after_equals (t ++ z) ≡ fault_from s after_param z
 value_goes s t v z (token [] h) e = cc
 value_goes s t v z (token (c ∷ cs) h) e =
     equals-token s ((c ∷ cs) ++ z) (both (is_token_char c) (list_all is_token_char cs) h).0 ∙ (token-run s (c ∷ cs) z h ∙ token-ends s z e)
@@ -43,23 +44,19 @@ value_goes s t v z (quoted u w q) e =
 
 -- what may follow a parameter
 pub record IsStop (s : Tests) (z : List ℕ) : Type 0 where
-  pub token_ends : begins is_token_char z ≡ false
+  pub token_ends : first_passes is_token_char z ≡ false
   pub named_ends : fault_from s after_name z ≡ fault_from s after_param z
   pub semicolon_ends : fault_from s after_semicolon z ≡ fault_from s after_param z
 
-pub blank_no_token : (a y : List ℕ) → is_blanks a ≡ true → begins is_token_char y ≡ false → begins is_token_char (a ++ y) ≡ false
+pub blank_no_token : (a y : List ℕ) → is_blanks a ≡ true → first_passes is_token_char y ≡ false → first_passes is_token_char (a ++ y) ≡ false
 blank_no_token [] y h e = e
 blank_no_token (c ∷ cs) y h e = by_blank c (λ d. is_token_char d ≡ false) refl refl (both (is_blank c) (list_all is_blank cs) h).0
-
-equals_goes : (s : Tests) (y : List ℕ) → fault_from s after_name (61 ∷ y) ≡ fault_from s after_equals y
-unfolding fault_from
-equals_goes s y = refl
 
 semicolon_same : (s : Tests) (y : List ℕ) → (fault_from s after_name (59 ∷ y) ≡ fault_from s after_semicolon y) × (fault_from s after_param (59 ∷ y) ≡ fault_from s after_semicolon y) × (fault_from s after_semicolon (59 ∷ y) ≡ fault_from s after_semicolon y)
 unfolding fault_from
 semicolon_same s y = (refl, refl, refl)
 
-pub param_goes : (s : Tests) (p z : List ℕ) (q : LinkParam) → IsParam p q → IsStop s z → (begins is_token_char (p ++ z) ≡ true) × (fault_from s in_name (p ++ z) ≡ fault_from s after_param z)
+pub param_goes : (s : Tests) (p z : List ℕ) (q : LinkParam) → IsParam p q → IsStop s z → (first_passes is_token_char (p ++ z) ≡ true) × (fault_from s in_name (p ++ z) ≡ fault_from s after_param z)
 param_goes s p z q (bare [] h) k = cc
 param_goes s p z q (bare (c ∷ cs) h) k = ((both (is_token_char c) (list_all is_token_char cs) h).0, name-run s (c ∷ cs) z h ∙ (name-ends s z k.token_ends ∙ k.named_ends))
 param_goes s p z q (valued [] a b t v h ha hb hv) k = cc
@@ -69,18 +66,19 @@ param_goes s p z q (valued (c ∷ cs) a b t v h ha hb hv) k =
       (both (is_token_char c) (list_all is_token_char cs) h).0,
       ap (fault_from s in_name) (append_assoc (c ∷ cs) (a ++ 61 ∷ (b ++ t)) z ∙ e)
           ∙ (name-run s (c ∷ cs) y h ∙ (name-ends s y (blank_no_token a (61 ∷ (b ++ (t ++ z))) ha refl)
-          ∙ (named-blanks s a (61 ∷ (b ++ (t ++ z))) ha ∙ (equals_goes s (b ++ (t ++ z)) ∙ (equals-blanks s b (t ++ z) hb ∙ value_goes s t v z hv k.token_ends))))),
+          ∙ (named-blanks s a (61 ∷ (b ++ (t ++ z))) ha ∙ (name-equals s (b ++ (t ++ z)) ∙ (equals-blanks s b (t ++ z) hb ∙ value_goes s t v z hv k.token_ends))))),
     )
 
--- blanks and a `;` end a parameter
-semicolon_stop : (s : Tests) (a y : List ℕ) → is_blanks a ≡ true → IsStop s (a ++ 59 ∷ y) × (fault_from s after_param (a ++ 59 ∷ y) ≡ fault_from s after_semicolon y)
-semicolon_stop s a y h =
-    let k = semicolon_same s y in
-    let r = ready-blanks s a (59 ∷ y) h ∙ k.1 in (
+-- blanks, and what has the same first fault after a name, a parameter and a semicolon, end a parameter
+stop_after : (s : Tests) (a y : List ℕ) (f : Option Fault) → is_blanks a ≡ true → first_passes is_token_char y ≡ false
+    → (fault_from s after_name y ≡ f) × (fault_from s after_param y ≡ f) × (fault_from s after_semicolon y ≡ f)
+    → IsStop s (a ++ y) × (fault_from s after_param (a ++ y) ≡ f)
+stop_after s a y f h e k =
+    let r = ready-blanks s a y h ∙ k.1 in (
       record {
-        token_ends = blank_no_token a (59 ∷ y) h refl;
-        named_ends = named-blanks s a (59 ∷ y) h ∙ (k.0 ∙ sym r);
-        semicolon_ends = semicolon-blanks s a (59 ∷ y) h ∙ (k.2 ∙ sym r);
+        token_ends = blank_no_token a y h e;
+        named_ends = named-blanks s a y h ∙ (k.0 ∙ sym r);
+        semicolon_ends = semicolon-blanks s a y h ∙ (k.2 ∙ sym r);
       },
       r,
     )
@@ -89,12 +87,14 @@ pub params_go : (s : Tests) (p z : List ℕ) (ps : List LinkParam) → IsParams 
 params_go s p z ps none k = (k, refl)
 params_go s p z ps (empty a b t rs ha hb h) k =
     let i = params_go s t z rs h k in
-    let j = semicolon_stop s a (b ++ (t ++ z)) ha in
+    let y = b ++ (t ++ z) in
+    let j = stop_after s a (59 ∷ y) (fault_from s after_semicolon y) ha refl (semicolon_same s y) in
     let e : a ++ 59 ∷ (b ++ (t ++ z)) ≡ (a ++ 59 ∷ (b ++ t)) ++ z = ap (λ l. a ++ 59 ∷ l) (sym (append_assoc b t z)) ∙ sym (append_assoc a (59 ∷ (b ++ t)) z) in
     (subst (IsStop s) e j.0, ap (fault_from s after_param) (sym e) ∙ (j.1 ∙ (semicolon-blanks s b (t ++ z) hb ∙ (i.0.semicolon_ends ∙ i.1))))
 params_go s p z ps (param a b x t q rs ha hb hx h) k =
     let i = params_go s t z rs h k in
-    let j = semicolon_stop s a (b ++ (x ++ (t ++ z))) ha in
+    let y = b ++ (x ++ (t ++ z)) in
+    let j = stop_after s a (59 ∷ y) (fault_from s after_semicolon y) ha refl (semicolon_same s y) in
     let m = param_goes s x (t ++ z) q hx i.0 in
     let e : a ++ 59 ∷ (b ++ (x ++ (t ++ z))) ≡ (a ++ 59 ∷ (b ++ (x ++ t))) ++ z =
     ap (λ l. a ++ 59 ∷ (b ++ l)) (sym (append_assoc x t z)) ∙ (ap (λ l. a ++ 59 ∷ l) (sym (append_assoc b (x ++ t) z)) ∙ sym (append_assoc a (59 ∷ (b ++ (x ++ t))) z)) in
@@ -110,30 +110,6 @@ end_same : (s : Tests) → (fault_from s after_name [] ≡ None) × (fault_from 
 unfolding fault_from
 end_same s = (refl, refl, refl, refl)
 
-comma_stop : (s : Tests) (a y : List ℕ) → is_blanks a ≡ true → IsStop s (a ++ 44 ∷ y) × (fault_from s after_param (a ++ 44 ∷ y) ≡ fault_from s before_link y)
-comma_stop s a y h =
-    let k = comma_same s y in
-    let r = ready-blanks s a (44 ∷ y) h ∙ k.1 in (
-      record {
-        token_ends = blank_no_token a (44 ∷ y) h refl;
-        named_ends = named-blanks s a (44 ∷ y) h ∙ (k.0 ∙ sym r);
-        semicolon_ends = semicolon-blanks s a (44 ∷ y) h ∙ (k.2 ∙ sym r);
-      },
-      r,
-    )
-
-end_stop : (s : Tests) (a : List ℕ) → is_blanks a ≡ true → IsStop s (a ++ []) × (fault_from s after_param (a ++ []) ≡ None)
-end_stop s a h =
-    let k = end_same s in
-    let r = ready-blanks s a [] h ∙ k.1 in (
-      record {
-        token_ends = blank_no_token a [] h refl;
-        named_ends = named-blanks s a [] h ∙ (k.0 ∙ sym r);
-        semicolon_ends = semicolon-blanks s a [] h ∙ (k.2 ∙ sym r);
-      },
-      r,
-    )
-
 link_goes : (s : Tests) (x z : List ℕ) (l : LinkValue) → IsLink x l → HasReference s l → IsStop s z → fault_from s before_link (x ++ z) ≡ fault_from s after_param z
 link_goes s x z l (link t p ps closed hp) valid k =
     ap (λ w. fault_from s before_link (60 ∷ w)) (append_assoc t (62 ∷ p) z) ∙ (closed_goes s t (p ++ z) closed valid ∙ (params_go s p z ps hp k).1)
@@ -148,8 +124,10 @@ element_goes s x y ls (no_element a h) v =
     (start-blanks s a (44 ∷ y) h ∙ (comma_same s y).3, ap (fault_from s before_link) (sym (append-nil a)) ∙ (start-blanks s a [] h ∙ (end_same s).3))
 element_goes s x y ls (element a w b l ha hw hb) v =
     let valid = All-head (HasReference s) l [] v in
-    let c = comma_stop s b y hb in
-    let e = end_stop s b hb in (
+    let m = comma_same s y in
+    let n = end_same s in
+    let c = stop_after s b (44 ∷ y) (fault_from s before_link y) hb refl (m.0, m.1, m.2) in
+    let e = stop_after s b [] None hb refl (n.0, n.1, n.2) in (
       ap (fault_from s before_link) (element_parts a w b (44 ∷ y)) ∙ (start-blanks s a (w ++ (b ++ 44 ∷ y)) ha ∙ (link_goes s w (b ++ 44 ∷ y) l hw valid c.0 ∙ c.1)),
       ap (fault_from s before_link) (sym (append-nil (a ++ (w ++ b))) ∙ element_parts a w b []) ∙ (start-blanks s a (w ++ (b ++ [])) ha ∙ (link_goes s w (b ++ []) l hw valid e.0 ∙ e.1)),
     )

@@ -5,12 +5,13 @@ use Rattle.std.specs.List.{list_all}
 use Rattle.std.specs.Str.{str_to_ascii_lowercase}
 use Rattle.std.proofs.lemmas.List.{append-nil}
 use Rattle.iri_grammar.specs.Cut.{lacks}
-use Rattle.iri_grammar.proofs.CutLaws.{both, by_test, test_apart}
+use Rattle.std.proofs.lemmas.Bool.{and_parts as both}
+use Rattle.iri_grammar.proofs.CutLaws.{by_test, test_apart}
 use Rattle.iri_link.specs.Token.{is_plain_char, is_blank, is_blanks, is_token_char, is_token, IsQuoted, done, plain, pair}
 use Rattle.iri_link.specs.Field.{LinkParam, LinkValue, IsValue, token, quoted, IsParam, bare, valued, IsParams, none, empty, param}
 use Rattle.iri_link.specs.Field.{IsLink, link, IsElement, empty as no_element, link as element, IsField, last, more as more_elements}
 use Rattle.iri_link.specs.Phases.{before_link, in_target, after_param, after_semicolon, in_name, after_name, after_equals, in_token, in_quoted}
-use Rattle.iri_link.specs.inside.Runs.{begins}
+use Rattle.iri_grammar.specs.inside.Runs.{first_passes}
 use Rattle.iri_link.proofs.NoFaultLemmas.{blank_no_token, element_parts}
 use Rattle.iri_link.proofs.PhaseLemmas.{by_blank}
 use Rattle.iri_link.specs.Readings.{Reading, of_params, of_links, more, param_end, reading, links_in, name_end, of_value}
@@ -88,7 +89,7 @@ quoted-given t v z (plain c u w h r) =
 quoted-given t v z (pair c u w h r) =
     let q = quoted-given u w z r in record { text = ap (λ l. c ∷ l) q.text; params = q.params; links = q.links }
 
-token-end : (z : List ℕ) → begins is_token_char z ≡ false → Gives (reading in_token z) [] (reading after_param z)
+token-end : (z : List ℕ) → first_passes is_token_char z ≡ false → Gives (reading in_token z) [] (reading after_param z)
 unfolding reading
 token-end [] e = record { text = refl; params = refl; links = refl }
 token-end (c ∷ cs) e =
@@ -96,7 +97,7 @@ token-end (c ∷ cs) e =
     (cond b (of_links (reading (cond (c == 59) after_semicolon (cond b before_link after_param)) cs).links) (of_params (reading (cond (c == 59) after_semicolon (cond b before_link after_param)) cs).params (reading (cond (c == 59) after_semicolon (cond b before_link after_param)) cs).links)))
     (λ _. record { text = refl; params = refl; links = refl }) (λ _. record { text = refl; params = refl; links = refl }))
 
-token-given : (t z : List ℕ) → list_all is_token_char t ≡ true → begins is_token_char z ≡ false → Gives (reading in_token (t ++ z)) t (reading after_param z)
+token-given : (t z : List ℕ) → list_all is_token_char t ≡ true → first_passes is_token_char z ≡ false → Gives (reading in_token (t ++ z)) t (reading after_param z)
 unfolding reading
 token-given [] z h e = token-end z e
 token-given (c ∷ cs) z h e =
@@ -112,7 +113,7 @@ equals-quoted : (y : List ℕ) → reading after_equals (34 ∷ y) ≡ reading i
 unfolding reading
 equals-quoted y = refl
 
-value-given : (t v z : List ℕ) → IsValue t v → begins is_token_char z ≡ false → Gives (reading after_equals (t ++ z)) v (reading after_param z)
+value-given : (t v z : List ℕ) → IsValue t v → first_passes is_token_char z ≡ false → Gives (reading after_equals (t ++ z)) v (reading after_param z)
 value-given t v z (token [] h) e = cc
 value-given t v z (token (c ∷ cs) h) e =
     let k = both (is_token_char c) (list_all is_token_char cs) h in
@@ -131,7 +132,7 @@ name_end-text c r =
       | false ↦ refl
     ])
 
-pub name_stops : (y : List ℕ) → begins is_token_char y ≡ false → (reading in_name y ≡ reading after_name y) × ((reading after_name y).text ≡ [])
+pub name_stops : (y : List ℕ) → first_passes is_token_char y ≡ false → (reading in_name y ≡ reading after_name y) × ((reading after_name y).text ≡ [])
 unfolding reading
 name_stops [] e = (refl, refl)
 name_stops (c ∷ cs) e = (rw e refl, name_end-text c (reading (cond (c == 61) after_equals (cond (c == 59) after_semicolon (cond (c == 44) before_link after_name))) cs))
@@ -143,7 +144,7 @@ record GivesName (r : Reading) (n : List ℕ) (v : Option (List ℕ)) (z : Readi
   params : r.params ≡ z.params
   links : r.links ≡ z.links
 
-name-given : (n y : List ℕ) (v : Option (List ℕ)) (z : Reading) → list_all is_token_char n ≡ true → begins is_token_char y ≡ false → Names (reading after_name y) v z
+name-given : (n y : List ℕ) (v : Option (List ℕ)) (z : Reading) → list_all is_token_char n ≡ true → first_passes is_token_char y ≡ false → Names (reading after_name y) v z
     → GivesName (reading in_name (n ++ y)) n v z
 unfolding reading
 name-given [] y v z h e k = let s = name_stops y e in rw s.0 (record { text = s.1; value = k.value; params = k.params; links = k.links })
@@ -163,7 +164,7 @@ name-equals u v z g = record { value = ap Some g.text; params = g.params; links 
 
 -- ---- parameters
 record IsStop (z : List ℕ) : Type 0 where
-  token_ends : begins is_token_char z ≡ false
+  token_ends : first_passes is_token_char z ≡ false
   name_ends : Names (reading after_name z) None (reading after_param z)
   semicolon_ends : Same (reading after_semicolon z) (reading after_param z)
 
@@ -172,7 +173,7 @@ record Adds (r : Reading) (q : LinkParam) (z : Reading) : Type 0 where
   params : r.params ≡ q ∷ z.params
   links : r.links ≡ z.links
 
-param-named : (c : ℕ) (cs y : List ℕ) (v : Option (List ℕ)) (z : Reading) → is_token (c ∷ cs) ≡ true → begins is_token_char y ≡ false → Names (reading after_name y) v z
+param-named : (c : ℕ) (cs y : List ℕ) (v : Option (List ℕ)) (z : Reading) → is_token (c ∷ cs) ≡ true → first_passes is_token_char y ≡ false → Names (reading after_name y) v z
     → Adds (reading after_semicolon ((c ∷ cs) ++ y)) (record { name = str_to_ascii_lowercase (c ∷ cs); value = v }) z
 param-named c cs y v z h e k =
     let b = both (is_token_char c) (list_all is_token_char cs) h in
@@ -213,7 +214,7 @@ unfolding reading
 at_end = (record { value = refl; params = refl; links = refl }, record { params = refl; links = refl }, record { params = refl; links = refl }, refl)
 
 -- blanks, and what gives the same after a name, a parameter and a semicolon
-stops : (a y : List ℕ) (z : Reading) → is_blanks a ≡ true → begins is_token_char y ≡ false → Names (reading after_name y) None z → Same (reading after_param y) z
+stops : (a y : List ℕ) (z : Reading) → is_blanks a ≡ true → first_passes is_token_char y ≡ false → Names (reading after_name y) None z → Same (reading after_param y) z
     → Same (reading after_semicolon y) z → IsStop (a ++ y) × Same (reading after_param (a ++ y)) z
 stops a y z h e n p q =
     let n2 = name-blanks a y None z h n in

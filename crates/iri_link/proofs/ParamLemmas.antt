@@ -9,18 +9,15 @@ use Rattle.iri_link.specs.Token.{is_blank, is_token_char, is_token}
 use Rattle.iri_link.specs.Field.{LinkParam, bare, valued, IsParams, none, empty, param}
 use Rattle.iri_link.specs.Phases.{Phase, after_param, after_semicolon, in_name, after_name, after_equals}
 use Rattle.iri_link.specs.Fault.{fault_from}
-use Rattle.iri_link.specs.inside.Runs.{begins, IsRun}
+use Rattle.iri_grammar.specs.inside.Runs.{first_passes}
+use Rattle.iri_link.specs.inside.Runs.{IsRun}
 use Rattle.iri_link.specs.inside.ReadParams.{ends_link, ReadsValue, ReadsEquals, ReadsParam, AddsParam, ReadsSome, ReadsParams}
 use Rattle.iri_link.specs.inside.Halts.{HaltsAt}
 use Rattle.iri_link.specs.declared.error.LinkKind.TheVariants.{NoParam}
 use Rattle.iri_link.specs.declared.halt.Halt.{Halt}
-use Rattle.iri_link.proofs.PhaseLemmas.{ready-blanks, semicolon-blanks, named-blanks, equals-blanks, name-run, semicolon-name, name-ends, named-ends}
+use Rattle.iri_link.proofs.PhaseLemmas.{ready-blanks, semicolon-blanks, named-blanks, equals-blanks, name-run, name-equals, semicolon-name, name-ends, named-ends}
 
 -- ---- `=`
-named_equals : (s : Tests) (t : List ℕ) → fault_from s after_name (61 ∷ t) ≡ fault_from s after_equals t
-unfolding fault_from
-named_equals s t = refl
-
 pub equals_read : (t a next following b rest : List ℕ) → IsRun is_blank t a next → next ≡ 61 ∷ following → IsRun is_blank following b rest → ReadsEquals t rest
 equals_read t a next following b rest h e k = record {
   a = a;
@@ -31,24 +28,24 @@ equals_read t a next following b rest h e k = record {
   ends = k.ends;
   goes = λ s.
       ap (fault_from s after_name) h.whole ∙ (named-blanks s a next h.all
-      ∙ (ap (fault_from s after_name) e ∙ (named_equals s following
+      ∙ (ap (fault_from s after_name) e ∙ (name-equals s following
       ∙ (ap (fault_from s after_equals) k.whole ∙ equals-blanks s b rest k.all))));
 }
 
-pub no_equals : (s : Tests) (t a next : List ℕ) → IsRun is_blank t a next → begins (λ c. c == 61) next ≡ false → fault_from s after_name t ≡ fault_from s after_param t
+pub no_equals : (s : Tests) (t a next : List ℕ) → IsRun is_blank t a next → first_passes (λ c. c == 61) next ≡ false → fault_from s after_name t ≡ fault_from s after_param t
 no_equals s t a next h e =
     ap (fault_from s after_name) h.whole ∙ (named-blanks s a next h.all
     ∙ (named-ends s next h.ends e ∙ (sym (ready-blanks s a next h.all) ∙ sym (ap (fault_from s after_param) h.whole))))
 
 -- ---- one parameter
-token-from_run : (t run rest : List ℕ) → IsRun is_token_char t run rest → begins is_token_char t ≡ true → is_token run ≡ true
-token-from_run t [] rest h b = let n : begins is_token_char t ≡ false = ap (begins is_token_char) h.whole ∙ h.ends in cc
+token-from_run : (t run rest : List ℕ) → IsRun is_token_char t run rest → first_passes is_token_char t ≡ true → is_token run ≡ true
+token-from_run t [] rest h b = let n : first_passes is_token_char t ≡ false = ap (first_passes is_token_char) h.whole ∙ h.ends in cc
 token-from_run t (c ∷ run) rest h b = h.all
 
 pub name_goes : (s : Tests) (t run rest : List ℕ) → IsRun is_token_char t run rest → fault_from s in_name t ≡ fault_from s after_name rest
 name_goes s t run rest h = ap (fault_from s in_name) h.whole ∙ (name-run s run rest h.all ∙ name-ends s rest h.ends)
 
-pub bare_read : (t run rest n : List ℕ) (v : Option (List ℕ)) → IsRun is_token_char t run rest → begins is_token_char t ≡ true → n ≡ str_to_ascii_lowercase run → v ≡ None
+pub bare_read : (t run rest n : List ℕ) (v : Option (List ℕ)) → IsRun is_token_char t run rest → first_passes is_token_char t ≡ true → n ≡ str_to_ascii_lowercase run → v ≡ None
     → ((s : Tests) → fault_from s after_name rest ≡ fault_from s after_param rest) → ReadsParam t rest (record { name = n; value = v })
 bare_read t run rest n v h b e f goes = record {
   prefix = run;
@@ -57,7 +54,7 @@ bare_read t run rest n v h b e f goes = record {
   goes = λ s. name_goes s t run rest h ∙ goes s;
 }
 
-pub valued_read : (t run mid following rest n v : List ℕ) (o : Option (List ℕ)) → IsRun is_token_char t run mid → begins is_token_char t ≡ true → n ≡ str_to_ascii_lowercase run → o ≡ Some v
+pub valued_read : (t run mid following rest n v : List ℕ) (o : Option (List ℕ)) → IsRun is_token_char t run mid → first_passes is_token_char t ≡ true → n ≡ str_to_ascii_lowercase run → o ≡ Some v
     → ReadsEquals mid following → ReadsValue following rest v → ReadsParam t rest (record { name = n; value = o })
 valued_read t run mid following rest n v o h b e f k r = record {
   prefix = run ++ (k.a ++ 61 ∷ (k.b ++ r.prefix));
@@ -78,14 +75,14 @@ params-append x y ps qs (param a b p t q rs ha hb hp h) k =
     (ap (λ l. a ++ 59 ∷ (b ++ l)) (sym (append_assoc p t y)) ∙ (ap (λ l. a ++ 59 ∷ l) (sym (append_assoc b (p ++ t) y)) ∙ sym (append_assoc a (59 ∷ (b ++ (p ++ t))) y)))
     (param a b p (t ++ y) q (rs ++ qs) ha hb hp (params-append t y rs qs h k))
 
-semicolon_ready : (s : Tests) (t : List ℕ) → begins is_blank t ≡ false → begins is_token_char t ≡ false → fault_from s after_semicolon t ≡ fault_from s after_param t
+semicolon_ready : (s : Tests) (t : List ℕ) → first_passes is_blank t ≡ false → first_passes is_token_char t ≡ false → fault_from s after_semicolon t ≡ fault_from s after_param t
 unfolding fault_from
 semicolon_ready s [] h k = refl
 semicolon_ready s (c ∷ cs) h k =
     by_test c 59 (λ b. (c == 59) ≡ b → fault_from s after_semicolon (c ∷ cs) ≡ fault_from s after_param (c ∷ cs)) (λ e _. let n : (c == 44) ≡ false = ap (λ d. d == 44) e in let m : (c == 59) ≡ true = ap (λ d. d == 59) e in rw (k, h, m, n) refl)
     (λ _ e. by_test c 44 (λ b. (c == 44) ≡ b → fault_from s after_semicolon (c ∷ cs) ≡ fault_from s after_param (c ∷ cs)) (λ _ f. rw (k, h, e, f) refl) (λ _ f. rw (k, h, e, f) refl) refl) refl
 
-pub none_added : (t : List ℕ) (ps new : List LinkParam) → new ≡ ps → begins is_blank t ≡ false → begins is_token_char t ≡ false → AddsParam t t ps new
+pub none_added : (t : List ℕ) (ps new : List LinkParam) → new ≡ ps → first_passes is_blank t ≡ false → first_passes is_token_char t ≡ false → AddsParam t t ps new
 none_added t ps new e h k = record {
   prefix = [];
   whole = refl;
@@ -93,7 +90,7 @@ none_added t ps new e h k = record {
   goes = λ s. semicolon_ready s t h k;
 }
 
-pub one_added : (t rest : List ℕ) (q : LinkParam) (ps new : List LinkParam) → new ≡ ps ++ (q ∷ []) → begins is_token_char t ≡ true → ReadsParam t rest q → AddsParam t rest ps new
+pub one_added : (t rest : List ℕ) (q : LinkParam) (ps new : List LinkParam) → new ≡ ps ++ (q ∷ []) → first_passes is_token_char t ≡ true → ReadsParam t rest q → AddsParam t rest ps new
 one_added t rest q ps new e h r = record {
   prefix = r.prefix;
   whole = r.whole;
@@ -140,12 +137,12 @@ all_read s rest a next ps f h e = record {
   goes = λ t. f.goes t ∙ (ap (fault_from t after_param) h.whole ∙ ready-blanks t a next h.all);
 }
 
-pub no_param : (s : Tests) (t : List ℕ) → begins is_blank t ≡ false → begins (λ c. c == 59) t ≡ false → ends_link t ≡ false → fault_from s after_param t ≡ Some (record { kind = NoParam; rest = t })
+pub no_param : (s : Tests) (t : List ℕ) → first_passes is_blank t ≡ false → first_passes (λ c. c == 59) t ≡ false → ends_link t ≡ false → fault_from s after_param t ≡ Some (record { kind = NoParam; rest = t })
 unfolding fault_from
 no_param s [] h k e = cc
 no_param s (c ∷ cs) h k e = rw (h, k, e) refl
 
-pub param_wanted : (t : Tests) (s rest a next : List ℕ) (ps : List LinkParam) → ReadsSome s rest ps → IsRun is_blank rest a next → begins (λ c. c == 59) next ≡ false → ends_link next ≡ false
+pub param_wanted : (t : Tests) (s rest a next : List ℕ) (ps : List LinkParam) → ReadsSome s rest ps → IsRun is_blank rest a next → first_passes (λ c. c == 59) next ≡ false → ends_link next ≡ false
     → fault_from t after_param s ≡ Some (record { kind = NoParam; rest = next })
 param_wanted t s rest a next ps f h k e = f.goes t ∙ (ap (fault_from t after_param) h.whole ∙ (ready-blanks t a next h.all ∙ no_param t next h.ends k e))
 

@@ -3,11 +3,12 @@ use Rattle.std.proofs.Common.{◌≡◌, ℕ, Bool, true, false, List, [], ◌�
 use Rattle.std.specs.Prelude.{◌==◌, ◌||◌}
 use Rattle.std.specs.List.{list_all}
 use Rattle.iri_grammar.specs.Classes.{Tests}
-use Rattle.iri_grammar.proofs.CutLaws.{both, by_test, test_apart}
+use Rattle.std.proofs.lemmas.Bool.{and_parts as both}
+use Rattle.iri_grammar.proofs.CutLaws.{by_test, test_apart}
 use Rattle.iri_link.specs.Token.{is_blank, is_token_char}
 use Rattle.iri_link.specs.Phases.{Phase, before_link, after_param, after_semicolon, in_name, after_name, after_equals, in_token, next}
 use Rattle.iri_link.specs.Fault.{fault_from, wrong, earlier}
-use Rattle.iri_link.specs.inside.Runs.{begins}
+use Rattle.iri_grammar.specs.inside.Runs.{first_passes}
 
 -- bytes that are right and leave the phase as it is
 pub runs-on : (s : Tests) (p : Phase) (q : ℕ → Bool) → ((c : ℕ) (cs : List ℕ) → q c ≡ true → (wrong s p c cs ≡ None) × (next p c ≡ p))
@@ -48,29 +49,34 @@ pub token-run : (s : Tests) (xs r : List ℕ) → list_all is_token_char xs ≡ 
 token-run s = runs-on s in_token is_token_char (λ c cs h. (rw h refl, rw h refl))
 
 -- a token begins
-pub semicolon-name : (s : Tests) (t : List ℕ) → begins is_token_char t ≡ true → fault_from s after_semicolon t ≡ fault_from s in_name t
+pub semicolon-name : (s : Tests) (t : List ℕ) → first_passes is_token_char t ≡ true → fault_from s after_semicolon t ≡ fault_from s in_name t
 unfolding fault_from
 semicolon-name s [] h = cc
 semicolon-name s (c ∷ cs) h = rw h refl
 
-pub equals-token : (s : Tests) (t : List ℕ) → begins is_token_char t ≡ true → fault_from s after_equals t ≡ fault_from s in_token t
+pub equals-token : (s : Tests) (t : List ℕ) → first_passes is_token_char t ≡ true → fault_from s after_equals t ≡ fault_from s in_token t
 unfolding fault_from
 equals-token s [] h = cc
 equals-token s (c ∷ cs) h = rw (test_apart is_token_char 34 c refl h, h) refl
 
+-- a `=` after a name
+pub name-equals : (s : Tests) (t : List ℕ) → fault_from s after_name (61 ∷ t) ≡ fault_from s after_equals t
+unfolding fault_from
+name-equals s t = refl
+
 -- a token ends
-pub token-ends : (s : Tests) (t : List ℕ) → begins is_token_char t ≡ false → fault_from s in_token t ≡ fault_from s after_param t
+pub token-ends : (s : Tests) (t : List ℕ) → first_passes is_token_char t ≡ false → fault_from s in_token t ≡ fault_from s after_param t
 unfolding fault_from
 token-ends s [] h = refl
 token-ends s (c ∷ cs) h = rw h refl
 
-pub name-ends : (s : Tests) (t : List ℕ) → begins is_token_char t ≡ false → fault_from s in_name t ≡ fault_from s after_name t
+pub name-ends : (s : Tests) (t : List ℕ) → first_passes is_token_char t ≡ false → fault_from s in_name t ≡ fault_from s after_name t
 unfolding fault_from
 name-ends s [] h = refl
 name-ends s (c ∷ cs) h = rw h refl
 
 -- where no `=` follows, a name ends a parameter
-pub named-ends : (s : Tests) (t : List ℕ) → begins is_blank t ≡ false → begins (λ c. c == 61) t ≡ false → fault_from s after_name t ≡ fault_from s after_param t
+pub named-ends : (s : Tests) (t : List ℕ) → first_passes is_blank t ≡ false → first_passes (λ c. c == 61) t ≡ false → fault_from s after_name t ≡ fault_from s after_param t
 unfolding fault_from
 named-ends s [] h k = refl
 named-ends s (c ∷ cs) h k =

@@ -5,12 +5,13 @@ use Rattle.std.proofs.lemmas.List.{drop_all}
 use Rattle.std.specs.Prelude.{◌==◌, slice_index}
 use Rattle.iri_grammar.specs.Classes.{Tests}
 use Rattle.iri_grammar.specs.Cut.{before, after}
-use Rattle.iri_grammar.proofs.CutLaws.{both, by_test}
+use Rattle.std.proofs.lemmas.Bool.{and_parts as both}
+use Rattle.iri_grammar.proofs.CutLaws.{by_test}
 use Rattle.iri_link.specs.Token.{is_pair_char, is_plain_char, IsQuoted, done, plain, pair}
 use Rattle.iri_link.specs.Phases.{Phase, in_quoted, in_pair as escape, after_param}
 use Rattle.iri_link.specs.Fault.{closes_from, fault_from}
 use Rattle.iri_link.specs.inside.ReadQuoted.{quoted_len, unquoted, unquoted_from}
-use Rattle.iri_link.specs.inside.Runs.{begins}
+use Rattle.iri_grammar.specs.inside.Runs.{first_passes}
 
 -- ---- where it ends
 at_delimiter : (e : Bool) (c : ℕ) (cs : List ℕ) → (not e && c == 34) ≡ true → (closes_from e (c ∷ cs) ≡ true) × (quoted_len e (c ∷ cs) ≡ 0)
@@ -124,7 +125,7 @@ unquoted-chunk (c ∷ cs) =
     by_test c 92 (λ b. cond b (unquoted_from true cs) (c ∷ unquoted_from false cs) ≡ cond b [] (c ∷ before 92 cs) ++ after_pair (cond b (Some cs) (after 92 cs)))
     (λ _. refl) (λ _. ap (λ l. c ∷ l) (unquoted-chunk cs))
 
-pub after_pair-plain : (b : List ℕ) → begins (λ c. c == 92) b ≡ false → unquoted_from true b ≡ unquoted b
+pub after_pair-plain : (b : List ℕ) → first_passes (λ c. c == 92) b ≡ false → unquoted_from true b ≡ unquoted b
 unfolding unquoted_from
 after_pair-plain [] h = refl
 after_pair-plain (c ∷ cs) h = rw h refl

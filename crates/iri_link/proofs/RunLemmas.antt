@@ -1,12 +1,13 @@
 -- A run at the start of a text.
-use Rattle.std.proofs.Common.{◌≡◌, ℕ, zero, suc, ◌<◌, ◌≤◌, Bool, true, false, cond, List, [], ◌∷◌, length, take, drop, refl, ap, arith}
+use Rattle.std.proofs.Common.{◌≡◌, ℕ, zero, suc, ◌<◌, Bool, true, false, cond, List, [], ◌∷◌, take, drop, refl, ap, arith}
 use Rattle.std.specs.Prelude.{slice_index}
 use Rattle.std.specs.List.{list_all}
 use Rattle.std.specs.Str.{IsUtf8, IsCharBoundary}
 use Rattle.std.proofs.lemmas.Bool.Decides.{nat_tests}
 use Rattle.std.proofs.lemmas.Str.{IsUtf8-from_ascii, IsCharBoundary-from_take}
 use Rattle.iri_grammar.specs.Runs.{run_of}
-use Rattle.iri_grammar.proofs.CutLaws.{both}
+use Rattle.iri_grammar.proofs.Units.{run_of_le}
+use Rattle.std.proofs.lemmas.Bool.{and_parts as both}
 use Rattle.iri_link.specs.Token.{is_blank, is_token_char}
 use Rattle.iri_link.specs.inside.Runs.{run_test, IsRun}
 use Rattle.iri_link.specs.declared.runs.Run.{Run}
@@ -19,14 +20,6 @@ run-is p (c ∷ cs) =
       | true ↦ λ e. let h = run-is p cs in record { whole = ap (λ l. c ∷ l) h.whole; all = rw e h.all; ends = h.ends }
       | false ↦ λ e. record { whole = refl; all = refl; ends = e }
     ] refl
-
-pub run-le : (p : ℕ → Bool) (t : List ℕ) → run_of p t ≤ length t
-run-le p [] = omega arith
-run-le p (c ∷ cs) =
-    elim (p c) as (λ b. cond b (suc (run_of p cs)) 0 ≤ suc (length cs)) [
-      | true ↦ omega (arith, run-le p cs)
-      | false ↦ omega arith
-    ]
 
 pub blank-low : (c : ℕ) → is_blank c ≡ true → c < 128
 blank-low c h = grind (arith, nat_tests)
@@ -46,4 +39,4 @@ all-at p low (c ∷ cs) h (suc i) = all-at p low cs (both (p c) (list_all p cs) 
 pub run-boundary : (k : Run) (t : List ℕ) → IsUtf8 t → IsCharBoundary t (run_of (run_test k) t)
 run-boundary k t u =
     let p = run_test k in
-    IsCharBoundary-from_take t (run_of p t) u (run-le p t) (IsUtf8-from_ascii (take (run_of p t) t) (all-at p (run-low k) (take (run_of p t) t) (run-is p t).all))
+    IsCharBoundary-from_take t (run_of p t) u (run_of_le p t) (IsUtf8-from_ascii (take (run_of p t) t) (all-at p (run-low k) (take (run_of p t) t) (run-is p t).all))

@@ -1,31 +1,18 @@
 -- The values of quoted strings, and their written form, are texts.
-use Rattle.std.proofs.Common.{◌≡◌, ℕ, ◌<◌, ◌≤◌, Bool, true, false, cond, not, List, [], ◌∷◌, ◌++◌, length, take, get_or, refl, sym, ap, ◌∙◌, subst, arith, inl, inr, length-append}
+use Rattle.std.proofs.Common.{◌≡◌, ℕ, ◌<◌, ◌≤◌, true, false, cond, not, List, [], ◌∷◌, ◌++◌, refl, sym, ap, ◌∙◌, subst, arith, inl, inr}
 use Rattle.std.specs.Prelude.{◌==◌, ◌||◌}
 use Rattle.std.specs.Str.{IsUtf8}
 use Rattle.std.proofs.lemmas.Bool.Decides.{nat_tests}
-use Rattle.std.proofs.lemmas.Bool.{cases_lt}
+use Rattle.std.proofs.lemmas.Bool.{and_parts as both, cases_lt, not-true}
 use Rattle.std.proofs.lemmas.List.{append-nil}
-use Rattle.std.proofs.lemmas.Str.{IsUtf8-append, IsUtf8-nil, IsUtf8-encode, IsUtf8-take, IsCharBoundary-before_ascii, encode_ascii}
-use Rattle.std.proofs.Math.Seq.{get_or-append_seam}
+use Rattle.std.proofs.lemmas.Str.{IsUtf8-append, IsUtf8-nil, IsUtf8-encode, encode_ascii}
 use lib.Utf8.{encode, encodes, scalar, scalars}
 use Rattle.iri_grammar.specs.Cut.{lacks}
 use Rattle.iri_grammar.proofs.AuthorityTexts.{delimited-utf8}
 use Rattle.iri_grammar.proofs.CutBytes.{lacks-encodes}
-use Rattle.iri_grammar.proofs.CutLaws.{both, by_test}
+use Rattle.iri_grammar.proofs.CutLaws.{by_test}
 use Rattle.iri_link.specs.Token.{IsQuoted, done, plain, pair}
 use Rattle.iri_link.specs.Written.{escaped}
-
--- ---- what stands before an ASCII character
-pub text_before_delimiter : (c : ℕ) (b r : List ℕ) → c < 128 → IsUtf8 (b ++ c ∷ r) → IsUtf8 b
-text_before_delimiter c b r l u =
-    let t = b ++ c ∷ r in
-    let at : get_or t (length b) 0 ≡ c = get_or-append_seam b c r 0 in
-    let inside : length b < length t = omega (arith, length-append b (c ∷ r)) in
-    subst IsUtf8 (prefix b (c ∷ r)) (IsUtf8-take t (length b) u (IsCharBoundary-before_ascii t (length b) inside (omega (arith, at))))
-  where
-    prefix : (xs ys : List ℕ) → take (length xs) (xs ++ ys) ≡ xs
-    prefix [] ys = refl
-    prefix (x ∷ xs) ys = ap (λ l. x ∷ l) (prefix xs ys)
 
 -- ---- characters
 low_encoded : (x : ℕ) → x < 128 → encode x ≡ x ∷ []
@@ -78,14 +65,10 @@ first_bytes : (m rest v : List ℕ) → lacks 92 m ≡ true → IsQuoted (m ++ r
 first_bytes [] rest v h q = record { value = v; whole = refl; quoted = q }
 first_bytes (b ∷ m) rest v h q =
     let k = both (not (b == 92)) (lacks 92 m) h in
-    let n : (b == 92) ≡ false = negated (b == 92) k.0 in
+    let n : (b == 92) ≡ false = not-true (b == 92) k.0 in
     let f = first_plain ((b ∷ m) ++ rest) v q b (m ++ rest) refl n in
     let i = first_bytes m rest f.rest k.1 f.quoted in
     record { value = i.value; whole = f.whole ∙ ap (λ l. b ∷ l) i.whole; quoted = i.quoted }
-  where
-    negated : (x : Bool) → not x ≡ true → x ≡ false
-    negated true e = cc
-    negated false e = refl
 
 -- the value of quoted characters, and of those after a `\`
 record ValuesAreTexts (xs : List ℕ) : Type 0 where

@@ -18,7 +18,8 @@ use Rattle.iri_link.specs.Resolved.{resolved, IsRead}
 use Rattle.iri_link.proofs.OneListLemmas.{one_list}
 use Rattle.iri_link.proofs.ReferenceLemmas.{reference-closed}
 use Rattle.iri_link.proofs.Utf8Lemmas.{escaped-utf8}
-use Rattle.iri_grammar.proofs.CutLaws.{both, by_test}
+use Rattle.std.proofs.lemmas.Bool.{and_parts as both}
+use Rattle.iri_grammar.proofs.CutLaws.{by_test}
 use Rattle.iri_link.specs.Token.{is_pair_char, is_token, IsQuoted, done, plain, pair}
 use Rattle.iri_link.specs.Field.{LinkParam, LinkValue, quoted, IsParam, bare, valued, IsParams, none, param, link, IsElement, empty, link as element, IsField, last, more}
 use Rattle.iri_link.specs.Written.{escaped, written_value, written_param, written_link, written}

@@ -10,7 +10,7 @@ ghost use Rattle.iri_link.specs.Stored.{link_of};
 ghost use Rattle.iri_link.specs.Token.{is_blank};
 ghost use Rattle.iri_link.specs.inside.Halts.{HaltsIn};
 ghost use Rattle.iri_link.specs.inside.ReadLinks.{CutsTarget, ReadsLink, SkipsEmpty, AddsLink, ReadsField};
-ghost use Rattle.iri_link.specs.inside.Runs.{begins};
+ghost use Rattle.iri_grammar.specs.inside.Runs.{first_passes};
 
 use crate::error::LinkKind;
 use crate::halt::Halt;
@@ -93,8 +93,8 @@ fn read_link<'a, S: Spec>(
 
 // What follows an element that begins with neither a blank nor `<`: it is empty, or no element.
 fn past_empty<'a>(s: &'a str) -> Result<Option<&'a str>, Halt<'a>>
-    requires blank { begins is_blank s.now ≡ false }
-    requires delimiter { begins (λ c. c == less_than_sign) s.now ≡ false }
+    requires blank { first_passes is_blank s.now ≡ false }
+    requires delimiter { first_passes (λ c. c == less_than_sign) s.now ≡ false }
     ensures { MatchResult result (λ r. SkipsEmpty s.now (now_of r))
         (λ e. (t : Tests) → HaltsIn t s.now e) }
 {
@@ -117,7 +117,7 @@ fn push_link<'a, S: Spec>(
     links: &mut Vec<Link>,
     s: &'a str,
 ) -> Result<Option<&'a str>, Halt<'a>>
-    requires { begins is_blank s.now ≡ false }
+    requires { first_passes is_blank s.now ≡ false }
     ensures { MatchResult result
         (λ r. AddsLink S.tests (base_text resolver.now) s.now (now_of r) (map link_of links.old.items)
         (map link_of links.new.items))

@@ -7,7 +7,7 @@ ghost use Rattle.iri_link.specs.Stored.{param_of};
 ghost use Rattle.iri_link.specs.Token.{is_blank, is_token_char};
 ghost use Rattle.iri_link.specs.inside.Halts.{HaltsAt};
 ghost use Rattle.iri_link.specs.inside.ReadParams.{ends_link, ReadsEquals, ReadsParam, AddsParam, ReadsParams};
-ghost use Rattle.iri_link.specs.inside.Runs.{begins};
+ghost use Rattle.iri_grammar.specs.inside.Runs.{first_passes};
 
 use crate::error::LinkKind;
 use crate::halt::Halt;
@@ -39,7 +39,7 @@ fn past_equals(s: &str) -> Option<&str>
 
 // A parameter and what follows it. A token begins there.
 fn read_param<'a>(alloc: Global, s: &'a str) -> Result<(Param, &'a str), Halt<'a>>
-    requires { begins is_token_char s.now ≡ true }
+    requires { first_passes is_token_char s.now ≡ true }
     ensures { MatchResult result (λ r. ReadsParam s.now r.1.now (param_of r.0))
         (λ e. (t : Tests) → HaltsAt e (fault_from t in_name s.now)) }
 {
@@ -64,7 +64,7 @@ fn read_param<'a>(alloc: Global, s: &'a str) -> Result<(Param, &'a str), Halt<'a
 
 // The parameter that may come after a `;` and blanks, put at the end, and what follows it.
 fn push_param<'a>(alloc: Global, params: &mut Vec<Param>, s: &'a str) -> Result<&'a str, Halt<'a>>
-    requires { begins is_blank s.now ≡ false }
+    requires { first_passes is_blank s.now ≡ false }
     ensures { MatchResult result
         (λ r. AddsParam s.now r.now (map param_of params.old.items) (map param_of params.new.items))
         (λ e. (t : Tests) → HaltsAt e (fault_from t after_semicolon s.now)) }

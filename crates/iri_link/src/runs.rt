@@ -2,7 +2,8 @@
 ghost use Rattle.std.specs.Prelude.{◌≡◌, ◌==◌, ◌<◌, ◌∷◌, false, MatchOption};
 ghost use Rattle.iri_grammar.specs.Runs.{run_of};
 ghost use Rattle.iri_link.specs.Token.{is_token_char};
-ghost use Rattle.iri_link.specs.inside.Runs.{run_test, begins, IsRun};
+ghost use Rattle.iri_grammar.specs.inside.Runs.{first_passes};
+ghost use Rattle.iri_link.specs.inside.Runs.{run_test, IsRun};
 
 // What a run is of.
 #[derive(Clone, Copy)]
@@ -64,7 +65,7 @@ pub(crate) fn cut_run(run: Run, s: &str) -> (&str, &str)
 
 // Whether the delimiter comes first.
 fn begins_with(bytes: &[u8], delimiter: u8) -> bool
-    ensures { result ≡ begins (λ c. c == delimiter) bytes.now }
+    ensures { result ≡ first_passes (λ c. c == delimiter) bytes.now }
 {
     match bytes {
         [b, ..] => *b == delimiter,
@@ -75,7 +76,7 @@ fn begins_with(bytes: &[u8], delimiter: u8) -> bool
 // What follows the delimiter at the start, where it is there. The delimiter must be ASCII.
 pub(crate) fn past(s: &str, delimiter: u8) -> Option<&str>
     requires { delimiter < 128 }
-    ensures { MatchOption result (begins (λ c. c == delimiter) s.now ≡ false) (λ r. s.now ≡ delimiter ∷ r.now) }
+    ensures { MatchOption result (first_passes (λ c. c == delimiter) s.now ≡ false) (λ r. s.now ≡ delimiter ∷ r.now) }
 {
     if begins_with(s.as_bytes(), delimiter) {
         Some(&s[1..])
@@ -86,7 +87,7 @@ pub(crate) fn past(s: &str, delimiter: u8) -> Option<&str>
 
 // Whether a token begins there.
 pub(crate) fn begins_token(s: &str) -> bool
-    ensures { result ≡ begins is_token_char s.now }
+    ensures { result ≡ first_passes is_token_char s.now }
 {
     match s.as_bytes() {
         [b, ..] => Run::Token.has(*b),

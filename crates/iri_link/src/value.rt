@@ -7,7 +7,7 @@ ghost use Rattle.iri_link.specs.Phases.{after_equals};
 ghost use Rattle.iri_link.specs.Token.{is_blank};
 ghost use Rattle.iri_link.specs.inside.Halts.{HaltsAt};
 ghost use Rattle.iri_link.specs.inside.ReadParams.{ReadsValue};
-ghost use Rattle.iri_link.specs.inside.Runs.{begins};
+ghost use Rattle.iri_grammar.specs.inside.Runs.{first_passes};
 
 use crate::error::LinkKind;
 use crate::halt::Halt;
@@ -17,8 +17,8 @@ use std::alloc::Global;
 
 // A value that is a token.
 fn read_token<'a>(alloc: Global, s: &'a str) -> Result<(String, &'a str), Halt<'a>>
-    requires delimiter { begins (λ c. c == quotation_mark) s.now ≡ false }
-    requires blank { begins is_blank s.now ≡ false }
+    requires delimiter { first_passes (λ c. c == quotation_mark) s.now ≡ false }
+    requires blank { first_passes is_blank s.now ≡ false }
     ensures { MatchResult result (λ r. ReadsValue s.now r.1.now (string_bytes r.0))
         (λ e. (t : Tests) → HaltsAt e (fault_from t after_equals s.now)) }
 {
@@ -49,7 +49,7 @@ fn read_quoted<'a>(alloc: Global, s: &'a str, inner: &'a str) -> Result<(String,
 
 // A value and what follows it, after a `=` and blanks.
 pub(crate) fn read_value<'a>(alloc: Global, s: &'a str) -> Result<(String, &'a str), Halt<'a>>
-    requires { begins is_blank s.now ≡ false }
+    requires { first_passes is_blank s.now ≡ false }
     ensures { MatchResult result (λ r. ReadsValue s.now r.1.now (string_bytes r.0))
         (λ e. (t : Tests) → HaltsAt e (fault_from t after_equals s.now)) }
 {

@@ -6,7 +6,7 @@ use Rattle.iri_link.specs.Fault.{fault_from}
 use Rattle.iri_link.specs.Field.{LinkParam, IsValue, IsParam, IsParams}
 use Rattle.iri_link.specs.Phases.{after_param, after_semicolon, in_name, after_name, after_equals}
 use Rattle.iri_link.specs.Token.{is_blank, is_blanks}
-use Rattle.iri_link.specs.inside.Runs.{begins}
+use Rattle.iri_grammar.specs.inside.Runs.{first_passes}
 
 -- nothing, or a `,`, is left
 abbrev pub ends_link : List ℕ → Bool
@@ -27,7 +27,7 @@ pub record ReadsEquals (t rest : List ℕ) : Type 0 where
   pub whole : t ≡ a ++ equals_sign ∷ (b ++ rest)
   pub before : is_blanks a ≡ true
   pub following : is_blanks b ≡ true
-  pub ends : begins is_blank rest ≡ false
+  pub ends : first_passes is_blank rest ≡ false
   pub goes : (s : Tests) → fault_from s after_name t ≡ fault_from s after_equals rest
 
 -- t is a parameter and a rest

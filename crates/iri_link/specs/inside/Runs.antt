@@ -1,6 +1,7 @@
 -- A text cut after a run of bytes that pass a test.
-use Rattle.std.specs.Prelude.{◌≡◌, ℕ, Bool, true, false, List, [], ◌∷◌, ◌++◌}
+use Rattle.std.specs.Prelude.{◌≡◌, ℕ, Bool, true, false, List, ◌++◌}
 use Rattle.std.specs.List.{list_all}
+use Rattle.iri_grammar.specs.inside.Runs.{first_passes}
 use Rattle.iri_link.specs.Token.{is_blank, is_token_char}
 use Rattle.iri_link.specs.declared.runs.Run.{Run}
 use Rattle.iri_link.specs.declared.runs.Run.TheVariants.{Blank, Token}
@@ -9,13 +10,8 @@ abbrev pub run_test : Run → ℕ → Bool
 run_test Blank = is_blank
 run_test Token = is_token_char
 
--- whether the first byte passes
-abbrev pub begins : (ℕ → Bool) → List ℕ → Bool
-begins p [] = false
-begins p (c ∷ cs) = p c
-
 -- t is a run and a rest that doesn't go on with it
 pub record IsRun (p : ℕ → Bool) (t run rest : List ℕ) : Type 0 where
   pub whole : t ≡ run ++ rest
   pub all : list_all p run ≡ true
-  pub ends : begins p rest ≡ false
+  pub ends : first_passes p rest ≡ false

@@ -3,14 +3,14 @@ use Rattle.std.specs.Prelude.{◌==◌}
 use Rattle.std.specs.Str.{IsUtf8, IsCharBoundary}
 use Rattle.std.proofs.lemmas.Bool.{eqb-true}
 use Rattle.std.proofs.lemmas.Str.{IsCharBoundary-after_ascii}
-use Rattle.iri_link.specs.inside.Runs.{begins}
+use Rattle.iri_grammar.specs.inside.Runs.{first_passes}
 use Rattle.iri_link.proofs.runs.past.Goals as goal
 
-boundary : (m : ℕ) (t : List ℕ) → m < 128 → IsUtf8 t → begins (λ c. c == m) t ≡ true → IsCharBoundary t 1
+boundary : (m : ℕ) (t : List ℕ) → m < 128 → IsUtf8 t → first_passes (λ c. c == m) t ≡ true → IsCharBoundary t 1
 boundary m [] l u h = cc
 boundary m (c ∷ cs) l u h = IsCharBoundary-after_ascii (c ∷ cs) 0 u (omega arith) (omega (arith, l, eqb-true c m h))
 
 pub range_from-requires : goal.range_from-requires
 range_from-requires c _ =
     let m = c.args.delimiter in
-    boundary m c.args.s.now c.requires c.utf8.s (ap (begins (λ d. d == m)) (sym c.as_bytes.ensures.value) ∙ (sym c.begins_with.ensures ∙ c.if-begins_with.true))
+    boundary m c.args.s.now c.requires c.utf8.s (ap (first_passes (λ d. d == m)) (sym c.as_bytes.ensures.value) ∙ (sym c.begins_with.ensures ∙ c.if-begins_with.true))

@@ -3,23 +3,24 @@ use Rattle.std.specs.Prelude.{◌==◌}
 use Rattle.std.specs.List.{list_all}
 use Rattle.std.proofs.lemmas.Bool.{eqb-true}
 use Rattle.iri_grammar.specs.Classes.{Tests}
-use Rattle.iri_grammar.proofs.CutLaws.{both}
+use Rattle.std.proofs.lemmas.Bool.{and_parts as both}
 use Rattle.iri_link.specs.Token.{is_blank, is_token_char}
 use Rattle.iri_link.specs.Field.{token}
 use Rattle.iri_link.specs.Phases.{after_equals}
 use Rattle.iri_link.specs.Fault.{fault_from}
-use Rattle.iri_link.specs.inside.Runs.{begins, IsRun}
+use Rattle.iri_grammar.specs.inside.Runs.{first_passes}
+use Rattle.iri_link.specs.inside.Runs.{IsRun}
 use Rattle.iri_link.specs.inside.ReadParams.{ReadsValue}
 use Rattle.iri_link.specs.declared.error.LinkKind.TheVariants.{NoValue}
 use Rattle.iri_link.proofs.PhaseLemmas.{equals-token, token-run, token-ends}
 use Rattle.iri_link.proofs.value.read_token.Goals as goal
 
-no_value : (s : Tests) (t : List ℕ) → begins (λ c. c == 34) t ≡ false → begins is_blank t ≡ false → begins is_token_char t ≡ false → fault_from s after_equals t ≡ Some (record { kind = NoValue; rest = t })
+no_value : (s : Tests) (t : List ℕ) → first_passes (λ c. c == 34) t ≡ false → first_passes is_blank t ≡ false → first_passes is_token_char t ≡ false → fault_from s after_equals t ≡ Some (record { kind = NoValue; rest = t })
 unfolding fault_from
 no_value s [] a b d = refl
 no_value s (c ∷ cs) a b d = rw (a, d, b) refl
 
-nothing : (t run rest : List ℕ) → IsRun is_token_char t run rest → length run ≡ 0 → begins is_token_char t ≡ false
+nothing : (t run rest : List ℕ) → IsRun is_token_char t run rest → length run ≡ 0 → first_passes is_token_char t ≡ false
 nothing t [] rest h e = rw h.whole h.ends
 nothing t (c ∷ run) rest h e = absurd (omega (arith, e))
 
@@ -27,7 +28,7 @@ value_read : (t run rest v : List ℕ) → IsRun is_token_char t run rest → (l
 value_read t [] rest v h n e = absurd (n refl)
 value_read t (c ∷ run) rest v h n e =
     let one = both (is_token_char c) (list_all is_token_char run) h.all in
-    let begun : begins is_token_char t ≡ true = rw h.whole one.0 in
+    let begun : first_passes is_token_char t ≡ true = rw h.whole one.0 in
     record {
       prefix = c ∷ run;
       whole = h.whole;
