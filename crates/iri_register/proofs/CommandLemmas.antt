@@ -2,6 +2,7 @@
 use Rattle.std.proofs.Common.{◌≡◌, ℕ, List, [], ◌∷◌, ◌++◌, Bool, true, false, not, ◌&&◌, cond, fold, bytes_eq, refl, sym, ◌∙◌, ap}
 use Rattle.std.proofs.Common.{append_assoc}
 use Rattle.std.proofs.lemmas.List.{append-nil}
+use Rattle.std.proofs.Math.Bool.{and-true}
 use mathlib.Core.Bool.{and_assoc}
 use Rattle.iri_register.specs.Entries.{added, removed}
 use Rattle.iri_register.specs.Commands.{Command, Add, Remove, Line, stays, live, entries_of_lines, entries_of_commands, obeyed}
@@ -12,12 +13,8 @@ stays_add u t n [] = refl
 stays_add u t n (Add v m ∷ cs) = stays_add u t n cs
 stays_add u t n (Remove v ∷ cs) = ap (λ b. not (bytes_eq v u) && b) (stays_add u t n cs)
 
-and_true : (a : Bool) → (a && true) ≡ a
-and_true true = refl
-and_true false = refl
-
 stays_remove : (u t : List ℕ) (cs : List Command) → stays u (cs ++ Remove t ∷ []) ≡ (stays u cs && not (bytes_eq t u))
-stays_remove u t [] = and_true (not (bytes_eq t u))
+stays_remove u t [] = and-true (not (bytes_eq t u))
 stays_remove u t (Add v m ∷ cs) = stays_remove u t cs
 stays_remove u t (Remove v ∷ cs) = ap (λ b. not (bytes_eq v u) && b) (stays_remove u t cs)
     ∙ sym (and_assoc (not (bytes_eq v u)) (stays u cs) (not (bytes_eq t u)))

@@ -1,7 +1,7 @@
 -- The key of an entry that was taken out goes, and another one comes into its slot.
-use Rattle.std.proofs.Common.{bytes_eq, ◌≡◌, ◌≢◌, ℕ, zero, suc, ◌+◌, ◌-◌, ◌<◌, ◌≤◌, List, [], ◌∷◌, ◌++◌, length, map, filter, true, not, take}
-use Rattle.std.proofs.Common.{Bool, false, cond, true≢false, Option, Some, None, is_some, option_map, position, String, string_bytes, string_eq, nat_lt}
-use Rattle.std.proofs.Common.{Global, refl, sym, ◌∙◌, ap, subst, arith, slice_set, ⊎_elim, lt-ltb}
+use Rattle.std.proofs.Common.{bytes_eq, ◌≡◌, ℕ, zero, suc, ◌+◌, ◌-◌, ◌<◌, List, [], ◌∷◌, ◌++◌, length, map, filter, true, not, take}
+use Rattle.std.proofs.Common.{Bool, false, cond, Some, None, is_some, option_map, position, String, string_bytes, string_eq, nat_lt}
+use Rattle.std.proofs.Common.{Global, refl, sym, ◌∙◌, ap, arith, slice_set, ⊎_elim, lt-ltb}
 use Rattle.std.specs.Global.{Vec}
 use Rattle.std.specs.Prelude.{slice_index_or, OnOk, Result, Ok, Err}
 use Rattle.std.proofs.lemmas.Bool.{cases_lt}
@@ -11,8 +11,8 @@ use Rattle.indexmap.specs.IndexMap.{insert_entry, swap_remove_entry}
 use Rattle.iri_register.specs.Entries.{Entry, place}
 use Rattle.iri_register.specs.Listed.{entry_of, entries_of, is_live}
 use Rattle.iri_register.specs.inside.Places.{is_text, IsAt}
-use Rattle.iri_register.specs.inside.Slots.{flag, flag_at, IsKept}
-use Rattle.iri_register.proofs.MapLemmas.{none_is_some}
+use Rattle.iri_register.specs.inside.Slots.{flag_at, IsKept}
+use Rattle.iri_register.proofs.MapLemmas.{less_none, none_is_some}
 use Rattle.iri_register.proofs.SlotLemmas.{at_within, apart_text, flag_false, flag_small, place_live, live_within, length_listed, insert_last}
 
 -- a target that has no entry stands in a slot that was given up
@@ -51,15 +51,11 @@ pub absent_live : (t : List ℕ) (es : List (String Global × Vec ℕ)) → leng
 absent_live t [] h n = refl
 absent_live t (e ∷ es) h n = by (λ l m. absent_live t es l m) (is_live e) h n
   where
-    less : (o : Option ℕ) → option_map (λ k. k + 1) o ≡ None → o ≡ None
-    less None h = refl
-    less (Some k) h = absurd (none_is_some (sym h))
-
     others : (length es ≡ length (filter is_live es) → place (entries_of es) t ≡ None → is_some (lookup (is_text t) es) ≡ false) → (b : Bool)
         → length es ≡ length (filter is_live es) → cond b (Some 1) (option_map (λ k. k + 1) (place (entries_of es) t)) ≡ None
         → is_some (cond b (Some e.1) (lookup (is_text t) es)) ≡ false
     others r true l m = absurd (none_is_some (sym m))
-    others r false l m = r l (less (place (entries_of es) t) m)
+    others r false l m = r l (less_none (place (entries_of es) t) m)
 
     by : (length es ≡ length (filter is_live es) → place (entries_of es) t ≡ None → is_some (lookup (is_text t) es) ≡ false) → (b : Bool)
         → suc (length es) ≡ length (cond b (e ∷ filter is_live es) (filter is_live es))

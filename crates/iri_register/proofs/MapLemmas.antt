@@ -1,10 +1,9 @@
 -- What the map's words say of the entries that it holds.
-use Rattle.std.proofs.Common.{bytes_eq, ◌≡◌, ◌≢◌, ℕ, zero, suc, ◌+◌, ◌-◌, ◌<◌, List, [], ◌∷◌, ◌++◌, length, map, get_or, slice_get, true}
-use Rattle.std.proofs.Common.{false, cond, true≢false, Option, Some, None, is_some, option_map, position, String, string_bytes, string_eq}
-use Rattle.std.proofs.Common.{Global, refl, sym, ◌∙◌, ap, arith}
+use Rattle.std.proofs.Common.{◌≡◌, ℕ, zero, suc, ◌+◌, ◌<◌, List, [], ◌∷◌, length, get_or, true}
+use Rattle.std.proofs.Common.{false, Option, Some, None, option_map, position, String}
+use Rattle.std.proofs.Common.{Global, refl, sym, arith}
 use Rattle.std.specs.Global.{Vec}
 use Rattle.std.specs.Map.{keys_of}
-use Rattle.std.specs.List.{IsDistinct, AllByRecursion}
 use Rattle.std.proofs.lemmas.List.Quantifiers.{position-Some}
 use Rattle.iri_register.specs.inside.Places.{is_text, IsAt}
 
@@ -21,6 +20,11 @@ none_is_some e = cc
 
 pub some_same : {A : Type 0} {x y : A} → Some x ≡ Some y → x ≡ y
 some_same e = cc
+
+-- one more than no place is none
+pub less_none : (o : Option ℕ) → option_map (λ k. k + 1) o ≡ None → o ≡ None
+less_none None h = refl
+less_none (Some k) h = absurd (none_is_some (sym h))
 
 pub at_position : (t : List ℕ) (es : List (String Global × Vec ℕ)) (i : ℕ) → position (is_text t) (keys_of es) ≡ Some i → IsAt t es i
 at_position t [] i p = absurd (none_is_some p)

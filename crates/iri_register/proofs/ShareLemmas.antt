@@ -1,7 +1,7 @@
 -- Live lines have an entry, and share it exactly where steps join their targets.
 use Rattle.std.proofs.Common.{◌≡◌, ◌↔◌, ℕ, zero, suc, ◌+◌, List, [], ◌∷◌, true, false, not, cond, bytes_eq, Option, Some, None}
 use Rattle.std.proofs.Common.{option_map, slice_get, length, refl, sym, ◌∙◌, ap, subst, arith}
-use Rattle.std.specs.Prelude.{IsSome, IfOk, MatchResult, OnOk, Result, Ok, Err}
+use Rattle.std.specs.Prelude.{IsSome, IfOk, Result, Ok, Err}
 use Rattle.iri_grammar.specs.Classes.{Tests, IsSpec}
 use Rattle.iri_grammar.specs.Fault.{bytes_fault}
 use Rattle.iri_grammar.specs.Parts.{Fits, IsReference, IsAbsolute}
@@ -14,15 +14,16 @@ use Rattle.iri_normal.specs.Target.{target}
 use Rattle.iri_resolve.proofs.SchemeSteps.{joined-exactly, texts-exactly}
 use Rattle.iri_normal.proofs.CanonLemmas.{fault_none}
 use Rattle.iri_normal.proofs.TargetLaws.{target-fits}
-use Rattle.iri_register.specs.Entries.{Entry, added, place, with_line, IsAdded}
+use Rattle.iri_register.specs.Entries.{Entry, added, place, with_line}
 use Rattle.iri_register.specs.Commands.{Command, Line, live, numbers, entries_of_commands}
-use Rattle.iri_register.specs.Refusals.{CausedBy}
+use Rattle.iri_register.specs.Answers.{Adds, FindsPlace, TellsAdded}
+use Rattle.iri_register.specs.Refusals.{RefusedFor}
 use Rattle.iri_register.specs.Shared.{Share, IsLive, line_of, TargetsJoin, IsJoinedPlace, FindsJoined, AddsJoined}
 use Rattle.iri_register.specs.declared.added.Added.{Added}
 use Rattle.iri_register.specs.declared.added.Added.TheVariants.{New, Old}
 use Rattle.iri_register.specs.declared.error.RegisterError.{RegisterError}
 use Rattle.iri_register.proofs.GroupLemmas.{same, is_same, without, grouped, entries_grouped}
-use Rattle.iri_register.proofs.MapLemmas.{none_is_some, some_same}
+use Rattle.iri_register.proofs.MapLemmas.{less_none, none_is_some, some_same}
 
 -- ---- places
 
@@ -156,10 +157,6 @@ placed_old (e ∷ es) t n k h =
       | false ↦ λ a m. let l = one_less (place es t) k m in rw (a, placed_old es t n l.0 l.1) (ap Some (sym l.2))
     ] refl h
 
-one_less_none : (o : Option ℕ) → option_map (λ j. j + 1) o ≡ None → o ≡ None
-one_less_none None h = refl
-one_less_none (Some j) h = cc
-
 placed_new : (es : List Entry) (t : List ℕ) (n : ℕ) → place es t ≡ None → place (added es t n) t ≡ Some (length es + 1)
 placed_new [] t n h = rw (same t) refl
 placed_new (e ∷ es) t n h =
@@ -167,7 +164,7 @@ placed_new (e ∷ es) t n h =
     elim (bytes_eq t e.target) as (λ b. bytes_eq t e.target ≡ b → cond b (Some 1) (option_map (λ j. j + 1) (place es t)) ≡ None
     → place (cond b (with_line e n ∷ es) (e ∷ added es t n)) t ≡ Some (length (e ∷ es) + 1)) [
       | true ↦ λ a m. cc
-      | false ↦ λ a m. rw (a, placed_new es t n (one_less_none (place es t) m)) (ap Some more)
+      | false ↦ λ a m. rw (a, placed_new es t n (less_none (place es t) m)) (ap Some more)
     ] refl h
 
 module _ (s : Tests) (spec : IsSpec s) (base : List ℕ) (absolute : absolute_fault s base ≡ None) (q : List ℕ) where
@@ -184,17 +181,15 @@ module _ (s : Tests) (spec : IsSpec s) (base : List ℕ) (absolute : absolute_fa
       let texts = joined_with h r hr in
       (λ i. texts.0 (one_target es (canonical s base q) (canonical s base r) k there i), λ j. ap (place es) (sym (texts.1 j)) ∙ there)
 
-  pub finds_joined : (es : List Entry) (x : Result (Option ℕ) RegisterError)
-      → MatchResult x (λ _. bytes_fault (reference_fault s) q ≡ None) (λ e. CausedBy e (bytes_fault (reference_fault s) q))
-      → IfOk x (λ k. k ≡ place es (canonical s base q)) → IfOk x (FindsJoined s base es q)
+  pub finds_joined : (es : List Entry) (x : Result (Option ℕ) RegisterError) → RefusedFor s q x → FindsPlace s base es q x
+      → IfOk x (FindsJoined s base es q)
   unfolding FindsJoined
   finds_joined es (Ok (Some k)) h is = joined_place h es k (sym is)
   finds_joined es (Ok None) h is = λ r hr j. ap (place es) (sym ((joined_with h r hr).1 j)) ∙ sym is
   finds_joined es (Err e) h is = tt
 
-  pub adds_joined : (es new : List Entry) (n : ℕ) (x : Result Added RegisterError)
-      → MatchResult x (λ _. bytes_fault (reference_fault s) q ≡ None) (λ e. CausedBy e (bytes_fault (reference_fault s) q))
-      → IfOk x (IsAdded es (canonical s base q)) → OnOk x (new ≡ added es (canonical s base q) n) → IfOk x (AddsJoined s base new q)
+  pub adds_joined : (es new : List Entry) (n : ℕ) (x : Result Added RegisterError) → RefusedFor s q x → TellsAdded s base es q x
+      → Adds s base es new q n x → IfOk x (AddsJoined s base new q)
   unfolding AddsJoined
   adds_joined es new n (Ok (Old k)) h is entries =
       joined_place h new k (ap (λ l. place l (canonical s base q)) entries ∙ placed_old es (canonical s base q) n k is)

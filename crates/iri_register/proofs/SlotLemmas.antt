@@ -1,11 +1,11 @@
 -- What the slots say of the entries that were not taken out.
 use Rattle.std.proofs.Common.{bytes_eq, ◌≡◌, ◌≢◌, ℕ, zero, suc, ◌+◌, ◌-◌, ◌<◌, ◌≤◌, List, [], ◌∷◌, ◌++◌, length, map, filter, get_or, slice_get, true}
-use Rattle.std.proofs.Common.{Bool, false, cond, true≢false, Option, Some, None, is_some, option_map, String, string_bytes, string_eq}
+use Rattle.std.proofs.Common.{Bool, false, cond, true≢false, Some, None, is_some, option_map, String, string_bytes, string_eq}
 use Rattle.std.proofs.Common.{Global, refl, sym, ◌∙◌, ap, subst, arith}
 use Rattle.std.specs.Global.{Vec}
 use Rattle.std.specs.Bool.{◌==◌}
 use Rattle.std.proofs.lemmas.Bool.{eqb-true, false_from_ne_true}
-use Rattle.std.proofs.Common.{take, drop, not, ◌*◌}
+use Rattle.std.proofs.Common.{take, not}
 use Rattle.std.specs.Map.{keys_of, values_of, lookup}
 use Rattle.std.specs.List.{IsDistinct, AllByRecursion}
 use Rattle.indexmap.specs.IndexMap.{set_value_at, insert_entry}
@@ -16,7 +16,7 @@ use Rattle.iri_register.specs.inside.Places.{is_text, IsAt}
 use Rattle.iri_register.specs.inside.Slots.{flag, flag_at, counted, IsKept}
 use Rattle.iri_register.proofs.GroupLemmas.{is_same}
 use Rattle.iri_register.proofs.TreeLemmas.{level_total, by_same}
-use Rattle.iri_register.proofs.MapLemmas.{none_is_some, some_same}
+use Rattle.iri_register.proofs.MapLemmas.{less_none, none_is_some, some_same}
 
 -- ---- counts
 
@@ -139,24 +139,16 @@ count_none [] t h = refl
 count_none (e ∷ es) t h =
     elim (bytes_eq t e.target) as (λ b. cond b (Some 1) (option_map (λ k. k + 1) (place es t)) ≡ None → cond b (Some (length e.lines)) (line_count es t) ≡ None) [
       | true ↦ λ m. absurd (none_is_some (sym m))
-      | false ↦ λ m. count_none es t (less (place es t) m)
+      | false ↦ λ m. count_none es t (less_none (place es t) m)
     ] h
-  where
-    less : (o : Option ℕ) → option_map (λ k. k + 1) o ≡ None → o ≡ None
-    less None h = refl
-    less (Some k) h = absurd (none_is_some (sym h))
 
 pub removed_none : (es : List Entry) (t : List ℕ) → place es t ≡ None → removed es t ≡ es
 removed_none [] t h = refl
 removed_none (e ∷ es) t h =
     elim (bytes_eq t e.target) as (λ b. cond b (Some 1) (option_map (λ k. k + 1) (place es t)) ≡ None → cond b es (e ∷ removed es t) ≡ e ∷ es) [
       | true ↦ λ m. absurd (none_is_some (sym m))
-      | false ↦ λ m. ap (λ l. e ∷ l) (removed_none es t (less (place es t) m))
+      | false ↦ λ m. ap (λ l. e ∷ l) (removed_none es t (less_none (place es t) m))
     ] h
-  where
-    less : (o : Option ℕ) → option_map (λ k. k + 1) o ≡ None → o ≡ None
-    less None h = refl
-    less (Some k) h = absurd (none_is_some (sym h))
 
 pub flag_set : (es : List (String Global × Vec ℕ)) (i : ℕ) (w : Vec ℕ) → i < length es → flag_at (set_value_at es i w) i ≡ cond (has_lines w.items) 1 0
 flag_set [] i w h = absurd (omega arith)
@@ -194,14 +186,6 @@ pub flag_entry : (es : List (String Global × Vec ℕ)) (i : ℕ) (k : String Gl
 flag_entry [] i k v h = absurd (none_is_some h)
 flag_entry (e ∷ es) zero k v h = ap (λ (p : String Global × Vec ℕ). cond (has_lines p.1.items) 1 0) (some_same h)
 flag_entry (e ∷ es) (suc i) k v h = flag_entry es i k v h
-
-pub has_none : (ls : List ℕ) → length ls ≡ 0 → has_lines ls ≡ false
-has_none [] h = refl
-has_none (l ∷ ls) h = absurd (omega arith)
-
-pub has_some : (ls : List ℕ) → length ls ≢ 0 → has_lines ls ≡ true
-has_some [] h = absurd (h refl)
-has_some (l ∷ ls) h = refl
 
 nonzero : (n : ℕ) → 0 < n → (n == 0) ≡ false
 nonzero n h = false_from_ne_true (n == 0) (λ e. let q = eqb-true n 0 e in omega (arith, q, h))
@@ -244,9 +228,6 @@ counted_small (e ∷ es) (suc n) =
     elim (is_live e) as (λ b. cond b 1 0 + counted es n ≤ suc (length es)) [ true ↦ omega (arith, rest) | false ↦ omega (arith, rest) ]
 
 -- ---- together with the counts
-
-pub room_some : {es : List (String Global × Vec ℕ)} {ns : List ℕ} {room height live : ℕ} → IsKept es ns room height live → (i : ℕ) → i < length es → 0 < room
-room_some k i h = omega (arith, k.within)
 
 pub total_is : {es : List (String Global × Vec ℕ)} {ns : List ℕ} {room height live : ℕ} → IsKept es ns room height live → (i : ℕ) → i ≤ room
     → total ns room i ≡ counted es i
@@ -506,12 +487,8 @@ added_last (e ∷ es) t n h =
     elim (bytes_eq t e.target) as (λ b. cond b (Some 1) (option_map (λ k. k + 1) (place es t)) ≡ None
     → cond b (with_line e n ∷ es) (e ∷ added es t n) ≡ e ∷ (es ++ record { target = t; lines = n ∷ [] } ∷ [])) [
       | true ↦ λ m. absurd (none_is_some (sym m))
-      | false ↦ λ m. ap (λ l. e ∷ l) (added_last es t n (less (place es t) m))
+      | false ↦ λ m. ap (λ l. e ∷ l) (added_last es t n (less_none (place es t) m))
     ] h
-  where
-    less : (o : Option ℕ) → option_map (λ k. k + 1) o ≡ None → o ≡ None
-    less None h = refl
-    less (Some k) h = absurd (none_is_some (sym h))
 
 flag_last : (es : List (String Global × Vec ℕ)) (x : String Global × Vec ℕ) → flag_at (es ++ x ∷ []) (length es) ≡ flag x
 flag_last [] x = refl

@@ -1,6 +1,6 @@
 -- Levels of a tree of counts.
 use Rattle.std.proofs.Common.{◌≡◌, ◌≢◌, ℕ, set, length-set, get_or-set_same, get_or-set_other, zero, suc, ◌+◌, ◌-◌, ◌*◌, ◌/◌, ◌%◌, ◌<◌, ◌≤◌, List, length, get_or, refl, sym, ◌∙◌, ap, subst, arith}
-use Rattle.iri_register.specs.inside.Counted.{width, total, IsSummed, IsTree}
+use Rattle.iri_register.specs.inside.Counted.{width, total, IsSummed}
 
 pub width_less : (level : ℕ) → 0 < level → width level ≡ 2 * width (level - 1)
 width_less zero h = absurd (omega arith)
@@ -144,29 +144,29 @@ down_sum ns room first offset s p b w =
     let b : get_or ns (2 * (first + offset) + 1) 0 ≡ get_or ns (first * 2 + (offset * 2 + 1)) 0 = ap (λ k. get_or ns k 0) (omega arith) in
     omega (arith, here, a, b)
 
--- ---- one more at a slot
+-- ---- one more or one less at a slot
 
--- the nodes `new` after one more was put at the nodes from a leaf up to below `node`
-pub record IsRaised (old new : List ℕ) (room leaf node : ℕ) : Type 0 where
+-- the nodes `new` after the nodes from a leaf up to below `node` got `up` more and `down` less
+pub record IsShifted (up down : ℕ) (old new : List ℕ) (room leaf node : ℕ) : Type 0 where
   pub size : length new ≡ length old
   pub below : (k : ℕ) → k ≤ node → get_or new k 0 ≡ get_or old k 0
-  pub next : (k : ℕ) → 0 < k → k < room → k ≡ node → get_or new k 0 + 1 ≡ get_or new (2 * k) 0 + get_or new (2 * k + 1) 0
+  pub next : (k : ℕ) → 0 < k → k < room → k ≡ node → get_or new k 0 + up ≡ get_or new (2 * k) 0 + get_or new (2 * k + 1) 0 + down
   pub summed : (k : ℕ) → 0 < k → k < room → k ≢ node → get_or new k 0 ≡ get_or new (2 * k) 0 + get_or new (2 * k + 1) 0
   pub leaves : (k : ℕ) → room ≤ k → k ≢ leaf → get_or new k 0 ≡ get_or old k 0
-  pub done : node < leaf → get_or new leaf 0 ≡ get_or old leaf 0 + 1
+  pub done : node < leaf → get_or new leaf 0 + down ≡ get_or old leaf 0 + up
   pub path : node < leaf → node < room
-  pub root : node ≡ 0 → get_or new 1 0 ≡ get_or old 1 0 + 1
+  pub root : node ≡ 0 → get_or new 1 0 + down ≡ get_or old 1 0 + up
 
-pub raised_next : (old new : List ℕ) (room leaf node : ℕ) → IsRaised old new room leaf node → 0 < node → node ≤ leaf → leaf < 2 * room → room ≤ leaf
-    → length old ≡ 2 * room → IsRaised old (set new node (get_or new node 0 + 1)) room leaf (node / 2)
-raised_next old new room leaf node r p le lt ge len =
+pub shifted_next : (up down n : ℕ) (old new : List ℕ) (room leaf node : ℕ) → IsShifted up down old new room leaf node
+    → n + down ≡ get_or new node 0 + up → 0 < node → node ≤ leaf → leaf < 2 * room → room ≤ leaf → length old ≡ 2 * room
+    → IsShifted up down old (set new node n) room leaf (node / 2)
+shifted_next up down n old new room leaf node r is p le lt ge len =
     let within : node < length new = omega (arith, r.size) in
-    let same : get_or (set new node (get_or new node 0 + 1)) node 0 ≡ get_or new node 0 + 1 = get_or-set_same new node (get_or new node 0 + 1) 0 within in
-    let other : (k : ℕ) → k ≢ node → get_or (set new node (get_or new node 0 + 1)) k 0 ≡ get_or new k 0 =
-    λ k h. get_or-set_other new node k (get_or new node 0 + 1) 0 h in
-    let at : (k : ℕ) → k ≡ node → get_or (set new node (get_or new node 0 + 1)) k 0 ≡ get_or new k 0 + 1 =
-    λ k h. subst (λ j. get_or (set new node (get_or new node 0 + 1)) j 0 ≡ get_or new j 0 + 1) (sym h) same in record {
-      size = length-set new node (get_or new node 0 + 1) ∙ r.size;
+    let same : get_or (set new node n) node 0 ≡ n = get_or-set_same new node n 0 within in
+    let other : (k : ℕ) → k ≢ node → get_or (set new node n) k 0 ≡ get_or new k 0 = λ k h. get_or-set_other new node k n 0 h in
+    let at : (k : ℕ) → k ≡ node → get_or (set new node n) k 0 + down ≡ get_or new k 0 + up =
+    λ k h. subst (λ j. get_or (set new node n) j 0 + down ≡ get_or new j 0 + up) (sym h) (omega (arith, same, is)) in record {
+      size = length-set new node n ∙ r.size;
       below = λ k h. other k (omega arith) ∙ r.below k (omega arith);
       next = λ k a b e.
           let s = r.summed k a b (omega arith) in
@@ -182,54 +182,8 @@ raised_next old new room leaf node r p le lt ge len =
           (λ h. let s = r.summed k a b h in let o = other k h in omega (arith, s, o, x, y));
       leaves = λ k a h. other k (by_same node leaf (λ e. omega arith) (λ e. let l = r.path (omega arith) in omega arith)) ∙ r.leaves k a h;
       done = λ h. by_same leaf node
-          (λ e. at leaf e ∙ ap (λ n. n + 1) (r.below leaf (omega arith)))
-          (λ e. other leaf e ∙ r.done (omega arith));
+          (λ e. let x = at leaf e in let y = r.below leaf (omega arith) in omega (arith, x, y))
+          (λ e. let x = other leaf e in let y = r.done (omega arith) in omega (arith, x, y));
       path = λ h. omega arith;
-      root = λ h. at 1 (omega arith) ∙ ap (λ n. n + 1) (r.below 1 (omega arith));
-    }
-
--- the nodes `new` after one less was put at the nodes from a leaf up to below `node`
-pub record IsLowered (old new : List ℕ) (room leaf node : ℕ) : Type 0 where
-  pub size : length new ≡ length old
-  pub below : (k : ℕ) → k ≤ node → get_or new k 0 ≡ get_or old k 0
-  pub next : (k : ℕ) → 0 < k → k < room → k ≡ node → get_or new k 0 ≡ get_or new (2 * k) 0 + get_or new (2 * k + 1) 0 + 1
-  pub summed : (k : ℕ) → 0 < k → k < room → k ≢ node → get_or new k 0 ≡ get_or new (2 * k) 0 + get_or new (2 * k + 1) 0
-  pub leaves : (k : ℕ) → room ≤ k → k ≢ leaf → get_or new k 0 ≡ get_or old k 0
-  pub done : node < leaf → get_or new leaf 0 + 1 ≡ get_or old leaf 0
-  pub path : node < leaf → node < room
-  pub root : node ≡ 0 → get_or new 1 0 + 1 ≡ get_or old 1 0
-  pub some : 0 < node → 0 < get_or old node 0
-
-pub lowered_next : (old new : List ℕ) (room leaf node : ℕ) → IsLowered old new room leaf node → 0 < node → node ≤ leaf → leaf < 2 * room → room ≤ leaf
-    → length old ≡ 2 * room → IsSummed old room → IsLowered old (set new node (get_or new node 0 - 1)) room leaf (node / 2)
-lowered_next old new room leaf node r p le lt ge len sums =
-    let some = r.some p in
-    let here = r.below node (omega arith) in
-    let within : node < length new = omega (arith, r.size) in
-    let same : get_or (set new node (get_or new node 0 - 1)) node 0 ≡ get_or new node 0 - 1 = get_or-set_same new node (get_or new node 0 - 1) 0 within in
-    let other : (k : ℕ) → k ≢ node → get_or (set new node (get_or new node 0 - 1)) k 0 ≡ get_or new k 0 =
-    λ k h. get_or-set_other new node k (get_or new node 0 - 1) 0 h in
-    let at : (k : ℕ) → k ≡ node → get_or (set new node (get_or new node 0 - 1)) k 0 + 1 ≡ get_or new k 0 =
-    λ k h. subst (λ j. get_or (set new node (get_or new node 0 - 1)) j 0 + 1 ≡ get_or new j 0) (sym h) (omega (arith, same, here, some)) in record {
-      size = length-set new node (get_or new node 0 - 1) ∙ r.size;
-      below = λ k h. other k (omega arith) ∙ r.below k (omega arith);
-      next = λ k a b e.
-          let s = r.summed k a b (omega arith) in
-          let o = other k (omega arith) in
-          by_same (2 * k) node
-          (λ h. let x = at (2 * k) h in let y = other (2 * k + 1) (omega arith) in omega (arith, s, o, x, y))
-          (λ h. let x = other (2 * k) h in let y = at (2 * k + 1) (omega arith) in omega (arith, s, o, x, y));
-      summed = λ k a b e.
-          let x = other (2 * k) (omega arith) in
-          let y = other (2 * k + 1) (omega arith) in
-          by_same k node
-          (λ h. let s = r.next k a b h in let o = at k h in omega (arith, s, o, x, y))
-          (λ h. let s = r.summed k a b h in let o = other k h in omega (arith, s, o, x, y));
-      leaves = λ k a h. other k (by_same node leaf (λ e. omega arith) (λ e. let l = r.path (omega arith) in omega arith)) ∙ r.leaves k a h;
-      done = λ h. by_same leaf node
-          (λ e. at leaf e ∙ r.below leaf (omega arith))
-          (λ e. ap (λ n. n + 1) (other leaf e) ∙ r.done (omega arith));
-      path = λ h. omega arith;
-      root = λ h. at 1 (omega arith) ∙ r.below 1 (omega arith);
-      some = λ h. let up = above old room node sums (omega arith) (omega arith) in omega (arith, some, up);
+      root = λ h. let x = at 1 (omega arith) in let y = r.below 1 (omega arith) in omega (arith, x, y);
     }

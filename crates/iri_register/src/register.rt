@@ -1,14 +1,13 @@
 //! A base, and entries by canonical target (RFC 3986 sections 5.2 and 6.2.2).
 ghost use Rattle.std.specs.Prelude.{◌≡◌, ◌≢◌, [], length, map, option_map, string_bytes};
-ghost use Rattle.std.specs.Prelude.{IfOk, MatchResult, None, OnErr, OnOk};
+ghost use Rattle.std.specs.Prelude.{IfOk, None, OnErr, OnOk};
 ghost use Rattle.std.specs.List.{IsDistinct};
 ghost use Rattle.std.specs.Str.{bytes_eq};
-ghost use Rattle.iri_grammar.specs.Fault.{bytes_fault};
-ghost use Rattle.iri_grammar.specs.WholeFault.{reference_fault};
 ghost use Rattle.iri_normal.specs.NormalForm.{canonical};
 ghost use Rattle.iri_normal.specs.Resolver.{base_text};
-ghost use Rattle.iri_register.specs.Entries.{added, removed, place, line_count, entry_at, IsAdded};
-ghost use Rattle.iri_register.specs.Refusals.{CausedBy};
+ghost use Rattle.iri_register.specs.Answers.{Adds, FindsPlace, Removes, TellsAdded, TellsLines};
+ghost use Rattle.iri_register.specs.Entries.{entry_at};
+ghost use Rattle.iri_register.specs.Refusals.{RefusedFor};
 ghost use Rattle.iri_register.specs.Shared.{AddsJoined, FindsJoined};
 
 use crate::added::Added;
@@ -67,8 +66,7 @@ fn write_target<S: Spec>(
     resolver: &FixedBaseResolver<'_, S>,
     reference: &[u8],
 ) -> Result<(), RegisterError>
-    ensures causes { MatchResult result (λ _. bytes_fault (reference_fault S.tests) reference.now ≡ None)
-        (λ e. CausedBy e (bytes_fault (reference_fault S.tests) reference.now)) }
+    ensures causes { RefusedFor S.tests reference.now result }
     ensures text { OnOk result (string_bytes buffer.new ≡ canonical S.tests (base_text resolver.now) reference.now) }
 {
     match SplitView::try_from_bytes(reference) {
@@ -85,8 +83,7 @@ fn write_target<S: Spec>(
 
 // The answer where there are no entries: none has the reference's target, and only a fault is told. It takes no memory.
 fn none_there<S: Spec>(reference: &[u8]) -> Result<Option<usize>, RegisterError>
-    ensures causes { MatchResult result (λ _. bytes_fault (reference_fault S.tests) reference.now ≡ None)
-        (λ e. CausedBy e (bytes_fault (reference_fault S.tests) reference.now)) }
+    ensures causes { RefusedFor S.tests reference.now result }
     ensures answer { IfOk result (λ k. k ≡ None) }
     ensures memory { result ≢ Err RegisterError.Memory }
 {
@@ -104,10 +101,8 @@ impl Links {
         reference: &[u8],
     ) -> Result<Option<usize>, RegisterError>
         ensures joined { IfOk result (FindsJoined S.tests (base_text resolver.now) self.now.entries reference.now) }
-        ensures causes { MatchResult result (λ _. bytes_fault (reference_fault S.tests) reference.now ≡ None)
-            (λ e. CausedBy e (bytes_fault (reference_fault S.tests) reference.now)) }
-        ensures answer { IfOk result (λ k. k
-            ≡ place self.now.entries (canonical S.tests (base_text resolver.now) reference.now)) }
+        ensures causes { RefusedFor S.tests reference.now result }
+        ensures answer { FindsPlace S.tests (base_text resolver.now) self.now.entries reference.now result }
         ensures memory { self.now.entries ≡ [] → result ≢ Err RegisterError.Memory }
     {
         if entries::len(&self.entries) == 0 {
@@ -128,12 +123,9 @@ impl Links {
         line: u64,
     ) -> Result<Added, RegisterError>
         ensures joined { IfOk result (AddsJoined S.tests (base_text resolver.now) self.new.entries reference.now) }
-        ensures causes { MatchResult result (λ _. bytes_fault (reference_fault S.tests) reference.now ≡ None)
-            (λ e. CausedBy e (bytes_fault (reference_fault S.tests) reference.now)) }
-        ensures answer { IfOk result (IsAdded self.old.entries
-            (canonical S.tests (base_text resolver.now) reference.now)) }
-        ensures entries { OnOk result (self.new.entries
-            ≡ added self.old.entries (canonical S.tests (base_text resolver.now) reference.now) line) }
+        ensures causes { RefusedFor S.tests reference.now result }
+        ensures answer { TellsAdded S.tests (base_text resolver.now) self.old.entries reference.now result }
+        ensures entries { Adds S.tests (base_text resolver.now) self.old.entries self.new.entries reference.now line result }
         ensures unchanged { OnErr result (self.new.entries ≡ self.old.entries) }
     {
         match write_target(&mut self.target, resolver, reference) {
@@ -156,12 +148,9 @@ impl Links {
         resolver: &FixedBaseResolver<'_, S>,
         reference: &[u8],
     ) -> Result<Option<usize>, RegisterError>
-        ensures causes { MatchResult result (λ _. bytes_fault (reference_fault S.tests) reference.now ≡ None)
-            (λ e. CausedBy e (bytes_fault (reference_fault S.tests) reference.now)) }
-        ensures answer { IfOk result (λ n. n
-            ≡ line_count self.old.entries (canonical S.tests (base_text resolver.now) reference.now)) }
-        ensures entries { OnOk result (self.new.entries
-            ≡ removed self.old.entries (canonical S.tests (base_text resolver.now) reference.now)) }
+        ensures causes { RefusedFor S.tests reference.now result }
+        ensures answer { TellsLines S.tests (base_text resolver.now) self.old.entries reference.now result }
+        ensures entries { Removes S.tests (base_text resolver.now) self.old.entries self.new.entries reference.now result }
         ensures unchanged { OnErr result (self.new.entries ≡ self.old.entries) }
         ensures memory { self.old.entries ≡ [] → result ≢ Err RegisterError.Memory }
     {
@@ -228,9 +217,8 @@ impl<S: Spec> Register<S> {
     /// ```
     pub fn find(&self, reference: &[u8]) -> Result<Option<usize>, RegisterError>
         ensures joined { IfOk result (FindsJoined S.tests self.now.base self.now.entries reference.now) }
-        ensures causes { MatchResult result (λ _. bytes_fault (reference_fault S.tests) reference.now ≡ None)
-            (λ e. CausedBy e (bytes_fault (reference_fault S.tests) reference.now)) }
-        ensures answer { IfOk result (λ k. k ≡ place self.now.entries (canonical S.tests self.now.base reference.now)) }
+        ensures causes { RefusedFor S.tests reference.now result }
+        ensures answer { FindsPlace S.tests self.now.base self.now.entries reference.now result }
         ensures memory { self.now.entries ≡ [] → result ≢ Err RegisterError.Memory }
     {
         let page = FixedBaseResolver::new(self.base.as_slice());
@@ -249,10 +237,8 @@ impl<S: Spec> Register<S> {
         reference: &[u8],
     ) -> Result<Option<usize>, RegisterError>
         ensures joined { IfOk result (FindsJoined S.tests (base_text resolver.now) self.now.entries reference.now) }
-        ensures causes { MatchResult result (λ _. bytes_fault (reference_fault S.tests) reference.now ≡ None)
-            (λ e. CausedBy e (bytes_fault (reference_fault S.tests) reference.now)) }
-        ensures answer { IfOk result (λ k. k
-            ≡ place self.now.entries (canonical S.tests (base_text resolver.now) reference.now)) }
+        ensures causes { RefusedFor S.tests reference.now result }
+        ensures answer { FindsPlace S.tests (base_text resolver.now) self.now.entries reference.now result }
         ensures memory { self.now.entries ≡ [] → result ≢ Err RegisterError.Memory }
     {
         self.links.find(resolver, reference)
@@ -270,12 +256,9 @@ impl<S: Spec> Register<S> {
     /// - `Memory` where allocation fails; the reference is valid then.
     pub fn add(&mut self, reference: &[u8], line: u64) -> Result<Added, RegisterError>
         ensures joined { IfOk result (AddsJoined S.tests self.old.base self.new.entries reference.now) }
-        ensures causes { MatchResult result (λ _. bytes_fault (reference_fault S.tests) reference.now ≡ None)
-            (λ e. CausedBy e (bytes_fault (reference_fault S.tests) reference.now)) }
-        ensures answer { IfOk result (IsAdded self.old.entries
-            (canonical S.tests self.old.base reference.now)) }
-        ensures entries { OnOk result (self.new.entries
-            ≡ added self.old.entries (canonical S.tests self.old.base reference.now) line) }
+        ensures causes { RefusedFor S.tests reference.now result }
+        ensures answer { TellsAdded S.tests self.old.base self.old.entries reference.now result }
+        ensures entries { Adds S.tests self.old.base self.old.entries self.new.entries reference.now line result }
         ensures base { self.new.base ≡ self.old.base }
         ensures unchanged { OnErr result (self.new ≡ self.old) }
     {
@@ -310,12 +293,9 @@ impl<S: Spec> Register<S> {
         line: u64,
     ) -> Result<Added, RegisterError>
         ensures joined { IfOk result (AddsJoined S.tests (base_text resolver.now) self.new.entries reference.now) }
-        ensures causes { MatchResult result (λ _. bytes_fault (reference_fault S.tests) reference.now ≡ None)
-            (λ e. CausedBy e (bytes_fault (reference_fault S.tests) reference.now)) }
-        ensures answer { IfOk result (IsAdded self.old.entries
-            (canonical S.tests (base_text resolver.now) reference.now)) }
-        ensures entries { OnOk result (self.new.entries
-            ≡ added self.old.entries (canonical S.tests (base_text resolver.now) reference.now) line) }
+        ensures causes { RefusedFor S.tests reference.now result }
+        ensures answer { TellsAdded S.tests (base_text resolver.now) self.old.entries reference.now result }
+        ensures entries { Adds S.tests (base_text resolver.now) self.old.entries self.new.entries reference.now line result }
         ensures base { self.new.base ≡ self.old.base }
         ensures unchanged { OnErr result (self.new ≡ self.old) }
     {
@@ -344,12 +324,9 @@ impl<S: Spec> Register<S> {
     /// assert_eq!(rt; links.len(), 0);
     /// ```
     pub fn remove(&mut self, reference: &[u8]) -> Result<Option<usize>, RegisterError>
-        ensures causes { MatchResult result (λ _. bytes_fault (reference_fault S.tests) reference.now ≡ None)
-            (λ e. CausedBy e (bytes_fault (reference_fault S.tests) reference.now)) }
-        ensures answer { IfOk result (λ n. n
-            ≡ line_count self.old.entries (canonical S.tests self.old.base reference.now)) }
-        ensures entries { OnOk result (self.new.entries
-            ≡ removed self.old.entries (canonical S.tests self.old.base reference.now)) }
+        ensures causes { RefusedFor S.tests reference.now result }
+        ensures answer { TellsLines S.tests self.old.base self.old.entries reference.now result }
+        ensures entries { Removes S.tests self.old.base self.old.entries self.new.entries reference.now result }
         ensures base { self.new.base ≡ self.old.base }
         ensures unchanged { OnErr result (self.new ≡ self.old) }
         ensures memory { self.old.entries ≡ [] → result ≢ Err RegisterError.Memory }
@@ -369,12 +346,9 @@ impl<S: Spec> Register<S> {
         resolver: &FixedBaseResolver<'_, S>,
         reference: &[u8],
     ) -> Result<Option<usize>, RegisterError>
-        ensures causes { MatchResult result (λ _. bytes_fault (reference_fault S.tests) reference.now ≡ None)
-            (λ e. CausedBy e (bytes_fault (reference_fault S.tests) reference.now)) }
-        ensures answer { IfOk result (λ n. n
-            ≡ line_count self.old.entries (canonical S.tests (base_text resolver.now) reference.now)) }
-        ensures entries { OnOk result (self.new.entries
-            ≡ removed self.old.entries (canonical S.tests (base_text resolver.now) reference.now)) }
+        ensures causes { RefusedFor S.tests reference.now result }
+        ensures answer { TellsLines S.tests (base_text resolver.now) self.old.entries reference.now result }
+        ensures entries { Removes S.tests (base_text resolver.now) self.old.entries self.new.entries reference.now result }
         ensures base { self.new.base ≡ self.old.base }
         ensures unchanged { OnErr result (self.new ≡ self.old) }
         ensures memory { self.old.entries ≡ [] → result ≢ Err RegisterError.Memory }

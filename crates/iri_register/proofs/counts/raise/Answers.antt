@@ -1,5 +1,5 @@
-use Rattle.std.proofs.Common.{◌≡◌, ◌≤◌, ◌<◌, ◌+◌, ◌*◌, ◌/◌, get_or, arith, rules}
-use Rattle.iri_register.proofs.TreeLemmas.{top, raised_next}
+use Rattle.std.proofs.Common.{◌+◌, get_or, arith}
+use Rattle.iri_register.proofs.TreeLemmas.{top, shifted_next}
 use Rattle.iri_register.proofs.counts.raise.Goals as goal
 
 pub overflow_add-nodes : goal.overflow_add-nodes
@@ -14,7 +14,7 @@ pub loop-node-preserved : goal.loop-node-preserved
 loop-node-preserved c =
     let t = c.requires.tree in
     let v = c.loop-node.invariant in (
-      raised_next c.args.nodes.now c.loop-node.nodes c.args.room (c.args.room + c.args.slot) c.loop-node.node v.0 (omega arith) v.1 (omega arith)
-          (omega arith) t.size,
+      shifted_next 1 0 (get_or c.loop-node.nodes c.loop-node.node 0 + 1) c.args.nodes.now c.loop-node.nodes c.args.room
+          (c.args.room + c.args.slot) c.loop-node.node v.0 (omega arith) (omega arith) v.1 (omega arith) (omega arith) t.size,
       omega (arith, v.1),
     )

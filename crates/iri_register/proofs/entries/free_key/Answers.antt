@@ -1,4 +1,4 @@
-use Rattle.std.proofs.Common.{◌≡◌, ◌<◌, ap, sym, subst, ◌∙◌, is_some, false, length, string_bytes, arith, slice_set}
+use Rattle.std.proofs.Common.{◌≡◌, ap, sym, subst, ◌∙◌, is_some, false, length, string_bytes, arith, rules}
 use Rattle.std.specs.Map.{lookup}
 use Rattle.iri_register.specs.Listed.{entries_of, has_lines}
 use Rattle.iri_register.specs.inside.Places.{is_text}
@@ -20,8 +20,8 @@ returns-then-contains_key-clause-absent c =
     on_ok c.pack.result c.pack.ensures.packed (λ e. ap (λ l. is_some (lookup (is_text t) l)) e
     ∙ lookup_gone t es c.in-Some.slot c.in-Some.ensures.unique at dead)
 
-pub returns-in_ok-insert-in-Some-clause-kept : goal.returns-in_ok-insert-in-Some-clause-kept
-returns-in_ok-insert-in-Some-clause-kept c =
+pub returns-in_ok-insert-in-Some : goal.returns-in_ok-insert-in-Some
+returns-in_ok-insert-in-Some c =
     let es = c.args.map.now.entries in
     let t = c.args.target.now in
     let i = c.in-Some.slot in
@@ -32,34 +32,14 @@ returns-in_ok-insert-in-Some-clause-kept c =
     ap (λ k. is_some (lookup (is_text k) es)) (sym c.as_str.ensures.value) ∙ (sym c.contains_key.ensures ∙ c.if-contains_key.false) in
     let given = slot_given t key w es c.insert.new.self.entries c.swap_remove.new.self.entries i at absent c.in_ok-insert-in-Some.ensures.entries
     c.swap_remove.ensures.entries in
-    subst (λ l. IsKept l c.args.counts.now.nodes.items c.args.counts.now.room c.args.counts.now.height c.args.live) (sym given)
-    (kept_dead c.requires.kept i (key, w) (dead_at t es i at c.requires.gone) (ap has_lines c.new.ensures.items))
-
-pub returns-in_ok-insert-in-Some-clause-same : goal.returns-in_ok-insert-in-Some-clause-same
-returns-in_ok-insert-in-Some-clause-same c =
-    let es = c.args.map.now.entries in
-    let t = c.args.target.now in
-    let i = c.in-Some.slot in
-    let at = at_position t es i (sym c.in-Some.ensures.index) in
-    let key = c.in_ok-key-in-Some.key in
-    let w = c.new.result in
-    let absent : is_some (lookup (is_text (string_bytes key)) es) ≡ false =
-    ap (λ k. is_some (lookup (is_text k) es)) (sym c.as_str.ensures.value) ∙ (sym c.contains_key.ensures ∙ c.if-contains_key.false) in
-    let given = slot_given t key w es c.insert.new.self.entries c.swap_remove.new.self.entries i at absent c.in_ok-insert-in-Some.ensures.entries
-    c.swap_remove.ensures.entries in
-    ap entries_of given ∙ entries_dead es i (key, w) (dead_at t es i at c.requires.gone) (ap has_lines c.new.ensures.items)
-
-pub returns-in_ok-insert-in-Some-clause-room : goal.returns-in_ok-insert-in-Some-clause-room
-returns-in_ok-insert-in-Some-clause-room c =
-    let es = c.args.map.now.entries in
-    let t = c.args.target.now in
-    let i = c.in-Some.slot in
-    let at = at_position t es i (sym c.in-Some.ensures.index) in
-    let key = c.in_ok-key-in-Some.key in
-    let w = c.new.result in
-    let absent : is_some (lookup (is_text (string_bytes key)) es) ≡ false =
-    ap (λ k. is_some (lookup (is_text k) es)) (sym c.as_str.ensures.value) ∙ (sym c.contains_key.ensures ∙ c.if-contains_key.false) in
-    let given = slot_given t key w es c.insert.new.self.entries c.swap_remove.new.self.entries i at absent c.in_ok-insert-in-Some.ensures.entries
-    c.swap_remove.ensures.entries in
+    let dead = dead_at t es i at c.requires.gone in
+    let none = ap has_lines c.new.ensures.items in
     let l = ap length given ∙ length_slot es i (key, w) in
-    omega (arith, l, c.requires.room)
+    record {
+      kept =
+          subst (λ l. IsKept l c.args.counts.now.nodes.items c.args.counts.now.room c.args.counts.now.height c.args.live) (sym given)
+          (kept_dead c.requires.kept i (key, w) dead none);
+      same = ap entries_of given ∙ entries_dead es i (key, w) dead none;
+      room = omega (arith, l, c.requires.room);
+      absent = search rules;
+    }
