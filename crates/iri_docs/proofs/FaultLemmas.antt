@@ -1,5 +1,5 @@
 -- The fault of variables.
-use Rattle.std.proofs.Common.{◌≡◌, ℕ, List, ◌∷◌, Option, Some, None, Result, Ok, Err, refl, sym, ap, ◌∙◌, inl, inr, true≢false}
+use Rattle.std.proofs.Common.{◌≡◌, ℕ, List, Some, None, Result, Ok, Err, refl, sym, ap, ◌∙◌, inl, inr, true≢false}
 use Rattle.std.specs.Result.{is_ok, result_err}
 use Rattle.serde_json.specs.Data.{Data, Members, no_members, member}
 use Rattle.iri_template.specs.ShownValues.{ShownValue}
@@ -40,17 +40,6 @@ no_fault (Err f) e h is = let k : None ≡ Some f = h in cc
 pub fault_mapped : {A B : Type 0} (f : A → B) (r : Result A DocError) → result_err (result_map f r) ≡ result_err r
 fault_mapped f (Ok x) = refl
 fault_mapped f (Err e) = refl
-
--- of an answer and those after it
-pub fault_first : {A : Type 0} (x : Result A DocError) (rest : Result (List A) DocError) (e : DocError) → Some e ≡ result_err x
-    → Some e ≡ result_err (followed x rest)
-fault_first (Ok v) rest e h = cc
-fault_first (Err f) rest e h = h
-
-pub fault_later : {A : Type 0} (x : Result A DocError) (rest : Result (List A) DocError) → None ≡ result_err x
-    → result_err (followed x rest) ≡ result_err rest
-fault_later (Ok v) rest h = fault_mapped (λ vs. v ∷ vs) rest
-fault_later (Err f) rest h = cc
 
 -- ---- what is told of it
 pub tells_err : {A B E : Type 0} (r : Result B E) (e : E) → r ≡ Err e → TellsFault {A = A} (Err e) r
