@@ -1,38 +1,31 @@
 -- Agents are ASCII.
-use Rattle.std.proofs.Common.{◌≡◌, ℕ, zero, suc, ◌+◌, ◌<◌, Bool, true, false, cond, ◌∷◌, List, [], Option, Some, None, take, refl}
+use Rattle.std.proofs.Common.{◌≡◌, ℕ, suc, ◌+◌, ◌<◌, Bool, true, false, cond, ◌∷◌, List, [], Option, Some, None, take, refl}
 use Rattle.std.proofs.Common.{subst, sym, arith}
 use Rattle.std.specs.Prelude.{codes}
 use Rattle.std.specs.List.{prefix_len}
 use Rattle.std.specs.Str.{IsAscii, is_utf8, bytes_eq, str_eq_ignore_ascii_case}
 use Rattle.std.proofs.lemmas.Bool.Decides.{nat_tests}
 use Rattle.std.proofs.lemmas.Slice.Eq.{bytes_eq-Decides}
+use Rattle.std.proofs.lemmas.Str.Ascii.{IsAscii-cons, IsAscii-nil}
 use Rattle.iri_grammar.specs.Cut.{before, after}
 use Rattle.iri_robots.specs.FileLines.{FileLine, AgentLine, RuleLine, OtherLine, agent_of, is_token_char, keyed, parted, line_of}
 use Rattle.iri_robots.specs.FileLines.{line_of_text, trimmed, without_byte_order_mark}
-
-nothing_ascii : IsAscii []
-nothing_ascii zero = omega arith
-nothing_ascii (suc i) = omega arith
-
-more_ascii : (x : ℕ) (t : List ℕ) → x < 128 → IsAscii t → IsAscii (x ∷ t)
-more_ascii x t h k zero = h
-more_ascii x t h k (suc i) = k i
 
 one_more : (n : ℕ) → suc n ≡ 1 + n
 one_more n = omega arith
 
 prefix_ascii : (t : List ℕ) → IsAscii (take (prefix_len is_token_char t) t)
-prefix_ascii [] = nothing_ascii
+prefix_ascii [] = IsAscii-nil
 prefix_ascii (x ∷ t) =
     elim (is_token_char x) as (λ b. is_token_char x ≡ b → IsAscii (take (cond b (1 + prefix_len is_token_char t) 0) (x ∷ t))) [
       | true ↦ λ e. let small : x < 128 = grind (arith, nat_tests) in
           subst (λ n. IsAscii (take n (x ∷ t))) (one_more (prefix_len is_token_char t))
-          (more_ascii x (take (prefix_len is_token_char t) t) small (prefix_ascii t))
-      | false ↦ λ e. nothing_ascii
+          (IsAscii-cons x (take (prefix_len is_token_char t) t) small (prefix_ascii t))
+      | false ↦ λ e. IsAscii-nil
     ] refl
 
 star_ascii : IsAscii (codes "*")
-star_ascii = more_ascii 42 [] (omega arith) nothing_ascii
+star_ascii = IsAscii-cons 42 [] (omega arith) IsAscii-nil
 
 agent_ascii : (value : List ℕ) → IsAscii (agent_of value)
 agent_ascii value =

@@ -5,6 +5,7 @@ use Rattle.std.specs.Prelude.{◌==◌, codes, filter}
 use Rattle.std.specs.List.{list_any}
 use Rattle.std.specs.Str.{bytes_eq}
 use Rattle.std.proofs.Math.Nat.{le-max_left, le-max_right, max-le}
+use Rattle.std.proofs.lemmas.Bool.{and_parts, or_cases, or_left, or_right}
 use Rattle.std.proofs.lemmas.Bool.Decides.{eqb_tells}
 use Rattle.std.proofs.lemmas.Slice.Eq.{bytes_eq-Decides}
 use Rattle.iri_robots.specs.Records.{FileRule}
@@ -63,21 +64,6 @@ begins_with c test (d ∷ s) h = begins_by c d test s (eqb_tells c d) h
 begins_so : (c : ℕ) (test : List ℕ → Bool) (t : List ℕ) → test t ≡ true → begins c test (c ∷ t) ≡ true
 unfolding begins
 begins_so c test t h = ap (λ b. elim b [ true ↦ test t | false ↦ false ]) (eq-eqb c c refl) ∙ h
-
-or_cases : (b c : Bool) → (b || c) ≡ true → (b ≡ true) ⊎ (c ≡ true)
-or_cases true c h = inl refl
-or_cases false c h = inr h
-
-or_left : (b c : Bool) → b ≡ true → (b || c) ≡ true
-or_left b c h = ap (λ x. x || c) h
-
-or_right : (b c : Bool) → c ≡ true → (b || c) ≡ true
-or_right true c h = refl
-or_right false c h = h
-
-and_cases : (b c : Bool) → (b && c) ≡ true → (b ≡ true) × (c ≡ true)
-and_cases true c h = (refl, h)
-and_cases false c h = cc
 
 -- ---- pieces of a pattern
 
@@ -354,7 +340,7 @@ by_longest rules s [] e h =
     no_rule (record { none = λ r k m. among_nothing r (matching rules s) (sym e) (matching_is rules s r k m) })
 by_longest rules s (x ∷ found) e h =
     let k = any_among (allows_here (x ∷ found)) (x ∷ found) h in
-    let a = and_cases (k.0).allows (length (k.0).pattern == most_bytes (x ∷ found)) k.2 in
+    let a = and_parts (k.0).allows (length (k.0).pattern == most_bytes (x ∷ found)) k.2 in
     let l = same_length (x ∷ found) k.0 a.1 in
     by_rule k.0 (longest_is rules s k.0 (subst (λ y. IsAmong k.0 y) e k.1) (l ∙ ap most_bytes e)) a.0
 

@@ -1,7 +1,8 @@
 -- Escapes, counted byte by byte.
-use Rattle.std.proofs.Common.{◌≡◌, ℕ, ◌+◌, ◌-◌, ◌<◌, ◌||◌, Bool, true, false, cond, List, [], ◌∷◌, ◌++◌, length, drop, get_or, Some, None}
-use Rattle.std.proofs.Common.{refl, sym, ◌∙◌, ap, subst, arith, zero-add, add-one, drop-cons}
+use Rattle.std.proofs.Common.{◌≡◌, ℕ, ◌+◌, ◌-◌, ◌<◌, ◌||◌, Bool, true, false, cond, List, [], ◌∷◌, ◌++◌, drop, Some, None}
+use Rattle.std.proofs.Common.{refl, sym, ◌∙◌, ap, subst, arith, zero-add}
 use Rattle.std.specs.Prelude.{◌==◌, nat_lt}
+use Rattle.std.proofs.lemmas.Bool.{eqb-true}
 use Rattle.std.proofs.lemmas.Bool.Decides.{nat_tests}
 use Rattle.iri_robots.specs.Compared.{compared}
 use Rattle.iri_robots.specs.Patterns.{begins_escape, escapes}
@@ -12,9 +13,6 @@ use Rattle.iri_robots.specs.declared.escape.Scan.{Scan}
 use Rattle.iri_robots.proofs.Forms.{compared_nil}
 
 -- ---- one byte
-same_byte : (b k : ℕ) → (b == k) ≡ true → b ≡ k
-same_byte b k e = grind (arith, nat_tests)
-
 other_way : (b k : ℕ) → (b == k) ≡ false → (k == b) ≡ false
 other_way b k e = grind (arith, nat_tests)
 
@@ -22,7 +20,7 @@ other_way b k e = grind (arith, nat_tests)
 by_byte : (b k : ℕ) (P : ℕ → Type 0) → P k → ((b == k) ≡ false → P b) → P b
 by_byte b k P at other =
     elim (b == k) as (λ v. (b == k) ≡ v → P b) [
-      | true ↦ λ e. subst P (sym (same_byte b k e)) at
+      | true ↦ λ e. subst P (sym (eqb-true b k e)) at
       | false ↦ λ e. other e
     ] refl
 
@@ -101,26 +99,6 @@ abbrev pub AreCounted : Scan → List ℕ → Scan → ℕ → Type 0
 AreCounted a bytes b i = (rest : List ℕ)
     → a.room + escapes (begun_then b.begun (drop i bytes ++ rest)) ≡ b.room + escapes (begun_then a.begun (bytes ++ rest))
 
-from_place : (bytes : List ℕ) (i : ℕ) (rest : List ℕ) → i < length bytes
-    → drop i bytes ++ rest ≡ get_or bytes i 0 ∷ (drop (i + 1) bytes ++ rest)
-from_place bytes i rest h = rw (add-one, drop-cons bytes i 0) refl
-
-pub counted_more : (a b c : Scan) (bytes : List ℕ) (i : ℕ) → i < length bytes → AreCounted a bytes b i
-    → Counts b (get_or bytes i 0 ∷ []) (Some c) → AreCounted a bytes c (i + 1)
-counted_more a b c bytes i h so_far one rest =
-    let here = so_far rest in
-    let there = one (drop (i + 1) bytes ++ rest) in
-    let same = ap (λ t. escapes (begun_then b.begun t)) (from_place bytes i rest h) in
-    omega (arith, here, there, same)
-
-pub counted_too_many : (a b : Scan) (bytes : List ℕ) (i : ℕ) → i < length bytes → AreCounted a bytes b i
-    → Counts b (get_or bytes i 0 ∷ []) None → Counts a bytes None
-counted_too_many a b bytes i h so_far one rest =
-    let here = so_far rest in
-    let there = one (drop (i + 1) bytes ++ rest) in
-    let same = ap (λ t. escapes (begun_then b.begun t)) (from_place bytes i rest h) in
-    omega (arith, here, there, same)
-
 -- ---- the end of a pattern
 nothing_left : (begun : Begun) → escapes (begun_then begun (compared [])) ≡ 0
 unfolding escapes
@@ -134,19 +112,3 @@ pub no_more : (most room : ℕ) (begun : Begun) (left pattern : List ℕ) → le
 no_more most room begun left pattern end counted =
     let none = ap (λ t. escapes (begun_then begun (compared t))) end ∙ nothing_left begun in
     grind (arith, nat_tests)
-
-pub too_many : (most : ℕ) (scan : Scan) (left written after pattern : List ℕ) → compared left ≡ written ++ after
-    → most + escapes (begun_then scan.begun (compared left)) ≡ scan.room + escapes (compared pattern) → Counts scan written None
-    → true ≡ nat_lt most (escapes (compared pattern))
-too_many most scan left written after pattern text counted more =
-    let here = more after in
-    let same = ap (λ t. escapes (begun_then scan.begun t)) text in
-    grind (arith, nat_tests)
-
-pub counted_on : (most : ℕ) (scan next : Scan) (left written rest pattern : List ℕ) → compared left ≡ written ++ compared rest
-    → most + escapes (begun_then scan.begun (compared left)) ≡ scan.room + escapes (compared pattern) → Counts scan written (Some next)
-    → most + escapes (begun_then next.begun (compared rest)) ≡ next.room + escapes (compared pattern)
-counted_on most scan next left written rest pattern text counted more =
-    let here = more (compared rest) in
-    let same = ap (λ t. escapes (begun_then scan.begun t)) text in
-    omega (arith, here, same, counted)

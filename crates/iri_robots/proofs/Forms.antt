@@ -1,10 +1,13 @@
 -- The compared form, from the left.
-use Rattle.std.proofs.Common.{◌≡◌, ℕ, ◌<◌, ◌≤◌, Bool, true, false, ◌&&◌, ◌||◌, List, [], ◌∷◌, ◌++◌, Option, Some, None, length, drop}
+use Rattle.std.proofs.Common.{◌≡◌, ℕ, ◌<◌, ◌≤◌, true, false, ◌&&◌, List, [], ◌∷◌, ◌++◌, Option, Some, None, length, drop}
 use Rattle.std.proofs.Common.{get_or, map, take, suc, cond, Bor}
 use Rattle.std.proofs.Common.{refl, sym, ◌∙◌, ap, subst, arith, append-nil}
 use Rattle.std.specs.Prelude.{◌==◌, ◌/◌, ◌%◌, nat_lt}
 use Rattle.std.specs.Char.{is_ascii_hexdigit, to_ascii_uppercase, encode_utf8}
 use Rattle.std.proofs.lemmas.Str.{encode_ascii}
+use Rattle.std.proofs.Math.Bool.{and-false, or-false}
+use Rattle.std.proofs.Math.Utf8.{low_scalar}
+use Rattle.std.proofs.lemmas.Bool.{le-ltb, lt-ltb}
 use Rattle.std.proofs.lemmas.Bool.Decides.{nat_tests}
 use Rattle.iri_grammar.specs.Classes.{uri_tests, unreserved, is_ascii_unreserved}
 use Rattle.iri_grammar.specs.Runs.{run_of}
@@ -16,8 +19,9 @@ use Rattle.iri_percent.specs.Mapping.{capital_hex, triplet, mapped}
 use Rattle.iri_percent.specs.NormalLaws.{decoded}
 use Rattle.iri_percent.proofs.Changes.{upper_digit}
 use Rattle.iri_percent.proofs.CharLaws.{normal-by_bytes}
+use Rattle.iri_percent.proofs.Characters.{unreserved_low}
 use Rattle.iri_percent.proofs.CharUnits.{units_stray}
-use Rattle.iri_percent.proofs.MapForms.{unreserved_ascii, low_scalar, ascii-decoded, uri-decoded}
+use Rattle.iri_percent.proofs.MapForms.{ascii-decoded, uri-decoded}
 use Rattle.iri_percent.proofs.MapTexts.{mapped-low, mapped-high, mapped-triplet, capital_is_hex, first_digit, second_digit}
 use Rattle.iri_percent.proofs.MapTexts.{octet_of}
 use Rattle.iri_percent.proofs.NormalLaws.{normal_nil, normal_plain, normal_decoded, normal_kept}
@@ -28,10 +32,6 @@ use Rattle.iri_robots.specs.inside.Prefixes.{IsPrefix, stays}
 use Rattle.iri_robots.specs.declared.compared.Written.TheVariants.{Run, Char, Triplet}
 
 -- ---- what is decoded: the first octet alone tells it
-or_false : (b : Bool) → (b || false) ≡ b
-or_false true = refl
-or_false false = refl
-
 record Decodes (o c : ℕ) : Type 0 where
   same : o ≡ c
   free : is_ascii_unreserved o ≡ true
@@ -57,10 +57,7 @@ compared_nil = normal_nil uri_tests as_it_is
 
 compared_low : (x : ℕ) (xs : List ℕ) → x < 128 → (x == 37) ≡ false → compared (x ∷ xs) ≡ x ∷ compared xs
 unfolding compared
-compared_low x xs l n = ap (normal uri_tests as_it_is) (mapped-low x xs (low x l)) ∙ normal_plain uri_tests as_it_is x (mapped xs) n
-  where
-    low : (x : ℕ) → x < 128 → nat_lt x 128 ≡ true
-    low x l = grind (arith, nat_tests)
+compared_low x xs l n = ap (normal uri_tests as_it_is) (mapped-low x xs (lt-ltb x 128 l)) ∙ normal_plain uri_tests as_it_is x (mapped xs) n
 
 compared_decoded : (a b : ℕ) (xs : List ℕ) → is_ascii_hexdigit a ≡ true → is_ascii_hexdigit b ≡ true
     → is_ascii_unreserved (octet a b) ≡ true
@@ -68,10 +65,10 @@ compared_decoded : (a b : ℕ) (xs : List ℕ) → is_ascii_hexdigit a ≡ true 
 unfolding compared unreserved
 compared_decoded a b xs p q h =
     let o = octet a b in
-    let l = unreserved_ascii o h in
+    let l = unreserved_low o h in
     let spell = more a b [] [] p q none in
     ap (normal uri_tests as_it_is) (mapped-triplet a b xs p q)
-    ∙ normal_decoded uri_tests as_it_is o (37 ∷ a ∷ b ∷ []) (mapped xs) (low_scalar o l) (or_false (is_ascii_unreserved o) ∙ h)
+    ∙ normal_decoded uri_tests as_it_is o (37 ∷ a ∷ b ∷ []) (mapped xs) (low_scalar o (omega (arith, l))) (or-false (is_ascii_unreserved o) ∙ h)
     (subst (λ os. Spells (37 ∷ a ∷ b ∷ []) os) (sym (encode_ascii o l)) spell)
     ∙ ap (λ z. map as_it_is z ++ normal uri_tests as_it_is (mapped xs)) (encode_ascii o l)
     ∙ ap (λ z. z ++ normal uri_tests as_it_is (mapped xs)) (sym (encode_ascii o l))
@@ -98,27 +95,20 @@ unfolding compared
 compared_past x xs h l =
     let f = first_digit x l in
     let s = second_digit x in
-    ap (normal uri_tests as_it_is) (mapped-high x xs (high x h))
+    ap (normal uri_tests as_it_is) (mapped-high x xs (le-ltb x 128 h))
     ∙ kept_form (capital_hex (x / 16)) (capital_hex (x % 16)) (mapped xs) (capital_is_hex (x / 16) f) (capital_is_hex (x % 16) s)
     (ap is_ascii_unreserved (octet_of x l) ∙ past_kept x h)
     ∙ ap (λ z. 37 ∷ z ∷ to_ascii_uppercase (capital_hex (x % 16)) ∷ normal uri_tests as_it_is (mapped xs)) (capital_stays (x / 16) f)
     ∙ ap (λ z. 37 ∷ capital_hex (x / 16) ∷ z ∷ normal uri_tests as_it_is (mapped xs)) (capital_stays (x % 16) s)
-  where
-    high : (x : ℕ) → 128 ≤ x → nat_lt x 128 ≡ false
-    high x h = grind (arith, nat_tests)
 
 -- ---- a stray `%`
-and_false : (b : Bool) → (b && false) ≡ false
-and_false true = refl
-and_false false = refl
-
 -- what follows begins with no digit
 first_other : (a : ℕ) (t : List ℕ) → is_ascii_hexdigit a ≡ false → two_digits (a ∷ t) ≡ false
 first_other a [] h = refl
 first_other a (b ∷ t) h = ap (λ v. v && is_ascii_hexdigit b) h
 
 second_other : (a b : ℕ) (t : List ℕ) → is_ascii_hexdigit b ≡ false → two_digits (a ∷ b ∷ t) ≡ false
-second_other a b t h = ap (λ v. is_ascii_hexdigit a && v) h ∙ and_false (is_ascii_hexdigit a)
+second_other a b t h = ap (λ v. is_ascii_hexdigit a && v) h ∙ and-false (is_ascii_hexdigit a)
 
 no_digits_low : (a : ℕ) (xs : List ℕ) → two_digits (a ∷ xs) ≡ false → two_digits (a ∷ mapped xs) ≡ false
 no_digits_low a [] h = refl

@@ -1,8 +1,9 @@
 -- The reading of a line.
 use Rattle.std.proofs.Common.{◌≡◌, ℕ, Bool, true, false, cond, ◌&&◌, List, [], ◌∷◌, ◌++◌, refl, sym, ◌∙◌, ap}
 use Rattle.std.specs.Str.{IsUtf8, is_utf8}
+use Rattle.std.proofs.Math.Bool.{and-true}
+use Rattle.std.proofs.lemmas.Bool.{and_right, false_from_ne_true}
 use Rattle.std.proofs.lemmas.Str.{IsUtf8-from_is_utf8}
-use Rattle.iri_grammar.proofs.CutLemmas.{false-where}
 use Rattle.iri_robots.specs.FileLines.{is_blank, all_blank, without_end}
 
 and_moved : (a b c d : Bool) → b ≡ c && d → a && b ≡ (a && c) && d
@@ -10,31 +11,19 @@ and_moved true b c d h = h
 and_moved false b c d h = refl
 
 all_blank_last : (xs : List ℕ) (x : ℕ) → all_blank (xs ++ x ∷ []) ≡ all_blank xs && is_blank x
-all_blank_last [] x = or_self (is_blank x)
-  where
-    or_self : (b : Bool) → b && true ≡ true && b
-    or_self true = refl
-    or_self false = refl
+all_blank_last [] x = and-true (is_blank x)
 all_blank_last (y ∷ ys) x = and_moved (is_blank y) (all_blank (ys ++ x ∷ [])) (all_blank ys) (is_blank x) (all_blank_last ys x)
-
-and_true : (a b : Bool) → b ≡ true → a && b ≡ a
-and_true true b h = h
-and_true false b h = refl
-
-and_false : (a b : Bool) → b ≡ false → a && b ≡ false
-and_false true b h = h
-and_false false b h = refl
 
 blank_ends : (xs : List ℕ) (x : ℕ) → is_blank x ≡ true → without_end (xs ++ x ∷ []) ≡ without_end xs
 blank_ends [] x h = ap (λ b. cond (b && true) [] (x ∷ [])) h
 blank_ends (y ∷ ys) x h =
-    ap (λ b. cond b [] (y ∷ without_end (ys ++ x ∷ []))) (all_blank_last (y ∷ ys) x ∙ and_true (all_blank (y ∷ ys)) (is_blank x) h)
+    ap (λ b. cond b [] (y ∷ without_end (ys ++ x ∷ []))) (all_blank_last (y ∷ ys) x ∙ (ap (λ b. all_blank (y ∷ ys) && b) h ∙ and-true (all_blank (y ∷ ys))))
     ∙ ap (λ l. cond (all_blank (y ∷ ys)) [] (y ∷ l)) (blank_ends ys x h)
 
 text_ends : (xs : List ℕ) (x : ℕ) → is_blank x ≡ false → without_end (xs ++ x ∷ []) ≡ xs ++ x ∷ []
 text_ends [] x h = ap (λ b. cond (b && true) [] (x ∷ [])) h
 text_ends (y ∷ ys) x h =
-    ap (λ b. cond b [] (y ∷ without_end (ys ++ x ∷ []))) (all_blank_last (y ∷ ys) x ∙ and_false (all_blank (y ∷ ys)) (is_blank x) h)
+    ap (λ b. cond b [] (y ∷ without_end (ys ++ x ∷ []))) (all_blank_last (y ∷ ys) x ∙ and_right (all_blank (y ∷ ys)) (is_blank x) h)
     ∙ ap (λ l. y ∷ l) (text_ends ys x h)
 
 pub blank_at_end : (t xs : List ℕ) (x : ℕ) → t ≡ xs ++ x ∷ [] → is_blank x ≡ true → without_end t ≡ without_end xs
@@ -44,4 +33,4 @@ pub text_at_end : (t xs : List ℕ) (x : ℕ) → t ≡ xs ++ x ∷ [] → is_bl
 text_at_end t xs x e h = ap without_end e ∙ text_ends xs x h ∙ sym e
 
 pub not_text : (line : List ℕ) → (IsUtf8 line → ⊥) → is_utf8 line ≡ false
-not_text line h = false-where (is_utf8 line) (λ e. h (IsUtf8-from_is_utf8 line e))
+not_text line h = false_from_ne_true (is_utf8 line) (λ e. h (IsUtf8-from_is_utf8 line e))

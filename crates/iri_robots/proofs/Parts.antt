@@ -1,7 +1,8 @@
 -- The parts of a pattern, as the code reads them.
-use Rattle.std.proofs.Common.{◌≡◌, ◌≢◌, ◌↔◌, ℕ, zero, suc, ◌<◌, ◌≤◌, Bool, true, false, List, [], ◌∷◌, length, drop, slice_index, refl, sym}
+use Rattle.std.proofs.Common.{◌≡◌, ◌≢◌, ◌↔◌, ℕ, zero, suc, ◌<◌, ◌≤◌, Bool, true, false, List, [], ◌∷◌, length, drop, slice_index, sym}
 use Rattle.std.proofs.Common.{◌∙◌, ap, subst, arith, length-drop, eqb-true}
 use Rattle.std.specs.Prelude.{◌==◌}
+use Rattle.std.proofs.lemmas.List.{nil_from_length}
 use Rattle.iri_robots.specs.inside.Fits.{IsEscape, Fits, ended, MovesOn, EscapeOf, NoEscape, FitsNot, Sticks, Takes, StopsAtStar}
 use Rattle.iri_robots.proofs.Moves.{moves_special, moves_triplet, moves_same, stuck_escape, stops, moves_both}
 use Rattle.iri_robots.proofs.Moves.{star_takes, star_more}
@@ -75,8 +76,7 @@ some_left zero h = cc
 some_left (suc n) h = omega arith
 
 none_left : (s : List ℕ) → (length s == 0) ≡ true → s ≡ []
-none_left [] h = refl
-none_left (x ∷ s) h = let k = eqb-true (length (x ∷ s)) 0 h in absurd (omega arith)
+none_left s h = nil_from_length s (eqb-true (length s) 0 h)
 
 -- ---- up to a `*`
 

@@ -134,9 +134,6 @@ kept_both a q s s' s'' h k =
 pub not_kept : (a : Bool) (q s s' : List ℕ) → KeepsFits a q s s' → FitsNot a (42 ∷ q) s' → FitsNot a (42 ∷ q) s
 not_kept a q s s' h k = record { none = λ f. k.none (h.fits.0 f) }
 
-pub kept_here : (a : Bool) (q s : List ℕ) → KeepsFits a q s s
-kept_here a q s = record { fits = (λ f. f, λ f. f); within = omega arith }
-
 -- ---- the end of an anchored pattern
 
 pub no_more_bytes : (q s : List ℕ) → ((k : ℕ) → k < length q → slice_index q k ≢ 42) → Fits true q s → length s ≤ length q

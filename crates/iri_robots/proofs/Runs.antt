@@ -1,6 +1,7 @@
 -- The groups of a file, read from the start.
 use Rattle.std.proofs.Common.{◌≡◌, ℕ, Bool, true, false, cond, ◌||◌, ◌&&◌, List, [], ◌∷◌, ◌++◌, Option, None, refl, sym, ◌∙◌, ap, subst}
 use Rattle.std.proofs.Common.{append_assoc}
+use Rattle.std.proofs.Math.Bool.{or-false}
 use Rattle.std.specs.Str.{str_eq_ignore_ascii_case}
 use Rattle.iri_robots.specs.declared.rule.Best.{Best}
 use Rattle.iri_robots.specs.Allowed.{IsAmong, first, later}
@@ -27,14 +28,6 @@ empty_either : (b : Bool) → ◌≡◌ {A = List FileRule} [] (cond b [] [] ++ 
 empty_either true = refl
 empty_either false = refl
 
-or_false : (a b : Bool) → a || b ≡ (a || false) || b
-or_false true b = refl
-or_false false b = refl
-
-or_none : (a : Bool) → a || false ≡ a
-or_none true = refl
-or_none false = refl
-
 or_moved : (h a b : Bool) → h || (a || b) ≡ (a || h) || b
 or_moved true true b = refl
 or_moved true false b = refl
@@ -43,7 +36,7 @@ or_moved false false b = refl
 
 with_none : (name : List ℕ) (gs : List Group) → rules_with false name gs ≡ rules_of name gs
 with_none name [] = refl
-with_none name (g ∷ gs) = ap (λ b. cond b g.rules [] ++ rules_of name gs) (or_none (has_agent name g.agents))
+with_none name (g ∷ gs) = ap (λ b. cond b g.rules [] ++ rules_of name gs) (or-false (has_agent name g.agents))
 
 with_more : (name a : List ℕ) (b : Bool) (gs : List Group) → rules_with (str_eq_ignore_ascii_case a name || b) name gs ≡ rules_with b name
     (with_agent a gs)
@@ -67,7 +60,7 @@ reads name (Judged r ∷ rs) =
     record {
       after = λ b. rule_after name r rs h b;
       run = λ b a. let s = str_eq_ignore_ascii_case a name in rule_after name r rs h (s || b)
-          ∙ ap (λ x. cond x (r ∷ leading_rules rs) [] ++ rules_of name (groups rs)) (or_false s b);
+          ∙ ap (λ x. cond x (r ∷ leading_rules rs) [] ++ rules_of name (groups rs)) (ap (λ x. x || b) (sym (or-false s)));
     }
 reads name (UserAgent u ∷ rs) =
     let h = reads name rs in

@@ -3,6 +3,7 @@ use Rattle.std.specs.Prelude.{ℕ, Bool, true, false, cond, max, ◌==◌, ◌&&
 use Rattle.std.specs.List.{list_any}
 use Rattle.std.specs.Str.{bytes_eq}
 use Rattle.iri_grammar.specs.Characters.{asterisk, percent_sign}
+use Rattle.iri_grammar.specs.Parts.{is_empty}
 use Rattle.iri_robots.specs.Patterns.{dollar_sign, digit_two, digit_four, capital_a, is_anchored, without_anchor}
 use Rattle.iri_robots.specs.Records.{FileRule}
 
@@ -36,14 +37,9 @@ unfoldable pub begins : ℕ → (List ℕ → Bool) → List ℕ → Bool
 begins c test [] = false
 begins c test (d ∷ s) = elim (c == d) [ true ↦ test s | false ↦ false ]
 
--- nothing is left
-abbrev pub ends : List ℕ → Bool
-ends [] = true
-ends (c ∷ s) = false
-
 -- the text is a filling of the pieces, or where they aren't anchored a prefix of it is
 unfoldable pub fills : Bool → List Piece → List ℕ → Bool
-fills anchored [] s = cond anchored (ends s) true
+fills anchored [] s = cond anchored (is_empty s) true
 fills anchored (AnyText ∷ ps) s = some_suffix (fills anchored ps) s
 fills anchored (Escape letter special ∷ ps) s =
     begins special (fills anchored ps) s || begins percent_sign (begins digit_two (begins letter (fills anchored ps))) s
