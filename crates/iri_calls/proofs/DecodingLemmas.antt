@@ -1,23 +1,11 @@
 -- A decoding has at most as many bytes as its text, and is written fragment by fragment.
-use Rattle.std.proofs.Common.{◌≡◌, ◌≤◌, ◌+◌, ℕ, List, [], ◌∷◌, length, true, false, cond, refl, ap, sym, ◌∙◌, arith, length-append}
+use Rattle.std.proofs.Common.{◌≡◌, ◌+◌, ℕ, List, [], ◌∷◌, length, refl, ap, sym, ◌∙◌, arith, length-append}
 use Rattle.std.specs.List.{flat_map}
 use Rattle.iri_percent.specs.Decoding.{decoding, Fragment, fragments, fragment_bytes}
 use Rattle.iri_percent.proofs.DecodingLemmas.{fragments-joined}
-use Rattle.iri_percent.specs.Units.{is_triplet, octet}
 use Rattle.iri_calls.specs.Buffers.{over}
 use Rattle.iri_calls.specs.inside.Placed.{over_at}
 use Rattle.iri_calls.specs.inside.PlacedLaws.{over_at-none, over_at-both, over_at_start}
-
-pub decoding-short : (t : List ℕ) → length (decoding t) ≤ length t
-unfolding decoding
-decoding-short [] = omega arith
-decoding-short (x ∷ []) = omega arith
-decoding-short (x ∷ a ∷ []) = omega arith
-decoding-short (x ∷ a ∷ b ∷ xs) =
-    elim (is_triplet x a b) as (λ v. length (cond v (octet a b ∷ decoding xs) (x ∷ decoding (a ∷ b ∷ xs))) ≤ length (x ∷ a ∷ b ∷ xs)) [
-      | true ↦ omega (arith, decoding-short xs)
-      | false ↦ omega (arith, decoding-short (a ∷ b ∷ xs))
-    ]
 
 -- These fragments are left, and the bytes of those before them stand in the buffer.
 pub record Writing (t old : List ℕ) (left : List Fragment) (at : ℕ) (now : List ℕ) : Type 0 where

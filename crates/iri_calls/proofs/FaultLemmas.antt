@@ -4,6 +4,7 @@ use Rattle.std.proofs.Common.{Option, Some, None, inl, inr, is_some, length, tak
 use Rattle.std.proofs.lemmas.List.{take-append-drop}
 use Rattle.std.specs.Str.{IsUtf8, is_utf8}
 use Rattle.std.specs.Str.Lossy.{utf8_valid_len, valid_len_up_to}
+use Rattle.std.proofs.Math.Bool.{and-false}
 use Rattle.std.proofs.lemmas.Bool.{false_from_ne_true}
 use Rattle.std.proofs.lemmas.Grind.{common_steps}
 use Rattle.std.proofs.lemmas.Str.{is_utf8-from_IsUtf8, IsUtf8-from_is_utf8, IsUtf8-append, IsUtf8-nil, utf8_valid_len_le}
@@ -230,10 +231,6 @@ not_utf8 s t p e =
     }
 
 -- ---- the part of the first fault
-and-false : (b : Bool) → (b && false) ≡ false
-and-false true = refl
-and-false false = refl
-
 rules-broken : (o a : Option (List ℕ)) (b : Bool) (x : List ℕ) → (b && (is_some o || is_some a || lacks colon (before slash x))) ≡ false
     → (b && path_rules o a x) ≡ false
 rules-broken o a false x h = refl

@@ -4,7 +4,6 @@ pub mod Building
 pub mod Edits
 pub mod Encodings
 pub mod Examples
-pub mod Forms
 pub mod Lines
 pub mod Names
 pub mod Numbers

@@ -59,13 +59,14 @@ validated_in kind t s =
 abbrev pub validated_outcome : ℕ → ℕ → List ℕ → Outcome
 validated_outcome grammar kind t = in_grammar (grammar_of grammar) (validated_in kind t)
 
--- the words for the kind of fault of this number
-abbrev pub words_of : Option ErrorKind → Outcome
-words_of None = plain unknown
-words_of (Some kind) = text (description kind)
+-- the words for a kind, where there is one
+abbrev pub words_of : {K : Type 0} → (K → List ℕ) → Option K → Outcome
+words_of words None = plain unknown
+words_of words (Some kind) = text (words kind)
 
+-- the words for the kind of fault of this number
 abbrev pub fault_words : ℕ → Outcome
-fault_words number = words_of (fault_numbered number)
+fault_words number = words_of description (fault_numbered number)
 
 -- whether a `URI` is its own normal form, by the number of that form
 abbrev pub OwnForm : Option ErrorKind → Tests → Mode → List ℕ → ℕ → ℕ → Type 0

@@ -15,6 +15,7 @@ use Rattle.iri_template.specs.declared.error.ErrorKind.TheVariants.{UnsupportedO
 use Rattle.iri_calls.specs.Numbers.{bad_text, bad_variable, unknown, grammar_of}
 use Rattle.iri_calls.specs.Outcome.{Outcome, Answered}
 use Rattle.iri_calls.specs.Outcome.Outcome.{text, plain}
+use Rattle.iri_calls.specs.Outcomes.{words_of}
 use Rattle.iri_calls.specs.Variables.{value_in, is_sound}
 use Rattle.iri_calls.specs.declared.template.TheConstants.{EXPRESSION_NOT_CLOSED, INVALID_CHARACTER, INVALID_EXPRESSION, INVALID_PERCENT_ENCODING}
 use Rattle.iri_calls.specs.declared.template.TheConstants.{INVALID_UTF8, UNEXPECTED_VALUE_TYPE, UNSUPPORTED_OPERATOR, WRITE_FAILED, MEMORY}
@@ -43,12 +44,8 @@ abbrev pub template_fault_numbered : ℕ → Option ErrorKind
 template_fault_numbered n = find (λ kind. nat_eq n (template_fault_number kind)) template_kinds
 
 -- the words for the kind of this number
-abbrev pub words_of : Option ErrorKind → Outcome
-words_of None = plain unknown
-words_of (Some kind) = text (description kind)
-
 abbrev pub template_fault_words : ℕ → Outcome
-template_fault_words number = words_of (template_fault_numbered number)
+template_fault_words number = words_of description (template_fault_numbered number)
 
 -- the kind of a fault and its place in bytes
 abbrev pub Refused : Error → ℕ → ℕ → ℕ → Type 0

@@ -4,3 +4,4 @@ pub mod BufferText
 pub mod PlacedLaws
 pub mod BufferLaws
 pub mod Five
+pub mod Forms

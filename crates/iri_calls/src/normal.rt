@@ -2,7 +2,7 @@
 ghost use Rattle.std.specs.Prelude.{◌≡◌, ◌↔◌, true, option_map};
 ghost use Rattle.iri_normal.specs.IsNormalized.{IsInMode};
 ghost use Rattle.iri_types.specs.Texts.{text};
-ghost use Rattle.iri_calls.specs.Forms.{form_mode};
+ghost use Rattle.iri_calls.specs.inside.Forms.{form_mode};
 ghost use Rattle.iri_calls.specs.Numbers.{form_numbered};
 ghost use Rattle.iri_calls.specs.Outcome.{Answered};
 ghost use Rattle.iri_calls.specs.Outcomes.{NormalTold, NormalToldIn};

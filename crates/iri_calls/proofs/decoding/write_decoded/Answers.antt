@@ -2,7 +2,8 @@ use Rattle.std.proofs.Common.{◌+◌, length, ap, sym, subst, ◌∙◌, arith,
 use Rattle.std.specs.List.{flat_map}
 use Rattle.iri_percent.specs.Decoding.{fragments, fragment_bytes}
 use Rattle.iri_percent.specs.FragmentViews.{fragment, fragments_left}
-use Rattle.iri_calls.proofs.DecodingLemmas.{Writing, decoding-short, writing_begun, writing_next, writing_end}
+use Rattle.iri_percent.proofs.DecodingLemmas.{decoding-shorter}
+use Rattle.iri_calls.proofs.DecodingLemmas.{Writing, writing_begun, writing_next, writing_end}
 use Rattle.iri_calls.proofs.decoding.write_decoded.Goals as goal
 
 pub loop-piece-init : goal.loop-piece-init
@@ -17,7 +18,7 @@ pub overflow_add-at : goal.overflow_add-at
 overflow_add-at c =
     let x = fragment c.in-Some.piece in let left = fragments_left c.next.new.self in
     let w = subst (λ fs. Writing c.args.bytes.now c.args.out.now fs c.loop-piece.at c.loop-piece.out) c.in-Some.ensures.steps.0 c.loop-piece.invariant.left in
-    omega (arith, w.count, length-append (fragment_bytes x) (flat_map fragment_bytes left), decoding-short c.args.bytes.now, c.write_fragment-at.ensures.len)
+    omega (arith, w.count, length-append (fragment_bytes x) (flat_map fragment_bytes left), decoding-shorter c.args.bytes.now, c.write_fragment-at.ensures.len)
 
 pub loop-piece-preserved : goal.loop-piece-preserved
 loop-piece-preserved c =

@@ -1,5 +1,5 @@
-use Rattle.iri_calls.proofs.DecodingLemmas.{decoding-short}
+use Rattle.iri_percent.proofs.DecodingLemmas.{decoding-shorter}
 use Rattle.iri_calls.proofs.laws.decoded_bytes_are_few.Goals as goal
 
 pub returns : goal.returns
-returns c = decoding-short
+returns c = decoding-shorter
