@@ -45,8 +45,8 @@ Statuses: 0 every answer is good, 1 some answer is bad, 2 the words are no comma
 /// The text of `--version`.
 pub const VERSION: &str = "irikit 0.2.0~dev\n";
 
-// The text of a notice.
-fn text(notice: Notice) -> &'static str
+/// The text of a notice.
+pub fn text_of(notice: Notice) -> &'static str
     ensures { result.now ≡ notice_text notice }
 {
     match notice {
@@ -55,8 +55,8 @@ fn text(notice: Notice) -> &'static str
     }
 }
 
-/// The notice that is asked for by this word.
-pub(crate) fn notice_of(word: &str) -> Option<Notice>
+/// The notice that is asked for by this word; none exactly where it is no notice's word.
+pub fn notice_of(word: &str) -> Option<Notice>
     ensures { MatchOption result ((notice : Notice) → word.now ≢ notice_word notice)
         (λ notice. word.now ≡ notice_word notice) }
 {
@@ -86,5 +86,5 @@ pub(crate) fn tell<O: Sink>(notice: Notice, sink: &mut O) -> u8
     ensures room { KeepsRoom (O.room_left sink.old) (O.room_left sink.new) (notice_text notice)
         (result ≢ 5) }
 {
-    put_text(text(notice), sink)
+    put_text(text_of(notice), sink)
 }

@@ -1,7 +1,8 @@
 -- What is done for the command of words, or for none, keeps the contract of a run.
-use Rattle.std.proofs.Common.{◌≡◌, ◌≢◌, ◌≤◌, ◌<◌, ◌-◌, ℕ, List, [], ◌∷◌, Option, None, Some, length, arith, refl, inl, inr}
+use Rattle.std.proofs.Common.{◌≢◌, ◌≤◌, ◌<◌, ◌-◌, ℕ, List, [], ◌∷◌, Option, None, Some, length, arith, refl, inl, inr}
 use Rattle.std.specs.Prelude.{MatchOption}
 use Rattle.iri_text.specs.Sink.{KeepsRoom}
+use Rattle.iri_text.specs.SliceText.{over_start}
 use Rattle.iri_cli.specs.help.Notices.{Tells, notice_text}
 use Rattle.iri_cli.specs.inside.Obeyed.{Obeys}
 use Rattle.iri_cli.specs.run.Run.{Outside, outside}
@@ -12,7 +13,7 @@ use Rattle.iri_cli.specs.declared.run.words.Command.TheVariants.{Lines, Gen, Tel
 use Rattle.iri_cli.proofs.BytesLemmas.{canonical_answers, grammar_is_spec}
 use Rattle.iri_cli.proofs.ToolLaws.{answers_are_expansions, answers_are_links, answers_are_verdicts, live_lines_share_entries}
 use Rattle.iri_cli.proofs.WordLemmas.{obeyed, unknown}
-use Rattle.iri_run_calls.specs.Told.{RunsWords, Told, begun, over}
+use Rattle.iri_run_calls.specs.Told.{RunsWords, Told, begun}
 
 runs_words : (words : List (List ℕ)) (old new : Outside) (status : ℕ) (command : Option Command)
     → MatchOption command ((c : Command) → ¬ (IsCommand words c)) (IsCommand words)
@@ -31,10 +32,6 @@ runs_words words old new status command is done =
       robots = λ grammar token _. answers_are_verdicts (tests_of grammar) token;
     }
 
-over_none : (old : List ℕ) → old ≡ over [] old
-over_none [] = refl
-over_none (x ∷ xs) = refl
-
 -- words that are no command
 pub none_told : (words : List (List ℕ)) (input old : List ℕ) → ((c : Command) → ¬ (IsCommand words c)) → Told words input old old 0 2
 none_told words input old none =
@@ -44,7 +41,7 @@ none_told words input old none =
       output = [];
       written = refl;
       runs = runs_words words start start 2 None none (refl, refl);
-      out = over_none old;
+      out = refl;
       len = refl;
       within = omega arith;
       source = refl;
@@ -67,7 +64,7 @@ module _ (notice : Notice) (input old : List ℕ) where
   failed = outside (Some input) 0 (record { written = Some []; faults = 1; room_left = Some (length old) })
 
   -- a notice that has room
-  pub notice_told : length text ≤ length old → Told words input old (over text old) (length text) 0
+  pub notice_told : length text ≤ length old → Told words input old (over_start text old) (length text) 0
   notice_told fits =
       let room : KeepsRoom (Some (length old)) (Some (length old - length text)) text (0 ≢ 5) =
       record { holds = λ _ e. cc e; left = λ more h. omega (arith, h) } in
@@ -95,7 +92,7 @@ module _ (notice : Notice) (input old : List ℕ) where
         output = [];
         written = refl;
         runs = runs_words words start failed 5 (Some (Tell notice)) refl tells;
-        out = over_none old;
+        out = refl;
         len = refl;
         within = omega arith;
         source = refl;

@@ -1,8 +1,9 @@
 -- What a run over memory comes to.
 use Rattle.std.specs.Str.{IsUtf8}
 use Rattle.iri_grammar.specs.Pieces.{pieces}
-use Rattle.std.specs.Prelude.{◌≡◌, ◌⊎◌, ◌≤◌, ℕ, length, take, drop, codes, List, [], ◌∷◌, ◌++◌, Some}
+use Rattle.std.specs.Prelude.{◌≡◌, ◌⊎◌, ◌≤◌, ℕ, length, codes, List, [], ◌∷◌, Some}
 use Rattle.iri_percent.specs.declared.canon_mode.CanonMode.{CanonMode}
+use Rattle.iri_text.specs.SliceText.{over_start}
 use Rattle.iri_cli.specs.canon.Answers.{AnswersAreCanonicalIn}
 use Rattle.iri_cli.specs.docs.Expansions.{AnswersAreExpansions}
 use Rattle.iri_cli.specs.generator.References.{gen_text}
@@ -21,10 +22,6 @@ use Rattle.iri_cli.specs.declared.help.Notice.{Notice}
 
 abbrev pub space : ℕ
 space = 32
-
--- the bytes of the text, and after them what stood there; what the buffer has no room for is cut off
-abbrev pub over : List ℕ → List ℕ → List ℕ
-over text buffer = take (length buffer) text ++ drop (length text) buffer
 
 -- The contract of the program's `run`.
 pub record RunsWords (words : List (List ℕ)) (old new : Outside) (status : ℕ) : Type 0 where
@@ -59,7 +56,7 @@ pub record Ran (words : List (List ℕ)) (input old new : List ℕ) (told status
   pub output : List ℕ
   pub written : end.sink.written ≡ Some output
   pub runs : RunsWords words (begun input (length old)) end status
-  pub out : new ≡ over output old
+  pub out : new ≡ over_start output old
   pub len : told ≡ length output
   pub within : length output ≤ length old
   pub source : end.source_faults ≡ 0

@@ -9,15 +9,15 @@
 #![tactic(auto)]
 
 ghost use Rattle.std.specs.Prelude.{◌≡◌, ◌≢◌, ◌≤◌, [], ◌∷◌, IfOk, map, string_bytes, length};
-ghost use Rattle.iri_cli.specs.help.Notices.{notice_text};
 ghost use Rattle.iri_cli.specs.run.Words.{notice_word};
 ghost use Rattle.iri_grammar.specs.Pieces.{pieces};
-ghost use Rattle.iri_run_calls.specs.Told.{over, space, RunTold, TakesMemory, Told};
+ghost use Rattle.iri_text.specs.SliceText.{over_start};
+ghost use Rattle.iri_run_calls.specs.Told.{space, RunTold, TakesMemory, Told};
 
 mod words;
 
 use crate::words::command_in;
-use iri_cli::help::{HELP, Notice, VERSION};
+use iri_cli::help::{Notice, text_of};
 use iri_cli::run::words::Command;
 use iri_cli::run::{MEMORY, NO_COMMAND, run};
 use iri_grammar::cutting::cut;
@@ -49,15 +49,12 @@ fn words_in(alloc: Global, text: &str) -> Result<Vec<String>, AllocError>
     }
 }
 
-// Writes bytes over the start of a buffer, as far as there is room.
+// Writes bytes over the start of a buffer that has room for them.
 fn copy_over(buf: &mut [u8], bytes: &[u8])
-    ensures { buf.new ≡ over bytes.now buf.old }
+    requires { length bytes.now ≤ length buf.old }
+    ensures { buf.new ≡ over_start bytes.now buf.old }
 {
-    if bytes.len() <= buf.len() {
-        buf[..bytes.len()].copy_from_slice(bytes);
-    } else {
-        buf.copy_from_slice(&bytes[..buf.len()]);
-    }
+    buf[..bytes.len()].copy_from_slice(bytes);
 }
 
 // Does what words say with an input, in a buffer of its own.
@@ -95,16 +92,6 @@ fn run_text(alloc: Global, text: &str, input: &[u8], out: &mut [u8], told: &mut 
             *told = 0;
             MEMORY
         }
-    }
-}
-
-// The text of a notice.
-fn text_of(notice: Notice) -> &'static str
-    ensures { result.now ≡ notice_text notice }
-{
-    match notice {
-        Notice::Help => HELP,
-        Notice::Version => VERSION,
     }
 }
 

@@ -1,5 +1,5 @@
 //! The commands.
-ghost use Rattle.std.specs.Prelude.{◌≡◌, ◌≢◌, ◌↔◌, ℕ, codes, decimal, true, ◌∷◌, map, string_bytes, MatchOption};
+ghost use Rattle.std.specs.Prelude.{◌≡◌, ◌≢◌, ◌↔◌, ℕ, codes, decimal, true, [], ◌∷◌, map, string_bytes, MatchOption};
 ghost use Rattle.iri_cli.specs.run.Words.{IsCommand, IsCount, word_of};
 ghost use Rattle.iri_cli.specs.declared.run.words.Command.{Command};
 ghost use Rattle.iri_cli.specs.declared.run.words.Grammar.{Grammar};
@@ -48,8 +48,8 @@ pub enum Command<'a> {
     Tell(Notice),
 }
 
-// The grammar of this name.
-fn grammar_of(word: &str) -> Option<Grammar>
+/// The grammar of this name; none exactly where it names no grammar.
+pub fn grammar_of(word: &str) -> Option<Grammar>
     ensures { MatchOption result ((grammar : Grammar) → word.now ≢ word_of grammar)
         (λ grammar. word.now ≡ word_of grammar) }
 {
@@ -91,26 +91,47 @@ fn count_of(word: &str) -> Option<u32>
     Some(count)
 }
 
+/// The command of a name and a grammar alone; none exactly where these words are no command.
+pub fn command_of_two<'a>(name: &str, grammar: Grammar) -> Option<Command<'a>>
+    ensures { MatchOption result ((command : Command) → ¬ (IsCommand (name.now ∷ word_of grammar ∷ []) command))
+        (IsCommand (name.now ∷ word_of grammar ∷ [])) }
+{
+    let command = match name {
+        "canon" => LineCommand::Canon(CanonMode::Default),
+        "expand" => LineCommand::Expand,
+        "register" => LineCommand::Register,
+        "links" => LineCommand::Links,
+        "docs" => LineCommand::Docs,
+        _ => return None,
+    };
+    Some(Command::Lines(command, grammar))
+}
+
+/// The command of a name, a grammar and one word more; none exactly where these words are no command.
+pub fn command_of_three<'a>(name: &str, grammar: Grammar, word: &'a str) -> Option<Command<'a>>
+    ensures { MatchOption result ((command : Command) → ¬ (IsCommand (name.now ∷ word_of grammar ∷ word.now ∷ []) command))
+        (IsCommand (name.now ∷ word_of grammar ∷ word.now ∷ [])) }
+{
+    let command = match name {
+        "canon" if is_scheme(word) => LineCommand::Canon(CanonMode::Scheme),
+        "robots" if is_product_token(word) => LineCommand::Robots(word),
+        "gen" => return Some(Command::Gen(grammar, count_of(word)?)),
+        _ => return None,
+    };
+    Some(Command::Lines(command, grammar))
+}
+
 // The command of a name and a grammar, with these words after that of the grammar.
 fn command_by<'a>(name: &str, grammar: Grammar, after: &'a [String]) -> Option<Command<'a>>
     ensures { MatchOption result ((command : Command)
         → ¬ (IsCommand (name.now ∷ word_of grammar ∷ map string_bytes after.now) command))
         (IsCommand (name.now ∷ word_of grammar ∷ map string_bytes after.now)) }
 {
-    let command = match (name, after) {
-        ("canon", []) => LineCommand::Canon(CanonMode::Default),
-        ("canon", [word]) if is_scheme(word.as_str()) => LineCommand::Canon(CanonMode::Scheme),
-        ("expand", []) => LineCommand::Expand,
-        ("register", []) => LineCommand::Register,
-        ("links", []) => LineCommand::Links,
-        ("docs", []) => LineCommand::Docs,
-        ("robots", [token]) if is_product_token(token.as_str()) => {
-            LineCommand::Robots(token.as_str())
-        }
-        ("gen", [count]) => return Some(Command::Gen(grammar, count_of(count.as_str())?)),
-        _ => return None,
-    };
-    Some(Command::Lines(command, grammar))
+    match after {
+        [] => command_of_two(name, grammar),
+        [word] => command_of_three(name, grammar, word.as_str()),
+        _ => None,
+    }
 }
 
 /// The command of these words, where they are one.
