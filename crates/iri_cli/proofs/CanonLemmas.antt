@@ -14,7 +14,7 @@ use Rattle.iri_cli.specs.run.Limits.{longest_line, answer_room}
 use Rattle.iri_cli.specs.canon.Answers.{refusal}
 use Rattle.iri_normal.specs.Answers.{answer_in}
 use Rattle.iri_cli.specs.run.Answering.{Answering, AnswersLine, PutsAnswer}
-use Rattle.iri_cli.specs.canon.Puts.{PutsLine, told_of, IsCanonAt}
+use Rattle.iri_cli.specs.inside.Puts.{PutsLine, told_of, IsCanonAt}
 use Rattle.iri_cli.specs.canon.Rules.{canon_rules_in, is_ok}
 use Rattle.iri_cli.specs.declared.run.answers.AnswerError.{AnswerError}
 use Rattle.iri_cli.specs.declared.run.answers.AnswerError.TheVariants.{SinkFailed, Memory}
@@ -42,7 +42,7 @@ pub closes_nothing : (at : Answering) (k : SinkState) → at.rules.closing at.ba
 closes_nothing at k none = subst (λ t. PutsAll k k (Ok tt) t) (sym none) (puts_nothing k)
 
 -- pieces that were put, and what is said of them
-pub puts_line : {ko kn : SinkState} (good : Bool) (r : Result (Unit {0}) Failed) (text : List ℕ)
+puts_line : {ko kn : SinkState} (good : Bool) (r : Result (Unit {0}) Failed) (text : List ℕ)
     → PutsAll ko kn r text → good ≡ is_ok text → PutsLine ko kn text (told_of good r)
 puts_line good (Ok x) text p e = (p.whole, p.same, e)
 puts_line good (Err f) text p e = (p.prefix, p.cause, p.later)
@@ -51,6 +51,20 @@ pub line_room : {ko kn : SinkState} (good : Bool) (r : Result (Unit {0}) Failed)
     → PutsAll ko kn r text → KeepsRoom ko.room_left kn.room_left text (told_of good r ≢ Err SinkFailed)
 line_room good (Ok x) text p = room-so (λ _ h. cc h) p.room
 line_room good (Err f) text p = room-so (λ h. absurd (cc h)) p.room
+
+-- the same of an answer that is told by a result
+pub told_line : {ko kn : SinkState} (good : Bool) (r : Result (Unit {0}) Failed) (text line : List ℕ)
+    (result : Result Bool AnswerError) → result ≡ told_of good r → good ≡ is_ok text → text ≡ line → PutsAll ko kn r text
+    → PutsLine ko kn line result
+told_line {ko} {kn} good r text line result told e is p =
+    subst (λ x. PutsLine ko kn line x) (sym told) (subst (λ t. PutsLine ko kn t (told_of good r)) is (puts_line good r text p e))
+
+pub told_room : {ko kn : SinkState} (good : Bool) (r : Result (Unit {0}) Failed) (text line : List ℕ)
+    (result : Result Bool AnswerError) → result ≡ told_of good r → text ≡ line → PutsAll ko kn r text
+    → KeepsRoom ko.room_left kn.room_left line (result ≢ Err SinkFailed)
+told_room {ko} {kn} good r text line result told is p =
+    subst (λ x. KeepsRoom ko.room_left kn.room_left line (x ≢ Err SinkFailed)) (sym told)
+    (subst (λ t. KeepsRoom ko.room_left kn.room_left t (told_of good r ≢ Err SinkFailed)) is (line_room good r text p))
 
 -- the buffer has room for an answer
 pub has_room : (s : Tests) (m : CanonMode) (base line text output : List ℕ) → IsSpec s → refusal s base ≡ None → bytes_fault (reference_fault s) line ≡ None
@@ -78,9 +92,9 @@ canon_opened s m line text output k is taken short room =
     )
 
 -- the answer to a line
-pub puts_answer : (rules : Rules) (ko kn : SinkState) (r : Result Bool AnswerError) (wants : Bool) (text : List ℕ) → rules.is_good ≡ is_ok
-    → PutsLine ko kn text r → PutsAnswer rules ko kn wants text r
-puts_answer rules ko kn (Ok good) wants text e p = (p.0, p.1, p.2 ∙ ap (λ f. f text) (sym e))
+pub puts_answer : (rules : Rules) (ko kn : SinkState) (r : Result Bool AnswerError) (wants : Bool) (text : List ℕ)
+    → is_ok text ≡ rules.is_good text → PutsLine ko kn text r → PutsAnswer rules ko kn wants text r
+puts_answer rules ko kn (Ok good) wants text e p = (p.0, p.1, p.2 ∙ e)
 puts_answer rules ko kn (Err SinkFailed) wants text e p = p
 puts_answer rules ko kn (Err Memory) wants text e p = absurd p
 
@@ -96,7 +110,9 @@ answers_line s m base line output new at ko kn r is grows p room =
     let e : answer_in s m base line ≡ at.rules.answer at.base at.between line =
     is.same line ∙ ap (λ (rules : Rules). rules.answer at.base at.between line) (sym is.rules) in
     record {
-      puts = puts_answer at.rules ko kn r (at.rules.wants_memory at.base at.between line) (at.rules.answer at.base at.between line) (ap (λ (rules : Rules). rules.is_good) is.rules)
+      puts =
+          let text = at.rules.answer at.base at.between line in
+          puts_answer at.rules ko kn r (at.rules.wants_memory at.base at.between line) text (ap (λ (rules : Rules). rules.is_good text) (sym is.rules))
           (subst (λ t. PutsLine ko kn t r) e p);
       next = on_ok r (record { rules = is.rules; same = is.same; taken = is.taken; short = is.short; room = omega (arith, grows, is.room) });
       room = subst (λ t. KeepsRoom ko.room_left kn.room_left t (r ≢ Err SinkFailed)) e room;

@@ -1,7 +1,8 @@
 -- The ending of an input by the lines that were read of it.
-use Rattle.std.proofs.Common.{◌≡◌, ℕ, ◌+◌, ◌-◌, ◌≤◌, List, [], ◌∷◌, ◌++◌, ◌&&◌, length, take, Bool, true, false, if◌then◌else◌, Option}
+use Rattle.std.proofs.Common.{◌≡◌, ℕ, ◌+◌, ◌-◌, ◌≤◌, List, [], ◌∷◌, ◌++◌, ◌&&◌, length, take, Bool, if◌then◌else◌, Option}
 use Rattle.std.proofs.Common.{None, Some, refl, sym, ◌∙◌, ap, subst, arith, ⊎_elim, append_assoc}
 use Rattle.std.specs.List.{concat, list_all}
+use Rattle.std.proofs.Math.Bool.{and-true}
 use Rattle.std.proofs.lemmas.List.{append-nil}
 use Rattle.std.proofs.lemmas.List.Folds.{concat-append, list_all-append}
 use Rattle.std.proofs.Math.Seq.{take-append-add}
@@ -40,11 +41,7 @@ module _ (rules : Rules) where
     one_more_good rest line =
         ap (list_all rules.is_good) (answers-append base [] rest (line ∷ []))
         ∙ list_all-append rules.is_good (answers rules base rest) (answers_after rules base rest (line ∷ []))
-        ∙ ap (λ (b : Bool). list_all rules.is_good (answers rules base rest) && b) (and_true (rules.is_good (rules.answer base rest line)))
-      where
-        and_true : (b : Bool) → (b && true) ≡ b
-        and_true true = refl
-        and_true false = refl
+        ∙ ap (λ (b : Bool). list_all rules.is_good (answers rules base rest) && b) (and-true (rules.is_good (rules.answer base rest line)))
 
     -- the base is taken
     pub is_taken : (e : Ending) → unless_refused (rules.refusal base) e ≡ e

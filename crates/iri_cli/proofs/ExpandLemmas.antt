@@ -1,6 +1,6 @@
 -- The answers of `expand`.
 use Rattle.std.proofs.Common.{◌≡◌, ◌≢◌, ◌∙◌, ◌<◌, ◌≤◌, ℕ, Bool, true, false, List, [], ◌∷◌, ◌++◌, length, Option, None, Some, Result, Ok, Err, if◌then◌else◌, refl, sym, ap, subst, arith}
-use Rattle.std.specs.Prelude.{nat_lt, OnOk}
+use Rattle.std.specs.Prelude.{nat_lt}
 use Rattle.std.proofs.Math.Path.{fun_ext}
 use Rattle.std.proofs.lemmas.Bool.Decides.{nat_tests}
 use Rattle.iri_grammar.specs.Classes.{Tests}
@@ -8,8 +8,7 @@ use Rattle.iri_grammar.specs.Fault.{bytes_fault}
 use Rattle.iri_grammar.specs.WholeFault.{reference_fault}
 use Rattle.iri_grammar.specs.declared.error.ErrorKind.{ErrorKind}
 use Rattle.iri_normal.specs.NormalForm.{canonical}
-use Rattle.iri_text.specs.Sink.{KeepsRoom, PutsAll, SinkState}
-use Rattle.iri_text.specs.declared.Failed.{Failed}
+use Rattle.iri_text.specs.Sink.{KeepsRoom, SinkState}
 use Rattle.iri_text.proofs.Puts.{Appends-none, room-same}
 use Rattle.iri_docs.specs.Expanded.{expansion_limit}
 use Rattle.iri_template.specs.Contexts.{value_at, value_in}
@@ -24,7 +23,7 @@ use Rattle.iri_cli.specs.run.Limits.{answer_room, longest_line}
 use Rattle.iri_cli.specs.canon.Answers.{answer, refusal}
 use Rattle.iri_normal.specs.Answers.{answer_by, answer_in}
 use Rattle.iri_cli.specs.run.Answering.{Answering, AnswersLine, PutsAnswer}
-use Rattle.iri_cli.specs.canon.Puts.{PutsLine, told_of}
+use Rattle.iri_cli.specs.inside.Puts.{PutsLine}
 use Rattle.iri_cli.specs.run.Ending.{Rules}
 use Rattle.iri_cli.specs.expand.Answers.{answer_to, expansion_answer, template_answer, template_refusal}
 use Rattle.iri_cli.specs.expand.Answers.{too_long, unless_fault}
@@ -34,8 +33,8 @@ use Rattle.iri_cli.specs.expand.Rules.{expand_rules, is_ok_or_none}
 use Rattle.iri_cli.specs.inside.ExpandAt.{IsExpandAt}
 use Rattle.iri_cli.specs.inside.Opening.{begun}
 use Rattle.iri_cli.specs.declared.run.answers.AnswerError.{AnswerError}
-use Rattle.iri_cli.specs.declared.run.answers.AnswerError.TheVariants.{SinkFailed, Memory}
-use Rattle.iri_cli.proofs.CanonLemmas.{line_room, puts_line}
+use Rattle.iri_cli.specs.declared.run.answers.AnswerError.TheVariants.{SinkFailed}
+use Rattle.iri_cli.proofs.CanonLemmas.{on_ok, puts_answer}
 use Rattle.iri_cli.proofs.VariableLemmas.{values-more}
 
 -- ---- the answer to a template
@@ -88,20 +87,6 @@ template_good s base values t = by_fault (expansion_fault values t)
     by_fault None = expansion_good s base text
     by_fault (Some e) = refl
 
--- ---- an answer that was put as one piece or several, and what is said of it
-pub told_line : {ko kn : SinkState} (good : Bool) (r : Result (Unit {0}) Failed) (text line : List ℕ)
-    (result : Result Bool AnswerError) → result ≡ told_of good r → good ≡ is_ok text → text ≡ line → PutsAll ko kn r text
-    → PutsLine ko kn line result
-told_line {ko} {kn} good r text line result told e is p =
-    subst (λ x. PutsLine ko kn line x) (sym told) (subst (λ t. PutsLine ko kn t (told_of good r)) is (puts_line good r text p e))
-
-pub told_room : {ko kn : SinkState} (good : Bool) (r : Result (Unit {0}) Failed) (text line : List ℕ)
-    (result : Result Bool AnswerError) → result ≡ told_of good r → text ≡ line → PutsAll ko kn r text
-    → KeepsRoom ko.room_left kn.room_left line (result ≢ Err SinkFailed)
-told_room {ko} {kn} good r text line result told is p =
-    subst (λ x. KeepsRoom ko.room_left kn.room_left line (x ≢ Err SinkFailed)) (sym told)
-    (subst (λ t. KeepsRoom ko.room_left kn.room_left t (told_of good r ≢ Err SinkFailed)) is (line_room good r text p))
-
 -- ---- one line more
 module _ (s : Tests) (base expansion : List ℕ) (output : ℕ) (values : Values) (at : Answering)
     (is : IsExpandAt s base expansion output values at) (line : List ℕ) (said : ExpandLine) (reads : line_of line ≡ said) where
@@ -126,26 +111,17 @@ module _ (s : Tests) (base expansion : List ℕ) (output : ℕ) (values : Values
     output_room = omega (arith, output_grows, is.output_room);
   }
 
-  on_ok : {X : Type 0} (r : Result Bool AnswerError) → X → OnOk r X
-  on_ok (Ok x) h = h
-  on_ok (Err x) h = tt
-
   -- an answer was put, and no variable changed
   module _ (ko kn : SinkState) where
-    puts_answer : (r : Result Bool AnswerError) (text : List ℕ) → is_ok_or_none text ≡ is_ok text → PutsLine ko kn text r
-        → PutsAnswer at.rules ko kn (at.rules.wants_memory at.base at.between line) text r
-    puts_answer (Ok good) text e p = (p.0, p.1, p.2 ∙ sym e ∙ ap (λ (r : Rules). r.is_good text) (sym is.rules))
-    puts_answer (Err SinkFailed) text e p = p
-    puts_answer (Err Memory) text e p = absurd p
-
     pub answers_text : (expansion_new : List ℕ) (output_new : ℕ) (r : Result Bool AnswerError) → length expansion_new ≡ length expansion
         → output ≤ output_new → values ≡ after_line values said
         → is_ok_or_none (answer_to s base values said) ≡ is_ok (answer_to s base values said)
         → PutsLine ko kn (answer_to s base values said) r
         → KeepsRoom ko.room_left kn.room_left (answer_to s base values said) (r ≢ Err SinkFailed)
         → AnswersLine (IsExpandAt s base expansion_new output_new values) at line ko kn r
-    answers_text expansion_new output_new r expansion_size output_grows same good p room = record {
-      puts = subst (λ t. PutsAnswer at.rules ko kn (at.rules.wants_memory at.base at.between line) t r) (sym answer_is) (puts_answer r (answer_to s base values said) good p);
+    answers_text expansion_new output_new r expansion_size output_grows same good p room = let text = answer_to s base values said in record {
+      puts = subst (λ t. PutsAnswer at.rules ko kn (at.rules.wants_memory at.base at.between line) t r) (sym answer_is)
+          (puts_answer at.rules ko kn r _ text (sym good ∙ ap (λ (r : Rules). r.is_good text) (sym is.rules)) p);
       next = on_ok r (next_at expansion_new output_new values expansion_size output_grows same);
       room = subst (λ t. KeepsRoom ko.room_left kn.room_left t (r ≢ Err SinkFailed)) (sym answer_is) room;
     }

@@ -14,7 +14,8 @@ use Rattle.iri_grammar.specs.declared.class.Class.TheVariants.{RegName, Path}
 use Rattle.iri_grammar.specs.Over.{over, over_from, text_over, IsOver, done, plain, triplet}
 use Rattle.iri_grammar.proofs.OverLaws.{over-from_units, units-from_over}
 use Rattle.iri_grammar.specs.Cut.{before, lacks}
-use Rattle.iri_grammar.proofs.CutLaws.{both, before-at}
+use Rattle.std.proofs.lemmas.Bool.{and_parts as both, or_right}
+use Rattle.iri_grammar.proofs.CutLaws.{before-at}
 use Rattle.iri_grammar.specs.Components.{is_letter, is_scheme_char}
 use Rattle.iri_grammar.specs.Ipv6.{is_group}
 use Rattle.iri_grammar.specs.IpLiteral.{is_ip_literal}
@@ -29,6 +30,7 @@ use Rattle.iri_grammar.specs.WholeFault.{absolute_fault, reference_fault, fault_
 use Rattle.iri_grammar.proofs.FaultLaws.{absolute-law, of_bytes, reference-utf8}
 use Rattle.iri_grammar.proofs.UriLaws.{absolute-wider}
 use Rattle.iri_grammar.specs.inside.Laws.{uri_is_spec}
+use Rattle.iri_normal.proofs.TripletHeads.{head-apart}
 use Rattle.iri_cli.specs.canon.Answers.{refusal, words_of_fault}
 use Rattle.iri_cli.specs.generator.References.{gen_segments, gen_segment, more_segments, gen_reference, gen_base}
 
@@ -85,10 +87,6 @@ over_joined p xs ys (triplet a b cs ha hb r) k = triplet a b (cs ++ ys) ha hb (o
 
 text_is : (q : ℕ → Bool) (xs : List ℕ) → q 37 ≡ false → IsAscii xs → IsOver q xs → text_over q xs ≡ true
 text_is q xs n a o = rw (is_utf8-from_IsUtf8 xs (IsUtf8-from_ascii xs a)) (ap (over q) (chars-IsAscii xs a) ∙ over-from_units q xs n o)
-
-or_true : (a b : Bool) → b ≡ true → (a || b) ≡ true
-or_true true b h = refl
-or_true false b h = h
 
 no_bytes : IsAscii []
 no_bytes i = omega arith
@@ -151,7 +149,7 @@ module _ (s : Tests) (k : IsSpec s) where
       let name : is_reg_name s x ≡ true = text_is (reg_name_char s) x (class_has_no_percent s k RegName) h.ascii
       (over_wider is_ascii_reg_name (reg_name_char s) in_reg_name x h.over) in
       passes s k x (record { userinfo = None; host = x; port = None })
-      (record { userinfo = refl; host = or_true (is_ip_literal x) (is_reg_name s x) name; port = refl }, append-nil x)
+      (record { userinfo = refl; host = or_right (is_ip_literal x) (is_reg_name s x) name; port = refl }, append-nil x)
 
   beside : (a t : List ℕ) → IsSegment a → IsPathText t → (is_empty t || starts_with_slash t) ≡ true
       → reference_fault s (47 ∷ 47 ∷ (a ++ t)) ≡ None
@@ -167,20 +165,13 @@ module _ (s : Tests) (k : IsSpec s) where
   edge zero number = (refl, refl)
   edge (suc count) number = (refl, refl)
 
-  first_apart : (f : ℕ) (fs : List ℕ) → lacks 47 (f ∷ fs) ≡ true → (f == 47) ≡ false
-  first_apart f fs h = not_true (f == 47) (both (not (f == 47)) (lacks 47 fs) h).0
-    where
-      not_true : (b : Bool) → not b ≡ true → b ≡ false
-      not_true true h = cc
-      not_true false h = refl
-
   -- the first segment is empty
   after_slash : (x : List ℕ) → IsSegment x → (count number : ℕ) → reference_fault s (47 ∷ (x ++ more_segments count number)) ≡ None
   after_slash (f ∷ fs) h count number =
       alone (47 ∷ f ∷ (fs ++ more_segments count number))
       (joined (47 ∷ []) (f ∷ (fs ++ more_segments count number)) slash_text
       (joined (f ∷ fs) (more_segments count number) (segment_text (f ∷ fs) h) (more_text count number)))
-      (rw (first_apart f fs h.no_slash) refl)
+      (rw (head-apart f fs h.no_slash) refl)
   after_slash [] h zero number = lone_slash
   after_slash [] h (suc count) number = beside (gen_segment (number % 16)) (more_segments count (number / 16)) (segment_is (number % 16))
       (more_text count (number / 16)) (edge count (number / 16)).1
@@ -192,7 +183,7 @@ module _ (s : Tests) (k : IsSpec s) where
       let more = more_segments count number in
       let e : before 47 (fs ++ more) ≡ fs = before-at 47 fs more (both (not (f == 47)) (lacks 47 fs) h.no_slash).1 (edge count number).0 in
       alone (f ∷ (fs ++ more)) (joined (f ∷ fs) more (segment_text (f ∷ fs) h) (more_text count number))
-      (rw (first_apart f fs h.no_slash) (ap (λ z. lacks 58 (f ∷ z)) e ∙ h.no_colon))
+      (rw (head-apart f fs h.no_slash) (ap (λ z. lacks 58 (f ∷ z)) e ∙ h.no_colon))
 
   pub no_fault_of_made : (state : ℕ) → reference_fault s (gen_reference state) ≡ None
   no_fault_of_made state = of_segments (gen_segment (state % 16)) (segment_is (state % 16)) (state / 2 ^ 60) (state / 16)

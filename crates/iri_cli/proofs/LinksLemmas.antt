@@ -1,5 +1,5 @@
 -- The answers of `links`.
-use Rattle.std.proofs.Common.{◌≡◌, ◌≤◌, ◌<◌, ◌^◌, ◌==◌, ◌&&◌, ◌∙◌, ℕ, Bool, true, false, not, List, [], ◌∷◌, ◌++◌, length, map, Option, None, Some, refl, sym, ap}
+use Rattle.std.proofs.Common.{◌≡◌, ◌≤◌, ◌<◌, ◌^◌, ◌==◌, ◌&&◌, ◌∙◌, ℕ, true, false, not, List, [], ◌∷◌, ◌++◌, length, map, Option, None, Some, refl, sym, ap}
 use Rattle.std.proofs.Common.{arith, length-append}
 use Rattle.std.specs.Prelude.{◌||◌, codes, decimal}
 use Rattle.std.specs.List.{list_all}
@@ -7,7 +7,9 @@ use Rattle.std.specs.Option.{is_none}
 use Rattle.std.specs.Str.{is_utf8}
 use Rattle.std.proofs.lemmas.Fmt.{length-decimal-le}
 use Rattle.std.proofs.lemmas.Str.{is_utf8-from_IsUtf8}
-use Rattle.iri_grammar.proofs.CutLaws.{before-delimited, both, by_test}
+use Rattle.std.proofs.Math.Bool.{and-false, or-true}
+use Rattle.std.proofs.lemmas.Bool.{and_parts as both}
+use Rattle.iri_grammar.proofs.CutLaws.{before-delimited, by_test}
 use Rattle.iri_grammar.specs.Characters.{comma}
 use Rattle.iri_grammar.specs.Cut.{before, lacks}
 use Rattle.iri_grammar.specs.ErrorTexts.{description}
@@ -78,11 +80,7 @@ field_takes s line links has =
 -- a delimiter is found after any bytes
 has_one : (c : ℕ) (xs rest : List ℕ) → lacks c (xs ++ c ∷ rest) ≡ false
 has_one c [] rest = by_test c c (λ b. (not b && lacks c rest) ≡ false) (λ h. refl) (λ n. absurd (n refl))
-has_one c (x ∷ xs) rest = ap (λ b. not (x == c) && b) (has_one c xs rest) ∙ never (not (x == c))
-  where
-    never : (b : Bool) → (b && false) ≡ false
-    never true = refl
-    never false = refl
+has_one c (x ∷ xs) rest = ap (λ b. not (x == c) && b) (has_one c xs rest) ∙ and-false (not (x == c))
 
 target_there : (s : Tests) (target rest : List ℕ) → lacks 62 target ≡ true → reference_fault s target ≡ None
     → has_target s (target ++ 62 ∷ rest) ≡ true
@@ -105,11 +103,7 @@ kept_takes s line (utf8, k) =
     ap (λ b. is_none (field_fault s line) || (b && keeps_target s line)) (is_utf8-from_IsUtf8 line utf8)
     ∙ ap (λ b. is_none (field_fault s line) || b)
     (ap (keeps_target s) k.whole ∙ kept_from s k.prefix k.target k.rest k.skipped k.closed k.valid)
-    ∙ always (is_none (field_fault s line))
-  where
-    always : (b : Bool) → (b || true) ≡ true
-    always true = refl
-    always false = refl
+    ∙ or-true (is_none (field_fault s line))
 
 -- ---- the length of what is told of a fault
 kind_short : (k : ErrorKind) → length (codes "target " ++ description k) ≤ 54

@@ -7,7 +7,8 @@ use Rattle.iri_grammar.specs.Components.{is_path}
 use Rattle.iri_grammar.specs.Cut.{lacks}
 use Rattle.iri_grammar.specs.Parts.{path_rules, is_empty, starts_with_slash, starts_with_slashes}
 use Rattle.iri_grammar.specs.Pieces.{joined}
-use Rattle.iri_grammar.proofs.CutLaws.{both}
+use Rattle.std.proofs.Math.Bool.{and-false}
+use Rattle.std.proofs.lemmas.Bool.{and_parts as both, not-true}
 use Rattle.iri_grammar.proofs.Ipv6Laws.{joined_pieces}
 use Rattle.iri_grammar.proofs.UnitRuns.{text_over-append}
 use Rattle.iri_normal.specs.DotRemoval.{is_two_dots, without_last, dots}
@@ -55,13 +56,9 @@ pub whole_dots : (stands : Bool) (path : List ℕ) → dots (prepared_path stand
 whole_dots stands path = directory_dots stands path (last_segment path) ∙ ap dots (at_last_slash path).0
 
 -- ---- the last slash is where it was
-and_false : (b : Bool) → (b && false) ≡ false
-and_false true = refl
-and_false false = refl
-
 has_slash : (x : ℕ) (xs l : List ℕ) → ends_at_slash (x ∷ xs) ≡ true → lacks 47 (x ∷ (xs ++ l)) ≡ false
 has_slash x [] l h = ap (λ b. not b && lacks 47 l) h
-has_slash x (y ∷ ys) l h = ap (λ b. not (x == 47) && b) (has_slash y ys l h) ∙ and_false (not (x == 47))
+has_slash x (y ∷ ys) l h = ap (λ b. not (x == 47) && b) (has_slash y ys l h) ∙ and-false (not (x == 47))
 
 none_cut : (l : List ℕ) → lacks 47 l ≡ true → to_last_slash l ≡ []
 none_cut [] k = refl
@@ -127,16 +124,12 @@ path_over s a path h =
 
 no_start : (l : List ℕ) → lacks 47 l ≡ true → starts_with_slash l ≡ false
 no_start [] k = refl
-no_start (c ∷ cs) k = is_false (c == 47) (both (not (c == 47)) (lacks 47 cs) k).0
-  where
-    is_false : (b : Bool) → not b ≡ true → b ≡ false
-    is_false true h = cc
-    is_false false h = refl
+no_start (c ∷ cs) k = not-true (c == 47) (both (not (c == 47)) (lacks 47 cs) k).0
 
 apart : (f l : List ℕ) → not (starts_with_slashes f) ≡ true → lacks 47 l ≡ true → not (starts_with_slashes (f ++ l)) ≡ true
 apart [] [] h k = refl
 apart [] (c ∷ cs) h k = ap (λ b. not (b && starts_with_slash cs)) (no_start (c ∷ cs) k)
-apart (c ∷ []) l h k = ap (λ b. not (c == 47 && b)) (no_start l k) ∙ ap not (and_false (c == 47))
+apart (c ∷ []) l h k = ap (λ b. not (c == 47 && b)) (no_start l k) ∙ ap not (and-false (c == 47))
 apart (c ∷ d ∷ ds) l h k = h
 
 rooted_start : (q : List ℕ) → starts_with_slash q ≡ true → (is_empty q || starts_with_slash q) ≡ true
@@ -213,7 +206,7 @@ two_fewer f h d =
 
 directory_apart : (f l : List ℕ) → not (starts_with_slashes (f ++ l)) ≡ true → not (starts_with_slashes f) ≡ true
 directory_apart [] l h = refl
-directory_apart (x ∷ []) l h = ap not (and_false (x == 47))
+directory_apart (x ∷ []) l h = ap not (and-false (x == 47))
 directory_apart (x ∷ y ∷ ys) l h = h
 
 -- no `//` begins it, but one begins what is left of it

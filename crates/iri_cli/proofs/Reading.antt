@@ -7,10 +7,11 @@ use Rattle.iri_text.specs.Source.{Consumes}
 use Rattle.iri_text.specs.Line.{LineState}
 use Rattle.iri_text.specs.Reader.{Advances}
 use Rattle.iri_text.specs.declared.streams.reader.LineFault.TheVariants.{Source, LineTooLong, InputTooLong}
+use Rattle.iri_text.proofs.LinesLemmas.{lines_from-append, lines-last}
 use Rattle.iri_text.proofs.Moved.{Consumes-append, still_at_end}
 use Rattle.iri_cli.specs.run.Ending.{Rules, passed_from, first_passed, ended_lines}
 use Rattle.iri_cli.specs.run.Read.{IsOpen, HasRead, ReadsAll, ReadsSome, ReadsPast, IsGoing}
-use Rattle.iri_cli.proofs.LineSteps.{past_line, past_bytes, past_long, past_over, lines_along, ended_along, none_ended, one_line}
+use Rattle.iri_cli.proofs.LineSteps.{past_line, past_bytes, past_long, past_over, ended_along, none_ended}
 
 -- what was taken before and now
 takes_more : (lo lm ln : Option (List ℕ)) (given held moved : List ℕ) → Consumes lo lm (given ++ held) → Consumes lm ln moved
@@ -78,7 +79,7 @@ module _ (rules : Rules) where
         ap (first_passed rules) (there y) ∙ o.passes (raw ++ 10 ∷ y) ∙ past_line rules (length given) raw y n l i
         ∙ ap (λ (p : ℕ). passed_from rules p 0 y) place;
     all = λ y.
-        ap lines (there y) ∙ o.all (raw ++ 10 ∷ y) ∙ ap (λ (t : List (List ℕ)). whole ++ t) (lines_along [] raw (10 ∷ y) n)
+        ap lines (there y) ∙ o.all (raw ++ 10 ∷ y) ∙ ap (λ (t : List (List ℕ)). whole ++ t) (lines_from-append [] raw (10 ∷ y) n)
         ∙ sym (append_assoc whole (no_cr raw ∷ []) (lines y));
     ended = λ y.
         ap ended_lines (there y) ∙ o.ended (raw ++ 10 ∷ y) ∙ ap (λ (t : List (List ℕ)). whole ++ t) (ended_along [] raw (10 ∷ y) n)
@@ -173,7 +174,7 @@ module _ (rules : Rules) where
                         ap length r.2,
                         length-append old.held a.moved,
                       ));
-                  all = o.1.all a.says.raw ∙ ap (λ (t : List (List ℕ)). whole ++ t) (one_line a.says.raw a.says.whole r.1);
+                  all = o.1.all a.says.raw ∙ ap (λ (t : List (List ℕ)). whole ++ t) (lines-last a.says.raw a.says.whole r.1);
                   nothing = r.2;
                   at_end = r.3;
                 },

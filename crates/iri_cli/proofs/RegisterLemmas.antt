@@ -17,7 +17,7 @@ use Rattle.iri_cli.specs.register.Lines.{line_of, command_of, commands_from, ent
 use Rattle.iri_text.specs.Sink.{KeepsRoom, PutsAll, SinkState}
 use Rattle.iri_text.specs.declared.Failed.{Failed}
 use Rattle.iri_cli.specs.run.Answering.{Answering, AnswersLine, PutsAnswer}
-use Rattle.iri_cli.specs.canon.Puts.{told_of}
+use Rattle.iri_cli.specs.inside.Puts.{told_of}
 use Rattle.iri_cli.specs.run.Ending.{Rules}
 use Rattle.iri_cli.specs.run.Refused.{is_not_bad}
 use Rattle.iri_cli.specs.register.Rules.{register_rules}

@@ -18,7 +18,7 @@ use Rattle.iri_text.specs.Sink.{KeepsRoom, PutsAll, SinkState}
 use Rattle.iri_text.specs.declared.Failed.{Failed}
 use Rattle.iri_text.proofs.Puts.{Appends-none, room-same}
 use Rattle.iri_cli.specs.run.Answering.{Answering, AnswersLine, PutsAnswer}
-use Rattle.iri_cli.specs.canon.Puts.{told_of}
+use Rattle.iri_cli.specs.inside.Puts.{told_of}
 use Rattle.iri_cli.specs.run.Ending.{Rules}
 use Rattle.iri_cli.specs.run.Refused.{is_not_bad}
 use Rattle.iri_cli.specs.robots.Answers.{answer_to, normal_base, same_part, same_site, verdict_word}

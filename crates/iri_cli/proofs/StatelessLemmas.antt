@@ -3,7 +3,7 @@ use Rattle.std.proofs.Common.{◌≡◌, ◌≢◌, ◌∙◌, ℕ, Bool, List, 
 use Rattle.iri_grammar.specs.Classes.{Tests}
 use Rattle.iri_text.specs.Sink.{KeepsRoom, SinkState}
 use Rattle.iri_cli.specs.run.Answering.{Answering, AnswersLine}
-use Rattle.iri_cli.specs.canon.Puts.{PutsLine}
+use Rattle.iri_cli.specs.inside.Puts.{PutsLine}
 use Rattle.iri_cli.specs.run.Ending.{Rules}
 use Rattle.iri_cli.specs.declared.run.answers.AnswerError.{AnswerError}
 use Rattle.iri_cli.specs.declared.run.answers.AnswerError.TheVariants.{SinkFailed}
@@ -23,7 +23,9 @@ module _ (answer : Tests → List ℕ → List ℕ → List ℕ) (takes_memory :
         → text ≡ answer s base line → PutsLine ko kn text r → KeepsRoom ko.room_left kn.room_left text (r ≢ Err SinkFailed)
         → AnswersLine (IsStatelessAt answer takes_memory s base) at line ko kn r
     answers_text ko kn r text text_is p room = record {
-      puts = puts_answer at.rules ko kn r (at.rules.wants_memory at.base at.between line) (at.rules.answer at.base at.between line) (ap (λ (r : Rules). r.is_good) is.rules)
+      puts =
+          let whole = at.rules.answer at.base at.between line in
+          puts_answer at.rules ko kn r (at.rules.wants_memory at.base at.between line) whole (ap (λ (r : Rules). r.is_good whole) (sym is.rules))
           (subst (λ t. PutsLine ko kn t r) (text_is ∙ answer_is) p);
       next = on_ok r next_at;
       room = subst (λ t. KeepsRoom ko.room_left kn.room_left t (r ≢ Err SinkFailed)) (text_is ∙ answer_is) room;

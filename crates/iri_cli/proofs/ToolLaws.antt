@@ -8,7 +8,7 @@ use Rattle.iri_docs.specs.Documents.{line_document}
 use Rattle.iri_docs.specs.Expanded.{expansion_limit}
 use Rattle.iri_docs.specs.Held.{Held}
 use Rattle.iri_docs.specs.declared.doc_error.DocError.{DocError}
-use Rattle.iri_grammar.proofs.CutLaws.{both}
+use Rattle.std.proofs.lemmas.Bool.{and_parts as both}
 use Rattle.iri_grammar.specs.Classes.{IsSpec, Tests}
 use Rattle.iri_grammar.specs.Fault.{bytes_fault}
 use Rattle.iri_grammar.specs.Parts.{Parts}

@@ -2,6 +2,5 @@
 pub mod Answers
 pub mod Rules
 pub mod Prepared
-pub mod Puts
 pub mod SchemeExamples
 pub mod Examples

@@ -2,6 +2,7 @@
 pub mod ExpandAt
 pub mod DocsAt
 pub mod Opening
+pub mod Puts
 pub mod Obeyed
 pub mod HandsOn
 pub mod Said

@@ -9,7 +9,7 @@ ghost use Rattle.iri_normal.specs.NormalForm.{canonical_in};
 ghost use Rattle.iri_normal.specs.Resolver.{base_text};
 ghost use Rattle.iri_cli.specs.canon.Answers.{refusal};
 ghost use Rattle.iri_normal.specs.Answers.{answer_in};
-ghost use Rattle.iri_cli.specs.canon.Puts.{PutsLine};
+ghost use Rattle.iri_cli.specs.inside.Puts.{PutsLine};
 ghost use Rattle.iri_cli.specs.declared.run.answers.AnswerError.TheVariants.{SinkFailed};
 ghost use Rattle.iri_text.specs.LineEnds.{line_feed};
 
@@ -130,7 +130,7 @@ impl<S: Spec> Answers<S> for Canon {
 
     ghost use Rattle.std.specs.Prelude.{refl};
     ghost use Rattle.std.specs.Vec.{vec_capacity};
-    ghost use Rattle.iri_cli.specs.canon.Puts.{IsCanonAt};
+    ghost use Rattle.iri_cli.specs.inside.Puts.{IsCanonAt};
     ghost use Rattle.iri_cli.specs.canon.Rules.{canon_rules_in};
 
     ghost rules = { λ mode. canon_rules_in S.tests mode };

@@ -7,7 +7,7 @@ ghost use Rattle.iri_text.specs.Sink.{KeepsRoom, PutsAll, sink_state};
 ghost use Rattle.iri_normal.specs.Resolver.{base_text};
 ghost use Rattle.iri_cli.specs.run.Limits.{longest_line, answer_room};
 ghost use Rattle.iri_cli.specs.canon.Answers.{refusal};
-ghost use Rattle.iri_cli.specs.canon.Puts.{PutsLine};
+ghost use Rattle.iri_cli.specs.inside.Puts.{PutsLine};
 ghost use Rattle.iri_cli.specs.inside.Opening.{RefusesLine};
 ghost use Rattle.iri_cli.specs.expand.Answers.{expansion_answer, template_answer, template_refusal};
 ghost use Rattle.iri_docs.specs.Expanded.{expansion_limit};

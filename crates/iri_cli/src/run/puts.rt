@@ -2,7 +2,7 @@
 ghost use Rattle.std.specs.Prelude.{◌≡◌, [], ◌∷◌, ◌++◌, codes, decimal};
 ghost use Rattle.iri_text.specs.LineEnds.{line_feed};
 ghost use Rattle.iri_text.specs.Sink.{PutsAll, sink_state};
-ghost use Rattle.iri_cli.specs.canon.Puts.{told_of};
+ghost use Rattle.iri_cli.specs.inside.Puts.{told_of};
 ghost use Rattle.iri_cli.specs.run.Refused.{bad_line};
 
 use crate::run::answers::AnswerError;

@@ -1,14 +1,15 @@
-use Rattle.std.proofs.Common.{◌≡◌, ◌≢◌, ◌<◌, ◌≤◌, ◌∙◌, ℕ, Err, true, false, refl, arith, subst, ap, length}
+use Rattle.std.proofs.Common.{◌≡◌, ◌≢◌, ◌<◌, ◌≤◌, ◌∙◌, ℕ, Err, true, false, refl, arith, rules, subst, ap, length}
 use Rattle.iri_text.specs.Sink.{KeepsRoom, sink_state}
 use Rattle.iri_normal.specs.Resolver.{base_text}
 use Rattle.iri_template.specs.Contexts.{value_in}
 use Rattle.iri_template.specs.ExpandedTexts.{expanded_text}
 use Rattle.iri_docs.specs.Expanded.{expansion_limit}
 use Rattle.iri_cli.specs.canon.Answers.{answer}
-use Rattle.iri_cli.specs.canon.Puts.{PutsLine}
+use Rattle.iri_cli.specs.inside.Puts.{PutsLine}
 use Rattle.iri_cli.specs.expand.Answers.{too_long}
 use Rattle.iri_cli.specs.declared.run.answers.AnswerError.TheVariants.{SinkFailed}
-use Rattle.iri_cli.proofs.ExpandLemmas.{long_answer, short_answer, told_line, told_room}
+use Rattle.iri_cli.proofs.CanonLemmas.{told_line, told_room}
+use Rattle.iri_cli.proofs.ExpandLemmas.{long_answer, short_answer}
 use Rattle.iri_cli.proofs.expand.put_expansion.Goals as goal
 
 within : (room len limit : ℕ) → (room < len → false ≡ true) → room ≡ limit → len ≤ limit
@@ -19,38 +20,30 @@ put_answer-requires-clause-room g c =
     let short = within _ _ expansion_limit (c.in-Ok.ensures.exact.1) c.requires.room in
     omega (arith, short, c.requires.short, c.requires.output_room, ap length c.as_bytes.ensures.value, ap length c.in-Ok.ensures.text)
 
-pub returns-in-Ok-clause-puts : goal.returns-in-Ok-clause-puts
-returns-in-Ok-clause-puts g c =
+pub returns-in-Ok : goal.returns-in-Ok
+returns-in-Ok g c =
     let state = sink_state g.O.Sink.written g.O.Sink.faults g.O.Sink.room_left in
     let s = g.S.Spec.tests in
     let base = base_text c.args.resolver in
     let text = expanded_text s value_in c.args.expanded.now in
     let is = ap (answer s base) (c.as_bytes.ensures.value ∙ c.in-Ok.ensures.text)
     ∙ short_answer s base text (within _ _ expansion_limit (c.in-Ok.ensures.exact.1) c.requires.room) in
-    subst (λ t. PutsLine (state c.args.sink.now) (state c.put_answer.new.sink) t c.put_answer.result) is c.put_answer.ensures.puts
+    record {
+      puts = subst (λ t. PutsLine (state c.args.sink.now) (state c.put_answer.new.sink) t c.put_answer.result) is c.put_answer.ensures.puts;
+      room =
+          subst (λ t. KeepsRoom (g.O.Sink.room_left c.args.sink.now) (g.O.Sink.room_left c.put_answer.new.sink) t
+          (c.put_answer.result ≢ Err SinkFailed)) is c.put_answer.ensures.room;
+      capacity = search rules;
+    }
 
-pub returns-in-Ok-clause-room : goal.returns-in-Ok-clause-room
-returns-in-Ok-clause-room g c =
-    let s = g.S.Spec.tests in
-    let base = base_text c.args.resolver in
-    let text = expanded_text s value_in c.args.expanded.now in
-    let is = ap (answer s base) (c.as_bytes.ensures.value ∙ c.in-Ok.ensures.text)
-    ∙ short_answer s base text (within _ _ expansion_limit (c.in-Ok.ensures.exact.1) c.requires.room) in
-    subst (λ t. KeepsRoom (g.O.Sink.room_left c.args.sink.now) (g.O.Sink.room_left c.put_answer.new.sink) t
-    (c.put_answer.result ≢ Err SinkFailed)) is c.put_answer.ensures.room
-
-pub returns-in-Err-clause-puts : goal.returns-in-Err-clause-puts
-returns-in-Err-clause-puts g c =
+pub returns-in-Err : goal.returns-in-Err
+returns-in-Err g c =
     let s = g.S.Spec.tests in
     let base = base_text c.args.resolver in
     let long = (c.in-Err.ensures {u = tt}).exact.0 refl in
-    told_line false c.put_all.result too_long _ c.told.result c.told.ensures refl
-    (long_answer s base (expanded_text s value_in c.args.expanded.now) (omega (arith, long, c.requires.room))) c.put_all.ensures
-
-pub returns-in-Err-clause-room : goal.returns-in-Err-clause-room
-returns-in-Err-clause-room g c =
-    let s = g.S.Spec.tests in
-    let base = base_text c.args.resolver in
-    let long = (c.in-Err.ensures {u = tt}).exact.0 refl in
-    told_room false c.put_all.result too_long _ c.told.result c.told.ensures
-    (long_answer s base (expanded_text s value_in c.args.expanded.now) (omega (arith, long, c.requires.room))) c.put_all.ensures
+    let is = long_answer s base (expanded_text s value_in c.args.expanded.now) (omega (arith, long, c.requires.room)) in
+    record {
+      puts = told_line false c.put_all.result too_long _ c.told.result c.told.ensures refl is c.put_all.ensures;
+      room = told_room false c.put_all.result too_long _ c.told.result c.told.ensures is c.put_all.ensures;
+      capacity = search rules;
+    }

@@ -1,4 +1,4 @@
-use Rattle.std.proofs.Common.{◌≡◌, ◌≢◌, ◌∙◌, ℕ, List, Err, None, false, refl, subst, ap}
+use Rattle.std.proofs.Common.{◌≡◌, ◌≢◌, ◌∙◌, ℕ, List, Err, None, false, refl, rules, subst, ap}
 use Rattle.iri_grammar.specs.Classes.{Tests}
 use Rattle.iri_text.specs.Sink.{KeepsRoom, sink_state}
 use Rattle.iri_normal.specs.Resolver.{base_text}
@@ -6,11 +6,12 @@ use Rattle.iri_template.specs.Contexts.{value_in}
 use Rattle.iri_template.specs.Expansion.{expansion}
 use Rattle.iri_template.specs.Reading.{pieces_of}
 use Rattle.iri_template.specs.TypeFaults.{expansion_fault}
-use Rattle.iri_cli.specs.canon.Puts.{PutsLine}
+use Rattle.iri_cli.specs.inside.Puts.{PutsLine}
 use Rattle.iri_cli.specs.expand.Answers.{expansion_answer, template_answer, template_refusal}
 use Rattle.iri_cli.specs.expand.Lines.{Values}
 use Rattle.iri_cli.specs.declared.run.answers.AnswerError.TheVariants.{SinkFailed}
-use Rattle.iri_cli.proofs.ExpandLemmas.{template_expanded, template_refused, told_line, told_room}
+use Rattle.iri_cli.proofs.CanonLemmas.{told_line, told_room}
+use Rattle.iri_cli.proofs.ExpandLemmas.{template_expanded, template_refused}
 use Rattle.iri_cli.proofs.expand.put_template.Goals as goal
 
 -- the answer to the expansion of a text with values is that to the template
@@ -20,30 +21,27 @@ expanded_is s base values held t shown none held_is shown_is =
     ap (λ v. expansion_answer s base (expansion s v (pieces_of shown))) held_is
     ∙ ap (λ x. expansion_answer s base (expansion s values (pieces_of x))) shown_is ∙ template_expanded s base values t none
 
-pub returns-in-Ok-clause-puts : goal.returns-in-Ok-clause-puts
-returns-in-Ok-clause-puts g c =
+pub returns-in-Ok : goal.returns-in-Ok
+returns-in-Ok g c =
     let state = sink_state g.O.Sink.written g.O.Sink.faults g.O.Sink.room_left in
     let e = c.in-Ok.ensures in
     let is = expanded_is g.S.Spec.tests (base_text c.args.resolver) (value_in c.args.values.now) _ c.args.template.now _ e.fault
     (ap value_in e.expanded.1) e.expanded.0 in
-    subst (λ t. PutsLine (state c.args.sink.now) (state c.put_expansion.new.sink) t c.put_expansion.result) is c.put_expansion.ensures.puts
+    record {
+      puts = subst (λ t. PutsLine (state c.args.sink.now) (state c.put_expansion.new.sink) t c.put_expansion.result) is c.put_expansion.ensures.puts;
+      room =
+          subst (λ t. KeepsRoom (g.O.Sink.room_left c.args.sink.now) (g.O.Sink.room_left c.put_expansion.new.sink) t
+          (c.put_expansion.result ≢ Err SinkFailed)) is c.put_expansion.ensures.room;
+      capacity = search rules;
+    }
 
-pub returns-in-Ok-clause-room : goal.returns-in-Ok-clause-room
-returns-in-Ok-clause-room g c =
-    let e = c.in-Ok.ensures in
-    let is = expanded_is g.S.Spec.tests (base_text c.args.resolver) (value_in c.args.values.now) _ c.args.template.now _ e.fault
-    (ap value_in e.expanded.1) e.expanded.0 in
-    subst (λ t. KeepsRoom (g.O.Sink.room_left c.args.sink.now) (g.O.Sink.room_left c.put_expansion.new.sink) t
-    (c.put_expansion.result ≢ Err SinkFailed)) is c.put_expansion.ensures.room
-
-pub returns-in-Err-clause-puts : goal.returns-in-Err-clause-puts
-returns-in-Err-clause-puts g c =
-    told_line false c.put_refusal.result (template_refusal c.in-Err.error) _ c.told.result c.told.ensures refl
-    (template_refused g.S.Spec.tests (base_text c.args.resolver) (value_in c.args.values.now) c.args.template.now c.in-Err.error
-    c.in-Err.ensures.fault) c.put_refusal.ensures
-
-pub returns-in-Err-clause-room : goal.returns-in-Err-clause-room
-returns-in-Err-clause-room g c =
-    told_room false c.put_refusal.result (template_refusal c.in-Err.error) _ c.told.result c.told.ensures
-    (template_refused g.S.Spec.tests (base_text c.args.resolver) (value_in c.args.values.now) c.args.template.now c.in-Err.error
-    c.in-Err.ensures.fault) c.put_refusal.ensures
+pub returns-in-Err : goal.returns-in-Err
+returns-in-Err g c =
+    let text = template_refusal c.in-Err.error in
+    let is = template_refused g.S.Spec.tests (base_text c.args.resolver) (value_in c.args.values.now) c.args.template.now c.in-Err.error
+    c.in-Err.ensures.fault in
+    record {
+      puts = told_line false c.put_refusal.result text _ c.told.result c.told.ensures refl is c.put_refusal.ensures;
+      room = told_room false c.put_refusal.result text _ c.told.result c.told.ensures is c.put_refusal.ensures;
+      capacity = search rules;
+    }

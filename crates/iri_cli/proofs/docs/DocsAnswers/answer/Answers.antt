@@ -12,7 +12,7 @@ use Rattle.iri_cli.specs.expand.Answers.{template_answer}
 use Rattle.iri_cli.specs.docs.Rules.{docs_rules, takes_memory}
 use Rattle.iri_cli.proofs.MemoryLemmas.{answers_memory}
 use Rattle.iri_cli.proofs.DocsLemmas.{answers_docs, bad, docs_read}
-use Rattle.iri_cli.proofs.ExpandLemmas.{told_line, told_room}
+use Rattle.iri_cli.proofs.CanonLemmas.{told_line, told_room}
 use Rattle.iri_cli.proofs.StatelessLemmas.{answers_text}
 use Rattle.iri_cli.proofs.docs.DocsAnswers.answer.Goals as goal
 

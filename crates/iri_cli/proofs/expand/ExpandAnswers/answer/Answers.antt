@@ -8,7 +8,8 @@ use Rattle.iri_cli.specs.expand.Lines.{bad, changes, expands}
 use Rattle.iri_cli.specs.inside.Said.{change_of}
 use Rattle.iri_cli.specs.expand.Rules.{expand_rules, takes_memory}
 use Rattle.iri_cli.proofs.MemoryLemmas.{answers_memory}
-use Rattle.iri_cli.proofs.ExpandLemmas.{answers_nothing, answers_text, template_good, told_line, told_room}
+use Rattle.iri_cli.proofs.CanonLemmas.{told_line, told_room}
+use Rattle.iri_cli.proofs.ExpandLemmas.{answers_nothing, answers_text, template_good}
 use Rattle.iri_cli.proofs.expand.ExpandAnswers.answer.Goals as goal
 
 pub returns-in-Ok : goal.returns-in-Ok

@@ -7,7 +7,7 @@ use Rattle.iri_cli.specs.canon.Rules.{is_ok}
 use Rattle.iri_cli.specs.links.Answers.{field_refusal, links_answer}
 use Rattle.iri_cli.specs.links.Memory.{takes_memory}
 use Rattle.iri_cli.specs.links.Rules.{links_rules}
-use Rattle.iri_cli.proofs.ExpandLemmas.{told_line, told_room}
+use Rattle.iri_cli.proofs.CanonLemmas.{told_line, told_room}
 use Rattle.iri_cli.proofs.LinksLemmas.{field_takes, kept_takes, read_answered, refusal_answered}
 use Rattle.iri_cli.proofs.MemoryLemmas.{answers_memory}
 use Rattle.iri_cli.proofs.StatelessLemmas.{answers_text}

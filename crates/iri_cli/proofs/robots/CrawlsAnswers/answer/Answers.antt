@@ -4,7 +4,7 @@ use Rattle.iri_text.specs.Sink.{sink_state}
 use Rattle.iri_normal.specs.Resolver.{base_text}
 use Rattle.iri_robots.specs.Stored.{record_texts}
 use Rattle.iri_cli.specs.run.Answering.{AnswersLine}
-use Rattle.iri_cli.specs.canon.Puts.{told_of}
+use Rattle.iri_cli.specs.inside.Puts.{told_of}
 use Rattle.iri_cli.specs.run.Refused.{bad_line}
 use Rattle.iri_cli.specs.robots.Answers.{answer_to}
 use Rattle.iri_cli.specs.robots.Memory.{takes_memory}
