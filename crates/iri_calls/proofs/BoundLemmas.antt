@@ -3,7 +3,6 @@ use Rattle.std.proofs.Common.{◌≡◌, ◌≤◌, ◌+◌, ◌*◌, ℕ, Bool,
 use Rattle.std.proofs.Common.{length, max, refl, ap, arith, length-append}
 use Rattle.std.specs.Char.{encode_utf8}
 use Rattle.std.specs.List.{flat_map}
-use Rattle.std.specs.Prelude.{◌==◌, if◌then◌else◌}
 use Rattle.std.specs.Str.{IsUtf8, is_utf8, chars, encode_utf8_all}
 use Rattle.std.proofs.lemmas.Str.{IsUtf8-from_is_utf8, encodes-chars}
 use Rattle.iri_grammar.specs.Classes.{Tests, IsSpec, uri_tests, iri_tests}
@@ -18,7 +17,6 @@ use Rattle.iri_grammar.specs.declared.error.ErrorKind.TheVariants.{UnexpectedFra
 use Rattle.iri_grammar.specs.inside.Laws.{uri_is_spec, iri_is_spec}
 use Rattle.iri_grammar.proofs.FaultLaws.{absolute-law, reference-law, neither, splits_where_no_fault}
 use Rattle.iri_grammar.proofs.SplitLaws.{recompose_split}
-use Rattle.iri_text.specs.LineEnds.{carriage_return}
 use Rattle.iri_text.specs.Lines.{no_cr}
 use Rattle.iri_percent.specs.Encoding.{encoded, encoded_char, keeps}
 use Rattle.iri_percent.specs.Mapping.{mapped, triplet, triplets}
@@ -31,6 +29,7 @@ use Rattle.iri_normal.specs.Target.{target, takes_base_path}
 use Rattle.iri_normal.specs.declared.mode.Mode.{Mode}
 use Rattle.iri_normal.proofs.CanonLemmas.{fault_none}
 use Rattle.iri_normal.proofs.LengthLaws.{length-canonical_in, length-form, length-plain_form, length-target}
+use Rattle.iri_text.proofs.LinesLemmas.{no_cr-shorter}
 use Rattle.iri_calls.specs.Bounds.{HasAtMost}
 use Rattle.iri_calls.specs.Encodings.{encoded_for, no_fault}
 use Rattle.iri_calls.specs.Lines.{line_answer}
@@ -130,12 +129,6 @@ short_encoding s (Some place) t e =
     short_encoded (keeps s place) t (IsUtf8-from_is_utf8 t (is_valid (is_utf8 t) None e))
 
 -- ---- the answer of a line
-short_line : (raw : List ℕ) → length (no_cr raw) ≤ length raw
-short_line [] = omega arith
-short_line (b ∷ []) =
-    elim (b == carriage_return) as (λ c. length (if c then [] else b ∷ []) ≤ length (b ∷ [])) [ true ↦ omega arith | false ↦ omega arith ]
-short_line (b ∷ c ∷ bs) = let l = short_line (c ∷ bs) in omega arith
-
 short_words : (kind : ErrorKind) → length (description kind) ≤ 59
 short_words InvalidScheme = omega arith
 short_words InvalidUserInfo = omega arith
@@ -157,7 +150,7 @@ pub short_answer : (s : Tests) (m : CanonMode) (base line : List ℕ) → IsSpec
     → length (line_answer s m base line) ≤ max (length base + length line + 7) 64
 unfolding answer_in
 short_answer s m base line k b =
-    let l = short_line line in
+    let l = no_cr-shorter line in
     let answer = short_answer_by (bytes_fault (reference_fault s) (no_cr line)) (canonical_in s m base (no_cr line))
     (length base + length (no_cr line)) (short_canonical s m base (no_cr line) k b) in
     omega arith

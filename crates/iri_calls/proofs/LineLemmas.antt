@@ -1,49 +1,22 @@
 -- Lines that an LF ends, and batches of their answers.
 use Rattle.std.proofs.Common.{◌≡◌, ◌≢◌, ◌+◌, ◌-◌, ◌<◌, ◌≤◌, ℕ, List, [], ◌∷◌, ◌++◌, length, get_or, take, drop, refl, sym, ◌∙◌, ap, arith}
-use Rattle.std.proofs.Common.{add-one, zero-add, add-zero, add_assoc, eq-eqb, eqb-true, append_assoc, take-append-drop, drop-cons, Option, None, Some, MatchOption}
+use Rattle.std.proofs.Common.{add-one, zero-add, add-zero, add_assoc, eq-eqb, eqb-true, take-append-drop, drop-cons, Option, None, Some, MatchOption}
 use Rattle.std.specs.List.{flat_map}
-use Rattle.std.proofs.lemmas.List.{append-nil}
 use Rattle.std.proofs.lemmas.Bool.Decides.{nat_tests}
 use Rattle.std.proofs.lemmas.Grind.{common_steps}
 use Rattle.memchr.specs.Find.{IsFirstByte, is_byte}
 use Rattle.iri_text.specs.Lines.{NoLf}
+use Rattle.iri_text.proofs.LinesLemmas.{ended-lf}
 use Rattle.iri_text.proofs.Parts.{NoLf-nowhere}
 use Rattle.iri_calls.specs.Buffers.{over}
-use Rattle.iri_calls.specs.Lines.{ended, ended_from, batch, later}
+use Rattle.iri_text.specs.Lines.{ended}
+use Rattle.iri_calls.specs.Lines.{batch, later}
 use Rattle.iri_calls.specs.inside.BufferText.{BufferPuts}
 use Rattle.iri_calls.specs.inside.Placed.{over_at}
 use Rattle.iri_calls.specs.inside.PlacedLaws.{over_at-none, over_at-both, over_at-long, length-over_at, over_at_start}
 use Rattle.iri_calls.specs.declared.buffer.BufferSink.{BufferSink}
 use Rattle.iri_calls.specs.Numbers.{ok, short}
 use Rattle.iri_calls.specs.declared.lines.Batch.{Batch}
-
--- one byte of a line
-byte : (prefix : List ℕ) (b : ℕ) (bs : List ℕ) → b ≢ 10 → ended_from prefix (b ∷ bs) ≡ ended_from (prefix ++ b ∷ []) bs
-unfolding ended_from
-byte prefix b bs h = grind (arith, nat_tests)
-
--- the bytes of a line
-along : (prefix raw rest : List ℕ) → NoLf raw → ended_from prefix (raw ++ rest) ≡ ended_from (prefix ++ raw) rest
-along prefix [] rest n = ap (λ f. ended_from f rest) (sym (append-nil prefix))
-along prefix (b ∷ raw) rest n =
-    byte prefix b (raw ++ rest) n.0 ∙ along (prefix ++ b ∷ []) raw rest n.1
-    ∙ ap (λ f. ended_from f rest) (append_assoc prefix (b ∷ []) raw)
-
-lf : (prefix rest : List ℕ) → ended_from prefix (10 ∷ rest) ≡ prefix ∷ ended rest
-unfolding ended_from
-lf prefix rest = refl
-
-nothing : (prefix : List ℕ) → ended_from prefix [] ≡ []
-unfolding ended_from
-nothing prefix = refl
-
--- a line that an LF ends
-pub ended-lf : (raw rest : List ℕ) → NoLf raw → ended (raw ++ 10 ∷ rest) ≡ raw ∷ ended rest
-ended-lf raw rest n = along [] raw (10 ∷ rest) n ∙ lf raw rest
-
--- no LF
-pub ended-none : (raw : List ℕ) → NoLf raw → ended raw ≡ []
-ended-none raw n = ap ended (sym (append-nil raw)) ∙ along [] raw [] n ∙ nothing raw
 
 get_or-prefix : (xs : List ℕ) (i j : ℕ) → j < i → i ≤ length xs → get_or (take i xs) j 0 ≡ get_or xs j 0
 get_or-prefix xs i j h l = grind (arith, common_steps)
@@ -67,7 +40,7 @@ ended-at text i h n e =
     sym (take-append-drop i text)
     ∙ ap (λ l. take i text ++ l) (drop-cons text i 0 h ∙ ap (λ n. get_or text i 0 ∷ drop n text) (sym (add-one i))
     ∙ ap (λ b. b ∷ drop (i + 1) text) e) in
-    ap ended cut ∙ ended-lf (take i text) (drop (i + 1) text) n
+    ap ended cut ∙ ended-lf (λ line. line) (take i text) (drop (i + 1) text) n
 
 module _ (answer : List ℕ → List ℕ) where
   pub batch-none : (room : ℕ) → batch answer room [] ≡ record { consumed = 0; written = 0; status = ok }

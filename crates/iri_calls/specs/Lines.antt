@@ -1,12 +1,11 @@
 -- The lines of a text, and the answers to as many of them as have room together.
-use Rattle.std.specs.Prelude.{◌≡◌, ◌+◌, ◌-◌, ℕ, cond, nat_lt, ◌==◌, length, List, [], ◌∷◌, ◌++◌, Option, Some, None}
+use Rattle.std.specs.Prelude.{◌≡◌, ◌+◌, ◌-◌, ℕ, cond, nat_lt, length, List, [], ◌∷◌, Option, Some, None}
 use Rattle.std.specs.List.{flat_map}
 use Rattle.iri_grammar.specs.Classes.{Tests}
 use Rattle.iri_grammar.specs.Fault.{bytes_fault}
 use Rattle.iri_grammar.specs.WholeFault.{absolute_fault}
 use Rattle.iri_grammar.specs.declared.error.ErrorKind.{ErrorKind}
-use Rattle.iri_text.specs.LineEnds.{line_feed}
-use Rattle.iri_text.specs.Lines.{no_cr}
+use Rattle.iri_text.specs.Lines.{ended, no_cr}
 use Rattle.iri_percent.specs.declared.canon_mode.CanonMode.{CanonMode}
 use Rattle.iri_normal.specs.Answers.{answer_in}
 use Rattle.iri_calls.specs.Buffers.{over}
@@ -14,15 +13,6 @@ use Rattle.iri_calls.specs.Numbers.{ok, short, bad_base, unknown, grammar_of, mo
 use Rattle.iri_calls.specs.Outcome.{Told}
 use Rattle.iri_calls.specs.Outcome.Outcome.{fault, plain}
 use Rattle.iri_calls.specs.declared.lines.Batch.{Batch}
-
--- the lines that an LF ends, without it, where the first of them begins with the bytes of `prefix`
-unfoldable pub ended_from : List ℕ → List ℕ → List (List ℕ)
-ended_from prefix [] = []
-ended_from prefix (b ∷ bs) = cond (b == line_feed) (prefix ∷ ended_from [] bs) (ended_from (prefix ++ b ∷ []) bs)
-
--- the lines of a text that an LF ends
-abbrev pub ended : List ℕ → List (List ℕ)
-ended bytes = ended_from [] bytes
 
 -- the answer to a line as it stands: a CR before its LF isn't part of it
 abbrev pub line_answer : Tests → CanonMode → List ℕ → List ℕ → List ℕ

@@ -4,7 +4,8 @@ ghost use Rattle.std.specs.List.{flat_map};
 ghost use Rattle.iri_text.specs.Lines.{no_cr};
 ghost use Rattle.iri_normal.specs.Resolver.{base_text};
 ghost use Rattle.iri_calls.specs.Buffers.{over};
-ghost use Rattle.iri_calls.specs.Lines.{ended, batch, line_answer, BatchedIn, Batched};
+ghost use Rattle.iri_text.specs.Lines.{ended};
+ghost use Rattle.iri_calls.specs.Lines.{batch, line_answer, BatchedIn, Batched};
 
 use crate::buffer::BufferSink;
 use crate::canonical::Canonical;

@@ -1,10 +1,9 @@
 -- Lines that were answered one after the other, and how that ends.
-use Rattle.std.proofs.Common.{◌≡◌, ◌≢◌, ◌==◌, ℕ, ◌+◌, ◌≤◌, List, [], ◌∷◌, ◌++◌, ◌&&◌, length, Bool, true, false, if◌then◌else◌, Option, None}
+use Rattle.std.proofs.Common.{◌≡◌, ◌≢◌, ℕ, ◌+◌, ◌≤◌, List, [], ◌∷◌, ◌++◌, ◌&&◌, length, Bool, true, false, if◌then◌else◌, Option, None}
 use Rattle.std.proofs.Common.{Some, Result, Ok, Err, refl, sym, ◌∙◌, ap, subst, arith, append_assoc, length-append}
 use Rattle.std.specs.List.{concat, list_all}
 use Rattle.std.proofs.lemmas.List.{append-nil}
 use Rattle.iri_text.specs.Count.{Rose}
-use Rattle.iri_text.specs.Lines.{no_cr}
 use Rattle.iri_text.specs.Source.{Consumes, IsAtEnd}
 use Rattle.iri_text.specs.Sink.{Appends, AppendsPrefix, KeepsRoom, SinkState}
 use Rattle.iri_text.specs.Line.{LineState}
@@ -13,6 +12,7 @@ use Rattle.iri_text.specs.declared.streams.reader.LineFault.{LineFault}
 use Rattle.iri_text.specs.declared.streams.reader.LineFault.TheVariants.{Source, LineTooLong as FaultLineTooLong}
 use Rattle.iri_text.specs.declared.streams.reader.LineFault.TheVariants.{InputTooLong as FaultInputTooLong}
 use Rattle.iri_text.proofs.Puts.{Appends-append, Appends-none, prefix-after, prefix-longer, room-then, room-longer, room-so}
+use Rattle.iri_text.proofs.LinesLemmas.{no_cr-shorter}
 use Rattle.iri_cli.specs.run.Ending.{Rules, Ending, answers, answered, IsBaseTaken, ending}
 use Rattle.iri_cli.specs.run.Read.{HasRead, ReadsAll, ReadsSome, ReadsPast, IsGoing}
 use Rattle.iri_cli.specs.run.Run.{outside, Finishes, Decides, StopsShort, RanTo, Ran}
@@ -36,15 +36,6 @@ taken_is lo ln x taken told takes at_end =
     l.2 ∙ ap (λ (y : List ℕ). taken ++ y) (subst IsAtEnd l.1 at_end) ∙ append-nil taken
 
 -- a line without its CR is no longer
-pub no_cr-shorter : (raw : List ℕ) → length (no_cr raw) ≤ length raw
-no_cr-shorter [] = omega arith
-no_cr-shorter (b ∷ []) = by_test (b == 13)
-  where
-    by_test : (t : Bool) → length (if t then [] else b ∷ []) ≤ 1
-    by_test true = omega arith
-    by_test false = omega arith
-no_cr-shorter (b ∷ c ∷ raw) = let h = no_cr-shorter (c ∷ raw) in omega (arith, h)
-
 -- the answers to these lines were written
 abbrev answered_to : Rules → List ℕ → List (List ℕ) → List ℕ
 answered_to rules base rest = concat (answers rules base rest)

@@ -12,7 +12,8 @@ use Rattle.iri_text.specs.declared.streams.reader.LineFault.{LineFault}
 use Rattle.iri_text.specs.declared.streams.reader.LineFault.TheVariants.{Source, LineTooLong as FaultLineTooLong}
 use Rattle.iri_text.specs.declared.streams.reader.LineFault.TheVariants.{InputTooLong as FaultInputTooLong}
 use Rattle.iri_text.proofs.Puts.{Appends-none, room-same}
-use Rattle.iri_cli.specs.run.Ending.{Rules, Ending, Passed, base_line, unless_refused, first_passed, ended_lines, completed, completed_lines}
+use Rattle.iri_text.specs.Lines.{ended_lines}
+use Rattle.iri_cli.specs.run.Ending.{Rules, Ending, Passed, base_line, unless_refused, first_passed, completed, completed_lines}
 use Rattle.iri_cli.specs.run.Ending.{stopped, answered, IsBaseTaken, ending_by, ending}
 use Rattle.iri_cli.specs.run.Read.{IsOpen, HasRead, ReadsSome, ReadsPast, IsGoing}
 use Rattle.iri_cli.specs.run.Run.{outside, Decides, StopsShort, RanTo, Ran}
@@ -23,7 +24,8 @@ use Rattle.iri_cli.specs.declared.run.end.End.TheVariants.{Done, SomeBad, BadBas
 use Rattle.iri_cli.proofs.Reading.{left_is, read_none, reads_line, reads_all, reads_some, reads_long, reads_over, goes_on}
 use Rattle.iri_cli.proofs.LineSteps.{place_later}
 use Rattle.iri_cli.proofs.Ends.{ends_past_none}
-use Rattle.iri_cli.proofs.Answered.{whole_prefix, taken_is, no_cr-shorter, not_sink}
+use Rattle.iri_text.proofs.LinesLemmas.{no_cr-shorter}
+use Rattle.iri_cli.proofs.Answered.{whole_prefix, taken_is, not_sink}
 
 -- a line is within the limit of its reader
 pub line_short : (lo ln : Option (List ℕ)) (fo fn : ℕ) (old new : LineState) → Advances old new lo ln fo fn (Ok true)

@@ -9,7 +9,8 @@ use Rattle.std.proofs.Math.Seq.{take-append-add}
 use Rattle.iri_text.specs.Lines.{lines}
 use Rattle.iri_text.specs.Source.{Consumes, IsAtEnd}
 use Rattle.iri_text.specs.Line.{LineState}
-use Rattle.iri_cli.specs.run.Ending.{Rules, Ending, Passed, unless_refused, ended_lines, first_passed, answers_after, answers, completed}
+use Rattle.iri_text.specs.Lines.{ended_lines}
+use Rattle.iri_cli.specs.run.Ending.{Rules, Ending, Passed, unless_refused, first_passed, answers_after, answers, completed}
 use Rattle.iri_cli.specs.run.Ending.{completed_lines, stopped, ending_by, ending}
 use Rattle.iri_cli.specs.run.Read.{IsOpen, HasRead, ReadsAll, ReadsPast}
 use Rattle.iri_cli.proofs.LineSteps.{place_later}

@@ -1,10 +1,10 @@
 -- How limits and lines go over the bytes of one line.
 use Rattle.std.proofs.Common.{◌≡◌, ◌≢◌, ℕ, ◌+◌, ◌==◌, if◌then◌else◌, ◌<◌, ◌≤◌, nat_le, List, [], ◌∷◌, ◌++◌, length, Bool, true, false}
-use Rattle.std.proofs.Common.{Option, None, Some, add-zero, sym, ◌∙◌, ap, arith, append_assoc}
+use Rattle.std.proofs.Common.{Option, None, Some, add-zero, sym, ◌∙◌, ap, arith}
 use Rattle.std.proofs.lemmas.List.{append-nil}
 use Rattle.std.proofs.lemmas.Bool.Decides.{nat_tests}
-use Rattle.iri_text.specs.Lines.{NoLf, no_cr}
-use Rattle.iri_cli.specs.run.Ending.{Rules, Passed, passed_from, ended_from}
+use Rattle.iri_text.specs.Lines.{NoLf}
+use Rattle.iri_cli.specs.run.Ending.{Rules, Passed, passed_from}
 
 module _ (rules : Rules) where
   step : (place len b : ℕ) (y : List ℕ) → b ≢ 10 → place < rules.input_limit → len < rules.line_limit
@@ -79,16 +79,3 @@ module _ (rules : Rules) where
       by_tests false true long at_lf on e = let h = at_lf e in omega (arith, h)
       by_tests false false true at_lf on e = let h : place ≡ p.place = ap place_of e in omega (arith, h)
       by_tests false false false at_lf on e = let h = on e in omega (arith, h)
-
--- lines that an LF ends, over the bytes of a line
-pub ended_along : (prefix raw y : List ℕ) → NoLf raw → ended_from prefix (raw ++ y) ≡ ended_from (prefix ++ raw) y
-ended_along prefix [] y n = ap (λ (f : List ℕ). ended_from f y) (sym (append-nil prefix))
-ended_along prefix (b ∷ raw) y n = other b (ended_from (prefix ++ b ∷ []) (raw ++ y)) n.0 ∙ ended_along (prefix ++ b ∷ []) raw y n.1
-    ∙ ap (λ (f : List ℕ). ended_from f y) (append_assoc prefix (b ∷ []) raw)
-  where
-    other : (c : ℕ) (rest : List (List ℕ)) → c ≢ 10 → (if c == 10 then no_cr prefix ∷ ended_from [] (raw ++ y) else rest) ≡ rest
-    other c rest h = grind (arith, nat_tests)
-
--- bytes with no LF have no line that an LF ends
-pub none_ended : (raw : List ℕ) → NoLf raw → ended_from [] raw ≡ []
-none_ended raw n = ap (ended_from []) (sym (append-nil raw)) ∙ ended_along [] raw [] n

@@ -19,7 +19,7 @@ use Rattle.iri_grammar.specs.declared.error.ErrorKind.TheVariants.{InvalidScheme
 use Rattle.iri_grammar.specs.declared.error.ErrorKind.TheVariants.{InvalidQuery, InvalidFragment, UnexpectedFragment, UnexpectedRelative, InvalidUtf8}
 use Rattle.iri_link.specs.ErrorTexts.{displayed, words}
 use Rattle.iri_link.specs.Refusals.{RefusedBy}
-use Rattle.iri_link.specs.Token.{is_blank}
+use Rattle.iri_grammar.specs.Blanks.{is_blank}
 use Rattle.iri_link.specs.declared.error.LinkError.TheVariants.{Fault, Memory}
 use Rattle.iri_link.specs.declared.error.LinkKind.{LinkKind}
 use Rattle.iri_link.specs.declared.error.LinkKind.TheVariants.{NotUtf8, NoTarget, OpenTarget, BadTarget, NoParam, NoValue, OpenString}

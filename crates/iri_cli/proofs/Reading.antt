@@ -7,11 +7,12 @@ use Rattle.iri_text.specs.Source.{Consumes}
 use Rattle.iri_text.specs.Line.{LineState}
 use Rattle.iri_text.specs.Reader.{Advances}
 use Rattle.iri_text.specs.declared.streams.reader.LineFault.TheVariants.{Source, LineTooLong, InputTooLong}
-use Rattle.iri_text.proofs.LinesLemmas.{lines_from-append, lines-last}
+use Rattle.iri_text.proofs.LinesLemmas.{ended_from-append, ended-none, lines_from-append, lines-last}
 use Rattle.iri_text.proofs.Moved.{Consumes-append, still_at_end}
-use Rattle.iri_cli.specs.run.Ending.{Rules, passed_from, first_passed, ended_lines}
+use Rattle.iri_text.specs.Lines.{ended_lines}
+use Rattle.iri_cli.specs.run.Ending.{Rules, passed_from, first_passed}
 use Rattle.iri_cli.specs.run.Read.{IsOpen, HasRead, ReadsAll, ReadsSome, ReadsPast, IsGoing}
-use Rattle.iri_cli.proofs.LineSteps.{past_line, past_bytes, past_long, past_over, ended_along, none_ended}
+use Rattle.iri_cli.proofs.LineSteps.{past_line, past_bytes, past_long, past_over}
 
 -- what was taken before and now
 takes_more : (lo lm ln : Option (List ℕ)) (given held moved : List ℕ) → Consumes lo lm (given ++ held) → Consumes lm ln moved
@@ -82,7 +83,7 @@ module _ (rules : Rules) where
         ap lines (there y) ∙ o.all (raw ++ 10 ∷ y) ∙ ap (λ (t : List (List ℕ)). whole ++ t) (lines_from-append [] raw (10 ∷ y) n)
         ∙ sym (append_assoc whole (no_cr raw ∷ []) (lines y));
     ended = λ y.
-        ap ended_lines (there y) ∙ o.ended (raw ++ 10 ∷ y) ∙ ap (λ (t : List (List ℕ)). whole ++ t) (ended_along [] raw (10 ∷ y) n)
+        ap ended_lines (there y) ∙ o.ended (raw ++ 10 ∷ y) ∙ ap (λ (t : List (List ℕ)). whole ++ t) (ended_from-append no_cr [] raw (10 ∷ y) n)
         ∙ sym (append_assoc whole (no_cr raw ∷ []) (ended_lines y));
   }
     where
@@ -99,7 +100,7 @@ module _ (rules : Rules) where
   open_bytes given raw whole o n l i = o.passes raw ∙ past_bytes rules (length given) raw n l i
 
   open_ended : (given raw : List ℕ) (whole : List (List ℕ)) → IsOpen rules given whole → NoLf raw → ended_lines (given ++ raw) ≡ whole
-  open_ended given raw whole o n = o.ended raw ∙ ap (λ (t : List (List ℕ)). whole ++ t) (none_ended raw n) ∙ append-nil whole
+  open_ended given raw whole o n = o.ended raw ∙ ap (λ (t : List (List ℕ)). whole ++ t) (ended-none no_cr raw n) ∙ append-nil whole
 
   module _ (lo lm ln : Option (List ℕ)) (fo fn : ℕ) (old new : LineState) (whole : List (List ℕ)) (is : IsGoing rules old)
       (go : HasRead rules lo lm old whole) where

@@ -1,3 +1,4 @@
+pub mod Blanks
 pub mod Characters
 pub mod Classes
 pub mod ClassTests

@@ -13,7 +13,8 @@ use Rattle.iri_grammar.specs.WholeFault.{reference_fault}
 use Rattle.iri_grammar.specs.declared.error.ErrorKind.{ErrorKind}
 use Rattle.std.proofs.lemmas.Bool.{and_parts as both}
 use Rattle.iri_grammar.proofs.CutLaws.{by_test, before-delimited, lacks-other}
-use Rattle.iri_link.specs.Token.{is_pair_char, is_plain_char, is_blank, is_blanks, is_token_char, is_token, IsQuoted, done, plain, pair}
+use Rattle.iri_grammar.specs.Blanks.{is_blank}
+use Rattle.iri_link.specs.Token.{is_pair_char, is_plain_char, is_blanks, is_token_char, is_token, IsQuoted, done, plain, pair}
 use Rattle.iri_link.specs.Field.{LinkParam, LinkValue, IsValue, token, quoted, IsParam, bare, valued, IsParams, none, empty, param}
 use Rattle.iri_link.specs.Field.{IsLink, link, IsElement, empty as no_element, link as element, IsField, last, more as more_elements}
 use Rattle.iri_link.specs.Fault.{Fault, fault_from, closes_from, target_fault, told_target, earlier, place_in, field_fault}

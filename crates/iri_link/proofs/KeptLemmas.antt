@@ -13,7 +13,8 @@ use Rattle.iri_grammar.proofs.AuthorityTexts.{delimited-utf8}
 use Rattle.std.proofs.lemmas.List.Elements.{All-append, All-nil, All-cons}
 use Rattle.iri_grammar.proofs.Delimiters.{text_after_delimiter}
 use Rattle.iri_grammar.proofs.Units.{text_after_ascii}
-use Rattle.iri_link.specs.Token.{is_pair_char, is_plain_char, is_blank, is_blanks, is_token_char, is_token, IsQuoted, done, plain, pair}
+use Rattle.iri_grammar.specs.Blanks.{is_blank}
+use Rattle.iri_link.specs.Token.{is_pair_char, is_plain_char, is_blanks, is_token_char, is_token, IsQuoted, done, plain, pair}
 use Rattle.iri_link.specs.Field.{LinkParam, LinkValue, IsValue, token, quoted, IsParam, bare, valued, IsParams, none, empty, param}
 use Rattle.iri_link.specs.Field.{IsLink, link, IsElement, empty as no_element, link as element, IsField, last, more}
 use Rattle.iri_link.proofs.RunLemmas.{blank-low, token-low}

@@ -15,7 +15,8 @@ use Rattle.iri_grammar.proofs.CutLaws.{joined}
 use Rattle.iri_grammar.specs.WholeFault.{reference_fault}
 use Rattle.iri_grammar.specs.declared.error.Error.{Error}
 use Rattle.iri_normal.specs.NormalForm.{canonical}
-use Rattle.iri_link.specs.Token.{is_blank, is_blanks}
+use Rattle.iri_grammar.specs.Blanks.{is_blank}
+use Rattle.iri_link.specs.Token.{is_blanks}
 use Rattle.iri_link.specs.Field.{LinkParam, LinkValue, IsLink, link, IsElement, empty, link as element, IsField, last, more}
 use Rattle.iri_link.specs.Phases.{before_link, in_target, after_param, next}
 use Rattle.iri_link.specs.Fault.{fault_from, target_fault, earlier}

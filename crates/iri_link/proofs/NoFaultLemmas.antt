@@ -8,7 +8,8 @@ use Rattle.std.proofs.lemmas.List.Elements.{All-head, All-tail, All-cons, All-ni
 use Rattle.iri_grammar.specs.Classes.{Tests}
 use Rattle.std.proofs.lemmas.Bool.{and_parts as both}
 use Rattle.iri_grammar.proofs.CutLaws.{test_apart}
-use Rattle.iri_link.specs.Token.{is_pair_char, is_plain_char, is_blank, is_blanks, is_token_char, IsQuoted, done, plain, pair}
+use Rattle.iri_grammar.specs.Blanks.{is_blank}
+use Rattle.iri_link.specs.Token.{is_pair_char, is_plain_char, is_blanks, is_token_char, IsQuoted, done, plain, pair}
 use Rattle.iri_link.specs.Field.{LinkParam, LinkValue, IsValue, token, quoted, IsParam, bare, valued, IsParams, none, empty, param}
 use Rattle.iri_link.specs.Field.{IsLink, link, IsElement, empty as no_element, link as element, IsField, last, more}
 use Rattle.iri_link.specs.Links.{HasReference, HasLinks}

@@ -7,7 +7,8 @@ use Rattle.std.proofs.lemmas.List.{append-nil}
 use Rattle.iri_grammar.specs.Cut.{lacks}
 use Rattle.std.proofs.lemmas.Bool.{and_parts as both}
 use Rattle.iri_grammar.proofs.CutLaws.{by_test, test_apart}
-use Rattle.iri_link.specs.Token.{is_plain_char, is_blank, is_blanks, is_token_char, is_token, IsQuoted, done, plain, pair}
+use Rattle.iri_grammar.specs.Blanks.{is_blank}
+use Rattle.iri_link.specs.Token.{is_plain_char, is_blanks, is_token_char, is_token, IsQuoted, done, plain, pair}
 use Rattle.iri_link.specs.Field.{LinkParam, LinkValue, IsValue, token, quoted, IsParam, bare, valued, IsParams, none, empty, param}
 use Rattle.iri_link.specs.Field.{IsLink, link, IsElement, empty as no_element, link as element, IsField, last, more as more_elements}
 use Rattle.iri_link.specs.Phases.{before_link, in_target, after_param, after_semicolon, in_name, after_name, after_equals, in_token, in_quoted}

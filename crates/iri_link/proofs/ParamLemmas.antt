@@ -5,7 +5,8 @@ use Rattle.std.specs.Str.{str_to_ascii_lowercase}
 use Rattle.std.proofs.lemmas.List.{append-nil}
 use Rattle.iri_grammar.specs.Classes.{Tests}
 use Rattle.iri_grammar.proofs.CutLaws.{by_test}
-use Rattle.iri_link.specs.Token.{is_blank, is_token_char, is_token}
+use Rattle.iri_grammar.specs.Blanks.{is_blank}
+use Rattle.iri_link.specs.Token.{is_token_char, is_token}
 use Rattle.iri_link.specs.Field.{LinkParam, bare, valued, IsParams, none, empty, param}
 use Rattle.iri_link.specs.Phases.{Phase, after_param, after_semicolon, in_name, after_name, after_equals}
 use Rattle.iri_link.specs.Fault.{fault_from}

@@ -5,7 +5,8 @@ use Rattle.std.specs.List.{list_all}
 use Rattle.iri_grammar.specs.Classes.{Tests}
 use Rattle.std.proofs.lemmas.Bool.{and_parts as both}
 use Rattle.iri_grammar.proofs.CutLaws.{by_test, test_apart}
-use Rattle.iri_link.specs.Token.{is_blank, is_token_char}
+use Rattle.iri_grammar.specs.Blanks.{is_blank}
+use Rattle.iri_link.specs.Token.{is_token_char}
 use Rattle.iri_link.specs.Phases.{Phase, before_link, after_param, after_semicolon, in_name, after_name, after_equals, in_token, next}
 use Rattle.iri_link.specs.Fault.{fault_from, wrong, earlier}
 use Rattle.iri_grammar.specs.inside.Runs.{first_passes}

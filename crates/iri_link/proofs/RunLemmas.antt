@@ -8,7 +8,8 @@ use Rattle.std.proofs.lemmas.Str.{IsUtf8-from_ascii, IsCharBoundary-from_take}
 use Rattle.iri_grammar.specs.Runs.{run_of}
 use Rattle.iri_grammar.proofs.Units.{run_of_le}
 use Rattle.std.proofs.lemmas.Bool.{and_parts as both}
-use Rattle.iri_link.specs.Token.{is_blank, is_token_char}
+use Rattle.iri_grammar.specs.Blanks.{is_blank}
+use Rattle.iri_link.specs.Token.{is_token_char}
 use Rattle.iri_link.specs.inside.Runs.{run_test, IsRun}
 use Rattle.iri_link.specs.declared.runs.Run.{Run}
 use Rattle.iri_link.specs.declared.runs.Run.TheVariants.{Blank, Token}

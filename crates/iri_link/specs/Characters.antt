@@ -1,12 +1,6 @@
 -- Characters of `Link` fields by their codes (RFC 8288 section 3, RFC 9110 section 5.6), besides those of URIs.
 use Rattle.std.specs.Prelude.{ℕ}
 
-abbrev pub tab : ℕ
-tab = 9
-
-abbrev pub space : ℕ
-space = 32
-
 abbrev pub quotation_mark : ℕ
 quotation_mark = 34
 

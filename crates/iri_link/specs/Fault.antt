@@ -8,7 +8,8 @@ use Rattle.iri_grammar.specs.Cut.{before, lacks}
 use Rattle.iri_grammar.specs.WholeFault.{reference_fault}
 use Rattle.iri_grammar.specs.declared.error.ErrorKind.{ErrorKind}
 use Rattle.iri_link.specs.Characters.{backslash, greater_than_sign, less_than_sign, quotation_mark}
-use Rattle.iri_link.specs.Token.{is_blank, is_token_char, is_plain_char, is_pair_char}
+use Rattle.iri_grammar.specs.Blanks.{is_blank}
+use Rattle.iri_link.specs.Token.{is_token_char, is_plain_char, is_pair_char}
 use Rattle.iri_link.specs.Phases.{Phase, before_link, in_target, after_param, after_semicolon, in_name, after_name, after_equals}
 use Rattle.iri_link.specs.Phases.{in_token, in_quoted, in_pair, next, may_follow}
 use Rattle.iri_link.specs.declared.error.LinkKind.{LinkKind}

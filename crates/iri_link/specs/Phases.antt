@@ -2,7 +2,8 @@
 use Rattle.std.specs.Prelude.{ℕ, Bool, cond, ◌||◌, ◌==◌}
 use Rattle.iri_grammar.specs.Characters.{comma, equals_sign, semicolon}
 use Rattle.iri_link.specs.Characters.{backslash, greater_than_sign, less_than_sign, quotation_mark}
-use Rattle.iri_link.specs.Token.{is_blank, is_token_char}
+use Rattle.iri_grammar.specs.Blanks.{is_blank}
+use Rattle.iri_link.specs.Token.{is_token_char}
 
 -- a pair is a `\` and what stands after it, in a quoted string
 pub data Phase : Type 0 where

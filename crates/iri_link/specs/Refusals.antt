@@ -10,7 +10,7 @@ use Rattle.iri_link.specs.Characters.{less_than_sign, greater_than_sign}
 use Rattle.iri_link.specs.Fault.{field_fault}
 use Rattle.iri_link.specs.Field.{LinkValue}
 use Rattle.iri_link.specs.Links.{HasLinks}
-use Rattle.iri_link.specs.Token.{is_blank}
+use Rattle.iri_grammar.specs.Blanks.{is_blank}
 use Rattle.iri_link.specs.declared.error.LinkError.{LinkError}
 use Rattle.iri_link.specs.declared.error.LinkError.TheVariants.{Fault, Memory}
 

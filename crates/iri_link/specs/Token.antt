@@ -3,11 +3,8 @@ use Rattle.std.specs.Prelude.{◌≡◌, ℕ, Bool, true, false, not, ◌&&◌, 
 use Rattle.std.specs.Char.{is_ascii_alphanumeric, char_set_contains}
 use Rattle.std.specs.Int.{is_in_range}
 use Rattle.std.specs.List.{list_all}
-use Rattle.iri_link.specs.Characters.{tab, space, quotation_mark, backslash}
-
--- a space or a tab
-abbrev pub is_blank : ℕ → Bool
-is_blank c = c == space || c == tab
+use Rattle.iri_grammar.specs.Blanks.{is_blank, tab}
+use Rattle.iri_link.specs.Characters.{quotation_mark, backslash}
 
 -- `tchar`
 abbrev pub is_token_char : ℕ → Bool

@@ -7,7 +7,7 @@ ghost use Rattle.iri_normal.specs.NormalForm.{canonical};
 ghost use Rattle.iri_normal.specs.Resolver.{base_text};
 ghost use Rattle.iri_link.specs.Characters.{less_than_sign};
 ghost use Rattle.iri_link.specs.Stored.{link_of};
-ghost use Rattle.iri_link.specs.Token.{is_blank};
+ghost use Rattle.iri_grammar.specs.Blanks.{is_blank};
 ghost use Rattle.iri_link.specs.inside.Halts.{HaltsIn};
 ghost use Rattle.iri_link.specs.inside.ReadLinks.{CutsTarget, ReadsLink, SkipsEmpty, AddsLink, ReadsField};
 ghost use Rattle.iri_grammar.specs.inside.Runs.{first_passes};

@@ -4,7 +4,7 @@ ghost use Rattle.iri_grammar.specs.Classes.{Tests};
 ghost use Rattle.iri_link.specs.Characters.{quotation_mark};
 ghost use Rattle.iri_link.specs.Fault.{fault_from};
 ghost use Rattle.iri_link.specs.Phases.{after_equals};
-ghost use Rattle.iri_link.specs.Token.{is_blank};
+ghost use Rattle.iri_grammar.specs.Blanks.{is_blank};
 ghost use Rattle.iri_link.specs.inside.Halts.{HaltsAt};
 ghost use Rattle.iri_link.specs.inside.ReadParams.{ReadsValue};
 ghost use Rattle.iri_grammar.specs.inside.Runs.{first_passes};

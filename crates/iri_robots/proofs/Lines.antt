@@ -4,7 +4,8 @@ use Rattle.std.specs.Str.{IsUtf8, is_utf8}
 use Rattle.std.proofs.Math.Bool.{and-true}
 use Rattle.std.proofs.lemmas.Bool.{and_right, false_from_ne_true}
 use Rattle.std.proofs.lemmas.Str.{IsUtf8-from_is_utf8}
-use Rattle.iri_robots.specs.FileLines.{is_blank, all_blank, without_end}
+use Rattle.iri_grammar.specs.Blanks.{is_blank}
+use Rattle.iri_robots.specs.FileLines.{all_blank, without_end}
 
 and_moved : (a b c d : Bool) → b ≡ c && d → a && b ≡ (a && c) && d
 and_moved true b c d h = h

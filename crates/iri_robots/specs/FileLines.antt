@@ -4,6 +4,7 @@ use Rattle.std.specs.Prelude.{drop}
 use Rattle.std.specs.List.{prefix_len}
 use Rattle.std.specs.Char.{is_ascii_alphabetic}
 use Rattle.std.specs.Str.{is_utf8, bytes_eq, str_eq_ignore_ascii_case}
+use Rattle.iri_grammar.specs.Blanks.{is_blank}
 use Rattle.iri_grammar.specs.Characters.{colon, number_sign, underscore}
 use Rattle.iri_grammar.specs.Cut.{before, after}
 
@@ -13,18 +14,8 @@ pub data FileLine : Type 0 where
   RuleLine : (allows : Bool) (pattern : List ℕ) → FileLine
   OtherLine : FileLine
 
-abbrev pub space : ℕ
-space = 32
-
-abbrev pub tab : ℕ
-tab = 9
-
 abbrev pub hyphen : ℕ
 hyphen = 45
-
--- a space or a tab
-abbrev pub is_blank : ℕ → Bool
-is_blank c = c == space || c == tab
 
 abbrev pub all_blank : List ℕ → Bool
 all_blank [] = true

@@ -4,7 +4,8 @@ ghost use Rattle.std.specs.List.{prefix_len};
 ghost use Rattle.std.specs.Str.{is_utf8, str_eq_ignore_ascii_case};
 ghost use Rattle.iri_grammar.specs.Characters.{number_sign};
 ghost use Rattle.iri_grammar.specs.Cut.{before, CutAt, NoCut};
-ghost use Rattle.iri_robots.specs.FileLines.{line_of, line_of_text, keyed, is_blank, trimmed, without_start};
+ghost use Rattle.iri_grammar.specs.Blanks.{is_blank};
+ghost use Rattle.iri_robots.specs.FileLines.{line_of, line_of_text, keyed, trimmed, without_start};
 ghost use Rattle.iri_robots.specs.FileLines.{without_end, without_byte_order_mark, agent_of, is_token_char};
 ghost use Rattle.iri_robots.specs.inside.ReadLines.{said};
 

@@ -12,7 +12,7 @@ use Rattle.iri_cli.specs.declared.run.words.LineCommand.{LineCommand}
 use Rattle.iri_cli.specs.declared.run.words.LineCommand.TheVariants.{Canon, Robots}
 use Rattle.iri_cli.specs.declared.run.words.Grammar.{Grammar}
 use Rattle.iri_percent.specs.declared.canon_mode.CanonMode.TheVariants.{Default, Scheme}
-use Rattle.iri_run_calls.specs.Told.{space}
+use Rattle.iri_grammar.specs.Blanks.{space}
 
 -- the first word is cut off
 pub words_cut : (text first : List ℕ) (rest : Option (List ℕ)) → first ≡ before space text → rest ≡ after space text

@@ -1,5 +1,6 @@
 -- What a run over memory comes to.
 use Rattle.std.specs.Str.{IsUtf8}
+use Rattle.iri_grammar.specs.Blanks.{space}
 use Rattle.iri_grammar.specs.Pieces.{pieces}
 use Rattle.std.specs.Prelude.{◌≡◌, ◌⊎◌, ◌≤◌, ℕ, length, codes, List, [], ◌∷◌, Some}
 use Rattle.iri_percent.specs.declared.canon_mode.CanonMode.{CanonMode}
@@ -19,9 +20,6 @@ use Rattle.iri_cli.specs.declared.run.words.Grammar.{Grammar}
 use Rattle.iri_cli.specs.declared.run.words.LineCommand.{LineCommand}
 use Rattle.iri_cli.specs.declared.run.words.LineCommand.TheVariants.{Canon, Register, Links, Docs}
 use Rattle.iri_cli.specs.declared.help.Notice.{Notice}
-
-abbrev pub space : ℕ
-space = 32
 
 -- The contract of the program's `run`.
 pub record RunsWords (words : List (List ℕ)) (old new : Outside) (status : ℕ) : Type 0 where

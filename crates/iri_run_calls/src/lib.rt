@@ -12,7 +12,8 @@ ghost use Rattle.std.specs.Prelude.{◌≡◌, ◌≢◌, ◌≤◌, [], ◌∷�
 ghost use Rattle.iri_cli.specs.run.Words.{notice_word};
 ghost use Rattle.iri_grammar.specs.Pieces.{pieces};
 ghost use Rattle.iri_text.specs.SliceText.{over_start};
-ghost use Rattle.iri_run_calls.specs.Told.{space, RunTold, TakesMemory, Told};
+ghost use Rattle.iri_grammar.specs.Blanks.{space};
+ghost use Rattle.iri_run_calls.specs.Told.{RunTold, TakesMemory, Told};
 
 mod words;
 

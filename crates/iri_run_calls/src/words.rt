@@ -3,7 +3,7 @@ ghost use Rattle.std.specs.Prelude.{[], ◌∷◌, MatchOption};
 ghost use Rattle.iri_cli.specs.run.Words.{IsCommand};
 ghost use Rattle.iri_cli.specs.declared.run.words.Command.{Command};
 ghost use Rattle.iri_grammar.specs.Pieces.{pieces};
-ghost use Rattle.iri_run_calls.specs.Told.{space};
+ghost use Rattle.iri_grammar.specs.Blanks.{space};
 
 use iri_cli::help::notice_of;
 use iri_cli::run::words::{Command, command_of_three, command_of_two, grammar_of};

@@ -2,6 +2,7 @@
 use Rattle.std.proofs.Common.{◌≡◌, ℕ, Bool, true, false, cond, not, ◌&&◌, ◌||◌, List, [], ◌∷◌, ◌++◌, None, map, refl, sym, ◌∙◌, ap}
 use Rattle.std.proofs.Common.{append_assoc, append-nil}
 use Rattle.iri_grammar.specs.Classes.{Tests}
+use Rattle.std.proofs.Math.Bool.{or-false, or-true}
 use Rattle.std.proofs.lemmas.Bool.{and_right}
 use Rattle.std.proofs.lemmas.Simd.{map-map}
 use Rattle.iri_grammar.specs.Pieces.{joined}
@@ -40,20 +41,12 @@ pub led_expression : (row : Row) (ts : List (List ℕ)) → led row false ts ≡
 led_expression row [] = refl
 led_expression row (t ∷ ts) = append_assoc row.first t (led row true ts) ∙ ap (λ l. row.first ++ l) (lead_joined row t ts)
 
-or_none : (b : Bool) → b || false ≡ b
-or_none true = refl
-or_none false = refl
-
-or_true : (b : Bool) → b || true ≡ true
-or_true true = refl
-or_true false = refl
-
 pub led-append : (row : Row) (written : Bool) (ts us : List (List ℕ))
     → led row written (ts ++ us) ≡ led row written ts ++ led row (written || has_texts ts) us
-led-append row written [] us = ap (λ b. led row b us) (sym (or_none written))
+led-append row written [] us = ap (λ b. led row b us) (sym (or-false written))
 led-append row written (t ∷ ts) us =
     ap (λ l. (lead row written ++ t) ++ l) (led-append row true ts us)
-    ∙ ap (λ b. (lead row written ++ t) ++ (led row true ts ++ led row b us)) (sym (or_true written))
+    ∙ ap (λ b. (lead row written ++ t) ++ (led row true ts ++ led row b us)) (sym (or-true written))
     ∙ sym (append_assoc (lead row written ++ t) (led row true ts) (led row (written || true) us))
 
 named_delimiter : (row : Row) (name t : List ℕ) → name_part row name ++ t ≡ named_text row name t
@@ -193,15 +186,15 @@ module _ (s : Tests) (operator : Operator) (name : List ℕ) (m : Modifier) wher
       → IsMember ev start body → has_texts (ts []) ≡ false → ((x : X) (xs : List X) → has_texts (ts (x ∷ xs)) ≡ true)
       → (w : Bool) (xs : List X) → (after event_step (event_text s) (state w false) (map ev xs ++ (Finished ∷ []))).written
       ≡ w || has_texts (ts xs)
-  after_members ev start body ts i h k w [] = sym (ap (λ b. w || b) h ∙ or_none w)
+  after_members ev start body ts i h k w [] = sym (ap (λ b. w || b) h ∙ or-false w)
   after_members ev start body ts i h k w (x ∷ xs) =
       ap (λ (u : WriteState). u.written) (ap (λ (u : WriteState). after event_step (event_text s) u (map ev xs ++ (Finished ∷ [])))
-      (i.step w false x) ∙ after_each ev start body i xs) ∙ sym (ap (λ b. w || b) (k x xs) ∙ or_true w)
+      (i.step w false x) ∙ after_each ev start body i xs) ∙ sym (ap (λ b. w || b) (k x xs) ∙ or-true w)
 
   pub told_written : (w : Bool) (v : ShownValue) → (after event_step (event_text s) (state w false) (telling v)).written
       ≡ w || has_texts (told_texts s row name m v)
-  told_written w undefined = sym (or_none w)
-  told_written w (string t) = sym (or_true w)
+  told_written w undefined = sym (or-false w)
+  told_written w (string t) = sym (or-true w)
   told_written w (list xs) = after_members Item (λ w b. item_lead (state w b)) sh (λ ys. told_texts s row name m (list ys)) items
       (none (explodes m)) some w xs
     where

@@ -5,7 +5,7 @@ use Rattle.std.proofs.Common.{eqb-true}
 use Rattle.std.specs.Prelude.{◌==◌, is_some, nat_le, slice_index}
 use Rattle.std.specs.List.{flat_map}
 use Rattle.std.specs.Char.{is_ascii_hexdigit, len_utf8, encode_utf8}
-use Rattle.std.proofs.lemmas.Bool.{not-true, or_right, and_parts}
+use Rattle.std.proofs.lemmas.Bool.{and_parts as both, not-true, or_right}
 use Rattle.std.proofs.lemmas.Bool.Decides.{nat_tests}
 use Rattle.std.proofs.lemmas.Grind.{flat_map-append}
 use Rattle.std.proofs.lemmas.List.{take-append-le, drop-append-le, length-take-le}
@@ -27,7 +27,7 @@ use Rattle.iri_template.specs.declared.units.Units.{Units}
 use Rattle.std.specs.Str.{IsUtf8, chars, IsAscii}
 use lib.Utf8.{encode, encodes}
 use Rattle.iri_grammar.specs.Cut.{lacks}
-use Rattle.iri_grammar.proofs.CutLaws.{by_test, both}
+use Rattle.iri_grammar.proofs.CutLaws.{by_test}
 use Rattle.iri_percent.specs.Encoding.{keeps, encoded_char, encoded}
 use Rattle.iri_percent.specs.declared.context.Context.TheVariants.{Any}
 use Rattle.iri_percent.specs.Mapping.{triplets}
@@ -403,7 +403,7 @@ lone_unit s (x ∷ a ∷ b ∷ t) h k =
     ∙ ap (triplet_unit a b (x ∷ a ∷ b ∷ t)) k in (
       ap (λ u. length (unit_text u)) is,
       ap (kept_unit s) is
-          ∙ ap (λ y. y ∷ a ∷ b ∷ []) (sym (eqb-true x 37 (and_parts (x == 37) (is_ascii_hexdigit a && is_ascii_hexdigit b) h).0)),
+          ∙ ap (λ y. y ∷ a ∷ b ∷ []) (sym (eqb-true x 37 (both (x == 37) (is_ascii_hexdigit a && is_ascii_hexdigit b) h).0)),
     )
 
 pub unit_of_lone : (s : Tests) (end : Bool) (t : List ℕ) → begins_triplet t ≡ true → first_char (octets t) ≡ None

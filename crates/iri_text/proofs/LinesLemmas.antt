@@ -1,8 +1,8 @@
 -- The lines of a text, one after another.
-use Rattle.std.proofs.Common.{◌≡◌, ◌≢◌, ℕ, List, [], ◌∷◌, ◌++◌, refl, sym, ◌∙◌, ap, arith, append_assoc}
+use Rattle.std.proofs.Common.{◌≡◌, ◌≢◌, ◌≤◌, ◌==◌, length, true, false, if◌then◌else◌, ℕ, List, [], ◌∷◌, ◌++◌, refl, sym, ◌∙◌, ap, arith, append_assoc}
 use Rattle.std.proofs.lemmas.List.{append-nil}
 use Rattle.std.proofs.lemmas.Bool.Decides.{nat_tests}
-use Rattle.iri_text.specs.Lines.{NoLf, no_cr, last_line, lines, lines_from}
+use Rattle.iri_text.specs.Lines.{NoLf, ended_from, no_cr, last_line, lines, lines_from}
 
 -- one byte of a line
 step : (prefix : List ℕ) (b : ℕ) (bs : List ℕ) → b ≢ 10 → lines_from prefix (b ∷ bs) ≡ lines_from (prefix ++ b ∷ []) bs
@@ -26,3 +26,29 @@ last_line-some (b ∷ raw) h = refl
 -- a last line
 pub lines-last : (raw : List ℕ) → NoLf raw → raw ≢ [] → lines raw ≡ no_cr raw ∷ []
 lines-last raw n h = ap lines (sym (append-nil raw)) ∙ lines_from-append [] raw [] n ∙ last_line-some raw h
+
+pub no_cr-shorter : (raw : List ℕ) → length (no_cr raw) ≤ length raw
+no_cr-shorter [] = omega arith
+no_cr-shorter (b ∷ []) =
+    elim (b == 13) as (λ c. length (if c then [] else b ∷ []) ≤ length (b ∷ [])) [ true ↦ omega arith | false ↦ omega arith ]
+no_cr-shorter (b ∷ c ∷ raw) = let h = no_cr-shorter (c ∷ raw) in omega (arith, h)
+
+-- ---- lines that an LF ends
+module _ (cut : List ℕ → List ℕ) where
+  ended_step : (prefix : List ℕ) (b : ℕ) (bs : List ℕ) → b ≢ 10 → ended_from cut prefix (b ∷ bs) ≡ ended_from cut (prefix ++ b ∷ []) bs
+  ended_step prefix b bs h = grind (arith, nat_tests)
+
+  -- the bytes of a line
+  pub ended_from-append : (prefix raw rest : List ℕ) → NoLf raw → ended_from cut prefix (raw ++ rest) ≡ ended_from cut (prefix ++ raw) rest
+  ended_from-append prefix [] rest n = ap (λ f. ended_from cut f rest) (sym (append-nil prefix))
+  ended_from-append prefix (b ∷ raw) rest n =
+      ended_step prefix b (raw ++ rest) n.0 ∙ ended_from-append (prefix ++ b ∷ []) raw rest n.1
+      ∙ ap (λ f. ended_from cut f rest) (append_assoc prefix (b ∷ []) raw)
+
+  -- a line that an LF ends
+  pub ended-lf : (raw rest : List ℕ) → NoLf raw → ended_from cut [] (raw ++ 10 ∷ rest) ≡ cut raw ∷ ended_from cut [] rest
+  ended-lf raw rest n = ended_from-append [] raw (10 ∷ rest) n
+
+  -- bytes with no LF have no line that an LF ends
+  pub ended-none : (raw : List ℕ) → NoLf raw → ended_from cut [] raw ≡ []
+  ended-none raw n = ap (ended_from cut []) (sym (append-nil raw)) ∙ ended_from-append [] raw [] n

@@ -27,3 +27,16 @@ lines_from prefix (b ∷ bs) = if b == line_feed then no_cr prefix ∷ lines_fro
 -- One CR directly before the LF, or before the end of the last line, isn't part of the line.
 abbrev pub lines : List ℕ → List (List ℕ)
 lines bytes = lines_from [] bytes
+
+-- The lines of these bytes that an LF ends, without it, each cut in this way, where the first of them begins with the bytes of `prefix`.
+abbrev pub ended_from : (List ℕ → List ℕ) → List ℕ → List ℕ → List (List ℕ)
+ended_from cut prefix [] = []
+ended_from cut prefix (b ∷ bs) = if b == line_feed then cut prefix ∷ ended_from cut [] bs else ended_from cut (prefix ++ b ∷ []) bs
+
+-- the lines of a text that an LF ends, as they stand
+abbrev pub ended : List ℕ → List (List ℕ)
+ended bytes = ended_from (λ line. line) [] bytes
+
+-- the lines of a text that an LF ends, without one CR at the end of each
+abbrev pub ended_lines : List ℕ → List (List ℕ)
+ended_lines bytes = ended_from no_cr [] bytes

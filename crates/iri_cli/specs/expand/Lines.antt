@@ -1,6 +1,7 @@
 -- The command `expand`: what a line says, and the values of variables after lines (RFC 6570 section 2.3).
 use Rattle.std.specs.Prelude.{ℕ, ◌==◌, List, [], ◌∷◌, ◌++◌, Option, None, Some, if◌then◌else◌}
 use Rattle.std.specs.Str.{bytes_eq, is_utf8}
+use Rattle.iri_grammar.specs.Blanks.{space}
 use Rattle.iri_grammar.specs.Cut.{before, after}
 use Rattle.iri_template.specs.Names.{is_varname}
 use Rattle.iri_template.specs.ShownValues.{ShownValue, undefined, string, list, pairs}
@@ -20,9 +21,6 @@ pub data ExpandLine : Type 0 where
   bad : ExpandLine
 
 -- ---- Fields are parted by one space; the last field is the rest of the line, and may be empty or hold spaces.
-abbrev pub space : ℕ
-space = 32
-
 abbrev pub if_name : List ℕ → Option (List ℕ) → Option (List ℕ × List ℕ)
 if_name name None = None
 if_name name (Some rest) = if is_varname name then Some (name, rest) else None

@@ -8,7 +8,7 @@ use Rattle.iri_grammar.specs.Cut.{before, lacks}
 use Rattle.iri_grammar.specs.WholeFault.{reference_fault}
 use Rattle.iri_link.specs.Characters.{less_than_sign, greater_than_sign}
 use Rattle.iri_link.specs.Fault.{field_fault}
-use Rattle.iri_link.specs.Token.{is_blank}
+use Rattle.iri_grammar.specs.Blanks.{is_blank}
 
 -- after a `<`: a `>` follows, and what stands before it is a `URI-Reference`
 abbrev pub has_target : Tests → List ℕ → Bool

@@ -2,7 +2,8 @@
 -- The first line is the base. What a command writes for each further line may depend on the lines between.
 use Rattle.std.specs.Prelude.{◌≡◌, ℕ, ◌+◌, ◌==◌, nat_le, codes, Bool, List, [], ◌∷◌, ◌++◌, take, Option, None, Some, if◌then◌else◌}
 use Rattle.std.specs.List.{concat, list_all}
-use Rattle.iri_text.specs.Lines.{no_cr, lines}
+use Rattle.iri_text.specs.Lines.{ended_lines}
+use Rattle.iri_text.specs.Lines.{lines}
 use Rattle.iri_text.specs.LineEnds.{line_feed}
 
 -- What a command says of the lines of its input.
@@ -40,15 +41,6 @@ base_line words = codes "base " ++ (words ++ line_feed ∷ [])
 abbrev pub unless_refused : Option (List ℕ) → Ending → Ending
 unless_refused None e = e
 unless_refused (Some words) e = record { status = 3; output = base_line words }
-
--- the lines that an LF ends in these bytes, where the first of them begins with the bytes of `prefix`
-abbrev pub ended_from : List ℕ → List ℕ → List (List ℕ)
-ended_from prefix [] = []
-ended_from prefix (b ∷ bs) = if b == line_feed then no_cr prefix ∷ ended_from [] bs else ended_from (prefix ++ b ∷ []) bs
-
--- the lines that an LF ends in these bytes
-abbrev pub ended_lines : List ℕ → List (List ℕ)
-ended_lines bytes = ended_from [] bytes
 
 module _ (rules : Rules) where
   -- the first limit that is passed in these bytes, where `place` bytes stand before them, the last `len` of these on the line that goes on

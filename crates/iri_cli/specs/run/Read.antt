@@ -3,7 +3,8 @@ use Rattle.std.specs.Prelude.{◌≡◌, ◌⊎◌, ◌≤◌, ◌+◌, ℕ, tru
 use Rattle.iri_text.specs.Line.{LineState}
 use Rattle.iri_text.specs.Lines.{lines}
 use Rattle.iri_text.specs.Source.{Consumes, IsAtEnd}
-use Rattle.iri_cli.specs.run.Ending.{Rules, passed_from, first_passed, ended_lines}
+use Rattle.iri_text.specs.Lines.{ended_lines}
+use Rattle.iri_cli.specs.run.Ending.{Rules, passed_from, first_passed}
 
 module _ (rules : Rules) where
   -- These bytes are whole lines with their LFs, within the limits, and a line begins after them.

@@ -4,7 +4,8 @@ use Rattle.iri_text.specs.Count.{Rose}
 use Rattle.iri_text.specs.Lines.{lines}
 use Rattle.iri_text.specs.Source.{Consumes, IsAtEnd}
 use Rattle.iri_text.specs.Sink.{Appends, AppendsPrefix, HasRoom, KeepsRoom, SinkState, sink_state}
-use Rattle.iri_cli.specs.run.Ending.{Rules, ending, first_passed, ended_lines, IsBaseTaken, answered}
+use Rattle.iri_text.specs.Lines.{ended_lines}
+use Rattle.iri_cli.specs.run.Ending.{Rules, ending, first_passed, IsBaseTaken, answered}
 use Rattle.iri_cli.specs.declared.run.end.End.{End}
 use Rattle.iri_cli.specs.declared.run.end.End.TheVariants.{Done, SomeBad, BadBase, SourceFailed, SinkFailed, Memory, LineTooLong, InputTooLong}
 

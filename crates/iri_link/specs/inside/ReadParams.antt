@@ -5,7 +5,8 @@ use Rattle.iri_grammar.specs.Classes.{Tests}
 use Rattle.iri_link.specs.Fault.{fault_from}
 use Rattle.iri_link.specs.Field.{LinkParam, IsValue, IsParam, IsParams}
 use Rattle.iri_link.specs.Phases.{after_param, after_semicolon, in_name, after_name, after_equals}
-use Rattle.iri_link.specs.Token.{is_blank, is_blanks}
+use Rattle.iri_grammar.specs.Blanks.{is_blank}
+use Rattle.iri_link.specs.Token.{is_blanks}
 use Rattle.iri_grammar.specs.inside.Runs.{first_passes}
 
 -- nothing, or a `,`, is left

@@ -1,6 +1,6 @@
 use Rattle.std.proofs.Common.{rules}
 use Rattle.iri_grammar.specs.Pieces.{pieces}
-use Rattle.iri_run_calls.specs.Told.{space}
+use Rattle.iri_grammar.specs.Blanks.{space}
 use Rattle.iri_run_calls.proofs.RunLemmas.{none_told}
 use Rattle.iri_run_calls.proofs.irikit_run.Goals as goal
 

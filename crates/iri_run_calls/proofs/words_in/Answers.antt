@@ -7,7 +7,7 @@ use Rattle.iri_grammar.specs.OptionalSlices.{now_of}
 use Rattle.iri_grammar.specs.Pieces.{pieces}
 use Rattle.iri_grammar.specs.inside.PiecesLaws.{more_pieces}
 use Rattle.iri_grammar.proofs.PiecesLaws.{pieces_cut, after_shorter}
-use Rattle.iri_run_calls.specs.Told.{space}
+use Rattle.iri_grammar.specs.Blanks.{space}
 use Rattle.iri_run_calls.proofs.words_in.Goals as goal
 
 pushed : (ws all : List (String Global)) (w : String Global) (rest whole : List ℕ) (o : Option (List ℕ)) → all ≡ ws ++ w ∷ []

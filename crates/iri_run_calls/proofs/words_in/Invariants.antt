@@ -2,7 +2,7 @@ use Rattle.std.proofs.Common.{◌≡◌, ◌++◌, length, map, string_bytes}
 use denote.Text.{Utf8}
 use denote.Shadow.{shadow}
 use Rattle.iri_grammar.specs.Pieces.{pieces}
-use Rattle.iri_run_calls.specs.Told.{space}
+use Rattle.iri_grammar.specs.Blanks.{space}
 use Rattle.iri_run_calls.proofs.words_in.Given as goal
 
 abbrev pub invariant-words : goal.invariant-words

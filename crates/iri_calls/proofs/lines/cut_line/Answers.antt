@@ -1,7 +1,8 @@
 use Rattle.std.proofs.Common.{None, Some, arith, ◌∙◌, ◌≡◌, ◌+◌, ◌-◌, ◌∷◌, ap, length, take, drop, sym}
 use Rattle.std.proofs.lemmas.Grind.{common_steps}
-use Rattle.iri_calls.specs.Lines.{ended}
-use Rattle.iri_calls.proofs.LineLemmas.{first-lf, ended-at, ended-none}
+use Rattle.iri_text.specs.Lines.{ended}
+use Rattle.iri_text.proofs.LinesLemmas.{ended-none}
+use Rattle.iri_calls.proofs.LineLemmas.{first-lf, ended-at}
 use Rattle.iri_calls.proofs.lines.cut_line.Goals as goal
 
 pub returns-in-Some : goal.returns-in-Some
@@ -16,4 +17,4 @@ returns-in-Some c =
     )
 
 pub returns-in-None : goal.returns-in-None
-returns-in-None c = ended-none c.args.text.now (first-lf c.args.text.now None c.in-None.ensures)
+returns-in-None c = ended-none (λ line. line) c.args.text.now (first-lf c.args.text.now None c.in-None.ensures)

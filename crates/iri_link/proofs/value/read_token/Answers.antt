@@ -4,7 +4,8 @@ use Rattle.std.specs.List.{list_all}
 use Rattle.std.proofs.lemmas.Bool.{eqb-true}
 use Rattle.iri_grammar.specs.Classes.{Tests}
 use Rattle.std.proofs.lemmas.Bool.{and_parts as both}
-use Rattle.iri_link.specs.Token.{is_blank, is_token_char}
+use Rattle.iri_grammar.specs.Blanks.{is_blank}
+use Rattle.iri_link.specs.Token.{is_token_char}
 use Rattle.iri_link.specs.Field.{token}
 use Rattle.iri_link.specs.Phases.{after_equals}
 use Rattle.iri_link.specs.Fault.{fault_from}

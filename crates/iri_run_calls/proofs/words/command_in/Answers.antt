@@ -5,7 +5,7 @@ use Rattle.iri_cli.specs.declared.run.words.Command.{Command}
 use Rattle.iri_grammar.specs.Cut.{before, after}
 use Rattle.iri_grammar.specs.OptionalSlices.{now_of}
 use Rattle.iri_grammar.specs.inside.PiecesLaws.{more_pieces}
-use Rattle.iri_run_calls.specs.Told.{space}
+use Rattle.iri_grammar.specs.Blanks.{space}
 use Rattle.iri_run_calls.proofs.TextLemmas.{four_words, no_grammar, words_cut}
 use Rattle.iri_run_calls.proofs.words.command_in.Goals as goal
 
