@@ -1,7 +1,8 @@
 -- A prepared base is an absolute URI again, is no longer than the base, and has the same canonical texts.
 use Rattle.std.proofs.Common.{◌≡◌, ℕ, ◌≤◌, true, false, cond, ◌&&◌, List, [], ◌∷◌, ◌++◌, Option, Some, None, length}
 use Rattle.std.proofs.Common.{refl, ap, sym, ◌∙◌, arith, append_assoc, append-nil}
-use Rattle.std.specs.Prelude.{is_some, IsNone, IsSome}
+use Rattle.std.specs.Prelude.{is_some, IsSome}
+use Rattle.iri_grammar.proofs.FaultLaws.{none-is}
 use Rattle.iri_grammar.specs.Classes.{Tests, IsSpec}
 use Rattle.iri_grammar.specs.Parts.{Parts, Fits, Splits, IsAbsolute, path_rules, recompose, is_empty, starts_with_slash, scheme_text}
 use Rattle.iri_grammar.specs.Parts.{authority_text}
@@ -209,14 +210,10 @@ pub prepared_text : (s : Tests) (base : List ℕ) → IsSpec s → IsAbsolute s 
 unfolding prepared recompose normal_form form
 prepared_text s base k b =
     let t = split_of base in
-    let none : t.fragment ≡ None = rw (split_is s base b.0 k b.1) (no_fragment b.0.fragment b.3) in
+    let none : t.fragment ≡ None = rw (split_is s base b.0 k b.1) (none-is b.0.fragment b.3) in
     let scheme = scheme_text (normal_form s t).scheme in
     let authority = authority_text (normal_form s t).authority in
     let path = prepared_path (is_some t.authority) t.path in
     append_assoc scheme authority (path ++ delimited 63 t.query)
     ∙ ap (λ q. scheme ++ (authority ++ (path ++ q)))
     (sym (ap (λ f. delimited 63 t.query ++ delimited 35 f) none ∙ append-nil (delimited 63 t.query)))
-  where
-    no_fragment : (o : Option (List ℕ)) → IsNone o → o ≡ None
-    no_fragment None i = refl
-    no_fragment (Some x) i = cc

@@ -11,14 +11,13 @@ use Rattle.std.proofs.lemmas.Str.{IsUtf8-nil}
 use Rattle.std.proofs.lemmas.Str.Ascii.{lowercase-lowercase, lowercase_is}
 use Rattle.iri_grammar.proofs.AuthorityTexts.{delimited-utf8}
 use Rattle.std.proofs.lemmas.List.Elements.{All-append, All-nil, All-cons}
-use Rattle.iri_grammar.proofs.Delimiters.{text_after_delimiter}
+use Rattle.iri_grammar.proofs.Delimiters.{text_after_delimiter, text_before_delimiter}
 use Rattle.iri_grammar.proofs.Units.{text_after_ascii}
 use Rattle.iri_grammar.specs.Blanks.{is_blank}
 use Rattle.iri_link.specs.Token.{is_pair_char, is_plain_char, is_blanks, is_token_char, is_token, IsQuoted, done, plain, pair}
 use Rattle.iri_link.specs.Field.{LinkParam, LinkValue, IsValue, token, quoted, IsParam, bare, valued, IsParams, none, empty, param}
 use Rattle.iri_link.specs.Field.{IsLink, link, IsElement, empty as no_element, link as element, IsField, last, more}
 use Rattle.iri_link.proofs.RunLemmas.{blank-low, token-low}
-use Rattle.iri_normal.proofs.TextLaws.{utf8-prefix}
 use Rattle.iri_link.proofs.Utf8Lemmas.{value-utf8}
 
 -- a value of characters that a quoted string can have
@@ -110,7 +109,7 @@ value-kept : (t v z : List ℕ) → IsValue t v → IsUtf8 (t ++ z) → IsKeptTe
 value-kept t v z (token w h) u = (record { chars = token-pairs w (token_chars w h); utf8 = token-utf8 w h }, token_after w z h u)
 value-kept t v z (quoted w x q) u =
     let all : IsUtf8 (w ++ 34 ∷ z) = subst IsUtf8 (append_assoc w (34 ∷ []) z) (text_after_ascii 34 ((w ++ 34 ∷ []) ++ z) u (omega arith)) in
-    (record { chars = quoted-pairs w x q; utf8 = value-utf8 w x (utf8-prefix 34 w z (omega arith) all) q }, text_after_delimiter 34 w z (omega arith) all)
+    (record { chars = quoted-pairs w x q; utf8 = value-utf8 w x (text_before_delimiter 34 w z (omega arith) all) q }, text_after_delimiter 34 w z (omega arith) all)
 
 -- ---- parameters
 param-kept : (p z : List ℕ) (q : LinkParam) → IsParam p q → IsUtf8 (p ++ z) → IsKeptParam q × IsUtf8 z

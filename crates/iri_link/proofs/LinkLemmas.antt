@@ -12,6 +12,7 @@ use Rattle.std.proofs.lemmas.List.Elements.{All-append, All-nil, All-cons}
 use Rattle.iri_grammar.specs.Classes.{Tests}
 use Rattle.iri_grammar.specs.Cut.{before, after, delimited}
 use Rattle.iri_grammar.proofs.CutLaws.{joined}
+use Rattle.iri_grammar.proofs.Scans.{before-lacks}
 use Rattle.iri_grammar.specs.WholeFault.{reference_fault}
 use Rattle.iri_grammar.specs.declared.error.Error.{Error}
 use Rattle.iri_normal.specs.NormalForm.{canonical}
@@ -30,7 +31,7 @@ use Rattle.iri_link.specs.Resolved.{resolved}
 use Rattle.iri_link.specs.inside.ReadLinks.{CutsTarget, ReadsLink, SkipsEmpty, AddsLink, ReadsField, ReadsUpTo, fault_after, KeepsAfter}
 use Rattle.iri_link.specs.declared.error.LinkKind.TheVariants.{NoTarget, OpenTarget, BadTarget}
 use Rattle.iri_link.proofs.PhaseLemmas.{by_blank, start-blanks}
-use Rattle.iri_link.proofs.TargetLemmas.{before-lacks, some-lacks, none-lacks, target-goes, open_goes}
+use Rattle.iri_link.proofs.TargetLemmas.{some-lacks, none-lacks, target-goes, open_goes}
 
 -- ---- a target
 module _ (s : Tests) (w t target_text : List ℕ) (begun : w ≡ 60 ∷ t) (is : target_text ≡ before 62 t) where

@@ -1,16 +1,11 @@
 -- How a reading of a field value goes over a target.
 use Rattle.std.proofs.Common.{◌≡◌, ℕ, true, false, cond, not, ◌&&◌, List, [], ◌∷◌, ◌++◌, Some, None, refl, sym, ap, ◌∙◌}
-use Rattle.std.specs.Prelude.{◌==◌}
 use Rattle.iri_grammar.specs.Classes.{Tests}
 use Rattle.iri_grammar.specs.Cut.{before, after, lacks}
 use Rattle.iri_grammar.specs.WholeFault.{reference_fault}
 use Rattle.iri_grammar.proofs.CutLaws.{by_test, before-delimited, after-delimited}
 use Rattle.iri_link.specs.Fault.{fault_from, target_fault, earlier}
 use Rattle.iri_link.specs.Phases.{before_link, in_target, after_param}
-
-pub before-lacks : (c : ℕ) (t : List ℕ) → lacks c (before c t) ≡ true
-before-lacks c [] = refl
-before-lacks c (x ∷ xs) = by_test x c (λ b. (x == c) ≡ b → lacks c (cond b [] (x ∷ before c xs)) ≡ true) (λ _ _. refl) (λ _ e. rw e (before-lacks c xs)) refl
 
 pub some-lacks : (c : ℕ) (t b : List ℕ) → Some b ≡ after c t → lacks c t ≡ false
 some-lacks c [] b h = cc

@@ -20,11 +20,12 @@ use Rattle.iri_percent.specs.NormalLaws.{decoded}
 use Rattle.iri_percent.proofs.Changes.{upper_digit}
 use Rattle.iri_percent.proofs.CharLaws.{normal-by_bytes}
 use Rattle.iri_percent.proofs.Characters.{unreserved_low}
-use Rattle.iri_percent.proofs.CharUnits.{units_stray}
+use Rattle.iri_percent.proofs.CharUnits.{no_two, units_stray}
 use Rattle.iri_percent.proofs.MapForms.{ascii-decoded, uri-decoded}
 use Rattle.iri_percent.proofs.MapTexts.{mapped-low, mapped-high, mapped-triplet, capital_is_hex, first_digit, second_digit}
 use Rattle.iri_percent.proofs.MapTexts.{octet_of}
 use Rattle.iri_percent.proofs.NormalLaws.{normal_nil, normal_plain, normal_decoded, normal_kept}
+use Rattle.iri_percent.proofs.Spelled.{hex_below}
 use Rattle.iri_percent.proofs.UnitLaws.{Spells, none, more, octets_triplet}
 use Rattle.iri_robots.specs.Compared.{compared, query_text}
 use Rattle.iri_robots.proofs.FormLaws.{compared_delimiter}
@@ -102,11 +103,7 @@ compared_past x xs h l =
     ∙ ap (λ z. 37 ∷ capital_hex (x / 16) ∷ z ∷ normal uri_tests as_it_is (mapped xs)) (capital_stays (x % 16) s)
 
 -- ---- a stray `%`
--- what follows begins with no digit
-first_other : (a : ℕ) (t : List ℕ) → is_ascii_hexdigit a ≡ false → two_digits (a ∷ t) ≡ false
-first_other a [] h = refl
-first_other a (b ∷ t) h = ap (λ v. v && is_ascii_hexdigit b) h
-
+-- what follows begins with no two digits
 second_other : (a b : ℕ) (t : List ℕ) → is_ascii_hexdigit b ≡ false → two_digits (a ∷ b ∷ t) ≡ false
 second_other a b t h = ap (λ v. is_ascii_hexdigit a && v) h ∙ and-false (is_ascii_hexdigit a)
 
@@ -124,7 +121,7 @@ no_digits [] h = refl
 no_digits (a ∷ xs) h =
     elim (nat_lt a 128) as (λ v. nat_lt a 128 ≡ v → two_digits (mapped (a ∷ xs)) ≡ false) [
       | true ↦ λ e. ap two_digits (mapped-low a xs e) ∙ no_digits_low a xs h
-      | false ↦ λ e. ap two_digits (mapped-high a xs e) ∙ first_other 37 (capital_hex (a / 16) ∷ capital_hex (a % 16) ∷ mapped xs) refl
+      | false ↦ λ e. ap two_digits (mapped-high a xs e) ∙ no_two 37 (capital_hex (a / 16) ∷ capital_hex (a % 16) ∷ mapped xs) refl
     ] refl
 
 compared_stray : (xs : List ℕ) → two_digits xs ≡ false → compared (37 ∷ xs) ≡ 37 ∷ compared xs
@@ -180,10 +177,7 @@ prefix_past (x ∷ xs) a b s h l e d = record {
 }
   where
     small : (a n : ℕ) → a ≡ capital_hex n → n < 16 → a < 128
-    small a n e h = subst (λ z. z < 128) (sym e) (below n h)
-      where
-        below : (n : ℕ) → n < 16 → capital_hex n < 128
-        below n h = grind (arith, nat_tests)
+    small a n e h = subst (λ z. z < 128) (sym e) (hex_below n h)
 
 -- no triplet begins
 pub prefix_stray : (t : List ℕ) → 0 < length t → get_or t 0 0 ≡ 37 → two_digits (drop 1 t) ≡ false → IsPrefix t (Char 37) 1
@@ -237,7 +231,7 @@ stray_short (x ∷ a ∷ b ∷ xs) l = absurd (omega arith)
 pub stray_first : (t : List ℕ) → is_ascii_hexdigit (get_or t 1 0) ≡ false → two_digits (drop 1 t) ≡ false
 stray_first [] h = refl
 stray_first (x ∷ []) h = refl
-stray_first (x ∷ a ∷ xs) h = first_other a xs h
+stray_first (x ∷ a ∷ xs) h = no_two a xs h
 
 pub stray_second : (t : List ℕ) → is_ascii_hexdigit (get_or t 2 0) ≡ false → two_digits (drop 1 t) ≡ false
 stray_second [] h = refl

@@ -14,6 +14,7 @@ use Rattle.iri_grammar.specs.Classes.{Tests, any_char, IsSpec, is_ascii_any, is_
 use Rattle.iri_grammar.specs.Classes.{is_gen_delim}
 use Rattle.iri_percent.specs.Units.{TextUnit, Plain, Char, Stray, is_triplet, octet, octets, well_formed, first_char, triplet_unit}
 use Rattle.iri_percent.specs.Units.{byte_unit, first_unit, unit_text, units_from, units, Lone}
+use Rattle.iri_percent.proofs.UnitTexts.{some_taken}
 use Rattle.iri_percent.proofs.UnitLaws.{first_char_is, char_first, octets_other, byte_other, units_from_drop}
 use Rattle.iri_percent.specs.DelimiterLaws.{IsOutsideTriplets}
 use Rattle.iri_percent.proofs.DelimiterLaws.{char_within, unit_within, units_delimiter}
@@ -126,10 +127,6 @@ first_settled x (a ∷ b ∷ xs) r h =
     ∙ unit_more a b (x ∷ a ∷ b ∷ xs) r (first_char (octets (x ∷ a ∷ b ∷ xs))) refl)
 
 -- a unit has bytes
-some_taken : (n x : ℕ) (xs : List ℕ) → 0 < n → 0 < length (take n (x ∷ xs))
-some_taken zero x xs h = absurd (omega arith)
-some_taken (suc n) x xs h = omega arith
-
 some_byte : (x : ℕ) → 0 < length (unit_text (byte_unit x))
 some_byte x = elim (x == 37) as (λ v. 0 < length (unit_text (cond v Stray (Plain x)))) [ true ↦ omega arith | false ↦ omega arith ]
 
