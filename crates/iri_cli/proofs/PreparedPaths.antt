@@ -21,11 +21,12 @@ use Rattle.iri_normal.proofs.PathLaws.{dots-nothing, dots-slash, guarded, plain-
 use Rattle.iri_normal.proofs.PieceLaws.{nothing-is_no_dot}
 use Rattle.iri_normal.proofs.SchemeForm.{begun}
 use Rattle.iri_normal.proofs.SegmentLemmas.{alone, ended}
-use Rattle.iri_normal.proofs.SlashLemmas.{at_last_slash, ends}
+use Rattle.iri_normal.proofs.SlashLemmas.{at_last_slash, ends, none_prefix}
 use Rattle.iri_normal.proofs.StableLaws.{guarded-stable, no_dots-same}
 use Rattle.iri_normal.proofs.TargetLaws.{cut_over}
 use Rattle.iri_normal.proofs.WrittenLemmas.{written-dots, written-ends, written-two}
 use Rattle.iri_cli.specs.canon.Prepared.{prepared_path}
+use Rattle.iri_normal.proofs.StepLaws.{some_byte}
 
 -- ---- the directory: what stands before the last segment
 abbrev directory_of : Bool → List ℕ → List ℕ
@@ -60,13 +61,9 @@ has_slash : (x : ℕ) (xs l : List ℕ) → ends_at_slash (x ∷ xs) ≡ true �
 has_slash x [] l h = ap (λ b. not b && lacks 47 l) h
 has_slash x (y ∷ ys) l h = ap (λ b. not (x == 47) && b) (has_slash y ys l h) ∙ and-false (not (x == 47))
 
-none_cut : (l : List ℕ) → lacks 47 l ≡ true → to_last_slash l ≡ []
-none_cut [] k = refl
-none_cut (c ∷ cs) k = ap (λ b. cond b [] (c ∷ to_last_slash cs)) k
-
 cut_again : (f l : List ℕ) → ends_at_slash f ≡ true → lacks 47 l ≡ true → to_last_slash (f ++ l) ≡ f
-cut_again [] l h k = none_cut l k
-cut_again (x ∷ []) l h k = ap (λ b. cond b [] (x ∷ to_last_slash l)) (has_slash x [] l h) ∙ ap (λ z. x ∷ z) (none_cut l k)
+cut_again [] l h k = none_prefix l k
+cut_again (x ∷ []) l h k = ap (λ b. cond b [] (x ∷ to_last_slash l)) (has_slash x [] l h) ∙ ap (λ z. x ∷ z) (none_prefix l k)
 cut_again (x ∷ y ∷ ys) l h k = ap (λ b. cond b [] (x ∷ to_last_slash (y ∷ (ys ++ l)))) (has_slash x (y ∷ ys) l h)
     ∙ ap (λ z. x ∷ z) (cut_again (y ∷ ys) l h k)
 
@@ -166,10 +163,6 @@ closing-ended : (ss : List (List ℕ)) → closing (ended_by ss) ≡ 47 ∷ []
 closing-ended [] = refl
 closing-ended (t ∷ ts) = refl
 
-dot_some : (s : List ℕ) → is_dot_segment s ≡ true → 1 ≤ length s
-dot_some [] h = let n = nothing-is_no_dot in cc
-dot_some (x ∷ xs) h = omega arith
-
 -- two bytes fewer, where a dot segment stands among them
 fewer : (b : List ℕ) (ss : List (List ℕ)) → length (written_segments b (ended_by ss)) + cond (any_dot_segment (ended_by ss)) 2 0
     ≤ length b + length (joined 47 (ended_by ss))
@@ -180,7 +173,7 @@ fewer b (s ∷ ss) =
     elim (is_dot_segment s) as (λ v. is_dot_segment s ≡ v → length (cond v (written_segments (left (is_two_dots s) b) (ended_by ss))
     (written_segments (b ++ text) (ended_by ss))) + cond (v || any_dot_segment (ended_by ss)) 2 0
     ≤ length b + length (joined 47 (s ∷ ended_by ss))) [
-      | true ↦ λ e. omega (arith, fewer (left (is_two_dots s) b) ss, length-left (is_two_dots s) b, more, dot_some s e)
+      | true ↦ λ e. omega (arith, fewer (left (is_two_dots s) b) ss, length-left (is_two_dots s) b, more, some_byte s e)
       | false ↦ λ _. omega (
         arith,
         fewer (b ++ text) ss,

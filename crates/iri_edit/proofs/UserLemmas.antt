@@ -13,11 +13,11 @@ use Rattle.iri_grammar.proofs.CutLaws.{before-delimited, both, by_test, joined}
 use Rattle.iri_grammar.specs.Over.{over_from, text_over}
 use Rattle.iri_grammar.proofs.UnitRuns.{text_over-append}
 use Rattle.iri_normal.proofs.TextLaws.{is_utf8-of, text_over-sides}
-use Rattle.iri_normal.proofs.SlashLemmas.{before-lacks}
 use Rattle.iri_grammar.specs.declared.error.ErrorKind.{ErrorKind}
 use Rattle.iri_edit.specs.Password.{masked, user_with, user_alone, where_userinfo, with_userinfo, without_password}
 use Rattle.iri_edit.proofs.KindLemmas.{IsWhole, edited-valid}
 use Rattle.iri_grammar.proofs.FaultLaws.{lacks-joined}
+use Rattle.iri_grammar.proofs.Scans.{before-lacks}
 
 colon_over : (s : Tests) → is_userinfo s (58 ∷ []) ≡ true
 unfolding over_from chars userinfo_char is_ascii_userinfo is_ascii_reg_name is_ascii_unreserved is_sub_delim

@@ -70,7 +70,7 @@ text_over-append p xs ys h k =
     ∙ rw e (over-past p 0 (chars xs) (chars ys) (sym (of_text p xs u) ∙ h) ∙ (sym (of_text p ys w) ∙ k))
 
 -- ---- none, and some after others
-nothing_over : (p : ℕ → Bool) → text_over p [] ≡ true
+pub nothing_over : (p : ℕ → Bool) → text_over p [] ≡ true
 unfolding over_from chars is_utf8
 nothing_over p = refl
 

@@ -14,7 +14,7 @@ use Rattle.iri_grammar.proofs.CutLaws.{both}
 use Rattle.iri_grammar.specs.Over.{text_over}
 use Rattle.iri_grammar.specs.Parts.{is_empty}
 use Rattle.iri_grammar.specs.Pieces.{pieces}
-use Rattle.iri_grammar.proofs.UnitRuns.{text_over-append}
+use Rattle.iri_grammar.proofs.UnitRuns.{text_over-append, nothing_over}
 use Rattle.iri_normal.specs.DotRemoval.{is_two_dots, without_last}
 use Rattle.iri_normal.specs.Dots.{any_dot_segment, has_dot_segment, is_dot_segment}
 use Rattle.iri_normal.specs.inside.Kept.{kept, taken, taken_by}
@@ -26,7 +26,7 @@ use Rattle.iri_normal.proofs.PathLaws.{pieces-over}
 use Rattle.iri_normal.proofs.PieceLaws.{all_lack, nothing-is_no_dot, pieces-lack, pieces-slash, pieces-some, pieces-whole}
 use Rattle.iri_normal.proofs.SegmentLemmas.{alone, ended}
 use Rattle.iri_normal.proofs.TargetLaws.{slash_in_path}
-use Rattle.iri_normal.proofs.TextLaws.{nothing_over, slash_over}
+use Rattle.iri_normal.proofs.TextLaws.{slash_over}
 use Rattle.iri_normal.proofs.WrittenLemmas.{left-output, popped-output, two_ends, written-ends, written-plain}
 
 -- ---- segments that are taken away

@@ -34,7 +34,8 @@ use Rattle.iri_normal.proofs.KeptLemmas.{bottom-times, kept-ends, kept-two, path
 use Rattle.iri_normal.proofs.NormalLemmas.{pct_nil}
 use Rattle.iri_normal.proofs.PieceLaws.{nothing-is_no_dot, pieces-some}
 use Rattle.iri_normal.proofs.TargetLaws.{parts_over}
-use Rattle.iri_normal.proofs.TextLaws.{nothing_over, text_over-cut}
+use Rattle.iri_grammar.proofs.UnitRuns.{nothing_over}
+use Rattle.iri_normal.proofs.TextLaws.{text_over-cut}
 use Rattle.iri_normal.proofs.WriterLemmas.{form-append, form-nil}
 use Rattle.iri_normal.proofs.WrittenLemmas.{left-nothing, popped-ends, written-dot, written-dots, written-nothing, written-two}
 

@@ -19,8 +19,8 @@ use Rattle.iri_normal.specs.Dots.{is_dot_segment}
 use Rattle.iri_normal.specs.DotRemoval.{is_two_dots, without_last, closed, remove_after, remove_dots, path_text, dots}
 use Rattle.iri_normal.specs.Guard.{guard}
 use Rattle.iri_normal.specs.NormalForm.{normal_path}
-use Rattle.iri_grammar.proofs.UnitRuns.{text_over-append}
-use Rattle.iri_normal.proofs.TextLaws.{nothing_over, slash_over, point_over, text_over-cut}
+use Rattle.iri_grammar.proofs.UnitRuns.{text_over-append, nothing_over}
+use Rattle.iri_normal.proofs.TextLaws.{slash_over, point_over, text_over-cut}
 use Rattle.iri_normal.proofs.TargetLaws.{slash_in_path}
 use Rattle.iri_normal.specs.LowerCase.{where_there}
 use Rattle.iri_normal.proofs.PieceLaws.{nothing-is_no_dot, pieces-some}

@@ -88,15 +88,6 @@ ends (x ∷ xs) =
           | false ↦ rw (has_prefix xs e) r
         ]
 
--- ---- what stands before a byte
-pub before-lacks : (c : ℕ) (t : List ℕ) → lacks c (before c t) ≡ true
-before-lacks c [] = refl
-before-lacks c (x ∷ xs) =
-    elim (x == c) as (λ b. (x == c) ≡ b → lacks c (cond b [] (x ∷ before c xs)) ≡ true) [
-      | true ↦ λ _. refl
-      | false ↦ λ e. rw e (before-lacks c xs)
-    ] refl
-
 -- ---- how a path begins
 pub no_slashes : (p : List ℕ) → starts_with_slash p ≡ false → starts_with_slashes p ≡ false
 no_slashes [] h = refl

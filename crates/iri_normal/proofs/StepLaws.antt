@@ -104,7 +104,7 @@ from-length (x ∷ xs) =
       | false ↦ let r = from-length xs in omega arith
     ]
 
-some_byte : (d : List ℕ) → is_dot_segment d ≡ true → 1 ≤ length d
+pub some_byte : (d : List ℕ) → is_dot_segment d ≡ true → 1 ≤ length d
 some_byte [] h = let n : false ≡ true = rw nothing-is_no_dot at h in cc
 some_byte (x ∷ xs) h = omega arith
 

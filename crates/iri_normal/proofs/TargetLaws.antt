@@ -12,10 +12,10 @@ use Rattle.iri_grammar.proofs.CutLaws.{both}
 use Rattle.iri_grammar.specs.Parts.{Parts, Fits, path_rules, is_empty, starts_with_slash, starts_with_slashes}
 use Rattle.iri_normal.specs.Target.{target, target_under, target_path, merged, merge_prefix, or_base}
 use Rattle.iri_normal.specs.Target.{to_last_slash, last_segment, ends_at_slash}
-use Rattle.iri_grammar.proofs.UnitRuns.{text_over-append}
+use Rattle.iri_grammar.proofs.UnitRuns.{text_over-append, nothing_over}
 use Rattle.iri_normal.proofs.EndedLemmas.{end_slash}
 use Rattle.iri_normal.proofs.SlashLemmas.{at_last_slash, ends, no_slashes}
-use Rattle.iri_normal.proofs.TextLaws.{text_over-cut, nothing_over, slash_over}
+use Rattle.iri_normal.proofs.TextLaws.{text_over-cut, slash_over}
 
 -- ---- a path cut at its last slash
 pub parts_over : (p : ℕ → Bool) (f l : List ℕ) → ends_at_slash f ≡ true → text_over p (f ++ l) ≡ true

@@ -12,7 +12,7 @@ use Rattle.std.proofs.Math.Utf8.{low_scalar}
 use Rattle.iri_grammar.specs.Over.{over_from, over, text_over}
 use Rattle.iri_grammar.proofs.CutLaws.{both}
 use Rattle.iri_grammar.proofs.AuthorityTexts.{one_byte-utf8, text_over-utf8}
-use Rattle.iri_grammar.proofs.Delimiters.{text_after_delimiter}
+use Rattle.iri_grammar.proofs.Delimiters.{text_after_delimiter, text_before_delimiter}
 
 -- on both sides of a byte that is no digit of a triplet
 over-sides : (p : ℕ → Bool) (c n : ℕ) (xs ys : List ℕ) → is_ascii_hexdigit c ≡ false → over_from p n (xs ++ c ∷ ys) ≡ true
@@ -33,14 +33,6 @@ over-sides p c (suc n) (x ∷ xs) ys d h = let m = both (is_ascii_hexdigit x) (o
 pub utf8-from : (c : ℕ) (xs ys : List ℕ) → c < 128 → IsUtf8 (xs ++ c ∷ ys) → IsUtf8 (c ∷ ys)
 utf8-from c xs ys a u = IsUtf8-append (c ∷ []) ys (one_byte-utf8 c a) (text_after_delimiter c xs ys a u)
 
-pub utf8-prefix : (c : ℕ) (xs ys : List ℕ) → c < 128 → IsUtf8 (xs ++ c ∷ ys) → IsUtf8 xs
-utf8-prefix c xs ys a u =
-    let bs = xs ++ c ∷ ys in
-    let l : length xs < length bs = omega (arith, length-append xs (c ∷ ys)) in
-    let d : drop (length xs) bs ≡ c ∷ ys = drop-append_seam xs (c ∷ ys) in
-    let edge = IsCharBoundary-from_drop bs (length xs) (omega arith) (subst (λ z. IsUtf8 z) (sym d) (utf8-from c xs ys a u)) in
-    subst (λ z. IsUtf8 z) (take-append_seam xs (c ∷ ys)) (IsUtf8-take bs (length xs) u edge)
-
 pub chars-ascii : (c : ℕ) (rest : List ℕ) → c < 128 → chars (c ∷ rest) ≡ c ∷ chars rest
 chars-ascii c rest l =
     let one : scalars (c ∷ []) ≡ true = rw (low_scalar c (omega arith)) refl in
@@ -58,10 +50,6 @@ pub record TextSides (p : ℕ → Bool) (xs ys : List ℕ) : Type 0 where
   pub slash : text_over p (47 ∷ []) ≡ true
   pub right : text_over p ys ≡ true
 
-pub nothing_over : (p : ℕ → Bool) → text_over p [] ≡ true
-unfolding over_from chars is_utf8
-nothing_over p = refl
-
 pub slash_over : (p : ℕ → Bool) → p 47 ≡ true → text_over p (47 ∷ []) ≡ true
 unfolding over_from chars
 slash_over p h = is_utf8-of p (47 ∷ []) (one_byte-utf8 47 (omega arith)) (rw h refl)
@@ -75,7 +63,7 @@ pub text_over-sides : (p : ℕ → Bool) (c : ℕ) (xs ys : List ℕ) → c < 12
     → (text_over p xs ≡ true) × (text_over p (c ∷ ys) ≡ true)
 text_over-sides p c xs ys l d h =
     let u = text_over-utf8 p (xs ++ c ∷ ys) h in
-    let prefix = utf8-prefix c xs ys l u in
+    let prefix = text_before_delimiter c xs ys l u in
     let e : chars (xs ++ c ∷ ys) ≡ chars xs ++ c ∷ chars ys =
     chars-append xs (c ∷ ys) prefix ∙ ap (λ z. chars xs ++ z) (chars-ascii c ys l) in
     let k = over-sides p c 0 (chars xs) (chars ys) d (ap (over p) (sym e) ∙ over-of p (xs ++ c ∷ ys) h) in (

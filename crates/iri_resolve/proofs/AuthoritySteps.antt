@@ -30,8 +30,7 @@ use Rattle.iri_resolve.specs.Steps.{with_small_letter_in_host}
 use Rattle.iri_percent.proofs.SeamLaws.{leads, normal-seam}
 use Rattle.iri_resolve.proofs.ByteLaws.{ByteChange, small_host_letter, IsAsGood, byte_change-over, capital_low}
 use Rattle.iri_resolve.proofs.ChangeKeeps.{TripletChange}
-use Rattle.iri_percent.proofs.ClassLaws.{in_reg_name}
-use Rattle.iri_percent.proofs.ClassLaws.{in_userinfo}
+use Rattle.iri_percent.proofs.ClassLaws.{in_reg_name, in_userinfo, upper_unreserved}
 
 -- ---- what changes of an authority keep
 pub record AuthorityChange (s : Tests) (a b : List ℕ) : Type 0 where
@@ -159,11 +158,8 @@ capital-good s x h = record {
   plain = grind (arith, nat_tests);
   still_plain = grind (arith, nat_tests);
   digit = λ d. grind (arith, nat_tests);
-  class = λ _. in_reg_name s (to_ascii_lowercase x) (ap (λ b. b || s.ucs (to_ascii_lowercase x)) (letter x h));
+  class = λ _. in_reg_name s (to_ascii_lowercase x) (ap (λ b. b || s.ucs (to_ascii_lowercase x)) (upper_unreserved x h));
 }
-  where
-    letter : (x : ℕ) → is_ascii_uppercase x ≡ true → is_ascii_unreserved (to_ascii_lowercase x) ≡ true
-    letter x h = grind (arith, nat_tests)
 
 lowered-changed : (a b : List ℕ) (x : ℕ) → lowered (a ++ to_ascii_lowercase x ∷ b) ≡ lowered (a ++ x ∷ b)
 lowered-changed [] b x = ap (λ y. y ∷ lowered b) (lower-case.twice x)

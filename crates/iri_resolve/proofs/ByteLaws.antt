@@ -11,8 +11,8 @@ use Rattle.iri_grammar.proofs.AuthorityTexts.{text_over-utf8, delimited-utf8, on
 use Rattle.iri_grammar.proofs.CutLaws.{both}
 use Rattle.iri_grammar.specs.Over.{over_from, over, text_over}
 use Rattle.iri_grammar.proofs.Units.{hex_is_ascii}
-use Rattle.iri_grammar.proofs.Delimiters.{text_after_delimiter}
-use Rattle.iri_normal.proofs.TextLaws.{utf8-prefix, is_utf8-of, over-of, chars-ascii}
+use Rattle.iri_grammar.proofs.Delimiters.{text_after_delimiter, text_before_delimiter}
+use Rattle.iri_normal.proofs.TextLaws.{is_utf8-of, over-of, chars-ascii}
 use Rattle.iri_resolve.specs.Changes.{is_in_triplet, is_small_digit, with_small_letter, with_small_host_letter, with_capital_digit}
 
 -- ---- one byte
@@ -111,7 +111,7 @@ pub text_over-changed : (p : ℕ → Bool) (x y : ℕ) (a b : List ℕ) → IsAs
     → text_over p (a ++ y ∷ b) ≡ true
 text_over-changed p x y a b g h =
     let u = text_over-utf8 p (a ++ x ∷ b) h in
-    let prefix = utf8-prefix x a b g.low u in
+    let prefix = text_before_delimiter x a b g.low u in
     let back = text_after_delimiter x a b g.low u in
     let old : chars (a ++ x ∷ b) ≡ chars a ++ x ∷ chars b = chars-append a (x ∷ b) prefix ∙ ap (λ z. chars a ++ z) (chars-ascii x b g.low) in
     let new : chars (a ++ y ∷ b) ≡ chars a ++ y ∷ chars b =

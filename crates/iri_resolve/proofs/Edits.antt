@@ -18,16 +18,15 @@ use Rattle.iri_resolve.specs.Changes.{is_in_triplet, is_small_digit, with_small_
 use Rattle.iri_resolve.specs.Changes.{with_character, with_decoded}
 use Rattle.iri_resolve.proofs.ByteLaws.{cut_at}
 use Rattle.iri_grammar.proofs.Units.{hex_is_ascii as digit_below}
-use Rattle.iri_normal.proofs.TextLaws.{utf8-prefix}
 use Rattle.iri_grammar.proofs.AuthorityTexts.{delimited-utf8}
-use Rattle.iri_grammar.proofs.Delimiters.{text_after_delimiter}
+use Rattle.iri_grammar.proofs.Delimiters.{text_after_delimiter, text_before_delimiter}
 
 -- an ASCII byte in the place of another
 pub put-utf8 : (i : ℕ) (t : List ℕ) (y : ℕ) → i < length t → slice_index t i < 128 → y < 128 → IsUtf8 t → IsUtf8 (slice_set t i y)
 put-utf8 i t y h l m u =
     let c = cut_at i t y h in
     let v = subst (λ z. IsUtf8 z) c.0 u in
-    subst (λ z. IsUtf8 z) (sym c.1) (IsUtf8-append (take i t) (y ∷ drop (suc i) t) (utf8-prefix (slice_index t i) (take i t) (drop (suc i) t) l v)
+    subst (λ z. IsUtf8 z) (sym c.1) (IsUtf8-append (take i t) (y ∷ drop (suc i) t) (text_before_delimiter (slice_index t i) (take i t) (drop (suc i) t) l v)
     (delimited-utf8 y (drop (suc i) t) m (text_after_delimiter (slice_index t i) (take i t) (drop (suc i) t) l v)))
 
 pub no_letter : (i : ℕ) (t : List ℕ) → is_ascii_uppercase (slice_index t i) ≡ false → with_small_letter i t ≡ None

@@ -17,7 +17,7 @@ use Rattle.iri_percent.specs.Units.{byte_unit, first_unit, unit_text, units_from
 use Rattle.iri_percent.proofs.UnitTexts.{some_taken}
 use Rattle.iri_percent.proofs.UnitLaws.{first_char_is, char_first, octets_other, byte_other, units_from_drop}
 use Rattle.iri_percent.specs.DelimiterLaws.{IsOutsideTriplets}
-use Rattle.iri_percent.proofs.DelimiterLaws.{char_within, unit_within, units_delimiter}
+use Rattle.iri_percent.proofs.DelimiterLaws.{char_within, unit_within, units_delimiter, triplet_more}
 use Rattle.iri_percent.proofs.Characters.{first_of_four}
 use Rattle.iri_text.specs.inside.Through.{after, texts}
 use Rattle.iri_template.specs.Expansion.{limited, kept_unit}
@@ -102,10 +102,6 @@ settled_char t r h =
         ] refl k
 
 -- ---- the unit at the start, whatever follows
-unit_more : (a b : ℕ) (t r : List ℕ) (o : Option ℕ) → first_char (octets t) ≡ o → triplet_unit a b (t ++ r) o ≡ triplet_unit a b t o
-unit_more a b t r None h = refl
-unit_more a b t r (Some c) h = ap (λ l. Char c l) (take-append-le (3 * len_utf8 c) t r (char_within t c h))
-
 pub no_char : first_char [] ≡ None
 unfolding first_char
 no_char = ap (well_formed []) chars-nil
@@ -124,7 +120,7 @@ first_settled x (a ∷ []) (b ∷ r) h =
 first_settled x (a ∷ b ∷ xs) r h =
     ap (λ u. cond (is_triplet x a b) u (byte_unit x))
     (ap (triplet_unit a b (x ∷ a ∷ b ∷ (xs ++ r))) (settled_char (x ∷ a ∷ b ∷ xs) r h)
-    ∙ unit_more a b (x ∷ a ∷ b ∷ xs) r (first_char (octets (x ∷ a ∷ b ∷ xs))) refl)
+    ∙ triplet_more a b (x ∷ a ∷ b ∷ xs) r (first_char (octets (x ∷ a ∷ b ∷ xs))) refl)
 
 -- a unit has bytes
 some_byte : (x : ℕ) → 0 < length (unit_text (byte_unit x))

@@ -10,8 +10,8 @@ use Rattle.iri_normal.specs.inside.Kept.{kept}
 use Rattle.iri_normal.specs.inside.PathForm.{in_form}
 use Rattle.iri_normal.specs.inside.Written.{popped_times}
 use Rattle.iri_normal.proofs.LongLemmas.{count-ends, first-path, form-three, more-ends, one-alone}
-use Rattle.iri_normal.proofs.SlashLemmas.{before-lacks}
 use Rattle.iri_normal.proofs.remove_dot_segments.show_from_first.Goals as goal
+use Rattle.iri_grammar.proofs.Scans.{before-lacks}
 
 pub show_part-requires : goal.show_part-requires
 show_part-requires g c = path-whole g.S.Spec.tests c.args.text.now g.met.S.Spec.lawful c.requires.paths.0

@@ -9,7 +9,7 @@ use Rattle.iri_normal.specs.Target.{ends_at_slash}
 use Rattle.iri_normal.proofs.EndedLemmas.{first_whole, rest-ends}
 use Rattle.iri_normal.proofs.LongLemmas.{first-path, gone-all, gone-dots}
 use Rattle.iri_normal.proofs.PieceLaws.{nothing-is_no_dot}
-use Rattle.iri_normal.proofs.TextLaws.{nothing_over}
+use Rattle.iri_grammar.proofs.UnitRuns.{nothing_over}
 use Rattle.iri_normal.proofs.remove_dot_segments.segments.without_first_dots.Goals as goal
 
 pub dots-smaller : goal.dots-smaller
