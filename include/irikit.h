@@ -11,8 +11,8 @@
  * later): on another processor the loader, or the library as it is loaded, says so, and the process ends with 127.
  *
  * What each call does: it reads what is passed, writes to `out` and to what its comment names, takes no memory, keeps
- * nothing, and returns. (irikit_run takes memory, and gives all of it back.) So calls may run in several threads at once,
- * each with its own `out` and `told`.
+ * nothing, and returns. (irikit_robots_rules, irikit_robots_allows and irikit_run take memory, and give all of it back.) So calls
+ * may run in several threads at once, each with its own `out` and `told`.
  *
  * Numbers: those of the enums below but statuses differ from each other, so that one in the place of another, as a mode for a
  * grammar, is answered as unknown. So is every other number.
@@ -21,8 +21,9 @@
  *
  *   IRIKIT_OK, IRIKIT_SHORT   where a text is written: its length in bytes; of a template's variables: how many there are.
  *                             Otherwise 0
- *   IRIKIT_BAD_..             the kind of the first fault from the left, one of irikit_fault; of IRIKIT_BAD_VARIABLE 0
- *   IRIKIT_NOT_NORMAL, IRIKIT_UNKNOWN, IRIKIT_NO_HOST   0
+ *   IRIKIT_BAD_..             the kind of the first fault from the left, one of irikit_fault; of IRIKIT_BAD_VARIABLE and
+ *                             IRIKIT_BAD_TOKEN 0
+ *   IRIKIT_NOT_NORMAL, IRIKIT_UNKNOWN, IRIKIT_NO_HOST, IRIKIT_MEMORY, IRIKIT_DISALLOWED   0
  *
  * Where more than one status would be right, the first of these is returned, unless a call's comment says otherwise: IRIKIT_UNKNOWN;
  * IRIKIT_BAD_TEXT or IRIKIT_BAD_BASE; IRIKIT_BAD_REFERENCE; IRIKIT_BAD_PART; IRIKIT_NO_HOST; IRIKIT_SHORT.
@@ -64,7 +65,10 @@ enum irikit_status {
     IRIKIT_UNKNOWN = 6,       /* a number for a grammar, a mode, a kind, a place, a fault or a part stands for none */
     IRIKIT_BAD_VARIABLE = 7,  /* a variable hasn't as many texts as its kind asks, or has one that isn't UTF-8 */
     IRIKIT_BAD_PART = 8,      /* the text is valid, or there is none yet, and what is to stand in it is refused */
-    IRIKIT_NO_HOST = 9        /* the text has no host, or none of the kind that may be replaced */
+    IRIKIT_NO_HOST = 9,       /* the text has no host, or none of the kind that may be replaced */
+    IRIKIT_MEMORY = 10,       /* allocation failed */
+    IRIKIT_BAD_TOKEN = 11,    /* the crawler's product token is none */
+    IRIKIT_DISALLOWED = 12    /* the rules don't allow the target */
 };
 
 /* The grammars. */
@@ -501,6 +505,36 @@ uint8_t irikit_build(uint32_t grammar, uint32_t kind, const struct irikit_given 
 uint8_t irikit_canonical_lines(uint32_t grammar, uint32_t mode, const char *base, size_t base_len, const char *lines,
                                size_t lines_len, char *out, size_t size, size_t *consumed, size_t *told);
 
+/* ---- Robots files ---- */
+
+/* The rules of a robots file for one crawler (RFC 9309 section 2.2), as lines that irikit_robots_allows reads: so a file is read once,
+ * and many links are judged. They are the rules of the groups whose user-agent is the token without case, or where no line names it, of
+ * those of `*` (section 2.2.1).
+ *
+ * Takes: the crawler's product token: one or more ASCII letters, `_` and `-`; the file, whose lines end in CR, LF or both, and may be
+ * any bytes: a line that isn't UTF-8, or is no user-agent line and no rule, is ignored; a buffer. It takes memory.
+ * Writes: to `out`, the rules in the order of the file, each `allow PATTERN` or `disallow PATTERN` and an LF; patterns mapped to URIs
+ * and in triplet normal form, as they are compared (section 2.2.2).
+ * Returns: IRIKIT_OK; IRIKIT_SHORT; IRIKIT_BAD_TOKEN; IRIKIT_MEMORY.
+ *
+ *   irikit_robots_rules("bot", 3, "User-agent: *\nDisallow: /a # all\n", 33, out, sizeof out, &told);  // "disallow /a\n" */
+uint8_t irikit_robots_rules(const char *token, size_t token_len, const char *file, size_t file_len, char *out, size_t size,
+                            size_t *told);
+
+/* Whether rules allow a target: the longest pattern in bytes that matches its path and query decides, and an allow rule of patterns
+ * that are equally long; what none matches is allowed, and `/robots.txt` always is (RFC 9309 section 2.2.2). `*` in a pattern matches
+ * any text, and `$` at its end the end (section 2.2.3). That the target is of the site whose file it is, the caller sees to.
+ *
+ * Takes: the number of a grammar; rules, a line each, as irikit_robots_rules writes them; the target, a URI of the grammar: what
+ * irikit_canonical writes for a link. It takes memory.
+ * Writes: nothing but `*told`.
+ * Returns: IRIKIT_OK: they do; IRIKIT_DISALLOWED: they don't; IRIKIT_BAD_TEXT: the target is no URI; IRIKIT_UNKNOWN: grammar;
+ * IRIKIT_MEMORY.
+ *
+ *   irikit_robots_allows(IRIKIT_URI, "disallow /a\n", 12, "http://h/b", 10, &told);   // IRIKIT_OK
+ *   irikit_robots_allows(IRIKIT_URI, "disallow /a\n", 12, "http://h/ab", 11, &told);  // IRIKIT_DISALLOWED */
+uint8_t irikit_robots_allows(uint32_t grammar, const char *rules, size_t rules_len, const char *target, size_t len, size_t *told);
+
 /* ---- Run ---- */
 
 /* What the program's run comes to. */
@@ -516,8 +550,8 @@ enum irikit_run_status {
 };
 
 /* What the program `irikit` does with words and an input: canon, expand, register, links, docs, robots, gen, --help,
- * --version. It is the one call that takes memory, and it has given all of it back when it returns. It looks at the words first:
- * those that are no command, --help and --version take none.
+ * --version. It takes memory, and has given all of it back when it returns. It looks at the words first: those that are no command,
+ * --help and --version take none.
  *
  * Takes: the words with one space between each two; the input; a buffer.
  * Writes: the output over the start of `out`; its length to `*told`, whatever the status is.

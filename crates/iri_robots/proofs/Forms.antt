@@ -56,11 +56,11 @@ pub compared_nil : compared [] ≡ []
 unfolding compared
 compared_nil = normal_nil uri_tests as_it_is
 
-compared_low : (x : ℕ) (xs : List ℕ) → x < 128 → (x == 37) ≡ false → compared (x ∷ xs) ≡ x ∷ compared xs
+pub compared_low : (x : ℕ) (xs : List ℕ) → x < 128 → (x == 37) ≡ false → compared (x ∷ xs) ≡ x ∷ compared xs
 unfolding compared
 compared_low x xs l n = ap (normal uri_tests as_it_is) (mapped-low x xs (lt-ltb x 128 l)) ∙ normal_plain uri_tests as_it_is x (mapped xs) n
 
-compared_decoded : (a b : ℕ) (xs : List ℕ) → is_ascii_hexdigit a ≡ true → is_ascii_hexdigit b ≡ true
+pub compared_decoded : (a b : ℕ) (xs : List ℕ) → is_ascii_hexdigit a ≡ true → is_ascii_hexdigit b ≡ true
     → is_ascii_unreserved (octet a b) ≡ true
     → compared (37 ∷ a ∷ b ∷ xs) ≡ encode_utf8 (octet a b) ++ compared xs
 unfolding compared unreserved
@@ -79,7 +79,7 @@ kept_form : (a b : ℕ) (xs : List ℕ) → is_ascii_hexdigit a ≡ true → is_
 kept_form a b xs p q n =
     normal_kept uri_tests as_it_is a b xs p q (ap (decoded uri_tests) (octets_triplet a b xs p q) ∙ uri-decoded (octet a b) (octets xs) n)
 
-compared_kept : (a b : ℕ) (xs : List ℕ) → is_ascii_hexdigit a ≡ true → is_ascii_hexdigit b ≡ true → is_ascii_unreserved (octet a b) ≡ false
+pub compared_kept : (a b : ℕ) (xs : List ℕ) → is_ascii_hexdigit a ≡ true → is_ascii_hexdigit b ≡ true → is_ascii_unreserved (octet a b) ≡ false
     → compared (37 ∷ a ∷ b ∷ xs) ≡ 37 ∷ to_ascii_uppercase a ∷ to_ascii_uppercase b ∷ compared xs
 unfolding compared
 compared_kept a b xs p q n = ap (normal uri_tests as_it_is) (mapped-triplet a b xs p q) ∙ kept_form a b (mapped xs) p q n
@@ -91,7 +91,7 @@ past_kept : (x : ℕ) → 128 ≤ x → is_ascii_unreserved x ≡ false
 unfolding is_ascii_unreserved
 past_kept x h = grind (arith, nat_tests)
 
-compared_past : (x : ℕ) (xs : List ℕ) → 128 ≤ x → x < 256 → compared (x ∷ xs) ≡ triplet x ++ compared xs
+pub compared_past : (x : ℕ) (xs : List ℕ) → 128 ≤ x → x < 256 → compared (x ∷ xs) ≡ triplet x ++ compared xs
 unfolding compared
 compared_past x xs h l =
     let f = first_digit x l in
@@ -104,7 +104,7 @@ compared_past x xs h l =
 
 -- ---- a stray `%`
 -- what follows begins with no two digits
-second_other : (a b : ℕ) (t : List ℕ) → is_ascii_hexdigit b ≡ false → two_digits (a ∷ b ∷ t) ≡ false
+pub second_other : (a b : ℕ) (t : List ℕ) → is_ascii_hexdigit b ≡ false → two_digits (a ∷ b ∷ t) ≡ false
 second_other a b t h = ap (λ v. is_ascii_hexdigit a && v) h ∙ and-false (is_ascii_hexdigit a)
 
 no_digits_low : (a : ℕ) (xs : List ℕ) → two_digits (a ∷ xs) ≡ false → two_digits (a ∷ mapped xs) ≡ false
@@ -124,7 +124,7 @@ no_digits (a ∷ xs) h =
       | false ↦ λ e. ap two_digits (mapped-high a xs e) ∙ no_two 37 (capital_hex (a / 16) ∷ capital_hex (a % 16) ∷ mapped xs) refl
     ] refl
 
-compared_stray : (xs : List ℕ) → two_digits xs ≡ false → compared (37 ∷ xs) ≡ 37 ∷ compared xs
+pub compared_stray : (xs : List ℕ) → two_digits xs ≡ false → compared (37 ∷ xs) ≡ 37 ∷ compared xs
 unfolding compared
 compared_stray xs h =
     let t = mapped xs in

@@ -10,3 +10,5 @@ pub mod Agents
 pub mod FormLaws
 pub mod Decisions
 pub mod EscapeLemmas
+pub mod ReadBack
+pub mod FileCuts

@@ -1,19 +1,14 @@
 -- The groups of a file, read from the start.
 use Rattle.std.proofs.Common.{◌≡◌, ℕ, Bool, true, false, cond, ◌||◌, ◌&&◌, List, [], ◌∷◌, ◌++◌, Option, None, refl, sym, ◌∙◌, ap, subst}
-use Rattle.std.proofs.Common.{append_assoc}
+use Rattle.std.proofs.Common.{append_assoc, append-nil}
 use Rattle.std.proofs.Math.Bool.{or-false}
 use Rattle.std.specs.Str.{str_eq_ignore_ascii_case}
 use Rattle.iri_robots.specs.declared.rule.Best.{Best}
 use Rattle.iri_robots.specs.Allowed.{IsAmong, first, later}
 use Rattle.iri_robots.specs.inside.BestRule.{IsBestOf}
+use Rattle.iri_robots.specs.inside.RulesLeft.{rules_from}
 use Rattle.iri_robots.specs.Records.{FileRule, FileRecord, UserAgent, Judged, Group, leading_rules, with_agent, groups, has_agent}
 use Rattle.iri_robots.specs.Records.{rules_of}
-
--- the rules from here on: `belongs` says that the last run has the name, `in_run` that its last record came last
-abbrev pub rules_from : List ℕ → Bool → Bool → List FileRecord → List FileRule
-rules_from name belongs in_run [] = []
-rules_from name belongs in_run (UserAgent a ∷ rs) = rules_from name (str_eq_ignore_ascii_case a name || (in_run && belongs)) true rs
-rules_from name belongs in_run (Judged r ∷ rs) = cond belongs (r ∷ rules_from name belongs false rs) (rules_from name belongs false rs)
 
 -- the same of groups, where the first one has the name already
 abbrev pub rules_with : Bool → List ℕ → List Group → List FileRule
@@ -73,65 +68,33 @@ reads name (UserAgent u ∷ rs) =
 pub at_start : (name : List ℕ) (rs : List FileRecord) → rules_from name false false rs ≡ rules_of name (groups rs)
 at_start name rs = (reads name rs).after false
 
--- what the records read so far decide: of the rules for the name, these were read, and those of the rest are left
-pub record IsJudged (name s : List ℕ) (rs : List FileRecord) (best : Option Best) (belongs in_run : Bool) (rest : List FileRecord) : Type 0
-  where
-    pub done : List FileRule
-    pub decided : IsBestOf done s best
-    pub split : rules_of name (groups rs) ≡ done ++ rules_from name belongs in_run rest
+-- ---- what is decided of the rules read so far
+
+-- of all rules these were read, and those are left
+pub record IsJudged (all : List FileRule) (s : List ℕ) (best : Option Best) (left : List FileRule) : Type 0 where
+  pub done : List FileRule
+  pub decided : IsBestOf done s best
+  pub split : all ≡ done ++ left
 
 nothing_read : (s : List ℕ) (rules : List FileRule) → rules ≡ [] → (r : FileRule) → IsAmong r rules → ⊥
 nothing_read s rules e r (first rs) = cc
 nothing_read s rules e r (later o rs k) = cc
 
-pub judged_none : (name s : List ℕ) (rs : List FileRecord) → IsJudged name s rs None false false rs
-judged_none name s rs = record {
-  done = [];
-  decided = record { none = λ r k m. nothing_read s [] refl r k };
-  split = sym (at_start
-      name rs);
-}
+pub none_best : (s : List ℕ) → IsBestOf [] s None
+none_best s = record { none = λ r k m. nothing_read s [] refl r k }
 
-pub agent_read : (name s : List ℕ) (rs : List FileRecord) (best best' : Option Best) (b b' r r' : Bool) (here rest : List FileRecord) (a :
-    List ℕ) → here ≡ UserAgent a ∷ rest → best' ≡ best → b' ≡ str_eq_ignore_ascii_case a name || (r && b) → r' ≡ true
-    → IsJudged name s rs best b r here → IsJudged name s rs best' b' r' rest
-agent_read name s rs best best' b b' r r' here rest a e f g h j = record {
-  done = j.done;
-  decided = subst (λ x. IsBestOf j.done s x) (sym f) j.decided;
-  split = j.split ∙ ap (λ l. j.done ++ rules_from name b r l) e ∙ ap (λ x. j.done ++ rules_from name x true rest) (sym g)
-      ∙ ap (λ x. j.done ++ rules_from name b' x rest) (sym h);
-}
+pub judged_none : (s : List ℕ) (rules : List FileRule) → IsJudged rules s None rules
+judged_none s rules = record { done = []; decided = none_best s; split = refl }
 
-pub rule_read : (name s : List ℕ) (rs : List FileRecord) (best best' : Option Best) (b b' r r' : Bool) (here rest : List FileRecord) (rule :
-    FileRule) → here ≡ Judged rule ∷ rest → b ≡ true → b' ≡ b → r' ≡ false
-    → ((rules : List FileRule) → IsBestOf rules s best → IsBestOf (rules ++ rule ∷ []) s best') → IsJudged name s rs best b r here
-    → IsJudged name s rs best' b' r' rest
-rule_read name s rs best best' b b' r r' here rest rule e t g h judge j = record {
-  done = j.done ++ rule ∷ [];
+pub judged_more : (all : List FileRule) (s : List ℕ) (best best' : Option Best) (left some after : List FileRule) → left ≡ some ++ after
+    → ((rules : List FileRule) → IsBestOf rules s best → IsBestOf (rules ++ some) s best') → IsJudged all s best left
+    → IsJudged all s best' after
+judged_more all s best best' left some after e judge j = record {
+  done = j.done ++ some;
   decided = judge j.done j.decided;
-  split = j.split ∙ ap (λ l. j.done ++ rules_from name b r l) e ∙ ap (λ x. j.done ++ rules_from name x r (Judged rule ∷ rest)) t
-      ∙ sym (append_assoc j.done (rule ∷ []) (rules_from name true false rest))
-      ∙ ap (λ x. (j.done ++ rule ∷ []) ++ rules_from name x false rest) (sym (g ∙ t))
-      ∙ ap (λ x. (j.done ++ rule ∷ []) ++ rules_from name b' x rest) (sym h);
+  split = j.split ∙ ap (λ l. j.done ++ l) e ∙ sym (append_assoc j.done some after);
 }
 
-pub rule_passed : (name s : List ℕ) (rs : List FileRecord) (best best' : Option Best) (b b' r r' : Bool) (here rest : List FileRecord) (rule
-    : FileRule) → here ≡ Judged rule ∷ rest → b ≡ false → b' ≡ b → r' ≡ false
-    → best' ≡ best → IsJudged name s rs best b r here → IsJudged name s rs best' b' r' rest
-rule_passed name s rs best best' b b' r r' here rest rule e t g h f j = record {
-  done = j.done;
-  decided = subst (λ x. IsBestOf j.done s x) (sym f) j.decided;
-  split = j.split ∙ ap (λ l. j.done ++ rules_from name b r l) e ∙ ap (λ x. j.done ++ rules_from name x r (Judged rule ∷ rest)) t
-      ∙ ap (λ x. j.done ++ rules_from name x false rest) (sym (g ∙ t)) ∙ ap (λ x. j.done ++ rules_from name b' x rest) (sym h);
-}
-
--- ---- the test of belonging
-
-pub told_named : (b' v z x : Bool) → b' ≡ v → v ≡ true → v ≡ z → b' ≡ z || x
-told_named b' v z x e h k = e ∙ h ∙ ap (λ y. y || x) (sym h ∙ k)
-
-pub told_run : (b' v z r b : Bool) → b' ≡ b → v ≡ false → v ≡ z → r ≡ true → b' ≡ z || (r && b)
-told_run b' v z r b e h k t = e ∙ ap (λ y. y && b) (sym t) ∙ ap (λ y. y || (r && b)) (sym h ∙ k)
-
-pub told_none : (b' v z r b : Bool) → b' ≡ false → v ≡ false → v ≡ z → r ≡ false → b' ≡ z || (r && b)
-told_none b' v z r b e h k t = e ∙ ap (λ y. y && b) (sym t) ∙ ap (λ y. y || (r && b)) (sym h ∙ k)
+pub judged_all : (all left : List FileRule) (s : List ℕ) (best : Option Best) → left ≡ [] → IsJudged all s best left → IsBestOf all s best
+judged_all all left s best e j =
+    subst (λ l. IsBestOf l s best) (sym (j.split ∙ ap (λ l. j.done ++ l) e ∙ append-nil j.done)) j.decided

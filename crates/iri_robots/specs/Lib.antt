@@ -5,5 +5,7 @@ pub mod Records
 pub mod Stored
 pub mod Allowed
 pub mod Decided
+pub mod Files
+pub mod RuleLines
 pub mod Examples
 pub mod inside

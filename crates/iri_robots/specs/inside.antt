@@ -6,3 +6,4 @@ pub mod ReadLines
 pub mod BestRule
 pub mod Prefixes
 pub mod EscapeScans
+pub mod RulesLeft

@@ -37,8 +37,10 @@ mod pattern;
 mod record;
 mod robots;
 mod rule;
+mod rules_text;
 mod subject;
 
 pub use pattern::matches;
 pub use robots::{LineError, Robots, RobotsError, Verdict, is_product_token};
+pub use rules_text::{lines_verdict, rule_lines};
 pub use subject::{subject_of, subject_of_split};

@@ -1,12 +1,15 @@
 // Lines of a robots file.
-ghost use Rattle.std.specs.Prelude.{◌≡◌, ◌≤◌, MatchOption, length};
+ghost use Rattle.std.specs.Prelude.{◌≡◌, ◌<◌, ◌≤◌, ◌∷◌, MatchOption, length};
 ghost use Rattle.std.specs.List.{prefix_len};
 ghost use Rattle.std.specs.Str.{is_utf8, str_eq_ignore_ascii_case};
 ghost use Rattle.iri_grammar.specs.Characters.{number_sign};
-ghost use Rattle.iri_grammar.specs.Cut.{before, CutAt, NoCut};
 ghost use Rattle.iri_grammar.specs.Blanks.{is_blank};
+ghost use Rattle.iri_grammar.specs.Cut.{before, after, CutAt, NoCut};
+ghost use Rattle.iri_grammar.specs.OptionalSlices.{now_of};
+ghost use Rattle.iri_grammar.specs.Runs.{run_of};
 ghost use Rattle.iri_robots.specs.FileLines.{line_of, line_of_text, keyed, trimmed, without_start};
 ghost use Rattle.iri_robots.specs.FileLines.{without_end, without_byte_order_mark, agent_of, is_token_char};
+ghost use Rattle.iri_robots.specs.Files.{file_lines, is_in_line, more_lines};
 ghost use Rattle.iri_robots.specs.inside.ReadLines.{said};
 
 use memchr::memchr;
@@ -150,5 +153,41 @@ pub(crate) fn read_line(line: &[u8]) -> Said<'_>
     match str::from_utf8(line) {
         Ok(_) => say_parts(strip_comment(strip_byte_order_mark(line))),
         Err(_) => Said::Nothing,
+    }
+}
+
+// How many bytes at the start come before the end of a line.
+fn line_len(text: &[u8]) -> usize
+    ensures value { result ≡ run_of is_in_line text.now }
+    ensures within { result ≤ length text.now }
+{
+    for (i, b) in text.iter().enumerate() {
+        if *b == b'\r' || *b == b'\n' {
+            return i;
+        }
+    }
+    text.len()
+}
+
+// The first line of a file, and what follows its end, where it has one.
+pub(crate) fn cut_line(file: &[u8]) -> (&[u8], Option<&[u8]>)
+    ensures lines { file_lines file.now ≡ result.0.now ∷ more_lines (now_of result.1) }
+    ensures shorter { MatchOption result.1 (Unit {0}) (λ rest. length rest.now < length file.now) }
+{
+    let (line, end) = file.split_at(line_len(file));
+    match end.split_first() {
+        Some((_, rest)) => (line, Some(rest)),
+        None => (line, None),
+    }
+}
+
+// What comes before the first delimiter, or all, and what comes after it.
+pub(crate) fn cut(text: &[u8], delimiter: u8) -> (&[u8], Option<&[u8]>)
+    ensures before { result.0.now ≡ before delimiter text.now }
+    ensures after { now_of result.1 ≡ after delimiter text.now }
+{
+    match find(text, delimiter) {
+        Some(at) => (&text[..at], Some(&text[at + 1..])),
+        None => (text, None),
     }
 }

@@ -1,5 +1,5 @@
 // The records of a robots file, and the rules of its groups.
-ghost use Rattle.std.specs.Prelude.{◌≡◌, ◌↔◌, nat_lt, IfOk, true, []};
+ghost use Rattle.std.specs.Prelude.{◌≡◌, ◌↔◌, ◌<◌, ◌∷◌, nat_lt, IfOk, MatchOption, true, [], length};
 ghost use Rattle.std.specs.Str.{IsAscii, str_eq_ignore_ascii_case};
 ghost use Rattle.iri_robots.specs.Compared.{compared};
 ghost use Rattle.iri_robots.specs.FileLines.{line_of};
@@ -7,7 +7,8 @@ ghost use Rattle.iri_robots.specs.Records.{FileRecord, line_records, records_esc
 ghost use Rattle.iri_robots.specs.Records.{groups, is_named, rules_of, rules_for};
 ghost use Rattle.iri_robots.specs.Allowed.{IsAllowed};
 ghost use Rattle.iri_robots.specs.inside.BestRule.{IsBestOf};
-ghost use Rattle.iri_robots.specs.Stored.{record_text, record_texts, optional_record};
+ghost use Rattle.iri_robots.specs.inside.RulesLeft.{rules_from, rules_left};
+ghost use Rattle.iri_robots.specs.Stored.{record_text, record_texts, rule_text, optional_record};
 
 use crate::compared::compared_form;
 use crate::escape::has_more_escapes;
@@ -85,27 +86,83 @@ fn names(name: &str, records: &[Record]) -> bool
     false
 }
 
-// What decides of the rules whose run has this agent.
-fn best_of(name: &str, records: &[Record], text: &[u8]) -> Option<Best>
-    ensures { IsBestOf (rules_of name.now (groups (record_texts records.now))) text.now result }
+// What is left of the rules of the groups that have an agent.
+#[derive(Clone, Copy)]
+pub(crate) struct RulesLeft<'r> {
+    name: &'r str,
+    records: &'r [Record],
+    // The last run has the agent, and the last record is of that run.
+    belongs: bool,
+    in_run: bool,
+}
+
+// All rules of the groups that have this agent.
+fn rules_of<'r>(name: &'r str, records: &'r [Record]) -> RulesLeft<'r>
+    ensures { rules_left result ≡ rules_of name.now (groups (record_texts records.now)) }
 {
-    let mut best = None;
-    let mut belongs = false;
-    let mut in_run = false;
-    for record in records {
+    RulesLeft {
+        name,
+        records,
+        belongs: false,
+        in_run: false,
+    }
+}
+
+// The rules for the crawler of this token.
+pub(crate) fn rules_for<'r>(token: &'r str, records: &'r [Record]) -> RulesLeft<'r>
+    ensures { rules_left result ≡ rules_for token.now (record_texts records.now) }
+{
+    if names(token, records) {
+        rules_of(token, records)
+    } else {
+        rules_of("*", records)
+    }
+}
+
+// What is left after a user-agent record.
+fn past_agent<'r>(left: RulesLeft<'r>, agent: &str, records: &'r [Record]) -> RulesLeft<'r>
+    ensures rules { rules_left result ≡ rules_from left.entry.name.now left.entry.belongs left.entry.in_run
+        (FileRecord.UserAgent agent.now ∷ record_texts records.now) }
+    ensures records { result.records.now ≡ records.now }
+{
+    RulesLeft {
+        name: left.name,
+        records,
+        belongs: is_agent(agent, left.name) || (left.in_run && left.belongs),
+        in_run: true,
+    }
+}
+
+// The first rule that is left, and what is left after it.
+pub(crate) fn next_rule(rules: RulesLeft<'_>) -> Option<(&Rule, RulesLeft<'_>)>
+    ensures { MatchOption result (rules_left rules.entry ≡ []) (λ r. (rules_left rules.entry ≡ rule_text r.0.now ∷ rules_left r.1)
+        × (length r.1.records.now < length rules.entry.records.now)) }
+{
+    let mut left = rules;
+    'records: while let Some((record, rest)) = left.records.split_first() {
         match record {
-            Record::UserAgent(agent) => {
-                let named = is_agent(agent.as_str(), name);
-                belongs = named || (in_run && belongs);
-                in_run = true;
-            }
+            Record::UserAgent(agent) => left = past_agent(left, agent.as_str(), rest),
             Record::Judged(rule) => {
-                if belongs {
-                    best = judge(best, rule, text);
+                left.records = rest;
+                left.in_run = false;
+                if left.belongs {
+                    return Some((rule, left));
                 }
-                in_run = false;
             }
         }
+    }
+    None
+}
+
+// What decides of rules.
+fn best_of(rules: RulesLeft<'_>, text: &[u8]) -> Option<Best>
+    ensures { IsBestOf (rules_left rules.entry) text.now result }
+{
+    let mut best = None;
+    let mut left = rules;
+    'rules: while let Some((rule, after)) = next_rule(left) {
+        best = judge(best, rule.allows, rule.pattern.as_bytes(), text);
+        left = after;
     }
     best
 }
@@ -114,9 +171,5 @@ fn best_of(name: &str, records: &[Record], text: &[u8]) -> Option<Best>
 pub(crate) fn is_allowed(token: &str, records: &[Record], text: &[u8]) -> bool
     ensures { (result ≡ true) ↔ IsAllowed (rules_for token.now (record_texts records.now)) text.now }
 {
-    if names(token, records) {
-        decides(best_of(token, records, text), text)
-    } else {
-        decides(best_of("*", records, text), text)
-    }
+    decides(best_of(rules_for(token, records), text), text)
 }

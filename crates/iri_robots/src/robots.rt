@@ -1,12 +1,16 @@
 // The rules for one crawler.
-ghost use Rattle.std.specs.Prelude.{◌≡◌, ◌↔◌, ◌<◌, ◌≤◌, ◌++◌, ◌∷◌, [], MatchResult, IfErr, true, false, string_bytes};
+ghost use Rattle.std.specs.Prelude.{◌≡◌, ◌↔◌, ◌<◌, ◌≤◌, ◌++◌, ◌∷◌, [], MatchResult, IfErr, IfOk, OnOk, true, false, string_bytes};
 ghost use Rattle.iri_robots.specs.FileLines.{is_token, line_of};
 ghost use Rattle.iri_robots.specs.Records.{rules_for, line_records, records_escapes};
 ghost use Rattle.iri_robots.specs.Allowed.{IsAllowed};
+ghost use Rattle.iri_robots.specs.Files.{file_records};
+ghost use Rattle.iri_robots.specs.RuleLines.{rule_lines};
 ghost use Rattle.iri_robots.specs.Stored.{record_texts, optional_record};
 
-use crate::line::token_len;
-use crate::record::{Record, is_allowed, line_has_more_escapes, line_record};
+use crate::line::{cut_line, token_len};
+use crate::record::{Record, is_allowed, line_has_more_escapes, line_record, rules_for};
+use crate::rules_text::push_rules;
+use iri_text::Text;
 use std::alloc::{AllocError, Global};
 use thiserror::Error;
 
@@ -134,6 +138,36 @@ impl Robots {
         ensures none { line_records (line_of line.now) ≡ [] → result ≡ Ok tt }
     {
         self.store(line_record(self.alloc, line)?)
+    }
+
+    // Stores the records of a robots file. A CR or an LF ends a line of it.
+    pub(crate) fn feed_file(&mut self, file: &[u8]) -> Result<(), AllocError>
+        ensures token { string_bytes self.new.token ≡ string_bytes self.old.token }
+        ensures records { OnOk result (record_texts self.new.records.items
+            ≡ record_texts self.old.records.items ++ file_records file.now) }
+    {
+        let mut rest = file;
+        'lines: loop {
+            let (line, after) = cut_line(rest);
+            self.feed_line(line)?;
+            match after {
+                Some(after) => rest = after,
+                None => return Ok(()),
+            }
+        }
+    }
+
+    // The rules for the crawler, a line each.
+    pub(crate) fn rule_lines(&self) -> Result<Text, AllocError>
+        ensures { IfOk result (λ t. t
+            ≡ rule_lines (rules_for (string_bytes self.now.token) (record_texts self.now.records.items))) }
+    {
+        let mut lines = String::new(self.alloc);
+        push_rules(
+            &mut lines,
+            rules_for(self.token.as_str(), self.records.as_slice()),
+        )?;
+        Ok(Text::from_string(lines))
     }
 
     /// [`Robots::feed_line`] for a file that nobody vouches for: a rule whose pattern has more than `most` escapes

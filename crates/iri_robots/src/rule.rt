@@ -3,7 +3,6 @@ ghost use Rattle.std.specs.Prelude.{◌≡◌, ◌↔◌, ◌++◌, ◌∷◌, [
 ghost use Rattle.iri_robots.specs.Allowed.{IsAllowed};
 ghost use Rattle.iri_robots.specs.Records.{FileRule};
 ghost use Rattle.iri_robots.specs.inside.BestRule.{IsBestOf};
-ghost use Rattle.iri_robots.specs.Stored.{rule_text};
 
 use crate::pattern::matches;
 
@@ -22,13 +21,11 @@ pub(crate) struct Best {
 }
 
 // What decides with one rule more. A rule that is too short to decide isn't matched.
-pub(crate) fn judge(best: Option<Best>, rule: &Rule, text: &[u8]) -> Option<Best>
+pub(crate) fn judge(best: Option<Best>, allows: bool, pattern: &[u8], text: &[u8]) -> Option<Best>
     ensures { (rules : List FileRule) → IsBestOf rules text.now best
-        → IsBestOf (rules ++ rule_text rule.now ∷ []) text.now result }
+        → IsBestOf (rules ++ (record { allows = allows; pattern = pattern.now }) ∷ []) text.now result }
 {
-    let pattern = rule.pattern.as_bytes();
     let bytes = pattern.len();
-    let allows = rule.allows;
     let Some(old) = best else {
         if matches(pattern, text) {
             return Some(Best { bytes, allows });

@@ -1,28 +1,10 @@
-//! The program's commands for C: the export alone of the call of `iri_run_calls`, whose slices cross as a pointer and a length.
+//! The library for C, of the calls that take memory: the exports alone of the calls of `iri_run_calls` and `iri_robots_calls`, whose
+//! slices cross as a pointer and a length. `include/irikit.h` declares each of them.
 //!
-//! Proved: the export keeps the contract of that call, word for word.
+//! Proved: each export keeps the contract of the call of its name, word for word.
 //!
 //! Not proved: that memory is there, and that a caller in C passes what the header asks for.
 #![tactic(auto)]
 
-ghost use Rattle.std.specs.Prelude.{◌≡◌};
-ghost use Rattle.iri_grammar.specs.Pieces.{pieces};
-ghost use Rattle.iri_run_calls.specs.Told.{space, RunTold, TakesMemory};
-
-use std::alloc::Global;
-
-/// What the program would do with words, one space between each two, and an input. Words are looked at before memory is taken.
-#[unsafe(no_mangle)]
-pub extern "C" fn irikit_run(
-    alloc: Global,
-    words: &[u8],
-    input: &[u8],
-    out: &mut [u8],
-    told: &mut usize,
-) -> u8
-    ensures run { RunTold words.now input.now out.old out.new told.new result }
-    // Allocation fails only at a command over lines, or at `gen`.
-    ensures memory { result ≡ 6 → TakesMemory (pieces space words.now) }
-{
-    iri_run_calls::irikit_run(alloc, words, input, out, told)
-}
+mod robots;
+mod run;

@@ -1,8 +1,8 @@
 use iri_robots::laws::{
     empty_patterns_match_nothing, first_rules_are_of_no_group, question_marks_part_forms,
-    rules_are_decided, what_is_allowed_always,
+    rule_lines_are_read_back, rules_are_decided, what_is_allowed_always,
 };
-use iri_robots::{Robots, RobotsError, Verdict, matches};
+use iri_robots::{Robots, RobotsError, Verdict, lines_verdict, matches, rule_lines};
 use std::alloc::Global;
 use std::test::Fail;
 
@@ -65,5 +65,23 @@ fn laws_of_rules(rt: HostRuntime) -> Result<(), Fail> {
     assert!(rt; !allows(&all, "/x"));
     assert!(rt; allows(&all, "/robots.txt"));
     assert!(rt; !matches(b"", b"/x"));
+    Ok(())
+}
+
+// By the law, the lines of a file's rules say what the file says.
+#[test]
+fn rules_as_lines(rt: HostRuntime) -> Result<(), Fail> {
+    rule_lines_are_read_back();
+    let file = b"user-agent: a\ndisallow: /x\rallow: /x\r\nuser-agent: *\ndisallow: /";
+    for &(token, lines, subject, verdict) in &[
+        ("A", "disallow /x\nallow /x\n", "/x", Verdict::Allow),
+        ("A", "disallow /x\nallow /x\n", "/", Verdict::Allow),
+        ("b", "disallow /\n", "/x", Verdict::Disallow),
+    ] {
+        let written = rule_lines(rt.alloc(), token, file)?;
+        assert!(rt; written.as_str() == lines);
+        assert!(rt; lines_verdict(lines.as_bytes(), subject) == verdict);
+    }
+    assert!(rt; matches!(rule_lines(rt.alloc(), "*", file), Err(RobotsError::Token)));
     Ok(())
 }

@@ -3,7 +3,7 @@ from __future__ import annotations
 
 from typing import Any
 
-from ._numbers import Fault, Status, TemplateFault
+from ._numbers import MEMORY, Fault, Status, TemplateFault
 
 _WORDS = {
     Status.UNKNOWN: "PRESERVING is a mode of normalize and is_normalized alone",
@@ -30,6 +30,8 @@ class Refused(ValueError):
         return type(self), (self.status, self.fault, self.place, str(self))
 
 
-def refusal(status: int, told: int) -> Refused:
+def refusal(status: int, told: int) -> Exception:
     """What a call's status and what it told come to."""
+    if status == MEMORY:
+        return MemoryError()
     return Refused(Status(status), None if Status(status) in _WORDS else Fault(told))

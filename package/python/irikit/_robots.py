@@ -5,18 +5,19 @@ import re
 from typing import Iterable
 
 from ._forms import fault
+from ._library import declared, size_t
 from ._links import Links
-from ._numbers import BAD_REFERENCE, REFERENCE, URI, Grammar
-from ._parts import AUTHORITY, PATH, part_of, slots_of
+from ._numbers import BAD_REFERENCE, DISALLOWED, MEMORY, REFERENCE, URI, Grammar
 from ._refused import Refused
-from ._run import BAD_ANSWER, INPUT, LINE, run
-from ._texts import Immutable, Text, bytes_of, several
+from ._run import INPUT, LINE
+from ._texts import Immutable, Text, bytes_of, several, written
 
-_VERDICTS = {b"allow": True, b"disallow": False}
+_rules = declared("robots_rules", "text text text sizes")
+_allows = declared("robots_allows", "number text text sizes")
 
 
 class Robots(Immutable):
-    """What a robots file allows one crawler to fetch. Any number of threads may use one object.
+    """What a robots file allows one crawler to fetch: its rules are read once. Any number of threads may use one object.
 
     >>> robots = Robots("User-agent: *\\nDisallow: /private\\nAllow: /private/face.png\\n", "examplebot")
     >>> robots.allows("http://example.com/private/face.png")
@@ -32,43 +33,34 @@ class Robots(Immutable):
     without a fragment.
     """
 
-    __slots__ = ("_words", "_start")
+    __slots__ = ("_links", "_is_of_site", "_rules")
 
     def __init__(self, text: Text, token: str, site: Text | None = None, grammar: Grammar = URI) -> None:
         if not re.fullmatch(r"[A-Za-z_-]+", token):
             raise ValueError(f"{token!r} is no product token: letters, `_` and `-` (RFC 9309 section 2.2.1)")
-        base = Links("http://localhost/" if site is None else site, grammar).base
-        self._made_of = bytes_of(text), token, None if site is None else base, grammar
-        # An end of line is a CR, an LF, or both (RFC 9309 section 2.2), as it is for `splitlines` of bytes.
-        lines = [base, *[b"r " + line for line in self._made_of[0].splitlines()], b""]
-        self._words, self._start = f"robots {grammar.name.lower()} {token}", b"\n".join(lines)
-        if max(map(len, lines)) > LINE or len(self._start) > INPUT // 2:
+        self._links = Links("http://localhost/" if site is None else site, grammar)
+        file = bytes_of(text)
+        self._made_of = file, token, None if site is None else self._links.base, grammar
+        # A CR, an LF, or both end a line (RFC 9309 section 2.2), as for `splitlines` of bytes.
+        if max(map(len, file.splitlines()), default=0) > LINE - 2 or len(file) > INPUT // 2:
             raise ValueError("a line of the file, or the file, is too long")
+        # Scheme and authority of a canonical text: those of the site, or without one any authority.
+        origin = rb"[^:]*://" if site is None else re.escape(re.match(rb"[^:]*:(//[^/?#]*)?", self._links.canonical_bytes(""))[0]) + rb"(?![^/?#])"
+        self._is_of_site = re.compile(origin).match
+        self._rules = written(len(file) + 64, _rules, token.encode(), len(token), file, len(file))
 
     def __repr__(self) -> str:
         text, *more = self._made_of
         return f"<Robots of {len(text)} bytes, {', '.join(map(repr, more))}>"
 
-    def _asked(self, link: Text) -> bytes:
-        """A link as a line that asks for it. A percent sign alone is no reference, as what has a CR or an LF, or is too long."""
-        asked = bytes_of(link)
-        if self._made_of[2] is None:
-            slots = slots_of(asked, self._made_of[3])
-            if slots is None:
-                return b"u %\n"
-            if part_of(asked, slots, AUTHORITY) is not None:
-                asked = b"http://localhost" + asked[slots[PATH]:]
-        return b"u %\n" if len(asked) > LINE - 2 or re.search(rb"[\r\n]", asked) else b"u %s\n" % asked
-
-    def _verdicts(self, lines: list[bytes]) -> list[bytes]:
-        """The first word of the answer to each line."""
-        if len(self._start) + sum(map(len, lines)) > INPUT:
-            half = len(lines) // 2
-            return self._verdicts(lines[:half]) + self._verdicts(lines[half:])
-        output, status = run(self._words, self._start + b"".join(lines))
-        if status > BAD_ANSWER:
+    def _verdict(self, target: bytes) -> bool | None:
+        """What the rules say of a canonical text; None where it is of another site."""
+        if not self._is_of_site(target):
+            return None
+        status = _allows(self._made_of[3], self._rules, len(self._rules), target, len(target), size_t())
+        if status == MEMORY:
             raise MemoryError
-        return [answer.partition(b" ")[0] for answer in output.split(b"\n")[:-1]]
+        return status != DISALLOWED
 
     def allows(self, link: Text) -> bool | None:
         """Whether the link may be fetched; None where it is of another site than the file.
@@ -78,12 +70,13 @@ class Robots(Immutable):
 
         Raises `Refused` where it is no reference, or too long.
         """
-        verdict = self._verdicts([self._asked(link)])[0]
-        if verdict == b"bad":
-            wrong = fault(link, REFERENCE, self._made_of[3])
+        asked = bytes_of(link)
+        if len(asked) > LINE - 2:
+            wrong = fault(asked, REFERENCE, self._made_of[3])
             raise Refused(BAD_REFERENCE, wrong, None, None if wrong else "more than 1,048,574 bytes")
-        return _VERDICTS.get(verdict)
+        return self._verdict(self._links.canonical_bytes(asked))
 
     def allows_many(self, links: Iterable[Text]) -> list[bool | None]:
-        """The same for each link, in one call; None also for each that is no reference, or too long."""
-        return [_VERDICTS.get(verdict) for verdict in self._verdicts([self._asked(link) for link in several(links)])]
+        """The same for each link; None also for each that is no reference, or too long."""
+        asked = [one if len(one) <= LINE - 2 else b"%" for one in map(bytes_of, several(links))]
+        return [None if target is None else self._verdict(target.encode()) for target in self._links.canonical_many(asked)]

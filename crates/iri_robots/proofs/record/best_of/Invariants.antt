@@ -1,8 +1,10 @@
-use Rattle.std.proofs.Common.{drop}
-use Rattle.iri_robots.specs.Stored.{record_texts}
+use Rattle.std.proofs.Common.{length}
+use Rattle.iri_robots.specs.inside.RulesLeft.{rules_left}
 use Rattle.iri_robots.proofs.Runs.{IsJudged}
 use Rattle.iri_robots.proofs.record.best_of.Given as goal
 
-abbrev pub invariant-loop-record : goal.invariant-loop-record
-invariant-loop-record l = IsJudged l.name l.text (record_texts l.records) l.best l.belongs l.in_run (record_texts (drop l.record-index
-    l.records))
+abbrev pub invariant-rules : goal.invariant-rules
+invariant-rules l = IsJudged (rules_left l.rules) l.text l.best (rules_left l.left)
+
+abbrev pub decreases-rules : goal.decreases-rules
+decreases-rules l = length l.left.records.now

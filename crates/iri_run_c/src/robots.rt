@@ -1,0 +1,51 @@
+// Robots files: the rules for one crawler, and what they say of a target.
+ghost use Rattle.std.specs.Prelude.{◌≡◌, List, ℕ, None, Some, true};
+ghost use Rattle.std.specs.List.{list_all};
+ghost use Rattle.iri_grammar.specs.Classes.{Tests};
+ghost use Rattle.iri_grammar.specs.Fault.{bytes_fault};
+ghost use Rattle.iri_grammar.specs.WholeFault.{iri_fault};
+ghost use Rattle.iri_calls.specs.Numbers.{grammar_of};
+ghost use Rattle.iri_robots.specs.FileLines.{is_token};
+ghost use Rattle.iri_robots.specs.Files.{file_records, is_byte};
+ghost use Rattle.iri_robots.specs.Records.{rules_for};
+ghost use Rattle.iri_robots.specs.RuleLines.{rule_lines};
+ghost use Rattle.iri_robots_calls.specs.Outcomes.{AnsweredOrMemory, ToldOrMemory, allowed_outcome, file_outcome, rules_outcome};
+
+use iri_robots_calls::robots;
+use iri_robots_calls::status::MEMORY;
+use std::alloc::Global;
+
+/// The rules of a robots file for the crawler of a product token, as lines that `irikit_robots_allows` reads.
+#[unsafe(no_mangle)]
+pub extern "C" fn irikit_robots_rules(
+    alloc: Global,
+    token: &[u8],
+    file: &[u8],
+    out: &mut [u8],
+    told: &mut usize,
+) -> u8
+    ensures rules { AnsweredOrMemory (rules_outcome token.now file.now) out.old out.new told.new result }
+    // Allocation fails only where the token is one.
+    ensures memory { result ≡ MEMORY → is_token token.now ≡ true }
+{
+    robots::irikit_robots_rules(alloc, token, file, out, told)
+}
+
+/// What the rules of lines say of a target: whether the crawler may fetch it.
+#[unsafe(no_mangle)]
+pub extern "C" fn irikit_robots_allows(
+    alloc: Global,
+    grammar: u32,
+    rules: &[u8],
+    target: &[u8],
+    told: &mut usize,
+) -> u8
+    ensures allows { ToldOrMemory (allowed_outcome grammar rules.now target.now) told.new result }
+    // Over the rules of a file it is what the file says.
+    ensures file { (token file : List ℕ) → list_all is_byte file ≡ true → rules.now ≡ rule_lines (rules_for token (file_records file))
+        → ToldOrMemory (file_outcome grammar token file target.now) told.new result }
+    // Allocation fails only where the target is a URI of the grammar.
+    ensures memory { result ≡ MEMORY → (s : Tests) → grammar_of grammar ≡ Some s → bytes_fault (iri_fault s) target.now ≡ None }
+{
+    robots::irikit_robots_allows(alloc, grammar, rules, target, told)
+}
