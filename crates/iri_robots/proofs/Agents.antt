@@ -14,7 +14,7 @@ use Rattle.iri_robots.specs.FileLines.{line_of_text, trimmed, without_byte_order
 one_more : (n : ℕ) → suc n ≡ 1 + n
 one_more n = omega arith
 
-prefix_ascii : (t : List ℕ) → IsAscii (take (prefix_len is_token_char t) t)
+pub prefix_ascii : (t : List ℕ) → IsAscii (take (prefix_len is_token_char t) t)
 prefix_ascii [] = IsAscii-nil
 prefix_ascii (x ∷ t) =
     elim (is_token_char x) as (λ b. is_token_char x ≡ b → IsAscii (take (cond b (1 + prefix_len is_token_char t) 0) (x ∷ t))) [

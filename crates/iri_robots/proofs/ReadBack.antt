@@ -1,15 +1,15 @@
 -- Rules that are written as lines are read back as they were: no pattern of a file has an LF.
-use Rattle.std.proofs.Common.{◌≡◌, ◌≢◌, ℕ, zero, suc, ◌<◌, ◌≤◌, Bool, true, false, cond, ◌&&◌, ◌||◌, List, [], ◌∷◌, ◌++◌, Option, Some, None, drop, take}
+use Rattle.std.proofs.Common.{◌≡◌, ℕ, zero, suc, ◌<◌, ◌≤◌, Bool, true, false, cond, ◌&&◌, ◌||◌, List, [], ◌∷◌, ◌++◌, Some, drop, take}
 use Rattle.std.proofs.Common.{refl, sym, ◌∙◌, ap, subst, arith, append_assoc}
 use Rattle.std.specs.Prelude.{◌==◌, ◌/◌, ◌%◌, nat_lt, not, codes}
-use Rattle.std.specs.List.{flat_map, list_all, prefix_len}
-use Rattle.std.specs.Char.{is_ascii_hexdigit, to_ascii_uppercase, encode_utf8}
+use Rattle.std.specs.List.{flat_map, list_all}
+use Rattle.std.specs.Char.{is_ascii_hexdigit, to_ascii_uppercase}
 use Rattle.std.specs.Str.{bytes_eq, is_utf8, str_eq_ignore_ascii_case}
 use Rattle.std.proofs.lemmas.Bool.Decides.{nat_tests}
 use Rattle.std.proofs.lemmas.Str.{encode_ascii}
 use Rattle.iri_grammar.specs.Classes.{is_ascii_unreserved}
 use Rattle.iri_grammar.specs.Cut.{before, after, lacks}
-use Rattle.iri_grammar.specs.Pieces.{onto, pieces}
+use Rattle.iri_grammar.specs.Pieces.{onto}
 use Rattle.iri_grammar.proofs.CutLaws.{lacks-append, lacks-other}
 use Rattle.iri_grammar.proofs.Ipv6Laws.{pieces_before}
 use Rattle.iri_percent.specs.Mapping.{capital_hex}

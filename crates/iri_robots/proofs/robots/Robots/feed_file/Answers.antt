@@ -1,4 +1,4 @@
-use Rattle.std.proofs.Common.{◌∷◌, Some, None, ap, sym, ◌∙◌}
+use Rattle.std.proofs.Common.{◌∷◌, Some, ap, ◌∙◌}
 use Rattle.iri_grammar.specs.OptionalSlices.{now_of}
 use Rattle.iri_robots.specs.Files.{more_lines}
 use Rattle.iri_robots.specs.Stored.{record_texts}
