@@ -29,7 +29,7 @@ fn rules_of_a_file(rt: HostRuntime) {
     ];
     for &(token, wanted) in &rows {
         assert!(rt; irikit_robots_rules(rt.alloc(), token, FILE, &mut out, &mut told) == 0);
-        assert!(rt; told == wanted.len() && out[..told] == *wanted);
+        assert!(rt; told == wanted.len() && out.starts_with(wanted));
     }
     let file = "user-agent: b\u{f6}t\nallow: /\u{e9}%7e%2a\n".as_bytes();
     assert!(rt; irikit_robots_rules(rt.alloc(), b"b", file, &mut out, &mut told) == 0);

@@ -30,7 +30,7 @@ left : (a b : Bool) → a && b ≡ true → a ≡ true
 left true b h = refl
 left false b h = h
 
-right : (a b : Bool) → a && b ≡ true → b ≡ true
+pub right : (a b : Bool) → a && b ≡ true → b ≡ true
 right true b h = h
 right false b h = cc
 

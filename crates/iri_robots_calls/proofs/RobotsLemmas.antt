@@ -1,5 +1,5 @@
 -- What rules say of a target, and texts that are no token.
-use Rattle.std.proofs.Common.{◌≡◌, ◌↔◌, ℕ, Bool, true, false, ◌&&◌, List, None, length, take, refl, sym, ◌∙◌, ap, arith, subst, inl}
+use Rattle.std.proofs.Common.{◌≡◌, ◌↔◌, ℕ, Bool, true, false, List, None, length, take, refl, sym, ◌∙◌, ap, arith, subst, inl}
 use Rattle.std.specs.Prelude.{◌==◌, not}
 use Rattle.std.specs.List.{list_all, prefix_len}
 use Rattle.std.specs.Str.{IsAscii, IsUtf8}
@@ -24,7 +24,7 @@ use Rattle.iri_robots.specs.declared.robots.Verdict.{Verdict}
 use Rattle.iri_robots.specs.declared.robots.Verdict.TheVariants.{Allow}
 use Rattle.iri_robots.proofs.Agents.{prefix_ascii}
 use Rattle.iri_robots.proofs.Decisions.{allowed_is}
-use Rattle.iri_robots.proofs.ReadBack.{file_read_back}
+use Rattle.iri_robots.proofs.ReadBack.{file_read_back, right}
 use Rattle.iri_robots_calls.specs.Outcomes.{ToldOrMemory, allowed_outcome, allowed_status, file_outcome, judged_in}
 
 -- a verdict is what the function says
@@ -49,10 +49,6 @@ by_file grammar lines target token file told status h b e =
     (ap rules_in e ∙ file_read_back token file b) h
 
 -- ---- tokens
-
-right : (a b : Bool) → a && b ≡ true → b ≡ true
-right true b h = h
-right false b h = cc
 
 token_ascii : (t : List ℕ) → is_token t ≡ true → IsAscii t
 token_ascii t h =

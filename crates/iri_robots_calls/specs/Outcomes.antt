@@ -1,5 +1,5 @@
 -- What the calls for robots files come to.
-use Rattle.std.specs.Prelude.{◌⊎◌, ℕ, Bool, true, false, cond, List, []}
+use Rattle.std.specs.Prelude.{◌≡◌, ◌⊎◌, ℕ, Bool, true, false, cond, List, [], None, Some}
 use Rattle.iri_grammar.specs.Classes.{Tests}
 use Rattle.iri_grammar.specs.Fault.{bytes_fault}
 use Rattle.iri_grammar.specs.Split.{split_of}
@@ -41,6 +41,10 @@ judged_in rules target s =
 -- what the rules of lines say
 abbrev pub allowed_outcome : ℕ → List ℕ → List ℕ → Outcome
 allowed_outcome grammar lines target = in_grammar (grammar_of grammar) (judged_in (rules_in lines) target)
+
+-- the number is that of a grammar, and the target is a `URI` of it
+abbrev pub IsTarget : ℕ → List ℕ → Type 0
+IsTarget grammar target = (s : Tests) × ((grammar_of grammar ≡ Some s) × (bytes_fault (iri_fault s) target ≡ None))
 
 -- what a file says to the crawler of a token
 abbrev pub file_outcome : ℕ → List ℕ → List ℕ → List ℕ → Outcome

@@ -1,7 +1,6 @@
 // The rules of a robots file for one crawler, and what they say of a target (RFC 9309 section 2.2).
 ghost use Rattle.std.specs.Prelude.{◌≡◌, ◌↔◌, Bool, List, ℕ, None, Some, true};
 ghost use Rattle.std.specs.List.{list_all};
-ghost use Rattle.iri_grammar.specs.Classes.{Tests};
 ghost use Rattle.iri_grammar.specs.Fault.{bytes_fault};
 ghost use Rattle.iri_grammar.specs.WholeFault.{iri_fault};
 ghost use Rattle.iri_calls.specs.Buffers.{over};
@@ -12,7 +11,7 @@ ghost use Rattle.iri_robots.specs.FileLines.{is_token};
 ghost use Rattle.iri_robots.specs.Files.{file_records, is_byte};
 ghost use Rattle.iri_robots.specs.Records.{rules_for};
 ghost use Rattle.iri_robots.specs.RuleLines.{rule_lines, rules_in};
-ghost use Rattle.iri_robots_calls.specs.Outcomes.{AnsweredOrMemory, ToldOrMemory, allowed_outcome, allowed_status, file_outcome, judged_in, rules_outcome};
+ghost use Rattle.iri_robots_calls.specs.Outcomes.{AnsweredOrMemory, IsTarget, ToldOrMemory, allowed_outcome, allowed_status, file_outcome, judged_in, rules_outcome};
 
 use crate::status::{BAD_TOKEN, DISALLOWED, MEMORY};
 use iri_calls::grammar::{IRI, URI};
@@ -116,7 +115,7 @@ pub fn irikit_robots_allows(
     ensures file { (token file : List ℕ) → list_all is_byte file ≡ true → rules.now ≡ rule_lines (rules_for token (file_records file))
         → ToldOrMemory (file_outcome grammar token file target.now) told.new result }
     // Allocation fails only where the target is a URI of the grammar.
-    ensures memory { result ≡ MEMORY → (s : Tests) → grammar_of grammar ≡ Some s → bytes_fault (iri_fault s) target.now ≡ None }
+    ensures memory { result ≡ MEMORY → IsTarget grammar target.now }
 {
     match grammar {
         URI => allows_in::<UriSpec>(alloc, grammar, rules, target, told),

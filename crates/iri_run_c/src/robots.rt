@@ -1,15 +1,11 @@
 // Robots files: the rules for one crawler, and what they say of a target.
-ghost use Rattle.std.specs.Prelude.{◌≡◌, List, ℕ, None, Some, true};
+ghost use Rattle.std.specs.Prelude.{◌≡◌, List, ℕ, true};
 ghost use Rattle.std.specs.List.{list_all};
-ghost use Rattle.iri_grammar.specs.Classes.{Tests};
-ghost use Rattle.iri_grammar.specs.Fault.{bytes_fault};
-ghost use Rattle.iri_grammar.specs.WholeFault.{iri_fault};
-ghost use Rattle.iri_calls.specs.Numbers.{grammar_of};
 ghost use Rattle.iri_robots.specs.FileLines.{is_token};
 ghost use Rattle.iri_robots.specs.Files.{file_records, is_byte};
 ghost use Rattle.iri_robots.specs.Records.{rules_for};
 ghost use Rattle.iri_robots.specs.RuleLines.{rule_lines};
-ghost use Rattle.iri_robots_calls.specs.Outcomes.{AnsweredOrMemory, ToldOrMemory, allowed_outcome, file_outcome, rules_outcome};
+ghost use Rattle.iri_robots_calls.specs.Outcomes.{AnsweredOrMemory, IsTarget, ToldOrMemory, allowed_outcome, file_outcome, rules_outcome};
 
 use iri_robots_calls::robots;
 use iri_robots_calls::status::MEMORY;
@@ -45,7 +41,7 @@ pub extern "C" fn irikit_robots_allows(
     ensures file { (token file : List ℕ) → list_all is_byte file ≡ true → rules.now ≡ rule_lines (rules_for token (file_records file))
         → ToldOrMemory (file_outcome grammar token file target.now) told.new result }
     // Allocation fails only where the target is a URI of the grammar.
-    ensures memory { result ≡ MEMORY → (s : Tests) → grammar_of grammar ≡ Some s → bytes_fault (iri_fault s) target.now ≡ None }
+    ensures memory { result ≡ MEMORY → IsTarget grammar target.now }
 {
     robots::irikit_robots_allows(alloc, grammar, rules, target, told)
 }

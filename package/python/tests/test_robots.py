@@ -1,7 +1,8 @@
 """Robots files: by the examples of RFC 9309."""
+import random
 import unittest
 
-from irikit import IRI, URI, Fault, Refused, Robots, Status
+from irikit import IRI, URI, Fault, Refused, Robots, Status, run
 
 # RFC 9309 section 5.1: groups, their rules, and what they say of links; and 5.2, the longest match.
 SIMPLE = """User-Agent: *
@@ -67,6 +68,21 @@ class Rules(unittest.TestCase):
         longest = "/" + "a" * (MEBIBYTE - 3)
         self.assertEqual(Robots(RULES, "bot", "http://a/").allows_many([longest, longest + "a", "/"]), [True, None, True])
         self.assertEqual(Robots(RULES, "bot").allows_many(["/" + str(n) for n in range(9999)]), [True] * 9999)
+
+    def test_as_the_program(self):
+        """What `irikit robots` answers to the lines of a file and to links."""
+        rand = random.Random(1)
+        pieces = ["a", "/", "*", "$", "%2A", "%24", "%2a", "%", "%41", "\u00e9", "?", "#", " ", "b"]
+        keys = ["User-agent: bot", "user-agent:bot/1", "User-agent: *", "User-agent: other", "Allow: /", "disallow: /", "Disallow:/", "allow:", "x", "\ufeffAllow: /"]
+        links = ["", "a", "/", "/a", "/%41*", "/a$", "/\u00e9", "?a", "//s/a", "http://t/a", "a:b", "%", "../a/./b?*$"]
+        for _ in range(400):
+            file = [rand.choice(keys) + "".join(rand.choices(pieces, k=rand.randrange(4))) for _ in range(rand.randrange(12))]
+            asked = [rand.choice(links) + "".join(rand.choices(pieces, k=rand.randrange(4))).replace(" ", "") for _ in range(8)]
+            for grammar in (URI, IRI):
+                lines = ["http://s/x", *["r " + line for line in file], *["u " + link for link in asked], ""]
+                words = [line.split(b" ")[0] for line in run(f"robots {grammar.name.lower()} bot", "\n".join(lines))[0].splitlines()]
+                robots = Robots(rand.choice(["\n", "\r", "\r\n"]).join(file), "bot", "http://s/x", grammar)
+                self.assertEqual(robots.allows_many(asked), [{b"allow": True, b"disallow": False}.get(word) for word in words], (file, asked))
 
     def test_refused(self):
         for link, fault in (("?%", Fault.INVALID_QUERY), ("\ud800", Fault.INVALID_UTF8), ("a\nb", Fault.INVALID_PATH), ("a" * (MEBIBYTE + 1), None)):
