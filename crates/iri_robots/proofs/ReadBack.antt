@@ -17,7 +17,8 @@ use Rattle.iri_percent.specs.Units.{octet, two_digits}
 use Rattle.iri_percent.proofs.MapForms.{unreserved_ascii}
 use Rattle.iri_percent.proofs.CharUnits.{no_two}
 use Rattle.iri_robots.specs.Compared.{compared}
-use Rattle.iri_robots.specs.FileLines.{FileLine, AgentLine, RuleLine, OtherLine, keyed, parted, line_of, line_of_text, trimmed, all_blank, is_blank}
+use Rattle.iri_robots.specs.FileLines.{FileLine, AgentLine, RuleLine, OtherLine, keyed, parted, line_of, line_of_text, trimmed, all_blank}
+use Rattle.iri_grammar.specs.Blanks.{is_blank}
 use Rattle.iri_robots.specs.FileLines.{without_byte_order_mark, without_end, without_start, agent_of, byte_order_mark}
 use Rattle.iri_robots.specs.Files.{file_lines, file_records, is_byte, is_in_line}
 use Rattle.iri_robots.specs.Records.{FileRule, FileRecord, UserAgent, Judged, line_records, groups, is_named, rules_of, rules_for}
